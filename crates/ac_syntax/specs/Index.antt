@@ -1,0 +1,41 @@
+-- The values of index expressions and conditions, in exact integers.
+use Rattle.std.specs.Prelude.{zero, suc, List, Bool, true, false, ℤ, pos, negsuc, ◌+ℤ◌}
+use Rattle.std.specs.List.{list_all}
+use Rattle.ac_integers.specs.Dot.{dot}
+use Rattle.ac_syntax.specs.declared.tree.IndexExpr.{IndexExpr}
+use Rattle.ac_syntax.specs.declared.tree.Rel.{Rel}
+use Rattle.ac_syntax.specs.declared.tree.Rel.TheVariants.{NonNegative, Zero}
+use Rattle.ac_syntax.specs.declared.tree.Comparison.{Comparison}
+use Rattle.ac_syntax.specs.declared.tree.Cond.{Cond}
+
+-- a valuation of the parameters, and the values of the iterators, the outermost first
+pub record Point : Type 0 where
+  pub params : List ℤ
+  pub iters : List ℤ
+
+abbrev pub point : List ℤ → List ℤ → Point
+point params iters = record { params = params; iters = iters }
+
+-- the constant plus the sum of the products
+abbrev pub index_value : Point → IndexExpr → ℤ
+index_value p e = e.konst +ℤ (dot e.params p.params +ℤ dot e.iters p.iters)
+
+abbrev pub is_nonnegative : ℤ → Bool
+is_nonnegative (pos n) = true
+is_nonnegative (negsuc n) = false
+
+abbrev pub is_zero : ℤ → Bool
+is_zero (pos zero) = true
+is_zero (pos (suc n)) = false
+is_zero (negsuc n) = false
+
+abbrev pub rel_holds : Rel → ℤ → Bool
+rel_holds NonNegative z = is_nonnegative z
+rel_holds Zero z = is_zero z
+
+abbrev pub comparison_holds : Point → Comparison → Bool
+comparison_holds p c = rel_holds c.rel (index_value p c.form)
+
+-- all comparisons of a condition hold
+abbrev pub holds : Point → Cond → Bool
+holds p c = list_all (comparison_holds p) c.parts

@@ -1,0 +1,55 @@
+-- Programs whose index expressions have one coefficient for each parameter and for each iterator in scope, whose loops
+-- end, and whose branches have a condition.
+use Rattle.std.specs.Prelude.{ℕ, ◌+◌, ◌<◌, ◌≡◌, List, length}
+use Rattle.std.specs.List.{AllByRecursion}
+use Rattle.ac_syntax.specs.Turns.{Bounded}
+use Rattle.ac_syntax.specs.declared.tree.IndexExpr.{IndexExpr}
+use Rattle.ac_syntax.specs.declared.tree.Comparison.{Comparison}
+use Rattle.ac_syntax.specs.declared.tree.Array.{Array}
+use Rattle.ac_syntax.specs.declared.tree.Program.{Program}
+use Rattle.ac_syntax.specs.declared.tree.Value.{Value, Row_of-Value, end_of-Value, more_of-Value}
+use Rattle.ac_syntax.specs.declared.tree.Value.TheVariants.{Number, Access, Call'}
+use Rattle.ac_syntax.specs.declared.tree.Stmt.{Stmt, Row_of-Stmt, end_of-Stmt, more_of-Stmt}
+use Rattle.ac_syntax.specs.declared.tree.Stmt.TheVariants.{For', If', Assign}
+
+-- a coefficient for each of ps parameters and of xs iterators
+pub record Fits (ps xs : ℕ) (e : IndexExpr) : Type 0 where
+  pub params : length e.params ≡ ps
+  pub iters : length e.iters ≡ xs
+
+abbrev pub AllFit : ℕ → ℕ → List IndexExpr → Type 0
+AllFit ps xs = AllByRecursion (Fits ps xs)
+
+abbrev pub FitParts : ℕ → ℕ → List Comparison → Type 0
+FitParts ps xs = AllByRecursion (λ c. Fits ps xs c.form)
+
+-- each index expression of a value
+unfoldable mutual
+  pub FitsValue : ℕ → ℕ → Value → Type 0
+  FitsValue ps xs (Number e) = Fits ps xs e
+  FitsValue ps xs (Access array subs place) = AllFit ps xs subs
+  FitsValue ps xs (Call' symbol n args place) = FitValues ps xs args
+
+  pub FitValues : ℕ → ℕ → {m : _} → Row_of-Value m → Type 0
+  FitValues ps xs end_of-Value = Unit {0}
+  FitValues ps xs (more_of-Value v rest) = FitsValue ps xs v × FitValues ps xs rest
+
+-- a statement inside xs loops
+unfoldable mutual
+  pub Ready : ℕ → ℕ → Stmt → Type 0
+  Ready ps xs (For' iter start cond step n body place) = Fits ps xs start × FitParts ps (xs + 1) cond.parts × Bounded xs step cond × ReadyIn ps (xs + 1) body
+  Ready ps xs (If' cond n taken m other place) = FitParts ps xs cond.parts × ReadyIn ps xs taken × ReadyIn ps xs other × (0 < length cond.parts)
+  Ready ps xs (Assign array subs value place) = AllFit ps xs subs × FitsValue ps xs value
+
+  pub ReadyIn : ℕ → ℕ → {m : _} → Row_of-Stmt m → Type 0
+  ReadyIn ps xs end_of-Stmt = Unit {0}
+  ReadyIn ps xs (more_of-Stmt s rest) = Ready ps xs s × ReadyIn ps xs rest
+
+abbrev pub ReadyAll : ℕ → ℕ → List Stmt → Type 0
+ReadyAll ps xs = AllByRecursion (Ready ps xs)
+
+-- extents and contexts are over the parameters alone
+pub record ReadyProgram (p : Program) : Type 0 where
+  pub body : ReadyAll (length p.params) 0 p.body
+  pub context : FitParts (length p.params) 0 p.context.parts
+  pub extents : AllByRecursion (λ (a : Array). AllFit (length p.params) 0 a.extents) p.arrays
