@@ -1,0 +1,5 @@
+pub mod Calls
+pub mod Contents
+pub mod Counts
+pub mod Log
+pub mod Memory
