@@ -1,0 +1,11 @@
+pub mod Fits
+pub mod Affine
+pub mod Stops
+pub mod Rows
+pub mod NormalRows
+pub mod Negation
+pub mod Orders
+pub mod NormalForm
+pub mod Ties
+pub mod Traces
+pub mod Tests
