@@ -1,0 +1,17 @@
+pub mod Turns
+pub mod Sequences
+pub mod Lists
+pub mod Classes
+pub mod Comments
+pub mod Runs
+pub mod Decimals
+pub mod Longest
+pub mod Fronts
+pub mod PieceSteps
+pub mod FileSteps
+pub mod LineStarts
+pub mod DirectiveKinds
+pub mod ReadLemmas
+pub mod FileLemmas
+pub mod Slices
+pub mod LawLemmas

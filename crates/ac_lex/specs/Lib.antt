@@ -1,0 +1,9 @@
+pub mod Bytes
+pub mod Numerals
+pub mod Pieces
+pub mod Directives
+pub mod Tokens
+pub mod Lexemes
+pub mod Answers
+pub mod Laws
+pub mod Reading
