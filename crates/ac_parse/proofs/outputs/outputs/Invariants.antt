@@ -1,0 +1,7 @@
+use Rattle.std.proofs.Common.{◌≡◌, ◌++◌, drop}
+use Rattle.std.specs.Prelude.{filter}
+use Rattle.ac_parse.specs.Pairing.{outputs_of, array_numbers, is_output}
+use Rattle.ac_parse.proofs.outputs.outputs.Given as goal
+
+abbrev pub invariant-loop-slot : goal.invariant-loop-slot
+invariant-loop-slot l = l.outputs ++ filter (is_output l.left l.right) (array_numbers (drop l.slot-index l.left.slots)) ≡ outputs_of l.left l.right

@@ -1,0 +1,9 @@
+use Rattle.ac_parse.proofs.Fitting.{function_ready}
+use Rattle.ac_parse.proofs.Ranges.{function_numbers}
+use Rattle.ac_parse.proofs.parsing.parse_tokens.Goals as goal
+
+pub returns-clause-ready : goal.returns-clause-ready
+returns-clause-ready c = function_ready c.in_ok-program.ensures.function
+
+pub returns-clause-declared : goal.returns-clause-declared
+returns-clause-declared c = function_numbers c.in_ok-program.ensures.function

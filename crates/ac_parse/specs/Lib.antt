@@ -1,0 +1,9 @@
+pub mod Tokens
+pub mod Names
+pub mod Grammar
+pub mod Reading
+pub mod Program
+pub mod Assigned
+pub mod Pairing
+pub mod Answers
+pub mod Numbers

@@ -1,0 +1,41 @@
+-- Programs in which each number of an array or a parameter is one that the program has.
+use Rattle.std.specs.Prelude.{◌<◌, ℕ, length}
+use Rattle.std.specs.List.{AllByRecursion}
+use Rattle.ac_syntax.specs.declared.tree.Value.{Value, Row_of-Value, end_of-Value, more_of-Value}
+use Rattle.ac_syntax.specs.declared.tree.Value.TheVariants.{Number, Access, Call'}
+use Rattle.ac_syntax.specs.declared.tree.Stmt.{Stmt, Row_of-Stmt, end_of-Stmt, more_of-Stmt}
+use Rattle.ac_syntax.specs.declared.tree.Stmt.TheVariants.{For', If', Assign}
+use Rattle.ac_syntax.specs.declared.tree.Slot.{Slot}
+use Rattle.ac_syntax.specs.declared.tree.Slot.TheVariants as slot
+use Rattle.ac_syntax.specs.declared.tree.Program.{Program}
+
+-- each array that a value reads is one of the first n
+unfoldable mutual
+  pub ReadsOf : ℕ → Value → Type 0
+  ReadsOf n (Number e) = Unit {0}
+  ReadsOf n (Access array subs place) = array < n
+  ReadsOf n (Call' symbol m args place) = ReadsIn n args
+
+  pub ReadsIn : ℕ → {m : _} → Row_of-Value m → Type 0
+  ReadsIn n end_of-Value = Unit {0}
+  ReadsIn n (more_of-Value v rest) = ReadsOf n v × ReadsIn n rest
+
+-- each array that a statement reads or assigns is one of the first n
+unfoldable mutual
+  pub ArraysOf : ℕ → Stmt → Type 0
+  ArraysOf n (For' iter start cond step m body place) = ArraysIn n body
+  ArraysOf n (If' cond m taken k other place) = ArraysIn n taken × ArraysIn n other
+  ArraysOf n (Assign array subs value place) = (array < n) × ReadsOf n value
+
+  pub ArraysIn : ℕ → {m : _} → Row_of-Stmt m → Type 0
+  ArraysIn n end_of-Stmt = Unit {0}
+  ArraysIn n (more_of-Stmt s rest) = ArraysOf n s × ArraysIn n rest
+
+-- an integer parameter or an array that the program has
+abbrev pub IsSlotOf : Program → Slot → Type 0
+IsSlotOf program (slot.Param number) = number < length program.params
+IsSlotOf program (slot.Array number) = number < length program.arrays
+
+pub record HasDeclaredNumbers (program : Program) : Type 0 where
+  pub body : AllByRecursion (ArraysOf (length program.arrays)) program.body
+  pub slots : AllByRecursion (IsSlotOf program) program.slots
