@@ -1,0 +1,11 @@
+pub mod Headline
+pub mod Ids
+pub mod Constants
+pub mod Values
+pub mod Steps
+pub mod Elements
+pub mod Inputs
+pub mod Leasts
+pub mod Lines
+pub mod Rising
+pub mod Verdicts

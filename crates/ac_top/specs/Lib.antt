@@ -1,0 +1,9 @@
+pub mod Answers
+pub mod Codes
+pub mod Kept
+pub mod Least
+pub mod Stages
+pub mod Statuses
+pub mod Straight
+pub mod Texts
+pub mod Verdicts

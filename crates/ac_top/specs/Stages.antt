@@ -1,0 +1,47 @@
+-- What the stages of a run hand on.
+use Rattle.std.specs.Prelude.{◌≡◌, ℕ, List, map, true, Option, IfSome}
+use Rattle.std.specs.Global.{Global}
+use Rattle.std.specs.Prelude.{Vec}
+use Rattle.std.specs.List.{list_all}
+use Rattle.ac_port.specs.Contents.{Contents, IsTooBig}
+use Rattle.ac_syntax.specs.declared.tree.Program.{Program}
+use Rattle.ac_syntax.specs.Outputs.{input_at}
+use Rattle.ac_syntax.specs.declared.tree.Pair.{Pair}
+use Rattle.ac_parse.specs.Pairing.{IsPairOf, HasPairFault, array_numbers}
+use Rattle.ac_parse.specs.declared.faults.PairFault.TheVariants as fault
+use Rattle.ac_top.specs.Answers.{Holds, Report, report as a_report}
+use Rattle.ac_top.specs.Statuses.{status_of}
+use Rattle.ac_top.specs.Texts.{verdict_lines}
+use Rattle.ac_top.specs.declared.verdict.Verdict.{Verdict}
+use Rattle.ac_top.specs.declared.report.Report.{Report as Written}
+use Rattle.ac_top.specs.declared.report.Source.{Source}
+use Rattle.ac_top.specs.declared.report.Source.TheVariants.{Bytes, Unread, TooLong}
+use Rattle.ac_top.specs.declared.report.Paired.{Paired}
+use Rattle.ac_top.specs.declared.report.Paired.TheVariants.{Together, Signature, NoOutput}
+
+-- the status and the bytes of a report
+abbrev pub written : Written → Report
+written r = a_report r.status r.text.items
+
+-- what a read gave
+abbrev pub IsSource : Option Contents → Type 0 → List ℕ → Source → Type 0
+IsSource files faulty name (Bytes bytes) = Holds files name bytes.items
+IsSource files faulty name Unread = faulty
+IsSource files faulty name TooLong = IfSome files (λ contents. IsTooBig contents name 65536)
+
+-- what became of two programs
+abbrev pub IsPaired : Program → Program → Paired → Type 0
+IsPaired left right (Together pair) = IsPairOf left right pair
+IsPaired left right (Signature number) = HasPairFault left right (fault.Signature number)
+IsPaired left right NoOutput = HasPairFault left right fault.NoOutput
+
+-- the arrays of the parameter list are inputs
+abbrev pub HasInputs : Program → Type 0
+HasInputs program = list_all (input_at program.arrays) (array_numbers program.slots) ≡ true
+
+abbrev pub verdicts_report : Pair → List Verdict → Report
+verdicts_report pair verdicts = a_report (status_of verdicts) (verdict_lines pair.left.arrays pair.outputs verdicts)
+
+-- the bytes of the words
+abbrev pub spelled : List (Vec ℕ Global) → List (List ℕ)
+spelled = map (λ word. word.items)

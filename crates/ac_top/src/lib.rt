@@ -1,0 +1,29 @@
+//! The program: from its words and the files that they name to a status and a text.
+//!
+//! `run` is the top call. It reads the files through whatever `Files` it is given and puts its text through whatever
+//! `Sink`, so that its contract speaks of the bytes read and the bytes put. What it may answer stands in one relation,
+//! `specs/Answers.antt`, case by case, with the exact lines in `specs/Texts.antt`; and the headline is a clause of it: where
+//! the status is done, each output of the two programs is the same.
+//!
+//! Programs without parameters, loops, branches, contexts and commutative names are compared by the terms that they
+//! leave: both are run over one table of shared terms, and only the cells that either assigns are looked at. Every other
+//! pair is answered by the line `later`.
+#![tactic(auto)]
+
+mod cells;
+mod compare;
+mod evaluate;
+mod program;
+mod prove;
+mod report;
+pub mod status;
+mod straight;
+mod texts;
+pub mod verdict;
+
+pub use program::run;
+pub use status::{Status, status_of};
+pub use verdict::Verdict;
+
+#[cfg(test)]
+mod tests;

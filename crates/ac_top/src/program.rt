@@ -1,0 +1,91 @@
+ghost use Rattle.std.specs.Prelude.{◌≡◌, ◌≤◌, ◌++◌, ◌↔◌, codes, take, map, option_map, MatchOption, IfOk, IsTrue};
+ghost use Rattle.std.specs.Str.{IsUtf8};
+ghost use Rattle.ac_port.specs.Counts.{Rose};
+ghost use Rattle.ac_top.specs.Answers.{HasForm, IsProve, Reports, Puts, Ends, DoneMeansTheSame};
+ghost use Rattle.ac_top.specs.Stages.{written, spelled};
+
+use crate::report::{Report, report_prove};
+use crate::status::Status;
+use crate::texts::usage_line;
+use ac_port::{Files, Sink, SinkStop};
+use std::alloc::{AllocError, Global};
+
+/// The names of the two files of `prove A B`.
+fn prove_words(words: &[Vec<u8>]) -> Option<(&[u8], &[u8])>
+    ensures { MatchOption result (¬ (HasForm (spelled words.now))) (λ names. IsProve (spelled words.now) names.0.now names.1.now) }
+{
+    match words {
+        [command, left, right] if is_prove(command) && is_text(left) && is_text(right) => {
+            Some((left.as_slice(), right.as_slice()))
+        }
+        _ => None,
+    }
+}
+
+fn is_prove(word: &Vec<u8>) -> bool
+    ensures { IsTrue result ↔ (word.now.items ≡ codes "prove") }
+{
+    word.as_slice() == b"prove".as_slice()
+}
+
+/// Whether a word is UTF-8.
+fn is_text(word: &Vec<u8>) -> bool
+    ensures { IsTrue result ↔ IsUtf8 word.now.items }
+{
+    str::from_utf8(word.as_slice()).is_ok()
+}
+
+/// What is reported of the words.
+fn report<F: Files>(alloc: Global, words: &[Vec<u8>], files: &mut F) -> Result<Report, AllocError>
+    ensures report { IfOk result (λ r. Reports (spelled words.now) (F.contents files.old) (Rose (F.read_faults files.old) (F.read_faults files.new)) (written r)) }
+    ensures same { F.contents files.new ≡ F.contents files.old }
+    ensures same_writes { F.write_faults files.new ≡ F.write_faults files.old }
+{
+    match prove_words(words) {
+        Some((left, right)) => report_prove(alloc, files, left, right),
+        None => Ok(Report {
+            status: Status::Usage,
+            text: usage_line(alloc)?,
+        }),
+    }
+}
+
+/// Puts a report.
+fn put<S: Sink>(out: &mut S, report: &Report) -> Status
+    ensures { Puts (written report.now) (Rose (S.faults out.old) (S.faults out.new)) (S.sent out.old) (S.sent out.new) result }
+{
+    match out.put(&report.text) {
+        Ok(()) => report.status,
+        Err(SinkStop::Failed) => Status::WriteFault,
+        Err(SinkStop::Memory(_)) => Status::Memory,
+    }
+}
+
+/// Does what the words ask for: reads the files that they name, compares their programs, and puts the report in one put.
+///
+/// The words are those after the program's name. `prove A B` compares two source files, of at most 65,536 bytes each; any
+/// other words are a faulty command line. Each output of the pair has a line, `X equal` or `X different, element [e]..`.
+///
+/// A read fault and a write fault are answered only where the files' or the sink's count of faults rose in this call.
+/// No file changes. After want of memory nothing is put.
+pub fn run<F: Files, S: Sink>(
+    alloc: Global,
+    words: &[Vec<u8>],
+    files: &mut F,
+    out: &mut S,
+) -> Status
+    // What is answered, and what is put.
+    ensures answer { Ends (spelled words.now) (F.contents files.old) (Rose (F.read_faults files.old) (F.read_faults files.new)) (Rose (S.faults out.old) (S.faults out.new)) (S.sent out.old) (S.sent out.new) result }
+
+    // What is reported equal is equal.
+    ensures headline { DoneMeansTheSame (spelled words.now) (F.contents files.old) result }
+
+    // No file changes.
+    ensures same { F.contents files.new ≡ F.contents files.old }
+    ensures same_writes { F.write_faults files.new ≡ F.write_faults files.old }
+{
+    match report(alloc, words, files) {
+        Ok(report) => put(out, &report),
+        Err(_) => Status::Memory,
+    }
+}

@@ -1,0 +1,127 @@
+ghost use Rattle.std.specs.Prelude.{◌≡◌, ◌∷◌, [], ◌++◌, codes, length, OnOk, IfOk};
+ghost use Rattle.ac_top.specs.Texts as text;
+
+use crate::evaluate::declared_at;
+use crate::verdict::Verdict;
+use ac_syntax::tree::Array;
+use itoa::Buffer;
+use std::alloc::{AllocError, Global};
+
+const USAGE: &[u8] =
+    b"usage: prove A B [--budget n] [--proof P] | check A B P | instance A B [--at N=5,M=3] [--limit n] | flow A | gen SEED SIZE\n";
+
+/// The line for words that have none of the listed forms.
+pub fn usage_line(alloc: Global) -> Result<Vec<u8>, AllocError>
+    ensures { IfOk result (λ bytes. bytes.items ≡ text.usage_line) }
+{
+    Vec::from_slice(alloc, USAGE)
+}
+
+/// A line that begins with a name.
+fn named_line(alloc: Global, name: &[u8], rest: &[u8]) -> Result<Vec<u8>, AllocError>
+    ensures { IfOk result (λ bytes. bytes.items ≡ text.line (name.now ++ rest.now)) }
+{
+    let mut bytes = Vec::from_slice(alloc, name)?;
+    bytes.extend_from_slice(rest)?;
+    bytes.push(b'\n')?;
+    Ok(bytes)
+}
+
+/// The line for a file whose read failed.
+pub fn read_fault_line(alloc: Global, name: &[u8]) -> Result<Vec<u8>, AllocError>
+    ensures { IfOk result (λ bytes. bytes.items ≡ text.read_fault_line name.now) }
+{
+    named_line(alloc, name, b": read fault")
+}
+
+/// The line for a source file that is too long.
+pub fn too_long_line(alloc: Global, name: &[u8]) -> Result<Vec<u8>, AllocError>
+    ensures { IfOk result (λ bytes. bytes.items ≡ text.too_long_line name.now) }
+{
+    named_line(alloc, name, b":1:1: limit file")
+}
+
+/// The line for a file of a form that is not read or not compared yet.
+pub fn later_line(alloc: Global, name: &[u8]) -> Result<Vec<u8>, AllocError>
+    ensures { IfOk result (λ bytes. bytes.items ≡ text.later_line name.now) }
+{
+    named_line(alloc, name, b":1:1: later")
+}
+
+/// The line for programs whose parameter lists differ.
+pub fn signature_line(alloc: Global, number: u32) -> Result<Vec<u8>, AllocError>
+    ensures { IfOk result (λ bytes. bytes.items ≡ text.signature_line number) }
+{
+    let mut buffer = Buffer::new();
+    named_line(alloc, b"signature ", buffer.format(number).as_bytes())
+}
+
+/// The line for programs without outputs.
+pub fn no_output_line(alloc: Global) -> Result<Vec<u8>, AllocError>
+    ensures { IfOk result (λ bytes. bytes.items ≡ text.no_output_line) }
+{
+    Vec::from_slice(alloc, b"no output\n")
+}
+
+/// Adds the coordinates of an element, each in brackets.
+fn push_element(bytes: &mut Vec<u8>, element: &[i64]) -> Result<(), AllocError>
+    ensures { OnOk result (bytes.new.items ≡ bytes.old.items ++ text.element_text element.now) }
+{
+    for x in element {
+        push_coordinate(bytes, x)?;
+    }
+    Ok(())
+}
+
+fn push_coordinate(bytes: &mut Vec<u8>, x: &i64) -> Result<(), AllocError>
+    ensures { OnOk result (bytes.new.items ≡ bytes.old.items ++ text.coordinate_text x.now) }
+{
+    let mut buffer = Buffer::new();
+    bytes.push(b'[')?;
+    bytes.extend_from_slice(buffer.format(*x).as_bytes())?;
+    bytes.push(b']')?;
+    Ok(())
+}
+
+/// The name of an array.
+fn name_of(arrays: &[Array], array: usize) -> &[u8]
+    ensures { result.now ≡ text.name_at arrays.now array }
+{
+    match declared_at(arrays, array) {
+        Some(declared) => declared.name.as_bytes(),
+        None => &[],
+    }
+}
+
+/// Adds the line of a verdict.
+fn push_verdict(bytes: &mut Vec<u8>, name: &[u8], verdict: &Verdict) -> Result<(), AllocError>
+    ensures { OnOk result (bytes.new.items ≡ bytes.old.items ++ text.verdict_line name.now verdict.now) }
+{
+    bytes.extend_from_slice(name)?;
+    match verdict {
+        Verdict::Equal => bytes.extend_from_slice(b" equal\n"),
+        Verdict::Different(element) => {
+            bytes.extend_from_slice(b" different, element ")?;
+            push_element(bytes, element.as_slice())?;
+            bytes.push(b'\n')?;
+            Ok(())
+        }
+    }
+}
+
+/// The lines of all verdicts.
+pub fn verdict_lines(
+    alloc: Global,
+    arrays: &[Array],
+    outputs: &[usize],
+    verdicts: &[Verdict],
+) -> Result<Vec<u8>, AllocError>
+    requires { length outputs.now ≡ length verdicts.now }
+    ensures { IfOk result (λ bytes. bytes.items ≡ text.verdict_lines arrays.now outputs.now verdicts.now) }
+{
+    let mut bytes = Vec::new(alloc);
+    for at in 0..outputs.len() {
+        push_verdict(&mut bytes, name_of(arrays, outputs[at]), &verdicts[at])?;
+    }
+    Ok(bytes)
+}
