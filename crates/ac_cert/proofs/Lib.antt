@@ -1,0 +1,10 @@
+pub mod Fitting
+pub mod Stands
+pub mod Keeping
+pub mod RowRules
+pub mod StepRules
+pub mod Walks
+pub mod Kids
+pub mod Checks
+pub mod Soundness
+pub mod Making

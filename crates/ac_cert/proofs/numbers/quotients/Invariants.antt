@@ -1,0 +1,6 @@
+use Rattle.std.proofs.Common.{◌≡◌, take}
+use Rattle.ac_integers.specs.Dot.{floored}
+use Rattle.ac_cert.proofs.numbers.quotients.Given as goal
+
+abbrev pub invariant-loop-coef : goal.invariant-loop-coef
+invariant-loop-coef l = l.made.items ≡ floored l.fn.divisor (take l.coef-index l.coefs)

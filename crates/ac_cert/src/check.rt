@@ -1,0 +1,216 @@
+ghost use Rattle.std.specs.Prelude.{◌≡◌, ℕ, ◌+◌, ℤ, List, pos, ◌≤ℤ◌, ◌-ℤ◌, length, IfOk, IfErr, true, MatchResult, Option, None};
+ghost use Rattle.ac_forms.specs.Fits.{fits};
+ghost use Rattle.ac_forms.specs.Rows.{IsWellMade};
+ghost use Rattle.ac_forms.specs.declared.conj.Conj.{Conj};
+ghost use Rattle.ac_cert.specs.declared.types.Rule.{Rule};
+ghost use Rattle.ac_cert.specs.Points.{IsPoint};
+ghost use Rattle.ac_cert.specs.Rules.{class_of, is_partition};
+ghost use Rattle.ac_cert.specs.Stops.{RefusedBy, MadeBy, at_node, Fails, Checked};
+ghost use Rattle.ac_cert.specs.Faults.{Onward, later, path_fault, fault_of, node_count, tree_fault, size_of, kids_fault, kids_size};
+ghost use Rattle.ac_cert.specs.Cover.{IsCovered, AtSomeEnd};
+
+use crate::steps::{apply_onto, has_class, residue_by, split};
+use crate::types::{EndStop, Next, Rule, Step, Tree, TreeFault};
+use ac_forms::{Conj, Form};
+use std::alloc::Global;
+
+/// What stands at the end of a path.
+pub trait End {
+    type Env;
+
+    /// What an end says of a point.
+    ghost means: { Self → Self.Env → List ℤ → Type 0 };
+
+    /// The rule by which an end of a conjunction is refused.
+    ghost refusal: { Self → Self.Env → Conj → Option Rule };
+
+    /// Whether the end is accepted, at the rows of its path.
+    fn check(&self, alloc: Global, env: &Self::Env, rows: &Conj) -> Result<(), EndStop>
+        requires { IsWellMade rows.now }
+        ensures { RefusedBy (refusal self.now env.now rows.now) result };
+
+    /// An end that is accepted holds at each integer point of its rows.
+    ghost sound: { (e : Self) (env : Self.Env) (c : Conj) (p : List ℤ) → refusal e env c ≡ None → IsWellMade c → IsPoint c p → means e env p };
+}
+
+impl EndStop {
+    /// The fault at a node.
+    pub fn at(self, node: u64) -> TreeFault
+        ensures { result ≡ at_node self node }
+    {
+        match self {
+            EndStop::Refused(rule) => TreeFault::Refused { node, rule },
+            EndStop::Memory(want) => TreeFault::Memory(want),
+        }
+    }
+}
+
+/// The rows behind a path of steps, and the number of the node there, where the first step has the number `node`.
+///
+/// The clauses hold for whatever comes behind the path.
+pub fn walk(alloc: Global, conj: Conj, steps: &[Step], node: u64) -> Result<(Conj, u64), TreeFault>
+    requires { IsWellMade conj }
+    ensures goes_on { IfOk result (λ r. (go : Onward) → path_fault steps.now go conj node ≡ go r.0 r.1) }
+    ensures made { IfOk result (λ r. IsWellMade r.0) }
+    ensures number { IfOk result (λ r. r.1 ≡ later node (length steps.now)) }
+    ensures fails { IfErr result (λ e. (go : Onward) → Fails (path_fault steps.now go conj node) e) }
+{
+    let mut here = conj;
+    let mut at = node;
+    for s in steps {
+        match apply_onto(alloc, here, s) {
+            Ok(next) => here = next,
+            Err(stop) => return Err(stop.at(at)),
+        }
+        at = at.saturating_add(1);
+    }
+    Ok((here, at))
+}
+
+/// The number behind the tree, if no node of it fails.
+#[cycle(checks)]
+fn check_at<E: End>(
+    alloc: Global,
+    conj: Conj,
+    tree: &Tree<E>,
+    env: &E::Env,
+    node: u64,
+) -> Result<u64, TreeFault>
+    requires { IsWellMade conj }
+    ensures { Checked (tree_fault tree.now (λ e c. E.refusal e env.now c) conj node) (later node (size_of tree.now)) result }
+{
+    match walk(alloc, conj, tree.steps.as_slice(), node) {
+        Err(e) => Err(e),
+        Ok((here, at)) => check_next(alloc, here, &tree.next, env, at),
+    }
+}
+
+/// The same behind a path.
+#[cycle(checks)]
+fn check_next<E: End>(
+    alloc: Global,
+    conj: Conj,
+    next: &Next<E>,
+    env: &E::Env,
+    node: u64,
+) -> Result<u64, TreeFault>
+    requires { IsWellMade conj }
+    ensures { Checked (fault_of next.now (λ e c. E.refusal e env.now c) conj node) (later node (node_count next.now)) result }
+{
+    match next {
+        Next::End(e) => match e.check(alloc, env, &conj) {
+            Ok(()) => Ok(node.saturating_add(1)),
+            Err(stop) => Err(stop.at(node)),
+        },
+        Next::Split(e, left, right) => {
+            let (a, b) = match split(alloc, &conj, e) {
+                Ok(both) => both,
+                Err(stop) => return Err(stop.at(node)),
+            };
+            match check_at(alloc, a, left, env, node.saturating_add(1)) {
+                Err(e) => Err(e),
+                Ok(behind) => check_at(alloc, b, right, env, behind),
+            }
+        }
+        Next::Residue(m, e, kids) => {
+            if !stands(m, e, kids.len(), conj.columns) {
+                return Err(TreeFault::Refused {
+                    node,
+                    rule: Rule::Residue,
+                });
+            }
+            check_kids(alloc, &conj, m, e, kids, env, node.saturating_add(1))
+        }
+    }
+}
+
+/// Whether a residue branch with this number of children stands.
+#[tactic(auto, unfolding(crate::specs::Rules::is_partition), using(ac_integers::proofs::Bits::again_128))]
+fn stands(m: &i128, e: &Form, count: usize, columns: usize) -> bool
+    ensures { result ≡ is_partition m.now e.now columns count }
+{
+    if *m != count as i128 {
+        return false;
+    }
+    let last = *m - 1;
+    has_class(m, e, &last, columns)
+}
+
+/// Shows that the constant of a form is one of `i128`.
+#[tactic(auto, using(crate::proofs::Fitting::fits_true))]
+fn see_constant(e: &Form)
+    ensures { fits e.now.konst ≡ true }
+{
+    let _konst = e.konst();
+}
+
+/// The rows of a child of a residue branch.
+fn child(alloc: Global, conj: &Conj, m: &i128, e: &Form, r: usize) -> Result<Conj, EndStop>
+    requires { IsWellMade conj.now }
+    ensures exact { MadeBy (class_of m.now e.now (pos r) conj.now) Rule.Residue result }
+    ensures made { IfOk result (λ c. IsWellMade c) }
+{
+    child_of(alloc, conj, m, e, r)
+}
+
+/// The same, by its rule alone.
+#[tactic(auto, using(ac_integers::proofs::Bits::again_128))]
+fn child_of(alloc: Global, conj: &Conj, m: &i128, e: &Form, r: usize) -> Result<Conj, EndStop>
+    ensures { MadeBy (class_of m.now e.now (pos r) conj.now) Rule.Residue result }
+{
+    let number = r as i128;
+    residue_by(alloc, conj, m, e, &number)
+}
+
+/// The number behind the children, if no node of them fails.
+#[cycle(checks)]
+fn check_kids<E: End>(
+    alloc: Global,
+    conj: &Conj,
+    m: &i128,
+    e: &Form,
+    kids: &[Tree<E>],
+    env: &E::Env,
+    node: u64,
+) -> Result<u64, TreeFault>
+    requires made { IsWellMade conj.now }
+    requires partition { is_partition m.now e.now conj.now.columns (length kids.now) ≡ true }
+    ensures { Checked (kids_fault kids.now (λ e c. E.refusal e env.now c) m.now e.now 0 conj.now node) (later node (kids_size kids.now)) result }
+{
+    see_constant(e);
+    let mut at = node;
+    for r in 0..kids.len() {
+        let class = match child(alloc, conj, m, e, r) {
+            Ok(class) => class,
+            Err(stop) => return Err(stop.at(node)),
+        };
+        match check_at(alloc, class, &kids[r], env, at) {
+            Err(e) => return Err(e),
+            Ok(behind) => at = behind,
+        }
+    }
+    Ok(at)
+}
+
+/// Whether each step and branch is an instance of its rule, all numbers stay in `i128`, and each end is accepted; else
+/// the first node that fails and its rule. An accepted tree is a cover: each integer point of the conjunction, with
+/// numbers for the columns of quotients, meets all rows on the path to some end, whose meaning holds there.
+///
+/// It recurses as deep as the tree has branches on a path: the depth is the caller's to bound.
+pub fn check_tree<E: End>(
+    alloc: Global,
+    conj: &Conj,
+    tree: &Tree<E>,
+    env: &E::Env,
+) -> Result<(), TreeFault>
+    requires { IsWellMade conj.now }
+    ensures exact { MatchResult result (λ _. tree_fault tree.now (λ e c. E.refusal e env.now c) conj.now 0 ≡ None) (Fails (tree_fault tree.now (λ e c. E.refusal e env.now c) conj.now 0)) }
+    ensures cover { IfOk result (λ _. (p : List ℤ) → IsPoint conj.now p → IsCovered tree.now (λ e q. E.means e env.now q) conj.now p) }
+    ensures holds { IfOk result (λ _. (p : List ℤ) → IsPoint conj.now p → AtSomeEnd (λ e q. E.means e env.now q) p) }
+{
+    let conj = conj.copy(alloc)?;
+    match check_at(alloc, conj, tree, env, 0) {
+        Err(e) => Err(e),
+        Ok(_) => Ok(()),
+    }
+}

@@ -1,0 +1,20 @@
+//! Certificates over integer rows: steps, each by one of nine rules, branches and ends, as trees whose check shows that
+//! no integer point is lost.
+#![tactic(auto)]
+
+mod check;
+mod ends;
+mod make;
+mod numbers;
+mod rows;
+mod steps;
+pub mod types;
+
+pub use check::{End, check_tree, walk};
+pub use ends::Absurd;
+pub use make::{absurd_tree, accepted_is_empty, behind_steps, residue_tree, split_tree};
+pub use steps::{apply, apply_onto, residue, split};
+pub use types::{EndStop, Next, Rule, Tree, TreeFault};
+
+#[cfg(test)]
+mod tests;
