@@ -1,0 +1,15 @@
+pub mod Values
+pub mod Rows
+pub mod Narrows
+pub mod Scopes
+pub mod Relation
+pub mod Points
+pub mod Bodies
+pub mod NodeForms
+pub mod Targets
+pub mod Differences
+pub mod LevelRows
+pub mod Orders
+pub mod Commons
+pub mod LevelSteps
+pub mod Equating

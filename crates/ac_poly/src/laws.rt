@@ -1,0 +1,28 @@
+//! What a lowered program means, in words: each function here does nothing, and its contract is a fact about all programs.
+ghost use Rattle.ac_poly.specs.Laws.{PointsAreInstances, TargetsAreCells, NodesAreValues};
+ghost use Rattle.ac_poly.specs.Before.{LevelsAreTheOrder, LevelsAreApart, EqualitiesAreEqualValues};
+
+/// The points of an assignment's pieces are exactly its instances: at each valuation of the parameters, a list of
+/// counters lies in some piece exactly where the trace has an entry of the assignment with these counters.
+pub fn points_of_pieces()
+    ensures { PointsAreInstances }
+{}
+
+/// At an entry of the trace the forms of its assignment have the index values: those of the target give the cell that is
+/// written, and each node of the value has its model, in preorder, with the numbers of its arguments.
+pub fn values_of_forms()
+    ensures target { TargetsAreCells }
+    ensures nodes { NodesAreValues }
+{}
+
+/// At two entries of a trace one of the levels of their assignments holds exactly where the first stands before the
+/// second. No two levels hold at one point.
+pub fn order_by_levels()
+    ensures order { LevelsAreTheOrder }
+    ensures apart { LevelsAreApart }
+{}
+
+/// The equalities of two lists of forms hold at a point exactly where all their values are equal there.
+pub fn equal_cells()
+    ensures { EqualitiesAreEqualValues }
+{}

@@ -1,0 +1,45 @@
+use ac_forms::{Form, Row};
+use ac_items::Items;
+use ac_syntax::tree::{Kind, Symbol};
+
+/// A node of a value. The nodes of a value stand in preorder, the root first; subscripts are no nodes.
+#[derive(Debug, Drop)]
+pub enum NodeModel {
+    /// The value of a form.
+    Number(Form),
+    /// A read of an array's cell: the forms of its subscripts.
+    Read { array: usize, subs: Items<Form> },
+    /// A symbol applied to the nodes with these numbers.
+    Call { symbol: Symbol, args: Items<usize> },
+}
+
+/// An assignment as integer points. Its forms and rows are over the parameters and then the counters of its loops, the
+/// outermost first.
+#[derive(Debug, Drop)]
+pub struct StmtModel {
+    /// The numbers of the loops around it, from the outside in. Loops are numbered from 0 in the order of the text.
+    pub loops: Items<usize>,
+    /// Its pieces: the assignment is made where all rows of some piece hold, and nowhere else.
+    pub pieces: Items<Items<Row>>,
+    /// The array that it writes.
+    pub array: usize,
+    /// The subscripts of the cell that it writes.
+    pub subs: Items<Form>,
+    /// The nodes of its value.
+    pub nodes: Items<NodeModel>,
+}
+
+/// A program as integer points.
+#[derive(Debug, Drop)]
+pub struct Model {
+    /// The number of parameters.
+    pub params: usize,
+    /// The rows of the context, over the parameters.
+    pub context: Items<Row>,
+    /// The assignments, in the order of the text.
+    pub stmts: Items<StmtModel>,
+    /// The extents of each array, over the parameters.
+    pub extents: Items<Items<Form>>,
+    /// The kind of each array.
+    pub kinds: Items<Kind>,
+}
