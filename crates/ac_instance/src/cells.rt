@@ -1,0 +1,76 @@
+ghost use Rattle.std.specs.Prelude.{◌≡◌, [], Some, OnOk, length, slice_get, option_map, if◌then◌else◌};
+ghost use Rattle.std.specs.Option.{option_copied};
+ghost use Rattle.ac_syntax.specs.Algebra.{Cell, same_cell};
+ghost use Rattle.ac_instance.specs.Kept.{assigned, cell_of, id_at};
+
+use ac_terms::TermId;
+use indexmap::IndexMap;
+use std::alloc::{AllocError, Global};
+use std::marker::Model;
+
+/// A cell that is read or assigned: an array's number and an index for each of its dimensions.
+#[derive(Debug, PartialEq, Eq, Hash, Drop)]
+pub struct Target {
+    pub array: usize,
+    pub index: Vec<i64>,
+}
+
+/// The ids of the terms of the cells that a run has assigned, in the order of their first assignment.
+#[derive(Drop)]
+pub struct Cells {
+    ids: IndexMap<Target, TermId>,
+}
+
+impl Model for Cells {
+    ghost use Rattle.std.specs.Prelude.{List, map};
+    ghost use Rattle.ac_syntax.specs.Algebra.{Cell};
+    ghost use Rattle.ac_terms.specs.declared.node.TermId.{TermId};
+    ghost use Rattle.ac_instance.specs.Kept.{cell_of};
+
+    ghost Value = { List (Cell × TermId) };
+
+    ghost view = { λ cells. map (λ e. (cell_of e.0, e.1)) cells.ids.entries };
+}
+
+impl Cells {
+    /// No cell is assigned.
+    pub fn new(alloc: Global) -> Cells
+        ensures { result ≡ [] }
+    {
+        Cells {
+            ids: IndexMap::new(alloc),
+        }
+    }
+
+    /// How many cells are assigned.
+    pub fn len(&self) -> usize
+        ensures { result ≡ length self.now }
+    {
+        self.ids.len()
+    }
+
+    /// The assigned cell with this number, from 0; none exactly where there are no more.
+    pub fn target(&self, at: usize) -> Option<&Target>
+        ensures { option_map cell_of (option_copied result) ≡ option_map assigned (slice_get self.now at) }
+    {
+        match self.ids.get_index(at) {
+            Some((target, _)) => Some(target),
+            None => None,
+        }
+    }
+
+    /// The id that is kept for a cell.
+    pub fn get(&self, target: &Target) -> Option<TermId>
+        ensures { result ≡ id_at self.now (cell_of target.now) }
+    {
+        self.ids.get(target).copied()
+    }
+
+    /// Keeps an id for a cell, in the place of an earlier one.
+    pub fn set(&mut self, target: Target, id: TermId) -> Result<(), AllocError>
+        ensures { OnOk result ((c : Cell) → id_at self.new c ≡ (if same_cell (cell_of target) c then Some id else id_at self.old c)) }
+    {
+        self.ids.insert(target, id)?;
+        Ok(())
+    }
+}
