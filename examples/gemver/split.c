@@ -1,0 +1,21 @@
+// gemver: A = A + u1 v1' + u2 v2', then x = x + beta A' y + z, then w = w + alpha A x; three outputs.
+// The update of A is split into two nests, one per product; z is added at the end of the turn that sums x[i].
+// Equal: a sum of three parts is formed from the left, so it may be cut after the second one.
+void gemver(int N, double alpha, double beta, double A[N][N], double u1[N], double v1[N], double u2[N],
+            double v2[N], double w[N], double x[N], double y[N], double z[N]) {
+  int i, j;
+  for (i = 0; i < N; i++)
+    for (j = 0; j < N; j++)
+      A[i][j] += u1[i] * v1[j];
+  for (i = 0; i < N; i++)
+    for (j = 0; j < N; j++)
+      A[i][j] += u2[i] * v2[j];
+  for (i = 0; i < N; i++) {
+    for (j = 0; j < N; j++)
+      x[i] += beta * A[j][i] * y[j];
+    x[i] += z[i];
+  }
+  for (i = 0; i < N; i++)
+    for (j = 0; j < N; j++)
+      w[i] += alpha * A[i][j] * x[j];
+}

@@ -1,0 +1,17 @@
+// gemver: A = A + u1 v1' + u2 v2', then x = x + beta A' y + z, then w = w + alpha A x; three outputs.
+// Wrong: the loop for w is fused with that for x, but w[i] reads all of x, also what later turns change.
+// w is different at its first element where N is 2 or more, A and x are equal.
+void gemver(int N, double alpha, double beta, double A[N][N], double u1[N], double v1[N], double u2[N],
+            double v2[N], double w[N], double x[N], double y[N], double z[N]) {
+  int i, j;
+  for (i = 0; i < N; i++)
+    for (j = 0; j < N; j++)
+      A[i][j] = A[i][j] + u1[i] * v1[j] + u2[i] * v2[j];
+  for (i = 0; i < N; i++) {
+    for (j = 0; j < N; j++)
+      x[i] = x[i] + beta * A[j][i] * y[j];
+    x[i] = x[i] + z[i];
+    for (j = 0; j < N; j++)
+      w[i] = w[i] + alpha * A[i][j] * x[j];
+  }
+}

@@ -1,0 +1,15 @@
+// lu: A = L U in place, L with ones on its diagonal.
+// The original: row after row, each element takes all its products at once.
+void lu(int N, double A[N][N]) {
+  int i, j, k;
+  for (i = 0; i < N; i++) {
+    for (j = 0; j < i; j++) {
+      for (k = 0; k < j; k++)
+        A[i][j] -= A[i][k] * A[k][j];
+      A[i][j] /= A[j][j];
+    }
+    for (j = i; j < N; j++)
+      for (k = 0; k < i; k++)
+        A[i][j] -= A[i][k] * A[k][j];
+  }
+}

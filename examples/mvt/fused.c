@@ -1,0 +1,11 @@
+// mvt: x_1 = x_1 + A y_1 and x_2 = x_2 + A' y_2, where A' is A transposed; two outputs.
+// The loops of the second nest are interchanged and both nests fused, so that each element of A is read once.
+// Equal: x_2[j] still takes the rows in order.
+void mvt(int N, double x_1[N], double x_2[N], double y_1[N], double y_2[N], double A[N][N]) {
+  int i, j;
+  for (i = 0; i < N; i++)
+    for (j = 0; j < N; j++) {
+      x_1[i] += A[i][j] * y_1[j];
+      x_2[j] += A[i][j] * y_2[i];
+    }
+}
