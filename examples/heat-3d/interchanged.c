@@ -1,0 +1,20 @@
+// heat-3d: T double steps of the heat equation in a cube; its border stays.
+// The space loops are interchanged to the order k, j, i, and j runs backwards in the second step.
+// Equal: a step reads one array and writes the other, so its elements may come in any order.
+void heat_3d(int T, int N, double A[N][N][N], double B[N][N][N]) {
+  int t, i, j, k;
+  for (t = 0; t < T; t++) {
+    for (k = 1; k < N - 1; k++)
+      for (j = 1; j < N - 1; j++)
+        for (i = 1; i < N - 1; i++)
+          B[i][j][k] = 0.125 * (A[i + 1][j][k] - 2.0 * A[i][j][k] + A[i - 1][j][k])
+                     + 0.125 * (A[i][j + 1][k] - 2.0 * A[i][j][k] + A[i][j - 1][k])
+                     + 0.125 * (A[i][j][k + 1] - 2.0 * A[i][j][k] + A[i][j][k - 1]) + A[i][j][k];
+    for (k = 1; k < N - 1; k++)
+      for (j = N - 2; j >= 1; j--)
+        for (i = 1; i < N - 1; i++)
+          A[i][j][k] = 0.125 * (B[i + 1][j][k] - 2.0 * B[i][j][k] + B[i - 1][j][k])
+                     + 0.125 * (B[i][j + 1][k] - 2.0 * B[i][j][k] + B[i][j - 1][k])
+                     + 0.125 * (B[i][j][k + 1] - 2.0 * B[i][j][k] + B[i][j][k - 1]) + B[i][j][k];
+  }
+}
