@@ -1,0 +1,10 @@
+// fir: a filter with the five taps h; x[n + 4] is the newest sample that y[n] takes.
+// The original: sample after sample, the taps in order.
+void fir(int N, double h[5], double x[N + 4], double y[N]) {
+  int n, k;
+  for (n = 0; n < N; n++) {
+    y[n] = 0.0;
+    for (k = 0; k < 5; k++)
+      y[n] += h[k] * x[n - k + 4];
+  }
+}
