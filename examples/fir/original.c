@@ -1,6 +1,6 @@
 // fir: a filter with the five taps h; x[n + 4] is the newest sample that y[n] takes.
 // The original: sample after sample, the taps in order.
-void fir(int N, double h[5], double x[N + 4], double y[N]) {
+void fir(int N, const double h[5], const double x[N + 4], double y[N]) {
   int n, k;
   for (n = 0; n < N; n++) {
     y[n] = 0.0;

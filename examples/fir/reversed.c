@@ -1,7 +1,7 @@
 // fir: a filter with the five taps h; x[n + 4] is the newest sample that y[n] takes.
 // The loop over the samples runs backwards.
 // Equal: no sample of the output reads another one; the taps keep their order.
-void fir(int N, double h[5], double x[N + 4], double y[N]) {
+void fir(int N, const double h[5], const double x[N + 4], double y[N]) {
   int n, k;
   for (n = N - 1; n >= 0; n--) {
     y[n] = 0.0;

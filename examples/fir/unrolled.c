@@ -1,7 +1,7 @@
 // fir: a filter with the five taps h; x[n + 4] is the newest sample that y[n] takes.
 // The loop over the samples is unrolled by 2 and jammed; the remainder loop takes the last sample of an odd N.
 // Equal: the taps of each sample keep their order.
-void fir(int N, double h[5], double x[N + 4], double y[N]) {
+void fir(int N, const double h[5], const double x[N + 4], double y[N]) {
   int n, k, rest;
   for (n = 0; n + 1 < N; n += 2) {
     y[n] = 0.0;

@@ -1,7 +1,7 @@
 // fir: a filter with the five taps h, with the loop over the samples unrolled by 4.
 // Wrong: there is no remainder loop, so the last samples are never assigned.
 // Different at the first element after the last full block; where 4 divides N nothing shows.
-void fir(int N, double h[5], double x[N + 4], double y[N]) {
+void fir(int N, const double h[5], const double x[N + 4], double y[N]) {
   int n, k;
   for (n = 0; n + 3 < N; n += 4) {
     y[n] = 0.0;

@@ -1,9 +1,9 @@
 // prefix-sums: S[i] is the sum of A[0] to A[i].
 // The loop is unrolled by 3; the last block, where it isn't full, runs in a remainder loop.
 // Equal: the elements come in the same order.
-void prefix_sums(int N, double A[N], double S[N]) {
-  double sum;
-  sum = 0.0;
+void prefix_sums(int N, const long A[N], long S[N]) {
+  long sum;
+  sum = 0;
   for (int i = 0; i + 3 <= N; i += 3) {
     S[i] = sum + A[i];
     S[i + 1] = sum + A[i] + A[i + 1];

@@ -2,7 +2,7 @@
 // d[0] is peeled, s[0] comes directly after it, and the two loops are fused.
 // Equal: s[i] reads d[i - 1] and d[i], and both are there by then.
 #pragma affine context N >= 1
-void wavelet(int N, double x[2*N + 1], double s[N + 1], double d[N]) {
+void wavelet(int N, const float x[2*N + 1], float s[N + 1], float d[N]) {
   int i;
   d[0] = x[1] - predict(x[0], x[2]);
   s[0] = x[0] + update(d[0], d[0]);

@@ -2,7 +2,7 @@
 // One loop over all even samples: branches split off the first one, the last one and those between.
 // Equal: in turn i the element d[i], where there is one, comes before s[i].
 #pragma affine context N >= 1
-void wavelet(int N, double x[2*N + 1], double s[N + 1], double d[N]) {
+void wavelet(int N, const float x[2*N + 1], float s[N + 1], float d[N]) {
   int i;
   for (i = 0; i <= N; i++) {
     if (i < N)

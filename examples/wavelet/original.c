@@ -1,7 +1,7 @@
 // wavelet: one lifting step, d[i] the odd samples less a prediction, s[i] the even samples with an update; two outputs.
 // The original: first all of d, then all of s; at both ends of s the one neighbour stands for both.
 #pragma affine context N >= 1
-void wavelet(int N, double x[2*N + 1], double s[N + 1], double d[N]) {
+void wavelet(int N, const float x[2*N + 1], float s[N + 1], float d[N]) {
   int i;
   for (i = 0; i < N; i++)
     d[i] = x[2 * i + 1] - predict(x[2 * i], x[2 * i + 2]);

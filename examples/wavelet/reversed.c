@@ -2,7 +2,7 @@
 // Both loops run backwards, and the ends of s are exchanged with them.
 // Equal: no element of d reads another one of d, and none of s another one of s.
 #pragma affine context N >= 1
-void wavelet(int N, double x[2*N + 1], double s[N + 1], double d[N]) {
+void wavelet(int N, const float x[2*N + 1], float s[N + 1], float d[N]) {
   int i;
   for (i = N - 1; i >= 0; i--)
     d[i] = x[2 * i + 1] - predict(x[2 * i], x[2 * i + 2]);

@@ -2,7 +2,7 @@
 // Wrong: s[i + 1] is formed in the turn of d[i], without a shift, and reads d[i + 1] one turn too early.
 // s is different at [1] where N is 2 or more, d is equal.
 #pragma affine context N >= 1
-void wavelet(int N, double x[2*N + 1], double s[N + 1], double d[N]) {
+void wavelet(int N, const float x[2*N + 1], float s[N + 1], float d[N]) {
   int i;
   for (i = 0; i < N - 1; i++) {
     d[i] = x[2 * i + 1] - predict(x[2 * i], x[2 * i + 2]);
