@@ -23,6 +23,8 @@ pub mod Places
 pub mod Positions
 pub mod LastWriters
 pub mod Wide
+pub mod PrintedValues
+pub mod PrintedLines
 pub mod Exact
 pub mod Walking
 pub mod ReadyAt
@@ -31,3 +33,5 @@ pub mod SlowTurns
 pub mod SourceSteps
 pub mod Stores
 pub mod Listings
+pub mod Sums
+pub mod Shapes

@@ -24,3 +24,5 @@ pub mod Executions
 pub mod Counts
 pub mod TermTrees
 pub mod Listed
+pub mod Text
+pub mod Printing

@@ -11,8 +11,13 @@ pub mod evaluate;
 pub mod laws;
 pub mod make;
 pub mod name;
+mod print;
+#[cfg(test)]
+mod print_tests;
 pub mod slow;
 pub mod slow_terms;
 #[cfg(test)]
 mod tests;
 pub mod tree;
+
+pub use print::print_program;

@@ -1,0 +1,21 @@
+-- Terms of a sum that stand behind others, and the lines of an else.
+use Rattle.std.specs.Prelude.{ℕ, Bool, true, List, [], ◌∷◌, ◌++◌, codes, if◌then◌else◌}
+use Rattle.std.specs.List.{flat_map}
+use Rattle.ac_syntax.specs.Text.{Scope, line, deeper, stmt_text}
+use Rattle.ac_syntax.specs.declared.tree.Stmt.{Stmt}
+
+abbrev pub plus : Bool → List ℕ
+plus any = if any then codes " + " else []
+
+-- each term with ` + ` before it, but for the first of all
+abbrev pub continued : Bool → List (List ℕ) → List ℕ
+continued any [] = []
+continued any (t ∷ ts) = plus any ++ t ++ continued true ts
+
+abbrev pub has_terms : Bool → List (List ℕ) → Bool
+has_terms any [] = any
+has_terms any (t ∷ ts) = true
+
+abbrev pub else_lines : Scope → List ℕ → List Stmt → List ℕ
+else_lines scope indent [] = []
+else_lines scope indent (s ∷ other) = line indent (codes "} else {") ++ flat_map (stmt_text scope (deeper indent)) (s ∷ other)
