@@ -16,7 +16,8 @@ use Rattle.std.proofs.lemmas.Bool.Decides.{Decides-int_eq}
 use Rattle.std.proofs.lemmas.List.{at_drop_more}
 use Rattle.std.proofs.lemmas.Int.{ints}
 use borrow.Author.Tests.{ltb-true, lt-ltb}
-use Rattle.ac_cert.proofs.Keeping.{and-true, if-some, some-is}
+use Rattle.ac_cert.proofs.Tests.{and-true}
+use Rattle.ac_cert.proofs.Keeping.{if-some, some-is}
 use Rattle.ac_cert.specs.Rules.{both_sides, class_of, class, has_class, is_partition}
 use Rattle.ac_cert.specs.Stops.{MadeBy, at_node, Fails, Checked}
 use Rattle.ac_cert.specs.Faults.{Fault, Refusal, Onward, later, first_fault_of, split_fault, path_fault, fault_of, node_count, tree_fault, size_of, kids_fault, kids_size}

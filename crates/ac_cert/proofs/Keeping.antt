@@ -13,13 +13,6 @@ use Rattle.ac_forms.proofs.Values.{value_at-combined, value_at-append}
 use Rattle.ac_cert.specs.Points.{Keeps}
 use Rattle.ac_cert.specs.Rules.{combination, with_row}
 
-pub and-true : (a b : Bool) → (a && b) ≡ true → (a ≡ true) × (b ≡ true)
-and-true true b e = (refl, e)
-and-true false b e = absurd cc
-
-pub le-true : (a b : ℤ) → int_le a b ≡ true → a ≤ℤ b
-le-true a b e = grind (arith, ints, e)
-
 pub bind-some : {A B : Type 0} (o : Option A) (f : A → Option B) (z : B) → option_and_then f o ≡ Some z → (x : A) × (o ≡ Some x) × (f x ≡ Some z)
 bind-some None f z e = absurd cc
 bind-some (Some x) f z e = (x, refl, e)

@@ -1,10 +1,14 @@
+pub mod Tests
 pub mod Fitting
 pub mod Stands
 pub mod Keeping
 pub mod RowRules
 pub mod StepRules
+pub mod Equations
+pub mod Behind
 pub mod Walks
 pub mod Kids
 pub mod Checks
 pub mod Soundness
+pub mod EveryNumber
 pub mod Making

@@ -52,6 +52,6 @@ behind-accepted steps s f x R c d is e h k =
     ∙ steps-on steps f (fault_of x R) c d e h k
 
 -- an accepted tree of absurd ends and a point contradict each other
-pub accepted-empty : (t : Tree Absurd) (c : Conj) → IsWellMade c → Accepts t absurd_refusals c → (p : List ℤ) → IsPoint c p → ⊥
+pub accepted-empty : (t : Tree Absurd) (c : Conj) → IsWellMade c → tree_fault t absurd_refusals c 0 ≡ None → (p : List ℤ) → IsPoint c p → ⊥
 accepted-empty t c w h p at =
-    (end-of_cover t (λ e q. ⊥) c p (tree-covered t absurd_refusals (λ e q. ⊥) (λ e d q r wd aq. absurd_sound e.row d q r aq) c 0 w (h 0) p at)).3
+    (end-of_cover t (λ e q. ⊥) c p (tree-covered t absurd_refusals (λ e q. ⊥) (λ e d q r wd aq. absurd_sound e.row d q r aq) c 0 w h p at)).3

@@ -23,10 +23,12 @@ use Rattle.ac_forms.specs.declared.conj.Conj.{Conj}
 use Rattle.ac_forms.specs.declared.row.Row.{Row}
 use Rattle.ac_forms.specs.declared.row.Row.TheVariants.{Eq, Div, Ge}
 use Rattle.ac_forms.proofs.Values.{value_at-scaled}
+use Rattle.ac_cert.specs.AbsurdLaw.{no_terms}
 use Rattle.ac_cert.specs.Points.{Keeps}
 use Rattle.ac_cert.specs.Rules.{combination, multiple_of, with_row, term_form, sum_from, is_equality, are_equalities, zero_form, sum_row, divides_each, quotient_form, cut_row, greater_modulus, div_scale_row, div_add_row, div_mod_stands, divides_form, reduced_row, div_mod_row, div_eq_row, all_zero, is_zero, eq_cut_row}
 use Rattle.ac_cert.proofs.Stands.{product_positive}
-use Rattle.ac_cert.proofs.Keeping.{and-true, le-true, bind-some, map-some, if-some, unless-some, some-is, row-holds, row-made, keeps-push, combination-within, combination-value}
+use Rattle.ac_cert.proofs.Tests.{and-true, le-true}
+use Rattle.ac_cert.proofs.Keeping.{bind-some, map-some, if-some, unless-some, some-is, row-holds, row-made, keeps-push, combination-within, combination-value}
 
 -- a row that is given, and holds wherever the rows do
 abbrev pub Follows : Conj → Option Row → Type 0
@@ -252,18 +254,10 @@ mod-follows c i g n f (Some (Div m t)) w h r e =
     rw (← is) ((s.within, s.n_positive), (λ p met. mod-divides g n m t f b.0 p s.g_positive s.n_positive row.1 s.modulus b.1 d.0 (row-holds c.rows i p (Div m t) met h)))
 
 -- opposite rows
-zero-dot : (cs p : List ℤ) → all_zero cs ≡ true → dot cs p ≡ pos 0
-zero-dot [] p e = refl
-zero-dot (c ∷ cs) [] e = refl
-zero-dot (c ∷ cs) (x ∷ p) e =
-    let b = and-true (int_eq c (pos 0)) (all_zero cs) e in
-    let z : c ≡ pos 0 = (Decides-int_eq c (pos 0)).0 b.0 in
-    rw (z, zero-dot cs p b.1) (omega (arith, ints))
-
 pub zero-value : (f : Affine) (p : List ℤ) → is_zero f ≡ true → value_at f p ≡ pos 0
 zero-value f p e =
     let b = and-true (all_zero f.coefs) (int_eq f.konst (pos 0)) e in
-    let d = zero-dot f.coefs p b.0 in
+    let d = no_terms f.coefs p b.0 in
     let k : f.konst ≡ pos 0 = (Decides-int_eq f.konst (pos 0)).0 b.1 in
     omega (arith, ints, d, k)
 

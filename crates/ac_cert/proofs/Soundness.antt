@@ -16,10 +16,10 @@ use Rattle.ac_cert.specs.Points.{IsPoint, Extends, Keeps}
 use Rattle.ac_cert.specs.Rules.{after_step, rule_of, both_sides, class, is_partition, has_class}
 use Rattle.ac_cert.specs.Faults.{Fault, Refusal, Onward, later, first_fault_of, step_fault, path_fault, split_fault, child_count, fault_of, row_fault, tree_fault}
 use Rattle.ac_cert.specs.Cover.{Fact, AtStep, Along, AtSides, Covers, SomeCovers, IsCovered, AtSomeEnd}
-use Rattle.ac_cert.proofs.Keeping.{and-true, le-true}
+use Rattle.ac_cert.proofs.Tests.{and-true, le-true}
 use Rattle.ac_cert.proofs.StepRules.{step-keeps, sides-keep, class-over, class-some}
 
-first-none : (a b : Fault) → first_fault_of a b ≡ None → (a ≡ None) × (b ≡ None)
+pub first-none : (a b : Fault) → first_fault_of a b ≡ None → (a ≡ None) × (b ≡ None)
 first-none None b e = (refl, e)
 first-none (Some a) b e = absurd cc
 
@@ -43,11 +43,11 @@ split-sound : (o : Option (Conj × Conj)) (k : ℕ) (left right : Conj → Fault
 split-sound None k left right L R e h = absurd cc
 split-sound (Some s) k left right L R e h = let f = first-none (left s.0) (right s.1) e in h s.0 s.1 refl f.0 f.1
 
-no-refusal : (o : Option Rule) (k : ℕ) → option_map {U = ℕ × Rule} (λ r. (k, r)) o ≡ None → o ≡ None
+pub no-refusal : (o : Option Rule) (k : ℕ) → option_map {U = ℕ × Rule} (λ r. (k, r)) o ≡ None → o ≡ None
 no-refusal None k e = refl
 no-refusal (Some r) k e = absurd cc
 
-if-none : {A : Type 0} (b : Bool) (o : Option A) (x : A) → cond b o (Some x) ≡ None → (b ≡ true) × (o ≡ None)
+pub if-none : {A : Type 0} (b : Bool) (o : Option A) (x : A) → cond b o (Some x) ≡ None → (b ≡ true) × (o ≡ None)
 if-none true o x e = (refl, e)
 if-none false o x e = absurd cc
 
@@ -110,7 +110,7 @@ tree-covered t refusal Means law c k w f p at =
     path-sound t.steps (fault_of t.next refusal) (Covers t.next Means) c k w f (λ d j wd ed q aq. tree-sound t.next refusal Means law d j wd ed q aq) p at
 
 -- what a cover comes to for a caller: some end's meaning holds at the point with further numbers
-Extends-again : (p q r : List ℤ) → Extends p q → Extends q r → Extends p r
+pub Extends-again : (p q r : List ℤ) → Extends p q → Extends q r → Extends p r
 Extends-again p q r a b = (a.0 ++ b.0, b.1 ∙ ap (λ (x : List ℤ). x ++ b.0) a.1 ∙ append_assoc p a.0 b.0)
 
 end-further : {E : Type 0} (Means : E → List ℤ → Type 0) (p q : List ℤ) → Extends p q → AtSomeEnd Means q → AtSomeEnd Means p

@@ -7,13 +7,7 @@ use Rattle.ac_forms.specs.Affine.{Affine}
 use Rattle.ac_forms.specs.Fits.{Fits, fits}
 use Rattle.ac_forms.proofs.Twins.{fits-is}
 use Rattle.ac_cert.specs.Rules.{div_mod_stands}
-
-pub and-true : (a b : Bool) → (a && b) ≡ true → (a ≡ true) × (b ≡ true)
-and-true true b e = (refl, e)
-and-true false b e = absurd cc
-
-pub le-true : (a b : ℤ) → int_le a b ≡ true → a ≤ℤ b
-le-true a b e = grind (arith, ints, e)
+use Rattle.ac_cert.proofs.Tests.{and-true, le-true}
 
 pub product_positive : (g n : ℤ) → pos 1 ≤ℤ g → pos 1 ≤ℤ n → pos 1 ≤ℤ (g *ℤ n)
 product_positive g n a b =

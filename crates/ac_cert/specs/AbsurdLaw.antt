@@ -20,7 +20,8 @@ both : (a b : Bool) → (a && b) ≡ true → (a ≡ true) × (b ≡ true)
 both true b e = (refl, e)
 both false b e = absurd cc
 
-no_terms : (cs p : List ℤ) → all_zero cs ≡ true → dot cs p ≡ pos 0
+-- a form without coefficients is worth its constant
+pub no_terms : (cs p : List ℤ) → all_zero cs ≡ true → dot cs p ≡ pos 0
 no_terms [] p e = refl
 no_terms (c ∷ cs) [] e = refl
 no_terms (c ∷ cs) (x ∷ p) e =

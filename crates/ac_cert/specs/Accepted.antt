@@ -1,8 +1,10 @@
 -- Trees that are accepted, whatever number their first node has.
-use Rattle.std.specs.Prelude.{◌≡◌, ℕ, ◌+◌, ℤ, pos, List, [], ◌∷◌, Option, Some, None, option_and_then}
+use Rattle.std.specs.Prelude.{◌≡◌, ℕ, ◌+◌, ℤ, pos, List, [], ◌∷◌, Option, Some, None, option_and_then, Box}
+use Rattle.std.specs.declared.alloc.Global.{Global}
 use Rattle.ac_forms.specs.Affine.{Affine}
 use Rattle.ac_forms.specs.declared.conj.Conj.{Conj}
 use Rattle.ac_cert.specs.declared.types.Step.{Step}
+use Rattle.ac_cert.specs.declared.types.Next.{Next, Split}
 use Rattle.ac_cert.specs.declared.types.Tree.{Tree}
 use Rattle.ac_cert.specs.declared.ends.Absurd.{Absurd}
 use Rattle.ac_cert.specs.Ends.{absurd_refusal}
@@ -26,3 +28,7 @@ AcceptsEach (t ∷ ts) refusal m f i c = Accepts t refusal (class m f (pos i) c)
 abbrev pub after_steps : List Step → Conj → Option Conj
 after_steps [] c = Some c
 after_steps (s ∷ steps) c = option_and_then (after_steps steps) (after_step s c)
+
+-- a split by the form into these two trees, each in a box
+abbrev pub IsSplit : {E : Type 0} → Next E → Affine → Tree E → Tree E → Type 0
+IsSplit {E} x e left right = (l : Box (Tree E) Global) × (r : Box (Tree E) Global) × (x ≡ Split e l r) × (l.value ≡ left) × (r.value ≡ right)

@@ -1,8 +1,10 @@
 pub mod Points
 pub mod Rules
+pub mod Names
 pub mod Stops
 pub mod Faults
 pub mod Cover
 pub mod Ends
 pub mod AbsurdLaw
 pub mod Accepted
+pub mod StepRows

@@ -4,7 +4,9 @@
 
 mod check;
 mod ends;
+pub mod laws;
 mod make;
+mod names;
 mod numbers;
 mod rows;
 mod steps;
@@ -12,7 +14,7 @@ pub mod types;
 
 pub use check::{End, check_tree, walk};
 pub use ends::Absurd;
-pub use make::{absurd_tree, accepted_is_empty, behind_steps, residue_tree, split_tree};
+pub use make::{absurd_tree, behind_steps, end_tree, residue_tree, split_tree};
 pub use steps::{apply, apply_onto, residue, split};
 pub use types::{EndStop, Next, Rule, Tree, TreeFault};
 

@@ -1,30 +1,44 @@
-ghost use Rattle.std.specs.Prelude.{◌≡◌, ℕ, List, ℤ, length, IfOk, Some, true, slice_get};
-ghost use Rattle.ac_forms.specs.Rows.{IsWellMade};
+ghost use Rattle.std.specs.Prelude.{◌≡◌, ℕ, [], ◌++◌, Option, IfOk, Some, None, true, length, slice_get};
 ghost use Rattle.ac_forms.specs.declared.conj.Conj.{Conj};
-ghost use Rattle.ac_cert.specs.Accepted.{Accepts, AcceptsEach, absurd_refusals, after_steps};
+ghost use Rattle.ac_cert.specs.declared.ends.Absurd.{Absurd};
+ghost use Rattle.ac_cert.specs.declared.types.Next.{End, Residue};
+ghost use Rattle.ac_cert.specs.declared.types.Rule.{Rule};
+ghost use Rattle.ac_cert.specs.Accepted.{Accepts, AcceptsEach, IsSplit, absurd_refusals, after_steps};
 ghost use Rattle.ac_cert.specs.Ends.{is_absurd};
-ghost use Rattle.ac_cert.specs.Points.{IsPoint};
 ghost use Rattle.ac_cert.specs.Rules.{both_sides, is_partition};
 
 use crate::ends::Absurd;
 use crate::types::{Next, Step, Tree};
-use ac_forms::{Conj, Form};
+use ac_forms::Form;
 use ac_items::Items;
 use std::alloc::{AllocError, Global};
 
-/// The tree of one end at an absurd row.
-pub fn absurd_tree(alloc: Global, row: usize) -> Tree<Absurd>
-    ensures { (c : Conj) → is_absurd (slice_get c.rows row) ≡ true → Accepts result absurd_refusals c }
+/// The tree of one end, without steps.
+pub fn end_tree<E>(alloc: Global, end: E) -> Tree<E>
+    ensures steps { result.steps ≡ [] }
+    ensures next { result.next ≡ End end }
+    ensures accepted { (refusal : E → Conj → Option Rule) (c : Conj) → refusal end c ≡ None → Accepts result refusal c }
 {
     Tree {
         steps: Items::new(alloc),
-        next: Next::End(Absurd { row }),
+        next: Next::End(end),
     }
 }
 
-/// A tree behind further steps.
-pub fn behind_steps(steps: Items<Step>, tree: Tree<Absurd>) -> Result<Tree<Absurd>, AllocError>
-    ensures { IfOk result (λ t. (c d : Conj) → after_steps steps c ≡ Some d → Accepts tree absurd_refusals d → Accepts t absurd_refusals c) }
+/// The tree of one end at an absurd row, which has this place.
+pub fn absurd_tree(alloc: Global, row: usize) -> Tree<Absurd>
+    ensures steps { result.steps ≡ [] }
+    ensures next { result.next ≡ End (record { row = row }) }
+    ensures accepted { (c : Conj) → is_absurd (slice_get c.rows row) ≡ true → Accepts result absurd_refusals c }
+{
+    end_tree(alloc, Absurd { row })
+}
+
+/// A tree behind further steps. After want of memory both are dropped.
+pub fn behind_steps<E: Drop>(steps: Items<Step>, tree: Tree<E>) -> Result<Tree<E>, AllocError>
+    ensures steps { IfOk result (λ t. t.steps ≡ steps ++ tree.steps) }
+    ensures next { IfOk result (λ t. t.next ≡ tree.next) }
+    ensures accepted { IfOk result (λ t. (refusal : E → Conj → Option Rule) (c d : Conj) → after_steps steps c ≡ Some d → Accepts tree refusal d → Accepts t refusal c) }
 {
     let Tree {
         steps: further,
@@ -39,14 +53,17 @@ pub fn behind_steps(steps: Items<Step>, tree: Tree<Absurd>) -> Result<Tree<Absur
     })
 }
 
-/// A split into two trees.
-pub fn split_tree(
+/// A split by a form into two trees: the form is at least 0 in the first, and at most -1 in the second. After want of
+/// memory all are dropped.
+pub fn split_tree<E: Drop>(
     alloc: Global,
     e: Form,
-    left: Tree<Absurd>,
-    right: Tree<Absurd>,
-) -> Result<Tree<Absurd>, AllocError>
-    ensures { IfOk result (λ t. (c a b : Conj) → both_sides e c ≡ Some (a, b) → Accepts left absurd_refusals a → Accepts right absurd_refusals b → Accepts t absurd_refusals c) }
+    left: Tree<E>,
+    right: Tree<E>,
+) -> Result<Tree<E>, AllocError>
+    ensures steps { IfOk result (λ t. t.steps ≡ []) }
+    ensures next { IfOk result (λ t. IsSplit t.next e left right) }
+    ensures accepted { IfOk result (λ t. (refusal : E → Conj → Option Rule) (c a b : Conj) → both_sides e c ≡ Some (a, b) → Accepts left refusal a → Accepts right refusal b → Accepts t refusal c) }
 {
     let left = Box::new(alloc, left)?;
     let right = Box::new(alloc, right)?;
@@ -56,19 +73,14 @@ pub fn split_tree(
     })
 }
 
-/// A residue branch into a tree for each residue.
-pub fn residue_tree(alloc: Global, m: i128, e: Form, kids: Vec<Tree<Absurd>>) -> Tree<Absurd>
-    ensures { (c : Conj) → is_partition m e c.columns (length kids.items) ≡ true → AcceptsEach kids.items absurd_refusals m e 0 c → Accepts result absurd_refusals c }
+/// A residue branch by a number and a form into a tree for each residue, from 0 on.
+pub fn residue_tree<E>(alloc: Global, m: i128, e: Form, kids: Vec<Tree<E>>) -> Tree<E>
+    ensures steps { result.steps ≡ [] }
+    ensures next { result.next ≡ Residue m e kids }
+    ensures accepted { (refusal : E → Conj → Option Rule) (c : Conj) → is_partition m e c.columns (length kids.items) ≡ true → AcceptsEach kids.items refusal m e 0 c → Accepts result refusal c }
 {
     Tree {
         steps: Items::new(alloc),
         next: Next::Residue(m, e, kids),
     }
 }
-
-/// An accepted tree of absurd ends shows that no integer point meets the conjunction.
-pub fn accepted_is_empty(conj: &Conj, tree: &Tree<Absurd>)
-    requires made { IsWellMade conj.now }
-    requires accepted { Accepts tree.now absurd_refusals conj.now }
-    ensures { (p : List ℤ) → IsPoint conj.now p → ⊥ }
-{}

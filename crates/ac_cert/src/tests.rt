@@ -1,6 +1,10 @@
 use crate::check::{End, check_tree, walk};
 use crate::ends::Absurd;
-use crate::make::{absurd_tree, behind_steps, residue_tree, split_tree};
+use crate::laws::{
+    acceptance_at_every_number, accepted_is_empty, check_behind_steps, rows_behind_steps,
+    rows_of_each_rule,
+};
+use crate::make::{absurd_tree, behind_steps, end_tree, residue_tree, split_tree};
 use crate::steps::{apply, apply_onto, residue, split};
 use crate::types::{EndStop, Next, Rule, Step, Tree, TreeFault};
 use ac_forms::{Conj, Form, Row};
@@ -406,5 +410,70 @@ fn branches_have_their_rows(rt: HostRuntime) -> Result<(), Fail> {
             Err(EndStop::Refused(Rule::Quot))
         )
     );
+    Ok(())
+}
+
+/// Each rule and its name.
+const NAMES: [(Rule, &str); 23] = [
+    (Rule::Text, "text"),
+    (Rule::Point, "point"),
+    (Rule::Claim, "claim"),
+    (Rule::Output, "output"),
+    (Rule::Tree, "tree"),
+    (Rule::Add, "add"),
+    (Rule::Cut, "cut"),
+    (Rule::DivScale, "divscale"),
+    (Rule::DivAdd, "divadd"),
+    (Rule::DivMod, "divmod"),
+    (Rule::DivEq, "diveq"),
+    (Rule::Quot, "quot"),
+    (Rule::Floor, "floor"),
+    (Rule::EqCut, "eqcut"),
+    (Rule::Split, "split"),
+    (Rule::Residue, "residue"),
+    (Rule::Go, "go"),
+    (Rule::Absurd, "absurd"),
+    (Rule::Hit, "hit"),
+    (Rule::Number, "number"),
+    (Rule::Initial, "initial"),
+    (Rule::Killed, "killed"),
+    (Rule::End, "end"),
+];
+
+#[test]
+fn rules_are_printed_as_their_names(rt: HostRuntime) -> Result<(), Fail> {
+    for (rule, name) in &NAMES {
+        assert!(rt; rule.name() == *name, "at {rule:?}");
+        let printed = format!(in rt.alloc(); "{rule}")?;
+        assert!(rt; printed.as_str() == *name, "at {rule:?}");
+    }
+    Ok(())
+}
+
+#[test]
+fn an_accepted_tree_of_absurd_ends_shows_emptiness(rt: HostRuntime) -> Result<(), Fail> {
+    let alloc = rt.alloc();
+    let conj = clash(alloc)?;
+    if !conj.is_well_made() {
+        return Err("not well made".into());
+    }
+    let tree = chain(alloc, 2, 2, 4)?;
+    match check_tree(alloc, &conj, &tree, &()) {
+        Ok(()) => {
+            accepted_is_empty(&conj, &tree);
+            acceptance_at_every_number(&tree);
+            rows_of_each_rule(&conj);
+            check_behind_steps(tree.steps.as_slice(), 0);
+            rows_behind_steps(tree.steps.as_slice());
+            Ok(())
+        }
+        Err(_) => Err("refused".into()),
+    }
+}
+
+#[test]
+fn a_tree_may_be_one_end(rt: HostRuntime) -> Result<(), Fail> {
+    let alloc = rt.alloc();
+    assert!(rt; fault_of(alloc, &end_tree(alloc, Absurd { row: 0 }))? == Some((0, Rule::Absurd)));
     Ok(())
 }
