@@ -10,7 +10,7 @@ use Rattle.ac_forms.specs.Negation.{opposite, below, with_column}
 use Rattle.ac_forms.specs.declared.conj.Conj.{Conj}
 use Rattle.ac_forms.specs.declared.row.Row.TheVariants.{Eq, Div, Ge}
 use Rattle.ac_cert.specs.declared.types.Step.TheVariants.{Add, Cut, DivScale, DivAdd, DivMod, DivEq, Quot, Floor, EqCut}
-use Rattle.ac_cert.specs.Rules.{with_row, with_column_row, sum_from, sum_row, zero_form, are_equalities, divides_each, divides_form, quotient_form, is_zero, div_mod_stands, less_column, floor_of, after_step, both_sides, has_class, class, class_of}
+use Rattle.ac_cert.specs.Rules.{with_row, with_column_row, sum_from, sum_row, zero_form, are_equalities, divides_each, divides_form, quotient_form, is_zero, div_mod_stands, less_column, floor_of, after_step, side_rows, both_sides, has_class, class, class_of}
 use Rattle.ac_cert.specs.StepRows.{StepRows}
 use Rattle.ac_cert.proofs.Tests.{test-false, true-le, true-nat_le}
 use Rattle.ac_cert.proofs.Fitting.{combination_some, multiple_some, rest_some, modulus_some, fits_true}
@@ -55,7 +55,7 @@ unfolding after_step
 eq_cut-row c i j f g at and h z = rw (at, and, combination_some (pos 1) f (pos 1) g h, z) refl
 
 pub split-rows : (c : Conj) (f : Affine) → length f.coefs ≤ c.columns → FormFits (opposite f) → Fits ((opposite f).konst +ℤ negsuc 0) → both_sides f c ≡ Some (with_row c (Ge f), with_row c (Ge (below f)))
-unfolding both_sides
+unfolding side_rows
 split-rows c f l h g = rw (true-nat_le (length f.coefs) c.columns l, rest_some (negsuc 0) f h g) refl
 
 pub residue-row : (c : Conj) (m : ℤ) (f : Affine) (r : ℤ) → pos 1 ≤ℤ m → length f.coefs ≤ c.columns → Fits (f.konst -ℤ r) → class_of m f r c ≡ Some (class m f r c)

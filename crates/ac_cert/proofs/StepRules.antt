@@ -25,7 +25,7 @@ use Rattle.ac_cert.specs.declared.types.EndStop.{EndStop}
 use Rattle.ac_cert.specs.declared.types.Rule.TheVariants as rule
 use Rattle.ac_cert.specs.declared.types.Step.{Step}
 use Rattle.ac_cert.specs.declared.types.Step.TheVariants.{Add, Cut, DivScale, DivAdd, DivMod, DivEq, Quot, Floor, EqCut}
-use Rattle.ac_cert.specs.Rules.{rest_of, with_row, less_column, with_column_row, quotient, floor_of, after_step, rule_of, both_sides, has_class, class, class_of}
+use Rattle.ac_cert.specs.Rules.{rest_of, with_row, less_column, with_column_row, quotient, floor_of, after_step, rule_of, side_rows, both_sides, has_class, class, class_of}
 use Rattle.ac_cert.proofs.Tests.{and-true, le-true}
 use Rattle.ac_cert.proofs.Keeping.{bind-some, map-some, if-some, some-is, Meets-append, Meets-push, made-push, made-more, row-holds, row-made}
 use Rattle.ac_cert.proofs.RowRules.{follows-keeps, sum-follows, cut-follows, scale-follows, add-follows, mod-follows, eq-follows, eq_cut-follows, exact_quotient}
@@ -132,13 +132,14 @@ step-keeps (EqCut i j) c d e w = follows-keeps c d _ w (eq_cut-follows c i j (sl
 
 -- both sides of a split
 pub sides-keep : (f : Affine) (c a b : Conj) → both_sides f c ≡ Some (a, b) → IsWellMade c → IsWellMade a × IsWellMade b × ((p : List ℤ) → IsPoint c p → IsPoint a p ⊎ IsPoint b p)
-unfolding both_sides
+unfolding side_rows
 sides-keep f c a b e w =
-    let s = if-some (nat_le (length f.coefs) c.columns) (option_map (λ g. (with_row c (Ge f), with_row c (Ge g))) (rest_of (negsuc 0) f)) (a, b) e in
+    let o = map-some (side_rows f c.columns) (λ s. (with_row c s.0, with_row c s.1)) (a, b) e in
+    let s = if-some (nat_le (length f.coefs) c.columns) (option_map (λ g. (Ge f, Ge g)) (rest_of (negsuc 0) f)) o.0 o.1 in
     let l : length f.coefs ≤ c.columns = leb-true _ _ s.0 in
-    let t = map-some (rest_of (negsuc 0) f) (λ g. (with_row c (Ge f), with_row c (Ge g))) (a, b) s.1 in
-    let ea : a ≡ with_row c (Ge f) = ap (λ (x : Conj × Conj). x.0) t.2 in
-    let eb : b ≡ with_row c (Ge t.0) = ap (λ (x : Conj × Conj). x.1) t.2 in
+    let t = map-some (rest_of (negsuc 0) f) (λ g. (Ge f, Ge g)) o.0 s.1 in
+    let ea : a ≡ with_row c (Ge f) = ap (λ (x : Conj × Conj). x.0) o.2 ∙ ap (λ (x : Row × Row). with_row c x.0) t.2 in
+    let eb : b ≡ with_row c (Ge t.0) = ap (λ (x : Conj × Conj). x.1) o.2 ∙ ap (λ (x : Row × Row). with_row c x.1) t.2 in
     rw (ea, eb) (
       made-push c.columns c.rows (Ge f) w (l, tt),
       made-push c.columns c.rows (Ge t.0) w (omega (arith, l, rest_within (negsuc 0) f t.0 t.1), tt),
@@ -147,6 +148,11 @@ sides-keep f c a b e w =
           (λ most. inl (record { long = at.long; meets = Meets-push c.rows (Ge f) p at.meets most })),
     )
 
+pub sides-made : (f : Affine) (c : Conj) (s : Row × Row) → side_rows f c.columns ≡ Some s → IsWellMade c → IsWellMade (with_row c s.0) × IsWellMade (with_row c s.1)
+sides-made f c s e w =
+    let k = sides-keep f c (with_row c s.0) (with_row c s.1) (ap (λ (x : Option (Row × Row)). option_map (λ (y : Row × Row). (with_row c y.0, with_row c y.1)) x) e) w in
+    (k.0, k.1)
+
 -- the classes of a residue branch
 pub class-made : (m : ℤ) (f : Affine) (r : ℤ) (c : Conj) → has_class m f r c.columns ≡ true → IsWellMade c → IsWellMade (class m f r c)
 unfolding has_class
@@ -154,6 +160,12 @@ class-made m f r c e w =
     let a = and-true (int_le (pos 1) m) (nat_le (length f.coefs) c.columns && fits (f.konst -ℤ r)) e in
     let b = and-true (nat_le (length f.coefs) c.columns) (fits (f.konst -ℤ r)) a.1 in
     made-push c.columns c.rows (Div m (shifted f (neg_ℤ r))) w (leb-true _ _ b.0, le-true (pos 1) m a.0)
+
+pub class-fits : (m : ℤ) (f : Affine) (r : ℤ) (columns : ℕ) → has_class m f r columns ≡ true → fits (f.konst -ℤ r) ≡ true
+unfolding has_class
+class-fits m f r columns e =
+    let a = and-true (int_le (pos 1) m) (nat_le (length f.coefs) columns && fits (f.konst -ℤ r)) e in
+    (and-true (nat_le (length f.coefs) columns) (fits (f.konst -ℤ r)) a.1).1
 
 pub class-over : (m : ℤ) (f : Affine) (r : ℤ) (c : Conj) → pos 1 ≤ℤ m → nat_le (length f.coefs) c.columns ≡ true → IsWellMade c → IsWellMade (class m f r c)
 class-over m f r c a l w = made-push c.columns c.rows (Div m (shifted f (neg_ℤ r))) w (leb-true _ _ l, a)

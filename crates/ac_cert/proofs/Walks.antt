@@ -1,11 +1,13 @@
 -- One step along a path.
 use Rattle.std.proofs.Common.{◌≡◌, ℕ, ◌+◌, ◌<◌, ◌≤◌, List, ◌∷◌, length, drop, get_or, Option, Some, Err, sym, ap, ◌∙◌}
+use Rattle.std.specs.Prelude.{option_and_then}
 use Rattle.std.proofs.lemmas.List.{at_drop_more, at_drop_all}
 use Rattle.ac_forms.specs.declared.conj.Conj.{Conj}
 use Rattle.ac_cert.specs.declared.types.Rule.{Rule}
 use Rattle.ac_cert.specs.declared.types.Step.{Step}
 use Rattle.ac_cert.specs.declared.types.EndStop.{EndStop}
 use Rattle.ac_cert.specs.declared.types.EndStop.TheVariants.{Refused, Memory}
+use Rattle.ac_cert.specs.Accepted.{after_steps}
 use Rattle.ac_cert.specs.Rules.{after_step, rule_of}
 use Rattle.ac_cert.specs.Faults.{Fault, Onward, later, step_fault, path_fault}
 use Rattle.ac_cert.specs.Stops.{MadeBy, at_node, Fails}
@@ -29,3 +31,12 @@ path-stops steps i s c k stop f l e b go h =
 
 pub path-end : (steps : List Step) (i : ℕ) (c : Conj) (k : ℕ) (go : Onward) → length steps ≤ i → path_fault (drop i steps) go c k ≡ go c k
 path-end steps i c k go l = at_drop_all (λ (x : List Step). path_fault x go c k) steps i l
+
+pub rows-ok : (steps : List Step) (i : ℕ) (s : Step) (c d : Conj) → i < length steps → s ≡ get_or steps i s → after_step s c ≡ Some d → after_steps (drop i steps) c ≡ after_steps (drop (i + 1) steps) d
+rows-ok steps i s c d l e b =
+    at_drop_more (λ (x : List Step). after_steps x c) steps i s l
+    ∙ ap (λ (x : Step). after_steps (x ∷ drop (i + 1) steps) c) (sym e)
+    ∙ ap (λ (x : Option Conj). option_and_then (after_steps (drop (i + 1) steps)) x) b
+
+pub rows-end : (steps : List Step) (i : ℕ) (c : Conj) → length steps ≤ i → after_steps (drop i steps) c ≡ Some c
+rows-end steps i c l = at_drop_all (λ (x : List Step). after_steps x c) steps i l

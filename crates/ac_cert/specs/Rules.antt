@@ -1,5 +1,5 @@
 -- The rules: the rows that each step and branch makes, or none where it is no instance of its rule or a number leaves `i128`.
-use Rattle.std.specs.Prelude.{ℕ, ◌+◌, Bool, true, false, ◌&&◌, ℤ, pos, negsuc, ◌+ℤ◌, ◌-ℤ◌, ◌*ℤ◌, neg_ℤ, List, [], ◌∷◌, ◌++◌, length, Option, Some, None, option_and_then, option_map, cond, int_le, nat_le, nat_eq, slice_get, unsigned_abs}
+use Rattle.std.specs.Prelude.{ℕ, ◌+◌, Bool, true, false, ◌&&◌, ℤ, pos, negsuc, ◌+ℤ◌, ◌-ℤ◌, ◌*ℤ◌, neg_ℤ, List, [], ◌∷◌, ◌++◌, length, Option, Some, None, option_and_then, option_map, cond, int_le, nat_le, nat_eq, slice_get, take, unsigned_abs}
 use Rattle.std.specs.Int.{int_div_euclid}
 use Rattle.std.specs.Ordering.{int_eq}
 use Rattle.ac_integers.specs.Dot.{floored}
@@ -31,6 +31,10 @@ multiple_of k f = cond (form_fits (scaled k f)) (Some (scaled k f)) None
 -- a further row
 abbrev pub with_row : Conj → Row → Conj
 with_row c r = record { columns = c.columns; rows = c.rows ++ r ∷ [] }
+
+-- the first rows, over the first columns
+abbrev pub first_of : ℕ → ℕ → Conj → Conj
+first_of columns count c = record { columns = columns; rows = take count c.rows }
 
 -- the form of a row that may stand in a sum with this factor
 abbrev pub term_form : ℤ → Option Row → Option Affine
@@ -156,17 +160,25 @@ rule_of (Quot i) = rule.Quot
 rule_of (Floor m f) = rule.Floor
 rule_of (EqCut i j) = rule.EqCut
 
--- both children of a split: the form is at least 0, and at most -1
-unfoldable pub both_sides : Affine → Conj → Option (Conj × Conj)
-both_sides f c = cond (nat_le (length f.coefs) c.columns) (option_map (λ g. (with_row c (Ge f), with_row c (Ge g))) (rest_of (negsuc 0) f)) None
+-- the rows of a split's children: the form is at least 0, and at most -1
+unfoldable pub side_rows : Affine → ℕ → Option (Row × Row)
+side_rows f columns = cond (nat_le (length f.coefs) columns) (option_map (λ g. (Ge f, Ge g)) (rest_of (negsuc 0) f)) None
+
+-- both children of a split
+abbrev pub both_sides : Affine → Conj → Option (Conj × Conj)
+both_sides f c = option_map (λ s. (with_row c s.0, with_row c s.1)) (side_rows f c.columns)
 
 -- child r of a residue branch stands
 unfoldable pub has_class : ℤ → Affine → ℤ → ℕ → Bool
 has_class m f r columns = int_le (pos 1) m && (nat_le (length f.coefs) columns && fits (f.konst -ℤ r))
 
--- child r: the modulus divides the form less r
+-- the row of child r: the modulus divides the form less r
+abbrev pub class_row : ℤ → Affine → ℤ → Row
+class_row m f r = Div m (shifted f (neg_ℤ r))
+
+-- child r
 abbrev pub class : ℤ → Affine → ℤ → Conj → Conj
-class m f r c = with_row c (Div m (shifted f (neg_ℤ r)))
+class m f r c = with_row c (class_row m f r)
 
 abbrev pub class_of : ℤ → Affine → ℤ → Conj → Option Conj
 class_of m f r c = cond (has_class m f r c.columns) (Some (class m f r c)) None

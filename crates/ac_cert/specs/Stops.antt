@@ -1,5 +1,6 @@
 -- What a refusal tells. Want of memory may come at any time, and tells nothing.
 use Rattle.std.specs.Prelude.{◌≡◌, ℕ, Option, Some, None, Result, Ok, Err}
+use Rattle.ac_forms.specs.declared.conj.Conj.{Conj}
 use Rattle.ac_cert.specs.declared.types.Rule.{Rule}
 use Rattle.ac_cert.specs.declared.types.EndStop.{EndStop}
 use Rattle.ac_cert.specs.declared.types.TreeFault.{TreeFault}
@@ -29,7 +30,7 @@ abbrev pub Fails : Fault → TreeFault → Type 0
 Fails f (tree.Refused node r) = f ≡ Some (node, r)
 Fails f (tree.Memory _) = Unit {0}
 
--- Ok, with the number behind the nodes, exactly where there is no fault
-abbrev pub Checked : Fault → ℕ → Result ℕ TreeFault → Type 0
-Checked f n (Ok at) = (f ≡ None) × (at ≡ n)
-Checked f n (Err e) = Fails f e
+-- Ok, with the same conjunction and the number behind the nodes, exactly where there is no fault
+abbrev pub Checked : Fault → Conj → ℕ → Result (Conj × ℕ) TreeFault → Type 0
+Checked f c n (Ok r) = (f ≡ None) × (r.0 ≡ c) × (r.1 ≡ n)
+Checked f c n (Err e) = Fails f e

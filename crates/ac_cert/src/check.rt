@@ -4,15 +4,17 @@ ghost use Rattle.ac_forms.specs.Rows.{IsWellMade};
 ghost use Rattle.ac_forms.specs.declared.conj.Conj.{Conj};
 ghost use Rattle.ac_cert.specs.declared.types.Rule.{Rule};
 ghost use Rattle.ac_cert.specs.Points.{IsPoint};
-ghost use Rattle.ac_cert.specs.Rules.{class_of, is_partition};
-ghost use Rattle.ac_cert.specs.Stops.{RefusedBy, MadeBy, at_node, Fails, Checked};
+ghost use Rattle.ac_cert.specs.Rules.{class_row, first_of, is_partition, with_row};
+ghost use Rattle.ac_cert.specs.Accepted.{after_steps};
+ghost use Rattle.ac_cert.specs.Stops.{RefusedBy, at_node, Fails, Checked};
 ghost use Rattle.ac_cert.specs.Faults.{Onward, later, path_fault, fault_of, node_count, tree_fault, size_of, kids_fault, kids_size};
 ghost use Rattle.ac_cert.specs.Cover.{IsCovered, AtSomeEnd};
 
-use crate::steps::{apply_onto, has_class, residue_by, split};
+use crate::steps::{apply_onto, class_row, has_class, push, side_rows};
 use crate::types::{EndStop, Next, Rule, Step, Tree, TreeFault};
-use ac_forms::{Conj, Form};
-use std::alloc::Global;
+use ac_forms::{Conj, Form, Row};
+use ac_items::Items;
+use std::alloc::{AllocError, Global};
 
 /// What stands at the end of a path.
 pub trait End {
@@ -47,9 +49,10 @@ impl EndStop {
 
 /// The rows behind a path of steps, and the number of the node there, where the first step has the number `node`.
 ///
-/// The clauses hold for whatever comes behind the path.
+/// The clauses hold for whatever comes behind the path. The conjunction's rows stay, and further ones stand behind them.
 pub fn walk(alloc: Global, conj: Conj, steps: &[Step], node: u64) -> Result<(Conj, u64), TreeFault>
     requires { IsWellMade conj }
+    ensures rows { IfOk result (λ r. after_steps steps.now conj ≡ Some r.0) }
     ensures goes_on { IfOk result (λ r. (go : Onward) → path_fault steps.now go conj node ≡ go r.0 r.1) }
     ensures made { IfOk result (λ r. IsWellMade r.0) }
     ensures number { IfOk result (λ r. r.1 ≡ later node (length steps.now)) }
@@ -67,7 +70,29 @@ pub fn walk(alloc: Global, conj: Conj, steps: &[Step], node: u64) -> Result<(Con
     Ok((here, at))
 }
 
-/// The number behind the tree, if no node of it fails.
+/// A conjunction's first columns and rows. It takes no memory.
+fn first_of(conj: Conj, columns: usize, count: usize) -> Conj
+    ensures { result ≡ first_of columns count conj }
+{
+    let mut rows = conj.rows.into_vec();
+    rows.truncate(count);
+    Conj {
+        columns,
+        rows: Items::from(rows),
+    }
+}
+
+/// The rows of a child of a branch: those of the path and a further one.
+fn child_of(conj: Conj, row: Row) -> Result<Conj, AllocError>
+    requires { IsWellMade (with_row conj row) }
+    ensures value { IfOk result (λ child. child ≡ with_row conj row) }
+    ensures made { IfOk result (λ child. IsWellMade child) }
+{
+    push(conj, row)
+}
+
+/// The conjunction again and the number behind the tree, if no node of it fails. The rows of the path are one list, to
+/// which a step or a branch adds at the end, and which is cut back behind it.
 #[cycle(checks)]
 fn check_at<E: End>(
     alloc: Global,
@@ -75,13 +100,18 @@ fn check_at<E: End>(
     tree: &Tree<E>,
     env: &E::Env,
     node: u64,
-) -> Result<u64, TreeFault>
+) -> Result<(Conj, u64), TreeFault>
     requires { IsWellMade conj }
-    ensures { Checked (tree_fault tree.now (λ e c. E.refusal e env.now c) conj node) (later node (size_of tree.now)) result }
+    ensures { Checked (tree_fault tree.now (λ e c. E.refusal e env.now c) conj node) conj (later node (size_of tree.now)) result }
 {
+    let columns = conj.columns;
+    let count = conj.rows.len();
     match walk(alloc, conj, tree.steps.as_slice(), node) {
         Err(e) => Err(e),
-        Ok((here, at)) => check_next(alloc, here, &tree.next, env, at),
+        Ok((here, at)) => match check_next(alloc, here, &tree.next, env, at) {
+            Err(e) => Err(e),
+            Ok((here, behind)) => Ok((first_of(here, columns, count), behind)),
+        },
     }
 }
 
@@ -93,23 +123,31 @@ fn check_next<E: End>(
     next: &Next<E>,
     env: &E::Env,
     node: u64,
-) -> Result<u64, TreeFault>
+) -> Result<(Conj, u64), TreeFault>
     requires { IsWellMade conj }
-    ensures { Checked (fault_of next.now (λ e c. E.refusal e env.now c) conj node) (later node (node_count next.now)) result }
+    ensures { Checked (fault_of next.now (λ e c. E.refusal e env.now c) conj node) conj (later node (node_count next.now)) result }
 {
     match next {
         Next::End(e) => match e.check(alloc, env, &conj) {
-            Ok(()) => Ok(node.saturating_add(1)),
+            Ok(()) => Ok((conj, node.saturating_add(1))),
             Err(stop) => Err(stop.at(node)),
         },
         Next::Split(e, left, right) => {
-            let (a, b) = match split(alloc, &conj, e) {
+            let (low, high) = match side_rows(alloc, e, conj.columns) {
                 Ok(both) => both,
                 Err(stop) => return Err(stop.at(node)),
             };
-            match check_at(alloc, a, left, env, node.saturating_add(1)) {
+            let columns = conj.columns;
+            let count = conj.rows.len();
+            let first = child_of(conj, low)?;
+            let (first, behind) = match check_at(alloc, first, left, env, node.saturating_add(1)) {
+                Ok(checked) => checked,
+                Err(e) => return Err(e),
+            };
+            let second = child_of(first_of(first, columns, count), high)?;
+            match check_at(alloc, second, right, env, behind) {
                 Err(e) => Err(e),
-                Ok(behind) => check_at(alloc, b, right, env, behind),
+                Ok((second, behind)) => Ok((first_of(second, columns, count), behind)),
             }
         }
         Next::Residue(m, e, kids) => {
@@ -119,7 +157,7 @@ fn check_next<E: End>(
                     rule: Rule::Residue,
                 });
             }
-            check_kids(alloc, &conj, m, e, kids, env, node.saturating_add(1))
+            check_kids(alloc, conj, m, e, kids, env, node.saturating_add(1))
         }
     }
 }
@@ -144,59 +182,57 @@ fn see_constant(e: &Form)
     let _konst = e.konst();
 }
 
-/// The rows of a child of a residue branch.
-fn child(alloc: Global, conj: &Conj, m: &i128, e: &Form, r: usize) -> Result<Conj, EndStop>
-    requires { IsWellMade conj.now }
-    ensures exact { MadeBy (class_of m.now e.now (pos r) conj.now) Rule.Residue result }
-    ensures made { IfOk result (λ c. IsWellMade c) }
-{
-    child_of(alloc, conj, m, e, r)
-}
-
-/// The same, by its rule alone.
+/// The row of child `r` of a residue branch that stands.
 #[tactic(auto, using(ac_integers::proofs::Bits::again_128))]
-fn child_of(alloc: Global, conj: &Conj, m: &i128, e: &Form, r: usize) -> Result<Conj, EndStop>
-    ensures { MadeBy (class_of m.now e.now (pos r) conj.now) Rule.Residue result }
+fn child_row(alloc: Global, m: &i128, e: &Form, r: usize) -> Result<Row, AllocError>
+    requires { fits (e.now.konst -ℤ pos r) ≡ true }
+    ensures { IfOk result (λ row. row ≡ class_row m.now e.now (pos r)) }
 {
     let number = r as i128;
-    residue_by(alloc, conj, m, e, &number)
+    class_row(alloc, m, e, &number)
 }
 
-/// The number behind the children, if no node of them fails.
+/// The same of the children of a residue branch.
 #[cycle(checks)]
 fn check_kids<E: End>(
     alloc: Global,
-    conj: &Conj,
+    conj: Conj,
     m: &i128,
     e: &Form,
     kids: &[Tree<E>],
     env: &E::Env,
     node: u64,
-) -> Result<u64, TreeFault>
-    requires made { IsWellMade conj.now }
-    requires partition { is_partition m.now e.now conj.now.columns (length kids.now) ≡ true }
-    ensures { Checked (kids_fault kids.now (λ e c. E.refusal e env.now c) m.now e.now 0 conj.now node) (later node (kids_size kids.now)) result }
+) -> Result<(Conj, u64), TreeFault>
+    requires made { IsWellMade conj }
+    requires partition { is_partition m.now e.now conj.columns (length kids.now) ≡ true }
+    ensures { Checked (kids_fault kids.now (λ e c. E.refusal e env.now c) m.now e.now 0 conj node) conj (later node (kids_size kids.now)) result }
 {
     see_constant(e);
+    let columns = conj.columns;
+    let count = conj.rows.len();
+    let mut here = conj;
     let mut at = node;
     for r in 0..kids.len() {
-        let class = match child(alloc, conj, m, e, r) {
-            Ok(class) => class,
-            Err(stop) => return Err(stop.at(node)),
-        };
-        match check_at(alloc, class, &kids[r], env, at) {
+        let row = child_row(alloc, m, e, r)?;
+        let child = child_of(here, row)?;
+        match check_at(alloc, child, &kids[r], env, at) {
             Err(e) => return Err(e),
-            Ok(behind) => at = behind,
+            Ok((child, behind)) => {
+                here = first_of(child, columns, count);
+                at = behind;
+            }
         }
     }
-    Ok(at)
+    Ok((here, at))
 }
 
 /// Whether each step and branch is an instance of its rule, all numbers stay in `i128`, and each end is accepted; else
 /// the first node that fails and its rule. An accepted tree is a cover: each integer point of the conjunction, with
 /// numbers for the columns of quotients, meets all rows on the path to some end, whose meaning holds there.
 ///
-/// It recurses as deep as the tree has branches on a path: the depth is the caller's to bound.
+/// It copies the conjunction once, and adds to and cuts back these rows along the tree: a step or a branch costs its rule,
+/// whatever the length of its path. It recurses as deep as the tree has branches on a path: the depth is the caller's to
+/// bound.
 pub fn check_tree<E: End>(
     alloc: Global,
     conj: &Conj,
@@ -209,8 +245,9 @@ pub fn check_tree<E: End>(
     ensures holds { IfOk result (λ _. (p : List ℤ) → IsPoint conj.now p → AtSomeEnd (λ e q. E.means e env.now q) p) }
 {
     let conj = conj.copy(alloc)?;
-    match check_at(alloc, conj, tree, env, 0) {
-        Err(e) => Err(e),
-        Ok(_) => Ok(()),
-    }
+    let _checked = match check_at(alloc, conj, tree, env, 0) {
+        Ok(checked) => checked,
+        Err(e) => return Err(e),
+    };
+    Ok(())
 }

@@ -5,7 +5,7 @@ ghost use Rattle.ac_forms.specs.Negation.{with_column};
 ghost use Rattle.ac_forms.specs.Rows.{IsWellMade};
 ghost use Rattle.ac_cert.specs.declared.types.Rule.{Rule};
 ghost use Rattle.ac_cert.specs.Points.{IsPoint, Keeps};
-ghost use Rattle.ac_cert.specs.Rules.{after_step, rule_of, with_row, less_column, with_column_row, quotient, floor_of, rest_of, both_sides, has_class, class, class_of};
+ghost use Rattle.ac_cert.specs.Rules.{after_step, rule_of, with_row, less_column, with_column_row, quotient, floor_of, rest_of, side_rows, both_sides, has_class, class, class_row, class_of};
 ghost use Rattle.ac_cert.specs.Stops.{MadeBy};
 
 use crate::numbers::{can_lose, rest};
@@ -118,7 +118,7 @@ fn pushed(conj: Conj, row: Option<Row>) -> Result<Option<Conj>, AllocError>
 }
 
 /// The rows and a further one.
-fn push(conj: Conj, row: Row) -> Result<Conj, AllocError>
+pub(crate) fn push(conj: Conj, row: Row) -> Result<Conj, AllocError>
     ensures { IfOk result (λ made. made ≡ with_row conj row) }
 {
     let mut conj = conj;
@@ -226,31 +226,43 @@ pub fn split(alloc: Global, conj: &Conj, e: &Form) -> Result<(Conj, Conj), EndSt
 fn split_by(alloc: Global, conj: &Conj, e: &Form) -> Result<(Conj, Conj), EndStop>
     ensures { MadeBy (both_sides e.now conj.now) Rule.Split result }
 {
-    match sides(alloc, conj, e)? {
+    let (low, high) = match side_rows(alloc, e, conj.columns) {
+        Ok(both) => both,
+        Err(stop) => return Err(stop),
+    };
+    let first = push(conj.copy(alloc)?, low)?;
+    let second = push(conj.copy(alloc)?, high)?;
+    Ok((first, second))
+}
+
+/// The rows of both children of a split, or its refusal.
+pub(crate) fn side_rows(alloc: Global, e: &Form, columns: usize) -> Result<(Row, Row), EndStop>
+    ensures { MadeBy (side_rows e.now columns) Rule.Split result }
+{
+    match sides(alloc, e, columns)? {
         Some(both) => Ok(both),
         None => Err(EndStop::Refused(Rule::Split)),
     }
 }
 
-/// Both children of a split, if its form is over the columns.
-#[tactic(auto, unfolding(crate::specs::Rules::both_sides))]
-fn sides(alloc: Global, conj: &Conj, e: &Form) -> Result<Option<(Conj, Conj)>, AllocError>
-    ensures { IfOk result (λ made. made ≡ both_sides e.now conj.now) }
+/// The rows of both children of a split, if its form is over the columns.
+#[tactic(auto, unfolding(crate::specs::Rules::side_rows))]
+fn sides(alloc: Global, e: &Form, columns: usize) -> Result<Option<(Row, Row)>, AllocError>
+    ensures { IfOk result (λ made. made ≡ side_rows e.now columns) }
 {
-    if e.columns() > conj.columns {
+    if e.columns() > columns {
         return Ok(None);
     }
     let Some(below) = rest(alloc, -1, e)? else {
         return Ok(None);
     };
-    let first = push(conj.copy(alloc)?, Row::Ge(e.copy(alloc)?))?;
-    let second = push(conj.copy(alloc)?, Row::Ge(below))?;
-    Ok(Some((first, second)))
+    Ok(Some((Row::Ge(e.copy(alloc)?), Row::Ge(below))))
 }
 
 /// The rows of child `r` of a residue branch: the number divides the form less `r`. It is refused exactly where the
 /// number is less than 1, the form has more coefficients than there are columns, or a number leaves `i128`. Each
-/// integer point of the conjunction is a point of the child for some `r`.
+/// integer point of the conjunction has the rows of one class from 0 to the number less 1; that class may be one that
+/// this call refuses, as its form leaves `i128`.
 pub fn residue(alloc: Global, conj: &Conj, m: i128, e: &Form, r: i128) -> Result<Conj, EndStop>
     requires made { IsWellMade conj.now }
     requires low { pos 0 ≤ℤ r }
@@ -263,13 +275,7 @@ pub fn residue(alloc: Global, conj: &Conj, m: i128, e: &Form, r: i128) -> Result
 }
 
 /// A child of a residue branch, or its refusal.
-pub(crate) fn residue_by(
-    alloc: Global,
-    conj: &Conj,
-    m: &i128,
-    e: &Form,
-    r: &i128,
-) -> Result<Conj, EndStop>
+fn residue_by(alloc: Global, conj: &Conj, m: &i128, e: &Form, r: &i128) -> Result<Conj, EndStop>
     requires { pos 0 ≤ℤ r.now }
     ensures { MadeBy (class_of m.now e.now r.now conj.now) Rule.Residue result }
 {
@@ -281,7 +287,7 @@ pub(crate) fn residue_by(
 
 /// A child of a residue branch, if it stands.
 #[tactic(auto, using(ac_integers::proofs::Bits::again_128))]
-pub(crate) fn class(
+fn class(
     alloc: Global,
     conj: &Conj,
     m: &i128,
@@ -294,8 +300,8 @@ pub(crate) fn class(
     if !has_class(m, e, r, conj.columns) {
         return Ok(None);
     }
-    let moved = less_number(alloc, e, r)?;
-    Ok(Some(push(conj.copy(alloc)?, Row::Div(*m, moved))?))
+    let row = class_row(alloc, m, e, r)?;
+    Ok(Some(push(conj.copy(alloc)?, row)?))
 }
 
 /// Whether a child of a residue branch stands.
@@ -305,6 +311,17 @@ pub(crate) fn has_class(m: &i128, e: &Form, r: &i128, columns: usize) -> bool
     ensures fits { result ≡ true → fits (e.now.konst -ℤ r.now) ≡ true }
 {
     *m >= 1 && e.columns() <= columns && can_lose(e, *r)
+}
+
+/// The row of child `r` of a residue branch: the number divides the form less `r`.
+#[tactic(auto, using(ac_integers::proofs::Bits::again_128, crate::proofs::Fitting::true_fits))]
+pub(crate) fn class_row(alloc: Global, m: &i128, e: &Form, r: &i128) -> Result<Row, AllocError>
+    requires low { pos 0 ≤ℤ r.now }
+    requires fits { fits (e.now.konst -ℤ r.now) ≡ true }
+    ensures { IfOk result (λ row. row ≡ class_row m.now e.now r.now) }
+{
+    let moved = less_number(alloc, e, r)?;
+    Ok(Row::Div(*m, moved))
 }
 
 /// A form less a number.

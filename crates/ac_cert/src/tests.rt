@@ -30,7 +30,7 @@ const REFUSED: [i128; 6] = [-1, 0, 0, 0, 0, 0];
 const NONE: [i128; 4] = [0, 0, 0, 0];
 
 /// The rows over two columns that the steps of the table start from.
-const ROWS: [[i128; 5]; 13] = [
+const ROWS: [[i128; 5]; 14] = [
     [GE, 0, -1, 2, 0],
     [GE, 0, 1, -2, 0],
     [EQ, 0, -3, 1, 1],
@@ -44,7 +44,11 @@ const ROWS: [[i128; 5]; 13] = [
     [DIV, MAX, 0, 1, 0],
     [GE, 0, MIN, 3, 0],
     [GE, 0, 1, -1, 1],
+    [GE, 0, -1, 0, 0],
 ];
+
+/// The place of the row that is absurd.
+const ABSURD: usize = 13;
 
 /// A step: its rule, up to two rows (99 for none), two numbers and a form; and the last row that it makes.
 type Case = (Rule, [usize; 2], [i128; 2], [i128; 4], [i128; 6]);
@@ -279,6 +283,54 @@ fn steps_make_the_rows_of_the_table(rt: HostRuntime) -> Result<(), Fail> {
     Ok(())
 }
 
+/// The fault of a tree of two steps that stand, the step of the table and an end that stands.
+fn fault_in_a_tree(alloc: Global, case: &Case) -> Result<Option<(u64, Rule)>, AllocError> {
+    let mut steps = Items::new(alloc);
+    steps.push(Step::DivEq(2, 7))?;
+    steps.push(Step::Cut(0, 1))?;
+    steps.push(step_of(alloc, case)?)?;
+    let tree = behind_steps(steps, absurd_tree(alloc, ABSURD))?;
+    fault_from(alloc, &ROWS, &tree)
+}
+
+#[test]
+fn a_refused_step_is_the_node_that_is_named(rt: HostRuntime) -> Result<(), Fail> {
+    let alloc = rt.alloc();
+    for case in &CASES {
+        let wanted = if case.4[0] < 0 {
+            Some((2, case.0))
+        } else {
+            None
+        };
+        assert!(rt; fault_in_a_tree(alloc, case)? == wanted, "at {case:?}");
+    }
+    Ok(())
+}
+
+#[test]
+fn ends_at_rows_that_are_not_absurd_are_refused(rt: HostRuntime) -> Result<(), Fail> {
+    let alloc = rt.alloc();
+    let rows = [
+        [GE, 0, -1, 0, 0],
+        [GE, 0, MIN, 0, 0],
+        [GE, 0, 0, 0, 0],
+        [GE, 0, MAX, 0, 0],
+        [GE, 0, -1, 0, 1],
+        [EQ, 0, -1, 0, 0],
+        [DIV, 2, -1, 0, 0],
+    ];
+    for row in 0..9usize {
+        let fault = fault_from(alloc, &rows, &absurd_tree(alloc, row))?;
+        let wanted = if row < 2 {
+            None
+        } else {
+            Some((0, Rule::Absurd))
+        };
+        assert!(rt; fault == wanted, "at {row}");
+    }
+    Ok(())
+}
+
 /// The tree `cut`, `cut`, `add`, `absurd` of the rows `2x - 1 >= 0` and `-2x + 1 >= 0`, with so many rows before
 /// the first cut, a divisor, and an end at a row.
 fn chain(
@@ -300,9 +352,18 @@ fn clash(alloc: Global) -> Result<Conj, AllocError> {
     conj_of(alloc, &[ROWS[0], ROWS[1]])
 }
 
-/// The number and the rule of the first node that fails.
+/// The number and the rule of the first node that fails, from the rows of the chain on.
 fn fault_of(alloc: Global, tree: &Tree<Absurd>) -> Result<Option<(u64, Rule)>, AllocError> {
-    let conj = clash(alloc)?;
+    fault_from(alloc, &ROWS[..2], tree)
+}
+
+/// The same from these rows on.
+fn fault_from(
+    alloc: Global,
+    rows: &[[i128; 5]],
+    tree: &Tree<Absurd>,
+) -> Result<Option<(u64, Rule)>, AllocError> {
+    let conj = conj_of(alloc, rows)?;
     if !conj.is_well_made() {
         return Ok(None);
     }
@@ -357,6 +418,7 @@ fn the_first_node_that_fails_is_named(rt: HostRuntime) -> Result<(), Fail> {
     assert!(rt; split_fault(alloc, &x, 4)? == Some((8, Rule::Absurd)));
     assert!(rt; split_fault(alloc, &wide, 5)? == Some((0, Rule::Split)));
     assert!(rt; split_fault(alloc, &least, 5)? == Some((0, Rule::Split)));
+    assert!(rt; split_fault(alloc, &[0, MIN, 0, 0], 5)? == Some((0, Rule::Split)));
     assert!(rt; residue_fault(alloc, 2, &x, 2, 5)? == None);
     assert!(rt; residue_fault(alloc, 2, &x, 2, 4)? == Some((8, Rule::Absurd)));
     assert!(rt; residue_fault(alloc, 2, &x, 1, 5)? == Some((0, Rule::Residue)));

@@ -2,7 +2,7 @@ use ac_forms::Form;
 use ac_items::Items;
 use std::alloc::{AllocError, Global};
 
-/// The rules of proofs, by which a proof is refused; each is printed as its name in lower case.
+/// The rules of proofs, by which a proof is refused. Each is printed as its variant's name in lower case.
 #[derive(Clone, Copy, Debug, PartialEq, Eq, Drop)]
 pub enum Rule {
     /// The text of a proof.
@@ -53,18 +53,20 @@ pub enum Rule {
     End,
 }
 
-/// A step along a path: a further row that follows from the rows so far, which are named by their places from 0.
+/// A step along a path: it adds rows to those so far, which are named by their places from 0. What a variant says is
+/// what its rule asks; a step that is no instance of its rule can be made, and is refused.
 #[derive(Debug, Drop)]
 pub enum Step {
     /// The sum of multiples of `Eq` and `Ge` rows, those of `Ge` rows not negative.
     Add(Items<(usize, i128)>),
-    /// A `Ge` row divided by a number that divides all its coefficients, the constant rounded down.
+    /// A `Ge` row divided by a positive number that divides all its coefficients, the constant rounded down.
     Cut(usize, i128),
-    /// A `Div` row, whose modulus and form are multiplied.
+    /// A `Div` row, whose form is multiplied by a number other than 0, and its modulus by the number's absolute value.
     DivScale(usize, i128),
     /// A combination of two `Div` rows with one modulus.
     DivAdd(usize, i128, usize, i128),
-    /// `DivMod(r, g, n, f)`: where `g n` divides the modulus of row r and each number of its form less `g f`, n divides f.
+    /// `DivMod(r, g, n, f)`: where `g n` divides the modulus of row r and each number of its form less `g f`, n divides f;
+    /// g and n are at least 1.
     DivMod(usize, i128, i128, Form),
     /// A positive number divides the form of an `Eq` row.
     DivEq(usize, i128),
@@ -76,9 +78,9 @@ pub enum Step {
     EqCut(usize, usize),
 }
 
-/// A tree: steps, and what comes behind them.
+/// A tree: steps, and what comes behind them. `check_tree` says whether it is accepted.
 ///
-/// It is checked, and dropped, by recursion: whoever makes one bounds its depth.
+/// It is checked, and dropped, by recursion over its branches, not over its steps: whoever makes one bounds the depth.
 #[derive(Drop)]
 #[cycle(tree)]
 pub struct Tree<E> {
@@ -94,7 +96,7 @@ pub struct Tree<E> {
 pub enum Next<E> {
     /// The form is at least 0 in the first child, and at most -1 in the second.
     Split(Form, Box<Tree<E>>, Box<Tree<E>>),
-    /// Child r, from 0 on: the number divides the form less r. There are as many children as the number says.
+    /// Child r, from 0 on: the number divides the form less r. The rule asks for as many children as the number says.
     Residue(i128, Form, Vec<Tree<E>>),
     /// An end.
     End(E),
@@ -103,7 +105,7 @@ pub enum Next<E> {
 /// Why a step, a branch or an end was stopped.
 #[derive(Debug, Drop)]
 pub enum EndStop {
-    /// It is no instance of this rule, or a number leaves `i128`.
+    /// It is refused, by this rule.
     Refused(Rule),
     /// There was no memory.
     Memory(AllocError),

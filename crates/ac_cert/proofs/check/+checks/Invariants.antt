@@ -5,6 +5,7 @@ use Rattle.ac_cert.proofs.check.+checks.Given as goal
 abbrev pub invariant-check_kids-loop-r : goal.invariant-check_kids-loop-r
 invariant-check_kids-loop-r g l = record {
   small : l.at ≤ 2 ^ 64 - 1;
-  number : later l.at (kids_size (drop l.r l.kids)) ≡ later l.node (kids_size l.kids);
-  so_far : kids_fault l.kids (λ e c. g.E.End.refusal e l.env c) l.m l.e 0 l.conj l.node ≡ kids_fault (drop l.r l.kids) (λ e c. g.E.End.refusal e l.env c) l.m l.e l.r l.conj l.at;
+  same : l.here ≡ l.fn.conj;
+  number : later l.at (kids_size (drop l.r l.kids)) ≡ later l.fn.node (kids_size l.kids);
+  so_far : kids_fault l.kids (λ e c. g.E.End.refusal e l.env c) l.m l.e 0 l.fn.conj l.fn.node ≡ kids_fault (drop l.r l.kids) (λ e c. g.E.End.refusal e l.env c) l.m l.e l.r l.fn.conj l.at;
 }
