@@ -1,5 +1,5 @@
 -- The rows behind steps that stand, and how the check goes on there.
-use Rattle.std.proofs.Common.{◌≡◌, ℕ, suc, ◌+◌, ◌-◌, ◌^◌, ◌≤◌, List, [], ◌∷◌, ◌++◌, append_assoc, append-nil, length, Option, Some, None, slice_get, ℤ, pos, ◌-ℤ◌, refl, sym, ap, ◌∙◌, subst, arith}
+use Rattle.std.proofs.Common.{◌≡◌, ℕ, suc, ◌-◌, ◌^◌, ◌≤◌, List, [], ◌∷◌, ◌++◌, append_assoc, append-nil, length, Option, Some, None, slice_get, ℤ, pos, ◌-ℤ◌, refl, sym, ap, ◌∙◌, subst, arith}
 use Rattle.std.specs.Prelude.{◌≢◌, option_and_then, option_map}
 use Rattle.ac_forms.specs.Affine.{Affine}
 use Rattle.ac_forms.specs.Negation.{with_column}
@@ -12,7 +12,7 @@ use Rattle.ac_cert.specs.declared.types.Step.{Step}
 use Rattle.ac_cert.specs.declared.types.Step.TheVariants.{Add, Cut, DivScale, DivAdd, DivMod, DivEq, Quot, Floor, EqCut}
 use Rattle.ac_cert.specs.Accepted.{after_steps}
 use Rattle.ac_cert.specs.Faults.{Fault, Onward, later, step_fault, path_fault}
-use Rattle.ac_cert.specs.Points.{IsPoint, Extends, Keeps}
+use Rattle.ac_cert.specs.Points.{Keeps}
 use Rattle.ac_cert.specs.Rules.{with_row, with_column_row, less_column, rest_of, quotient, floor_of, after_step, rule_of}
 use Rattle.ac_cert.proofs.Keeping.{bind-some, map-some, some-is}
 use Rattle.ac_cert.proofs.StepRules.{step-keeps}

@@ -1,5 +1,5 @@
 -- What a check of a tree says, from what its parts say.
-use Rattle.std.proofs.Common.{◌≡◌, ℕ, ◌+◌, ◌<◌, ℤ, pos, negsuc, ◌-ℤ◌, ◌≤ℤ◌, ◌-◌, ◌^◌, Bool, true, ◌&&◌, nat_le, int_le, List, ◌∷◌, length, drop, take, [], get_or, Some, None, Result, Ok, Err, refl, sym, ap, ◌∙◌, subst, arith}
+use Rattle.std.proofs.Common.{◌≡◌, ℕ, ◌+◌, ◌<◌, ℤ, pos, negsuc, ◌-ℤ◌, ◌≤ℤ◌, ◌-◌, ◌^◌, true, ◌&&◌, nat_le, int_le, List, ◌∷◌, length, drop, take, [], get_or, Some, None, Ok, Err, refl, sym, ap, ◌∙◌, subst, arith}
 use Rattle.ac_forms.specs.Affine.{Affine}
 use Rattle.ac_forms.specs.Fits.{fits}
 use Rattle.ac_forms.specs.Rows.{IsWellMade}
@@ -16,7 +16,7 @@ use Rattle.std.proofs.lemmas.List.{at_drop_more}
 use Rattle.std.proofs.Math.Seq.{take-append_seam}
 use Rattle.std.proofs.lemmas.Int.{ints}
 use borrow.Author.Tests.{ltb-true, lt-ltb}
-use Rattle.ac_cert.proofs.Tests.{and-true}
+use Rattle.ac_cert.proofs.Truths.{and-true}
 use Rattle.ac_cert.proofs.StepRules.{class-made, class-fits}
 use Rattle.ac_cert.proofs.Behind.{Onto, steps-onto}
 use Rattle.ac_cert.specs.Accepted.{after_steps}

@@ -1,5 +1,5 @@
 -- The rows of each step and branch, where it stands.
-use Rattle.std.proofs.Common.{◌≡◌, ℕ, ◌<◌, ◌≤◌, ℤ, pos, negsuc, ◌+ℤ◌, ◌-ℤ◌, ◌*ℤ◌, neg_ℤ, ◌≤ℤ◌, List, length, Some, Bool, true, false, cond, nat_le, nat_eq, int_le, slice_get, refl, arith}
+use Rattle.std.proofs.Common.{◌≡◌, ℕ, ◌<◌, ◌≤◌, ℤ, pos, negsuc, ◌+ℤ◌, ◌-ℤ◌, ◌*ℤ◌, neg_ℤ, ◌≤ℤ◌, List, length, Some, true, false, cond, nat_eq, slice_get, refl, arith}
 use Rattle.std.specs.Prelude.{◌≢◌, unsigned_abs}
 use Rattle.std.specs.Ordering.{int_eq}
 use Rattle.std.proofs.lemmas.Bool.Decides.{Decides-int_eq}
@@ -12,7 +12,7 @@ use Rattle.ac_forms.specs.declared.row.Row.TheVariants.{Eq, Div, Ge}
 use Rattle.ac_cert.specs.declared.types.Step.TheVariants.{Add, Cut, DivScale, DivAdd, DivMod, DivEq, Quot, Floor, EqCut}
 use Rattle.ac_cert.specs.Rules.{with_row, with_column_row, sum_from, sum_row, zero_form, are_equalities, divides_each, divides_form, quotient_form, is_zero, div_mod_stands, less_column, floor_of, after_step, side_rows, both_sides, has_class, class, class_of}
 use Rattle.ac_cert.specs.StepRows.{StepRows}
-use Rattle.ac_cert.proofs.Tests.{test-false, true-le, true-nat_le}
+use Rattle.ac_cert.proofs.Truths.{test-false, true-le, true-nat_le}
 use Rattle.ac_cert.proofs.Fitting.{combination_some, multiple_some, rest_some, modulus_some, fits_true}
 
 not-empty : (n : ℕ) → 0 < n → nat_eq n 0 ≡ false

@@ -7,7 +7,7 @@ use Rattle.ac_forms.specs.Negation.{opposite}
 use Rattle.ac_forms.specs.Tests.{form_fits, can_combine}
 use Rattle.ac_forms.proofs.Twins.{fits-is, and-is, all_fit-is, form_fits-is}
 use Rattle.ac_cert.specs.Rules.{combination, rest_of, multiple_of, greater_modulus}
-use Rattle.ac_cert.proofs.Tests.{test-false}
+use Rattle.ac_cert.proofs.Truths.{test-false}
 
 and-three : {P Q R : Type 0} (a b c : Bool) → (a ≡ true) ↔ P → (b ≡ true) ↔ Q → (c ≡ true) ↔ R → ((a && (b && c)) ≡ true) ↔ (P × Q × R)
 and-three true true c h k l = ((λ e. (h.0 refl, k.0 refl, l.0 e)), (λ t. l.1 t.2))

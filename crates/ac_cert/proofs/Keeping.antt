@@ -1,7 +1,6 @@
 -- What each rule keeps: the rows stay well made, and each point goes on.
-use Rattle.std.proofs.Common.{◌≡◌, ℕ, zero, suc, ◌+◌, ◌≤◌, ℤ, ◌+ℤ◌, ◌*ℤ◌, ◌≤ℤ◌, List, [], ◌∷◌, ◌++◌, length, append-nil, Option, Some, None, Bool, true, false, ◌&&◌, cond, int_le, slice_get, refl, sym, ap, ◌∙◌, subst, arith}
+use Rattle.std.proofs.Common.{◌≡◌, ℕ, zero, suc, ◌+◌, ◌≤◌, ℤ, ◌+ℤ◌, ◌*ℤ◌, List, [], ◌∷◌, ◌++◌, length, append-nil, Option, Some, None, Bool, true, false, cond, slice_get, refl, sym, ap, ◌∙◌, subst, arith}
 use Rattle.std.specs.Prelude.{option_and_then, option_map}
-use Rattle.std.proofs.lemmas.Int.{ints}
 use Rattle.ac_integers.specs.Dot.{mix}
 use Rattle.ac_forms.specs.Affine.{Affine, value_at, combined}
 use Rattle.ac_forms.specs.Rows.{form_of, Holds, Meets, IsRowOver, AreRowsOver, IsWellMade}

@@ -1,4 +1,4 @@
-pub mod Tests
+pub mod Truths
 pub mod Fitting
 pub mod Stands
 pub mod Keeping

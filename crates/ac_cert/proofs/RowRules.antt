@@ -27,7 +27,7 @@ use Rattle.ac_cert.specs.AbsurdLaw.{no_terms}
 use Rattle.ac_cert.specs.Points.{Keeps}
 use Rattle.ac_cert.specs.Rules.{combination, multiple_of, with_row, term_form, sum_from, is_equality, are_equalities, zero_form, sum_row, divides_each, quotient_form, cut_row, greater_modulus, div_scale_row, div_add_row, div_mod_stands, divides_form, reduced_row, div_mod_row, div_eq_row, all_zero, is_zero, eq_cut_row}
 use Rattle.ac_cert.proofs.Stands.{product_positive}
-use Rattle.ac_cert.proofs.Tests.{and-true, le-true}
+use Rattle.ac_cert.proofs.Truths.{and-true, le-true}
 use Rattle.ac_cert.proofs.Keeping.{bind-some, map-some, if-some, unless-some, some-is, row-holds, row-made, keeps-push, combination-within, combination-value}
 
 -- a row that is given, and holds wherever the rows do

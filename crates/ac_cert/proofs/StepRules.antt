@@ -26,7 +26,7 @@ use Rattle.ac_cert.specs.declared.types.Rule.TheVariants as rule
 use Rattle.ac_cert.specs.declared.types.Step.{Step}
 use Rattle.ac_cert.specs.declared.types.Step.TheVariants.{Add, Cut, DivScale, DivAdd, DivMod, DivEq, Quot, Floor, EqCut}
 use Rattle.ac_cert.specs.Rules.{rest_of, with_row, less_column, with_column_row, quotient, floor_of, after_step, rule_of, side_rows, both_sides, has_class, class, class_of}
-use Rattle.ac_cert.proofs.Tests.{and-true, le-true}
+use Rattle.ac_cert.proofs.Truths.{and-true, le-true}
 use Rattle.ac_cert.proofs.Keeping.{bind-some, map-some, if-some, some-is, Meets-append, Meets-push, made-push, made-more, row-holds, row-made}
 use Rattle.ac_cert.proofs.RowRules.{follows-keeps, sum-follows, cut-follows, scale-follows, add-follows, mod-follows, eq-follows, eq_cut-follows, exact_quotient}
 

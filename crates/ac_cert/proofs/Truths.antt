@@ -1,5 +1,5 @@
 -- What a test says of its parts.
-use Rattle.std.proofs.Common.{◌≡◌, ◌↔◌, ℕ, ◌≤◌, ℤ, pos, ◌≤ℤ◌, Bool, true, false, ◌&&◌, int_le, nat_le, refl, arith}
+use Rattle.std.proofs.Common.{◌≡◌, ◌↔◌, ℕ, ◌≤◌, ℤ, ◌≤ℤ◌, Bool, true, false, ◌&&◌, int_le, nat_le, refl, arith}
 use Rattle.std.proofs.lemmas.Int.{ints}
 
 pub and-true : (a b : Bool) → (a && b) ≡ true → (a ≡ true) × (b ≡ true)
