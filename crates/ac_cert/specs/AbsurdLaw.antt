@@ -1,18 +1,20 @@
 -- Where `Absurd` is accepted, no point meets the rows.
-use Rattle.std.proofs.Common.{◌≡◌, ◌&&◌, ℕ, zero, suc, Bool, true, false, ℤ, pos, ◌≤ℤ◌, List, [], ◌∷◌, Some, None, cond, slice_get, refl, arith}
-use Rattle.std.specs.Prelude.{◌<ℤ◌}
+use Rattle.std.proofs.Common.{◌≡◌, ◌&&◌, ℕ, zero, suc, Bool, true, false, not, ℤ, pos, ◌≤ℤ◌, List, [], ◌∷◌, Some, None, cond, slice_get, refl, ◌∙◌, sym, subst, arith}
+use Rattle.std.specs.Prelude.{◌<ℤ◌, unsigned_abs}
 use Rattle.std.specs.Int.Signed.{lt_z}
 use Rattle.std.specs.Ordering.{int_eq}
 use Rattle.std.proofs.lemmas.Bool.Decides.{Decides-int_eq}
 use Rattle.std.proofs.lemmas.Int.{ints}
 use Rattle.ac_integers.specs.Dot.{dot}
+use Rattle.ac_integers.specs.Multiple.{IsMultiple, divides}
+use Rattle.ac_integers.proofs.Divisors.{true-divides}
 use Rattle.ac_forms.specs.Affine.{Affine, value_at}
-use Rattle.ac_forms.specs.Rows.{Meets}
+use Rattle.ac_forms.specs.Rows.{form_of, Holds, Meets}
 use Rattle.ac_forms.specs.declared.conj.Conj.{Conj}
 use Rattle.ac_forms.specs.declared.row.Row.{Row}
 use Rattle.ac_forms.specs.declared.row.Row.TheVariants.{Eq, Div, Ge}
 use Rattle.ac_cert.specs.declared.types.Rule.TheVariants as rule
-use Rattle.ac_cert.specs.Ends.{is_negative, is_absurd, absurd_refusal}
+use Rattle.ac_cert.specs.Ends.{is_false, is_absurd, absurd_refusal}
 use Rattle.ac_cert.specs.Points.{IsPoint}
 use Rattle.ac_cert.specs.Rules.{all_zero}
 
@@ -29,18 +31,26 @@ no_terms (c ∷ cs) (x ∷ p) e =
     let z : c ≡ pos 0 = (Decides-int_eq c (pos 0)).0 b.0 in
     rw (z, no_terms cs p b.1) (omega (arith, ints))
 
-not_negative : (f : Affine) (p : List ℤ) → is_negative f ≡ true → pos 0 ≤ℤ value_at f p → ⊥
-not_negative f p e h =
-    let b = both (all_zero f.coefs) (lt_z f.konst (pos 0)) e in
-    let z = no_terms f.coefs p b.0 in
-    let l : f.konst <ℤ pos 0 = grind (arith, ints, b.1) in
-    omega (arith, ints, h, z, l)
+constant-value : (f : Affine) (p : List ℤ) → all_zero f.coefs ≡ true → value_at f p ≡ f.konst
+constant-value f p e = let z = no_terms f.coefs p e in omega (arith, ints, z)
+
+not-both : (b : Bool) → not b ≡ true → b ≡ true → ⊥
+not-both true n e = absurd cc
+not-both false n e = absurd cc
+
+-- a row that is false does not hold where its form is worth its constant
+false-holds : (r : Row) (p : List ℤ) → is_false r ≡ true → value_at (form_of r) p ≡ (form_of r).konst → Holds r p → ⊥
+false-holds (Eq f) p e v h = not-both (int_eq f.konst (pos 0)) e ((Decides-int_eq f.konst (pos 0)).1 (sym v ∙ h))
+false-holds (Div m f) p e v h = not-both (divides (unsigned_abs m) f.konst) e (true-divides (unsigned_abs m) f.konst (subst (λ (x : ℤ). IsMultiple m x) v h))
+false-holds (Ge f) p e v h =
+    let l : f.konst <ℤ pos 0 = grind (arith, ints, e) in
+    omega (arith, ints, h, v, l)
 
 at_row : (rows : List Row) (i : ℕ) (p : List ℤ) → is_absurd (slice_get rows i) ≡ true → Meets rows p → ⊥
 at_row [] i p e h = cc
-at_row (Ge f ∷ rows) zero p e h = not_negative f p e h.0
-at_row (Eq f ∷ rows) zero p e h = cc
-at_row (Div m f ∷ rows) zero p e h = cc
+at_row (r ∷ rows) zero p e h =
+    let b = both (all_zero (form_of r).coefs) (is_false r) e in
+    false-holds r p b.1 (constant-value (form_of r) p b.0) h.0
 at_row (r ∷ rows) (suc i) p e h = at_row rows i p e h.1
 
 accepted : (b : Bool) → cond b None (Some rule.Absurd) ≡ None → b ≡ true

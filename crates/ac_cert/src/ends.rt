@@ -1,10 +1,11 @@
-ghost use Rattle.std.specs.Prelude.{◌≡◌};
-ghost use Rattle.ac_cert.specs.Ends.{is_negative};
+ghost use Rattle.std.specs.Prelude.{◌≡◌, Some};
+ghost use Rattle.ac_forms.specs.Rows.{HasModulus};
+ghost use Rattle.ac_cert.specs.Ends.{is_absurd, is_false};
 
 use crate::check::End;
-use crate::numbers::is_all_zero;
+use crate::numbers::{divides_number, is_all_zero};
 use crate::types::{EndStop, Rule};
-use ac_forms::{Conj, Form, Row};
+use ac_forms::{Conj, Row};
 use std::alloc::Global;
 
 /// The end at a row without coefficients that is false, so that there is no point.
@@ -14,11 +15,25 @@ pub struct Absurd {
     pub row: usize,
 }
 
-/// Whether a form has no coefficients and is below 0.
-fn is_negative(form: &Form) -> bool
-    ensures { result ≡ is_negative form.now }
+/// Whether a row does not hold where its form is worth its constant.
+#[tactic(auto, using(ac_integers::proofs::Bits::again_128))]
+fn is_false(row: &Row) -> bool
+    requires { HasModulus row.now }
+    ensures { result ≡ is_false row.now }
 {
-    is_all_zero(form.coefs()) && form.konst() < 0
+    match row {
+        Row::Eq(form) => form.konst() != 0,
+        Row::Div(modulus, form) => !divides_number(*modulus, form.konst()),
+        Row::Ge(form) => form.konst() < 0,
+    }
+}
+
+/// Whether a row has no coefficients and is false.
+fn is_absurd(row: &Row) -> bool
+    requires { HasModulus row.now }
+    ensures { result ≡ is_absurd (Some row.now) }
+{
+    is_all_zero(row.form().coefs()) && is_false(row)
 }
 
 impl End for Absurd {
@@ -36,15 +51,15 @@ impl End for Absurd {
     ghost sound = { λ e env c p r w at. absurd_sound e.row c p r at };
 
     fn check(&self, _alloc: Global, _env: &(), rows: &Conj) -> Result<(), EndStop> {
-        match rows.rows.as_slice().get(self.row) {
-            Some(Row::Ge(form)) => {
-                if is_negative(form) {
+        match rows.rows.get(self.row) {
+            Some(row) => {
+                if is_absurd(row) {
                     Ok(())
                 } else {
                     Err(EndStop::Refused(Rule::Absurd))
                 }
             }
-            _ => Err(EndStop::Refused(Rule::Absurd)),
+            None => Err(EndStop::Refused(Rule::Absurd)),
         }
     }
 }

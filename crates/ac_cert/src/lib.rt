@@ -19,4 +19,8 @@ pub use steps::{apply, apply_onto, residue, split};
 pub use types::{EndStop, Next, Rule, Tree, TreeFault};
 
 #[cfg(test)]
+mod samples;
+#[cfg(test)]
 mod tests;
+#[cfg(test)]
+mod tree_tests;
