@@ -1,7 +1,6 @@
 -- Where `Absurd` is accepted, no point meets the rows.
-use Rattle.std.proofs.Common.{◌≡◌, ◌&&◌, ℕ, zero, suc, Bool, true, false, not, ℤ, pos, ◌≤ℤ◌, List, [], ◌∷◌, Some, None, cond, slice_get, refl, ◌∙◌, sym, subst, arith}
+use Rattle.std.proofs.Common.{◌≡◌, ◌&&◌, ℕ, zero, suc, Bool, true, false, not, ℤ, pos, List, [], ◌∷◌, Some, None, cond, slice_get, refl, ◌∙◌, sym, subst, arith}
 use Rattle.std.specs.Prelude.{◌<ℤ◌, unsigned_abs}
-use Rattle.std.specs.Int.Signed.{lt_z}
 use Rattle.std.specs.Ordering.{int_eq}
 use Rattle.std.proofs.lemmas.Bool.Decides.{Decides-int_eq}
 use Rattle.std.proofs.lemmas.Int.{ints}
