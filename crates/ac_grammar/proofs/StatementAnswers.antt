@@ -1,0 +1,95 @@
+-- From exact readers of files to what is answered.
+use Rattle.std.specs.Prelude.{Result, Ok, Err, Bool, true, false, not}
+use Rattle.std.proofs.Common.{◌≡◌, ℕ, zero, suc, ◌+◌, arith, List, [], ◌∷◌, ◌++◌, refl, sym, ◌∙◌, ap, subst}
+use Rattle.std.proofs.lemmas.List.{append-nil}
+use Rattle.ac_lex.specs.Lexemes.{Lexeme}
+use Rattle.ac_syntax.specs.declared.tree.Place.{Place}
+use Rattle.ac_grammar.specs.declared.terminal.Terminal.{Terminal}
+use Rattle.ac_grammar.specs.declared.terminal.Terminal.TheVariants as t
+use Rattle.ac_grammar.specs.declared.tree.File.{File}
+use Rattle.ac_grammar.specs.declared.cursor.Stop.{Stop}
+use Rattle.ac_grammar.specs.declared.cursor.Stop.TheVariants.{Syntax, Nesting, Memory}
+use Rattle.ac_grammar.specs.declared.file.GrammarFault.{GrammarFault}
+use Rattle.ac_grammar.specs.Terminals.{terminal}
+use Rattle.ac_grammar.specs.Reading.{Reads, Got, found, peek, front, is}
+use Rattle.ac_grammar.specs.Found.{Read, CanGoOn}
+use Rattle.ac_grammar.specs.Answers.{AtAnyDepth, IsAnswer, FindsAll, IsOnly}
+use Rattle.ac_grammar.specs.FileReading.{file}
+use Rattle.ac_grammar.specs.FileGrammar as g
+use Rattle.ac_grammar.specs.FileGrammar.{IsFile}
+use Rattle.ac_grammar.specs.FileAnswers.{place_at, IsAnyFile, HasSyntaxFault, HasNestingFault, IsFileAnswer, IsOnlyFile, told}
+use Rattle.ac_grammar.proofs.Exact.{Some_of}
+use Rattle.ac_grammar.proofs.Parts.{is_true, true_is}
+use Rattle.ac_grammar.proofs.Answering.{answer, finds}
+use Rattle.ac_grammar.proofs.StatementFiles.{file_exact, some_file, on_file, not_end}
+use Rattle.ac_grammar.proofs.StatementDeeper.{file_deeper}
+
+no_file : (ts : List Lexeme) (a : File) → IsFile 0 ts a → ⊥
+no_file _ _ (g.file b f l) = elim f [ ]
+
+at_end : (a : File) → on_file a (peek []) ≡ false
+unfolding is
+at_end a = refl
+
+-- nothing is left behind a file
+whole : (room : ℕ) (old new : List Lexeme) (a : File) → Read (IsFile room) on_file old new a → IsFile room old a
+whole room old [] a r = subst (λ l. IsFile room l a) (sym (r.cut ∙ append-nil r.used)) r.is
+whole room old (l ∷ ls) a r = cc (r.ends, not_end l)
+
+any_file : (pre : List Lexeme) → CanGoOn (AtAnyDepth (λ room. IsFile (suc room))) pre → CanGoOn IsAnyFile pre
+any_file pre on = (on.0, on.1, (suc on.2.0, on.2.1))
+
+-- a whole file reads as its own front
+dead_from : (before bad other : List Lexeme) (a : File) → ((others used left : List Lexeme) (a : File) → peek others ≡ peek bad → AtAnyDepth (λ room. IsFile (suc room)) used a → on_file a (peek left) ≡ false → before ++ others ≡ used ++ left → ⊥)
+    → peek other ≡ peek bad → IsAnyFile (before ++ other) a → ⊥
+dead_from before bad other a dead same is = by_room is.0 is.1
+  where
+    by_room : (room : ℕ) → IsFile room (before ++ other) a → ⊥
+    by_room zero r = no_file (before ++ other) a r
+    by_room (suc room) r = dead other (before ++ other) [] a same (room, r) (at_end a) (sym (append-nil (before ++ other)))
+
+pub file_answer : (room end : ℕ) (old new : List Lexeme) (r : Result File Stop) → Reads (λ a. a) (file (suc room) old) r new → IsFileAnswer (suc room) end old (told r (place_at end new))
+file_answer room end old new r h = by_result r (answer (λ room. file (suc room)) (λ room. IsFile (suc room)) on_file (λ room. file_exact (suc room)) (λ room. file_deeper (suc room)) some_file room old new r h)
+  where
+    by_result : (r : Result File Stop) → IsAnswer (λ room. IsFile (suc room)) on_file room old r new → IsFileAnswer (suc room) end old (told r (place_at end new))
+    by_result (Ok a) x = whole (suc room) old new a x
+    by_result (Err Syntax) x = record {
+      before = x.before;
+      bad = new;
+      cut = x.cut;
+      at = refl;
+      begins = any_file x.before x.first.viable;
+      dead = λ other a same is. dead_from x.before new other a x.first.dead same is;
+    }
+    by_result (Err Nesting) x = record {
+      before = x.before;
+      bad = new;
+      cut = x.cut;
+      at = refl;
+      begins = any_file (x.before ++ front new ∷ []) x.deeper;
+      dead = λ other a same is. x.first.dead other (x.before ++ other) [] a same is (at_end a) (sym (append-nil (x.before ++ other)));
+    }
+    by_result (Err (Memory fault)) x = tt
+
+pub file_only : (room end : ℕ) (old new : List Lexeme) (r : Result File Stop) → Reads (λ a. a) (file (suc room) old) r new → (a : File) → IsFile (suc room) old a → IsOnlyFile a (told r (place_at end new))
+file_only room end old new r h a is =
+    by_result r (finds (λ room. file (suc room)) (λ room. IsFile (suc room)) on_file (λ room. file_exact (suc room)) (λ room. file_deeper (suc room)) some_file room old new r h [] a
+    (record { used = old; cut = sym (append-nil old); is = is; ends = at_end a }))
+  where
+    by_result : (r : Result File Stop) → IsOnly a [] r new → IsOnlyFile a (told r (place_at end new))
+    by_result (Ok b) x = x.0
+    by_result (Err Syntax) x = x
+    by_result (Err Nesting) x = x
+    by_result (Err (Memory fault)) x = tt
+
+lift : (more room : ℕ) (ts : List Lexeme) (a : File) → IsFile room ts a → IsFile (more + room) ts a
+lift zero room ts a r = let same : 0 + room ≡ room = omega arith in subst (λ d. IsFile d ts a) (sym same) r
+lift (suc more) room ts a r = let same : suc more + room ≡ suc (more + room) = omega arith in subst (λ d. IsFile d ts a) (sym same) ((file_exact (more + room)).up ts a (lift more room ts a r))
+
+-- tokens are one file at most, however deep
+pub one_file : (ts : List Lexeme) (a b : File) → IsAnyFile ts a → IsAnyFile ts b → a ≡ b
+one_file ts a b x y =
+    let flip : x.0 + y.0 ≡ y.0 + x.0 = omega arith in
+    let first : file (y.0 + x.0) (ts ++ []) ≡ found a [] = (file_exact (y.0 + x.0)).complete ts [] a (lift y.0 x.0 ts a x.1) (at_end a) in
+    let second : file (y.0 + x.0) (ts ++ []) ≡ found b [] = (file_exact (y.0 + x.0)).complete ts [] b (subst (λ d. IsFile d ts b) flip (lift x.0 y.0 ts b y.1)) (at_end b) in
+    let both : found a [] ≡ found b [] = sym first ∙ second in cc (both)
