@@ -1,0 +1,11 @@
+use Rattle.std.proofs.Common.{◌≡◌, ◌==◌, [], ◌∷◌, ℕ, List, length, false, map, IfOk, MatchOption, subst, sym, refl}
+use Rattle.std.specs.List.{slice_split}
+use Rattle.ac_words.specs.Entries.{Given, AreEntries, parts_of, plain}
+use Rattle.ac_words.proofs.Reading.{parts_whole}
+use Rattle.ac_words.proofs.parts.entries.Goals as goal
+
+pub returns : goal.returns
+returns c =
+    subst (λ ps. IfOk c.entries_of.result (λ found. MatchOption found ((gs : List Given) → ¬ (AreEntries ps gs)) (λ given. AreEntries ps (map plain given.items))))
+    (sym (parts_whole c.args.word.now (sym c.if-is_empty.ensures)))
+    c.entries_of.ensures

@@ -1,0 +1,19 @@
+-- Numbers as words, in decimal digits without leading zeros.
+use Rattle.std.specs.Prelude.{◌≡◌, ◌≤◌, ℕ, ℤ, pos, neg_ℤ, List, ◌∷◌, decimal, FitsSigned}
+use Rattle.std.specs.Int.{w64}
+
+-- an integer's digits, with a minus in front where it is not positive; so 0 has two spellings
+pub data Spells : List ℕ → ℤ → Type 0 where
+  natural : (n : ℕ) → Spells (decimal n) (pos n)
+  opposite : (n : ℕ) → Spells (45 ∷ decimal n) (neg_ℤ (pos n))
+
+-- an integer of 64 bits with a sign
+pub record IsInteger (text : List ℕ) (value : ℤ) : Type 0 where
+  pub spelled : Spells text value
+  pub fits : FitsSigned w64 value
+
+-- a number from 1 to 1,000,000
+pub record IsLimitText (text : List ℕ) (limit : ℕ) : Type 0 where
+  pub spelled : text ≡ decimal limit
+  pub least : 1 ≤ limit
+  pub greatest : limit ≤ 1000000

@@ -1,0 +1,14 @@
+//! The words of a command line: the commands that they spell, and the word that gives parameters their values.
+//!
+//! Each call is exact both ways: it answers what the words spell, and nothing exactly where they spell nothing.
+#![tactic(auto)]
+
+mod command;
+mod given;
+mod numbers;
+mod parts;
+#[cfg(test)]
+mod tests;
+
+pub use command::{Command, command_of};
+pub use given::valuation;
