@@ -13,7 +13,7 @@ use Rattle.ac_instance.specs.Events.{Happening, event, evaluated, reached, fits_
 use Rattle.ac_instance.specs.Steps.{IsDue, Advances, Steps}
 
 -- what is reached after n events
-abbrev and_then : Result ℕ Halt → (ℕ → Result ℕ Halt) → Result ℕ Halt
+abbrev pub and_then : Result ℕ Halt → (ℕ → Result ℕ Halt) → Result ℕ Halt
 and_then (Ok n) f = f n
 and_then (Err h) f = Err h
 
@@ -77,7 +77,7 @@ pub is_memory : {T E : Type 0} (a b : Machine) (xs : List Happening) (r : Result
 is_memory a b xs (Ok x) f e only is = absurd is
 is_memory a b xs (Err h) f e only is = let k = only h is in subst (IsDue (reached a.limit a.events xs)) (sym k.1) tt
 
-fits_true : (z : ℤ) → FitsSigned w64 z → fits_64 z ≡ true
+pub fits_true : (z : ℤ) → FitsSigned w64 z → fits_64 z ≡ true
 fits_true (pos n) h = grind (arith, nat_tests, h)
 fits_true (negsuc n) h = grind (arith, nat_tests, h)
 

@@ -5,3 +5,4 @@ pub mod Arrays
 pub mod Turning
 pub mod Elements
 pub mod Outcomes
+pub mod Narrow

@@ -17,10 +17,6 @@ cell array at = record { array = array; at = at }
 abbrev pub cell_of : Target → Cell
 cell_of t = cell t.array t.index.items
 
--- the cell of what is kept
-abbrev pub assigned : Cell × TermId → Cell
-assigned e = e.0
-
 -- the id that is kept for a cell
 abbrev pub id_at : List (Cell × TermId) → Cell → Option TermId
 id_at [] c = None

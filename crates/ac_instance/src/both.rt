@@ -1,15 +1,19 @@
-ghost use Rattle.std.specs.Prelude.{◌≡◌, ◌≤◌, [], length, IfOk};
+ghost use Rattle.std.specs.Prelude.{◌≡◌, ◌≤◌, [], length, IfOk, IsErrOf, Some, None, true, false};
+ghost use Rattle.std.specs.List.{AllByRecursion};
 ghost use Rattle.ac_syntax.specs.Algebra.{Cell};
 ghost use Rattle.ac_syntax.specs.Index.{point};
 ghost use Rattle.ac_syntax.specs.Outputs.{extents_at};
+ghost use Rattle.ac_syntax.specs.Checked.{checked_holds};
 ghost use Rattle.ac_syntax.specs.Ready.{ReadyAll};
+ghost use Rattle.ac_syntax.specs.Small.{IsSmallPair};
 ghost use Rattle.ac_syntax.specs.Sameness.{term};
 ghost use Rattle.ac_syntax.specs.Term.{Term};
 ghost use Rattle.ac_instance.specs.Answers.{in_outputs, AreOutcomes, IsReadyAt, IsRan, IsAnswer, outcome_of};
-ghost use Rattle.ac_instance.specs.Events.{in_all};
+ghost use Rattle.ac_instance.specs.Events.{in_all, fits_64};
 ghost use Rattle.ac_instance.specs.Kept.{leaf_in, Holds};
 ghost use Rattle.ac_instance.specs.Least.{AgreeAt, throughout};
 ghost use Rattle.ac_instance.specs.Steps.{Steps};
+ghost use Rattle.ac_instance.specs.declared.halt.Halt.TheVariants.{OutsideContext, Wide};
 ghost use Rattle.ac_instance.specs.declared.halt.Side.TheVariants.{Left, Right};
 
 use crate::cells::Cells;
@@ -134,18 +138,37 @@ fn within_context(alloc: Global, pair: &Pair, valuation: &[i64], limit: u64) -> 
     })
 }
 
+/// Says of numbers of 64 bits that they are such.
+fn fit_64_bits(values: &[i64])
+    ensures { AllByRecursion (λ v. fits_64 v ≡ true) values.now }
+{
+    for value in values {
+        let _value = *value;
+    }
+}
+
 /// Runs both programs of a pair over shared terms at the parameters' values, and compares each output element by element.
 ///
 /// The valuation has one number for each parameter, and the limit is at most 1,000,000. Both bodies are as the language
 /// has them: one coefficient for each parameter and iterator, and loops that end. `OutsideContext` comes exactly
-/// where the valuation breaks a comparison of the context, which is tested first, in 128 bits. Then the left program
-/// runs, the right program runs, and the outputs' extents and elements are taken in order. `TooLarge` comes exactly where
-/// the events exceed the limit before an index value leaves 64 bits, and `Range` exactly where one does before the limit
-/// is exceeded. Want of memory may come at any time.
+/// where the valuation breaks a comparison of the context, which is tested first, in 128 bits and without taking memory.
+/// Then the left program runs, the right program runs, and the outputs' extents and elements are taken in order.
+/// `TooLarge` comes exactly where the events exceed the limit before an index value leaves 64 bits, and `Range` exactly
+/// where one does before the limit is exceeded. `Wide` comes exactly where a partial sum of an index expression leaves
+/// 128 bits before all that: never where numbers have an absolute value of at most 2^31, with at most 4 parameters and 6
+/// loops around a statement. Want of memory may come at any time from the start of the left run on.
 pub fn instance(alloc: Global, pair: &Pair, valuation: &[i64], limit: u64) -> Result<Ran, Halt>
     requires { limit ≤ 1000000 }
-    ensures { IsReadyAt pair.now valuation.now → IsAnswer pair.now valuation.now limit result }
+    ensures answer { IsReadyAt pair.now valuation.now → IsAnswer pair.now valuation.now limit result }
+
+    // The context is tested before memory is wanted.
+    ensures outside { checked_holds (point valuation.now []) pair.now.context.parts ≡ Some false → IsErrOf result OutsideContext }
+    ensures wide { checked_holds (point valuation.now []) pair.now.context.parts ≡ None → IsErrOf result Wide }
+
+    // Small numbers have small sums.
+    ensures narrow { IsReadyAt pair.now valuation.now → IsSmallPair pair.now → ¬ (IsErrOf result Wide) }
 {
+    fit_64_bits(valuation);
     match pair.context.holds(valuation, &[]) {
         None => Err(Halt::Wide),
         Some(false) => Err(Halt::OutsideContext),

@@ -1,7 +1,6 @@
-ghost use Rattle.std.specs.Prelude.{◌≡◌, [], Some, OnOk, length, slice_get, option_map, if◌then◌else◌};
-ghost use Rattle.std.specs.Option.{option_copied};
+ghost use Rattle.std.specs.Prelude.{◌≡◌, [], Some, OnOk, if◌then◌else◌};
 ghost use Rattle.ac_syntax.specs.Algebra.{Cell, same_cell};
-ghost use Rattle.ac_instance.specs.Kept.{assigned, cell_of, id_at};
+ghost use Rattle.ac_instance.specs.Kept.{cell_of, id_at};
 
 use ac_terms::TermId;
 use indexmap::IndexMap;
@@ -39,23 +38,6 @@ impl Cells {
     {
         Cells {
             ids: IndexMap::new(alloc),
-        }
-    }
-
-    /// How many cells are assigned.
-    pub fn len(&self) -> usize
-        ensures { result ≡ length self.now }
-    {
-        self.ids.len()
-    }
-
-    /// The assigned cell with this number, from 0; none exactly where there are no more.
-    pub fn target(&self, at: usize) -> Option<&Target>
-        ensures { option_map cell_of (option_copied result) ≡ option_map assigned (slice_get self.now at) }
-    {
-        match self.ids.get_index(at) {
-            Some((target, _)) => Some(target),
-            None => None,
         }
     }
 

@@ -5,3 +5,4 @@ pub mod Naming
 pub mod Productions
 pub mod Ranges
 pub mod Reading
+pub mod Sizes

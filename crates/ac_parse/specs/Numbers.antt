@@ -1,6 +1,6 @@
 -- Programs in which each number of an array or a parameter is one that the program has.
-use Rattle.std.specs.Prelude.{◌<◌, ℕ, length}
-use Rattle.std.specs.List.{AllByRecursion}
+use Rattle.std.specs.Prelude.{◌≡◌, ◌<◌, ℕ, List, [], ◌∷◌, length}
+use Rattle.std.specs.List.{AllByRecursion, range_with_len}
 use Rattle.ac_syntax.specs.declared.tree.Value.{Value, Row_of-Value, end_of-Value, more_of-Value}
 use Rattle.ac_syntax.specs.declared.tree.Value.TheVariants.{Number, Access, Call'}
 use Rattle.ac_syntax.specs.declared.tree.Stmt.{Stmt, Row_of-Stmt, end_of-Stmt, more_of-Stmt}
@@ -39,3 +39,13 @@ IsSlotOf program (slot.Array number) = number < length program.arrays
 pub record HasDeclaredNumbers (program : Program) : Type 0 where
   pub body : AllByRecursion (ArraysOf (length program.arrays)) program.body
   pub slots : AllByRecursion (IsSlotOf program) program.slots
+
+-- the numbers of the integer parameters of a parameter list
+abbrev pub param_numbers : List Slot → List ℕ
+param_numbers [] = []
+param_numbers (slot.Param k ∷ slots) = k ∷ param_numbers slots
+param_numbers (slot.Array k ∷ slots) = param_numbers slots
+
+-- each integer parameter stands once in the parameter list, in order
+abbrev pub ListsItsParameters : Program → Type 0
+ListsItsParameters program = param_numbers program.slots ≡ range_with_len 0 (length program.params)

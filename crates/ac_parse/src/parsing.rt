@@ -1,8 +1,9 @@
 // From the bytes of a text to a program.
 ghost use Rattle.std.specs.Prelude.{◌≡◌, ◌<◌, ◌≤◌, length, IfOk, IfErr, IsErrOf};
 ghost use Rattle.ac_syntax.specs.Ready.{ReadyProgram};
+ghost use Rattle.ac_syntax.specs.Small.{IsSmallProgram};
 ghost use Rattle.ac_parse.specs.Program.{IsProgramOf};
-ghost use Rattle.ac_parse.specs.Numbers.{HasDeclaredNumbers};
+ghost use Rattle.ac_parse.specs.Numbers.{HasDeclaredNumbers, ListsItsParameters};
 ghost use Rattle.ac_parse.specs.Answers.{HasSourceFault};
 
 use crate::cursor::Stop;
@@ -21,6 +22,8 @@ fn parse_tokens(alloc: Global, bytes: &[u8]) -> Result<Program, Stop>
     ensures program { IfOk result (IsProgramOf bytes.now) }
     ensures ready { IfOk result ReadyProgram }
     ensures declared { IfOk result HasDeclaredNumbers }
+    ensures parameters { IfOk result ListsItsParameters }
+    ensures small { IfOk result IsSmallProgram }
 {
     let tokens = match lex(alloc, bytes) {
         Ok(tokens) => tokens,
@@ -41,6 +44,8 @@ pub fn parse(alloc: Global, bytes: &[u8]) -> Result<Program, SourceFault>
     ensures program { IfOk result (IsProgramOf bytes.now) }
     ensures ready { IfOk result ReadyProgram }
     ensures declared { IfOk result HasDeclaredNumbers }
+    ensures parameters { IfOk result ListsItsParameters }
+    ensures small { IfOk result IsSmallProgram }
 
     // A text that is too long is always answered so.
     ensures long { 65536 < length bytes.now → IsErrOf result (SourceFault.Limit Which.File (record { at = 0 })) }

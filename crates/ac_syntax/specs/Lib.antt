@@ -26,3 +26,4 @@ pub mod TermTrees
 pub mod Listed
 pub mod Text
 pub mod Printing
+pub mod Small
