@@ -1,28 +1,27 @@
 -- The grammar of expressions as it is read aloud has what its parts have.
-use Rattle.std.specs.Prelude.{true, Option, Some, None}
-use Rattle.std.proofs.Common.{◌≡◌, ℕ, zero, suc, List, [], ◌∷◌, ◌++◌, refl, sym, ◌∙◌, ap, subst, append_assoc}
+use Rattle.std.specs.Prelude.{true, Option, Some}
+use Rattle.std.proofs.Common.{◌≡◌, ℕ, zero, suc, List, [], ◌∷◌, ◌++◌, refl, sym, ap, subst, append_assoc}
 use Rattle.std.proofs.lemmas.List.{append-nil}
 use Rattle.ac_lex.specs.Lexemes.{Lexeme}
 use Rattle.ac_grammar.specs.declared.terminal.Terminal.{Terminal}
 use Rattle.ac_grammar.specs.declared.terminal.Terminal.TheVariants as t
-use Rattle.ac_grammar.specs.declared.tree.Word.{Word}
 use Rattle.ac_grammar.specs.declared.tree.Operator.{Operator}
 use Rattle.ac_grammar.specs.declared.tree.Expr.{Expr}
 use Rattle.ac_grammar.specs.declared.tree.Expr.TheVariants as tree
 use Rattle.ac_grammar.specs.declared.links.Links.{Links}
 use Rattle.ac_grammar.specs.Terminals.{terminal, is_name}
-use Rattle.ac_grammar.specs.Words.{place_of, word_of, numeral_of}
+use Rattle.ac_grammar.specs.Words.{place_of, word_of}
 use Rattle.ac_grammar.specs.Chains.{start, link, chain}
 use Rattle.ac_grammar.specs.Reading.{is}
-use Rattle.ac_grammar.specs.Expressions.{comma_of, add_item, list_item}
+use Rattle.ac_grammar.specs.Expressions.{comma_of, add_item}
 use Rattle.ac_grammar.specs.Grammar as g
 use Rattle.ac_grammar.specs.Grammar.{IsExpr, Terms, IsTerm, Factors, IsUnary, IsPrimary, Subscripts, Arguments, ArgumentList}
 use Rattle.ac_grammar.specs.Found.{Rel}
 use Rattle.ac_grammar.proofs.Exact.{IsThen, both}
 use Rattle.ac_grammar.proofs.Many.{IsMany, no_more, one_more}
-use Rattle.ac_grammar.proofs.Parts.{is_true, true_is, IsNothing, IsPure, nothing, pure_empty, pure_is, IsToken, token, IsEither, one, other, IsClosed, closed, IsHeld, IsMap}
-use Rattle.ac_grammar.proofs.Repeats.{IsLinked, linked, IsRepeat, join_linked}
-use Rattle.ac_grammar.proofs.Relations.{Opening, at_limit, around, IsFactors, IsProduct, IsTermOf, IsTerms, IsSum, IsExprOf, IsList, IsCallEnd, IsCall, IsSubscript, IsGroup, IsNegative, IsSubscripts, IsNamed, IsPrimaryIn, IsUnaryIn, IsUnaryAt, IsExprAt, openings_at}
+use Rattle.ac_grammar.proofs.Parts.{is_true, true_is, nothing, pure_empty, pure_is, token, one, other, closed, IsHeld, IsMap}
+use Rattle.ac_grammar.proofs.Repeats.{linked, IsRepeat}
+use Rattle.ac_grammar.proofs.Relations.{Opening, at_limit, around, IsProduct, IsTermOf, IsSum, IsExprOf, IsList, IsCallEnd, IsCall, IsSubscript, IsGroup, IsNegative, IsSubscripts, IsNamed, IsPrimaryIn, IsUnaryIn, IsUnaryAt, IsExprAt, openings_at}
 use Rattle.ac_grammar.specs.Operators.{sign_of, star_of}
 
 -- ---- repetitions, at their first and at their last item

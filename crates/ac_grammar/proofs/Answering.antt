@@ -1,14 +1,14 @@
 -- From exact readers at each room to what is answered.
-use Rattle.std.specs.Prelude.{Result, Ok, Err, Bool, false}
+use Rattle.std.specs.Prelude.{Result, Ok, Err, false}
 use Rattle.std.proofs.Common.{◌≡◌, ℕ, zero, suc, ◌+◌, List, [], ◌∷◌, ◌++◌, refl, sym, ◌∙◌, ap, subst, arith}
 use Rattle.std.specs.Prelude.{◌⊎◌}
 use Rattle.ac_lex.specs.Lexemes.{Lexeme}
 use Rattle.ac_grammar.specs.declared.cursor.Stop.{Stop}
 use Rattle.ac_grammar.specs.declared.cursor.Stop.TheVariants.{Syntax, Nesting, Memory}
 use Rattle.ac_grammar.specs.declared.terminal.Terminal.TheVariants.{End}
-use Rattle.ac_grammar.specs.Reading.{Why, syntax, nesting, Got, found, stopped, Reader, peek, front, Reads}
-use Rattle.ac_grammar.specs.Found.{Rel, Goes, Read, CanGoOn, Stops}
-use Rattle.ac_grammar.specs.Answers.{AtAnyDepth, IsFirstFault, HasSyntaxFault, HasNestingFault, IsAnswer, IsOnly, FindsAll}
+use Rattle.ac_grammar.specs.Reading.{Why, syntax, nesting, found, stopped, Reader, peek, front, Reads}
+use Rattle.ac_grammar.specs.Found.{Rel, Goes, CanGoOn}
+use Rattle.ac_grammar.specs.Answers.{AtAnyDepth, IsAnswer, IsOnly, FindsAll}
 use Rattle.ac_grammar.proofs.Exact.{Exact, Some_of, nowhere, some_goes_on}
 use Rattle.ac_grammar.proofs.Deeper.{Agree, Deeper}
 use Rattle.std.proofs.Common.{inl, inr}

@@ -1,20 +1,18 @@
 -- Where more constructs may open, a condition is read in the same way, unless it stopped at the limit.
-use Rattle.std.specs.Prelude.{Bool, true, false, Option, Some, None}
-use Rattle.std.proofs.Common.{◌≡◌, ℕ, zero, suc, List, [], ◌∷◌, refl, inl, inr}
+use Rattle.std.specs.Prelude.{Option, Some, None}
+use Rattle.std.proofs.Common.{ℕ, zero, suc}
 use Rattle.ac_syntax.specs.declared.tree.Place.{Place}
-use Rattle.ac_lex.specs.Lexemes.{Lexeme}
 use Rattle.ac_grammar.specs.declared.terminal.Terminal.TheVariants as t
 use Rattle.ac_grammar.specs.declared.tree.Relation.{Relation}
 use Rattle.ac_grammar.specs.declared.tree.Expr.{Expr}
 use Rattle.ac_grammar.specs.declared.tree.Expr.TheVariants.{Group}
-use Rattle.ac_grammar.specs.declared.tree.Part.{Part}
 use Rattle.ac_grammar.specs.declared.conditions.Mixed.{Mixed}
 use Rattle.ac_grammar.specs.declared.conditions.Mixed.TheVariants.{Condition, Expression}
 use Rattle.ac_grammar.specs.Words.{place_of}
-use Rattle.ac_grammar.specs.Reading.{Reader, ◌>>=◌, pure, peek, front, is, ending, operator}
-use Rattle.ac_grammar.specs.Expressions.{opens, product, sum, expr_of, unary, within, below}
-use Rattle.ac_grammar.specs.Conditions.{and_of, join_parts, compared, compared_by, behind, mixed_part, required, part, parts, more_parts, mixed_in, mixed_below, mixed, cond}
-use Rattle.ac_grammar.proofs.Deeper.{Agree, Deeper, then_agree, then_deeper, same_deeper, choose_deeper, repeat_deeper, Below, at_limit, inside, within_deeper}
+use Rattle.ac_grammar.specs.Reading.{Reader, peek, front, is, ending, operator}
+use Rattle.ac_grammar.specs.Expressions.{opens, expr_of, unary}
+use Rattle.ac_grammar.specs.Conditions.{and_of, join_parts, compared, compared_by, behind, mixed_part, part, parts, more_parts, mixed_in, mixed_below, mixed, cond}
+use Rattle.ac_grammar.proofs.Deeper.{Deeper, then_agree, then_deeper, same_deeper, choose_deeper, repeat_deeper, Below, at_limit, inside, within_deeper}
 use Rattle.ac_grammar.proofs.DeepExpressions.{product_deeper, sum_deeper, expr_deeper, unary_deeper}
 use Rattle.ac_grammar.specs.Operators.{relation_of}
 

@@ -1,16 +1,13 @@
 -- Where more constructs may open, an expression is read in the same way, unless it stopped at the limit.
-use Rattle.std.specs.Prelude.{Bool, true, false, cond, Option, Some, None}
-use Rattle.std.proofs.Common.{◌≡◌, ℕ, zero, suc, ◌+◌, List, [], ◌∷◌, length, refl, sym, ◌∙◌, ap, subst, inl, inr, arith}
-use Rattle.ac_lex.specs.Lexemes.{Lexeme}
+use Rattle.std.specs.Prelude.{Option}
+use Rattle.std.proofs.Common.{ℕ, zero, suc, [], ◌∷◌, refl, inl, inr}
 use Rattle.ac_grammar.specs.declared.terminal.Terminal.{Terminal}
 use Rattle.ac_grammar.specs.declared.terminal.Terminal.TheVariants as t
 use Rattle.ac_grammar.specs.declared.tree.Word.{Word}
 use Rattle.ac_grammar.specs.declared.tree.Expr.{Expr}
-use Rattle.ac_grammar.specs.declared.tree.Expr.TheVariants as tree
-use Rattle.ac_grammar.specs.Words.{place_of}
 use Rattle.ac_grammar.specs.Chains.{start, link}
-use Rattle.ac_grammar.specs.Reading.{nesting, syntax, Got, found, stopped, Reader, and_then, ◌>>=◌, ◌>>◌, pure, peek, front, rest, is, name}
-use Rattle.ac_grammar.specs.Expressions.{comma_of, add_item, list_item, factors, product, term_of, terms, sum, expr_of, list, arguments, within, subscripts, named, group, primary_by, any_primary, primary, negated, unary_in, below, unary, expr}
+use Rattle.ac_grammar.specs.Reading.{Reader, peek, rest, is, name}
+use Rattle.ac_grammar.specs.Expressions.{comma_of, add_item, list_item, factors, product, term_of, terms, sum, expr_of, list, arguments, subscripts, named, group, primary_by, any_primary, primary, negated, unary_in, below, unary, expr}
 use Rattle.ac_grammar.proofs.Deeper.{Agree, Deeper, then_agree, then_deeper, same_deeper, choose_deeper, repeat_deeper, many_deeper, Below, at_limit, inside, within_deeper}
 use Rattle.ac_grammar.specs.Operators.{sign_of, star_of}
 

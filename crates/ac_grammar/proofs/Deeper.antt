@@ -1,9 +1,9 @@
 -- Where more constructs may open, a reader answers the same, unless it stopped at the limit.
 use Rattle.std.specs.Prelude.{Bool, true, false, cond, Option, Some, None, ◌⊎◌}
-use Rattle.std.proofs.Common.{◌≡◌, ℕ, zero, suc, List, [], ◌∷◌, length, refl, ◌∙◌, ap, inl, inr}
+use Rattle.std.proofs.Common.{◌≡◌, ℕ, zero, suc, List, length, refl, ◌∙◌, ap, inl, inr}
 use Rattle.ac_lex.specs.Lexemes.{Lexeme}
 use Rattle.ac_grammar.specs.declared.terminal.Terminal.{Terminal}
-use Rattle.ac_grammar.specs.Reading.{nesting, Got, found, stopped, Reader, and_then, ◌>>=◌, ◌>>◌, pure, peek, front, rest, take, operator, operator_at, turn, repeat_from, repeat, many_from, many}
+use Rattle.ac_grammar.specs.Reading.{nesting, Got, found, stopped, Reader, and_then, ◌>>=◌, peek, rest, operator, operator_at, turn, repeat_from, repeat, many_from, many}
 use Rattle.ac_grammar.specs.Expressions.{within}
 
 -- two answers are one, or the first stopped at the limit

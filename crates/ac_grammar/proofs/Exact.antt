@@ -1,11 +1,10 @@
 -- A reader is exact for a relation: it finds what the relation has, and stops at the first token with which nothing
 -- of the relation goes on.
-use Rattle.std.specs.Prelude.{Bool, true, false, ◌⊎◌}
+use Rattle.std.specs.Prelude.{Bool, false, ◌⊎◌}
 use Rattle.std.proofs.Common.{◌≡◌, List, [], ◌∷◌, ◌++◌, refl, sym, ◌∙◌, ap, subst, inl, inr, append_assoc}
-use Rattle.std.proofs.lemmas.List.{append-nil}
 use Rattle.ac_lex.specs.Lexemes.{Lexeme}
 use Rattle.ac_grammar.specs.declared.terminal.Terminal.{Terminal}
-use Rattle.ac_grammar.specs.Reading.{Why, nesting, Got, found, stopped, Reader, and_then, ◌>>=◌, peek, front}
+use Rattle.ac_grammar.specs.Reading.{Why, Got, found, stopped, Reader, and_then, ◌>>=◌, peek, front}
 use Rattle.ac_grammar.specs.Found.{Rel, Goes, Read, CanGoOn, Stops}
 
 -- R is the relation, and V the relation with one construct more around. Nothing is said of what is found where the first

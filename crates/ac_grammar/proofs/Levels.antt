@@ -1,6 +1,6 @@
 -- Unaries are exact, at each room for constructs inside.
 use Rattle.std.specs.Prelude.{Bool, true, false, cond, not, ◌||◌, Option, Some, None}
-use Rattle.std.proofs.Common.{◌≡◌, ℕ, zero, suc, List, [], ◌∷◌, ◌++◌, refl, sym, ◌∙◌, ap, subst, append_assoc}
+use Rattle.std.proofs.Common.{◌≡◌, ℕ, zero, suc, List, [], ◌∷◌, ◌++◌, refl, ◌∙◌, ap, append_assoc}
 use Rattle.ac_lex.specs.Lexemes.{Lexeme}
 use Rattle.ac_grammar.specs.declared.terminal.Terminal.{Terminal}
 use Rattle.ac_grammar.specs.declared.terminal.Terminal.TheVariants as t
@@ -9,14 +9,14 @@ use Rattle.ac_grammar.specs.declared.tree.Expr.{Expr}
 use Rattle.ac_grammar.specs.declared.tree.Expr.TheVariants as tree
 use Rattle.ac_grammar.specs.Terminals.{terminal, is_name}
 use Rattle.ac_grammar.specs.Words.{place_of, word_of, numeral_of}
-use Rattle.ac_grammar.specs.Reading.{Why, syntax, nesting, Got, found, stopped, Reader, and_then, ◌>>=◌, ◌>>◌, pure, refuse, peek, front, rest, is, expect, ending, name, many}
+use Rattle.ac_grammar.specs.Reading.{syntax, nesting, Got, found, stopped, Reader, and_then, ◌>>=◌, pure, refuse, peek, front, rest, is, expect, ending, name}
 use Rattle.ac_grammar.specs.Found.{Rel, Goes}
 use Rattle.ac_grammar.specs.Expressions.{add_item, opens, expr_of, list, arguments, within, subscripts, named, group, primary_by, any_primary, primary, negated, unary_in, below, unary, expr}
-use Rattle.ac_grammar.proofs.Exact.{Exact, Some_of, none, nowhere, IsThen, both, then_exact}
-use Rattle.ac_grammar.proofs.Many.{IsMany, no_more, one_more, many_exact}
-use Rattle.ac_grammar.proofs.Parts.{is_true, IsNothing, IsPure, nothing, pure_exact, ending_exact, refuse_exact, pass, IsToken, token, token_heads, token_exact, limit_exact, choose, IsEither, one, other, choose_exact, closed, closing, IsHeld, IsMap, Spelled, some_held, held_exact, map_exact, some_map, ended_exact, same_exact, from_anywhere, pure_empty}
+use Rattle.ac_grammar.proofs.Exact.{Exact, Some_of, none, nowhere, both}
+use Rattle.ac_grammar.proofs.Many.{no_more, one_more, many_exact}
+use Rattle.ac_grammar.proofs.Parts.{is_true, IsNothing, IsPure, nothing, ending_exact, refuse_exact, pass, IsToken, token, token_heads, token_exact, limit_exact, choose, IsEither, one, other, choose_exact, closing, IsHeld, IsMap, some_held, some_map, ended_exact, same_exact, from_anywhere, pure_empty}
 use Rattle.ac_grammar.proofs.Relations.{Opening, at_limit, around, IsExprOf, IsCallEnd, IsCall, IsSubscript, IsGroup, IsNegative, IsSubscripts, IsNamed, IsPrimaryIn, IsUnaryIn, IsUnaryAt, IsExprAt, openings_at}
-use Rattle.ac_grammar.proofs.Productions.{Inner, on_unary, on_expr, begins, Heads, a_number, a_close, a_close_bracket, an_open_bracket, some_expr, some_list, expr_exact, subscript_exact, group_exact, negative_exact, call_end, call_exact}
+use Rattle.ac_grammar.proofs.Productions.{Inner, on_unary, on_expr, begins, Heads, a_number, a_close, a_close_bracket, an_open_bracket, some_expr, expr_exact, subscript_exact, group_exact, negative_exact, call_end, call_exact}
 
 -- what a token that opens a construct begins, and with which unary inside
 pub opening : Option (Reader Expr) → (Reader Expr → Lexeme → Reader Expr) → Reader Expr

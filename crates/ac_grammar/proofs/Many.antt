@@ -1,12 +1,12 @@
 -- A repetition that goes on as long as an item begins is exact where its item is.
-use Rattle.std.specs.Prelude.{Bool, true, false, cond, not, ◌||◌, ◌⊎◌}
-use Rattle.std.proofs.Common.{◌≡◌, ℕ, zero, suc, ◌+◌, ◌≤◌, ◌<◌, List, [], ◌∷◌, ◌++◌, length, refl, sym, ◌∙◌, ap, subst, inl, inr, append_assoc, arith, length-append}
+use Rattle.std.specs.Prelude.{Bool, true, false, cond, not, ◌||◌}
+use Rattle.std.proofs.Common.{◌≡◌, ℕ, zero, suc, ◌≤◌, ◌<◌, List, [], ◌∷◌, ◌++◌, length, refl, sym, ◌∙◌, ap, subst, inr, append_assoc, arith, length-append}
 use Rattle.std.proofs.lemmas.List.{append-nil}
 use Rattle.ac_lex.specs.Lexemes.{Lexeme}
 use Rattle.ac_grammar.specs.declared.terminal.Terminal.{Terminal}
 use Rattle.ac_grammar.specs.declared.terminal.Terminal.TheVariants.{End}
-use Rattle.ac_grammar.specs.Reading.{Why, nesting, Got, found, stopped, Reader, and_then, ◌>>=◌, pure, peek, front, many_from, many}
-use Rattle.ac_grammar.specs.Found.{Rel, Goes, Read, CanGoOn, Stops}
+use Rattle.ac_grammar.specs.Reading.{Why, nesting, Got, found, stopped, Reader, and_then, peek, front, many_from, many}
+use Rattle.ac_grammar.specs.Found.{Rel, Goes, Read, CanGoOn}
 use Rattle.ac_grammar.proofs.Exact.{Exact, Some_of, peek_same, some_goes_on}
 
 -- { item }: each item is joined to what stood before it

@@ -1,7 +1,6 @@
 -- Where a condition or an expression may stand, reading is exact.
-use Rattle.std.specs.Prelude.{Bool, true, false, cond, not, Option, Some, None, ◌||◌, ◌⊎◌}
-use Rattle.std.proofs.Common.{◌≡◌, ℕ, zero, suc, List, [], ◌∷◌, ◌++◌, refl, sym, ◌∙◌, ap, subst, inl, inr, append_assoc}
-use Rattle.std.proofs.lemmas.List.{append-nil}
+use Rattle.std.specs.Prelude.{Bool, true, false, cond, not, Option, Some, None, ◌||◌}
+use Rattle.std.proofs.Common.{◌≡◌, List, [], ◌∷◌, ◌++◌, refl, sym, ◌∙◌, ap, subst, inl, inr, append_assoc}
 use Rattle.ac_syntax.specs.declared.tree.Place.{Place}
 use Rattle.ac_lex.specs.Lexemes.{Lexeme}
 use Rattle.ac_lex.specs.declared.tokens.TokenKind.TheVariants as kind
@@ -16,18 +15,16 @@ use Rattle.ac_grammar.specs.declared.conditions.Mixed.{Mixed}
 use Rattle.ac_grammar.specs.declared.conditions.Mixed.TheVariants.{Condition, Expression}
 use Rattle.ac_grammar.specs.Terminals.{terminal}
 use Rattle.ac_grammar.specs.Words.{place_of}
-use Rattle.ac_grammar.specs.Reading.{Why, syntax, nesting, Got, found, stopped, Reader, and_then, ◌>>=◌, pure, refuse, peek, front, rest, is, ending, operator, operator_at, repeat}
+use Rattle.ac_grammar.specs.Reading.{Why, syntax, nesting, Got, found, stopped, Reader, and_then, ◌>>=◌, pure, peek, front, rest, is, ending, operator, operator_at}
 use Rattle.ac_grammar.specs.Found.{Rel, Goes, Read, CanGoOn, Stops}
-use Rattle.ac_grammar.specs.Expressions.{opens, goes_on, product, sum, expr_of, unary, within}
-use Rattle.ac_grammar.specs.Conditions.{and_of, join_parts, compared, compared_by, behind, mixed_part, required, part, parts, more_parts, mixed_in, mixed_below, mixed}
-use Rattle.ac_grammar.proofs.Exact.{Exact, Some_of, peek_same, none, nowhere, IsThen, both, then_exact}
-use Rattle.ac_grammar.proofs.Many.{IsMany, no_more, one_more}
-use Rattle.ac_grammar.proofs.Parts.{is_true, true_is, IsNothing, IsPure, nothing, pure_empty, pure_is, pure_exact, ending_exact, refuse_exact, pass, IsToken, token, token_heads, token_exact, limit_exact, choose, IsEither, one, other, choose_exact, choose_from, IsNot, aside, not_exact, closed, closing, IsHeld, IsMap, some_held, held_exact, map_exact, some_map, same_exact, from_anywhere, goes_exact}
-use Rattle.ac_grammar.proofs.Repeats.{has, IsLinked, linked, linked_at, pairing, linking, linked_exact, linked_heads, IsRepeat, repeat_exact, repeat_next}
-use Rattle.ac_grammar.proofs.Relations.{IsProduct, IsSum, IsExprOf, IsUnaryAt}
-use Rattle.ac_grammar.proofs.Productions.{Inner, on_expr, on_term, begins, Heads, a_number, a_close, some_expr, some_sum, some_product, product_exact, factors_next, sum_exact, terms_next, expr_exact, expr_heads}
-use Rattle.ac_grammar.proofs.Levels.{unaries, some_unary}
-use Rattle.ac_grammar.proofs.MixedRelations.{comparison_of, IsCompared, IsBehind, IsParen, IsMixedPartIn, IsConditionOf, IsParts, IsMore, IsMixedIn, paren_at, IsMixedPartAt, IsMixedAt}
+use Rattle.ac_grammar.specs.Expressions.{opens, goes_on, product, sum, expr_of, within}
+use Rattle.ac_grammar.specs.Conditions.{and_of, compared, compared_by, behind, required, parts}
+use Rattle.ac_grammar.proofs.Exact.{Exact, Some_of, none, nowhere, IsThen, both, then_exact}
+use Rattle.ac_grammar.proofs.Parts.{IsNothing, IsPure, nothing, pure_exact, ending_exact, pass, token_exact, limit_exact, choose, one, other, choose_from, IsNot, aside, not_exact, closing, IsHeld, IsMap, some_held, held_exact, map_exact, same_exact, goes_exact}
+use Rattle.ac_grammar.proofs.Repeats.{has, IsLinked, linked, linked_at, pairing, linking, linked_exact}
+use Rattle.ac_grammar.proofs.Relations.{IsProduct, IsSum, IsExprOf}
+use Rattle.ac_grammar.proofs.Productions.{Inner, on_expr, on_term, a_close, some_expr, some_sum, some_product, product_exact, factors_next, sum_exact, terms_next, expr_exact, expr_heads}
+use Rattle.ac_grammar.proofs.MixedRelations.{comparison_of, IsCompared, IsBehind, IsParen, IsConditionOf}
 use Rattle.ac_grammar.proofs.ReadExpressions.{same_goes}
 use Rattle.ac_grammar.specs.Operators.{relation_of}
 use Rattle.ac_grammar.specs.Chains.{part_of}

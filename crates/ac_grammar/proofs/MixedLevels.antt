@@ -14,17 +14,17 @@ use Rattle.ac_grammar.specs.declared.conditions.Mixed.{Mixed}
 use Rattle.ac_grammar.specs.declared.conditions.Mixed.TheVariants.{Condition, Expression}
 use Rattle.ac_grammar.specs.Terminals.{terminal}
 use Rattle.ac_grammar.specs.Words.{place_of, numeral_of}
-use Rattle.ac_grammar.specs.Reading.{found, Reader, and_then, ◌>>=◌, pure, peek, front, is, repeat}
-use Rattle.ac_grammar.specs.Found.{Rel, Goes, CanGoOn}
+use Rattle.ac_grammar.specs.Reading.{Reader, and_then, ◌>>=◌, peek, front, is}
+use Rattle.ac_grammar.specs.Found.{Rel, CanGoOn}
 use Rattle.ac_grammar.specs.Expressions.{expr_of, unary, within}
 use Rattle.ac_grammar.specs.Conditions.{and_of, join_parts, compared, behind, mixed_part, required, part, parts, more_parts, mixed_in, mixed_below, mixed}
 use Rattle.ac_grammar.specs.Conditions as spec
-use Rattle.ac_grammar.proofs.Exact.{Exact, Some_of, none, nowhere, IsThen, both, then_exact}
-use Rattle.ac_grammar.proofs.Many.{no_more, one_more}
-use Rattle.ac_grammar.proofs.Parts.{IsNothing, IsPure, nothing, pure_empty, pure_is, pure_exact, IsToken, token, token_heads, IsEither, one, other, choose, choose_exact, IsNot, aside, IsHeld, IsMap, map_exact, same_exact}
-use Rattle.ac_grammar.proofs.Repeats.{has, IsLinked, linked, IsRepeat, repeat_exact, repeat_next}
+use Rattle.ac_grammar.proofs.Exact.{Exact, Some_of, nowhere, IsThen, both, then_exact}
+use Rattle.ac_grammar.proofs.Many.{no_more}
+use Rattle.ac_grammar.proofs.Parts.{IsNothing, nothing, pure_empty, pure_is, pure_exact, token, token_heads, one, other, choose, choose_exact, IsNot, aside, IsHeld, map_exact, same_exact}
+use Rattle.ac_grammar.proofs.Repeats.{has, IsLinked, repeat_exact, repeat_next}
 use Rattle.ac_grammar.proofs.Relations.{IsExprOf, IsUnaryAt, IsExprAt}
-use Rattle.ac_grammar.proofs.Productions.{Inner, on_expr, a_number, some_expr}
+use Rattle.ac_grammar.proofs.Productions.{Inner, on_expr, a_number}
 use Rattle.ac_grammar.proofs.Levels.{unaries, some_unary}
 use Rattle.ac_grammar.proofs.MixedRelations.{comparison_of, IsCompared, IsBehind, IsParen, IsMixedPartIn, IsConditionOf, IsParts, IsMore, IsMixedIn, paren_at, IsMixedPartAt, IsMixedAt}
 use Rattle.ac_grammar.proofs.MixedExact.{on_part, on_mixed, and_apart, an_and, some_linked, plain_exact, plain_heads, paren_reader, paren_is, inner_paren, limit_paren, wanted_exact}

@@ -1,8 +1,6 @@
 -- What is read where a condition or an expression may stand, put together from parts.
-use Rattle.std.specs.Prelude.{ℕ, zero, suc, Bool, List, [], ◌∷◌}
+use Rattle.std.specs.Prelude.{ℕ, zero, suc, List, [], ◌∷◌}
 use Rattle.ac_syntax.specs.declared.tree.Place.{Place}
-use Rattle.ac_lex.specs.Lexemes.{Lexeme}
-use Rattle.ac_grammar.specs.declared.terminal.Terminal.{Terminal}
 use Rattle.ac_grammar.specs.declared.terminal.Terminal.TheVariants as t
 use Rattle.ac_grammar.specs.declared.tree.Relation.{Relation}
 use Rattle.ac_grammar.specs.declared.tree.Expr.{Expr}

@@ -1,6 +1,6 @@
 -- What may be read inside one more parenthesis.
 use Rattle.std.specs.Prelude.{Some, None}
-use Rattle.std.proofs.Common.{◌≡◌, ℕ, zero, suc, ◌+◌, refl, sym, ap, ◌∙◌, arith}
+use Rattle.std.proofs.Common.{◌≡◌, ℕ, suc, ◌+◌, ap, arith}
 use Rattle.ac_grammar.specs.Conditions.{mixed_below, mixed}
 
 pub no_mixed : (room : ℕ) → room ≡ 0 → mixed_below room ≡ None

@@ -1,7 +1,6 @@
 -- The other parts of a grammar: a token, a choice by the next terminal, what opens at the limit, an end, a refusal.
-use Rattle.std.specs.Prelude.{Bool, true, false, cond, not, Option, Some, None, ◌⊎◌}
-use Rattle.std.proofs.Common.{◌≡◌, ℕ, zero, suc, List, [], ◌∷◌, ◌++◌, refl, sym, ◌∙◌, ap, subst, inl, inr, append_assoc, rules}
-use Rattle.std.proofs.lemmas.List.{append-nil}
+use Rattle.std.specs.Prelude.{Bool, true, false, cond, not, ◌⊎◌}
+use Rattle.std.proofs.Common.{◌≡◌, List, [], ◌∷◌, ◌++◌, refl, sym, ◌∙◌, ap, subst, inl, inr}
 use denote.Enum.Bare.{same_true, true_same}
 use Rattle.ac_lex.specs.Lexemes.{Lexeme}
 use Rattle.ac_grammar.specs.contracts.terminal.Terminal.{the_type}

@@ -1,27 +1,25 @@
 -- Each production of expressions is exact.
-use Rattle.std.specs.Prelude.{Bool, true, false, cond, not, Option, Some, None, ◌||◌}
-use Rattle.std.proofs.Common.{◌≡◌, ℕ, zero, suc, List, [], ◌∷◌, ◌++◌, refl, sym, ◌∙◌, ap, subst, append_assoc}
+use Rattle.std.specs.Prelude.{Bool, true, false, ◌||◌}
+use Rattle.std.proofs.Common.{◌≡◌, ℕ, List, [], ◌∷◌, ◌++◌, refl, ◌∙◌, ap, append_assoc}
 use Rattle.ac_lex.specs.Lexemes.{Lexeme}
 use Rattle.ac_lex.specs.declared.tokens.TokenKind.TheVariants as token
 use Rattle.ac_grammar.specs.declared.terminal.Terminal.{Terminal}
 use Rattle.ac_grammar.specs.declared.terminal.Terminal.TheVariants as t
 use Rattle.ac_grammar.specs.declared.tree.Word.{Word}
-use Rattle.ac_grammar.specs.declared.tree.Operator.{Operator}
 use Rattle.ac_grammar.specs.declared.tree.Operator.TheVariants.{Add, Multiply}
 use Rattle.ac_grammar.specs.declared.tree.Expr.{Expr}
 use Rattle.ac_grammar.specs.declared.tree.Expr.TheVariants as tree
-use Rattle.ac_grammar.specs.declared.links.Links.{Links}
 use Rattle.ac_grammar.specs.Terminals.{terminal, is_name}
-use Rattle.ac_grammar.specs.Words.{place_of, word_of, numeral_of}
+use Rattle.ac_grammar.specs.Words.{place_of}
 use Rattle.ac_grammar.specs.Chains.{start, link, chain}
-use Rattle.ac_grammar.specs.Reading.{Why, syntax, nesting, Got, found, stopped, Reader, and_then, ◌>>=◌, ◌>>◌, pure, refuse, peek, front, rest, is, expect, ending, name, repeat, many}
+use Rattle.ac_grammar.specs.Reading.{Reader, ◌>>=◌, pure, peek, is, ending, repeat}
 use Rattle.ac_grammar.specs.Found.{Rel, Goes}
-use Rattle.ac_grammar.specs.Expressions.{comma_of, add_item, list_item, opens, factors, product, term_of, terms, sum, expr_of, list, arguments, within, subscripts, named, group, primary_by, any_primary, primary, negated, unary_in, below, unary, expr}
+use Rattle.ac_grammar.specs.Expressions.{comma_of, list_item, opens, factors, product, term_of, terms, sum, expr_of, list}
 use Rattle.ac_grammar.proofs.Exact.{Exact, Some_of, none, nowhere, IsThen, both, then_exact}
-use Rattle.ac_grammar.proofs.Many.{IsMany, no_more, one_more, many_exact}
-use Rattle.ac_grammar.proofs.Parts.{is_true, IsNothing, IsPure, nothing, pure_exact, ending_exact, refuse_exact, pass, IsToken, token, token_heads, token_exact, limit_exact, choose, IsEither, one, other, choose_exact, IsClosed, closed, closing, IsHeld, IsMap, Spelled, some_held, held_exact, map_exact, some_map, ended_exact, same_exact, from_anywhere}
-use Rattle.ac_grammar.proofs.Repeats.{has, IsLinked, linked, IsRepeat, repeat_exact, repeat_next}
-use Rattle.ac_grammar.proofs.Relations.{Opening, at_limit, around, IsFactors, IsProduct, IsTermOf, IsTerms, IsSum, IsExprOf, IsList, IsCallEnd, IsCall, IsSubscript, IsGroup, IsNegative, IsSubscripts, IsNamed, IsPrimaryIn, IsUnaryIn}
+use Rattle.ac_grammar.proofs.Many.{no_more}
+use Rattle.ac_grammar.proofs.Parts.{IsPure, nothing, pure_exact, pass, IsToken, token_heads, token_exact, choose, choose_exact, closing, IsHeld, Spelled, held_exact, map_exact, ended_exact, from_anywhere}
+use Rattle.ac_grammar.proofs.Repeats.{has, IsRepeat, repeat_exact, repeat_next}
+use Rattle.ac_grammar.proofs.Relations.{IsFactors, IsProduct, IsTermOf, IsTerms, IsSum, IsExprOf, IsList, IsCallEnd, IsCall, IsGroup, IsNegative}
 use Rattle.ac_grammar.specs.Operators.{sign_of, star_of}
 
 -- ---- tokens of some terminals

@@ -1,5 +1,5 @@
 -- What is read as a condition is the grammar's.
-use Rattle.std.specs.Prelude.{Bool, true, false, Option, Some, None, ◌||◌, ◌⊎◌}
+use Rattle.std.specs.Prelude.{true, false, Some, ◌||◌, ◌⊎◌}
 use Rattle.std.proofs.Common.{◌≡◌, ℕ, zero, suc, List, [], ◌∷◌, ◌++◌, refl, sym, ◌∙◌, ap, subst, inl, inr, append_assoc}
 use Rattle.std.proofs.lemmas.List.{append-nil}
 use Rattle.ac_lex.specs.Lexemes.{Lexeme}
@@ -11,26 +11,24 @@ use Rattle.ac_grammar.specs.declared.tree.Expr.TheVariants as tree
 use Rattle.ac_grammar.specs.declared.tree.Part.{Part}
 use Rattle.ac_grammar.specs.declared.conditions.Mixed.{Mixed}
 use Rattle.ac_grammar.specs.declared.conditions.Mixed.TheVariants.{Condition, Expression}
-use Rattle.ac_grammar.specs.Terminals.{terminal, is_name}
+use Rattle.ac_grammar.specs.Terminals.{terminal}
 use Rattle.ac_grammar.specs.Words.{place_of}
-use Rattle.ac_grammar.specs.Reading.{peek, is}
+use Rattle.ac_grammar.specs.Reading.{is}
 use Rattle.ac_grammar.specs.Found.{Rel}
 use Rattle.ac_grammar.specs.Grammar as g
 use Rattle.ac_grammar.specs.Grammar.{IsExpr, IsCond, IsPart}
-use Rattle.ac_grammar.specs.Expressions.{goes_on}
 use Rattle.ac_grammar.specs.Conditions.{and_of, join_parts, condition_goes_on}
 use Rattle.ac_grammar.specs.Conditions as spec
 use Rattle.ac_grammar.proofs.Exact.{Exact, Some_of, nowhere, IsThen, both}
-use Rattle.ac_grammar.proofs.Many.{no_more, one_more}
-use Rattle.ac_grammar.proofs.Parts.{is_true, true_is, IsPure, nothing, pure_empty, pure_is, IsToken, token, IsEither, one, other, IsNot, aside, closed, IsHeld, goes_exact, equal_exact}
+use Rattle.ac_grammar.proofs.Many.{no_more}
+use Rattle.ac_grammar.proofs.Parts.{is_true, true_is, IsPure, nothing, pure_empty, pure_is, IsToken, token, one, other, IsNot, aside, closed, IsHeld, goes_exact, equal_exact}
 use Rattle.ac_grammar.proofs.Repeats.{has, IsLinked, linked}
-use Rattle.ac_grammar.proofs.Relations.{at_limit, around, IsGroup, IsProduct, IsSum, IsExprOf, IsUnaryIn, IsUnaryAt, IsExprAt}
+use Rattle.ac_grammar.proofs.Relations.{at_limit, around, IsGroup, IsProduct, IsSum, IsUnaryIn, IsUnaryAt, IsExprAt}
 use Rattle.ac_grammar.proofs.Levels.{is_apart, name_apart}
 use Rattle.ac_grammar.proofs.Productions.{on_expr}
-use Rattle.ac_grammar.proofs.MixedRelations.{comparison_of, IsCompared, IsBehind, IsParen, IsMixedPartIn, IsConditionOf, IsParts, IsMore, IsMixedIn, paren_at, IsMixedPartAt, IsMixedAt}
+use Rattle.ac_grammar.proofs.MixedRelations.{IsCompared, IsBehind, IsParen, IsConditionOf, IsParts, IsMore, paren_at, IsMixedPartAt, IsMixedAt}
 use Rattle.ac_grammar.proofs.MixedLevels.{part_more, conditions_exact, some_part}
 use Rattle.ac_grammar.proofs.Aloud.{many_snoc, repeat_all, map_of, of_map, expr_aloud, aloud_expr}
-use Rattle.ac_grammar.proofs.ReadExpressions.{same_goes}
 use Rattle.ac_grammar.specs.Operators.{relation_of}
 use Rattle.ac_grammar.specs.Chains.{part_of}
 

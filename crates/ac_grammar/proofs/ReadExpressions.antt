@@ -1,16 +1,14 @@
 -- What is read as an expression, or as subscripts, is the grammar's.
-use Rattle.std.specs.Prelude.{Bool, true, false, Option, Some, None, ◌||◌}
-use Rattle.std.proofs.Common.{◌≡◌, ℕ, zero, suc, List, [], ◌∷◌, ◌++◌, refl}
-use Rattle.ac_lex.specs.Lexemes.{Lexeme}
+use Rattle.std.specs.Prelude.{Bool, true, false, ◌||◌}
+use Rattle.std.proofs.Common.{◌≡◌, ℕ, suc, refl}
 use Rattle.ac_grammar.specs.declared.terminal.Terminal.{Terminal}
 use Rattle.ac_grammar.specs.declared.terminal.Terminal.TheVariants as t
-use Rattle.ac_grammar.specs.declared.tree.Expr.{Expr}
 use Rattle.ac_grammar.specs.Reading.{is}
 use Rattle.ac_grammar.specs.Expressions.{goes_on, expr, subscripts, below}
 use Rattle.ac_grammar.specs.Grammar.{IsExpr, Subscripts}
 use Rattle.ac_grammar.proofs.Exact.{Exact, Some_of, nowhere}
 use Rattle.ac_grammar.proofs.Parts.{goes_exact, equal_exact}
-use Rattle.ac_grammar.proofs.Relations.{IsExprAt, IsSubscripts, openings_at}
+use Rattle.ac_grammar.proofs.Relations.{openings_at}
 use Rattle.ac_grammar.proofs.Productions.{on_expr, some_expr}
 use Rattle.ac_grammar.proofs.Levels.{expressions_exact, levels, subscripts_exact, some_unary}
 use Rattle.ac_grammar.proofs.Relations.{IsUnaryAt}

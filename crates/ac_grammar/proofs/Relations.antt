@@ -15,7 +15,7 @@ use Rattle.ac_grammar.specs.Expressions.{comma_of, add_item, list_item}
 use Rattle.ac_grammar.specs.Found.{Rel}
 use Rattle.ac_grammar.proofs.Exact.{IsThen}
 use Rattle.ac_grammar.proofs.Many.{IsMany}
-use Rattle.ac_grammar.proofs.Parts.{IsNothing, IsPure, IsToken, IsEither, IsClosed, IsHeld, IsMap}
+use Rattle.ac_grammar.proofs.Parts.{IsNothing, IsPure, IsToken, IsEither, IsHeld, IsMap}
 use Rattle.ac_grammar.proofs.Repeats.{IsRepeat}
 use Rattle.ac_grammar.specs.Operators.{sign_of, star_of}
 

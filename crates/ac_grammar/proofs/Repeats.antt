@@ -1,14 +1,13 @@
 -- A repetition of an operator and an item is exact where its item is.
-use Rattle.std.specs.Prelude.{Bool, true, false, cond, not, Option, Some, None, ◌||◌, ◌⊎◌}
-use Rattle.std.proofs.Common.{◌≡◌, ℕ, zero, suc, List, [], ◌∷◌, ◌++◌, length, refl, sym, ◌∙◌, ap, subst, inl, inr, append_assoc}
-use Rattle.std.proofs.lemmas.List.{append-nil}
+use Rattle.std.specs.Prelude.{Bool, true, false, cond, not, Option, Some, None, ◌||◌}
+use Rattle.std.proofs.Common.{◌≡◌, ℕ, zero, suc, List, [], ◌∷◌, ◌++◌, length, refl, sym, ◌∙◌, ap, subst, inr}
 use Rattle.ac_lex.specs.Lexemes.{Lexeme}
 use Rattle.ac_grammar.specs.declared.terminal.Terminal.{Terminal}
 use Rattle.ac_grammar.specs.declared.terminal.Terminal.TheVariants.{End}
 use Rattle.ac_grammar.specs.Terminals.{terminal}
-use Rattle.ac_grammar.specs.Reading.{Why, syntax, nesting, Got, found, stopped, Reader, and_then, ◌>>=◌, pure, peek, front, rest, operator, operator_at, turn, repeat_from, repeat, many_from, many}
+use Rattle.ac_grammar.specs.Reading.{Why, syntax, Got, found, stopped, Reader, and_then, pure, peek, front, rest, operator, operator_at, turn, repeat_from, repeat, many_from, many}
 use Rattle.ac_grammar.specs.Found.{Rel, Goes, Read, CanGoOn, Stops}
-use Rattle.ac_grammar.proofs.Exact.{Exact, Some_of, peek_same, some_goes_on}
+use Rattle.ac_grammar.proofs.Exact.{Exact, Some_of, some_goes_on}
 use Rattle.ac_grammar.proofs.Many.{IsMany, many_exact, many_next}
 use Rattle.ac_grammar.proofs.Parts.{same_exact}
 

@@ -6,8 +6,8 @@ use Rattle.ac_grammar.specs.declared.terminal.Terminal.{Terminal}
 use Rattle.ac_grammar.specs.declared.tree.Expr.{Expr}
 use Rattle.ac_grammar.specs.declared.tree.Expr.TheVariants.{Negative}
 use Rattle.ac_grammar.specs.Words.{place_of}
-use Rattle.ac_grammar.specs.Reading.{Reader, pure, stopped, nesting, and_then, ◌>>=◌, ◌>>◌, expect, front, rest, peek, found, operator, operator_at, turn, repeat_from, repeat}
-use Rattle.ac_grammar.specs.Expressions.{below, unary, unary_in, within, negated, term_of, sum, terms, product, factors}
+use Rattle.ac_grammar.specs.Reading.{Reader, pure, stopped, nesting, and_then, ◌>>◌, expect, front, rest, peek, found, operator, operator_at, turn, repeat_from, repeat}
+use Rattle.ac_grammar.specs.Expressions.{below, unary, within, negated, term_of, sum, terms, product, factors}
 use Rattle.ac_grammar.specs.Operators.{sign_of, star_of}
 use Rattle.ac_grammar.specs.Chains.{start, link, chain}
 

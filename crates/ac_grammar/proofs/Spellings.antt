@@ -1,6 +1,6 @@
 -- Words fit into names, and numbers may stop growing at the least one that is too great.
-use Rattle.std.specs.Prelude.{min, Bool, true, false, if◌then◌else◌, ◌&&◌, nat_lt, nat_le, cond}
-use Rattle.std.proofs.Common.{◌≡◌, ℕ, zero, suc, ◌+◌, ◌*◌, ◌-◌, ◌≤◌, ◌<◌, List, [], ◌∷◌, length, drop, refl, sym, ◌∙◌, ap, subst, arith, ◌⊎◌, inl, inr}
+use Rattle.std.specs.Prelude.{min, Bool, true, false, nat_lt, nat_le}
+use Rattle.std.proofs.Common.{◌≡◌, ℕ, ◌+◌, ◌*◌, ◌-◌, ◌≤◌, ◌<◌, List, [], ◌∷◌, length, drop, refl, sym, ◌∙◌, ap, subst, arith}
 use Rattle.std.proofs.Math.ListN.{drop_of_length-le}
 use Rattle.ac_lex.specs.Lexemes.{Lexeme, lexeme_of}
 use Rattle.ac_lex.specs.declared.tokens.Token.{Token}

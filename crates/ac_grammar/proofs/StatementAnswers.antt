@@ -1,25 +1,18 @@
 -- From exact readers of files to what is answered.
-use Rattle.std.specs.Prelude.{Result, Ok, Err, Bool, true, false, not}
-use Rattle.std.proofs.Common.{◌≡◌, ℕ, zero, suc, ◌+◌, arith, List, [], ◌∷◌, ◌++◌, refl, sym, ◌∙◌, ap, subst}
+use Rattle.std.specs.Prelude.{Result, Ok, Err, false}
+use Rattle.std.proofs.Common.{◌≡◌, ℕ, zero, suc, ◌+◌, arith, List, [], ◌∷◌, ◌++◌, refl, sym, ◌∙◌, subst}
 use Rattle.std.proofs.lemmas.List.{append-nil}
 use Rattle.ac_lex.specs.Lexemes.{Lexeme}
-use Rattle.ac_syntax.specs.declared.tree.Place.{Place}
-use Rattle.ac_grammar.specs.declared.terminal.Terminal.{Terminal}
-use Rattle.ac_grammar.specs.declared.terminal.Terminal.TheVariants as t
 use Rattle.ac_grammar.specs.declared.tree.File.{File}
 use Rattle.ac_grammar.specs.declared.cursor.Stop.{Stop}
 use Rattle.ac_grammar.specs.declared.cursor.Stop.TheVariants.{Syntax, Nesting, Memory}
-use Rattle.ac_grammar.specs.declared.file.GrammarFault.{GrammarFault}
-use Rattle.ac_grammar.specs.Terminals.{terminal}
-use Rattle.ac_grammar.specs.Reading.{Reads, Got, found, peek, front, is}
+use Rattle.ac_grammar.specs.Reading.{Reads, found, peek, front, is}
 use Rattle.ac_grammar.specs.Found.{Read, CanGoOn}
-use Rattle.ac_grammar.specs.Answers.{AtAnyDepth, IsAnswer, FindsAll, IsOnly}
+use Rattle.ac_grammar.specs.Answers.{AtAnyDepth, IsAnswer, IsOnly}
 use Rattle.ac_grammar.specs.FileReading.{file}
 use Rattle.ac_grammar.specs.FileGrammar as g
 use Rattle.ac_grammar.specs.FileGrammar.{IsFile}
-use Rattle.ac_grammar.specs.FileAnswers.{place_at, IsAnyFile, HasSyntaxFault, HasNestingFault, IsFileAnswer, IsOnlyFile, told}
-use Rattle.ac_grammar.proofs.Exact.{Some_of}
-use Rattle.ac_grammar.proofs.Parts.{is_true, true_is}
+use Rattle.ac_grammar.specs.FileAnswers.{place_at, IsAnyFile, IsFileAnswer, IsOnlyFile, told}
 use Rattle.ac_grammar.proofs.Answering.{answer, finds}
 use Rattle.ac_grammar.proofs.StatementFiles.{file_exact, some_file, on_file, not_end}
 use Rattle.ac_grammar.proofs.StatementDeeper.{file_deeper}

@@ -1,5 +1,5 @@
 -- The productions of declarations are exact.
-use Rattle.std.specs.Prelude.{Bool, true, false, cond, not, Option, Some, None, ◌||◌}
+use Rattle.std.specs.Prelude.{Bool, true, false, cond, not, Some, ◌||◌}
 use Rattle.std.proofs.Common.{◌≡◌, ℕ, zero, suc, List, [], ◌∷◌, ◌++◌, refl, sym, ◌∙◌, ap, subst, append_assoc}
 use Rattle.std.proofs.lemmas.List.{append-nil}
 use Rattle.ac_lex.specs.Lexemes.{Lexeme}
@@ -7,26 +7,24 @@ use Rattle.ac_grammar.specs.declared.terminal.Terminal.{Terminal}
 use Rattle.ac_grammar.specs.declared.terminal.Terminal.TheVariants as t
 use Rattle.ac_grammar.specs.declared.tree.Expr.{Expr}
 use Rattle.ac_grammar.specs.declared.tree.Extent.{Extent}
-use Rattle.ac_grammar.specs.declared.tree.Declared.{Declared}
-use Rattle.ac_grammar.specs.Terminals.{terminal, is_name}
-use Rattle.ac_grammar.specs.Words.{place_of, word_of}
-use Rattle.ac_grammar.specs.Reading.{Why, syntax, nesting, Got, found, stopped, Reader, and_then, ◌>>=◌, ◌>>◌, pure, refuse, peek, front, rest, take, is, expect, name, repeat, many}
+use Rattle.ac_grammar.specs.Terminals.{terminal}
+use Rattle.ac_grammar.specs.Words.{place_of}
+use Rattle.ac_grammar.specs.Reading.{Reader, pure, peek, rest, is, repeat}
 use Rattle.ac_grammar.specs.Found.{Rel, Goes}
-use Rattle.ac_grammar.specs.Expressions.{expr, comma_of, goes_on}
+use Rattle.ac_grammar.specs.Expressions.{comma_of, goes_on}
 use Rattle.ac_grammar.specs.Grammar.{IsExpr}
 use Rattle.ac_grammar.specs.DeclarationsReading as reading
 use Rattle.ac_grammar.specs.DeclarationsReading.{joined_by_comma, list, numbers, numbers_by, scalar, scalar_by, begins_type, extent, extents, parameters_by}
 use Rattle.ac_grammar.specs.DeclarationsGrammar as g
 use Rattle.ac_grammar.specs.DeclarationsGrammar.{IsRun, no_item, an_item, IsNext, next_item, IsList, items, numbers_of, IsType, plain, constant, IsExtent, IsDeclared, declared, IsParameter, parameter, IsParameters, IsDeclaration, declaration, IsDeclarations}
 use Rattle.ac_grammar.proofs.Exact.{Exact, Some_of, none, nowhere, IsThen, both}
-use Rattle.ac_grammar.proofs.Parts.{is_true, true_is, IsNothing, IsPure, nothing, pass, IsToken, token, limit_exact, choose, IsEither, one, other, Spelled, equal_exact, same_exact}
+use Rattle.ac_grammar.proofs.Parts.{is_true, true_is, IsNothing, IsPure, nothing, token, limit_exact, one, other, equal_exact}
 use Rattle.ac_grammar.proofs.Many.{IsMany, no_more, one_more}
-use Rattle.ac_grammar.proofs.Repeats.{has, IsLinked, linked, join_linked, IsRepeat, repeat_exact, repeat_next}
+use Rattle.ac_grammar.proofs.Repeats.{has, linked, IsRepeat, repeat_exact, repeat_next}
 use Rattle.ac_grammar.proofs.ReadExpressions.{some_expr_at}
 use Rattle.ac_grammar.proofs.StatementGiven.{expr_piece}
-use Rattle.ac_grammar.proofs.StatementLexemes.{an_int, a_const, an_open_bracket, a_close_bracket, a_close, a_comma, a_semicolon, a_void, named_token}
-use Rattle.ac_grammar.proofs.StatementPieces.{Piece, at_any, behind, next, apart, value, passed, either, IsImage, image, mapped, IsMarked, marked, expected, before, IsWorded, a_word, valued_at, IsValued, a_value, by_value, named, renamed, made, at_test, repeated}
-use Rattle.ac_grammar.proofs.StatementProductions.{name_piece}
+use Rattle.ac_grammar.proofs.StatementLexemes.{an_int, a_const, an_open_bracket, a_close_bracket, a_comma}
+use Rattle.ac_grammar.proofs.StatementPieces.{Piece, behind, value, passed, either, IsMarked, marked, before, valued_at, a_value, by_value, named, renamed, at_test}
 
 -- ---- repetitions as lists
 

@@ -1,21 +1,17 @@
 -- Where more constructs may open, a file is read in the same way, unless reading stopped at the limit.
-use Rattle.std.specs.Prelude.{Bool, true, false, cond, Option, Some, None}
-use Rattle.std.proofs.Common.{◌≡◌, ℕ, zero, suc, ◌+◌, List, [], ◌∷◌, ◌++◌, refl, sym, ◌∙◌, ap, subst, inl, inr, arith}
-use Rattle.ac_lex.specs.Lexemes.{Lexeme}
+use Rattle.std.specs.Prelude.{Bool, true, false, cond}
+use Rattle.std.proofs.Common.{◌≡◌, ℕ, zero, suc, List, [], ◌∷◌, ◌++◌, refl, inl, inr, arith}
 use Rattle.ac_grammar.specs.declared.terminal.Terminal.{Terminal}
 use Rattle.ac_grammar.specs.declared.terminal.Terminal.TheVariants as t
-use Rattle.ac_grammar.specs.declared.tree.Word.{Word}
-use Rattle.ac_grammar.specs.declared.tree.Declared.{Declared}
 use Rattle.ac_grammar.specs.declared.tree.Statement.{Statement}
-use Rattle.ac_grammar.specs.Reading.{nesting, syntax, Got, found, stopped, Reader, and_then, ◌>>=◌, ◌>>◌, pure, peek, front, rest, take, is, name, expect}
-use Rattle.ac_grammar.specs.Expressions.{expr, below, subscripts, comma_of}
-use Rattle.ac_grammar.specs.Conditions.{cond as condition}
+use Rattle.ac_grammar.specs.Reading.{nesting, syntax, found, stopped, Reader, and_then, ◌>>=◌, peek, rest, is, name, expect}
+use Rattle.ac_grammar.specs.Expressions.{below, comma_of}
 use Rattle.ac_grammar.specs.Constructs.{opening}
-use Rattle.ac_grammar.specs.StatementsReading.{header, typed, step, becomes, assignment, begins_statement, statements_of, block, repetition, otherwise, otherwise_by, branch, statement_by, statement_in, statement_inside, statement, statements}
+use Rattle.ac_grammar.specs.StatementsReading.{header, typed, becomes, assignment, begins_statement, statements_of, block, repetition, otherwise, otherwise_by, branch, statement_by, statement_in, statement_inside, statement, statements}
 use Rattle.ac_grammar.specs.DeclarationsReading.{joined_by_comma, list, scalar, begins_type, one_more, extent, extents, declared, parameter, parameters_by, parameters, declaration, declarations}
-use Rattle.ac_grammar.specs.PragmasReading.{symbols, names, pragma_by, pragma_inside, pragma, pragmas}
+use Rattle.ac_grammar.specs.PragmasReading.{pragma_by, pragma_inside, pragma, pragmas}
 use Rattle.ac_grammar.specs.FileReading.{body, function, file}
-use Rattle.ac_grammar.proofs.Deeper.{Agree, Deeper, then_agree, then_deeper, same_deeper, choose_deeper, repeat_deeper, many_deeper}
+use Rattle.ac_grammar.proofs.Deeper.{Agree, Deeper, then_agree, then_deeper, same_deeper, repeat_deeper, many_deeper}
 use Rattle.ac_grammar.proofs.DeepExpressions.{expression_deeper, subscripts_deeper, below_deeper}
 use Rattle.ac_grammar.proofs.DeepConditions.{cond_deeper}
 

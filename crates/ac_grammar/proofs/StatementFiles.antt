@@ -1,5 +1,5 @@
 -- Functions and files are exact.
-use Rattle.std.specs.Prelude.{Bool, true, false, cond, not, Option, Some, None, ◌||◌, codes, nat_eq, nat_lt, nat_le, ◌&&◌}
+use Rattle.std.specs.Prelude.{Bool, true, false, cond, not, ◌||◌, nat_eq, nat_lt, nat_le, ◌&&◌}
 use Rattle.std.specs.List.{list_all}
 use Rattle.std.specs.Cmp.Lexicographic.{pointwise}
 use Rattle.std.proofs.Common.{◌≡◌, ℕ, zero, suc, List, [], ◌∷◌, ◌++◌, length, refl, sym, ◌∙◌, ap, subst, append_assoc}
@@ -16,10 +16,10 @@ use Rattle.ac_grammar.specs.declared.tree.Pragma.{Pragma}
 use Rattle.ac_grammar.specs.declared.tree.File.{File}
 use Rattle.ac_grammar.specs.declared.file.Function.{Function}
 use Rattle.ac_grammar.specs.declared.file.Body.{Body}
-use Rattle.ac_grammar.specs.Terminals.{terminal, terminal_by, if_spelling, look_up, marks, words, is_name}
+use Rattle.ac_grammar.specs.Terminals.{terminal, terminal_by, if_spelling, look_up, marks, words}
 use Rattle.ac_grammar.specs.Words.{word_of}
-use Rattle.ac_grammar.specs.Reading.{Why, syntax, nesting, Got, found, stopped, Reader, and_then, ◌>>=◌, ◌>>◌, pure, refuse, peek, front, rest, take, is, expect, name, ending}
-use Rattle.ac_grammar.specs.Found.{Rel, Goes, Read}
+use Rattle.ac_grammar.specs.Reading.{syntax, Got, found, stopped, Reader, and_then, ◌>>=◌, ◌>>◌, pure, peek, take, is, expect, ending}
+use Rattle.ac_grammar.specs.Found.{Goes}
 use Rattle.ac_grammar.specs.Constructs.{opening}
 use Rattle.ac_grammar.specs.StatementsReading.{begins_statement, statement, statements}
 use Rattle.ac_grammar.specs.StatementsGrammar.{IsStatements, no_statement}
@@ -31,10 +31,10 @@ use Rattle.ac_grammar.specs.FileReading as reading
 use Rattle.ac_grammar.specs.FileReading.{file_of}
 use Rattle.ac_grammar.specs.FileGrammar as g
 use Rattle.ac_grammar.specs.FileGrammar.{IsPragma, IsFunction, IsFile}
-use Rattle.ac_grammar.proofs.Exact.{Exact, Some_of, none, nowhere, IsThen, both}
-use Rattle.ac_grammar.proofs.Parts.{is_true, true_is, IsNothing, IsPure, nothing, ending_exact, same_exact, Spelled}
+use Rattle.ac_grammar.proofs.Exact.{Exact, Some_of, none, nowhere, both}
+use Rattle.ac_grammar.proofs.Parts.{true_is, IsPure, nothing, ending_exact, same_exact}
 use Rattle.ac_grammar.proofs.StatementLexemes.{a_void, an_open, a_close, an_open_brace, a_close_brace, named_token}
-use Rattle.ac_grammar.proofs.StatementPieces.{Piece, at_any, behind, next, apart, value, IsImage, image, mapped, IsMarked, marked, expected, IsWorded, a_word, named, renamed, made, barred, opening_none, opening_some}
+use Rattle.ac_grammar.proofs.StatementPieces.{Piece, behind, next, apart, image, mapped, marked, expected, a_word, named, renamed, made, barred, opening_none, opening_some}
 use Rattle.ac_grammar.proofs.StatementProductions.{name_piece}
 use Rattle.ac_grammar.proofs.StatementLevels.{IsBraced, braced, braces, statements_exact, some_braced, braced_begun}
 use Rattle.ac_grammar.proofs.StatementLocals.{closed_parameters, IsClosedParameters, closed_parameters_of, parameters_exact, some_closed, declarations_exact, on_declarations}

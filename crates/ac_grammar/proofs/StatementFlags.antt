@@ -1,17 +1,17 @@
 -- Statements with whether an else that follows would belong to them, and that reading them so is reading them.
-use Rattle.std.specs.Prelude.{Bool, true, false, cond, not, Option, Some, None, ◌||◌, ◌&&◌}
-use Rattle.std.proofs.Common.{◌≡◌, ℕ, zero, suc, List, [], ◌∷◌, ◌++◌, length, refl, sym, ◌∙◌, ap, subst}
+use Rattle.std.specs.Prelude.{Bool, true, false, cond, ◌&&◌}
+use Rattle.std.proofs.Common.{◌≡◌, ℕ, zero, suc, List, [], ◌∷◌, ◌++◌, refl, ◌∙◌, ap}
 use Rattle.ac_lex.specs.Lexemes.{Lexeme}
 use Rattle.ac_grammar.specs.declared.terminal.Terminal.{Terminal}
 use Rattle.ac_grammar.specs.declared.terminal.Terminal.TheVariants as t
 use Rattle.ac_grammar.specs.declared.statements.LoopHeader.{LoopHeader}
 use Rattle.ac_grammar.specs.declared.tree.Part.{Part}
 use Rattle.ac_grammar.specs.declared.tree.Statement.{Statement}
-use Rattle.ac_grammar.specs.Reading.{Why, syntax, nesting, Got, found, stopped, Reader, and_then, ◌>>=◌, ◌>>◌, pure, refuse, peek, front, rest, take, is, expect, by_terminal, many, many_from}
+use Rattle.ac_grammar.specs.Reading.{Got, found, stopped, Reader, and_then, ◌>>=◌, ◌>>◌, pure, refuse, peek, front, rest, take, is, expect, by_terminal, many_from}
 use Rattle.ac_grammar.specs.Found.{Goes}
 use Rattle.ac_grammar.specs.Constructs.{opening}
 use Rattle.ac_grammar.specs.Conditions.{cond as condition}
-use Rattle.ac_grammar.specs.StatementsReading.{header, assignment, loop_of, branch_of, begins_statement, statements_of, block, repetition, otherwise, otherwise_by, branch, statement_by, statement_in, statement_inside, statement, statements}
+use Rattle.ac_grammar.specs.StatementsReading.{header, assignment, loop_of, branch_of, begins_statement, block, repetition, otherwise, otherwise_by, branch, statement_by, statement_in, statement_inside, statement}
 
 -- statements, and whether the last of them ends in a branch that an else may follow
 pub data Ending : Type 0 where

@@ -1,5 +1,5 @@
 -- Expressions and conditions as pieces of statements.
-use Rattle.std.proofs.Common.{ℕ, suc, List, [], length}
+use Rattle.std.proofs.Common.{ℕ, suc, List, []}
 use Rattle.ac_grammar.specs.declared.terminal.Terminal.TheVariants as t
 use Rattle.ac_grammar.specs.declared.tree.Expr.{Expr}
 use Rattle.ac_grammar.specs.declared.tree.Part.{Part}
@@ -7,7 +7,7 @@ use Rattle.ac_grammar.specs.Reading.{is}
 use Rattle.ac_grammar.specs.Expressions.{goes_on, expr, below, subscripts}
 use Rattle.ac_grammar.specs.Conditions.{condition_goes_on, cond}
 use Rattle.ac_grammar.specs.Grammar.{IsExpr, Subscripts, IsCond, no_subscript}
-use Rattle.ac_grammar.proofs.Exact.{Some_of, nowhere}
+use Rattle.ac_grammar.proofs.Exact.{nowhere}
 use Rattle.ac_grammar.proofs.ReadExpressions.{read_expr, some_expr_at, read_subscripts}
 use Rattle.ac_grammar.proofs.ReadConditions.{read_cond, some_cond_at}
 use Rattle.ac_grammar.proofs.StatementPieces.{Piece, made}

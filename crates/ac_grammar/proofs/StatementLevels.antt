@@ -1,5 +1,5 @@
 -- Statements are exact at each room.
-use Rattle.std.specs.Prelude.{Bool, true, false, cond, not, Option, Some, None, ◌||◌, ◌&&◌}
+use Rattle.std.specs.Prelude.{Bool, true, false, cond, not, ◌||◌}
 use Rattle.std.proofs.Common.{◌≡◌, ℕ, zero, suc, List, [], ◌∷◌, ◌++◌, length, refl, sym, ◌∙◌, ap, subst, append_assoc}
 use Rattle.std.proofs.lemmas.List.{append-nil}
 use Rattle.ac_lex.specs.Lexemes.{Lexeme}
@@ -9,24 +9,23 @@ use Rattle.ac_grammar.specs.declared.statements.LoopHeader.{LoopHeader}
 use Rattle.ac_grammar.specs.declared.tree.Part.{Part}
 use Rattle.ac_grammar.specs.declared.tree.Statement.{Statement}
 use Rattle.ac_grammar.specs.Terminals.{terminal, is_name}
-use Rattle.ac_grammar.specs.Reading.{Why, syntax, nesting, Got, found, stopped, Reader, and_then, ◌>>=◌, ◌>>◌, pure, refuse, peek, front, rest, take, is, expect, many, many_from}
-use Rattle.ac_grammar.specs.Found.{Rel, Goes, Read}
+use Rattle.ac_grammar.specs.Reading.{Got, found, stopped, Reader, and_then, ◌>>=◌, ◌>>◌, pure, peek, rest, is, expect, many, many_from}
+use Rattle.ac_grammar.specs.Found.{Rel, Goes}
 use Rattle.ac_grammar.specs.Constructs.{opening}
-use Rattle.ac_grammar.specs.Conditions.{cond as condition}
 use Rattle.ac_grammar.specs.StatementsReading.{header, assignment, loop_of, branch_of, begins_statement, statements_of, block, statement_inside, statement}
 use Rattle.ac_grammar.specs.Grammar.{IsCond}
 use Rattle.ac_grammar.specs.StatementsGrammar as g
 use Rattle.ac_grammar.specs.StatementsGrammar.{IsHeader, IsStatement, IsStatements}
 use Rattle.ac_grammar.proofs.Exact.{Exact, Some_of, none, nowhere, IsThen, both}
-use Rattle.ac_grammar.proofs.Parts.{is_true, true_is, IsNothing, IsPure, nothing, pass, IsToken, token, choose, IsEither, one, other, Spelled, same_exact, pure_exact}
-use Rattle.ac_grammar.proofs.Many.{IsMany, no_more, one_more, many_exact, many_next}
+use Rattle.ac_grammar.proofs.Parts.{is_true, true_is, IsNothing, IsPure, nothing, pass, IsToken, token, IsEither, one, other, same_exact, pure_exact}
+use Rattle.ac_grammar.proofs.Many.{IsMany, no_more, one_more, many_exact}
 use Rattle.ac_grammar.proofs.StatementLexemes.{an_open, a_close, an_open_brace, a_close_brace, a_semicolon, a_for, an_if, an_else}
-use Rattle.ac_grammar.proofs.StatementPieces.{Piece, at_any, behind, next, apart, value, value_before, passed, either, either_or, IsImage, image, mapped, IsMarked, marked, expected, before, named, renamed, made, at_test, barred, barred_reader, opening_none, opening_some, anywhere, second_exact}
+use Rattle.ac_grammar.proofs.StatementPieces.{Piece, behind, value, value_before, passed, either, either_or, IsImage, image, mapped, IsMarked, marked, expected, before, named, renamed, made, at_test, barred, opening_none, opening_some, anywhere, second_exact}
 use Rattle.ac_grammar.specs.Conditions.{condition_goes_on}
 use Rattle.ac_grammar.proofs.ReadConditions.{some_cond_at}
 use Rattle.ac_grammar.proofs.StatementGiven.{cond_piece}
 use Rattle.ac_grammar.proofs.StatementProductions.{header_piece, some_header, IsAssigned, assigned, assignment_exact, some_assignment, assignment_begun}
-use Rattle.ac_grammar.proofs.StatementFlags.{Ending, ending, left_of, closed_by, on_ending, looped, branched, join_ending, loop_inside, otherwise_flagged, otherwise_flagged_by, branch_inside, flagged_by, flagged_in, flagged_inside, flagged, out, flag_out, flagged_out, many_out}
+use Rattle.ac_grammar.proofs.StatementFlags.{Ending, ending, left_of, closed_by, on_ending, looped, branched, join_ending, loop_inside, otherwise_flagged, otherwise_flagged_by, branch_inside, flagged_by, flagged_in, flagged_inside, flagged, out, flagged_out, many_out}
 
 pub data IsEnding (room : ℕ) : List Lexeme → Ending → Type 0 where
   is_ending : {dangling : Bool} {ts : List Lexeme} {all : List Statement} → IsStatement room dangling ts all → IsEnding room ts (ending dangling all)

@@ -1,5 +1,5 @@
 -- A token for each terminal that statements, declarations and pragma lines want.
-use Rattle.std.specs.Prelude.{true, false, codes}
+use Rattle.std.specs.Prelude.{true, codes}
 use Rattle.std.proofs.Common.{◌≡◌, ℕ, List, [], refl}
 use Rattle.ac_lex.specs.Lexemes.{Lexeme}
 use Rattle.ac_lex.specs.declared.tokens.TokenKind.{TokenKind}

@@ -1,27 +1,25 @@
 -- Parameters and locals are exact.
-use Rattle.std.specs.Prelude.{Bool, true, false, cond, not, Option, Some, None, ◌||◌}
-use Rattle.std.proofs.Common.{◌≡◌, ℕ, zero, suc, List, [], ◌∷◌, ◌++◌, refl, sym, ◌∙◌, ap, subst, append_assoc}
+use Rattle.std.specs.Prelude.{Bool, true, false, cond, not, ◌||◌}
+use Rattle.std.proofs.Common.{◌≡◌, ℕ, suc, List, [], ◌∷◌, ◌++◌, refl, sym, ◌∙◌, ap, subst, append_assoc}
 use Rattle.std.proofs.lemmas.List.{append-nil}
 use Rattle.ac_lex.specs.Lexemes.{Lexeme}
 use Rattle.ac_grammar.specs.declared.terminal.Terminal.{Terminal}
 use Rattle.ac_grammar.specs.declared.terminal.Terminal.TheVariants as t
 use Rattle.ac_grammar.specs.declared.tree.Extent.{Extent}
 use Rattle.ac_grammar.specs.declared.tree.Declared.{Declared}
-use Rattle.ac_grammar.specs.Terminals.{terminal, is_name}
+use Rattle.ac_grammar.specs.Terminals.{terminal}
 use Rattle.ac_grammar.specs.Words.{word_of}
-use Rattle.ac_grammar.specs.Reading.{Why, syntax, nesting, Got, found, stopped, Reader, and_then, ◌>>=◌, ◌>>◌, pure, refuse, peek, front, rest, take, is, expect, many}
+use Rattle.ac_grammar.specs.Reading.{syntax, found, stopped, Reader, and_then, ◌>>=◌, ◌>>◌, pure, peek, front, rest, is, expect, many}
 use Rattle.ac_grammar.specs.Found.{Rel, Goes}
-use Rattle.ac_grammar.specs.Expressions.{comma_of}
 use Rattle.ac_grammar.specs.DeclarationsReading as reading
 use Rattle.ac_grammar.specs.DeclarationsReading.{list, begins_type, extents, parameters_by}
 use Rattle.ac_grammar.specs.DeclarationsGrammar as g
 use Rattle.ac_grammar.specs.DeclarationsGrammar.{IsRun, no_item, IsList, items, IsType, IsExtent, IsDeclared, declared, IsParameter, parameter, IsParameters, IsDeclaration, declaration, IsDeclarations}
-use Rattle.ac_grammar.proofs.Exact.{Exact, Some_of, none, nowhere, IsThen, both}
-use Rattle.ac_grammar.proofs.Parts.{is_true, true_is, IsNothing, IsPure, nothing, pass, IsToken, token, choose, IsEither, one, other, Spelled}
+use Rattle.ac_grammar.proofs.Exact.{Exact, Some_of, none, nowhere, both}
+use Rattle.ac_grammar.proofs.Parts.{is_true, true_is, nothing, token, one, other}
 use Rattle.ac_grammar.proofs.Many.{IsMany, no_more, one_more}
-use Rattle.ac_grammar.proofs.Repeats.{has}
 use Rattle.ac_grammar.proofs.StatementLexemes.{a_close, a_semicolon, a_void, named_token}
-use Rattle.ac_grammar.proofs.StatementPieces.{Piece, at_any, behind, next, apart, value, passed, either, IsImage, image, mapped, IsMarked, marked, expected, before, IsWorded, a_word, named, renamed, made, repeated}
+use Rattle.ac_grammar.proofs.StatementPieces.{Piece, at_any, next, value, passed, either, image, mapped, marked, expected, before, a_word, named, renamed, made, repeated}
 use Rattle.ac_grammar.proofs.StatementProductions.{name_piece}
 use Rattle.ac_grammar.proofs.StatementDeclarations.{run_to, run_of, on_bracket, on_list, list_exact, type_piece, one_extent_piece, bracket_real}
 

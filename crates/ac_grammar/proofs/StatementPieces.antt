@@ -1,14 +1,14 @@
 -- A reader with the relations for which it is exact, and how such pieces are put together.
-use Rattle.std.specs.Prelude.{Bool, true, false, cond, not, Option, Some, None, ◌||◌, ◌⊎◌}
+use Rattle.std.specs.Prelude.{Bool, true, false, cond, not, Option, Some, None, ◌||◌}
 use Rattle.std.proofs.Common.{◌≡◌, ℕ, zero, suc, List, [], ◌∷◌, ◌++◌, refl, sym, ◌∙◌, ap, subst, inl, inr, append_assoc}
 use Rattle.std.proofs.lemmas.List.{append-nil}
 use Rattle.ac_lex.specs.Lexemes.{Lexeme}
 use Rattle.ac_grammar.specs.declared.terminal.Terminal.{Terminal}
 use Rattle.ac_grammar.specs.declared.terminal.Terminal.TheVariants.{End}
 use Rattle.ac_grammar.specs.declared.tree.Word.{Word}
-use Rattle.ac_grammar.specs.Terminals.{terminal, is_name}
+use Rattle.ac_grammar.specs.Terminals.{terminal}
 use Rattle.ac_grammar.specs.Words.{word_of}
-use Rattle.ac_grammar.specs.Reading.{Why, syntax, nesting, Got, found, stopped, Reader, and_then, ◌>>=◌, ◌>>◌, pure, peek, front, rest, take, is, expect, refuse, name, many}
+use Rattle.ac_grammar.specs.Reading.{Why, syntax, nesting, found, stopped, Reader, and_then, ◌>>=◌, pure, peek, front, rest, take, is, expect, refuse, many}
 use Rattle.ac_grammar.specs.Constructs.{opening}
 use Rattle.ac_grammar.specs.Found.{Rel, Goes, Read, CanGoOn, Stops}
 use Rattle.ac_grammar.proofs.Exact.{Exact, Some_of, some_goes_on, peek_same, then_exact, none, nowhere, IsThen, both}

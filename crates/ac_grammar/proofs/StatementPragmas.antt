@@ -1,30 +1,28 @@
 -- Pragma lines are exact.
-use Rattle.std.specs.Prelude.{Bool, true, false, cond, not, Option, Some, None, ◌||◌}
-use Rattle.std.proofs.Common.{◌≡◌, ℕ, zero, suc, List, [], ◌∷◌, ◌++◌, refl, sym, ◌∙◌, ap, subst, append_assoc}
+use Rattle.std.specs.Prelude.{true, false, cond, not, ◌||◌}
+use Rattle.std.proofs.Common.{◌≡◌, ℕ, suc, List, [], refl}
 use Rattle.ac_lex.specs.Lexemes.{Lexeme}
 use Rattle.ac_grammar.specs.declared.terminal.Terminal.{Terminal}
 use Rattle.ac_grammar.specs.declared.terminal.Terminal.TheVariants as t
 use Rattle.ac_grammar.specs.declared.tree.Word.{Word}
-use Rattle.ac_grammar.specs.declared.tree.Part.{Part}
 use Rattle.ac_grammar.specs.declared.tree.Pragma.{Pragma}
 use Rattle.ac_grammar.specs.declared.tree.Pragma.TheVariants.{Context, Commutative, Output}
 use Rattle.ac_grammar.specs.Terminals.{terminal, is_name}
-use Rattle.ac_grammar.specs.Words.{word_of}
-use Rattle.ac_grammar.specs.Reading.{Why, syntax, nesting, Got, found, stopped, Reader, and_then, ◌>>=◌, ◌>>◌, pure, refuse, peek, front, rest, take, is, expect, name, many}
-use Rattle.ac_grammar.specs.Found.{Rel, Goes}
+use Rattle.ac_grammar.specs.Reading.{syntax, Got, found, stopped, Reader, and_then, ◌>>◌, pure, peek, front, rest, is, expect, name, many}
+use Rattle.ac_grammar.specs.Found.{Goes}
 use Rattle.ac_grammar.specs.Conditions.{condition_goes_on}
 use Rattle.ac_grammar.specs.Conditions as conditions
 use Rattle.ac_grammar.specs.DeclarationsReading.{one_more}
-use Rattle.ac_grammar.specs.DeclarationsGrammar.{IsRun, no_item}
+use Rattle.ac_grammar.specs.DeclarationsGrammar.{IsRun}
 use Rattle.ac_grammar.specs.PragmasReading as reading
 use Rattle.ac_grammar.specs.PragmasReading.{is_symbol, symbol, symbols, names, pragma_by, pragma_inside}
 use Rattle.ac_grammar.specs.FileGrammar as g
 use Rattle.ac_grammar.specs.FileGrammar.{IsWord, a_name, IsSymbol, a_symbol, IsPragma}
-use Rattle.ac_grammar.proofs.Exact.{Exact, Some_of, none, nowhere, IsThen, both}
-use Rattle.ac_grammar.proofs.Parts.{is_true, true_is, IsNothing, IsPure, nothing, pass, IsToken, token, choose, IsEither, one, other, Spelled}
+use Rattle.ac_grammar.proofs.Exact.{Exact, none, nowhere, both}
+use Rattle.ac_grammar.proofs.Parts.{is_true, true_is, nothing, token, one, other}
 use Rattle.ac_grammar.proofs.StatementGiven.{cond_piece}
 use Rattle.ac_grammar.proofs.StatementLexemes.{named_token, a_context, a_commutative, an_output, a_pragma_start, a_pragma_end}
-use Rattle.ac_grammar.proofs.StatementPieces.{Piece, at_any, behind, next, apart, value, refusal, passed, either, IsImage, image, mapped, IsMarked, marked, expected, before, IsWorded, a_word, a_worded, named, renamed, made, repeated}
+use Rattle.ac_grammar.proofs.StatementPieces.{Piece, at_any, value, passed, either, marked, expected, before, IsWorded, a_word, a_worded, named, renamed, repeated}
 use Rattle.ac_grammar.proofs.StatementProductions.{name_piece}
 use Rattle.ac_grammar.proofs.StatementDeclarations.{run_to, run_of}
 

@@ -1,28 +1,24 @@
 -- The productions of steps, assignments and loop headers are exact.
 use Rattle.std.specs.Prelude.{Bool, true, false, cond, not, Option, Some, None, ◌||◌, ◌&&◌}
-use Rattle.std.proofs.Common.{◌≡◌, ℕ, zero, suc, List, [], ◌∷◌, ◌++◌, refl, sym, ◌∙◌, ap, subst, append_assoc}
-use Rattle.std.proofs.lemmas.List.{append-nil}
+use Rattle.std.proofs.Common.{◌≡◌, ℕ, suc, List, [], ◌∷◌, ◌++◌, refl, sym, ap}
 use Rattle.ac_lex.specs.Lexemes.{Lexeme}
 use Rattle.ac_grammar.specs.declared.terminal.Terminal.{Terminal}
 use Rattle.ac_grammar.specs.declared.terminal.Terminal.TheVariants as t
 use Rattle.ac_grammar.specs.declared.statements.LoopHeader.{LoopHeader}
 use Rattle.ac_grammar.specs.declared.tree.Word.{Word}
 use Rattle.ac_grammar.specs.declared.tree.Operator.{Operator}
-use Rattle.ac_grammar.specs.declared.tree.Operator.TheVariants as operator
-use Rattle.ac_grammar.specs.declared.tree.Expr.{Expr}
-use Rattle.ac_grammar.specs.declared.tree.Part.{Part}
 use Rattle.ac_grammar.specs.declared.tree.Step.{Step}
 use Rattle.ac_grammar.specs.declared.tree.Statement.{Statement}
 use Rattle.ac_grammar.specs.declared.tree.Statement.TheVariants.{Assign}
 use Rattle.ac_grammar.specs.Terminals.{terminal, is_name}
 use Rattle.ac_grammar.specs.Words.{word_of, numeral_of}
-use Rattle.ac_grammar.specs.Reading.{Why, syntax, Got, found, stopped, Reader, and_then, ◌>>=◌, ◌>>◌, pure, refuse, peek, front, rest, take, is, expect, name}
-use Rattle.ac_grammar.specs.Found.{Rel, Goes}
+use Rattle.ac_grammar.specs.Reading.{syntax, Got, found, stopped, and_then, pure, peek, front, rest, is, expect, name}
+use Rattle.ac_grammar.specs.Found.{Goes}
 use Rattle.ac_grammar.specs.StatementsReading.{unit_step, signed_step, moved, moved_by, step_behind, step_behind_by, step, step_by, becomes, becomes_by}
 use Rattle.ac_grammar.specs.StatementsReading as reading
 use Rattle.ac_grammar.specs.StatementsGrammar.{unit_of, change_of, down_of, assigns_of, is_whole, IsStep, sign_behind, sign_before, changed, set, IsAssignment, assignment, IsTyped, typed, untyped, IsHeader, header}
-use Rattle.ac_grammar.proofs.Exact.{Exact, Some_of, none, nowhere, IsThen, both}
-use Rattle.ac_grammar.proofs.Parts.{is_true, true_is, IsNothing, IsPure, nothing, pass, IsToken, token, choose, IsEither, one, other, Spelled}
+use Rattle.ac_grammar.proofs.Exact.{Exact, Some_of, none, nowhere, both}
+use Rattle.ac_grammar.proofs.Parts.{is_true, IsPure, nothing, token, one, other}
 use Rattle.ac_grammar.proofs.Repeats.{has}
 use Rattle.ac_grammar.specs.Expressions.{goes_on}
 use Rattle.ac_grammar.specs.Conditions.{condition_goes_on}
@@ -30,7 +26,7 @@ use Rattle.ac_grammar.proofs.ReadExpressions.{some_expr_at}
 use Rattle.ac_grammar.proofs.ReadConditions.{some_cond_at}
 use Rattle.ac_grammar.proofs.StatementGiven.{expr_piece, subscripts_piece, cond_piece}
 use Rattle.ac_grammar.proofs.StatementLexemes.{a_number, a_semicolon, an_int, becomes_mark, plus_becomes, a_plus, plus_plus, named_token}
-use Rattle.ac_grammar.proofs.StatementPieces.{Piece, at_any, behind, next, apart, value, passed, value_before, either, either_or, IsImage, image, mapped, IsMarked, marked, expected, before, IsWorded, a_word, a_worded, valued_at, valued, IsValued, a_value, by_value, named, renamed, made}
+use Rattle.ac_grammar.proofs.StatementPieces.{Piece, at_any, next, apart, value, passed, value_before, either, either_or, image, mapped, marked, expected, before, a_word, a_worded, valued_at, a_value, by_value, named, renamed, made}
 
 -- a mark is not the end
 pub not_end : (k : Terminal) → is k t.End ≡ true → k ≡ t.End

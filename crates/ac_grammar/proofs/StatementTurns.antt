@@ -3,8 +3,7 @@ use Rattle.std.proofs.Common.{◌≡◌, ℕ, suc, ◌+◌, ◌-◌, ◌<◌, �
 use Rattle.std.specs.Prelude.{true}
 use Rattle.ac_lex.specs.Lexemes.{Lexeme, lexeme_of}
 use Rattle.ac_lex.specs.declared.tokens.Token.{Token}
-use Rattle.ac_grammar.specs.declared.tree.Statement.{Statement}
-use Rattle.ac_grammar.specs.Reading.{Reader, peek, front}
+use Rattle.ac_grammar.specs.Reading.{peek, front}
 use Rattle.ac_grammar.specs.StatementsReading.{statement, statement_inside}
 use Rattle.ac_grammar.specs.PragmasReading.{is_symbol}
 use Rattle.ac_grammar.proofs.Spellings.{Fitting, front_fits}

@@ -1,5 +1,5 @@
 -- What is answered of tokens that begin with something of the grammar, and of those that do not.
-use Rattle.std.specs.Prelude.{◌≡◌, ℕ, false, List, [], ◌∷◌, ◌++◌, Result, Ok, Err, IsErr, MatchResult}
+use Rattle.std.specs.Prelude.{◌≡◌, ℕ, false, List, [], ◌∷◌, ◌++◌, Result, Ok, Err}
 use Rattle.ac_lex.specs.Lexemes.{Lexeme}
 use Rattle.ac_grammar.specs.declared.cursor.Stop.{Stop}
 use Rattle.ac_grammar.specs.declared.cursor.Stop.TheVariants.{Syntax, Nesting, Memory}

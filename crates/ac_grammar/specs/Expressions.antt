@@ -1,10 +1,8 @@
 -- How expressions are read.
 use Rattle.std.specs.Prelude.{ℕ, zero, suc, Bool, true, false, List, [], ◌∷◌, ◌++◌, Option, Some, None, if◌then◌else◌}
-use Rattle.ac_lex.specs.Lexemes.{Lexeme}
 use Rattle.ac_grammar.specs.declared.terminal.Terminal.{Terminal}
 use Rattle.ac_grammar.specs.declared.terminal.Terminal.TheVariants as t
 use Rattle.ac_grammar.specs.declared.tree.Word.{Word}
-use Rattle.ac_grammar.specs.declared.tree.Operator.{Operator}
 use Rattle.ac_grammar.specs.declared.tree.Expr.{Expr}
 use Rattle.ac_grammar.specs.declared.tree.Expr.TheVariants as tree
 use Rattle.ac_grammar.specs.declared.links.Links.{Links}

@@ -1,6 +1,6 @@
 -- The grammar of pragma lines, functions and files, by cases on lists of tokens, with the tree that the tokens give. `room` is
 -- how many constructs may nest.
-use Rattle.std.specs.Prelude.{◌≡◌, ℕ, suc, Bool, true, List, [], ◌∷◌, ◌++◌}
+use Rattle.std.specs.Prelude.{◌≡◌, ℕ, suc, true, List, [], ◌∷◌, ◌++◌}
 use Rattle.ac_lex.specs.Lexemes.{Lexeme}
 use Rattle.ac_grammar.specs.declared.terminal.Terminal.TheVariants as t
 use Rattle.ac_grammar.specs.declared.tree.Word.{Word}
@@ -14,7 +14,7 @@ use Rattle.ac_grammar.specs.declared.file.Function.{Function}
 use Rattle.ac_grammar.specs.Terminals.{terminal}
 use Rattle.ac_grammar.specs.Words.{word_of}
 use Rattle.ac_grammar.specs.PragmasReading.{is_symbol}
-use Rattle.ac_grammar.specs.FileReading.{file_of}
+use Rattle.ac_grammar.specs.StatementsTrees.{file_of}
 use Rattle.ac_grammar.specs.Grammar.{IsCond}
 use Rattle.ac_grammar.specs.StatementsGrammar.{Is, IsName, IsStatements}
 use Rattle.ac_grammar.specs.DeclarationsGrammar.{IsRun, IsParameters, IsDeclarations}

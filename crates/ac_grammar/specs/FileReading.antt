@@ -1,14 +1,11 @@
 -- Reading a file, all a function on lists.
-use Rattle.std.specs.Prelude.{ℕ, List, ◌++◌, if◌then◌else◌}
+use Rattle.std.specs.Prelude.{ℕ}
 use Rattle.ac_grammar.specs.declared.terminal.Terminal.TheVariants as t
-use Rattle.ac_grammar.specs.declared.tree.Word.{Word}
-use Rattle.ac_grammar.specs.declared.tree.Declared.{Declared}
-use Rattle.ac_grammar.specs.declared.tree.Statement.{Statement}
-use Rattle.ac_grammar.specs.declared.tree.Pragma.{Pragma}
 use Rattle.ac_grammar.specs.declared.tree.File.{File}
 use Rattle.ac_grammar.specs.declared.file.Function.{Function}
 use Rattle.ac_grammar.specs.declared.file.Body.{Body}
-use Rattle.ac_grammar.specs.Reading.{Reader, found, stopped, syntax, ◌>>=◌, ◌>>◌, pure, peek, is, expect, name}
+pub use Rattle.ac_grammar.specs.StatementsTrees.{file_of}
+use Rattle.ac_grammar.specs.Reading.{Reader, ◌>>=◌, ◌>>◌, pure, expect, name}
 use Rattle.ac_grammar.specs.Constructs.{opening}
 use Rattle.ac_grammar.specs.DeclarationsReading.{parameters, declarations}
 use Rattle.ac_grammar.specs.StatementsReading.{statements}
@@ -32,15 +29,6 @@ function room =
     expect t.Close >>
     (body room >>= (λ body.
     pure (record { name = name; params = params; body = body })))))))
-
-abbrev pub file_of : List Pragma → Function → List Pragma → File
-file_of before function behind = record {
-  name = function.name;
-  params = function.params;
-  locals = function.body.locals;
-  body = function.body.statements;
-  pragmas = before ++ behind;
-}
 
 -- { pragma } function { pragma }, and no token behind them
 unfoldable pub file : ℕ → Reader File

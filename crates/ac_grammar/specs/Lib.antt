@@ -19,3 +19,4 @@ pub mod FileGrammar
 pub mod Answers
 pub mod FileAnswers
 pub mod FileLaws
+pub mod StatementsTrees

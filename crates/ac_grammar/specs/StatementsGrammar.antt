@@ -14,7 +14,7 @@ use Rattle.ac_grammar.specs.declared.tree.Statement.{Statement}
 use Rattle.ac_grammar.specs.declared.tree.Statement.TheVariants.{Assign}
 use Rattle.ac_grammar.specs.Terminals.{terminal, is_name}
 use Rattle.ac_grammar.specs.Words.{word_of, numeral_of}
-use Rattle.ac_grammar.specs.StatementsReading.{unit_step, loop_of, branch_of}
+use Rattle.ac_grammar.specs.StatementsTrees.{unit_step, loop_of, branch_of}
 use Rattle.ac_grammar.specs.Grammar.{IsExpr, Subscripts, IsCond}
 
 -- a token of this terminal, and a name

@@ -1,22 +1,18 @@
 -- Reading statements, all a function on lists. A statement is read as the list of what it leaves: an empty one and a block
 -- leave no node of their own.
-use Rattle.std.specs.Prelude.{◌≡◌, Result, Ok, Err, if◌then◌else◌, ℕ, zero, suc, Bool, true, false, List, [], ◌∷◌, ◌++◌, length, Option, Some, None}
-use Rattle.ac_lex.specs.Lexemes.{Lexeme}
-use Rattle.ac_syntax.specs.declared.tree.Place.{Place}
+use Rattle.std.specs.Prelude.{ℕ, zero, suc, Bool, true, false, List, [], ◌∷◌, ◌++◌, Option, Some, None}
 use Rattle.ac_grammar.specs.declared.terminal.Terminal.{Terminal}
 use Rattle.ac_grammar.specs.declared.terminal.Terminal.TheVariants as t
 use Rattle.ac_grammar.specs.declared.tree.Word.{Word}
-use Rattle.ac_grammar.specs.declared.tree.Numeral.{Numeral}
 use Rattle.ac_grammar.specs.declared.tree.Operator.{Operator}
 use Rattle.ac_grammar.specs.declared.tree.Operator.TheVariants as operator
-use Rattle.ac_grammar.specs.declared.tree.Expr.{Expr}
-use Rattle.ac_grammar.specs.declared.tree.Part.{Part}
 use Rattle.ac_grammar.specs.declared.tree.Step.{Step}
 use Rattle.ac_grammar.specs.declared.statements.LoopHeader.{LoopHeader}
 use Rattle.ac_grammar.specs.declared.tree.Statement.{Statement}
-use Rattle.ac_grammar.specs.declared.tree.Statement.TheVariants.{Loop, Branch, Assign}
-use Rattle.ac_grammar.specs.Reading.{Reader, Got, found, stopped, syntax, nesting, and_then, ◌>>=◌, ◌>>◌, pure, refuse, peek, front, rest, take, by_terminal, expect, is, name, many}
-use Rattle.ac_grammar.specs.Words.{place_of, numeral_of}
+use Rattle.ac_grammar.specs.declared.tree.Statement.TheVariants.{Assign}
+pub use Rattle.ac_grammar.specs.StatementsTrees.{unit_step, loop_of, branch_of}
+use Rattle.ac_grammar.specs.Reading.{Reader, ◌>>=◌, ◌>>◌, pure, refuse, take, by_terminal, expect, name, many}
+use Rattle.ac_grammar.specs.Words.{numeral_of}
 use Rattle.ac_grammar.specs.Terminals.{is_name}
 use Rattle.ac_grammar.specs.Constructs.{opening}
 use Rattle.ac_grammar.specs.Expressions.{expr, below, subscripts}
@@ -27,10 +23,6 @@ use Rattle.ac_grammar.specs.Conditions.{cond}
 -- `down` where the sign takes away
 abbrev pub signed_step : Word → Option Word → Bool → Reader Step
 signed_step target source down = expect t.Number >>= (λ by. pure (record { target = target; source = source; down = down; by = numeral_of by }))
-
--- one, at the place of the sign
-abbrev pub unit_step : Word → Bool → Lexeme → Step
-unit_step target down sign = record { target = target; source = None; down = down; by = record { number = 1; place = place_of sign } }
 
 abbrev pub moved_by : Word → Word → Terminal → Reader Step
 moved_by target source t.Plus = take >> signed_step target (Some source) false
@@ -117,13 +109,6 @@ begins_statement next = is_name next
 -- { stmt }
 unfoldable pub statements_of : Reader (List Statement) → Reader (List Statement)
 statements_of statement = many begins_statement ◌++◌ statement []
-
--- a loop and a branch are placed by their keywords
-abbrev pub loop_of : Lexeme → LoopHeader → List Statement → Statement
-loop_of keyword header body = Loop header.typed header.name header.start header.cond header.step body (place_of keyword)
-
-abbrev pub branch_of : Lexeme → List Part → List Statement → List Statement → Statement
-branch_of keyword cond taken other = Branch cond taken other (place_of keyword)
 
 -- In what follows `inner` reads a statement in which one construct less may open: the body of a loop or of a branch is a
 -- construct, beside the braces that it may have.

@@ -83,7 +83,6 @@ parameters_small (g.next_parameter {arrays = arrays} {a = a} before c p free) = 
 pub function_small : {ts : List Lexeme} {program : Program} → Function ts program → IsSmallProgram program
 function_small (g.function v n l ps r b ss e) = record { body = statements_small ss; context = tt; extents = parameters_small ps }
 
-
 no_params : (ks : List ℕ) → param_numbers (map slot.Array ks) ≡ []
 no_params [] = refl
 no_params (k ∷ ks) = no_params ks

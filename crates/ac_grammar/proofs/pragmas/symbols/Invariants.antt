@@ -1,6 +1,5 @@
 use Rattle.std.proofs.Common.{◌≡◌, ◌-◌}
 use Rattle.ac_grammar.specs.Reading.{many_from}
-use Rattle.ac_grammar.specs.Terminals.{is_name}
 use Rattle.ac_grammar.specs.DeclarationsReading.{one_more}
 use Rattle.ac_grammar.specs.PragmasReading.{symbols, symbol, is_symbol}
 use Rattle.ac_grammar.proofs.pragmas.symbols.Given as goal
