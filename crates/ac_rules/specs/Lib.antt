@@ -1,0 +1,10 @@
+pub mod Faults
+pub mod Meanings
+pub mod Forms
+pub mod IndexExpressions
+pub mod Comparisons
+pub mod Values
+pub mod Measures
+pub mod Declarations
+pub mod Statements
+pub mod Files
