@@ -1,19 +1,60 @@
--- What `parse` answers of a text that is no program.
-use Rattle.std.specs.Prelude.{◌≡◌, ◌<◌, ◌≤◌, ℕ, List, length}
+-- What `parse` answers of a text that has no program.
+use Rattle.std.specs.Prelude.{◌≡◌, ◌<◌, ℕ, List, length, Some, Result, Ok, Err}
+use Rattle.std.specs.declared.alloc.AllocError.{AllocError}
+use Rattle.ac_syntax.specs.declared.tree.Place.{Place}
+use Rattle.ac_syntax.specs.declared.tree.Program.{Program}
+use Rattle.ac_lex.specs.Lexemes.{Lexeme}
+use Rattle.ac_lex.specs.Pieces.{Why, bad_byte, bad_number, long_name, open_comment_begins}
+use Rattle.ac_lex.specs.Tokens.{AreTokens, IsFault}
+use Rattle.ac_lex.specs.declared.tokens.LexFault.{LexFault}
+use Rattle.ac_lex.specs.declared.tokens.LexFault.TheVariants as lex
+use Rattle.ac_grammar.specs.declared.tree.File.{File}
+use Rattle.ac_grammar.specs.FileAnswers.{HasSyntaxFault, HasNestingFault}
+use Rattle.ac_rules.specs.declared.fault.Which.TheVariants as which
+use Rattle.ac_rules.specs.declared.fault.Rule.TheVariants as rule
+use Rattle.ac_rules.specs.declared.fault.Broken.{Broken}
+use Rattle.ac_rules.specs.Files.{file_broken}
 use Rattle.ac_parse.specs.declared.faults.SourceFault.{SourceFault}
-use Rattle.ac_parse.specs.declared.faults.SourceFault.TheVariants.{Limit, Later, Memory, Lex, Syntax, NotAffine, Undeclared, Misused, Duplicate, Endless}
-use Rattle.ac_parse.specs.declared.faults.Which.TheVariants.{File}
+use Rattle.ac_parse.specs.declared.faults.SourceFault.TheVariants.{Lex, Syntax, NotAffine, Undeclared, Misused, Duplicate, Endless, Limit, Memory}
+use Rattle.ac_parse.specs.Program.{IsShort, IsText, IsProgramOf}
 
--- At the first byte: a text of more than 65,536 bytes is too long, and any other that is no program is not read yet. Want of
--- memory says nothing of the text, and no other fault is answered.
-abbrev pub HasSourceFault : List ℕ → SourceFault → Type 0
-HasSourceFault bytes (Limit which place) = (which ≡ File) × (place.at ≡ 0) × (65536 < length bytes)
-HasSourceFault bytes (Later place) = (place.at ≡ 0) × (length bytes ≤ 65536)
-HasSourceFault bytes (Memory fault) = Unit {0}
-HasSourceFault bytes (Lex fault) = ⊥
-HasSourceFault bytes (Syntax place) = ⊥
-HasSourceFault bytes (NotAffine place) = ⊥
-HasSourceFault bytes (Undeclared place) = ⊥
-HasSourceFault bytes (Misused place) = ⊥
-HasSourceFault bytes (Duplicate place) = ⊥
-HasSourceFault bytes (Endless place) = ⊥
+-- a fault of the lexer, by its kind and place
+abbrev pub lex_fault : Why → Place → LexFault
+lex_fault bad_byte place = lex.BadByte place
+lex_fault bad_number place = lex.BadNumber place
+lex_fault long_name place = lex.LongName place
+lex_fault open_comment_begins place = lex.OpenComment place
+
+-- a broken rule, by its kind and place
+abbrev pub rule_fault : Broken → SourceFault
+rule_fault (record { rule = rule.NotAffine; place = place }) = NotAffine place
+rule_fault (record { rule = rule.Undeclared; place = place }) = Undeclared place
+rule_fault (record { rule = rule.Misused; place = place }) = Misused place
+rule_fault (record { rule = rule.Duplicate; place = place }) = Duplicate place
+rule_fault (record { rule = rule.Endless; place = place }) = Endless place
+rule_fault (record { rule = rule.Limit which; place = place }) = Limit which place
+
+-- The length is looked at first, then the bytes, then the grammar, then the rules: a fault is told only of a text that has none of
+-- an earlier kind. Want of memory says nothing of the text.
+pub data HasSourceFault (bytes : List ℕ) : SourceFault → Type 0 where
+  too_long : 65536 < length bytes → HasSourceFault bytes (Limit which.File (record { at = 0 }))
+  no_tokens : (why : Why) (place : Place) → IsShort bytes → IsFault bytes why place.at → HasSourceFault bytes (Lex (lex_fault why place))
+  no_file : (tokens : List Lexeme) (place : Place) → IsShort bytes → AreTokens bytes tokens → HasSyntaxFault (length bytes) tokens place
+      → HasSourceFault bytes (Syntax place)
+  too_deep : (tokens : List Lexeme) (place : Place) → IsShort bytes → AreTokens bytes tokens → HasNestingFault 128 (length bytes) tokens place
+      → HasSourceFault bytes (Limit which.Nesting place)
+  breaks_a_rule : (file : File) (first : Broken) → IsText bytes file → file_broken file ≡ Some first → HasSourceFault bytes (rule_fault first)
+  no_memory : (error : AllocError) → HasSourceFault bytes (Memory error)
+
+-- this program, unless memory fails
+abbrev pub IsOnlyProgram : Program → Result Program SourceFault → Type 0
+IsOnlyProgram program (Ok found) = found ≡ program
+IsOnlyProgram program (Err (Lex fault)) = ⊥
+IsOnlyProgram program (Err (Syntax place)) = ⊥
+IsOnlyProgram program (Err (NotAffine place)) = ⊥
+IsOnlyProgram program (Err (Undeclared place)) = ⊥
+IsOnlyProgram program (Err (Misused place)) = ⊥
+IsOnlyProgram program (Err (Duplicate place)) = ⊥
+IsOnlyProgram program (Err (Endless place)) = ⊥
+IsOnlyProgram program (Err (Limit which place)) = ⊥
+IsOnlyProgram program (Err (Memory error)) = Unit {0}

@@ -1,9 +1,6 @@
-pub mod Tokens
-pub mod Names
-pub mod Grammar
-pub mod Reading
 pub mod Program
+pub mod Answers
+pub mod Laws
+pub mod Stages
 pub mod Assigned
 pub mod Pairing
-pub mod Answers
-pub mod Numbers

@@ -7,6 +7,7 @@ use Rattle.ac_syntax.specs.declared.tree.Slot.{Slot}
 use Rattle.ac_syntax.specs.declared.tree.Slot.TheVariants as slot
 use Rattle.ac_syntax.specs.declared.tree.Program.{Program}
 use Rattle.ac_syntax.specs.declared.tree.Pair.{Pair}
+use Rattle.ac_rules.specs.Numbers.{array_numbers}
 use Rattle.ac_parse.specs.declared.faults.PairFault.{PairFault}
 use Rattle.ac_parse.specs.declared.faults.PairFault.TheVariants.{Signature, NoOutput, Memory}
 use Rattle.ac_parse.specs.Assigned.{assigns}
@@ -44,12 +45,6 @@ pub record IsFirstDifference {X : Type 0} (xs ys : List X) (place : ℕ) : Type 
   pub before : take place xs ≡ take place ys
   pub differs : slice_get xs place ≢ slice_get ys place
   pub within : (place ≤ length xs) × (place ≤ length ys)
-
--- the numbers of the arrays of a parameter list
-abbrev pub array_numbers : List Slot → List ℕ
-array_numbers [] = []
-array_numbers (slot.Param k ∷ slots) = array_numbers slots
-array_numbers (slot.Array k ∷ slots) = k ∷ array_numbers slots
 
 -- an output line names the array with this number
 abbrev pub names_output : Option (List ℕ) → ℕ → Bool

@@ -1,43 +1,9 @@
-use ac_lex::tokens::LexFault;
+use ac_grammar::GrammarFault;
+use ac_lex::LexFault;
+use ac_rules::fault::{RuleFault, Which};
 use ac_syntax::tree::Place;
 use std::alloc::AllocError;
-use std::fmt;
 use thiserror::Error;
-
-/// The limit that a source text exceeds.
-#[derive(Clone, Copy, Debug, PartialEq, Eq)]
-pub enum Which {
-    File,
-    Nesting,
-    Parameters,
-    Arrays,
-    Dimensions,
-    Depth,
-    Assignments,
-    Nodes,
-    Literal,
-    Coefficient,
-    Pieces,
-}
-
-impl fmt::Display for Which {
-    fn fmt<W: fmt::Write>(&self, f: &mut fmt::Formatter<W>) -> fmt::Result {
-        let name = match self {
-            Which::File => "file",
-            Which::Nesting => "nesting",
-            Which::Parameters => "parameters",
-            Which::Arrays => "arrays",
-            Which::Dimensions => "dimensions",
-            Which::Depth => "depth",
-            Which::Assignments => "assignments",
-            Which::Nodes => "nodes",
-            Which::Literal => "literal",
-            Which::Coefficient => "coefficient",
-            Which::Pieces => "pieces",
-        };
-        write!(f, "{name}")
-    }
-}
 
 /// Why a source text is no program, and where.
 #[derive(Clone, Copy, Debug, PartialEq, Eq, Drop, Error)]
@@ -58,8 +24,6 @@ pub enum SourceFault {
     Endless(Place),
     #[error("limit {} at {}", .0, .1.at)]
     Limit(Which, Place),
-    #[error("later at {}", .0.at)]
-    Later(Place),
     #[error(transparent)]
     Memory(AllocError),
 }
@@ -76,14 +40,51 @@ pub enum PairFault {
     Memory(AllocError),
 }
 
-impl From<AllocError> for SourceFault {
+impl From<LexFault> for SourceFault {
     ghost use Rattle.std.specs.Prelude.{◌≡◌};
-    ghost use Rattle.ac_parse.specs.declared.faults.SourceFault.TheVariants.{Memory};
+    ghost use Rattle.ac_parse.specs.Stages.{of_lexer};
 
-    ghost from_gives = { λ e fault. fault ≡ Memory e };
+    ghost from_gives = { λ e fault. fault ≡ of_lexer e };
 
-    fn from(error: AllocError) -> Self {
-        SourceFault::Memory(error)
+    fn from(error: LexFault) -> Self {
+        match error {
+            LexFault::Memory(error) => SourceFault::Memory(error),
+            fault => SourceFault::Lex(fault),
+        }
+    }
+}
+
+impl From<GrammarFault> for SourceFault {
+    ghost use Rattle.std.specs.Prelude.{◌≡◌};
+    ghost use Rattle.ac_parse.specs.Stages.{of_grammar};
+
+    ghost from_gives = { λ e fault. fault ≡ of_grammar e };
+
+    fn from(error: GrammarFault) -> Self {
+        match error {
+            GrammarFault::Syntax(place) => SourceFault::Syntax(place),
+            GrammarFault::Nesting(place) => SourceFault::Limit(Which::Nesting, place),
+            GrammarFault::Memory(error) => SourceFault::Memory(error),
+        }
+    }
+}
+
+impl From<RuleFault> for SourceFault {
+    ghost use Rattle.std.specs.Prelude.{◌≡◌};
+    ghost use Rattle.ac_parse.specs.Stages.{of_rules};
+
+    ghost from_gives = { λ e fault. fault ≡ of_rules e };
+
+    fn from(error: RuleFault) -> Self {
+        match error {
+            RuleFault::NotAffine(place) => SourceFault::NotAffine(place),
+            RuleFault::Undeclared(place) => SourceFault::Undeclared(place),
+            RuleFault::Misused(place) => SourceFault::Misused(place),
+            RuleFault::Duplicate(place) => SourceFault::Duplicate(place),
+            RuleFault::Endless(place) => SourceFault::Endless(place),
+            RuleFault::Limit(which, place) => SourceFault::Limit(which, place),
+            RuleFault::Memory(error) => SourceFault::Memory(error),
+        }
     }
 }
 

@@ -1,21 +1,20 @@
 //! From the bytes of a source text to a program, and from two programs to a pair.
+//!
+//! `specs/Program.antt` says which program a text has: its tokens are a file of the grammar that breaks no rule, and the program
+//! is that file's. `specs/Answers.antt` says which fault a text without a program has. `specs/Pairing.antt` is on pairs.
 #![tactic(auto)]
 
-mod cursor;
 pub mod faults;
-mod function;
 mod join;
-mod names;
+mod laws;
 mod outputs;
 mod pairing;
-mod parser;
 mod parsing;
 mod signature;
-mod words;
 
-pub use faults::{PairFault, SourceFault, Which};
+pub use ac_rules::fault::Which;
+pub use faults::{PairFault, SourceFault};
+pub use laws::programs_are_determined;
 pub use pairing::pair;
 pub use parsing::parse;
 
-#[cfg(test)]
-mod tests;

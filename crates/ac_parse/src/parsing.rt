@@ -1,15 +1,19 @@
 // From the bytes of a text to a program.
-ghost use Rattle.std.specs.Prelude.{◌≡◌, ◌<◌, ◌≤◌, length, IfOk, IfErr, IsErrOf};
+ghost use Rattle.std.specs.Prelude.{◌≡◌, ◌<◌, ◌≤◌, ℕ, List, length, map, IfOk, IfErr, IsErrOf};
 ghost use Rattle.ac_syntax.specs.Ready.{ReadyProgram};
 ghost use Rattle.ac_syntax.specs.Small.{IsSmallProgram};
+ghost use Rattle.ac_syntax.specs.declared.tree.Program.{Program};
+ghost use Rattle.ac_lex.specs.Lexemes.{lexeme_of};
+ghost use Rattle.ac_lex.specs.Tokens.{AreTokens};
+ghost use Rattle.ac_rules.specs.Numbers.{HasDeclaredNumbers, HasInputs, ListsItsParameters};
 ghost use Rattle.ac_parse.specs.Program.{IsProgramOf};
-ghost use Rattle.ac_parse.specs.Numbers.{HasDeclaredNumbers, ListsItsParameters};
-ghost use Rattle.ac_parse.specs.Answers.{HasSourceFault};
+ghost use Rattle.ac_parse.specs.Answers.{HasSourceFault, IsOnlyProgram};
 
-use crate::cursor::Stop;
-use crate::faults::{SourceFault, Which};
-use crate::function::file;
-use ac_lex::{LexFault, lex};
+use crate::faults::SourceFault;
+use ac_grammar::read;
+use ac_lex::{Token, lex};
+use ac_rules::apply;
+use ac_rules::fault::Which;
 use ac_syntax::tree::{Place, Program};
 use std::alloc::Global;
 
@@ -17,34 +21,35 @@ const MAX_BYTES: usize = 65536;
 
 const START: Place = Place { at: 0 };
 
-fn parse_tokens(alloc: Global, bytes: &[u8]) -> Result<Program, Stop>
-    requires { length bytes.now ≤ 65536 }
-    ensures program { IfOk result (IsProgramOf bytes.now) }
-    ensures ready { IfOk result ReadyProgram }
-    ensures declared { IfOk result HasDeclaredNumbers }
-    ensures parameters { IfOk result ListsItsParameters }
-    ensures small { IfOk result IsSmallProgram }
-{
-    let tokens = match lex(alloc, bytes) {
-        Ok(tokens) => tokens,
-        Err(LexFault::Memory(error)) => return Err(Stop::Memory(error)),
-        Err(_) => return Err(Stop::Later),
-    };
-    let program = file(alloc, &tokens)?;
+/// The program of the tokens of a text that ends at `end`.
+fn parse_tokens(alloc: Global, tokens: &[Token<'_>], end: u32) -> Result<Program, SourceFault> {
+    let file = read(alloc, tokens, end)?;
+    let program = apply(alloc, &file)?;
     Ok(program)
+}
+
+/// The program of a text that is not too long.
+fn parse_short(alloc: Global, bytes: &[u8]) -> Result<Program, SourceFault>
+    requires { length bytes.now ≤ 65536 }
+{
+    let tokens = lex(alloc, bytes)?;
+    parse_tokens(alloc, &tokens, bytes.len() as u32)
 }
 
 /// The program of a source text.
 ///
-/// Of the language one form is read so far: a function over `int` arrays with one extent, a number, whose body assigns
-/// numbers, reads and nested calls to single elements. Every other text is answered as `Later` at its first byte, and one
-/// of more than 65,536 bytes as `Limit(File)` there.
+/// The language is a subset of C (ISO/IEC 9899): one function over integer parameters and arrays, with affine loops, conditions and
+/// subscripts. A refusal says what is wrong and where, by the number of the byte: first a text of more than 65,536 bytes, then the
+/// first byte with which no token goes on, then the first token with which no file goes on or nests too deep, and then the first
+/// rule that the file breaks.
 pub fn parse(alloc: Global, bytes: &[u8]) -> Result<Program, SourceFault>
-    // What is answered is the program that the whole text has.
+    // What is answered is the program that the whole text has, and it is answered of each text that has one.
     ensures program { IfOk result (IsProgramOf bytes.now) }
+    ensures only { (program : Program) → IsProgramOf bytes.now program → IsOnlyProgram program result }
     ensures ready { IfOk result ReadyProgram }
     ensures declared { IfOk result HasDeclaredNumbers }
     ensures parameters { IfOk result ListsItsParameters }
+    ensures inputs { IfOk result HasInputs }
     ensures small { IfOk result IsSmallProgram }
 
     // A text that is too long is always answered so.
@@ -54,9 +59,5 @@ pub fn parse(alloc: Global, bytes: &[u8]) -> Result<Program, SourceFault>
     if bytes.len() > MAX_BYTES {
         return Err(SourceFault::Limit(Which::File, START));
     }
-    match parse_tokens(alloc, bytes) {
-        Ok(program) => Ok(program),
-        Err(Stop::Later) => Err(SourceFault::Later(START)),
-        Err(Stop::Memory(error)) => Err(SourceFault::Memory(error)),
-    }
+    parse_short(alloc, bytes)
 }

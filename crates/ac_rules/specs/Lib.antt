@@ -8,3 +8,4 @@ pub mod Measures
 pub mod Declarations
 pub mod Statements
 pub mod Files
+pub mod Numbers

@@ -1,5 +1,8 @@
 ghost use Rattle.std.specs.Prelude.{◌≡◌, ◌++◌, map, nat_lt, IfOk};
+ghost use Rattle.ac_syntax.specs.Ready.{ReadyProgram};
+ghost use Rattle.ac_syntax.specs.Small.{IsSmallProgram};
 ghost use Rattle.ac_rules.specs.Comparisons.{first_of, condition};
+ghost use Rattle.ac_rules.specs.Numbers.{HasConditions, HasDeclaredNumbers, HasInputs, ListsItsParameters};
 ghost use Rattle.ac_rules.specs.Meanings.{declared_meaning, word_broken};
 ghost use Rattle.ac_rules.specs.Values.{array_number};
 ghost use Rattle.ac_rules.specs.Files.{context_parts, commutative_words, line_words, output_words, has_output_line, output_numbers, output_line, output_rule, output_broken, pragma_broken, body_scope, assignments_broken, declarations_broken, body_broken, pragmas_broken, broken_under, arrays_under, body_under, context_under, program_under, names_of, file_broken, program_of, IsAnswer};
@@ -310,7 +313,16 @@ fn names_of(alloc: Global, file: &File) -> Result<Items<Entry>, AllocError>
 /// one at the least place, and of several at one place the first in the order of `RuleFault`'s variants, limits in the order
 /// of `Which`.
 pub fn apply(alloc: Global, file: &File) -> Result<Program, RuleFault>
-    ensures { IsAnswer file.now result }
+    ensures answer { IsAnswer file.now result }
+
+    // Each index expression has a coefficient for each parameter and iterator, each loop ends, and each branch has a condition.
+    ensures ready { HasConditions file.now → IfOk result ReadyProgram }
+    // Each number of an array or a parameter is one that the program has.
+    ensures declared { IfOk result HasDeclaredNumbers }
+    ensures parameters { IfOk result ListsItsParameters }
+    ensures inputs { IfOk result HasInputs }
+    // Constants and coefficients are within the limits, and so are parameters and loops.
+    ensures small { IfOk result IsSmallProgram }
 {
     let names = names_of(alloc, file)?;
     match check(alloc, names.as_slice(), file)? {
