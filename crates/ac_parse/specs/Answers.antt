@@ -11,6 +11,7 @@ use Rattle.ac_lex.specs.declared.tokens.LexFault.TheVariants as lex
 use Rattle.ac_grammar.specs.declared.tree.File.{File}
 use Rattle.ac_grammar.specs.FileAnswers.{HasSyntaxFault, HasNestingFault}
 use Rattle.ac_rules.specs.declared.fault.Which.TheVariants as which
+use Rattle.ac_rules.specs.declared.fault.Rule.{Rule}
 use Rattle.ac_rules.specs.declared.fault.Rule.TheVariants as rule
 use Rattle.ac_rules.specs.declared.fault.Broken.{Broken}
 use Rattle.ac_rules.specs.Files.{file_broken}
@@ -26,13 +27,13 @@ lex_fault long_name place = lex.LongName place
 lex_fault open_comment_begins place = lex.OpenComment place
 
 -- a broken rule, by its kind and place
-abbrev pub rule_fault : Broken → SourceFault
-rule_fault (record { rule = rule.NotAffine; place = place }) = NotAffine place
-rule_fault (record { rule = rule.Undeclared; place = place }) = Undeclared place
-rule_fault (record { rule = rule.Misused; place = place }) = Misused place
-rule_fault (record { rule = rule.Duplicate; place = place }) = Duplicate place
-rule_fault (record { rule = rule.Endless; place = place }) = Endless place
-rule_fault (record { rule = rule.Limit which; place = place }) = Limit which place
+abbrev pub rule_fault : Rule → Place → SourceFault
+rule_fault rule.NotAffine place = NotAffine place
+rule_fault rule.Undeclared place = Undeclared place
+rule_fault rule.Misused place = Misused place
+rule_fault rule.Duplicate place = Duplicate place
+rule_fault rule.Endless place = Endless place
+rule_fault (rule.Limit which) place = Limit which place
 
 -- The length is looked at first, then the bytes, then the grammar, then the rules: a fault is told only of a text that has none of
 -- an earlier kind. Want of memory says nothing of the text.
@@ -43,7 +44,7 @@ pub data HasSourceFault (bytes : List ℕ) : SourceFault → Type 0 where
       → HasSourceFault bytes (Syntax place)
   too_deep : (tokens : List Lexeme) (place : Place) → IsShort bytes → AreTokens bytes tokens → HasNestingFault 128 (length bytes) tokens place
       → HasSourceFault bytes (Limit which.Nesting place)
-  breaks_a_rule : (file : File) (first : Broken) → IsText bytes file → file_broken file ≡ Some first → HasSourceFault bytes (rule_fault first)
+  breaks_a_rule : (file : File) (first : Broken) → IsText bytes file → file_broken file ≡ Some first → HasSourceFault bytes (rule_fault first.rule first.place)
   no_memory : (error : AllocError) → HasSourceFault bytes (Memory error)
 
 -- this program, unless memory fails

@@ -1,13 +1,13 @@
 // From the bytes of a text to a program.
-ghost use Rattle.std.specs.Prelude.{◌≡◌, ◌<◌, ◌≤◌, ℕ, List, length, map, IfOk, IfErr, IsErrOf};
-ghost use Rattle.ac_syntax.specs.Ready.{ReadyProgram};
-ghost use Rattle.ac_syntax.specs.Small.{IsSmallProgram};
+ghost use Rattle.std.specs.Prelude.{◌≡◌, ◌<◌, length, map, None, IfOk, IfErr, IsErrOf};
 ghost use Rattle.ac_syntax.specs.declared.tree.Program.{Program};
 ghost use Rattle.ac_lex.specs.Lexemes.{lexeme_of};
-ghost use Rattle.ac_lex.specs.Tokens.{AreTokens};
-ghost use Rattle.ac_rules.specs.Numbers.{HasDeclaredNumbers, HasInputs, ListsItsParameters};
-ghost use Rattle.ac_parse.specs.Program.{IsProgramOf};
+ghost use Rattle.ac_grammar.specs.declared.tree.File.{File};
+ghost use Rattle.ac_grammar.specs.FileGrammar.{IsFile};
+ghost use Rattle.ac_rules.specs.Files.{file_broken, program_of};
+ghost use Rattle.ac_parse.specs.Program.{IsShort, IsProgramOf};
 ghost use Rattle.ac_parse.specs.Answers.{HasSourceFault, IsOnlyProgram};
+ghost use Rattle.ac_parse.specs.Stages.{IsTokensAnswer};
 
 use crate::faults::SourceFault;
 use ac_grammar::read;
@@ -22,7 +22,10 @@ const MAX_BYTES: usize = 65536;
 const START: Place = Place { at: 0 };
 
 /// The program of the tokens of a text that ends at `end`.
-fn parse_tokens(alloc: Global, tokens: &[Token<'_>], end: u32) -> Result<Program, SourceFault> {
+fn parse_tokens(alloc: Global, tokens: &[Token<'_>], end: u32) -> Result<Program, SourceFault>
+    ensures answer { IsTokensAnswer end (map lexeme_of tokens.now) result }
+    ensures only { (file : File) → IsFile 128 (map lexeme_of tokens.now) file → file_broken file ≡ None → IsOnlyProgram (program_of file) result }
+{
     let file = read(alloc, tokens, end)?;
     let program = apply(alloc, &file)?;
     Ok(program)
@@ -30,7 +33,10 @@ fn parse_tokens(alloc: Global, tokens: &[Token<'_>], end: u32) -> Result<Program
 
 /// The program of a text that is not too long.
 fn parse_short(alloc: Global, bytes: &[u8]) -> Result<Program, SourceFault>
-    requires { length bytes.now ≤ 65536 }
+    requires { IsShort bytes.now }
+    ensures program { IfOk result (IsProgramOf bytes.now) }
+    ensures only { (program : Program) → IsProgramOf bytes.now program → IsOnlyProgram program result }
+    ensures fault { IfErr result (HasSourceFault bytes.now) }
 {
     let tokens = lex(alloc, bytes)?;
     parse_tokens(alloc, &tokens, bytes.len() as u32)
@@ -46,11 +52,6 @@ pub fn parse(alloc: Global, bytes: &[u8]) -> Result<Program, SourceFault>
     // What is answered is the program that the whole text has, and it is answered of each text that has one.
     ensures program { IfOk result (IsProgramOf bytes.now) }
     ensures only { (program : Program) → IsProgramOf bytes.now program → IsOnlyProgram program result }
-    ensures ready { IfOk result ReadyProgram }
-    ensures declared { IfOk result HasDeclaredNumbers }
-    ensures parameters { IfOk result ListsItsParameters }
-    ensures inputs { IfOk result HasInputs }
-    ensures small { IfOk result IsSmallProgram }
 
     // A text that is too long is always answered so.
     ensures long { 65536 < length bytes.now → IsErrOf result (SourceFault.Limit Which.File (record { at = 0 })) }
