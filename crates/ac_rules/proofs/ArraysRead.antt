@@ -1,6 +1,6 @@
 -- In a value in which no rule is broken, each array that is read is one of the program's.
-use Rattle.std.proofs.Common.{◌≡◌, ℕ, zero, suc, ◌<◌, Bool, true, false, List, [], ◌∷◌, map, length, refl, sym, ap, subst, ◌∙◌, rules, codes, Option, Some, None}
-use Rattle.std.specs.Prelude.{not, ◌&&◌, ◌==◌, if◌then◌else◌}
+use Rattle.std.proofs.Common.{◌≡◌, ℕ, ◌<◌, Bool, true, false, List, [], ◌∷◌, map, length, refl, sym, subst, rules, Option, Some, None}
+use Rattle.std.specs.Prelude.{◌&&◌, ◌==◌, if◌then◌else◌}
 use Rattle.std.specs.List.{AllByRecursion}
 use Rattle.ac_syntax.specs.declared.tree.Place.{Place}
 use Rattle.ac_syntax.specs.declared.tree.Symbol.{Symbol}
@@ -8,10 +8,9 @@ use Rattle.ac_syntax.specs.declared.tree.IndexExpr.{IndexExpr}
 use Rattle.ac_syntax.specs.declared.tree.Value.{Value, Row_of-Value, end_of-Value, more_of-Value, items-the_row-Value, the_lemmas as value_lemmas}
 use Rattle.ac_syntax.specs.declared.tree.Value.TheVariants as v
 use Rattle.ac_grammar.specs.declared.tree.Word.{Word}
-use Rattle.ac_grammar.specs.declared.tree.Numeral.{Numeral}
 use Rattle.ac_grammar.specs.declared.tree.Operator.{Operator}
 use Rattle.ac_grammar.specs.declared.tree.Expr.{Expr}
-use Rattle.ac_grammar.specs.declared.tree.Expr.TheVariants.{Number, Decimal, Access, Call, Negative, Group, Chain, rolls-Number, rolls-Decimal, rolls-Access, rolls-Call, rolls-Negative, rolls-Group, rolls-Chain}
+use Rattle.ac_grammar.specs.declared.tree.Expr.TheVariants.{rolls-Number, rolls-Decimal, rolls-Access, rolls-Call, rolls-Negative, rolls-Group, rolls-Chain}
 use Rattle.ac_grammar.specs.declared.tree.Expr.TheOpen as open_of
 use Rattle.ac_grammar.specs.declared.tree.Expr.{roll-Expr, map-Expr, ind-Expr}
 use Rattle.ac_rules.specs.declared.fault.Rule.{Rule}
@@ -22,10 +21,10 @@ use Rattle.ac_rules.specs.declared.scope.Scope.{Scope}
 use Rattle.ac_rules.specs.declared.scope.Meaning.{Meaning}
 use Rattle.ac_rules.specs.declared.scope.Meaning.TheVariants as means
 use Rattle.ac_rules.specs.Faults.{earlier, rule_broken, is_earlier}
-use Rattle.ac_rules.specs.Meanings.{meaning, is_array, read_rule, call_rule, misused_unless, word_broken}
+use Rattle.ac_rules.specs.Meanings.{meaning, misused_unless}
 use Rattle.ac_rules.specs.IndexExpressions.{judged_name}
-use Rattle.ac_rules.specs.Comparisons.{first_from, first_of, index, index_broken}
-use Rattle.ac_rules.specs.Values.{Reading, number, other, reading, reading_broken, value_of, value, value_broken, placed, symbol, access_broken, array_number, read_of, access_reading, call_reading, negative_reading, group_reading, applied_values, applied, joined_reading, chained_reading, chain_reading}
+use Rattle.ac_rules.specs.Comparisons.{first_from, first_of}
+use Rattle.ac_rules.specs.Values.{Reading, number, other, reading, reading_broken, value_of, value, value_broken, placed, access_broken, array_number, read_of, access_reading, call_reading, negative_reading, group_reading, applied_values, applied, joined_reading, chained_reading, chain_reading}
 use Rattle.ac_rules.specs.Numbers.{ReadsOf, ReadsIn}
 use Rattle.ac_rules.proofs.Readings.{reading-number, reading-decimal, reading-access, reading-call, reading-negative, reading-group, reading-chain}
 use Rattle.ac_rules.proofs.DeclaredNumbers.{MeansBelow, NamesBelow, meaning_below}

@@ -1,5 +1,5 @@
 -- In a body in which no rule is broken, each array that is read or assigned is one of the program's.
-use Rattle.std.proofs.Common.{◌≡◌, ℕ, ◌<◌, ℤ, Bool, List, [], ◌∷◌, map, length, refl, sym, subst, ap, ◌∙◌, rules, Option, Some, None}
+use Rattle.std.proofs.Common.{◌≡◌, ℕ, ◌<◌, ℤ, List, [], ◌∷◌, map, length, sym, subst, ap, ◌∙◌, rules, Option, Some, None}
 use Rattle.std.specs.List.{AllByRecursion}
 use Rattle.ac_syntax.specs.declared.tree.Place.{Place}
 use Rattle.ac_syntax.specs.declared.tree.Cond.{Cond}
@@ -13,19 +13,16 @@ use Rattle.ac_grammar.specs.declared.tree.Operator.{Operator}
 use Rattle.ac_grammar.specs.declared.tree.Expr.{Expr}
 use Rattle.ac_grammar.specs.declared.tree.File.{File}
 use Rattle.ac_grammar.specs.declared.tree.Statement.{Statement, roll-Statement, map-Statement, ind-Statement}
-use Rattle.ac_grammar.specs.declared.tree.Statement.TheVariants.{Loop, Branch, Assign, rolls-Loop, rolls-Branch, rolls-Assign}
+use Rattle.ac_grammar.specs.declared.tree.Statement.TheVariants.{rolls-Loop, rolls-Branch, rolls-Assign}
 use Rattle.ac_grammar.specs.declared.tree.Statement.TheOpen as open_of
-use Rattle.ac_rules.specs.declared.fault.Broken.{Broken}
 use Rattle.ac_rules.specs.declared.scope.Entry.{Entry}
 use Rattle.ac_rules.specs.declared.scope.Scope.{Scope}
 use Rattle.ac_rules.specs.declared.scope.Meaning.{Meaning}
 use Rattle.ac_rules.specs.declared.scope.Meaning.TheVariants as means
 use Rattle.ac_rules.specs.Meanings.{meaning}
-use Rattle.ac_rules.specs.Faults.{earlier}
-use Rattle.ac_rules.specs.Comparisons.{first_of}
 use Rattle.ac_rules.specs.Declarations.{param_count}
-use Rattle.ac_rules.specs.Values.{access_broken, array_number, read_of, value, value_broken}
-use Rattle.ac_rules.specs.Statements.{target_rule, assigned_value, assignment_broken, statement_broken, statements_broken, stmt, stmts, inside}
+use Rattle.ac_rules.specs.Values.{array_number, read_of, value}
+use Rattle.ac_rules.specs.Statements.{target_rule, assigned_value, assignment_broken, statement_broken, stmt, stmts, inside}
 use Rattle.ac_rules.specs.Files.{body_scope, arrays_under, names_of, broken_under, file_broken, program_under, program_of}
 use Rattle.ac_rules.specs.Numbers.{ReadsOf, ArraysOf, ArraysIn, HasDeclaredNumbers}
 use Rattle.ac_rules.proofs.Stepping.{broken-loop, broken-branch, broken-assign, stmt-loop, stmt-branch, stmt-assign}
@@ -79,7 +76,7 @@ module _ (n : ℕ) (names : List Entry) (below : NamesBelow n names) where
   assignment_used scope target subs operator e h =
       let both = earlier_left _ _ h in
       let t : array_number (meaning names scope target.name) < n =
-          target_below n (length subs) (meaning names scope target.name) (rule_holds names scope _ target subs (earlier_left _ _ both)) (meaning_below n names scope target.name below) in
+      target_below n (length subs) (meaning names scope target.name) (rule_holds names scope _ target subs (earlier_left _ _ both)) (meaning_below n names scope target.name below) in
       (t, assigned_reads scope target subs operator e t (value_read n names scope below e (earlier_right _ _ both)))
 
   abbrev IsUsed : Statement → Type 0
@@ -96,18 +93,18 @@ module _ (n : ℕ) (names : List Entry) (below : NamesBelow n names) where
   layer_used : (y : open_of.Statement-F ((x : Statement) × IsUsed x)) → IsUsed (roll-Statement (map-Statement _ _ statement_of y))
   layer_used (open_of.Loop typed name start cond step body place) =
       subst IsUsed (sym (rolls-Loop typed name start cond step (map statement_of body) place)) (λ scope h.
-          let e = sym (broken-loop names scope typed name start cond step (map statement_of body) place) ∙ h in
-          subst (ArraysOf n) (sym (stmt-loop names scope typed name start cond step (map statement_of body) place))
-          (for_used n _ _ _ _ _ _ (all_used body (inside scope name.name) (none_of _ (earlier_right _ _ e)))))
+      let e = sym (broken-loop names scope typed name start cond step (map statement_of body) place) ∙ h in
+      subst (ArraysOf n) (sym (stmt-loop names scope typed name start cond step (map statement_of body) place))
+      (for_used n _ _ _ _ _ _ (all_used body (inside scope name.name) (none_of _ (earlier_right _ _ e)))))
   layer_used (open_of.Branch cond taken other place) =
       subst IsUsed (sym (rolls-Branch cond (map statement_of taken) (map statement_of other) place)) (λ scope h.
-          let e = earlier_right _ _ (sym (broken-branch names scope cond (map statement_of taken) (map statement_of other) place) ∙ h) in
-          subst (ArraysOf n) (sym (stmt-branch names scope cond (map statement_of taken) (map statement_of other) place))
-          (if_used n _ _ _ _ (all_used taken scope (none_of _ (earlier_left _ _ e))) (all_used other scope (none_of _ (earlier_right _ _ e)))))
+      let e = earlier_right _ _ (sym (broken-branch names scope cond (map statement_of taken) (map statement_of other) place) ∙ h) in
+      subst (ArraysOf n) (sym (stmt-branch names scope cond (map statement_of taken) (map statement_of other) place))
+      (if_used n _ _ _ _ (all_used taken scope (none_of _ (earlier_left _ _ e))) (all_used other scope (none_of _ (earlier_right _ _ e)))))
   layer_used (open_of.Assign target subs operator e) =
       subst IsUsed (sym (rolls-Assign target subs operator e)) (λ scope h.
-          let r = assignment_used scope target subs operator e (sym (broken-assign names scope target subs operator e) ∙ h) in
-          subst (ArraysOf n) (sym (stmt-assign names scope target subs operator e)) (assign_used n _ _ _ _ r.0 r.1))
+      let r = assignment_used scope target subs operator e (sym (broken-assign names scope target subs operator e) ∙ h) in
+      subst (ArraysOf n) (sym (stmt-assign names scope target subs operator e)) (assign_used n _ _ _ _ r.0 r.1))
 
   is_used : (x : Statement) → IsUsed x
   is_used = ind-Statement IsUsed (λ x y is. subst (λ z. IsUsed (roll-Statement z)) is (layer_used y))

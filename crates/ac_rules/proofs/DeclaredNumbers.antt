@@ -1,12 +1,11 @@
 -- The numbers of the declared parameters and arrays.
-use Rattle.std.proofs.Common.{◌≡◌, ℕ, zero, suc, ◌+◌, ◌<◌, ◌≤◌, Bool, true, false, List, [], ◌∷◌, ◌++◌, map, length, refl, sym, ap, subst, ◌∙◌, arith, length-append}
-use Rattle.std.specs.Prelude.{Option, Some, None, not, cond, if◌then◌else◌, nat_eq, count_by}
+use Rattle.std.proofs.Common.{◌≡◌, ℕ, ◌+◌, ◌<◌, ◌≤◌, Bool, true, false, List, [], ◌∷◌, ◌++◌, map, length, refl, sym, ap, subst, ◌∙◌, arith, length-append}
+use Rattle.std.specs.Prelude.{Option, Some, None, not, cond, if◌then◌else◌, nat_eq}
 use Rattle.std.specs.List.{AllByRecursion, range_with_len, list_all, filter}
 use Rattle.std.specs.Cmp.Lexicographic.{pointwise}
 use Rattle.std.proofs.lemmas.List.{append_assoc}
 use Rattle.std.proofs.lemmas.List.Sums.{sum_by-cons}
 use Rattle.ac_syntax.specs.Outputs.{is_input_kind, input_at}
-use Rattle.ac_syntax.specs.declared.tree.Kind.{Kind}
 use Rattle.ac_syntax.specs.declared.tree.Kind.TheVariants.{Input, Local}
 use Rattle.ac_syntax.specs.declared.tree.Array.{Array}
 use Rattle.ac_syntax.specs.declared.tree.Slot.{Slot}
@@ -20,7 +19,7 @@ use Rattle.ac_rules.specs.declared.scope.Meaning.TheVariants as means
 use Rattle.ac_rules.specs.declared.scope.Entry.{Entry}
 use Rattle.ac_rules.specs.declared.scope.Scope.{Scope}
 use Rattle.ac_rules.specs.Meanings.{declared_meaning, meaning, meaning_behind, iterator_number, is_starting}
-use Rattle.ac_rules.specs.Declarations.{is_whole, is_loop_name, count, entry, param_meaning, param_entries, local_meaning, local_entries, input_count, entries, fixed_scope, array_of, arrays_from, slot_of, slots_from, param_names, param_count}
+use Rattle.ac_rules.specs.Declarations.{is_whole, is_loop_name, count, entry, param_entries, local_entries, input_count, fixed_scope, array_of, arrays_from, slots_from, param_names, param_count}
 use Rattle.ac_rules.specs.Numbers.{IsSlotOf, param_numbers, array_numbers, ListsItsParameters, HasInputs}
 use Rattle.ac_rules.specs.Files.{arrays_under, names_of, program_under, program_of}
 
@@ -64,8 +63,8 @@ inputs_behind names scope rest (d ∷ ds) front k p = by (is_whole d) (λ front 
         let h : input_at (front ++ (x ∷ more)) (length front) ≡ true = input_behind front more x refl in
         let i : list_all (input_at ((front ++ x ∷ []) ++ more)) (array_numbers (slots_from ds (p + 0) (length (front ++ x ∷ [])))) ≡ true = again (front ++ x ∷ []) (k + 1) (p + 0) in
         let j : list_all (input_at (front ++ (x ∷ more))) (array_numbers (slots_from ds (p + 0) (length front + 1))) ≡ true =
-            subst (λ n. list_all (input_at (front ++ (x ∷ more))) (array_numbers (slots_from ds (p + 0) n)) ≡ true) (one_more front x)
-            (subst (λ xs. list_all (input_at xs) (array_numbers (slots_from ds (p + 0) (length (front ++ x ∷ [])))) ≡ true) (append_assoc front (x ∷ []) more) i) in
+        subst (λ n. list_all (input_at (front ++ (x ∷ more))) (array_numbers (slots_from ds (p + 0) n)) ≡ true) (one_more front x)
+        (subst (λ xs. list_all (input_at xs) (array_numbers (slots_from ds (p + 0) (length (front ++ x ∷ [])))) ≡ true) (append_assoc front (x ∷ []) more) i) in
         rw (h, j) refl
 
 pub has_inputs : (file : File) → HasInputs (program_of file)
