@@ -6,3 +6,6 @@ pub mod Running
 pub mod Stepping
 pub mod Targets
 pub mod Answering
+pub mod DeclaredNumbers
+pub mod ArraysRead
+pub mod ArraysUsed
