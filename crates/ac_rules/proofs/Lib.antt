@@ -6,3 +6,7 @@ pub mod Running
 pub mod Stepping
 pub mod Targets
 pub mod Answering
+pub mod Trees
+pub mod Absent
+pub mod Collecting
+pub mod ReadyPrograms
