@@ -9,4 +9,7 @@ pub mod Answering
 pub mod Trees
 pub mod Absent
 pub mod Collecting
+pub mod Judges
+pub mod FittingValues
+pub mod ReadyStatements
 pub mod ReadyPrograms

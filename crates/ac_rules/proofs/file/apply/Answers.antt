@@ -1,4 +1,5 @@
-use Rattle.std.proofs.Common.{◌≡◌, sym, ◌∙◌, ap}
+use Rattle.std.proofs.Common.{◌≡◌, sym, ◌∙◌, ap, subst}
+use Rattle.ac_syntax.specs.Ready.{ReadyProgram}
 use Rattle.ac_rules.specs.Files.{names_of, broken_under, program_under}
 use Rattle.ac_rules.proofs.Answering.{answer_fault}
 use Rattle.ac_rules.proofs.ReadyPrograms.{ready_program}
@@ -15,3 +16,8 @@ returns-clause-answer c =
     let n : c.as_slice.result.now ≡ names_of c.args.file.now = c.as_slice.ensures ∙ c.in_ok-names.ensures in
     let m : c.as_slice-in-None.result.now ≡ names_of c.args.file.now = c.as_slice-in-None.ensures ∙ c.in_ok-names.ensures in
     (sym (ap (λ ns. broken_under ns c.args.file.now) n) ∙ sym c.in_ok-broken.ensures ∙ c.in-None.is, c.in_ok-build-in-None.ensures ∙ ap (λ ns. program_under ns c.args.file.now) m)
+
+pub returns-clause-ready : goal.returns-clause-ready
+returns-clause-ready c = λ h.
+    let a = returns-clause-answer c in
+    subst ReadyProgram (sym a.1) (ready_program c.args.file.now a.0 h)
