@@ -1,10 +1,10 @@
 -- Where no rule is broken, none is broken in any part; and facts of each element of a list.
-use Rattle.std.proofs.Common.{◌≡◌, ℕ, zero, suc, ◌<◌, List, [], ◌∷◌, ◌++◌, map, length, refl, ap, sym, ◌∙◌, Bool, true, false, ◌&&◌, Option, Some, None, if◌then◌else◌, arith, cond}
+use Rattle.std.proofs.Common.{◌≡◌, suc, List, [], ◌∷◌, ◌++◌, map, refl, Bool, true, false, ◌&&◌, Option, Some, None, arith, cond}
 use Rattle.std.specs.List.{AllByRecursion, Contains, list_all}
 use Rattle.ac_syntax.specs.declared.tree.Place.{Place}
 use Rattle.ac_rules.specs.declared.fault.Rule.{Rule}
 use Rattle.ac_rules.specs.declared.fault.Broken.{Broken}
-use Rattle.ac_rules.specs.Faults.{earlier, broken, broken_where, is_earlier}
+use Rattle.ac_rules.specs.Faults.{earlier, broken_where, is_earlier}
 use Rattle.ac_rules.specs.Comparisons.{first_from, first_of}
 
 one_of : (f g : Broken) (b : Bool) {X : Type 0} → cond b (Some g) (Some f) ≡ None → X

@@ -1,6 +1,6 @@
 -- What is collected of an expression: a form has a number for each parameter and each iterator, and each is within the limit.
-use Rattle.std.proofs.Common.{◌≡◌, ℕ, zero, suc, ◌≤◌, List, [], ◌∷◌, map, length, refl, ap, sym, ◌∙◌, Bool, true, false, not, ◌&&◌, ◌||◌, cond, ℤ, pos, negsuc, ◌*ℤ◌, unsigned_abs, nat_le, nat_lt, arith, ◌*◌, ◌==◌, replicate}
-use Rattle.std.specs.List.{range_with_len, list_all}
+use Rattle.std.proofs.Common.{◌≡◌, ℕ, zero, suc, List, [], ◌∷◌, map, length, refl, ap, ◌∙◌, Bool, true, false, not, ◌&&◌, ◌||◌, cond, ℤ, pos, negsuc, ◌*ℤ◌, nat_le, nat_lt, arith, ◌==◌}
+use Rattle.std.specs.List.{range_with_len}
 use Rattle.std.proofs.lemmas.Int.{unsigned_abs-mul}
 use Rattle.std.proofs.lemmas.List.{length-replicate}
 use Rattle.std.proofs.lemmas.List.FromFn.{length-map-range_with_len}
@@ -10,18 +10,21 @@ use Rattle.ac_grammar.specs.declared.tree.Operator.TheVariants.{Add, Subtract, M
 use Rattle.ac_rules.specs.declared.form.Affine.{Affine}
 use Rattle.ac_rules.specs.declared.form.Collected.{Collected}
 use Rattle.ac_rules.specs.declared.form.Collected.TheVariants.{Known, Large, Unknown}
-use Rattle.ac_rules.specs.Forms.{is_small, all_small, is_within, is_constant, plus_times, times, sum_form, multiple_form, indicator, unit, zeros, constant_form, parameter_form, iterator_form, is_known, is_large, limited, sum_of, known_product, large_product, product_of, negative_of, signed}
+use Rattle.ac_rules.specs.Forms.{is_small, all_small, is_within, is_constant, times, sum_form, multiple_form, indicator, zeros, constant_form, parameter_form, iterator_form, is_known, is_large, limited, sum_of, product_of, negative_of, signed}
 use Rattle.ac_rules.specs.IndexExpressions.{form_of, is_not_affine}
 use Rattle.ac_rules.proofs.Columns.{length-plus_times, length-times}
 
+-- a column for each of ps parameters and of xs iterators
 abbrev pub HasColumns : ℕ → ℕ → Affine → Type 0
 HasColumns ps xs f = (length f.params ≡ ps) × (length f.iters ≡ xs) × (is_within f ≡ true)
 
+-- where there is a form it has its columns
 abbrev pub Shaped : ℕ → ℕ → Collected → Type 0
 Shaped ps xs (Known f) = HasColumns ps xs f
 Shaped ps xs (Large constant) = Unit {0}
 Shaped ps xs Unknown = Unit {0}
 
+-- there is a form
 abbrev pub IsKnown : Collected → Type 0
 IsKnown (Known f) = Unit {0}
 IsKnown (Large constant) = ⊥
@@ -79,7 +82,7 @@ large_shaped ps xs false c = tt
 product_shaped : (ps xs : ℕ) (a b : Collected) → Shaped ps xs a → Shaped ps xs b → Shaped ps xs (product_of a b)
 product_shaped ps xs (Known f) (Known g) h k =
     either_shaped ps xs (is_constant f) (is_constant g) (limited (multiple_form f.constant g) (is_constant g)) (limited (multiple_form g.constant f) false)
-        (multiple_shaped ps xs f.constant g (is_constant g) k) (multiple_shaped ps xs g.constant f false h)
+    (multiple_shaped ps xs f.constant g (is_constant g) k) (multiple_shaped ps xs g.constant f false h)
 product_shaped ps xs (Known f) (Large d) h k = large_shaped ps xs (is_constant f || d) (is_constant f && d)
 product_shaped ps xs (Known f) Unknown h k = tt
 product_shaped ps xs (Large c) (Known g) h k = large_shaped ps xs (c || is_constant g) (c && is_constant g)

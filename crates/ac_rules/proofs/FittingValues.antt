@@ -1,5 +1,5 @@
 -- Each index expression of a value fits its scope.
-use Rattle.std.proofs.Common.{◌≡◌, ℕ, List, [], ◌∷◌, map, length, sym, subst, Bool, true, false, not, ◌&&◌, ◌==◌, cond, codes, Option, Some, None}
+use Rattle.std.proofs.Common.{ℕ, List, [], ◌∷◌, map, length, sym, subst, Bool, true, false, not, ◌&&◌, ◌==◌, cond, codes, Option, Some, None}
 use Rattle.std.specs.List.{AllByRecursion}
 use Rattle.ac_syntax.specs.Ready.{Fits, AllFit, FitsValue}
 use Rattle.ac_syntax.specs.declared.tree.Place.{Place}
@@ -14,7 +14,7 @@ use Rattle.ac_rules.specs.declared.scope.Entry.{Entry}
 use Rattle.ac_rules.specs.declared.scope.Meaning.{Meaning}
 use Rattle.ac_rules.specs.declared.scope.Scope.{Scope}
 use Rattle.ac_rules.specs.Meanings.{meaning, is_array, read_rule}
-use Rattle.ac_rules.specs.IndexExpressions.{judged_number, judged_name}
+use Rattle.ac_rules.specs.IndexExpressions.{judged_name}
 use Rattle.ac_rules.specs.Comparisons.{index_expr, index}
 use Rattle.ac_rules.specs.Values.{Reading, number, other, reading, value_place, placed, value_of, symbol, operator_name, array_number, access_broken, read_of, access_reading, call_reading, negative_reading, group_reading, applied_values, joined_reading, chained_reading, chain_reading, value}
 use Rattle.ac_rules.specs.Statements.{assigned_value}
@@ -45,7 +45,7 @@ module _ (scope : Scope) where
   call_fits : (m : Meaning) (word : Word) (rs : List Reading) → AllByRecursion FitsReading rs → FitsReading (call_reading scope m word rs)
   call_fits m word rs h =
       fits_call scope.params (length scope.iterators) (symbol word.name (length rs)) (map (value_of scope) rs) word.place
-          (each_map (value_of scope) (FitsValue scope.params (length scope.iterators)) rs (each_further FitsReading (λ r. FitsValue scope.params (length scope.iterators) (value_of scope r)) value_fits rs h))
+      (each_map (value_of scope) (FitsValue scope.params (length scope.iterators)) rs (each_further FitsReading (λ r. FitsValue scope.params (length scope.iterators) (value_of scope r)) value_fits rs h))
 
   negative_fits : (place : Place) (r : Reading) → FitsReading r → FitsReading (negative_reading place r)
   negative_fits place (number j) h = negative_shaped scope.params (length scope.iterators) j.form h
@@ -89,11 +89,11 @@ module _ (names : List Entry) (scope : Scope) where
       (λ word. subst (FitsReading scope) (sym (reading-decimal names scope word)) (fits_call scope.params (length scope.iterators) (symbol word.name 0) [] word.place tt))
       (λ name subs h. subst (FitsReading scope) (sym (reading-access names scope name subs)) (access_reading_fits (meaning names scope name.name) name subs))
       (λ name args h. subst (FitsReading scope) (sym (reading-call names scope name args))
-          (call_fits scope (meaning names scope name.name) name (map (reading names scope) args) (each_map (reading names scope) (FitsReading scope) args h)))
+      (call_fits scope (meaning names scope name.name) name (map (reading names scope) args) (each_map (reading names scope) (FitsReading scope) args h)))
       (λ operand place h. subst (FitsReading scope) (sym (reading-negative names scope operand place)) (negative_fits scope place (reading names scope operand) h))
       (λ inner place h. subst (FitsReading scope) (sym (reading-group names scope inner place)) (group_fits scope place (reading names scope inner) h))
       (λ operands operators h. subst (FitsReading scope) (sym (reading-chain names scope operands operators))
-          (chain_fits scope (map (reading names scope) operands) operators (each_map (reading names scope) (FitsReading scope) operands h)))
+      (chain_fits scope (map (reading names scope) operands) operators (each_map (reading names scope) (FitsReading scope) operands h)))
 
   whole_fits : (e : Expr) → FitsValue scope.params (length scope.iterators) (value names scope e)
   whole_fits e = value_fits scope (reading names scope e) (reading_fits e)

@@ -1,9 +1,8 @@
 -- Each index expression has a form that fits its scope or none, and one where no rule is broken has a form.
-use Rattle.std.proofs.Common.{◌≡◌, ℕ, List, [], ◌∷◌, map, length, refl, ap, sym, ◌∙◌, subst, Bool, true, false, not, ◌&&◌, ◌||◌, ◌==◌, cond, pos, negsuc, Option, Some, None}
+use Rattle.std.proofs.Common.{◌≡◌, ℕ, List, [], ◌∷◌, map, length, refl, sym, ◌∙◌, subst, Bool, true, false, not, ◌&&◌, ◌||◌, ◌==◌, cond, pos, negsuc, Option, Some, None}
 use Rattle.std.specs.List.{AllByRecursion}
 use Rattle.ac_syntax.specs.Ready.{Fits}
 use Rattle.ac_syntax.specs.declared.tree.Place.{Place}
-use Rattle.ac_syntax.specs.declared.tree.IndexExpr.{IndexExpr}
 use Rattle.ac_grammar.specs.declared.tree.Word.{Word}
 use Rattle.ac_grammar.specs.declared.tree.Numeral.{Numeral}
 use Rattle.ac_grammar.specs.declared.tree.Operator.{Operator}
@@ -11,12 +10,10 @@ use Rattle.ac_grammar.specs.declared.tree.Relation.{Relation}
 use Rattle.ac_grammar.specs.declared.tree.Relation.TheVariants.{Less, AtMost, Greater, AtLeast, Equal}
 use Rattle.ac_grammar.specs.declared.tree.Part.{Part}
 use Rattle.ac_grammar.specs.declared.tree.Expr.{Expr}
-use Rattle.ac_grammar.specs.declared.tree.Expr.TheVariants.{Number, Decimal, Access, Call, Negative, Group, Chain}
 use Rattle.ac_rules.specs.declared.fault.Which.TheVariants.{Literal, Coefficient}
 use Rattle.ac_rules.specs.declared.fault.Rule.{Rule}
 use Rattle.ac_rules.specs.declared.fault.Rule.TheVariants.{NotAffine, Misused, Limit}
 use Rattle.ac_rules.specs.declared.fault.Broken.{Broken}
-use Rattle.ac_rules.specs.declared.form.Affine.{Affine}
 use Rattle.ac_rules.specs.declared.form.Collected.{Collected}
 use Rattle.ac_rules.specs.declared.form.Collected.TheVariants.{Known, Large, Unknown}
 use Rattle.ac_rules.specs.declared.index.Judged.{Judged}
@@ -27,11 +24,11 @@ use Rattle.ac_rules.specs.declared.scope.Meaning.TheVariants.{Parameter, Iterato
 use Rattle.ac_rules.specs.declared.scope.Scope.{Scope}
 use Rattle.ac_rules.specs.Faults.{earlier, broken, broken_where, rule_broken}
 use Rattle.ac_rules.specs.Meanings.{meaning, is_array, read_rule, call_rule, word_broken}
-use Rattle.ac_rules.specs.Forms.{constant_form, is_known, is_large, plus_times, negative_of, limited}
+use Rattle.ac_rules.specs.Forms.{constant_form, is_known, is_large}
 use Rattle.ac_rules.specs.IndexExpressions.{is_long, judged_number, judged_decimal, with_part, gathered, no_parts, name_form, judged_name, judged_other, judged_variable, judged_access, judged_negative, judged_group, form_of, is_not_affine, joined, chained, judged_chain, judged}
-use Rattle.ac_rules.specs.Comparisons.{whole_broken, form_or_zero, placed_form, index_expr, index, difference_form, difference, compared_form, compared_forms, compared, comparison}
+use Rattle.ac_rules.specs.Comparisons.{whole_broken, form_or_zero, placed_form, index_expr, index, difference_form, difference, compared_form, compared, comparison}
 use Rattle.ac_rules.proofs.Absent.{neither, not_where, each_map}
-use Rattle.ac_rules.proofs.Collecting.{HasColumns, Shaped, IsKnown, constant_shaped, parameter_shaped, iterator_shaped, limited_shaped, negative_shaped, form_shaped, known_join, known_limited, known_negative, known_true, number_small}
+use Rattle.ac_rules.proofs.Collecting.{Shaped, IsKnown, constant_shaped, parameter_shaped, iterator_shaped, limited_shaped, negative_shaped, form_shaped, known_join, known_limited, known_negative, known_true, number_small}
 use Rattle.ac_rules.proofs.Columns.{length-plus_times}
 use Rattle.ac_rules.proofs.Judging.{judged-number, judged-decimal, judged-access, judged-call, judged-negative, judged-group, judged-chain}
 use Rattle.ac_rules.proofs.Trees.{every_expr}
@@ -94,12 +91,15 @@ gathered_known ps xs p (j ∷ js) h k = gathered_known ps xs (with_part p j) js 
     rw (e, f) refl)
 
 other_judges : (ps xs : ℕ) (rule : Option Rule) (word : Word) (parts : Parts) → AreKnown parts → Judges ps xs (judged_other rule word parts)
-other_judges ps xs rule word parts a = (tt, (λ h k.
-    let n = neither (earlier (word_broken word) (rule_broken rule word.place)) (earlier parts.broken (broken_where parts.known NotAffine word.place)) h in
-    let m = neither parts.broken (broken_where parts.known NotAffine word.place) n.1 in
-    let e : parts.known ≡ false = not_where parts.known NotAffine word.place m.1 in
-    let f : parts.known ≡ true = a m.0 k in
-    absurd cc))
+other_judges ps xs rule word parts a = (
+  tt,
+  (λ h k.
+      let n = neither (earlier (word_broken word) (rule_broken rule word.place)) (earlier parts.broken (broken_where parts.known NotAffine word.place)) h in
+      let m = neither parts.broken (broken_where parts.known NotAffine word.place) n.1 in
+      let e : parts.known ≡ false = not_where parts.known NotAffine word.place m.1 in
+      let f : parts.known ≡ true = a m.0 k in
+      absurd cc),
+)
 
 access_case : (scope : Scope) (m : Meaning) (word : Word) (subs : ℕ) (parts : Parts) (fixed array none : Bool) → is_array m ≡ array → AreKnown parts
     → Judges scope.params (length scope.iterators) (cond (fixed && array) (judged_variable word) (cond (none && not array) (judged_name scope m word) (judged_other (read_rule m subs) word parts)))
@@ -121,12 +121,15 @@ pub group_judges : (ps xs : ℕ) (place : Place) (j : Judged) → Judges ps xs j
 group_judges ps xs place j h = (h.0, h.1)
 
 pub joined_judges : (ps xs : ℕ) (op : Operator) (a b : Judged) → Judges ps xs a → Judges ps xs b → Judges ps xs (joined op a b)
-joined_judges ps xs op a b h k = (form_shaped ps xs op a.form b.form h.0 k.0, (λ u l.
-    let n = neither (earlier a.broken b.broken) (broken_where (is_not_affine op a.form b.form) NotAffine a.place) u in
-    let m = neither a.broken b.broken n.0 in
-    let i = neither_is (a.large || b.large) (is_large (form_of op a.form b.form)) l in
-    let e = neither_is a.large b.large i.0 in
-    known_join op a.form b.form (h.1 m.0 e.0) (k.1 m.1 e.1) (not_where (is_not_affine op a.form b.form) NotAffine a.place n.1) i.1))
+joined_judges ps xs op a b h k = (
+  form_shaped ps xs op a.form b.form h.0 k.0,
+  (λ u l.
+      let n = neither (earlier a.broken b.broken) (broken_where (is_not_affine op a.form b.form) NotAffine a.place) u in
+      let m = neither a.broken b.broken n.0 in
+      let i = neither_is (a.large || b.large) (is_large (form_of op a.form b.form)) l in
+      let e = neither_is a.large b.large i.0 in
+      known_join op a.form b.form (h.1 m.0 e.0) (k.1 m.1 e.1) (not_where (is_not_affine op a.form b.form) NotAffine a.place n.1) i.1),
+)
 
 chained_judges : (ps xs : ℕ) (a : Judged) (js : List Judged) (ops : List Operator) → Judges ps xs a → AllByRecursion (Judges ps xs) js → Judges ps xs (chained a js ops)
 chained_judges ps xs a [] ops h k = h
@@ -149,13 +152,13 @@ module _ (names : List Entry) (scope : Scope) where
       (λ n. subst Good (sym (judged-number names scope n)) (number_judges scope n))
       (λ word. subst Good (sym (judged-decimal names scope word)) (decimal_judges scope.params (length scope.iterators) word))
       (λ name subs h. subst Good (sym (judged-access names scope name subs))
-          (access_judges scope (meaning names scope name.name) name (length subs) (gathered no_parts (map (judged names scope) subs)) (parts_known subs h)))
+      (access_judges scope (meaning names scope name.name) name (length subs) (gathered no_parts (map (judged names scope) subs)) (parts_known subs h)))
       (λ name args h. subst Good (sym (judged-call names scope name args))
-          (other_judges scope.params (length scope.iterators) (call_rule (meaning names scope name.name)) name (gathered no_parts (map (judged names scope) args)) (parts_known args h)))
+      (other_judges scope.params (length scope.iterators) (call_rule (meaning names scope name.name)) name (gathered no_parts (map (judged names scope) args)) (parts_known args h)))
       (λ operand place h. subst Good (sym (judged-negative names scope operand place)) (negative_judges scope.params (length scope.iterators) place (judged names scope operand) h))
       (λ inner place h. subst Good (sym (judged-group names scope inner place)) (group_judges scope.params (length scope.iterators) place (judged names scope inner) h))
       (λ operands operators h. subst Good (sym (judged-chain names scope operands operators))
-          (chain_judges scope (map (judged names scope) operands) operators (each_map (judged names scope) Good operands h)))
+      (chain_judges scope (map (judged names scope) operands) operators (each_map (judged names scope) Good operands h)))
 
 difference_shaped : (ps xs : ℕ) (strict : Bool) (a b : Collected) → Shaped ps xs a → Shaped ps xs (difference strict a b)
 difference_shaped ps xs strict (Known f) (Known g) h = limited_shaped ps xs (difference_form strict f g) false (length-plus_times (negsuc 0) f.params g.params ∙ h.0) (length-plus_times (negsuc 0) f.iters g.iters ∙ h.1)
@@ -192,12 +195,14 @@ compared_judges names scope part =
     let a = judged names scope part.left in
     let b = judged names scope part.right in
     let h = judges names scope part.left in
-    let k = judges names scope part.right in
-    (compared_shaped scope.params (length scope.iterators) part.relation a.form b.form h.0 k.0, (λ u l.
-        let m = neither a.broken b.broken u in
-        let i = neither_is (a.large || b.large) (is_large (compared_form part.relation a.form b.form)) l in
-        let e = neither_is a.large b.large i.0 in
-        known_compared part.relation a.form b.form (h.1 m.0 e.0) (k.1 m.1 e.1) i.1))
+    let k = judges names scope part.right in (
+      compared_shaped scope.params (length scope.iterators) part.relation a.form b.form h.0 k.0,
+      (λ u l.
+          let m = neither a.broken b.broken u in
+          let i = neither_is (a.large || b.large) (is_large (compared_form part.relation a.form b.form)) l in
+          let e = neither_is a.large b.large i.0 in
+          known_compared part.relation a.form b.form (h.1 m.0 e.0) (k.1 m.1 e.1) i.1),
+    )
 
 -- where no rule is broken in the whole there is a form
 pub whole_known : (ps xs : ℕ) (j : Judged) → Judges ps xs j → whole_broken j ≡ None → IsKnown j.form

@@ -1,5 +1,5 @@
 -- The program of a file that breaks no rule is ready.
-use Rattle.std.proofs.Common.{◌≡◌, ◌+◌, ℕ, List, [], ◌∷◌, map, length, ◌∙◌, sym, subst, Bool, true, false, cond, filter, take, Option, None}
+use Rattle.std.proofs.Common.{◌≡◌, ◌+◌, ℕ, List, [], ◌∷◌, length, ◌∙◌, sym, subst, Bool, true, false, cond, filter, take, None}
 use Rattle.std.specs.List.{AllByRecursion}
 use Rattle.std.proofs.lemmas.List.{length-map}
 use Rattle.std.proofs.lemmas.List.Sums.{length-filter}
@@ -33,7 +33,7 @@ module _ (names : List Entry) (scope : Scope) (kind : Kind) where
   array_fits : (k : ℕ) (d : Declared) → ExtentsFit (array_of names scope kind k d)
   array_fits k d =
       each_map (λ (extent : Extent). index (take k names) scope extent.size) (Fits scope.params (length scope.iterators)) d.extents
-          (each (λ (extent : Extent). Fits scope.params (length scope.iterators) (index (take k names) scope extent.size)) (λ extent. index_fits (take k names) scope extent.size) d.extents)
+      (each (λ (extent : Extent). Fits scope.params (length scope.iterators) (index (take k names) scope extent.size)) (λ extent. index_fits (take k names) scope extent.size) d.extents)
 
   array_case : (a : Array) (rest : List Array) (skipped : Bool) → ExtentsFit a → AllByRecursion ExtentsFit rest → AllByRecursion ExtentsFit (cond skipped rest (a ∷ rest))
   array_case a rest true h k = k
@@ -60,7 +60,7 @@ ready_program file h c =
     let b = statements_ready names (body_scope (param_count file.params)) file.body (body_none names file h) c in
     let p = parts_fit names scope (context_parts file.pragmas) in
     let a = each_append (ExtentsFit names scope Input) (arrays_from names scope Input is_whole 0 file.params) (arrays_from names scope Local (is_loop_name file.body) (length file.params) file.locals)
-        (arrays_fit names scope Input is_whole 0 file.params) (arrays_fit names scope Local (is_loop_name file.body) (length file.params) file.locals) in
+    (arrays_fit names scope Input is_whole 0 file.params) (arrays_fit names scope Local (is_loop_name file.body) (length file.params) file.locals) in
     record {
       body = subst (λ n. ReadyAll n 0 (body_under names file)) e b;
       context = subst (λ n. FitParts n 0 (context_under names file)) e p;

@@ -1,9 +1,9 @@
 -- A statement that breaks no rule, and whose branches have conditions, is ready.
-use Rattle.std.proofs.Common.{◌≡◌, ℕ, suc, ◌+◌, ◌<◌, List, [], ◌∷◌, map, length, refl, ap, sym, ◌∙◌, subst, Bool, true, false, not, ◌&&◌, ◌||◌, ◌==◌, nat_lt, arith, rules, ℤ, ◌*ℤ◌, Option, None}
+use Rattle.std.proofs.Common.{◌≡◌, ℕ, ◌+◌, ◌<◌, List, [], ◌∷◌, map, length, refl, ap, sym, ◌∙◌, subst, Bool, true, false, not, ◌&&◌, ◌||◌, ◌==◌, nat_lt, arith, rules, ℤ, Option, None}
 use Rattle.std.specs.List.{AllByRecursion, Contains, list_any, list_all}
 use Rattle.std.proofs.lemmas.List.{length-map}
 use Rattle.std.proofs.lemmas.Bool.Decides.{nat_tests}
-use Rattle.ac_syntax.specs.Turns.{Bounded, bounds, bounds_by, innermost}
+use Rattle.ac_syntax.specs.Turns.{Bounded, bounds}
 use Rattle.ac_syntax.specs.Ready.{Fits, FitParts, Ready, ReadyAll}
 use Rattle.ac_syntax.specs.declared.tree.Place.{Place}
 use Rattle.ac_syntax.specs.declared.tree.Comparison.{Comparison}
@@ -50,9 +50,12 @@ HasBound names scope step parts = (bound : Comparison) × Contains (condition na
 bound_case : (names : List Entry) (scope : Scope) (step : ℤ) (part : Part) (parts : List Part) (b c : Bool) → may_bound step part.relation (compared names scope part).form ≡ b
     → whole_broken (compared names scope part) ≡ None → (b || c) ≡ true → (c ≡ true → HasBound names scope step parts) → HasBound names scope step (part ∷ parts)
 bound_case names scope step part parts true c e w k rest =
-    let j = compared names scope part in
-    (comparison names scope part, in_front (comparison names scope part) (condition names scope parts), (comparison_fits names scope part).iters,
-        bounds_of scope step part.relation j.place j.form (whole_known scope.params (length scope.iterators) j (compared_judges names scope part) w) e)
+    let j = compared names scope part in (
+      comparison names scope part,
+      in_front (comparison names scope part) (condition names scope parts),
+      (comparison_fits names scope part).iters,
+      bounds_of scope step part.relation j.place j.form (whole_known scope.params (length scope.iterators) j (compared_judges names scope part) w) e,
+    )
 bound_case names scope step part parts false c e w k rest =
     let r = rest k in (r.0, in_rest (comparison names scope part) (condition names scope parts) r.0 r.1, r.2, r.3)
 
@@ -61,7 +64,7 @@ bound_in : (names : List Entry) (scope : Scope) (step : ℤ) (parts : List Part)
 bound_in names scope step [] h k = absurd cc
 bound_in names scope step (part ∷ parts) h k =
     bound_case names scope step part parts (may_bound step part.relation (compared names scope part).form) (list_any (λ part. may_bound step part.relation (compared names scope part).form) parts) refl h.0 k
-        (bound_in names scope step parts h.1)
+    (bound_in names scope step parts h.1)
 
 not_false : (b : Bool) → not b ≡ false → b ≡ true
 not_false true h = refl
@@ -92,8 +95,8 @@ head_bounded : (names : List Entry) (scope : Scope) (typed : Bool) (name : Word)
     → Bounded (length scope.iterators) (step_number step) (record { parts = condition names (inside scope name.name) cond })
 head_bounded names scope typed name start cond step place h =
     let p = head_parts (broken_where (nat_lt 5 (length scope.iterators)) (Limit which.Depth) place) (broken_where (is_endless names (inside scope name.name) step cond) Endless place)
-        (earlier (earlier (word_broken name) (rule_broken (loop_rule names scope typed name.name) name.place)) (index_broken names (in_start scope typed name.name) start))
-        (condition_broken names (inside scope name.name) cond) (step_broken names (inside scope name.name) name.name step) h in
+    (earlier (earlier (word_broken name) (rule_broken (loop_rule names scope typed name.name) name.place)) (index_broken names (in_start scope typed name.name) start))
+    (condition_broken names (inside scope name.name) cond) (step_broken names (inside scope name.name) name.name step) h in
     bounded names scope name.name step cond (not_where (is_endless names (inside scope name.name) step cond) Endless place p.0) p.1
 
 pub parts_fit : (names : List Entry) (scope : Scope) (parts : List Part) → FitParts scope.params (length scope.iterators) (condition names scope parts)
@@ -135,11 +138,11 @@ loop_ready names typed name start cond step body place h scope b c =
     let r = ready_block names (inside scope name.name) body h n.1 (sym (conditions-loop typed name start cond step body place) ∙ c) in
     let e = more name.name scope.iterators in
     subst (Ready scope.params (length scope.iterators)) (sym (stmt-loop names scope typed name start cond step body place))
-        (for_ready scope.params (length scope.iterators) name.name (index names (in_start scope typed name.name) start) (record { parts = condition names (inside scope name.name) cond }) (step_number step) (stmts names (inside scope name.name) body) place
-            (index_fits names (in_start scope typed name.name) start)
-            (subst (λ k. FitParts scope.params k (condition names (inside scope name.name) cond)) e (parts_fit names (inside scope name.name) cond))
-            (head_bounded names scope typed name start cond step place n.0)
-            (subst (λ k. ReadyAll scope.params k (stmts names (inside scope name.name) body)) e r))
+    (for_ready scope.params (length scope.iterators) name.name (index names (in_start scope typed name.name) start) (record { parts = condition names (inside scope name.name) cond }) (step_number step) (stmts names (inside scope name.name) body) place
+    (index_fits names (in_start scope typed name.name) start)
+    (subst (λ k. FitParts scope.params k (condition names (inside scope name.name) cond)) e (parts_fit names (inside scope name.name) cond))
+    (head_bounded names scope typed name start cond step place n.0)
+    (subst (λ k. ReadyAll scope.params k (stmts names (inside scope name.name) body)) e r))
 
 branch_ready : (names : List Entry) (cond : List Part) (taken other : List Statement) (place : Place) → AllByRecursion (IsReady names) taken → AllByRecursion (IsReady names) other → IsReady names (Branch cond taken other place)
 branch_ready names cond taken other place h k scope b c =
@@ -148,14 +151,14 @@ branch_ready names cond taken other place h k scope b c =
     let e = both_true (nat_lt 0 (length cond)) (list_all has_conditions taken && list_all has_conditions other) (sym (conditions-branch cond taken other place) ∙ c) in
     let f = both_true (list_all has_conditions taken) (list_all has_conditions other) e.1 in
     subst (Ready scope.params (length scope.iterators)) (sym (stmt-branch names scope cond taken other place))
-        (if_ready scope.params (length scope.iterators) (record { parts = condition names scope cond }) (stmts names scope taken) (stmts names scope other) place
-            (parts_fit names scope cond) (ready_block names scope taken h m.0 f.0) (ready_block names scope other k m.1 f.1) (some_parts names scope cond e.0))
+    (if_ready scope.params (length scope.iterators) (record { parts = condition names scope cond }) (stmts names scope taken) (stmts names scope other) place
+    (parts_fit names scope cond) (ready_block names scope taken h m.0 f.0) (ready_block names scope other k m.1 f.1) (some_parts names scope cond e.0))
 
 assign_is_ready : (names : List Entry) (target : Word) (subs : List Expr) (operator : Option Operator) (e : Expr) → IsReady names (Assign target subs operator e)
 assign_is_ready names target subs operator e scope b c =
     subst (Ready scope.params (length scope.iterators)) (sym (stmt-assign names scope target subs operator e))
-        (assign_ready scope.params (length scope.iterators) (array_number (meaning names scope target.name)) (map (index names scope) subs) (assigned_value names scope target subs operator e) target.place
-            (indices_fit names scope subs) (assigned_fits names scope target subs operator e))
+    (assign_ready scope.params (length scope.iterators) (array_number (meaning names scope target.name)) (map (index names scope) subs) (assigned_value names scope target subs operator e) target.place
+    (indices_fit names scope subs) (assigned_fits names scope target subs operator e))
 
 statement_ready : (names : List Entry) (s : Statement) → IsReady names s
 statement_ready names = every_statement (IsReady names) (loop_ready names) (branch_ready names) (assign_is_ready names)

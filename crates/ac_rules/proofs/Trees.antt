@@ -1,5 +1,5 @@
 -- Inductions over expressions and statements, at lists.
-use Rattle.std.proofs.Common.{◌≡◌, List, [], ◌∷◌, map, sym, subst, Bool, Option}
+use Rattle.std.proofs.Common.{List, [], ◌∷◌, map, sym, subst, Bool, Option}
 use Rattle.std.specs.List.{AllByRecursion}
 use Rattle.ac_syntax.specs.declared.tree.Place.{Place}
 use Rattle.ac_grammar.specs.declared.tree.Word.{Word}
@@ -48,7 +48,7 @@ module _ (P : Statement → Type 0)
       subst P (sym (rolls-Loop typed name start cond step (map (λ (s : (s : Statement) × P s). s.0) body) place)) (loop typed name start cond step (map (λ (s : (s : Statement) × P s). s.0) body) place (beside_each P body))
   statement_case (Statement-F.Branch cond taken other place) =
       subst P (sym (rolls-Branch cond (map (λ (s : (s : Statement) × P s). s.0) taken) (map (λ (s : (s : Statement) × P s). s.0) other) place))
-          (branch cond (map (λ (s : (s : Statement) × P s). s.0) taken) (map (λ (s : (s : Statement) × P s). s.0) other) place (beside_each P taken) (beside_each P other))
+      (branch cond (map (λ (s : (s : Statement) × P s). s.0) taken) (map (λ (s : (s : Statement) × P s). s.0) other) place (beside_each P taken) (beside_each P other))
   statement_case (Statement-F.Assign target subs operator e) = subst P (sym (rolls-Assign target subs operator e)) (assign target subs operator e)
 
   pub every_statement : (s : Statement) → P s
