@@ -317,6 +317,12 @@ pub fn apply(alloc: Global, file: &File) -> Result<Program, RuleFault>
 
     // Each index expression has a coefficient for each parameter and iterator, each loop ends, and each branch has a condition.
     ensures ready { HasConditions file.now → IfOk result ReadyProgram }
+    // Each number of an array or a parameter is one that the program has.
+    ensures declared { IfOk result HasDeclaredNumbers }
+    ensures parameters { IfOk result ListsItsParameters }
+    ensures inputs { IfOk result HasInputs }
+    // Constants and coefficients are within the limits, and so are parameters and loops.
+    ensures small { IfOk result IsSmallProgram }
 {
     let names = names_of(alloc, file)?;
     match check(alloc, names.as_slice(), file)? {
