@@ -9,3 +9,10 @@ pub mod Answering
 pub mod DeclaredNumbers
 pub mod ArraysRead
 pub mod ArraysUsed
+pub mod Trees
+pub mod Absent
+pub mod Collecting
+pub mod Judges
+pub mod FittingValues
+pub mod ReadyStatements
+pub mod ReadyPrograms

@@ -1,8 +1,10 @@
-use Rattle.std.proofs.Common.{◌≡◌, sym, ◌∙◌, ap}
+use Rattle.std.proofs.Common.{◌≡◌, sym, ◌∙◌, ap, subst}
+use Rattle.ac_syntax.specs.Ready.{ReadyProgram}
 use Rattle.ac_rules.specs.Files.{names_of, broken_under, program_under}
 use Rattle.ac_rules.proofs.Answering.{answer_fault}
 use Rattle.ac_rules.proofs.DeclaredNumbers.{parameters_listed, inputs_had}
 use Rattle.ac_rules.proofs.ArraysUsed.{numbers_declared}
+use Rattle.ac_rules.proofs.ReadyPrograms.{ready_program}
 use Rattle.ac_rules.proofs.file.apply.Goals as goal
 
 pub returns-in-Some-clause-answer : goal.returns-in-Some-clause-answer
@@ -26,3 +28,8 @@ returns-clause-parameters c = parameters_listed c.args.file.now _ _ (c.as_slice-
 
 pub returns-clause-inputs : goal.returns-clause-inputs
 returns-clause-inputs c = inputs_had c.args.file.now _ _ (c.as_slice-in-None.ensures ∙ c.in_ok-names.ensures) c.in_ok-build-in-None.ensures
+
+pub returns-clause-ready : goal.returns-clause-ready
+returns-clause-ready c = λ h.
+    let a = returns-clause-answer c in
+    subst ReadyProgram (sym a.1) (ready_program c.args.file.now a.0 h)
