@@ -1,6 +1,7 @@
 -- From the lexer, the grammar and the rules to the answers on a text.
-use Rattle.std.proofs.Common.{◌≡◌, ◌≤◌, ℕ, List, map, length, refl, sym, ap, subst, ◌∙◌, Option, Some, None}
-use Rattle.std.specs.Prelude.{Result, Ok, Err}
+use Rattle.std.proofs.Common.{absurd, ◌≡◌, ◌≤◌, ℕ, List, map, length, refl, sym, ap, subst, ◌∙◌, Option, Some, None}
+use Rattle.std.specs.Prelude.{Result, Ok, Err, IfErr}
+use Rattle.std.specs.Result.{IsErrAnd}
 use Rattle.std.proofs.lemmas.Option.{none-some}
 use Rattle.std.specs.declared.alloc.AllocError.{AllocError}
 use Rattle.ac_syntax.specs.declared.tree.Place.{Place}
@@ -26,6 +27,11 @@ use Rattle.ac_parse.specs.Program.{IsShort, IsText, IsProgramOf}
 use Rattle.ac_parse.specs.Answers.{HasSourceFault, no_tokens, no_file, too_deep, breaks_a_rule, no_memory, IsOnlyProgram}
 use Rattle.ac_parse.specs.Laws.{HasOneProgram}
 use Rattle.ac_parse.specs.Stages.{of_lexer, of_grammar, of_rules, IsTokensAnswer, has_program, is_no_file, is_too_deep, breaks, lacks_memory}
+
+-- what holds of a converted fault
+pub converted : {T E : Type 0} (P : Result T E → Type 0) (r : Result T E) (e : E) → IsErrAnd r (λ f. f ≡ e) → P (Err e) → P r
+converted P (Ok x) e is h = absurd is
+converted P (Err f) e is h = subst (λ g. P (Err g)) (sym is) h
 
 -- a fault of the grammar
 pub grammar_answer : (end : ℕ) (ts : List Lexeme) (f : GrammarFault) → IsFileAnswer 128 end ts (Err f) → IsTokensAnswer end ts (Err (of_grammar f))
@@ -83,6 +89,11 @@ text_fault bytes ts f s cut (is_no_file place h) = no_file ts place s cut h
 text_fault bytes ts f s cut (is_too_deep place h) = too_deep ts place s cut h
 text_fault bytes ts f s cut (breaks file first is h) = breaks_a_rule file first (record { short = s; tokens = ts; cut = cut; grammar = is }) h
 text_fault bytes ts f s cut (lacks_memory e) = no_memory e
+
+pub text_told : (bytes : List ℕ) (ts : List Lexeme) (r : Result Program SourceFault) → IsShort bytes → AreTokens bytes ts → IsTokensAnswer (length bytes) ts r
+    → IfErr r (HasSourceFault bytes)
+text_told bytes ts (Ok p) s cut h = tt
+text_told bytes ts (Err f) s cut h = text_fault bytes ts f s cut h
 
 -- the tokens of a text with a program are a file without a broken rule
 pub text_tokens : (bytes : List ℕ) (ts : List Lexeme) (p : Program) (h : IsProgramOf bytes p) → AreTokens bytes ts → IsFile 128 ts h.file

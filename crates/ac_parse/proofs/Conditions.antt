@@ -1,5 +1,5 @@
 -- Each branch of a file of the grammar has a comparison in its condition.
-use Rattle.std.proofs.Common.{◌≡◌, ◌<◌, ◌+◌, arith, ℕ, zero, suc, Bool, true, Option, List, [], ◌∷◌, ◌++◌, map, length, refl, rules, ap, ◌∙◌, sym, subst}
+use Rattle.std.proofs.Common.{absurd, ◌≡◌, ◌<◌, ◌+◌, arith, ℕ, zero, suc, Bool, true, Option, List, [], ◌∷◌, ◌++◌, map, length, refl, rules, ap, ◌∙◌, sym, subst}
 use Rattle.std.specs.Prelude.{◌&&◌, nat_lt}
 use Rattle.std.specs.List.{list_all}
 use Rattle.std.proofs.lemmas.List.Folds.{list_all-append}
@@ -57,7 +57,7 @@ alone : (s : Statement) → has_conditions s ≡ true → list_all has_condition
 alone s h = rw h refl
 
 above : (n : ℕ) → 0 < n → nat_lt 0 n ≡ true
-above zero h = search
+above zero h = absurd (omega arith)
 above (suc n) h = refl
 
 mutual

@@ -5,6 +5,7 @@ ghost use Rattle.ac_lex.specs.Lexemes.{lexeme_of};
 ghost use Rattle.ac_grammar.specs.declared.tree.File.{File};
 ghost use Rattle.ac_grammar.specs.FileGrammar.{IsFile};
 ghost use Rattle.ac_rules.specs.Files.{file_broken, program_of};
+ghost use Rattle.ac_rules.specs.Numbers.{HasDeclaredNumbers, HasInputs, ListsItsParameters};
 ghost use Rattle.ac_parse.specs.Program.{IsShort, IsProgramOf};
 ghost use Rattle.ac_parse.specs.Answers.{HasSourceFault, IsOnlyProgram};
 ghost use Rattle.ac_parse.specs.Stages.{IsTokensAnswer};
@@ -25,6 +26,9 @@ const START: Place = Place { at: 0 };
 fn parse_tokens(alloc: Global, tokens: &[Token<'_>], end: u32) -> Result<Program, SourceFault>
     ensures answer { IsTokensAnswer end (map lexeme_of tokens.now) result }
     ensures only { (file : File) → IsFile 128 (map lexeme_of tokens.now) file → file_broken file ≡ None → IsOnlyProgram (program_of file) result }
+    ensures declared { IfOk result HasDeclaredNumbers }
+    ensures parameters { IfOk result ListsItsParameters }
+    ensures inputs { IfOk result HasInputs }
 {
     let file = read(alloc, tokens, end)?;
     let program = apply(alloc, &file)?;
@@ -37,6 +41,9 @@ fn parse_short(alloc: Global, bytes: &[u8]) -> Result<Program, SourceFault>
     ensures program { IfOk result (IsProgramOf bytes.now) }
     ensures only { (program : Program) → IsProgramOf bytes.now program → IsOnlyProgram program result }
     ensures fault { IfErr result (HasSourceFault bytes.now) }
+    ensures declared { IfOk result HasDeclaredNumbers }
+    ensures parameters { IfOk result ListsItsParameters }
+    ensures inputs { IfOk result HasInputs }
 {
     let tokens = lex(alloc, bytes)?;
     parse_tokens(alloc, &tokens, bytes.len() as u32)
@@ -52,6 +59,11 @@ pub fn parse(alloc: Global, bytes: &[u8]) -> Result<Program, SourceFault>
     // What is answered is the program that the whole text has, and it is answered of each text that has one.
     ensures program { IfOk result (IsProgramOf bytes.now) }
     ensures only { (program : Program) → IsProgramOf bytes.now program → IsOnlyProgram program result }
+
+    // Each number of an array or a parameter is one that the program has, and its parameter list has them in order.
+    ensures declared { IfOk result HasDeclaredNumbers }
+    ensures parameters { IfOk result ListsItsParameters }
+    ensures inputs { IfOk result HasInputs }
 
     // A text that is too long is always answered so.
     ensures long { 65536 < length bytes.now → IsErrOf result (SourceFault.Limit Which.File (record { at = 0 })) }
