@@ -6,3 +6,7 @@ pub mod Running
 pub mod Stepping
 pub mod Targets
 pub mod Answering
+pub mod SmallForms
+pub mod SmallValues
+pub mod SmallStatements
+pub mod SmallPrograms
