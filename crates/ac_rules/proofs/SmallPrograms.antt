@@ -1,6 +1,6 @@
 -- The program of a file that breaks no rule has small numbers, few parameters and few loops around a statement.
 use Rattle.std.proofs.Common.{◌≡◌, ℕ, ◌+◌, ◌≤◌, Bool, true, false, List, [], ◌∷◌, ◌++◌, length, map, take, nat_lt, nat_eq, None, refl, sym, ap, subst, ◌∙◌, arith}
-use Rattle.std.specs.Prelude.{◌||◌, not, if◌then◌else◌, cond, Result, Ok, Err, IfOk}
+use Rattle.std.specs.Prelude.{◌||◌, not, if◌then◌else◌, cond}
 use Rattle.std.specs.List.{AllByRecursion}
 use Rattle.std.specs.Cmp.Lexicographic.{pointwise, other_text}
 use Rattle.std.proofs.Math.Seq.{take-append_seam}
@@ -9,7 +9,6 @@ use Rattle.std.proofs.lemmas.List.{append_assoc, length-append}
 use Rattle.std.proofs.lemmas.List.Sums.{sum_by-cons}
 use Rattle.ac_syntax.specs.Small.{AreSmallForms, IsSmallProgram}
 use Rattle.ac_syntax.specs.declared.tree.Array.{Array}
-use Rattle.ac_syntax.specs.declared.tree.Program.{Program}
 use Rattle.ac_syntax.specs.declared.tree.Kind.{Kind}
 use Rattle.ac_syntax.specs.declared.tree.Place.{Place}
 use Rattle.ac_syntax.specs.declared.tree.Kind.TheVariants.{Input, Local}
@@ -18,7 +17,6 @@ use Rattle.ac_grammar.specs.declared.tree.Extent.{Extent}
 use Rattle.ac_grammar.specs.declared.tree.File.{File}
 use Rattle.ac_rules.specs.declared.fault.Which.TheVariants as which
 use Rattle.ac_rules.specs.declared.fault.Rule.TheVariants.{Duplicate, Limit}
-use Rattle.ac_rules.specs.declared.fault.RuleFault.{RuleFault}
 use Rattle.ac_rules.specs.declared.scope.Meaning.{Meaning}
 use Rattle.ac_rules.specs.declared.scope.Meaning.TheVariants as means
 use Rattle.ac_rules.specs.declared.scope.Entry.{Entry}
@@ -28,7 +26,7 @@ use Rattle.ac_rules.specs.Meanings.{declared_meaning, word_broken}
 use Rattle.ac_rules.specs.Comparisons.{first_of, index}
 use Rattle.ac_rules.specs.Declarations.{is_whole, is_loop_name, entry, count, param_meaning, param_entries, local_entries, param_count, input_count, fixed_scope, is_declared, count_broken, dimensions_broken, extents_broken, name_broken, declared_broken, each_declared_broken, array_of, arrays_from}
 use Rattle.ac_rules.specs.Statements.{statements_broken}
-use Rattle.ac_rules.specs.Files.{body_scope, assignments_broken, declarations_broken, body_broken, pragmas_broken, context_parts, names_of, file_broken, program_of, IsAnswer}
+use Rattle.ac_rules.specs.Files.{body_scope, assignments_broken, declarations_broken, body_broken, pragmas_broken, context_parts, names_of, file_broken, program_of}
 use Rattle.ac_rules.proofs.SmallForms.{Few, small_index, small_condition}
 use Rattle.ac_rules.proofs.SmallStatements.{NoneBroken, earlier_none, first_none, where_none, small_statements}
 
@@ -88,7 +86,7 @@ few_params scope before (d ∷ ds) tail p a l h =
     let s : names ≡ (before ++ entry d (param_meaning d p a) ∷ []) ++ rest = sym (append_assoc before (entry d (param_meaning d p a) ∷ []) rest) in
     let k : length before + 1 ≡ length (before ++ entry d (param_meaning d p a) ∷ []) = sym (length-append before (entry d (param_meaning d p a) ∷ [])) in
     let r = few_params scope (before ++ entry d (param_meaning d p a) ∷ []) ds tail (p + count (is_whole d)) (a + count (not (is_whole d))) w
-        (subst (λ i. NoneBroken (each_declared_broken ((before ++ entry d (param_meaning d p a) ∷ []) ++ rest) scope i ds)) k (subst (λ es. NoneBroken (each_declared_broken es scope (length before + 1) ds)) s h.1)) in
+    (subst (λ i. NoneBroken (each_declared_broken ((before ++ entry d (param_meaning d p a) ∷ []) ++ rest) scope i ds)) k (subst (λ es. NoneBroken (each_declared_broken es scope (length before + 1) ds)) s h.1)) in
     omega (arith, r, counted d ds)
 
 -- arrays
@@ -135,8 +133,3 @@ small_program file h =
       context = small_condition names (fixed_scope (param_count file.params)) fixed (context_parts file.pragmas);
       extents = all_both _ _ (small_arrays names (fixed_scope (param_count file.params)) Input is_whole fixed 0 file.params) (small_arrays names (fixed_scope (param_count file.params)) Local (is_loop_name file.body) fixed (length file.params) file.locals);
     }
-
--- what an answer says of the program
-pub small_answer : (file : File) (result : Result Program RuleFault) → IsAnswer file result → IfOk result IsSmallProgram
-small_answer file (Ok program) h = subst IsSmallProgram (sym h.1) (small_program file h.0)
-small_answer file (Err fault) h = tt

@@ -110,22 +110,22 @@ module _ (names : List Entry) where
       let e = earlier_none (head_broken names scope typed name start cond step place) (statements_broken names (inside scope name.name) body) (sym (broken-loop names scope typed name start cond step body place) ∙ h) in
       let i = one_more scope name.name few (front_none (nat_lt 5 (length scope.iterators)) (Limit which.Depth) place _ _ e.0) in
       subst IsSmallStmt (sym (stmt-loop names scope typed name start cond step body place))
-        (small_for name.name (index names (in_start scope typed name.name) start) (record { parts = condition names (inside scope name.name) cond }) (step_number step) (stmts names (inside scope name.name) body) place
-          (small_index names (in_start scope typed name.name) (at_start scope typed name.name few) start) (small_condition names (inside scope name.name) i cond) (small_body body ks (inside scope name.name) i e.1))
+      (small_for name.name (index names (in_start scope typed name.name) start) (record { parts = condition names (inside scope name.name) cond }) (step_number step) (stmts names (inside scope name.name) body) place
+      (small_index names (in_start scope typed name.name) (at_start scope typed name.name few) start) (small_condition names (inside scope name.name) i cond) (small_body body ks (inside scope name.name) i e.1))
 
   small_branch : (cond : List Part) (taken other : List Statement) (place : Place) → AllByRecursion Kept taken → AllByRecursion Kept other → Kept (Branch cond taken other place)
   small_branch cond taken other place ts os scope few h =
       let e = earlier_none (condition_broken names scope cond) (earlier (statements_broken names scope taken) (statements_broken names scope other)) (sym (broken-branch names scope cond taken other place) ∙ h) in
       let b = earlier_none (statements_broken names scope taken) (statements_broken names scope other) e.1 in
       subst IsSmallStmt (sym (stmt-branch names scope cond taken other place))
-        (small_if (record { parts = condition names scope cond }) (stmts names scope taken) (stmts names scope other) place
-          (small_condition names scope few cond) (small_body taken ts scope few b.0) (small_body other os scope few b.1))
+      (small_if (record { parts = condition names scope cond }) (stmts names scope taken) (stmts names scope other) place
+      (small_condition names scope few cond) (small_body taken ts scope few b.0) (small_body other os scope few b.1))
 
   small_assignment : (target : Word) (subs : List Expr) (operator : Option Operator) (e : Expr) → Kept (Assign target subs operator e)
   small_assignment target subs operator e scope few h =
       subst IsSmallStmt (sym (stmt-assign names scope target subs operator e))
-        (small_assign (array_number (meaning names scope target.name)) (map (index names scope) subs) (assigned_value names scope target subs operator e) target.place
-          (small_indices names scope few subs) (small_assigned names scope few target subs operator e))
+      (small_assign (array_number (meaning names scope target.name)) (map (index names scope) subs) (assigned_value names scope target subs operator e) target.place
+      (small_indices names scope few subs) (small_assigned names scope few target subs operator e))
 
   kept_parts : (ys : List ((s : Statement) × Kept s)) → AllByRecursion Kept (map (λ s. s.0) ys)
   kept_parts [] = tt
