@@ -1,5 +1,7 @@
 // From the bytes of a text to a program.
 ghost use Rattle.std.specs.Prelude.{◌≡◌, ◌<◌, length, map, None, IfOk, IfErr, IsErrOf};
+ghost use Rattle.ac_syntax.specs.Ready.{ReadyProgram};
+ghost use Rattle.ac_syntax.specs.Small.{IsSmallProgram};
 ghost use Rattle.ac_syntax.specs.declared.tree.Program.{Program};
 ghost use Rattle.ac_lex.specs.Lexemes.{lexeme_of};
 ghost use Rattle.ac_grammar.specs.declared.tree.File.{File};
@@ -26,9 +28,11 @@ const START: Place = Place { at: 0 };
 fn parse_tokens(alloc: Global, tokens: &[Token<'_>], end: u32) -> Result<Program, SourceFault>
     ensures answer { IsTokensAnswer end (map lexeme_of tokens.now) result }
     ensures only { (file : File) → IsFile 128 (map lexeme_of tokens.now) file → file_broken file ≡ None → IsOnlyProgram (program_of file) result }
+    ensures ready { IfOk result ReadyProgram }
     ensures declared { IfOk result HasDeclaredNumbers }
     ensures parameters { IfOk result ListsItsParameters }
     ensures inputs { IfOk result HasInputs }
+    ensures small { IfOk result IsSmallProgram }
 {
     let file = read(alloc, tokens, end)?;
     let program = apply(alloc, &file)?;
@@ -41,9 +45,11 @@ fn parse_short(alloc: Global, bytes: &[u8]) -> Result<Program, SourceFault>
     ensures program { IfOk result (IsProgramOf bytes.now) }
     ensures only { (program : Program) → IsProgramOf bytes.now program → IsOnlyProgram program result }
     ensures fault { IfErr result (HasSourceFault bytes.now) }
+    ensures ready { IfOk result ReadyProgram }
     ensures declared { IfOk result HasDeclaredNumbers }
     ensures parameters { IfOk result ListsItsParameters }
     ensures inputs { IfOk result HasInputs }
+    ensures small { IfOk result IsSmallProgram }
 {
     let tokens = lex(alloc, bytes)?;
     parse_tokens(alloc, &tokens, bytes.len() as u32)
@@ -60,10 +66,14 @@ pub fn parse(alloc: Global, bytes: &[u8]) -> Result<Program, SourceFault>
     ensures program { IfOk result (IsProgramOf bytes.now) }
     ensures only { (program : Program) → IsProgramOf bytes.now program → IsOnlyProgram program result }
 
+    // Each index expression has a coefficient for each parameter and each iterator, each loop ends, and each branch has a condition.
+    ensures ready { IfOk result ReadyProgram }
     // Each number of an array or a parameter is one that the program has, and its parameter list has them in order.
     ensures declared { IfOk result HasDeclaredNumbers }
     ensures parameters { IfOk result ListsItsParameters }
     ensures inputs { IfOk result HasInputs }
+    // Numbers are at most 2^31 in absolute value, with at most 4 parameters and 6 loops around a statement.
+    ensures small { IfOk result IsSmallProgram }
 
     // A text that is too long is always answered so.
     ensures long { 65536 < length bytes.now → IsErrOf result (SourceFault.Limit Which.File (record { at = 0 })) }

@@ -16,3 +16,7 @@ pub mod Judges
 pub mod FittingValues
 pub mod ReadyStatements
 pub mod ReadyPrograms
+pub mod SmallForms
+pub mod SmallValues
+pub mod SmallStatements
+pub mod SmallPrograms

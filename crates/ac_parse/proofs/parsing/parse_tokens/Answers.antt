@@ -5,6 +5,7 @@ use Rattle.ac_rules.specs.Files.{file_broken, program_of}
 use Rattle.ac_parse.specs.Answers.{IsOnlyProgram}
 use Rattle.ac_parse.specs.Stages.{of_grammar, of_rules, IsTokensAnswer}
 use Rattle.ac_parse.proofs.Composing.{converted, grammar_answer, rules_answer, program_answer, rules_only}
+use Rattle.ac_parse.proofs.Conditions.{file_conditions}
 use Rattle.ac_parse.proofs.parsing.parse_tokens.Goals as goal
 
 pub returns-in_err-file-clause-answer : goal.returns-in_err-file-clause-answer
@@ -30,3 +31,6 @@ returns-in_err-program-clause-only c = λ file is none.
 pub returns-clause-answer : goal.returns-clause-answer
 returns-clause-answer c =
     program_answer c.args.end (map lexeme_of c.args.tokens.now) c.in_ok-file.file c.in_ok-program.program c.in_ok-file.ensures.exact c.in_ok-program.ensures.answer
+
+pub returns-clause-ready : goal.returns-clause-ready
+returns-clause-ready c = c.in_ok-program.ensures.ready (file_conditions c.in_ok-file.ensures.exact)
