@@ -1,5 +1,5 @@
 -- From the lexer, the grammar and the rules to the answers on a text.
-use Rattle.std.proofs.Common.{absurd, ◌≡◌, ◌≤◌, ℕ, List, map, length, refl, sym, ap, subst, ◌∙◌, Option, Some, None}
+use Rattle.std.proofs.Common.{◌≡◌, ◌≤◌, ℕ, List, map, length, refl, sym, ap, subst, ◌∙◌, Option, Some, None}
 use Rattle.std.specs.Prelude.{Result, Ok, Err, IfErr}
 use Rattle.std.specs.Result.{IsErrAnd}
 use Rattle.std.proofs.lemmas.Option.{none-some}

@@ -1,9 +1,10 @@
 -- Each branch of a file of the grammar has a comparison in its condition.
-use Rattle.std.proofs.Common.{absurd, ◌≡◌, ◌<◌, ◌+◌, arith, ℕ, zero, suc, Bool, true, Option, List, [], ◌∷◌, ◌++◌, map, length, refl, rules, ap, ◌∙◌, sym, subst}
+use Rattle.std.proofs.Common.{◌≡◌, ◌<◌, ◌+◌, arith, ℕ, Bool, true, Option, List, [], ◌∷◌, ◌++◌, map, length, refl, rules, ap, ◌∙◌, sym, subst}
 use Rattle.std.specs.Prelude.{◌&&◌, nat_lt}
 use Rattle.std.specs.List.{list_all}
 use Rattle.std.proofs.lemmas.List.Folds.{list_all-append}
 use Rattle.std.proofs.lemmas.List.{length-append}
+use Rattle.std.proofs.lemmas.Bool.{lt-ltb}
 use Rattle.ac_lex.specs.Lexemes.{Lexeme}
 use Rattle.ac_syntax.specs.declared.tree.Place.{Place}
 use Rattle.ac_grammar.specs.declared.tree.Word.{Word}
@@ -57,8 +58,7 @@ alone : (s : Statement) → has_conditions s ≡ true → list_all has_condition
 alone s h = rw h refl
 
 above : (n : ℕ) → 0 < n → nat_lt 0 n ≡ true
-above zero h = absurd (omega arith)
-above (suc n) h = refl
+above n h = lt-ltb 0 n h
 
 mutual
   statement_all : {room : ℕ} {dangling : Bool} {ts : List Lexeme} {ss : List Statement} → IsStatement room dangling ts ss → list_all has_conditions ss ≡ true

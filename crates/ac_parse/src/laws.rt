@@ -1,7 +1,6 @@
 ghost use Rattle.ac_parse.specs.Laws.{HasOneProgram};
 
 /// What the bytes of a text determine: their program.
-#[tactic(auto, using(crate::proofs::Composing::one_program))]
 pub fn programs_are_determined()
     ensures { HasOneProgram }
 {}
