@@ -16,3 +16,4 @@ pub mod Judges
 pub mod FittingValues
 pub mod ReadyStatements
 pub mod ReadyPrograms
+pub mod FaultOrder

@@ -9,3 +9,4 @@ pub mod Declarations
 pub mod Statements
 pub mod Files
 pub mod Numbers
+pub mod Laws
