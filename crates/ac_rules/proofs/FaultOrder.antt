@@ -84,6 +84,7 @@ among x b (c ∷ cs) h = by (among x (earlier b c) cs h)
     in_two : (b ≡ Some x) ⊎ (c ≡ Some x) → (b ≡ Some x) ⊎ Contains (c ∷ cs) (Some x)
     in_two (inl e) = inl e
     in_two (inr e) = inr (subst (λ y. Contains (y ∷ cs) (Some x)) (sym e) (in_front (Some x) cs))
+
     by : (earlier b c ≡ Some x) ⊎ Contains cs (Some x) → (b ≡ Some x) ⊎ Contains (c ∷ cs) (Some x)
     by (inl e) = in_two (one_of_two x b c e)
     by (inr k) = inr (in_rest c cs (Some x) k)

@@ -17,3 +17,7 @@ pub mod FittingValues
 pub mod ReadyStatements
 pub mod ReadyPrograms
 pub mod FaultOrder
+pub mod FormValues
+pub mod NumberedNames
+pub mod WrittenExpressions
+pub mod WrittenConditions
