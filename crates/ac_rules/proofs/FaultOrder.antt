@@ -6,8 +6,8 @@ use Rattle.std.proofs.lemmas.List.Elements.{All-from_recursion}
 use Rattle.std.proofs.lemmas.Bool.Decides.{nat_tests}
 use Rattle.ac_rules.specs.declared.fault.Broken.{Broken}
 use Rattle.ac_rules.specs.Faults.{rank, is_earlier, earlier}
-use Rattle.ac_rules.specs.Comparisons.{first_from, first_of}
-use Rattle.ac_rules.specs.Laws.{IsNoLater, IsFirst, FirstIsLeast, NoFirstIsNone}
+use Rattle.ac_rules.specs.Comparisons.{first_from}
+use Rattle.ac_rules.specs.Laws.{IsNoLater, FirstIsLeast, NoFirstIsNone}
 use Rattle.ac_rules.proofs.Absent.{none_of, in_rest, in_front}
 
 -- f is no later than a fault that there may be

@@ -1,5 +1,5 @@
 -- The values of forms at a point.
-use Rattle.std.proofs.Common.{◌≡◌, ℕ, zero, suc, ◌+◌, ◌<◌, ℤ, pos, negsuc, ◌+ℤ◌, ◌-ℤ◌, ◌*ℤ◌, neg_ℤ, List, [], ◌∷◌, map, length, Bool, true, false, cond, ◌&&◌, ◌||◌, ◌==◌, refl, sym, ap, ◌∙◌, arith, Option, Some, None}
+use Rattle.std.proofs.Common.{◌≡◌, ℕ, zero, suc, ◌+◌, ◌<◌, ℤ, pos, negsuc, ◌+ℤ◌, ◌-ℤ◌, ◌*ℤ◌, neg_ℤ, List, [], ◌∷◌, map, length, Bool, true, false, cond, ◌&&◌, ◌||◌, ◌==◌, refl, sym, ap, ◌∙◌, arith, Option, Some}
 use Rattle.std.specs.Prelude.{slice_get}
 use Rattle.std.specs.Option.{option_map}
 use Rattle.std.specs.List.{range_with_len, list_all}
@@ -7,7 +7,7 @@ use Rattle.std.proofs.lemmas.Int.{ints}
 use Rattle.std.proofs.lemmas.Bool.Decides.{nat_tests}
 use Rattle.std.proofs.lemmas.Option.{slice_get-get_or}
 use Rattle.ac_integers.specs.Dot.{dot}
-use Rattle.ac_integers.proofs.Dot.{gather, dot-nil}
+use Rattle.ac_integers.proofs.Dot.{gather}
 use Rattle.ac_integers.proofs.Products.{mul_comm_ℤ}
 use Rattle.ac_syntax.specs.Index.{Point, is_zero}
 use Rattle.ac_grammar.specs.declared.tree.Operator.{Operator}
@@ -15,7 +15,7 @@ use Rattle.ac_grammar.specs.declared.tree.Operator.TheVariants.{Add, Subtract, M
 use Rattle.ac_rules.specs.declared.form.Affine.{Affine}
 use Rattle.ac_rules.specs.declared.form.Collected.{Collected}
 use Rattle.ac_rules.specs.declared.form.Collected.TheVariants.{Known, Large, Unknown}
-use Rattle.ac_rules.specs.Forms.{is_within, is_constant, signed, plus_times, times, sum_form, multiple_form, indicator, unit, zeros, constant_form, parameter_form, iterator_form, limited, sum_of, known_product, large_product, product_of, negative_of}
+use Rattle.ac_rules.specs.Forms.{is_within, is_constant, plus_times, times, sum_form, multiple_form, indicator, unit, zeros, constant_form, parameter_form, iterator_form, limited, sum_of, product_of, negative_of}
 use Rattle.ac_rules.specs.IndexExpressions.{form_of}
 use Rattle.ac_rules.specs.WrittenValues.{on_both, operated}
 use Rattle.ac_rules.specs.Laws.{form_value}

@@ -1,8 +1,8 @@
 -- Comparisons and conditions hold as they are written.
-use Rattle.std.proofs.Common.{◌≡◌, ◌↔◌, ℕ, zero, suc, ℤ, pos, negsuc, ◌+ℤ◌, ◌*ℤ◌, ◌≤ℤ◌, ◌<ℤ◌, List, [], ◌∷◌, map, length, Bool, true, false, cond, ◌&&◌, refl, sym, ap, subst, ◌∙◌, arith, Option, Some, None}
+use Rattle.std.proofs.Common.{◌≡◌, ◌↔◌, ℕ, zero, suc, ℤ, pos, negsuc, ◌+ℤ◌, ◌*ℤ◌, ◌≤ℤ◌, ◌<ℤ◌, List, [], ◌∷◌, map, length, Bool, true, false, cond, refl, sym, ap, subst, ◌∙◌, arith, Option, Some, None}
 use Rattle.std.specs.List.{AllByRecursion, list_all}
 use Rattle.std.proofs.lemmas.Int.{ints}
-use Rattle.ac_syntax.specs.Index.{Point, is_nonnegative, is_zero, rel_holds, comparison_holds, index_value, holds}
+use Rattle.ac_syntax.specs.Index.{Point, is_nonnegative, is_zero, rel_holds, comparison_holds}
 use Rattle.ac_grammar.specs.declared.tree.Part.{Part}
 use Rattle.ac_grammar.specs.declared.tree.Relation.{Relation}
 use Rattle.ac_grammar.specs.declared.tree.Relation.TheVariants.{Less, AtMost, Greater, AtLeast, Equal}
@@ -11,9 +11,9 @@ use Rattle.ac_rules.specs.declared.form.Collected.{Collected}
 use Rattle.ac_rules.specs.declared.form.Collected.TheVariants.{Known, Large, Unknown}
 use Rattle.ac_rules.specs.declared.scope.Entry.{Entry}
 use Rattle.ac_rules.specs.declared.scope.Scope.{Scope}
-use Rattle.ac_rules.specs.Forms.{is_within, sum_form, limited}
+use Rattle.ac_rules.specs.Forms.{is_within}
 use Rattle.ac_rules.specs.IndexExpressions.{judged}
-use Rattle.ac_rules.specs.Comparisons.{whole_broken, index_expr, margin, difference_form, difference, compared_form, rel_of, compared, comparison, condition, condition_broken}
+use Rattle.ac_rules.specs.Comparisons.{whole_broken, margin, difference_form, difference, compared_form, rel_of, compared, comparison}
 use Rattle.ac_rules.specs.WrittenValues.{integer_of, expression_value, IsRelated}
 use Rattle.ac_rules.specs.Laws.{AreNumbered, IsPointOf, form_value, IsCompared, ComparisonsHold, IsTrueAt, ConditionsHold}
 use Rattle.ac_rules.proofs.Absent.{none_of, each_of_map, both_true}

@@ -1,6 +1,5 @@
 -- The form of an expression has its value.
 use Rattle.std.proofs.Common.{◌≡◌, ℕ, ◌<◌, ℤ, pos, neg_ℤ, List, [], ◌∷◌, map, length, Bool, true, false, not, cond, ◌&&◌, ◌==◌, refl, sym, ap, subst, ◌∙◌, rules, Option, Some, None}
-use Rattle.std.specs.Prelude.{slice_get, if◌then◌else◌}
 use Rattle.std.specs.Option.{option_map}
 use Rattle.std.specs.List.{AllByRecursion}
 use Rattle.std.proofs.lemmas.List.{length-map}
@@ -20,10 +19,10 @@ use Rattle.ac_rules.specs.declared.scope.Entry.{Entry}
 use Rattle.ac_rules.specs.declared.scope.Meaning.{Meaning}
 use Rattle.ac_rules.specs.declared.scope.Meaning.TheVariants.{Parameter, Iterator, Array, LoopName, OwnStart, Nothing}
 use Rattle.ac_rules.specs.declared.scope.Scope.{Scope}
-use Rattle.ac_rules.specs.Forms.{constant_form, parameter_form, iterator_form}
-use Rattle.ac_rules.specs.Meanings.{meaning, is_array, read_rule, call_rule}
+use Rattle.ac_rules.specs.Forms.{constant_form}
+use Rattle.ac_rules.specs.Meanings.{meaning, is_array, read_rule}
 use Rattle.ac_rules.specs.IndexExpressions.{is_long, judged_number, name_form, judged_name, judged_other, judged_variable, judged_access, gathered, no_parts, joined, chained, judged_chain, judged}
-use Rattle.ac_rules.specs.Comparisons.{index, index_broken, index_expr, placed_form, form_or_zero}
+use Rattle.ac_rules.specs.Comparisons.{index_expr, placed_form, form_or_zero}
 use Rattle.ac_rules.specs.WrittenValues.{meant_integer, integer_of, operated, operated_all, chain_value, expression_value}
 use Rattle.ac_rules.specs.Laws.{AreNumbered, IsPointOf, form_value, FormsHaveValues, IndicesHaveValues}
 use Rattle.ac_rules.proofs.Collecting.{Shaped, IsKnown, form_shaped}
