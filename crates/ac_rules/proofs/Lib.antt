@@ -20,3 +20,8 @@ pub mod SmallForms
 pub mod SmallValues
 pub mod SmallStatements
 pub mod SmallPrograms
+pub mod FaultOrder
+pub mod FormValues
+pub mod NumberedNames
+pub mod WrittenExpressions
+pub mod WrittenConditions

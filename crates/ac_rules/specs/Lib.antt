@@ -9,3 +9,5 @@ pub mod Declarations
 pub mod Statements
 pub mod Files
 pub mod Numbers
+pub mod WrittenValues
+pub mod Laws

@@ -10,6 +10,7 @@ pub mod fault;
 mod file;
 mod form;
 mod index;
+pub mod laws;
 mod measure;
 mod scope;
 mod statement;
