@@ -13,6 +13,7 @@
 mod cells;
 mod compare;
 mod evaluate;
+mod places;
 mod program;
 mod prove;
 mod report;
