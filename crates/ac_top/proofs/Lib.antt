@@ -5,6 +5,7 @@ pub mod Values
 pub mod Steps
 pub mod Elements
 pub mod Inputs
+pub mod Instances
 pub mod Leasts
 pub mod Lines
 pub mod Rising

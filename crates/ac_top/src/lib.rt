@@ -13,10 +13,12 @@
 mod cells;
 mod compare;
 mod evaluate;
+mod halts;
 mod places;
 mod program;
 mod prove;
 mod report;
+mod runs;
 pub mod status;
 mod straight;
 mod texts;

@@ -46,7 +46,7 @@ pub enum Paired {
 }
 
 /// The report of a refusal.
-fn refused(text: Vec<u8>) -> Report
+pub fn refused(text: Vec<u8>) -> Report
     ensures { written result ≡ a_report Status.Refused text.items }
 {
     Report {
