@@ -1,6 +1,7 @@
 -- Runs at a valuation: their lines, the halts that are due, and what is known where all outcomes are equal.
-use Rattle.std.proofs.Common.{◌≡◌, ℕ, zero, suc, ◌+◌, ◌<◌, ℤ, List, [], ◌∷◌, ◌++◌, length, map, take, min, Contains, slice_index_or, Bool, true, false, ◌&&◌, if◌then◌else◌, nat_lt, Option, None, Some, IfSome, Result, Ok, Err, refl, sym, ap, subst, ◌∙◌, arith}
+use Rattle.std.proofs.Common.{◌≡◌, ℕ, zero, suc, ◌+◌, ◌<◌, ℤ, List, [], ◌∷◌, ◌++◌, length, map, take, min, Contains, slice_index_or, Bool, true, false, ◌&&◌, if◌then◌else◌, nat_lt, Option, None, Some, IfSome, MatchOption, Vec, Result, Ok, Err, refl, sym, ap, subst, ◌∙◌, arith}
 use Rattle.std.specs.Prelude.{option_and_then, option_map}
+use Rattle.std.specs.Global.{Global}
 use Rattle.std.specs.List.{list_all, list_any}
 use Rattle.std.proofs.lemmas.List.{append_assoc, append-nil, take_more, length-take, length-map}
 use Rattle.ac_syntax.specs.Checked.{checked_value, checked_holds}
@@ -21,7 +22,7 @@ use Rattle.ac_instance.specs.declared.halt.Halt.TheVariants.{OutsideContext, Too
 use Rattle.ac_instance.specs.declared.halt.Outcome.{Outcome}
 use Rattle.ac_instance.specs.declared.halt.Outcome.TheVariants.{Equal, Different}
 use Rattle.ac_words.specs.Valuations.{IsValuationWord, given_to}
-use Rattle.ac_top.specs.Answers.{Report, report as a_report}
+use Rattle.ac_top.specs.Reports.{Report, report as a_report}
 use Rattle.ac_top.specs.Runs.{IsGiven, is_different, status_of, RunReports, outside, too_large, range, ran, InstanceReports, not_a_valuation, at_valuation, IsTheSameAt, IsReadyPair, HaltReports, of_side}
 use Rattle.ac_top.specs.Texts.{name_at, outcome_line, outcome_lines, outside_context_line, too_large_line, range_line}
 use Rattle.ac_top.specs.declared.status.Status.TheVariants as status
@@ -89,7 +90,11 @@ of_halt a b first second pair params limit (Memory e) r d is = absurd is
 -- a valuation word gives as many values as there are parameters
 pub as_many_values : (names : List (List ℕ)) (word : List ℕ) (params : List ℤ) → IsValuationWord names word params → length params ≡ length names
 as_many_values names word params h =
-    sym (length-map (λ v. v ∷ []) params) ∙ sym (ap length h.gives.each) ∙ length-map (λ name. given_to name h.given) names
+    sym (length-map params (λ v. v ∷ [])) ∙ sym (ap length h.gives.each) ∙ length-map names (λ name. given_to name h.given)
+
+-- the values that a word gives, or that it is no valuation
+abbrev pub IsFound : Pair → Option (List ℕ) → Option (Vec ℤ Global) → Type 0
+IsFound pair at found = MatchOption found ((params : List ℤ) → ¬ (IsGiven pair at params)) (λ values. IsGiven pair at values.items)
 
 pub ready_at : (pair : Pair) (params : List ℤ) → IsReadyPair pair → length params ≡ length pair.left.params → IsReadyAt pair params
 ready_at pair params h count = record {

@@ -7,6 +7,8 @@ pub mod Elements
 pub mod Inputs
 pub mod Instances
 pub mod Leasts
+pub mod Limits
 pub mod Lines
+pub mod Pairs
 pub mod Rising
 pub mod Verdicts

@@ -13,7 +13,7 @@ use Rattle.ac_instance.specs.declared.halt.Outcome.TheVariants.{Equal, Different
 use Rattle.ac_instance.specs.declared.halt.Side.{Side}
 use Rattle.ac_instance.specs.declared.halt.Side.TheVariants.{Left, Right}
 use Rattle.ac_words.specs.Valuations.{IsValuationWord}
-use Rattle.ac_top.specs.Answers.{Report, report}
+use Rattle.ac_top.specs.Reports.{Report, report}
 use Rattle.ac_top.specs.Texts.{valuation_line, outside_context_line, too_large_line, range_line, outcome_lines}
 use Rattle.ac_top.specs.declared.status.Status.{Status}
 use Rattle.ac_top.specs.declared.status.Status.TheVariants as status

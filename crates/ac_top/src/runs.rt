@@ -4,7 +4,7 @@ ghost use Rattle.ac_syntax.specs.Small.{IsSmallPair};
 ghost use Rattle.ac_instance.specs.Answers.{IsReadyAt};
 ghost use Rattle.ac_instance.specs.declared.halt.Halt.TheVariants.{Wide};
 ghost use Rattle.ac_words.specs.Valuations.{IsValuationWord};
-ghost use Rattle.ac_top.specs.Answers.{report as a_report};
+ghost use Rattle.ac_top.specs.Reports.{report as a_report};
 ghost use Rattle.ac_top.specs.Runs.{valuation_word, IsGiven, status_of, IsReadyPair, RunReports, InstanceReports, HaltReports};
 ghost use Rattle.ac_top.specs.Stages.{written};
 ghost use Rattle.ac_top.specs.Texts.{outcome_lines};
@@ -25,6 +25,15 @@ use std::alloc::{AllocError, Global};
 pub struct Named<'a> {
     pub name: &'a [u8],
     pub bytes: &'a [u8],
+}
+
+/// What is to be done with a pair.
+#[derive(Clone, Copy, Debug)]
+pub enum Task<'a> {
+    /// Compare its outputs at each valuation of the context.
+    Prove,
+    /// Run both programs at the valuation that a word gives, with at most this many events.
+    Instance { at: Option<&'a [u8]>, limit: u64 },
 }
 
 /// The report of a run that was halted.
