@@ -70,7 +70,6 @@ too_large_line limit = line (codes "halted: more than " ++ decimal limit ++ code
 abbrev pub range_line : List ℕ → List ℕ → ℕ → ℤ → List ℕ
 range_line name bytes at value = line (codes "halted: " ++ place_text name bytes at ++ codes ": range " ++ signed_decimal value)
 
-
 abbrev pub outcome_line : List ℕ → Outcome → List ℕ
 outcome_line name outcome.Equal = line (name ++ codes " equal")
 outcome_line name (outcome.Different e) = line (name ++ codes " different, element " ++ element_text e)

@@ -22,12 +22,14 @@ fn report<F: Files>(alloc: Global, words: &[Vec<u8>], files: &mut F) -> Result<R
         Some(Command::Prove { left, right }) => {
             report_files(alloc, files, left, right, &Task::Prove)
         }
-        Some(Command::Instance {
-            left,
-            right,
-            at,
-            limit,
-        }) => report_files(alloc, files, left, right, &Task::Instance { at, limit }),
+        Some(
+            Command::Instance {
+                left,
+                right,
+                at,
+                limit,
+            },
+        ) => report_files(alloc, files, left, right, &Task::Instance { at, limit }),
         None => Ok(Report {
             status: Status::Usage,
             text: usage_line(alloc)?,

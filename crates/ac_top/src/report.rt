@@ -218,7 +218,13 @@ pub fn report_files<F: Files>(
         Source::Unread => return Ok(unread(read_fault_line(alloc, b)?)),
         Source::TooLong => return Ok(refused(too_long_line(alloc, b)?)),
     };
-    let left = Named { name: a, bytes: first.as_slice() };
-    let right = Named { name: b, bytes: second.as_slice() };
+    let left = Named {
+        name: a,
+        bytes: first.as_slice(),
+    };
+    let right = Named {
+        name: b,
+        bytes: second.as_slice(),
+    };
     report_sources(alloc, &left, &right, task)
 }

@@ -75,11 +75,7 @@ fn report_halt(
 }
 
 /// The lines of the outcomes of a pair's outputs, with their status.
-fn report_outcomes(
-    alloc: Global,
-    pair: &Pair,
-    outcomes: &[Outcome],
-) -> Result<Report, AllocError>
+fn report_outcomes(alloc: Global, pair: &Pair, outcomes: &[Outcome]) -> Result<Report, AllocError>
     requires { length pair.now.outputs ≡ length outcomes.now }
     ensures { IfOk result (λ r. written r ≡ a_report (status_of outcomes.now) (outcome_lines pair.now.left.arrays pair.now.outputs outcomes.now)) }
 {
