@@ -1,18 +1,22 @@
 -- Where a run is done, each output is the same.
-use Rattle.std.proofs.Common.{◌≡◌, ℕ, zero, suc, ◌<◌, List, [], ◌∷◌, length, Contains, slice_index_or, Bool, true, false, ◌||◌, if◌then◌else◌, Option, refl, sym, ap, subst, ◌∙◌, arith}
+use Rattle.std.proofs.Common.{◌≡◌, ℕ, zero, suc, ◌<◌, List, [], ◌∷◌, length, Contains, slice_index_or, Bool, true, false, if◌then◌else◌, Option, refl, sym, ap, subst, ◌∙◌, arith}
 use Rattle.std.specs.List.{list_any}
 use Rattle.ac_port.specs.Contents.{Contents}
 use Rattle.ac_syntax.specs.Outputs.{SameOutput}
 use Rattle.ac_syntax.specs.declared.tree.Program.{Program}
 use Rattle.ac_syntax.specs.declared.tree.Pair.{Pair}
-use Rattle.ac_top.specs.Answers.{Report, Holds, PairReports, first_not_straight, second_not_straight, compared, ProgramReports, signatures_differ, nothing_compared, paired, SourceReports, first_later, second_later, programs, ProveReports, first_unread, first_too_long, second_unread, second_too_long, sources, Reports, no_form, of_prove, Puts, whole, part, nothing, AllOutputsAreTheSame, DoneMeansTheSame}
 use Rattle.ac_parse.specs.Program.{IsProgramOf}
+use Rattle.ac_words.specs.Commands.{prove, instance_of}
+use Rattle.ac_top.specs.Answers.{Holds, PairReports, first_not_straight, second_not_straight, compared, ProgramReports, signatures_differ, nothing_compared, paired, SourceReports, first_later, second_later, programs, FileReports, first_unread, first_too_long, second_unread, second_too_long, sources, Reports, no_form, of_prove, of_instance, Puts, whole, part, nothing, HoldAPair, IsTheSame, DoneMeansTheSame}
+use Rattle.ac_top.specs.Reports.{Report}
+use Rattle.ac_top.specs.Runs.{InstanceReports, IsTheSameAt}
 use Rattle.ac_top.specs.Statuses.{is_different, status_of}
 use Rattle.ac_top.specs.Verdicts.{AreVerdicts}
 use Rattle.ac_top.specs.declared.status.Status.{Status}
 use Rattle.ac_top.specs.declared.status.Status.TheVariants as status
 use Rattle.ac_top.specs.declared.verdict.Verdict.{Verdict}
 use Rattle.ac_top.specs.declared.verdict.Verdict.TheVariants.{Equal, Different}
+use Rattle.ac_top.proofs.Instances.{done_instance}
 
 none_different : (vs : List Verdict) → status_of vs ≡ status.Done → list_any is_different vs ≡ false
 none_different vs h = by (list_any is_different vs) h
@@ -28,49 +32,56 @@ all_same pair (p ∷ os) (Different e ∷ vs) h none o at = absurd cc
 all_same pair (p ∷ os) (Equal ∷ vs) h none o (zero, within, is) = subst (SameOutput pair) is h.0.1
 all_same pair (p ∷ os) (Equal ∷ vs) h none o (suc k, within, is) = all_same pair os vs h.1 none o (k, omega (arith, within), is)
 
-of_pair : (a b : List ℕ) (pair : Pair) (r : Report) → PairReports a b pair r → r.status ≡ status.Done → (o : ℕ) → Contains pair.outputs o → SameOutput pair o
-of_pair a b pair r (first_not_straight h) done = absurd cc
-of_pair a b pair r (second_not_straight h k) done = absurd cc
-of_pair a b pair r (compared vs h) done = all_same pair pair.outputs vs h (none_different vs done)
+done_prove : (a b : List ℕ) (pair : Pair) (r : Report) → PairReports a b pair r → r.status ≡ status.Done → IsTheSame pair
+done_prove a b pair r (first_not_straight h) done = absurd cc
+done_prove a b pair r (second_not_straight h k) done = absurd cc
+done_prove a b pair r (compared vs h) done = all_same pair pair.outputs vs h (none_different vs done)
 
--- what the stages have told of two files
-record Sources (files : Option Contents) (a b : List ℕ) (first second : List ℕ) : Type 0 where
-  pub holds_first : Holds files a first
-  pub holds_second : Holds files b second
+-- what is true of each pair of which Done is reported is true of the pair that two files hold
+module _ (files : Option Contents) (a b : List ℕ) (Is : Pair → Type 0) where
+  -- what the stages have told of two files
+  record Sources (first second : List ℕ) : Type 0 where
+    pub holds_first : Holds files a first
+    pub holds_second : Holds files b second
 
-of_programs : (files : Option Contents) (a b first second : List ℕ) → Sources files a b first second → (left right : Program) → IsProgramOf first left → IsProgramOf second right
-    → (r : Report) → ProgramReports a b left right r → r.status ≡ status.Done → AllOutputsAreTheSame files a b
-of_programs files a b first second held left right l q r (signatures_differ n e) d = absurd cc
-of_programs files a b first second held left right l q r (nothing_compared e) d = absurd cc
-of_programs files a b first second held left right l q r (paired pair u is p) d = record {
-  first = first;
-  second = second;
-  holds_first = held.holds_first;
-  holds_second = held.holds_second;
-  left = left;
-  right = right;
-  is_left = l;
-  is_right = q;
-  pair = pair;
-  is_pair = is;
-  same = of_pair a b pair u p d;
-}
+  of_programs : (first second : List ℕ) (OfPair : Pair → Report → Type 0) → ((pair : Pair) (r : Report) → OfPair pair r → r.status ≡ status.Done → Is pair) → Sources first second
+      → (left right : Program) → IsProgramOf first left → IsProgramOf second right → (r : Report) → ProgramReports left right OfPair r → r.status ≡ status.Done → HoldAPair files a b Is
+  of_programs first second OfPair good held left right l q r (signatures_differ n e) d = absurd cc
+  of_programs first second OfPair good held left right l q r (nothing_compared e) d = absurd cc
+  of_programs first second OfPair good held left right l q r (paired pair u is p) d = record {
+    first = first;
+    second = second;
+    holds_first = held.holds_first;
+    holds_second = held.holds_second;
+    left = left;
+    right = right;
+    is_left = l;
+    is_right = q;
+    pair = pair;
+    is_pair = is;
+    is = good pair u p d;
+  }
 
-of_sources : (files : Option Contents) (a b first second : List ℕ) → Sources files a b first second → (r : Report) → SourceReports a b first second r → r.status ≡ status.Done → AllOutputsAreTheSame files a b
-of_sources files a b first second held r first_later d = absurd cc
-of_sources files a b first second held r (second_later left l) d = absurd cc
-of_sources files a b first second held r (programs left right t l q p) d = of_programs files a b first second held left right l q t p d
+  of_sources : (first second : List ℕ) (OfPair : Pair → Report → Type 0) → ((pair : Pair) (r : Report) → OfPair pair r → r.status ≡ status.Done → Is pair) → Sources first second
+      → (r : Report) → SourceReports a b first second OfPair r → r.status ≡ status.Done → HoldAPair files a b Is
+  of_sources first second OfPair good held r first_later d = absurd cc
+  of_sources first second OfPair good held r (second_later left l) d = absurd cc
+  of_sources first second OfPair good held r (programs left right t l q p) d = of_programs first second OfPair good held left right l q t p d
 
-of_prove_done : (files : Option Contents) (faulty : Type 0) (a b : List ℕ) (r : Report) → ProveReports files faulty a b r → r.status ≡ status.Done → AllOutputsAreTheSame files a b
-of_prove_done files faulty a b r (first_unread h) done = absurd cc
-of_prove_done files faulty a b r (first_too_long h) done = absurd cc
-of_prove_done files faulty a b r (second_unread x h k) done = absurd cc
-of_prove_done files faulty a b r (second_too_long x h k) done = absurd cc
-of_prove_done files faulty a b r (sources first second s h k m) done = of_sources files a b first second (record { holds_first = h; holds_second = k }) s m done
+  of_files : (faulty : Type 0) (OfPair : List ℕ → List ℕ → Pair → Report → Type 0) → ((first second : List ℕ) (pair : Pair) (r : Report) → OfPair first second pair r → r.status ≡ status.Done → Is pair)
+      → (r : Report) → FileReports files faulty a b OfPair r → r.status ≡ status.Done → HoldAPair files a b Is
+  of_files faulty OfPair good r (first_unread h) done = absurd cc
+  of_files faulty OfPair good r (first_too_long h) done = absurd cc
+  of_files faulty OfPair good r (second_unread x h k) done = absurd cc
+  of_files faulty OfPair good r (second_too_long x h k) done = absurd cc
+  of_files faulty OfPair good r (sources first second s h k m) done = of_sources first second (OfPair first second) (good first second) (record { holds_first = h; holds_second = k }) s m done
 
 pub done : (words : List (List ℕ)) (files : Option Contents) (faulty : Type 0) (r : Report) → Reports words files faulty r → DoneMeansTheSame words files r.status
 done words files faulty r (no_form h) = λ d. absurd cc
-done words files faulty r (of_prove a b s is h) = λ d. (a, b, is, of_prove_done files faulty a b s h d)
+done words files faulty r (of_prove a b s is h) = λ d.
+    (prove a b, is, of_files files a b IsTheSame faulty (λ first second. PairReports a b) (λ first second pair u p e. done_prove a b pair u p e) s h d)
+done words files faulty r (of_instance a b at limit s is h) = λ d.
+    (instance_of a b at limit, is, of_files files a b (λ pair. IsTheSameAt pair at) faulty (λ first second pair. InstanceReports a b first second pair at limit) (λ first second pair u p e. done_instance a b first second pair at limit u p e) s h d)
 
 -- a put that ends in the report's status, or in another that is not Done
 pub put_done : (words : List (List ℕ)) (files : Option Contents) (failed : Type 0) (before now : Option (List ℕ)) (r : Report) (s : Status) → Puts r failed before now s → DoneMeansTheSame words files r.status → DoneMeansTheSame words files s

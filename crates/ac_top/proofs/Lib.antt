@@ -5,7 +5,10 @@ pub mod Values
 pub mod Steps
 pub mod Elements
 pub mod Inputs
+pub mod Instances
 pub mod Leasts
+pub mod Limits
 pub mod Lines
+pub mod Pairs
 pub mod Rising
 pub mod Verdicts

@@ -1,7 +1,6 @@
 -- What the program answers: from its words and the files that they name to a status and a text.
-use Rattle.std.specs.Prelude.{◌≡◌, ◌≤◌, ℕ, List, [], ◌∷◌, ◌++◌, codes, map, length, take, true, false, Option, Some, None, IfSome, option_map, ◌⊎◌}
+use Rattle.std.specs.Prelude.{◌≡◌, ◌≤◌, ℕ, List, [], ◌∷◌, ◌++◌, length, take, true, false, Option, Some, IfSome, option_map}
 use Rattle.std.specs.FinMap.{get}
-use Rattle.std.specs.Str.{IsUtf8}
 use Rattle.std.specs.List.{Contains}
 use Rattle.ac_port.specs.Contents.{Contents, IsTooBig}
 use Rattle.ac_syntax.specs.Outputs.{SameOutput}
@@ -10,6 +9,9 @@ use Rattle.ac_syntax.specs.declared.tree.Pair.{Pair}
 use Rattle.ac_parse.specs.Program.{IsProgramOf}
 use Rattle.ac_parse.specs.Pairing.{IsPairOf, HasPairFault}
 use Rattle.ac_parse.specs.declared.faults.PairFault.TheVariants.{Signature, NoOutput}
+use Rattle.ac_words.specs.Commands.{Asked, prove, instance_of, IsCommand, HasForm}
+use Rattle.ac_top.specs.Reports.{Report, report}
+use Rattle.ac_top.specs.Runs.{InstanceReports, IsTheSameAt}
 use Rattle.ac_top.specs.Statuses.{status_of}
 use Rattle.ac_top.specs.Straight.{is_straight_program}
 use Rattle.ac_top.specs.Texts.{usage_line, read_fault_line, too_long_line, later_line, signature_line, no_output_line, verdict_lines}
@@ -17,27 +19,8 @@ use Rattle.ac_top.specs.Verdicts.{AreVerdicts}
 use Rattle.ac_top.specs.declared.status.Status.{Status}
 use Rattle.ac_top.specs.declared.status.Status.TheVariants as status
 use Rattle.ac_top.specs.declared.verdict.Verdict.{Verdict}
-use Rattle.ac_top.specs.declared.verdict.Verdict.TheVariants.{Equal, Different}
 
--- `prove A B`, with names in UTF-8
-pub record IsProve (words : List (List ℕ)) (a b : List ℕ) : Type 0 where
-  pub spelled : words ≡ codes "prove" ∷ a ∷ b ∷ []
-  pub left : IsUtf8 a
-  pub right : IsUtf8 b
-
--- the words have one of the listed forms
-abbrev pub HasForm : List (List ℕ) → Type 0
-HasForm words = (a : List ℕ) × (b : List ℕ) × IsProve words a b
-
--- a status, and the text that is put
-pub record Report : Type 0 where
-  pub status : Status
-  pub text : List ℕ
-
-abbrev pub report : Status → List ℕ → Report
-report s t = record { status = s; text = t }
-
--- what is reported of a pair: a form of program that is not compared yet, or the verdicts on its outputs
+-- what `prove` reports of a pair: a form of program that is not compared yet, or the verdicts on its outputs
 pub data PairReports (a b : List ℕ) (pair : Pair) : Report → Type 0 where
   first_not_straight : is_straight_program pair.left ≡ false → PairReports a b pair (report status.Refused (later_line a))
   second_not_straight : is_straight_program pair.left ≡ true → is_straight_program pair.right ≡ false → PairReports a b pair (report status.Refused (later_line b))
@@ -45,34 +28,36 @@ pub data PairReports (a b : List ℕ) (pair : Pair) : Report → Type 0 where
       → PairReports a b pair (report (status_of verdicts) (verdict_lines pair.left.arrays pair.outputs verdicts))
 
 -- of two programs: why they are no pair, or what is reported of their pair
-pub data ProgramReports (a b : List ℕ) (left right : Program) : Report → Type 0 where
-  signatures_differ : (number : ℕ) → HasPairFault left right (Signature number) → ProgramReports a b left right (report status.Refused (signature_line number))
-  nothing_compared : HasPairFault left right NoOutput → ProgramReports a b left right (report status.Refused no_output_line)
-  paired : (pair : Pair) (r : Report) → IsPairOf left right pair → PairReports a b pair r → ProgramReports a b left right r
+pub data ProgramReports (left right : Program) (OfPair : Pair → Report → Type 0) : Report → Type 0 where
+  signatures_differ : (number : ℕ) → HasPairFault left right (Signature number) → ProgramReports left right OfPair (report status.Refused (signature_line number))
+  nothing_compared : HasPairFault left right NoOutput → ProgramReports left right OfPair (report status.Refused no_output_line)
+  paired : (pair : Pair) (r : Report) → IsPairOf left right pair → OfPair pair r → ProgramReports left right OfPair r
 
 -- of the bytes of two files: a form of file that is not read yet, or what is reported of their programs
-pub data SourceReports (a b : List ℕ) (first second : List ℕ) : Report → Type 0 where
-  first_later : SourceReports a b first second (report status.Refused (later_line a))
-  second_later : (left : Program) → IsProgramOf first left → SourceReports a b first second (report status.Refused (later_line b))
-  programs : (left right : Program) (r : Report) → IsProgramOf first left → IsProgramOf second right → ProgramReports a b left right r → SourceReports a b first second r
+pub data SourceReports (a b first second : List ℕ) (OfPair : Pair → Report → Type 0) : Report → Type 0 where
+  first_later : SourceReports a b first second OfPair (report status.Refused (later_line a))
+  second_later : (left : Program) → IsProgramOf first left → SourceReports a b first second OfPair (report status.Refused (later_line b))
+  programs : (left right : Program) (r : Report) → IsProgramOf first left → IsProgramOf second right → ProgramReports left right OfPair r → SourceReports a b first second OfPair r
 
 -- the named file holds these bytes, where contents are told, and they are at most 65,536
 pub record Holds (files : Option Contents) (name bytes : List ℕ) : Type 0 where
   pub told : IfSome files (λ contents. get contents name ≡ Some bytes)
   pub short : length bytes ≤ 65536
 
--- of `prove A B`: why a file has no bytes to read, or what is reported of the bytes; `faulty` says that a read failed in this run
-pub data ProveReports (files : Option Contents) (faulty : Type 0) (a b : List ℕ) : Report → Type 0 where
-  first_unread : faulty → ProveReports files faulty a b (report status.ReadFault (read_fault_line a))
-  first_too_long : IfSome files (λ contents. IsTooBig contents a 65536) → ProveReports files faulty a b (report status.Refused (too_long_line a))
-  second_unread : (first : List ℕ) → Holds files a first → faulty → ProveReports files faulty a b (report status.ReadFault (read_fault_line b))
-  second_too_long : (first : List ℕ) → Holds files a first → IfSome files (λ contents. IsTooBig contents b 65536) → ProveReports files faulty a b (report status.Refused (too_long_line b))
-  sources : (first second : List ℕ) (r : Report) → Holds files a first → Holds files b second → SourceReports a b first second r → ProveReports files faulty a b r
+-- of two named files: why one has no bytes to read, or what is reported of the bytes of both; `faulty` says that a read failed in this run
+pub data FileReports (files : Option Contents) (faulty : Type 0) (a b : List ℕ) (OfPair : List ℕ → List ℕ → Pair → Report → Type 0) : Report → Type 0 where
+  first_unread : faulty → FileReports files faulty a b OfPair (report status.ReadFault (read_fault_line a))
+  first_too_long : IfSome files (λ contents. IsTooBig contents a 65536) → FileReports files faulty a b OfPair (report status.Refused (too_long_line a))
+  second_unread : (first : List ℕ) → Holds files a first → faulty → FileReports files faulty a b OfPair (report status.ReadFault (read_fault_line b))
+  second_too_long : (first : List ℕ) → Holds files a first → IfSome files (λ contents. IsTooBig contents b 65536) → FileReports files faulty a b OfPair (report status.Refused (too_long_line b))
+  sources : (first second : List ℕ) (r : Report) → Holds files a first → Holds files b second → SourceReports a b first second (OfPair first second) r → FileReports files faulty a b OfPair r
 
 -- what is reported of the words
 pub data Reports (words : List (List ℕ)) (files : Option Contents) (faulty : Type 0) : Report → Type 0 where
   no_form : ¬ (HasForm words) → Reports words files faulty (report status.Usage usage_line)
-  of_prove : (a b : List ℕ) (r : Report) → IsProve words a b → ProveReports files faulty a b r → Reports words files faulty r
+  of_prove : (a b : List ℕ) (r : Report) → IsCommand words (prove a b) → FileReports files faulty a b (λ first second. PairReports a b) r → Reports words files faulty r
+  of_instance : (a b : List ℕ) (at : Option (List ℕ)) (limit : ℕ) (r : Report) → IsCommand words (instance_of a b at limit)
+      → FileReports files faulty a b (λ first second pair. InstanceReports a b first second pair at limit) r → Reports words files faulty r
 
 -- what becomes of a report: its text is put whole, or a put failed in this run, or memory ran out and nothing is put
 pub data Puts (r : Report) (failed : Type 0) (before now : Option (List ℕ)) : Status → Type 0 where
@@ -85,8 +70,8 @@ pub data Ends (words : List (List ℕ)) (files : Option Contents) (faulty failed
   reported : (r : Report) (s : Status) → Reports words files faulty r → Puts r failed before now s → Ends words files faulty failed before now s
   no_memory : now ≡ before → Ends words files faulty failed before now status.Memory
 
--- the files hold programs, these are a pair, and each of its outputs is the same
-pub record AllOutputsAreTheSame (files : Option Contents) (a b : List ℕ) : Type 0 where
+-- the files hold programs, and these are a pair of which this holds
+pub record HoldAPair (files : Option Contents) (a b : List ℕ) (Is : Pair → Type 0) : Type 0 where
   pub first : List ℕ
   pub second : List ℕ
   pub holds_first : Holds files a first
@@ -97,8 +82,17 @@ pub record AllOutputsAreTheSame (files : Option Contents) (a b : List ℕ) : Typ
   pub is_right : IsProgramOf second right
   pub pair : Pair
   pub is_pair : IsPairOf left right pair
-  pub same : (output : ℕ) → Contains pair.outputs output → SameOutput pair output
+  pub is : Is pair
 
--- where all is done, `prove A B` was asked, and each output is the same
+-- each output of the pair is the same
+abbrev pub IsTheSame : Pair → Type 0
+IsTheSame pair = (output : ℕ) → Contains pair.outputs output → SameOutput pair output
+
+-- for `prove` each output is the same, and for `instance` each is the same at the valuation
+abbrev pub AreTheSame : Option Contents → Asked → Type 0
+AreTheSame files (prove a b) = HoldAPair files a b IsTheSame
+AreTheSame files (instance_of a b at limit) = HoldAPair files a b (λ pair. IsTheSameAt pair at)
+
+-- where all is done, a command was asked, and what it compares is the same
 abbrev pub DoneMeansTheSame : List (List ℕ) → Option Contents → Status → Type 0
-DoneMeansTheSame words files s = s ≡ status.Done → (a : List ℕ) × (b : List ℕ) × IsProve words a b × AllOutputsAreTheSame files a b
+DoneMeansTheSame words files s = s ≡ status.Done → (asked : Asked) × IsCommand words asked × AreTheSame files asked

@@ -2,6 +2,9 @@ pub mod Answers
 pub mod Codes
 pub mod Kept
 pub mod Least
+pub mod Places
+pub mod Reports
+pub mod Runs
 pub mod Stages
 pub mod Statuses
 pub mod Straight

@@ -3,6 +3,9 @@ use Rattle.std.specs.Prelude.{ℕ, zero, suc, ℤ, List, [], ◌∷◌, ◌++◌
 use Rattle.std.specs.Fmt.{signed_decimal}
 use Rattle.std.specs.List.{flat_map}
 use Rattle.ac_syntax.specs.declared.tree.Array.{Array}
+use Rattle.ac_instance.specs.declared.halt.Outcome.{Outcome}
+use Rattle.ac_instance.specs.declared.halt.Outcome.TheVariants as outcome
+use Rattle.ac_top.specs.Places.{place_text}
 use Rattle.ac_top.specs.declared.verdict.Verdict.{Verdict}
 use Rattle.ac_top.specs.declared.verdict.Verdict.TheVariants.{Equal, Different}
 
@@ -52,3 +55,27 @@ abbrev pub verdict_lines : List Array → List ℕ → List Verdict → List ℕ
 verdict_lines arrays [] vs = []
 verdict_lines arrays (o ∷ os) [] = []
 verdict_lines arrays (o ∷ os) (v ∷ vs) = verdict_line (name_at arrays o) v ++ verdict_lines arrays os vs
+
+abbrev pub valuation_line : List ℕ
+valuation_line = line (codes "valuation")
+
+abbrev pub outside_context_line : List ℕ
+outside_context_line = line (codes "outside context")
+
+-- more events than this limit
+abbrev pub too_large_line : ℕ → List ℕ
+too_large_line limit = line (codes "halted: more than " ++ decimal limit ++ codes " events")
+
+-- an index value that leaves its range, at a byte of the named text
+abbrev pub range_line : List ℕ → List ℕ → ℕ → ℤ → List ℕ
+range_line name bytes at value = line (codes "halted: " ++ place_text name bytes at ++ codes ": range " ++ signed_decimal value)
+
+abbrev pub outcome_line : List ℕ → Outcome → List ℕ
+outcome_line name outcome.Equal = line (name ++ codes " equal")
+outcome_line name (outcome.Different e) = line (name ++ codes " different, element " ++ element_text e)
+
+-- one line for each output, in order
+abbrev pub outcome_lines : List Array → List ℕ → List Outcome → List ℕ
+outcome_lines arrays [] rs = []
+outcome_lines arrays (o ∷ os) [] = []
+outcome_lines arrays (o ∷ os) (r ∷ rs) = outcome_line (name_at arrays o) r ++ outcome_lines arrays os rs

@@ -5,17 +5,20 @@
 //! `specs/Answers.antt`, case by case, with the exact lines in `specs/Texts.antt`; and the headline is a clause of it: where
 //! the status is done, each output of the two programs is the same.
 //!
-//! Programs without parameters, loops, branches, contexts and commutative names are compared by the terms that they
+//! `prove` compares programs without parameters, loops, branches, contexts and commutative names by the terms that they
 //! leave: both are run over one table of shared terms, and only the cells that either assigns are looked at. Every other
-//! pair is answered by the line `later`.
+//! pair is answered by the line `later`. `instance` runs both programs of a pair at one valuation.
 #![tactic(auto)]
 
 mod cells;
 mod compare;
 mod evaluate;
+mod halts;
+mod places;
 mod program;
 mod prove;
 mod report;
+mod runs;
 pub mod status;
 mod straight;
 mod texts;
@@ -25,5 +28,7 @@ pub use program::run;
 pub use status::{Status, status_of};
 pub use verdict::Verdict;
 
+#[cfg(test)]
+mod instance_tests;
 #[cfg(test)]
 mod tests;

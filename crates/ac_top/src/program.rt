@@ -1,39 +1,16 @@
-ghost use Rattle.std.specs.Prelude.{◌≡◌, ◌≤◌, ◌++◌, ◌↔◌, codes, take, map, option_map, MatchOption, IfOk, IsTrue};
-ghost use Rattle.std.specs.Str.{IsUtf8};
+ghost use Rattle.std.specs.Prelude.{◌≡◌, ◌≤◌, IfOk};
 ghost use Rattle.ac_port.specs.Counts.{Rose};
-ghost use Rattle.ac_top.specs.Answers.{HasForm, IsProve, Reports, Puts, Ends, DoneMeansTheSame};
-ghost use Rattle.ac_top.specs.Stages.{written, spelled};
+ghost use Rattle.ac_words.specs.Commands.{spelled};
+ghost use Rattle.ac_top.specs.Answers.{Reports, Puts, Ends, DoneMeansTheSame};
+ghost use Rattle.ac_top.specs.Stages.{written};
 
-use crate::report::{Report, report_prove};
+use crate::report::{Report, report_files};
+use crate::runs::Task;
 use crate::status::Status;
 use crate::texts::usage_line;
 use ac_port::{Files, Sink, SinkStop};
+use ac_words::{Command, command_of};
 use std::alloc::{AllocError, Global};
-
-/// The names of the two files of `prove A B`.
-fn prove_words(words: &[Vec<u8>]) -> Option<(&[u8], &[u8])>
-    ensures { MatchOption result (¬ (HasForm (spelled words.now))) (λ names. IsProve (spelled words.now) names.0.now names.1.now) }
-{
-    match words {
-        [command, left, right] if is_prove(command) && is_text(left) && is_text(right) => {
-            Some((left.as_slice(), right.as_slice()))
-        }
-        _ => None,
-    }
-}
-
-fn is_prove(word: &Vec<u8>) -> bool
-    ensures { IsTrue result ↔ (word.now.items ≡ codes "prove") }
-{
-    word.as_slice() == b"prove".as_slice()
-}
-
-/// Whether a word is UTF-8.
-fn is_text(word: &Vec<u8>) -> bool
-    ensures { IsTrue result ↔ IsUtf8 word.now.items }
-{
-    str::from_utf8(word.as_slice()).is_ok()
-}
 
 /// What is reported of the words.
 fn report<F: Files>(alloc: Global, words: &[Vec<u8>], files: &mut F) -> Result<Report, AllocError>
@@ -41,8 +18,18 @@ fn report<F: Files>(alloc: Global, words: &[Vec<u8>], files: &mut F) -> Result<R
     ensures same { F.contents files.new ≡ F.contents files.old }
     ensures same_writes { F.write_faults files.new ≡ F.write_faults files.old }
 {
-    match prove_words(words) {
-        Some((left, right)) => report_prove(alloc, files, left, right),
+    match command_of(words) {
+        Some(Command::Prove { left, right }) => {
+            report_files(alloc, files, left, right, &Task::Prove)
+        }
+        Some(
+            Command::Instance {
+                left,
+                right,
+                at,
+                limit,
+            },
+        ) => report_files(alloc, files, left, right, &Task::Instance { at, limit }),
         None => Ok(Report {
             status: Status::Usage,
             text: usage_line(alloc)?,
@@ -63,8 +50,9 @@ fn put<S: Sink>(out: &mut S, report: &Report) -> Status
 
 /// Does what the words ask for: reads the files that they name, compares their programs, and puts the report in one put.
 ///
-/// The words are those after the program's name. `prove A B` compares two source files, of at most 65,536 bytes each; any
-/// other words are a faulty command line. Each output of the pair has a line, `X equal` or `X different, element [e]..`.
+/// The words are those after the program's name. `prove A B` compares two source files, of at most 65,536 bytes each, and
+/// `instance A B [--at N=5,M=3] [--limit n]` runs both at one valuation; any other words are a faulty command line. Each
+/// output of the pair has a line, `X equal` or `X different, element [e]..`.
 ///
 /// A read fault and a write fault are answered only where the files' or the sink's count of faults rose in this call.
 /// No file changes. After want of memory nothing is put.

@@ -1,14 +1,18 @@
-ghost use Rattle.std.specs.Prelude.{◌≡◌, ◌≤◌, length, map, nat_eq, true, IfOk, IfSome, OnOk, MatchOption};
+ghost use Rattle.std.specs.Prelude.{◌≡◌, ◌≤◌, length, true, IfOk, IfSome};
 ghost use Rattle.ac_port.specs.Counts.{Rose};
 ghost use Rattle.ac_parse.specs.Program.{IsProgramOf};
 ghost use Rattle.std.specs.List.{list_all};
 ghost use Rattle.ac_syntax.specs.Outputs.{input_at};
+ghost use Rattle.ac_syntax.specs.Small.{IsSmallPair};
 ghost use Rattle.ac_top.specs.Verdicts.{IsJoined};
-ghost use Rattle.ac_top.specs.Answers.{report as a_report, PairReports, ProgramReports, SourceReports, ProveReports};
-ghost use Rattle.ac_top.specs.Stages.{HasInputs, IsSource, IsPaired, written, verdicts_report};
+ghost use Rattle.ac_top.specs.Answers.{PairReports, ProgramReports, SourceReports, FileReports};
+ghost use Rattle.ac_top.specs.Reports.{report as a_report};
+ghost use Rattle.ac_top.specs.Runs.{IsReadyPair};
+ghost use Rattle.ac_top.specs.Stages.{HasInputs, IsParsed, IsSource, IsPaired, IsWithin, TaskReports, written, verdicts_report};
 
 use crate::evaluate::Side;
 use crate::prove::{Answer, prove};
+use crate::runs::{Named, Task, report_instance};
 use crate::status::{Status, status_of};
 use crate::texts::{
     later_line, no_output_line, read_fault_line, signature_line, too_long_line, verdict_lines,
@@ -46,7 +50,7 @@ pub enum Paired {
 }
 
 /// The report of a refusal.
-fn refused(text: Vec<u8>) -> Report
+pub fn refused(text: Vec<u8>) -> Report
     ensures { written result ≡ a_report Status.Refused text.items }
 {
     Report {
@@ -82,7 +86,8 @@ fn read_source<F: Files>(alloc: Global, files: &mut F, name: &[u8]) -> Result<So
 
 /// The program of a text; none where the text has a form that is not read yet.
 fn program_of(alloc: Global, bytes: &[u8]) -> Result<Option<Program>, AllocError>
-    ensures { IfOk result (λ found. IfSome found (IsProgramOf bytes.now)) }
+    ensures program { IfOk result (λ found. IfSome found (IsProgramOf bytes.now)) }
+    ensures parsed { IfOk result (λ found. IfSome found IsParsed) }
 {
     match parse(alloc, bytes) {
         Ok(program) => Ok(Some(program)),
@@ -103,7 +108,7 @@ fn pair_of(alloc: Global, left: Program, right: Program) -> Result<Paired, Alloc
     }
 }
 
-/// What is reported of a pair of the named files.
+/// What `prove` reports of a pair of the named files.
 fn report_pair(alloc: Global, a: &[u8], b: &[u8], pair: &Pair) -> Result<Report, AllocError>
     requires joined { IsJoined pair.now }
     requires inputs { list_all (input_at pair.now.left.arrays) pair.now.outputs ≡ true }
@@ -129,51 +134,77 @@ fn report_verdicts(alloc: Global, pair: &Pair, verdicts: &[Verdict]) -> Result<R
     })
 }
 
-/// What is reported of the programs of the named files.
+/// What a task reports of a pair of two files.
+fn report_task(
+    alloc: Global,
+    left: &Named<'_>,
+    right: &Named<'_>,
+    pair: &Pair,
+    task: &Task<'_>,
+) -> Result<Report, AllocError>
+    requires joined { IsJoined pair.now }
+    requires inputs { list_all (input_at pair.now.left.arrays) pair.now.outputs ≡ true }
+    requires ready { IsReadyPair pair.now }
+    requires small { IsSmallPair pair.now }
+    requires within { IsWithin task.now }
+    ensures { IfOk result (λ r. TaskReports task.now left.now.name.now right.now.name.now left.now.bytes.now right.now.bytes.now pair.now (written r)) }
+{
+    match task {
+        Task::Prove => report_pair(alloc, left.name, right.name, pair),
+        Task::Instance { at, limit } => report_instance(alloc, left, right, pair, *at, *limit),
+    }
+}
+
+/// What a task reports of the programs of two files.
 fn report_programs(
     alloc: Global,
-    a: &[u8],
-    b: &[u8],
-    left: Program,
-    right: Program,
+    left: &Named<'_>,
+    right: &Named<'_>,
+    first: Program,
+    second: Program,
+    task: &Task<'_>,
 ) -> Result<Report, AllocError>
-    requires { HasInputs left }
-    ensures { IfOk result (λ r. ProgramReports a.now b.now left right (written r)) }
+    requires first { IsParsed first }
+    requires second { IsParsed second }
+    requires within { IsWithin task.now }
+    ensures { IfOk result (λ r. ProgramReports first second (TaskReports task.now left.now.name.now right.now.name.now left.now.bytes.now right.now.bytes.now) (written r)) }
 {
-    match pair_of(alloc, left, right)? {
-        Paired::Together(pair) => report_pair(alloc, a, b, &pair),
+    match pair_of(alloc, first, second)? {
+        Paired::Together(pair) => report_task(alloc, left, right, &pair, task),
         Paired::Signature(number) => Ok(refused(signature_line(alloc, number)?)),
         Paired::NoOutput => Ok(refused(no_output_line(alloc)?)),
     }
 }
 
-/// What is reported of the bytes of the named files.
+/// What a task reports of two files.
 fn report_sources(
     alloc: Global,
-    a: &[u8],
-    b: &[u8],
-    first: &[u8],
-    second: &[u8],
+    left: &Named<'_>,
+    right: &Named<'_>,
+    task: &Task<'_>,
 ) -> Result<Report, AllocError>
-    ensures { IfOk result (λ r. SourceReports a.now b.now first.now second.now (written r)) }
+    requires within { IsWithin task.now }
+    ensures { IfOk result (λ r. SourceReports left.now.name.now right.now.name.now left.now.bytes.now right.now.bytes.now (TaskReports task.now left.now.name.now right.now.name.now left.now.bytes.now right.now.bytes.now) (written r)) }
 {
-    let Some(left) = program_of(alloc, first)? else {
-        return Ok(refused(later_line(alloc, a)?));
+    let Some(first) = program_of(alloc, left.bytes)? else {
+        return Ok(refused(later_line(alloc, left.name)?));
     };
-    let Some(right) = program_of(alloc, second)? else {
-        return Ok(refused(later_line(alloc, b)?));
+    let Some(second) = program_of(alloc, right.bytes)? else {
+        return Ok(refused(later_line(alloc, right.name)?));
     };
-    report_programs(alloc, a, b, left, right)
+    report_programs(alloc, left, right, first, second, task)
 }
 
-/// Reads both files and reports on them.
-pub fn report_prove<F: Files>(
+/// Reads two files and reports on them.
+pub fn report_files<F: Files>(
     alloc: Global,
     files: &mut F,
     a: &[u8],
     b: &[u8],
+    task: &Task<'_>,
 ) -> Result<Report, AllocError>
-    ensures report { IfOk result (λ r. ProveReports (F.contents files.old) (Rose (F.read_faults files.old) (F.read_faults files.new)) a.now b.now (written r)) }
+    requires within { IsWithin task.now }
+    ensures report { IfOk result (λ r. FileReports (F.contents files.old) (Rose (F.read_faults files.old) (F.read_faults files.new)) a.now b.now (TaskReports task.now a.now b.now) (written r)) }
     ensures same { F.contents files.new ≡ F.contents files.old }
     ensures same_writes { F.write_faults files.new ≡ F.write_faults files.old }
 {
@@ -187,5 +218,13 @@ pub fn report_prove<F: Files>(
         Source::Unread => return Ok(unread(read_fault_line(alloc, b)?)),
         Source::TooLong => return Ok(refused(too_long_line(alloc, b)?)),
     };
-    report_sources(alloc, a, b, &first, &second)
+    let left = Named {
+        name: a,
+        bytes: first.as_slice(),
+    };
+    let right = Named {
+        name: b,
+        bytes: second.as_slice(),
+    };
+    report_sources(alloc, &left, &right, task)
 }

@@ -137,7 +137,7 @@ fn words(alloc: Global, texts: &[&[u8]]) -> Result<Vec<Vec<u8>>, Fail> {
 }
 
 /// The files a.c and b.c.
-fn files(alloc: Global, first: &[u8], second: &[u8]) -> Result<MemFiles, Fail> {
+pub fn files(alloc: Global, first: &[u8], second: &[u8]) -> Result<MemFiles, Fail> {
     let mut files = MemFiles::new(alloc);
     files.add(b"a.c", first)?;
     files.add(b"b.c", second)?;
@@ -145,7 +145,7 @@ fn files(alloc: Global, first: &[u8], second: &[u8]) -> Result<MemFiles, Fail> {
 }
 
 /// Whether a run over files answers this.
-fn answers(
+pub fn answers(
     alloc: Global,
     texts: &[&[u8]],
     files: &mut MemFiles,

@@ -64,7 +64,7 @@ pub fn no_output_line(alloc: Global) -> Result<Vec<u8>, AllocError>
 }
 
 /// Adds the coordinates of an element, each in brackets.
-fn push_element(bytes: &mut Vec<u8>, element: &[i64]) -> Result<(), AllocError>
+pub fn push_element(bytes: &mut Vec<u8>, element: &[i64]) -> Result<(), AllocError>
     ensures { OnOk result (bytes.new.items ≡ bytes.old.items ++ text.element_text element.now) }
 {
     for x in element {
@@ -84,7 +84,7 @@ fn push_coordinate(bytes: &mut Vec<u8>, x: &i64) -> Result<(), AllocError>
 }
 
 /// The name of an array.
-fn name_of(arrays: &[Array], array: usize) -> &[u8]
+pub fn name_of(arrays: &[Array], array: usize) -> &[u8]
     ensures { result.now ≡ text.name_at arrays.now array }
 {
     match declared_at(arrays, array) {

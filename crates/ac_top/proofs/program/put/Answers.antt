@@ -2,7 +2,7 @@ use Rattle.std.proofs.Common.{◌≡◌, ◌++◌, take, List, ℕ, Option, Err,
 use Rattle.std.specs.Option.{option_map}
 use Rattle.std.specs.declared.alloc.AllocError.{AllocError}
 use Rattle.ac_port.specs.Counts.{Rose}
-use Rattle.ac_top.specs.Answers.{Report, Puts, whole, part, nothing}
+use Rattle.ac_top.specs.Answers.{Puts, whole, part, nothing}
 use Rattle.ac_top.specs.Stages.{written}
 use Rattle.ac_top.specs.declared.status.Status.TheVariants as status
 use Rattle.ac_top.proofs.program.put.Goals as goal

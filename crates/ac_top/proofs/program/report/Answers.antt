@@ -1,14 +1,34 @@
 use Rattle.std.proofs.Common.{◌≡◌, IfOk, sym, ap, subst, ◌∙◌}
+use Rattle.std.specs.Prelude.{option_map}
 use Rattle.std.proofs.lemmas.Result.{IfOk-weaker}
 use Rattle.ac_port.specs.Counts.{Rose}
-use Rattle.ac_top.specs.Answers.{Report, report as a_report, Reports, no_form, of_prove}
-use Rattle.ac_top.specs.Stages.{written, spelled}
+use Rattle.ac_words.specs.Commands.{spelled, asked_by, IsCommand}
+use Rattle.ac_words.specs.declared.command.Command.TheVariants.{Instance}
+use Rattle.ac_top.specs.Answers.{Reports, no_form, of_prove, of_instance}
+use Rattle.ac_top.specs.Reports.{report as a_report}
+use Rattle.ac_top.specs.Stages.{written}
 use Rattle.ac_top.specs.declared.status.Status.TheVariants as status
+use Rattle.ac_top.proofs.Limits.{small_limit}
 use Rattle.ac_top.proofs.program.report.Goals as goal
 
-pub returns-in-Some-clause-report : goal.returns-in-Some-clause-report
-returns-in-Some-clause-report g c =
-    IfOk-weaker c.report_prove.result _ _ (λ r found. of_prove c.in-Some.left.now c.in-Some.right.now (written r) c.in-Some.ensures found) c.report_prove.ensures.report
+pub report_files-requires-in-Some-Instance : goal.report_files-requires-in-Some-Instance
+report_files-requires-in-Some-Instance g c =
+    let asked = c.in-Some-Instance in
+    let is = subst (λ d. IsCommand (spelled c.args.words.now) (asked_by d)) asked.field-0-is asked.ensures in
+    record { within = small_limit (spelled c.args.words.now) (asked_by (Instance asked.left asked.right asked.at asked.limit)) is }
+
+pub returns-in-Some-Prove-clause-report : goal.returns-in-Some-Prove-clause-report
+returns-in-Some-Prove-clause-report g c =
+    let asked = c.in-Some-Prove in
+    let is = subst (λ d. IsCommand (spelled c.args.words.now) (asked_by d)) asked.field-0-is asked.ensures in
+    IfOk-weaker c.report_files.result _ _ (λ r found. of_prove asked.left.now asked.right.now (written r) is found) c.report_files.ensures.report
+
+pub returns-in-Some-Instance-clause-report : goal.returns-in-Some-Instance-clause-report
+returns-in-Some-Instance-clause-report g c =
+    let asked = c.in-Some-Instance in
+    let is = subst (λ d. IsCommand (spelled c.args.words.now) (asked_by d)) asked.field-0-is asked.ensures in
+    IfOk-weaker c.report_files-in-Some-Instance.result _ _
+    (λ r found. of_instance asked.left.now asked.right.now (option_map (λ w. w.now) asked.at) asked.limit (written r) is found) c.report_files-in-Some-Instance.ensures.report
 
 pub returns-in_ok-usage_line-in-None-clause-report : goal.returns-in_ok-usage_line-in-None-clause-report
 returns-in_ok-usage_line-in-None-clause-report g c =

@@ -1,6 +1,7 @@
 use Rattle.ac_port.specs.Counts.{Rose}
 use Rattle.ac_top.specs.Answers.{reported, no_memory}
-use Rattle.ac_top.specs.Stages.{written, spelled}
+use Rattle.ac_words.specs.Commands.{spelled}
+use Rattle.ac_top.specs.Stages.{written}
 use Rattle.std.proofs.Common.{refl}
 use Rattle.ac_top.proofs.Headline.{done, put_done}
 use Rattle.ac_top.proofs.program.run.Goals as goal

@@ -1,6 +1,7 @@
 use Rattle.std.proofs.Common.{◌≡◌, true, false, length, IfOk, sym, ap, subst, ◌∙◌}
 use Rattle.std.proofs.lemmas.Result.{IfOk-weaker}
-use Rattle.ac_top.specs.Answers.{report as a_report, PairReports, first_not_straight, second_not_straight, compared}
+use Rattle.ac_top.specs.Reports.{report as a_report}
+use Rattle.ac_top.specs.Answers.{PairReports, first_not_straight, second_not_straight, compared}
 use Rattle.ac_top.specs.Stages.{written, verdicts_report}
 use Rattle.ac_top.specs.Straight.{is_straight_program}
 use Rattle.ac_top.specs.Verdicts.{AreVerdicts, IsAnswer}
