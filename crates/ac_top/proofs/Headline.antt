@@ -1,12 +1,10 @@
 -- Where a run is done, each output is the same.
-use Rattle.std.proofs.Common.{◌≡◌, ℕ, zero, suc, ◌<◌, List, [], ◌∷◌, length, Contains, slice_index_or, Bool, true, false, ◌||◌, if◌then◌else◌, Option, refl, sym, ap, subst, ◌∙◌, arith}
+use Rattle.std.proofs.Common.{◌≡◌, ℕ, zero, suc, List, [], ◌∷◌, Contains, Bool, true, false, if◌then◌else◌, Option, refl, subst, arith}
 use Rattle.std.specs.List.{list_any}
 use Rattle.ac_port.specs.Contents.{Contents}
 use Rattle.ac_syntax.specs.Outputs.{SameOutput}
-use Rattle.ac_syntax.specs.declared.tree.Program.{Program}
 use Rattle.ac_syntax.specs.declared.tree.Pair.{Pair}
-use Rattle.ac_top.specs.Answers.{Report, Holds, PairReports, first_not_straight, second_not_straight, compared, ProgramReports, signatures_differ, nothing_compared, paired, SourceReports, first_later, second_later, programs, ProveReports, first_unread, first_too_long, second_unread, second_too_long, sources, Reports, no_form, of_prove, Puts, whole, part, nothing, AllOutputsAreTheSame, DoneMeansTheSame}
-use Rattle.ac_parse.specs.Program.{IsProgramOf}
+use Rattle.ac_top.specs.Answers.{Report, Holds, PairReports, first_not_straight, second_not_straight, compared, SourceReports, refused, paired, ProveReports, first_unread, first_too_long, second_unread, second_too_long, sources, Reports, no_form, of_prove, Puts, whole, part, nothing, AllOutputsAreTheSame, DoneMeansTheSame}
 use Rattle.ac_top.specs.Statuses.{is_different, status_of}
 use Rattle.ac_top.specs.Verdicts.{AreVerdicts}
 use Rattle.ac_top.specs.declared.status.Status.{Status}
@@ -33,40 +31,28 @@ of_pair a b pair r (first_not_straight h) done = absurd cc
 of_pair a b pair r (second_not_straight h k) done = absurd cc
 of_pair a b pair r (compared vs h) done = all_same pair pair.outputs vs h (none_different vs done)
 
--- what the stages have told of two files
-record Sources (files : Option Contents) (a b : List ℕ) (first second : List ℕ) : Type 0 where
-  pub holds_first : Holds files a first
-  pub holds_second : Holds files b second
-
-of_programs : (files : Option Contents) (a b first second : List ℕ) → Sources files a b first second → (left right : Program) → IsProgramOf first left → IsProgramOf second right
-    → (r : Report) → ProgramReports a b left right r → r.status ≡ status.Done → AllOutputsAreTheSame files a b
-of_programs files a b first second held left right l q r (signatures_differ n e) d = absurd cc
-of_programs files a b first second held left right l q r (nothing_compared e) d = absurd cc
-of_programs files a b first second held left right l q r (paired pair u is p) d = record {
+of_sources : (files : Option Contents) (a b first second : List ℕ) → Holds files a first → Holds files b second → (r : Report) → SourceReports a b first second r → r.status ≡ status.Done → AllOutputsAreTheSame files a b
+of_sources files a b first second h k r (refused text n) d = absurd cc
+of_sources files a b first second h k r (paired pair u is p) d = record {
   first = first;
   second = second;
-  holds_first = held.holds_first;
-  holds_second = held.holds_second;
-  left = left;
-  right = right;
-  is_left = l;
-  is_right = q;
+  holds_first = h;
+  holds_second = k;
+  left = is.left;
+  right = is.right;
+  is_left = is.is_left;
+  is_right = is.is_right;
   pair = pair;
-  is_pair = is;
+  is_pair = is.is_pair;
   same = of_pair a b pair u p d;
 }
-
-of_sources : (files : Option Contents) (a b first second : List ℕ) → Sources files a b first second → (r : Report) → SourceReports a b first second r → r.status ≡ status.Done → AllOutputsAreTheSame files a b
-of_sources files a b first second held r first_later d = absurd cc
-of_sources files a b first second held r (second_later left l) d = absurd cc
-of_sources files a b first second held r (programs left right t l q p) d = of_programs files a b first second held left right l q t p d
 
 of_prove_done : (files : Option Contents) (faulty : Type 0) (a b : List ℕ) (r : Report) → ProveReports files faulty a b r → r.status ≡ status.Done → AllOutputsAreTheSame files a b
 of_prove_done files faulty a b r (first_unread h) done = absurd cc
 of_prove_done files faulty a b r (first_too_long h) done = absurd cc
 of_prove_done files faulty a b r (second_unread x h k) done = absurd cc
 of_prove_done files faulty a b r (second_too_long x h k) done = absurd cc
-of_prove_done files faulty a b r (sources first second s h k m) done = of_sources files a b first second (record { holds_first = h; holds_second = k }) s m done
+of_prove_done files faulty a b r (sources first second s h k m) done = of_sources files a b first second h k s m done
 
 pub done : (words : List (List ℕ)) (files : Option Contents) (faulty : Type 0) (r : Report) → Reports words files faulty r → DoneMeansTheSame words files r.status
 done words files faulty r (no_form h) = λ d. absurd cc

@@ -1,5 +1,5 @@
 -- What the program answers: from its words and the files that they name to a status and a text.
-use Rattle.std.specs.Prelude.{◌≡◌, ◌≤◌, ℕ, List, [], ◌∷◌, ◌++◌, codes, map, length, take, true, false, Option, Some, None, IfSome, option_map, ◌⊎◌}
+use Rattle.std.specs.Prelude.{◌≡◌, ◌≤◌, ℕ, List, [], ◌∷◌, ◌++◌, codes, length, take, true, false, Option, Some, IfSome, option_map}
 use Rattle.std.specs.FinMap.{get}
 use Rattle.std.specs.Str.{IsUtf8}
 use Rattle.std.specs.List.{Contains}
@@ -7,17 +7,18 @@ use Rattle.ac_port.specs.Contents.{Contents, IsTooBig}
 use Rattle.ac_syntax.specs.Outputs.{SameOutput}
 use Rattle.ac_syntax.specs.declared.tree.Program.{Program}
 use Rattle.ac_syntax.specs.declared.tree.Pair.{Pair}
+use Rattle.ac_parse.specs.Answers.{HasSourceFault}
 use Rattle.ac_parse.specs.Program.{IsProgramOf}
 use Rattle.ac_parse.specs.Pairing.{IsPairOf, HasPairFault}
 use Rattle.ac_parse.specs.declared.faults.PairFault.TheVariants.{Signature, NoOutput}
+use Rattle.ac_parse.specs.declared.faults.SourceFault.{SourceFault}
 use Rattle.ac_top.specs.Statuses.{status_of}
 use Rattle.ac_top.specs.Straight.{is_straight_program}
-use Rattle.ac_top.specs.Texts.{usage_line, read_fault_line, too_long_line, later_line, signature_line, no_output_line, verdict_lines}
+use Rattle.ac_top.specs.Texts.{Complaint, complaint, usage_line, read_fault_line, refusal_line, too_long_line, later_line, signature_line, no_output_line, verdict_lines}
 use Rattle.ac_top.specs.Verdicts.{AreVerdicts}
 use Rattle.ac_top.specs.declared.status.Status.{Status}
 use Rattle.ac_top.specs.declared.status.Status.TheVariants as status
 use Rattle.ac_top.specs.declared.verdict.Verdict.{Verdict}
-use Rattle.ac_top.specs.declared.verdict.Verdict.TheVariants.{Equal, Different}
 
 -- `prove A B`, with names in UTF-8
 pub record IsProve (words : List (List ℕ)) (a b : List ℕ) : Type 0 where
@@ -44,17 +45,35 @@ pub data PairReports (a b : List ℕ) (pair : Pair) : Report → Type 0 where
   compared : (verdicts : List Verdict) → AreVerdicts pair pair.outputs verdicts
       → PairReports a b pair (report (status_of verdicts) (verdict_lines pair.left.arrays pair.outputs verdicts))
 
--- of two programs: why they are no pair, or what is reported of their pair
-pub data ProgramReports (a b : List ℕ) (left right : Program) : Report → Type 0 where
-  signatures_differ : (number : ℕ) → HasPairFault left right (Signature number) → ProgramReports a b left right (report status.Refused (signature_line number))
-  nothing_compared : HasPairFault left right NoOutput → ProgramReports a b left right (report status.Refused no_output_line)
-  paired : (pair : Pair) (r : Report) → IsPairOf left right pair → PairReports a b pair r → ProgramReports a b left right r
+-- a text has a fault, of which this is said
+pub record HasComplaint (bytes : List ℕ) (said : Complaint) : Type 0 where
+  pub fault : SourceFault
+  pub has : HasSourceFault bytes fault
+  pub is_said : complaint fault ≡ Some said
 
--- of the bytes of two files: a form of file that is not read yet, or what is reported of their programs
+-- two programs are no pair: the line that says why
+pub data AreNoPair (left right : Program) : List ℕ → Type 0 where
+  signatures_differ : (number : ℕ) → HasPairFault left right (Signature number) → AreNoPair left right (signature_line number)
+  nothing_compared : HasPairFault left right NoOutput → AreNoPair left right no_output_line
+
+-- two texts give no pair: the line of the first that has no program, or of their programs
+pub data AreRefused (a b : List ℕ) (first second : List ℕ) : List ℕ → Type 0 where
+  first_refused : (said : Complaint) → HasComplaint first said → AreRefused a b first second (refusal_line a first said)
+  second_refused : (left : Program) (said : Complaint) → IsProgramOf first left → HasComplaint second said → AreRefused a b first second (refusal_line b second said)
+  no_pair : (left right : Program) (text : List ℕ) → IsProgramOf first left → IsProgramOf second right → AreNoPair left right text → AreRefused a b first second text
+
+-- two texts have programs, and these are a pair
+pub record ArePaired (first second : List ℕ) (pair : Pair) : Type 0 where
+  pub left : Program
+  pub right : Program
+  pub is_left : IsProgramOf first left
+  pub is_right : IsProgramOf second right
+  pub is_pair : IsPairOf left right pair
+
+-- of the bytes of two files: why they give no pair, or what is reported of their pair
 pub data SourceReports (a b : List ℕ) (first second : List ℕ) : Report → Type 0 where
-  first_later : SourceReports a b first second (report status.Refused (later_line a))
-  second_later : (left : Program) → IsProgramOf first left → SourceReports a b first second (report status.Refused (later_line b))
-  programs : (left right : Program) (r : Report) → IsProgramOf first left → IsProgramOf second right → ProgramReports a b left right r → SourceReports a b first second r
+  refused : (text : List ℕ) → AreRefused a b first second text → SourceReports a b first second (report status.Refused text)
+  paired : (pair : Pair) (r : Report) → ArePaired first second pair → PairReports a b pair r → SourceReports a b first second r
 
 -- the named file holds these bytes, where contents are told, and they are at most 65,536
 pub record Holds (files : Option Contents) (name bytes : List ℕ) : Type 0 where

@@ -1,22 +1,17 @@
-ghost use Rattle.std.specs.Prelude.{◌≡◌, ◌≤◌, length, map, nat_eq, true, IfOk, IfSome, OnOk, MatchOption};
+ghost use Rattle.std.specs.Prelude.{◌≡◌, ◌≤◌, length, IfOk};
 ghost use Rattle.ac_port.specs.Counts.{Rose};
-ghost use Rattle.ac_parse.specs.Program.{IsProgramOf};
-ghost use Rattle.std.specs.List.{list_all};
-ghost use Rattle.ac_syntax.specs.Outputs.{input_at};
 ghost use Rattle.ac_top.specs.Verdicts.{IsJoined};
-ghost use Rattle.ac_top.specs.Answers.{report as a_report, PairReports, ProgramReports, SourceReports, ProveReports};
-ghost use Rattle.ac_top.specs.Stages.{HasInputs, IsSource, IsPaired, written, verdicts_report};
+ghost use Rattle.ac_top.specs.Answers.{report as a_report, PairReports, SourceReports, ProveReports};
+ghost use Rattle.ac_top.specs.Stages.{IsSource, OutputsAreInputs, written, verdicts_report};
 
 use crate::evaluate::Side;
 use crate::prove::{Answer, prove};
+use crate::sources::{Paired, pair_sources};
 use crate::status::{Status, status_of};
-use crate::texts::{
-    later_line, no_output_line, read_fault_line, signature_line, too_long_line, verdict_lines,
-};
+use crate::texts::{later_line, read_fault_line, too_long_line, verdict_lines};
 use crate::verdict::Verdict;
-use ac_parse::{PairFault, SourceFault, pair, parse};
 use ac_port::{Files, ReadStop};
-use ac_syntax::tree::{Pair, Program};
+use ac_syntax::tree::Pair;
 use std::alloc::{AllocError, Global};
 
 /// The longest source file, in bytes.
@@ -35,14 +30,6 @@ pub enum Source {
     Bytes(Vec<u8>),
     Unread,
     TooLong,
-}
-
-/// What two programs are to each other.
-#[derive(Drop)]
-pub enum Paired {
-    Together(Pair),
-    Signature(u32),
-    NoOutput,
 }
 
 /// The report of a refusal.
@@ -80,33 +67,10 @@ fn read_source<F: Files>(alloc: Global, files: &mut F, name: &[u8]) -> Result<So
     }
 }
 
-/// The program of a text; none where the text has a form that is not read yet.
-fn program_of(alloc: Global, bytes: &[u8]) -> Result<Option<Program>, AllocError>
-    ensures { IfOk result (λ found. IfSome found (IsProgramOf bytes.now)) }
-{
-    match parse(alloc, bytes) {
-        Ok(program) => Ok(Some(program)),
-        Err(SourceFault::Memory(error)) => Err(error),
-        Err(_) => Ok(None),
-    }
-}
-
-/// The pair of two programs, or why they are none.
-fn pair_of(alloc: Global, left: Program, right: Program) -> Result<Paired, AllocError>
-    ensures { IfOk result (IsPaired left right) }
-{
-    match pair(alloc, left, right) {
-        Ok(pair) => Ok(Paired::Together(pair)),
-        Err(PairFault::Signature(number)) => Ok(Paired::Signature(number)),
-        Err(PairFault::NoOutput) => Ok(Paired::NoOutput),
-        Err(PairFault::Memory(error)) => Err(error),
-    }
-}
-
 /// What is reported of a pair of the named files.
 fn report_pair(alloc: Global, a: &[u8], b: &[u8], pair: &Pair) -> Result<Report, AllocError>
     requires joined { IsJoined pair.now }
-    requires inputs { list_all (input_at pair.now.left.arrays) pair.now.outputs ≡ true }
+    requires inputs { OutputsAreInputs pair.now }
     ensures { IfOk result (λ r. PairReports a.now b.now pair.now (written r)) }
 {
     match prove(alloc, pair)? {
@@ -129,24 +93,6 @@ fn report_verdicts(alloc: Global, pair: &Pair, verdicts: &[Verdict]) -> Result<R
     })
 }
 
-/// What is reported of the programs of the named files.
-fn report_programs(
-    alloc: Global,
-    a: &[u8],
-    b: &[u8],
-    left: Program,
-    right: Program,
-) -> Result<Report, AllocError>
-    requires { HasInputs left }
-    ensures { IfOk result (λ r. ProgramReports a.now b.now left right (written r)) }
-{
-    match pair_of(alloc, left, right)? {
-        Paired::Together(pair) => report_pair(alloc, a, b, &pair),
-        Paired::Signature(number) => Ok(refused(signature_line(alloc, number)?)),
-        Paired::NoOutput => Ok(refused(no_output_line(alloc)?)),
-    }
-}
-
 /// What is reported of the bytes of the named files.
 fn report_sources(
     alloc: Global,
@@ -157,13 +103,10 @@ fn report_sources(
 ) -> Result<Report, AllocError>
     ensures { IfOk result (λ r. SourceReports a.now b.now first.now second.now (written r)) }
 {
-    let Some(left) = program_of(alloc, first)? else {
-        return Ok(refused(later_line(alloc, a)?));
-    };
-    let Some(right) = program_of(alloc, second)? else {
-        return Ok(refused(later_line(alloc, b)?));
-    };
-    report_programs(alloc, a, b, left, right)
+    match pair_sources(alloc, a, b, first, second)? {
+        Paired::Together(pair) => report_pair(alloc, a, b, &pair),
+        Paired::Refused(text) => Ok(refused(text)),
+    }
 }
 
 /// Reads both files and reports on them.

@@ -1,7 +1,7 @@
-use Rattle.std.proofs.Common.{◌≡◌, IfOk, sym, ap, subst, ◌∙◌}
+use Rattle.std.proofs.Common.{sym, subst}
 use Rattle.std.proofs.lemmas.Result.{IfOk-weaker}
 use Rattle.ac_port.specs.Counts.{Rose}
-use Rattle.ac_top.specs.Answers.{Report, report as a_report, Reports, no_form, of_prove}
+use Rattle.ac_top.specs.Answers.{report as a_report, Reports, no_form, of_prove}
 use Rattle.ac_top.specs.Stages.{written, spelled}
 use Rattle.ac_top.specs.declared.status.Status.TheVariants as status
 use Rattle.ac_top.proofs.program.report.Goals as goal

@@ -1,8 +1,8 @@
-use Rattle.std.proofs.Common.{IfOk, IfSome, List, ℕ, Option, sym, ap, subst, ◌∙◌}
+use Rattle.std.proofs.Common.{IfSome, Option, sym, ap, subst, ◌∙◌}
 use Rattle.std.proofs.lemmas.Result.{IfOk-weaker}
 use Rattle.ac_port.specs.Contents.{Contents, IsTooBig}
 use Rattle.ac_port.specs.Counts.{Rose}
-use Rattle.ac_top.specs.Answers.{Report, report as a_report, SourceReports, ProveReports, Holds, first_unread, first_too_long, second_unread, second_too_long, sources}
+use Rattle.ac_top.specs.Answers.{report as a_report, SourceReports, ProveReports, Holds, first_unread, first_too_long, second_unread, second_too_long, sources}
 use Rattle.ac_top.specs.declared.status.Status.TheVariants as status
 use Rattle.ac_top.proofs.Rising.{rose_later}
 use Rattle.ac_top.specs.Stages.{written, IsSource}
