@@ -1,11 +1,10 @@
 -- Index expressions where there is nothing to vary, and what kind an array is.
-use Rattle.std.proofs.Common.{◌≡◌, ℕ, zero, suc, ℤ, pos, ◌+ℤ◌, List, [], ◌∷◌, Bool, true, false, Option, None, Some, slice_get, refl, sym, ap, ◌∙◌, arith}
+use Rattle.std.proofs.Common.{◌≡◌, ℕ, zero, suc, ℤ, pos, List, [], ◌∷◌, Bool, false, Option, None, Some, slice_get, refl, arith}
 use Rattle.std.proofs.lemmas.Int.{ints}
 use Rattle.ac_integers.specs.Dot.{dot}
 use Rattle.ac_syntax.specs.Index.{index_value}
 use Rattle.ac_syntax.specs.Outputs.{input_at, is_input_kind, extents_at}
 use Rattle.ac_syntax.specs.declared.tree.IndexExpr.{IndexExpr}
-use Rattle.ac_syntax.specs.declared.tree.Kind.{Kind}
 use Rattle.ac_syntax.specs.declared.tree.Array.{Array}
 use Rattle.ac_top.specs.Kept.{nowhere}
 use Rattle.ac_top.specs.Texts.{name_at}

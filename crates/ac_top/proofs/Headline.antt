@@ -3,11 +3,9 @@ use Rattle.std.proofs.Common.{◌≡◌, ℕ, zero, suc, ◌<◌, List, [], ◌�
 use Rattle.std.specs.List.{list_any}
 use Rattle.ac_port.specs.Contents.{Contents}
 use Rattle.ac_syntax.specs.Outputs.{SameOutput}
-use Rattle.ac_syntax.specs.declared.tree.Program.{Program}
 use Rattle.ac_syntax.specs.declared.tree.Pair.{Pair}
-use Rattle.ac_parse.specs.Program.{IsProgramOf}
 use Rattle.ac_words.specs.Commands.{prove, instance_of}
-use Rattle.ac_top.specs.Answers.{Holds, PairReports, first_not_straight, second_not_straight, compared, ProgramReports, signatures_differ, nothing_compared, paired, SourceReports, first_later, second_later, programs, FileReports, first_unread, first_too_long, second_unread, second_too_long, sources, Reports, no_form, of_prove, of_instance, Puts, whole, part, nothing, HoldAPair, IsTheSame, DoneMeansTheSame}
+use Rattle.ac_top.specs.Answers.{Holds, PairReports, first_not_straight, second_not_straight, compared, SourceReports, refused, paired, FileReports, first_unread, first_too_long, second_unread, second_too_long, sources, Reports, no_form, of_prove, of_instance, Puts, whole, part, nothing, HoldAPair, IsTheSame, DoneMeansTheSame}
 use Rattle.ac_top.specs.Reports.{Report}
 use Rattle.ac_top.specs.Runs.{InstanceReports, IsTheSameAt}
 use Rattle.ac_top.specs.Statuses.{is_different, status_of}
@@ -39,34 +37,11 @@ done_prove a b pair r (compared vs h) done = all_same pair pair.outputs vs h (no
 
 -- what is true of each pair of which Done is reported is true of the pair that two files hold
 module _ (files : Option Contents) (a b : List ℕ) (Is : Pair → Type 0) where
-  -- what the stages have told of two files
-  record Sources (first second : List ℕ) : Type 0 where
-    pub holds_first : Holds files a first
-    pub holds_second : Holds files b second
-
-  of_programs : (first second : List ℕ) (OfPair : Pair → Report → Type 0) → ((pair : Pair) (r : Report) → OfPair pair r → r.status ≡ status.Done → Is pair) → Sources first second
-      → (left right : Program) → IsProgramOf first left → IsProgramOf second right → (r : Report) → ProgramReports left right OfPair r → r.status ≡ status.Done → HoldAPair files a b Is
-  of_programs first second OfPair good held left right l q r (signatures_differ n e) d = absurd cc
-  of_programs first second OfPair good held left right l q r (nothing_compared e) d = absurd cc
-  of_programs first second OfPair good held left right l q r (paired pair u is p) d = record {
-    first = first;
-    second = second;
-    holds_first = held.holds_first;
-    holds_second = held.holds_second;
-    left = left;
-    right = right;
-    is_left = l;
-    is_right = q;
-    pair = pair;
-    is_pair = is;
-    is = good pair u p d;
-  }
-
-  of_sources : (first second : List ℕ) (OfPair : Pair → Report → Type 0) → ((pair : Pair) (r : Report) → OfPair pair r → r.status ≡ status.Done → Is pair) → Sources first second
-      → (r : Report) → SourceReports a b first second OfPair r → r.status ≡ status.Done → HoldAPair files a b Is
-  of_sources first second OfPair good held r first_later d = absurd cc
-  of_sources first second OfPair good held r (second_later left l) d = absurd cc
-  of_sources first second OfPair good held r (programs left right t l q p) d = of_programs first second OfPair good held left right l q t p d
+  of_sources : (first second : List ℕ) (OfPair : Pair → Report → Type 0) → ((pair : Pair) (r : Report) → OfPair pair r → r.status ≡ status.Done → Is pair)
+      → Holds files a first → Holds files b second → (r : Report) → SourceReports a b first second OfPair r → r.status ≡ status.Done → HoldAPair files a b Is
+  of_sources first second OfPair good h k r (refused text why) d = absurd cc
+  of_sources first second OfPair good h k r (paired pair u are p) d =
+      record { first = first; second = second; holds_first = h; holds_second = k; pair = pair; are = are; is = good pair u p d }
 
   of_files : (faulty : Type 0) (OfPair : List ℕ → List ℕ → Pair → Report → Type 0) → ((first second : List ℕ) (pair : Pair) (r : Report) → OfPair first second pair r → r.status ≡ status.Done → Is pair)
       → (r : Report) → FileReports files faulty a b OfPair r → r.status ≡ status.Done → HoldAPair files a b Is
@@ -74,7 +49,7 @@ module _ (files : Option Contents) (a b : List ℕ) (Is : Pair → Type 0) where
   of_files faulty OfPair good r (first_too_long h) done = absurd cc
   of_files faulty OfPair good r (second_unread x h k) done = absurd cc
   of_files faulty OfPair good r (second_too_long x h k) done = absurd cc
-  of_files faulty OfPair good r (sources first second s h k m) done = of_sources first second (OfPair first second) (good first second) (record { holds_first = h; holds_second = k }) s m done
+  of_files faulty OfPair good r (sources first second s h k m) done = of_sources first second (OfPair first second) (good first second) h k s m done
 
 pub done : (words : List (List ℕ)) (files : Option Contents) (faulty : Type 0) (r : Report) → Reports words files faulty r → DoneMeansTheSame words files r.status
 done words files faulty r (no_form h) = λ d. absurd cc

@@ -1,5 +1,5 @@
 -- The least element that does not agree, from cells that are looked at one by one.
-use Rattle.std.proofs.Common.{◌≡◌, ℕ, zero, suc, ◌+◌, ◌<◌, ℤ, pos, Bool, true, false, List, [], ◌∷◌, ◌++◌, length, map, take, slice_get, Contains, Option, None, Some, ◌⊎◌, inl, inr, ⊎_elim, IsTrue, if◌then◌else◌, MatchOption, refl, sym, ap, subst, ◌∙◌, arith}
+use Rattle.std.proofs.Common.{◌≡◌, ℕ, zero, suc, ◌+◌, ◌<◌, ℤ, Bool, true, false, List, [], ◌∷◌, ◌++◌, length, map, take, slice_get, Contains, Option, None, Some, ◌⊎◌, inl, inr, ⊎_elim, if◌then◌else◌, MatchOption, refl, sym, ap, subst, ◌∙◌, arith}
 use Rattle.std.specs.Ordering.{int_cmp, is_lt, ordering_reverse}
 use Rattle.std.specs.declared.cmp.Ordering.{Ordering}
 use Rattle.std.specs.declared.cmp.Ordering.TheVariants.{Less, Equal, Greater}
@@ -9,7 +9,7 @@ use Rattle.std.specs.Cmp.Lexicographic.{slice_cmp}
 use Rattle.std.proofs.lemmas.Cmp.{lists_total, int_cmp_total}
 use Rattle.std.proofs.lemmas.List.Elements.{Contains-append_left, Contains-append_right, Contains-append_cases}
 use Rattle.ac_syntax.specs.Algebra.{Cell, same_cell}
-use Rattle.ac_syntax.proofs.Cells.{same_cell_is, same_cell_refl}
+use Rattle.ac_syntax.proofs.Cells.{same_cell_is}
 use Rattle.ac_syntax.specs.Outputs.{InExtents, input_at, swaps_of}
 use Rattle.ac_syntax.specs.Term.{Leaf, Term, Initial, Agree, same}
 use Rattle.ac_syntax.specs.declared.tree.IndexExpr.{IndexExpr}

@@ -1,5 +1,5 @@
 -- Lines of verdicts, one after another.
-use Rattle.std.proofs.Common.{◌≡◌, ℕ, suc, ◌+◌, ◌<◌, List, [], ◌∷◌, ◌++◌, length, take, min, slice_index_or, refl, sym, ap, ◌∙◌, arith}
+use Rattle.std.proofs.Common.{◌≡◌, ℕ, ◌+◌, ◌<◌, List, [], ◌∷◌, ◌++◌, length, take, min, slice_index_or, sym, ap, ◌∙◌, arith}
 use Rattle.std.proofs.lemmas.List.{append_assoc, append-nil, take_more, length-take}
 use Rattle.ac_syntax.specs.declared.tree.Array.{Array}
 use Rattle.ac_top.specs.Texts.{name_at, verdict_line, verdict_lines}

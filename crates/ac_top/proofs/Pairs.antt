@@ -9,20 +9,20 @@ use Rattle.ac_syntax.specs.declared.tree.Slot.{Slot}
 use Rattle.ac_syntax.specs.declared.tree.Slot.TheVariants as slot
 use Rattle.ac_syntax.specs.declared.tree.Program.{Program}
 use Rattle.ac_syntax.specs.declared.tree.Pair.{Pair}
-use Rattle.ac_parse.specs.Numbers.{param_numbers, ListsItsParameters}
-use Rattle.ac_parse.specs.Pairing.{Parameter, integer_named, array_shaped, parameter_at, signature, is_output, array_numbers, IsPairOf}
+use Rattle.ac_rules.specs.Numbers.{param_numbers, array_numbers, HasInputs, ListsItsParameters}
+use Rattle.ac_parse.specs.Pairing.{Parameter, integer_named, array_shaped, parameter_at, signature, is_output, IsPairOf}
 use Rattle.ac_top.specs.Runs.{IsReadyPair}
-use Rattle.ac_top.specs.Stages.{HasInputs, IsParsed}
+use Rattle.ac_top.specs.Stages.{IsRead, IsReadPair}
 use Rattle.ac_top.specs.Verdicts.{IsJoined}
 use Rattle.ac_top.proofs.Inputs.{all_of_filter}
 
-pub joined_pair : (left right : Program) (pair : Pair) → IsPairOf left right pair → IsJoined pair
+joined_pair : (left right : Program) (pair : Pair) → IsPairOf left right pair → IsJoined pair
 joined_pair left right pair is = record {
   context = is.context ∙ ap (λ (p : Program). p.context.parts ++ right.context.parts) (sym is.left_is) ∙ ap (λ (p : Program). pair.left.context.parts ++ p.context.parts) (sym is.right_is);
   commutative = is.commutative ∙ ap (λ (p : Program). p.commutative ++ right.commutative) (sym is.left_is) ∙ ap (λ (p : Program). pair.left.commutative ++ p.commutative) (sym is.right_is);
 }
 
-pub input_outputs : (left right : Program) (pair : Pair) → IsPairOf left right pair → HasInputs left → list_all (input_at pair.left.arrays) pair.outputs ≡ true
+input_outputs : (left right : Program) (pair : Pair) → IsPairOf left right pair → HasInputs left → list_all (input_at pair.left.arrays) pair.outputs ≡ true
 input_outputs left right pair is h =
     subst (λ os. list_all (input_at pair.left.arrays) os ≡ true) (sym is.outputs)
     (subst (λ (p : Program). list_all (input_at p.arrays) (filter (is_output left right) (array_numbers left.slots)) ≡ true) (sym is.left_is)
@@ -42,7 +42,7 @@ integers_of p (slot.Array k ∷ slots) = integers_of p slots
 as_many_parameters : (p : Program) → ListsItsParameters p → length p.params ≡ integers (signature p)
 as_many_parameters p h = sym (length-range_with_len 0 (length p.params)) ∙ ap length (sym h) ∙ integers_of p p.slots
 
-pub ready_pair : (left right : Program) (pair : Pair) → IsPairOf left right pair → IsParsed left → IsParsed right → IsReadyPair pair
+ready_pair : (left right : Program) (pair : Pair) → IsPairOf left right pair → IsRead left → IsRead right → IsReadyPair pair
 ready_pair left right pair is l r =
     let same : length left.params ≡ length right.params = as_many_parameters left l.parameters ∙ ap integers is.signatures ∙ sym (as_many_parameters right r.parameters) in
     record {
@@ -55,9 +55,17 @@ both_small : (xs ys : List Comparison) → AreSmallParts xs → AreSmallParts ys
 both_small [] ys h k = k
 both_small (x ∷ xs) ys h k = (h.0, both_small xs ys h.1 k)
 
-pub small_pair : (left right : Program) (pair : Pair) → IsPairOf left right pair → IsParsed left → IsParsed right → IsSmallPair pair
+small_pair : (left right : Program) (pair : Pair) → IsPairOf left right pair → IsRead left → IsRead right → IsSmallPair pair
 small_pair left right pair is l r = record {
   left = rw is.left_is l.small;
   right = rw is.right_is r.small;
   context = rw is.context (both_small left.context.parts right.context.parts l.small.context r.small.context);
+}
+
+pub read_pair : (left right : Program) (pair : Pair) → IsPairOf left right pair → IsRead left → IsRead right → IsReadPair pair
+read_pair left right pair is l r = record {
+  joined = joined_pair left right pair is;
+  inputs = input_outputs left right pair is l.inputs;
+  ready = ready_pair left right pair is l r;
+  small = small_pair left right pair is l r;
 }

@@ -1,6 +1,5 @@
 -- What is kept for cells after an assignment, and runs of straight-line programs.
-use Rattle.std.proofs.Common.{◌≡◌, ℕ, ◌+◌, ℤ, Bool, true, false, ◌&&◌, List, [], ◌∷◌, ◌++◌, Option, None, Some, MatchOption, map, if◌then◌else◌, refl, sym, ap, subst, ◌∙◌}
-use Rattle.ac_syntax.specs.Index.{Point, index_value}
+use Rattle.std.proofs.Common.{◌≡◌, ℕ, ◌+◌, Bool, true, false, ◌&&◌, List, [], ◌∷◌, ◌++◌, Some, MatchOption, if◌then◌else◌, refl, sym, ap, subst, ◌∙◌}
 use Rattle.ac_syntax.specs.Trace.{Entry, trace, trace_all, assignments}
 use Rattle.ac_syntax.specs.Algebra.{Algebra, Cell, same_cell, store, target, value_of, run}
 use Rattle.ac_syntax.specs.Term.{Leaf, Term, Initial, free}
@@ -8,7 +7,7 @@ use Rattle.ac_syntax.specs.declared.tree.Stmt.{Stmt}
 use Rattle.ac_syntax.specs.declared.tree.Stmt.TheVariants.{For', If', Assign}
 use Rattle.ac_terms.specs.declared.node.TermId.{TermId}
 use Rattle.ac_terms.specs.Table.{Table, StandsFor, Keeps}
-use Rattle.ac_top.specs.Kept.{cell, id_at, nowhere, Holds}
+use Rattle.ac_top.specs.Kept.{id_at, nowhere, Holds}
 use Rattle.ac_top.specs.Straight.{is_assignment, is_straight, after, after_all}
 use Rattle.ac_top.proofs.Ids.{turned}
 use Rattle.ac_top.proofs.Values.{Holds-kept}

@@ -1,14 +1,13 @@
 -- The terms of values in a state, and the ids that stand for them.
-use Rattle.std.proofs.Common.{◌≡◌, ℕ, ℤ, List, [], ◌∷◌, ◌++◌, map, Option, None, Some, MatchOption, refl, sym, ap, ◌∙◌}
-use Rattle.ac_syntax.specs.Index.{Point, index_value}
-use Rattle.ac_syntax.specs.Algebra.{Algebra, Cell, value_of}
-use Rattle.ac_syntax.specs.Term.{Leaf, Term, Num, Initial, Apply, more, terms, free}
+use Rattle.std.proofs.Common.{◌≡◌, ℕ, List, [], ◌∷◌, ◌++◌, map, Option, None, Some, MatchOption, refl, ap}
+use Rattle.ac_syntax.specs.Index.{index_value}
+use Rattle.ac_syntax.specs.Algebra.{Cell, value_of}
+use Rattle.ac_syntax.specs.Term.{Leaf, Term, Num, Initial, terms, free}
 use Rattle.ac_syntax.specs.declared.tree.IndexExpr.{IndexExpr}
 use Rattle.ac_syntax.specs.declared.tree.Place.{Place}
 use Rattle.ac_syntax.specs.declared.tree.Value.TheVariants.{Number, Access}
 use Rattle.ac_terms.specs.declared.node.TermId.{TermId}
 use Rattle.ac_terms.specs.Table.{Table, StandsFor, StandForAll, Keeps}
-use Rattle.ac_terms.proofs.Kept.{StandForAll-kept}
 use Rattle.ac_top.specs.Kept.{cell, id_at, Holds, nowhere}
 
 pub term_number : (state : Cell → Term) (e : IndexExpr) → value_of free nowhere state (Number e) ≡ Num (index_value nowhere e)

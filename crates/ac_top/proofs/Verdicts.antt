@@ -3,9 +3,8 @@ use Rattle.std.proofs.Common.{◌≡◌, ℕ, suc, ℤ, List, [], ◌∷◌, ◌
 use Rattle.std.specs.List.{list_all}
 use Rattle.std.proofs.lemmas.Bool.Decides.{nat_tests}
 use Rattle.ac_syntax.specs.Algebra.{Cell}
-use Rattle.ac_syntax.specs.Index.{holds, point}
 use Rattle.ac_syntax.specs.Outputs.{extents_at, input_at, swaps_of, IsValuation, IsElement, SameTermsAt}
-use Rattle.ac_syntax.specs.Sameness.{term, left_leaf, right_leaf}
+use Rattle.ac_syntax.specs.Sameness.{term}
 use Rattle.ac_syntax.specs.Term.{Term}
 use Rattle.ac_syntax.specs.Where.{element}
 use Rattle.ac_syntax.specs.declared.tree.Array.{Array}

@@ -6,15 +6,17 @@ use Rattle.ac_port.specs.Contents.{Contents, IsTooBig}
 use Rattle.ac_syntax.specs.Outputs.{SameOutput}
 use Rattle.ac_syntax.specs.declared.tree.Program.{Program}
 use Rattle.ac_syntax.specs.declared.tree.Pair.{Pair}
+use Rattle.ac_parse.specs.Answers.{HasSourceFault}
 use Rattle.ac_parse.specs.Program.{IsProgramOf}
 use Rattle.ac_parse.specs.Pairing.{IsPairOf, HasPairFault}
 use Rattle.ac_parse.specs.declared.faults.PairFault.TheVariants.{Signature, NoOutput}
+use Rattle.ac_parse.specs.declared.faults.SourceFault.{SourceFault}
 use Rattle.ac_words.specs.Commands.{Asked, prove, instance_of, IsCommand, HasForm}
 use Rattle.ac_top.specs.Reports.{Report, report}
 use Rattle.ac_top.specs.Runs.{InstanceReports, IsTheSameAt}
 use Rattle.ac_top.specs.Statuses.{status_of}
 use Rattle.ac_top.specs.Straight.{is_straight_program}
-use Rattle.ac_top.specs.Texts.{usage_line, read_fault_line, too_long_line, later_line, signature_line, no_output_line, verdict_lines}
+use Rattle.ac_top.specs.Texts.{Complaint, complaint, usage_line, read_fault_line, refusal_line, too_long_line, later_line, signature_line, no_output_line, verdict_lines}
 use Rattle.ac_top.specs.Verdicts.{AreVerdicts}
 use Rattle.ac_top.specs.declared.status.Status.{Status}
 use Rattle.ac_top.specs.declared.status.Status.TheVariants as status
@@ -27,17 +29,35 @@ pub data PairReports (a b : List ℕ) (pair : Pair) : Report → Type 0 where
   compared : (verdicts : List Verdict) → AreVerdicts pair pair.outputs verdicts
       → PairReports a b pair (report (status_of verdicts) (verdict_lines pair.left.arrays pair.outputs verdicts))
 
--- of two programs: why they are no pair, or what is reported of their pair
-pub data ProgramReports (left right : Program) (OfPair : Pair → Report → Type 0) : Report → Type 0 where
-  signatures_differ : (number : ℕ) → HasPairFault left right (Signature number) → ProgramReports left right OfPair (report status.Refused (signature_line number))
-  nothing_compared : HasPairFault left right NoOutput → ProgramReports left right OfPair (report status.Refused no_output_line)
-  paired : (pair : Pair) (r : Report) → IsPairOf left right pair → OfPair pair r → ProgramReports left right OfPair r
+-- a text has a fault, of which this is said
+pub record HasComplaint (bytes : List ℕ) (said : Complaint) : Type 0 where
+  pub fault : SourceFault
+  pub has : HasSourceFault bytes fault
+  pub is_said : complaint fault ≡ Some said
 
--- of the bytes of two files: a form of file that is not read yet, or what is reported of their programs
+-- two programs are no pair: the line that says why
+pub data AreNoPair (left right : Program) : List ℕ → Type 0 where
+  signatures_differ : (number : ℕ) → HasPairFault left right (Signature number) → AreNoPair left right (signature_line number)
+  nothing_compared : HasPairFault left right NoOutput → AreNoPair left right no_output_line
+
+-- two texts give no pair: the line of the first that has no program, or of their programs
+pub data AreRefused (a b first second : List ℕ) : List ℕ → Type 0 where
+  first_refused : (said : Complaint) → HasComplaint first said → AreRefused a b first second (refusal_line a first said)
+  second_refused : (left : Program) (said : Complaint) → IsProgramOf first left → HasComplaint second said → AreRefused a b first second (refusal_line b second said)
+  no_pair : (left right : Program) (text : List ℕ) → IsProgramOf first left → IsProgramOf second right → AreNoPair left right text → AreRefused a b first second text
+
+-- two texts have programs, and these are a pair
+pub record ArePaired (first second : List ℕ) (pair : Pair) : Type 0 where
+  pub left : Program
+  pub right : Program
+  pub is_left : IsProgramOf first left
+  pub is_right : IsProgramOf second right
+  pub is_pair : IsPairOf left right pair
+
+-- of the bytes of two files: why they give no pair, or what is reported of their pair
 pub data SourceReports (a b first second : List ℕ) (OfPair : Pair → Report → Type 0) : Report → Type 0 where
-  first_later : SourceReports a b first second OfPair (report status.Refused (later_line a))
-  second_later : (left : Program) → IsProgramOf first left → SourceReports a b first second OfPair (report status.Refused (later_line b))
-  programs : (left right : Program) (r : Report) → IsProgramOf first left → IsProgramOf second right → ProgramReports left right OfPair r → SourceReports a b first second OfPair r
+  refused : (text : List ℕ) → AreRefused a b first second text → SourceReports a b first second OfPair (report status.Refused text)
+  paired : (pair : Pair) (r : Report) → ArePaired first second pair → OfPair pair r → SourceReports a b first second OfPair r
 
 -- the named file holds these bytes, where contents are told, and they are at most 65,536
 pub record Holds (files : Option Contents) (name bytes : List ℕ) : Type 0 where
@@ -70,18 +90,14 @@ pub data Ends (words : List (List ℕ)) (files : Option Contents) (faulty failed
   reported : (r : Report) (s : Status) → Reports words files faulty r → Puts r failed before now s → Ends words files faulty failed before now s
   no_memory : now ≡ before → Ends words files faulty failed before now status.Memory
 
--- the files hold programs, and these are a pair of which this holds
+-- the files hold texts, these have programs, and the programs are a pair of which this holds
 pub record HoldAPair (files : Option Contents) (a b : List ℕ) (Is : Pair → Type 0) : Type 0 where
   pub first : List ℕ
   pub second : List ℕ
   pub holds_first : Holds files a first
   pub holds_second : Holds files b second
-  pub left : Program
-  pub right : Program
-  pub is_left : IsProgramOf first left
-  pub is_right : IsProgramOf second right
   pub pair : Pair
-  pub is_pair : IsPairOf left right pair
+  pub are : ArePaired first second pair
   pub is : Is pair
 
 -- each output of the pair is the same

@@ -1,30 +1,33 @@
 -- What the stages of a run hand on.
-use Rattle.std.specs.Prelude.{◌≡◌, ◌≤◌, ℕ, List, map, true, Option, IfSome, option_map}
-use Rattle.std.specs.Global.{Global}
-use Rattle.std.specs.Prelude.{Vec}
+use Rattle.std.specs.Prelude.{◌≡◌, ◌≤◌, ℕ, List, true, Option, Some, None, IfSome, Result, Ok, Err, option_map}
+use Rattle.std.specs.declared.alloc.AllocError.{AllocError}
 use Rattle.std.specs.List.{list_all}
 use Rattle.ac_port.specs.Contents.{Contents, IsTooBig}
 use Rattle.ac_syntax.specs.declared.tree.Program.{Program}
 use Rattle.ac_syntax.specs.Outputs.{input_at}
 use Rattle.ac_syntax.specs.Ready.{ReadyProgram}
-use Rattle.ac_syntax.specs.Small.{IsSmallProgram}
+use Rattle.ac_syntax.specs.Small.{IsSmallProgram, IsSmallPair}
 use Rattle.ac_syntax.specs.declared.tree.Pair.{Pair}
-use Rattle.ac_parse.specs.Numbers.{ListsItsParameters}
-use Rattle.ac_parse.specs.Pairing.{IsPairOf, HasPairFault, array_numbers}
-use Rattle.ac_parse.specs.declared.faults.PairFault.TheVariants as fault
-use Rattle.ac_top.specs.Answers.{Holds, PairReports}
+use Rattle.ac_rules.specs.Numbers.{HasInputs, ListsItsParameters}
+use Rattle.ac_parse.specs.Pairing.{IsPairOf}
+use Rattle.ac_parse.specs.Program.{IsProgramOf}
+use Rattle.ac_top.specs.Answers.{AreNoPair, ArePaired, AreRefused, HasComplaint, Holds, PairReports}
 use Rattle.ac_top.specs.Reports.{Report, report as a_report}
-use Rattle.ac_top.specs.Runs.{InstanceReports}
+use Rattle.ac_top.specs.Runs.{InstanceReports, IsReadyPair}
 use Rattle.ac_top.specs.Statuses.{status_of}
-use Rattle.ac_top.specs.Texts.{verdict_lines}
+use Rattle.ac_top.specs.Texts.{Complaint, verdict_lines}
+use Rattle.ac_top.specs.Verdicts.{IsJoined}
+use Rattle.ac_top.specs.declared.refusals.Complaint.{Complaint as Said}
 use Rattle.ac_top.specs.declared.verdict.Verdict.{Verdict}
 use Rattle.ac_top.specs.declared.report.Report.{Report as Written}
 use Rattle.ac_top.specs.declared.report.Source.{Source}
 use Rattle.ac_top.specs.declared.report.Source.TheVariants.{Bytes, Unread, TooLong}
-use Rattle.ac_top.specs.declared.report.Paired.{Paired}
 use Rattle.ac_top.specs.declared.runs.Task.{Task}
 use Rattle.ac_top.specs.declared.runs.Task.TheVariants.{Prove, Instance}
-use Rattle.ac_top.specs.declared.report.Paired.TheVariants.{Together, Signature, NoOutput}
+use Rattle.ac_top.specs.declared.sources.Paired.{Paired}
+use Rattle.ac_top.specs.declared.sources.Paired.TheVariants.{Together, Refused}
+use Rattle.ac_top.specs.declared.sources.Parsed.{Parsed}
+use Rattle.ac_top.specs.declared.sources.Parsed.TheVariants as parsed
 
 -- the status and the bytes of a report
 abbrev pub written : Written → Report
@@ -36,22 +39,42 @@ IsSource files faulty name (Bytes bytes) = Holds files name bytes.items
 IsSource files faulty name Unread = faulty
 IsSource files faulty name TooLong = IfSome files (λ contents. IsTooBig contents name 65536)
 
--- what became of two programs
-abbrev pub IsPaired : Program → Program → Paired → Type 0
-IsPaired left right (Together pair) = IsPairOf left right pair
-IsPaired left right (Signature number) = HasPairFault left right (fault.Signature number)
-IsPaired left right NoOutput = HasPairFault left right fault.NoOutput
-
--- the arrays of the parameter list are inputs
-abbrev pub HasInputs : Program → Type 0
-HasInputs program = list_all (input_at program.arrays) (array_numbers program.slots) ≡ true
-
--- what is known of the program of a text
-pub record IsParsed (program : Program) : Type 0 where
+-- what is known of a program that was read
+pub record IsRead (program : Program) : Type 0 where
   pub ready : ReadyProgram program
   pub small : IsSmallProgram program
   pub parameters : ListsItsParameters program
   pub inputs : HasInputs program
+
+-- what the code says of a fault; nothing of want of memory
+abbrev pub said_by : Said → Complaint
+said_by said = record { words = said.words.now; at = said.place.at }
+
+abbrev pub told : Result Said AllocError → Option Complaint
+told (Ok said) = Some (said_by said)
+told (Err error) = None
+
+-- the program of a text, or what is wrong with it
+abbrev pub IsParsed : List ℕ → Parsed → Type 0
+IsParsed bytes (parsed.Program program) = IsProgramOf bytes program × IsRead program
+IsParsed bytes (parsed.Refused said) = HasComplaint bytes (said_by said)
+
+-- the pair of two programs, or why they are none
+abbrev pub IsPairing : Program → Program → Paired → Type 0
+IsPairing left right (Together pair) = IsPairOf left right pair
+IsPairing left right (Refused text) = AreNoPair left right text.items
+
+-- what is known of the pair of two programs that were read; its outputs are inputs of the left one
+pub record IsReadPair (pair : Pair) : Type 0 where
+  pub joined : IsJoined pair
+  pub inputs : list_all (input_at pair.left.arrays) pair.outputs ≡ true
+  pub ready : IsReadyPair pair
+  pub small : IsSmallPair pair
+
+-- the pair of two texts, or why they give none
+abbrev pub IsPairingOf : List ℕ → List ℕ → List ℕ → List ℕ → Paired → Type 0
+IsPairingOf a b first second (Together pair) = ArePaired first second pair × IsReadPair pair
+IsPairingOf a b first second (Refused text) = AreRefused a b first second text.items
 
 -- what a task reports of a pair of the texts of two files
 abbrev pub TaskReports : Task → (a b first second : List ℕ) → Pair → Report → Type 0

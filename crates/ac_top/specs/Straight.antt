@@ -1,5 +1,5 @@
 -- Straight-line programs, which assign and do nothing else, and their runs over free terms.
-use Rattle.std.specs.Prelude.{ℕ, List, [], ◌∷◌, map, Bool, true, false, ◌&&◌, ◌==◌, length}
+use Rattle.std.specs.Prelude.{List, [], ◌∷◌, map, Bool, true, false, ◌&&◌, ◌==◌, length}
 use Rattle.std.specs.List.{list_all}
 use Rattle.ac_syntax.specs.Index.{index_value}
 use Rattle.ac_syntax.specs.Algebra.{Cell, value_of, store}

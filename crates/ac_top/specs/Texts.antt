@@ -1,10 +1,17 @@
 -- Every line that the program prints, in one place.
-use Rattle.std.specs.Prelude.{ℕ, zero, suc, ℤ, List, [], ◌∷◌, ◌++◌, codes, decimal}
+use Rattle.std.specs.Prelude.{ℕ, zero, suc, ℤ, List, [], ◌∷◌, ◌++◌, codes, decimal, Option, Some, None}
 use Rattle.std.specs.Fmt.{signed_decimal}
 use Rattle.std.specs.List.{flat_map}
 use Rattle.ac_syntax.specs.declared.tree.Array.{Array}
 use Rattle.ac_instance.specs.declared.halt.Outcome.{Outcome}
 use Rattle.ac_instance.specs.declared.halt.Outcome.TheVariants as outcome
+use Rattle.ac_syntax.specs.declared.tree.Place.{Place}
+use Rattle.ac_lex.specs.declared.tokens.LexFault.TheVariants.{BadByte, BadNumber, LongName, OpenComment}
+use Rattle.ac_lex.specs.declared.tokens.LexFault.TheVariants as lex
+use Rattle.ac_rules.specs.declared.fault.Which.{Which}
+use Rattle.ac_rules.specs.declared.fault.Which.TheVariants.{File, Nesting, Parameters, Arrays, Dimensions, Depth, Assignments, Nodes, Literal, Coefficient, Pieces}
+use Rattle.ac_parse.specs.declared.faults.SourceFault.{SourceFault}
+use Rattle.ac_parse.specs.declared.faults.SourceFault.TheVariants.{Lex, Syntax, NotAffine, Undeclared, Misused, Duplicate, Endless, Limit, Memory}
 use Rattle.ac_top.specs.Places.{place_text}
 use Rattle.ac_top.specs.declared.verdict.Verdict.{Verdict}
 use Rattle.ac_top.specs.declared.verdict.Verdict.TheVariants.{Equal, Different}
@@ -22,7 +29,49 @@ read_fault_line name = line (name ++ codes ": read fault")
 abbrev pub too_long_line : List ℕ → List ℕ
 too_long_line name = line (name ++ codes ":1:1: limit file")
 
--- a form of file that is not read or not compared yet
+-- the limit that a text exceeds
+abbrev pub limit_words : Which → List ℕ
+limit_words File = codes "limit file"
+limit_words Nesting = codes "limit nesting"
+limit_words Parameters = codes "limit parameters"
+limit_words Arrays = codes "limit arrays"
+limit_words Dimensions = codes "limit dimensions"
+limit_words Depth = codes "limit depth"
+limit_words Assignments = codes "limit assignments"
+limit_words Nodes = codes "limit nodes"
+limit_words Literal = codes "limit literal"
+limit_words Coefficient = codes "limit coefficient"
+limit_words Pieces = codes "limit pieces"
+
+-- what is said of a text, and of which of its bytes
+pub record Complaint : Type 0 where
+  pub words : List ℕ
+  pub at : ℕ
+
+abbrev pub about : Place → List ℕ → Option Complaint
+about place words = Some (record { words = words; at = place.at })
+
+-- what is said of each fault; want of memory is none of the text's
+abbrev pub complaint : SourceFault → Option Complaint
+complaint (Lex (BadByte place)) = about place (codes "bad byte")
+complaint (Lex (BadNumber place)) = about place (codes "bad number")
+complaint (Lex (LongName place)) = about place (codes "long name")
+complaint (Lex (OpenComment place)) = about place (codes "open comment")
+complaint (Lex (lex.Memory error)) = None
+complaint (Syntax place) = about place (codes "syntax")
+complaint (NotAffine place) = about place (codes "not affine")
+complaint (Undeclared place) = about place (codes "undeclared")
+complaint (Misused place) = about place (codes "misused")
+complaint (Duplicate place) = about place (codes "duplicate")
+complaint (Endless place) = about place (codes "endless loop")
+complaint (Limit which place) = about place (limit_words which)
+complaint (Memory error) = None
+
+-- NAME:L:C: WORDS
+abbrev pub refusal_line : List ℕ → List ℕ → Complaint → List ℕ
+refusal_line name bytes said = line (place_text name bytes said.at ++ codes ": " ++ said.words)
+
+-- a form of file that is not compared yet
 abbrev pub later_line : List ℕ → List ℕ
 later_line name = line (name ++ codes ":1:1: later")
 

@@ -1,26 +1,21 @@
-ghost use Rattle.std.specs.Prelude.{◌≡◌, ◌≤◌, length, true, IfOk, IfSome};
+ghost use Rattle.std.specs.Prelude.{◌≡◌, ◌≤◌, length, true, IfOk};
 ghost use Rattle.ac_port.specs.Counts.{Rose};
-ghost use Rattle.ac_parse.specs.Program.{IsProgramOf};
 ghost use Rattle.std.specs.List.{list_all};
 ghost use Rattle.ac_syntax.specs.Outputs.{input_at};
-ghost use Rattle.ac_syntax.specs.Small.{IsSmallPair};
 ghost use Rattle.ac_top.specs.Verdicts.{IsJoined};
-ghost use Rattle.ac_top.specs.Answers.{PairReports, ProgramReports, SourceReports, FileReports};
+ghost use Rattle.ac_top.specs.Answers.{PairReports, SourceReports, FileReports};
 ghost use Rattle.ac_top.specs.Reports.{report as a_report};
-ghost use Rattle.ac_top.specs.Runs.{IsReadyPair};
-ghost use Rattle.ac_top.specs.Stages.{HasInputs, IsParsed, IsSource, IsPaired, IsWithin, TaskReports, written, verdicts_report};
+ghost use Rattle.ac_top.specs.Stages.{IsReadPair, IsSource, IsWithin, TaskReports, written, verdicts_report};
 
 use crate::evaluate::Side;
 use crate::prove::{Answer, prove};
 use crate::runs::{Named, Task, report_instance};
+use crate::sources::{Paired, pair_sources};
 use crate::status::{Status, status_of};
-use crate::texts::{
-    later_line, no_output_line, read_fault_line, signature_line, too_long_line, verdict_lines,
-};
+use crate::texts::{later_line, read_fault_line, too_long_line, verdict_lines};
 use crate::verdict::Verdict;
-use ac_parse::{PairFault, SourceFault, pair, parse};
 use ac_port::{Files, ReadStop};
-use ac_syntax::tree::{Pair, Program};
+use ac_syntax::tree::Pair;
 use std::alloc::{AllocError, Global};
 
 /// The longest source file, in bytes.
@@ -39,14 +34,6 @@ pub enum Source {
     Bytes(Vec<u8>),
     Unread,
     TooLong,
-}
-
-/// What two programs are to each other.
-#[derive(Drop)]
-pub enum Paired {
-    Together(Pair),
-    Signature(u32),
-    NoOutput,
 }
 
 /// The report of a refusal.
@@ -84,30 +71,6 @@ fn read_source<F: Files>(alloc: Global, files: &mut F, name: &[u8]) -> Result<So
     }
 }
 
-/// The program of a text; none where the text has a form that is not read yet.
-fn program_of(alloc: Global, bytes: &[u8]) -> Result<Option<Program>, AllocError>
-    ensures program { IfOk result (λ found. IfSome found (IsProgramOf bytes.now)) }
-    ensures parsed { IfOk result (λ found. IfSome found IsParsed) }
-{
-    match parse(alloc, bytes) {
-        Ok(program) => Ok(Some(program)),
-        Err(SourceFault::Memory(error)) => Err(error),
-        Err(_) => Ok(None),
-    }
-}
-
-/// The pair of two programs, or why they are none.
-fn pair_of(alloc: Global, left: Program, right: Program) -> Result<Paired, AllocError>
-    ensures { IfOk result (IsPaired left right) }
-{
-    match pair(alloc, left, right) {
-        Ok(pair) => Ok(Paired::Together(pair)),
-        Err(PairFault::Signature(number)) => Ok(Paired::Signature(number)),
-        Err(PairFault::NoOutput) => Ok(Paired::NoOutput),
-        Err(PairFault::Memory(error)) => Err(error),
-    }
-}
-
 /// What `prove` reports of a pair of the named files.
 fn report_pair(alloc: Global, a: &[u8], b: &[u8], pair: &Pair) -> Result<Report, AllocError>
     requires joined { IsJoined pair.now }
@@ -142,37 +105,13 @@ fn report_task(
     pair: &Pair,
     task: &Task<'_>,
 ) -> Result<Report, AllocError>
-    requires joined { IsJoined pair.now }
-    requires inputs { list_all (input_at pair.now.left.arrays) pair.now.outputs ≡ true }
-    requires ready { IsReadyPair pair.now }
-    requires small { IsSmallPair pair.now }
+    requires pair { IsReadPair pair.now }
     requires within { IsWithin task.now }
     ensures { IfOk result (λ r. TaskReports task.now left.now.name.now right.now.name.now left.now.bytes.now right.now.bytes.now pair.now (written r)) }
 {
     match task {
         Task::Prove => report_pair(alloc, left.name, right.name, pair),
         Task::Instance { at, limit } => report_instance(alloc, left, right, pair, *at, *limit),
-    }
-}
-
-/// What a task reports of the programs of two files.
-fn report_programs(
-    alloc: Global,
-    left: &Named<'_>,
-    right: &Named<'_>,
-    first: Program,
-    second: Program,
-    task: &Task<'_>,
-) -> Result<Report, AllocError>
-    requires first { IsParsed first }
-    requires second { IsParsed second }
-    requires within { IsWithin task.now }
-    ensures { IfOk result (λ r. ProgramReports first second (TaskReports task.now left.now.name.now right.now.name.now left.now.bytes.now right.now.bytes.now) (written r)) }
-{
-    match pair_of(alloc, first, second)? {
-        Paired::Together(pair) => report_task(alloc, left, right, &pair, task),
-        Paired::Signature(number) => Ok(refused(signature_line(alloc, number)?)),
-        Paired::NoOutput => Ok(refused(no_output_line(alloc)?)),
     }
 }
 
@@ -186,13 +125,10 @@ fn report_sources(
     requires within { IsWithin task.now }
     ensures { IfOk result (λ r. SourceReports left.now.name.now right.now.name.now left.now.bytes.now right.now.bytes.now (TaskReports task.now left.now.name.now right.now.name.now left.now.bytes.now right.now.bytes.now) (written r)) }
 {
-    let Some(first) = program_of(alloc, left.bytes)? else {
-        return Ok(refused(later_line(alloc, left.name)?));
-    };
-    let Some(second) = program_of(alloc, right.bytes)? else {
-        return Ok(refused(later_line(alloc, right.name)?));
-    };
-    report_programs(alloc, left, right, first, second, task)
+    match pair_sources(alloc, left, right)? {
+        Paired::Together(pair) => report_task(alloc, left, right, &pair, task),
+        Paired::Refused(text) => Ok(refused(text)),
+    }
 }
 
 /// Reads two files and reports on them.

@@ -41,7 +41,7 @@ pub fn too_long_line(alloc: Global, name: &[u8]) -> Result<Vec<u8>, AllocError>
     named_line(alloc, name, b":1:1: limit file")
 }
 
-/// The line for a file of a form that is not read or not compared yet.
+/// The line for a file of a form that is not compared yet.
 pub fn later_line(alloc: Global, name: &[u8]) -> Result<Vec<u8>, AllocError>
     ensures { IfOk result (λ bytes. bytes.items ≡ text.later_line name.now) }
 {

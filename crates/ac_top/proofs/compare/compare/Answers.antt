@@ -1,9 +1,7 @@
-use Rattle.std.proofs.Common.{◌≡◌, [], ◌++◌, None, map, List, IfOk, ℕ, sym, subst, ◌∙◌}
+use Rattle.std.proofs.Common.{[], ◌++◌, map, sym, subst}
 use Rattle.std.proofs.lemmas.Result.{IfOk-weaker}
-use Rattle.ac_syntax.specs.Algebra.{Cell}
-use Rattle.ac_syntax.specs.Term.{Term}
 use Rattle.ac_top.specs.Kept.{assigned, leaf_in}
-use Rattle.ac_top.specs.Least.{IsLeast, among, throughout}
+use Rattle.ac_top.specs.Least.{IsLeast, among}
 use Rattle.ac_top.specs.declared.evaluate.Side.TheVariants.{Left, Right}
 use Rattle.ac_top.proofs.Values.{Holds-kept}
 use Rattle.ac_top.proofs.Leasts.{whole, others, nothing_seen}

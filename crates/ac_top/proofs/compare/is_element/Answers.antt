@@ -1,4 +1,4 @@
-use Rattle.std.proofs.Common.{◌≡◌, true, false, true≢false, subst, sym, ap, ◌∙◌, arith, IsTrue, pos, ◌<ℤ◌, slice_index_or}
+use Rattle.std.proofs.Common.{◌≡◌, true, false, true≢false, subst, sym, ◌∙◌, arith, pos, ◌<ℤ◌, slice_index_or}
 use Rattle.ac_syntax.specs.Index.{index_value}
 use Rattle.ac_top.specs.Kept.{nowhere}
 use Rattle.ac_top.proofs.Elements.{as_many, coordinate, one_further}

@@ -1,11 +1,10 @@
-use Rattle.std.proofs.Common.{◌≡◌, false, true, ◌∷◌, [], ◌++◌, IfOk, List, ℤ, Option, sym, ap, subst, ◌∙◌, true≢false}
+use Rattle.std.proofs.Common.{◌≡◌, ◌∷◌, [], ◌++◌, sym, ap, subst, ◌∙◌, true≢false}
 use Rattle.std.proofs.lemmas.Result.{IfOk-weaker}
-use Rattle.ac_syntax.specs.Algebra.{Cell}
 use Rattle.ac_syntax.specs.Outputs.{InExtents, swaps_of}
 use Rattle.ac_syntax.specs.Term.{Agree}
 use Rattle.ac_top.specs.Kept.{cell, cell_of, nowhere}
 use Rattle.ac_top.specs.Least.{IsLeast, Looked, among, earlier_of}
-use Rattle.ac_top.proofs.Leasts.{passed, improved}
+use Rattle.ac_top.proofs.Leasts.{improved}
 use Rattle.ac_top.proofs.compare.look.Goals as goal
 
 pub returns-clause-least : goal.returns-clause-least

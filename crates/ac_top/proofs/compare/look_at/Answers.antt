@@ -1,7 +1,5 @@
-use Rattle.std.proofs.Common.{◌≡◌, ◌+◌, [], ◌∷◌, ◌++◌, Some, None, map, take, IfOk, List, ap, sym, subst, ◌∙◌}
-use Rattle.std.specs.Option.{option_map}
+use Rattle.std.proofs.Common.{◌≡◌, ◌+◌, [], ◌∷◌, ◌++◌, map, take, IfOk, ap, sym, subst, ◌∙◌}
 use Rattle.std.proofs.lemmas.List.{append_assoc}
-use Rattle.ac_syntax.specs.Algebra.{Cell}
 use Rattle.ac_top.specs.Kept.{assigned, cell_of}
 use Rattle.ac_top.specs.Least.{IsLeast, among}
 use Rattle.ac_top.proofs.Leasts.{one_assigned, is_there}

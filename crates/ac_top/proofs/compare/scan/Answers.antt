@@ -1,6 +1,5 @@
-use Rattle.std.proofs.Common.{◌≡◌, ◌+◌, [], ◌∷◌, ◌++◌, map, take, List, ap, sym, subst, ◌∙◌, arith}
+use Rattle.std.proofs.Common.{◌+◌, ◌++◌, map, take, sym, subst, ◌∙◌, arith}
 use Rattle.std.proofs.lemmas.List.{take_all}
-use Rattle.ac_syntax.specs.Algebra.{Cell}
 use Rattle.ac_top.specs.Kept.{assigned, leaf_in}
 use Rattle.ac_top.specs.Least.{IsLeast, among}
 use Rattle.ac_top.specs.declared.evaluate.Side.TheVariants.{Left, Right}

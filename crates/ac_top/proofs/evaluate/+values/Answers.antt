@@ -1,13 +1,12 @@
 use Rattle.std.proofs.Common.{◌≡◌, ◌+◌, take, map, [], ◌∷◌, ◌++◌, ap, sym, subst, ◌∙◌, IfOk, arith}
 use Rattle.std.proofs.lemmas.List.{take_more, map-append}
-use Rattle.ac_syntax.specs.Algebra.{Cell, value_of}
+use Rattle.ac_syntax.specs.Algebra.{value_of}
 use Rattle.ac_syntax.specs.Index.{index_value}
-use Rattle.ac_syntax.specs.Term.{Term, Num, Apply, terms, free}
-use Rattle.ac_syntax.specs.declared.tree.Value.{Value}
+use Rattle.ac_syntax.specs.Term.{Num, Apply, terms, free}
 use Rattle.ac_syntax.proofs.Traces.{value_call}
 use Rattle.ac_terms.specs.Table.{StandsFor, StandForAll}
 use Rattle.ac_terms.proofs.Kept.{StandForAll-kept}
-use Rattle.ac_top.specs.Kept.{cell, cell_of, leaf_in, nowhere, Holds}
+use Rattle.ac_top.specs.Kept.{cell, leaf_in, nowhere}
 use Rattle.ac_top.proofs.Values.{term_number, term_access, StandForAll-push, Holds-kept}
 use Rattle.ac_top.proofs.evaluate.+values.Goals as goal
 

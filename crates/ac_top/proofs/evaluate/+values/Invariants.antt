@@ -1,4 +1,4 @@
-use Rattle.std.proofs.Common.{◌≡◌, ◌+◌, ◌≤◌, length, take, map}
+use Rattle.std.proofs.Common.{◌≡◌, take, map}
 use Rattle.ac_syntax.specs.Algebra.{Cell, value_of}
 use Rattle.ac_syntax.specs.Term.{Term, terms, free}
 use Rattle.ac_terms.specs.Table.{StandForAll, Keeps}

@@ -1,10 +1,6 @@
-use Rattle.std.proofs.Common.{◌≡◌, ◌++◌, take, List, ℕ, Option, Err, refl, sym, ap, subst, ◌∙◌}
+use Rattle.std.proofs.Common.{◌++◌, take, Err, ap, ◌∙◌}
 use Rattle.std.specs.Option.{option_map}
-use Rattle.std.specs.declared.alloc.AllocError.{AllocError}
-use Rattle.ac_port.specs.Counts.{Rose}
-use Rattle.ac_top.specs.Answers.{Puts, whole, part, nothing}
-use Rattle.ac_top.specs.Stages.{written}
-use Rattle.ac_top.specs.declared.status.Status.TheVariants as status
+use Rattle.ac_top.specs.Answers.{whole, part, nothing}
 use Rattle.ac_top.proofs.program.put.Goals as goal
 
 pub returns-in-Ok : goal.returns-in-Ok

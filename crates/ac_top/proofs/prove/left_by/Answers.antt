@@ -1,7 +1,6 @@
-use Rattle.std.proofs.Common.{◌≡◌, true, [], sym, ap, subst, ◌∙◌}
+use Rattle.std.proofs.Common.{◌≡◌, true, sym, ap, subst, ◌∙◌}
 use Rattle.ac_syntax.specs.Algebra.{Cell}
 use Rattle.ac_syntax.specs.Term.{Term, Initial}
-use Rattle.ac_syntax.specs.Sameness.{term}
 use Rattle.ac_top.specs.Kept.{leaf_in, Holds}
 use Rattle.ac_top.specs.Straight.{is_straight, after_all}
 use Rattle.ac_top.proofs.Steps.{Holds-start, straight_run}

@@ -1,6 +1,4 @@
-use Rattle.std.proofs.Common.{◌≡◌, true, false, [], List, ℕ, Some, is_some, IfSome, sym, ap, subst, ◌∙◌}
-use Rattle.ac_syntax.specs.Algebra.{Cell}
-use Rattle.ac_syntax.specs.Term.{Term}
+use Rattle.std.proofs.Common.{◌≡◌, true, [], is_some, IfSome, sym, ap, subst, ◌∙◌}
 use Rattle.ac_syntax.specs.Sameness.{term}
 use Rattle.ac_top.specs.Kept.{leaf_in, Holds}
 use Rattle.ac_top.specs.Straight.{is_straight_program}

@@ -1,13 +1,10 @@
-use Rattle.std.proofs.Common.{◌≡◌, true, false, length, IfOk, sym, ap, subst, ◌∙◌}
+use Rattle.std.proofs.Common.{length, sym, ap, subst, ◌∙◌}
 use Rattle.std.proofs.lemmas.Result.{IfOk-weaker}
 use Rattle.ac_top.specs.Reports.{report as a_report}
 use Rattle.ac_top.specs.Answers.{PairReports, first_not_straight, second_not_straight, compared}
-use Rattle.ac_top.specs.Stages.{written, verdicts_report}
-use Rattle.ac_top.specs.Straight.{is_straight_program}
-use Rattle.ac_top.specs.Verdicts.{AreVerdicts, IsAnswer}
-use Rattle.ac_top.specs.declared.evaluate.Side.{Side}
-use Rattle.ac_top.specs.declared.evaluate.Side.TheVariants.{Left, Right}
-use Rattle.ac_top.specs.declared.prove.Answer.TheVariants.{Later, Verdicts}
+use Rattle.ac_top.specs.Stages.{verdicts_report}
+use Rattle.ac_top.specs.Verdicts.{IsAnswer}
+use Rattle.ac_top.specs.declared.prove.Answer.TheVariants.{Later}
 use Rattle.ac_top.specs.declared.status.Status.TheVariants as status
 use Rattle.ac_top.proofs.Verdicts.{as_many_verdicts}
 use Rattle.ac_top.proofs.report.report_pair.Goals as goal

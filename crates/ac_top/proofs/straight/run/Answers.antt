@@ -1,10 +1,10 @@
-use Rattle.std.proofs.Common.{◌≡◌, ◌+◌, ◌&&◌, take, [], ◌∷◌, ◌++◌, ap, sym, subst, ◌∙◌, true, refl, arith}
+use Rattle.std.proofs.Common.{◌≡◌, ◌+◌, take, [], ◌∷◌, ◌++◌, ap, sym, subst, ◌∙◌, true, refl, arith}
 use Rattle.std.proofs.lemmas.List.{take_more}
 use Rattle.std.proofs.lemmas.List.Folds.{list_all-append}
 use Rattle.ac_syntax.specs.Algebra.{Cell}
 use Rattle.ac_syntax.specs.Term.{Term}
 use Rattle.ac_top.specs.Kept.{leaf_in, Holds}
-use Rattle.ac_top.specs.Straight.{is_assignment, is_straight, after, after_all}
+use Rattle.ac_top.specs.Straight.{is_assignment, is_straight, after_all}
 use Rattle.ac_top.proofs.Steps.{after_all-push}
 use Rattle.ac_top.proofs.straight.run.Goals as goal
 

@@ -1,4 +1,4 @@
-use Rattle.std.proofs.Common.{◌≡◌, ◌+◌, ◌≤◌, length, take, true}
+use Rattle.std.proofs.Common.{◌≡◌, take, true}
 use Rattle.ac_syntax.specs.Algebra.{Cell}
 use Rattle.ac_syntax.specs.Term.{Term}
 use Rattle.ac_terms.specs.Table.{Keeps}

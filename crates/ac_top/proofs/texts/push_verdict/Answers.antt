@@ -1,4 +1,4 @@
-use Rattle.std.proofs.Common.{◌≡◌, ◌++◌, [], ◌∷◌, codes, sym, ap, ◌∙◌}
+use Rattle.std.proofs.Common.{◌++◌, [], ◌∷◌, codes, sym, ap, ◌∙◌}
 use Rattle.ac_top.specs.Texts.{element_text, verdict_line}
 use Rattle.ac_top.proofs.Lines.{different_text}
 use Rattle.ac_top.proofs.texts.push_verdict.Goals as goal

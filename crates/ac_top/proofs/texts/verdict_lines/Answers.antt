@@ -1,5 +1,5 @@
-use Rattle.std.proofs.Common.{◌≡◌, ◌++◌, take, slice_index_or, ap, sym, ◌∙◌, arith}
-use Rattle.ac_top.specs.Texts.{name_at, verdict_line, verdict_lines}
+use Rattle.std.proofs.Common.{◌++◌, slice_index_or, ap, sym, ◌∙◌, arith}
+use Rattle.ac_top.specs.Texts.{name_at, verdict_line}
 use Rattle.ac_top.proofs.Lines.{one_further_line}
 use Rattle.ac_top.proofs.texts.verdict_lines.Goals as goal
 
