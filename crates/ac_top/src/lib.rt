@@ -33,4 +33,14 @@ pub use verdict::Verdict;
 #[cfg(test)]
 mod instance_tests;
 #[cfg(test)]
+mod later_tests;
+#[cfg(test)]
+mod limit_tests;
+#[cfg(test)]
+mod pair_tests;
+#[cfg(test)]
+mod rule_tests;
+#[cfg(test)]
 mod tests;
+#[cfg(test)]
+mod text_tests;

@@ -110,20 +110,20 @@ static ROWS: [Row; 16] = [
         first: b"",
         second: b"void f(int C[1]) { C[0] = 1; }",
         status: Status::Refused,
-        text: b"a.c:1:1: later\n",
+        text: b"a.c:1:1: syntax\n",
     },
     Row {
         first: b"void f(int C[1]) { C[0] = 1; }",
         second: b"",
         status: Status::Refused,
-        text: b"b.c:1:1: later\n",
+        text: b"b.c:1:1: syntax\n",
     },
     // a name that is not declared
     Row {
         first: b"void f(int C[1]) { C[0] = D[0]; }",
         second: b"void f(int C[1]) { C[0] = 1; }",
         status: Status::Refused,
-        text: b"a.c:1:1: later\n",
+        text: b"a.c:1:27: undeclared\n",
     },
 ];
 
@@ -156,6 +156,18 @@ pub fn answers(
     let mut sink = MemSink::new(alloc);
     let answered = run(alloc, &words, files, &mut sink);
     Ok(answered == status && sink.bytes() == text)
+}
+
+/// Whether `prove a.c b.c` answers this of two texts.
+pub fn is_answered(
+    alloc: Global,
+    first: &[u8],
+    second: &[u8],
+    status: Status,
+    text: &[u8],
+) -> Result<bool, Fail> {
+    let mut files = files(alloc, first, second)?;
+    answers(alloc, &[b"prove", b"a.c", b"b.c"], &mut files, status, text)
 }
 
 fn row_passes(alloc: Global, row: &Row) -> Result<bool, Fail> {
@@ -280,7 +292,7 @@ fn a_long_file_is_refused(rt: HostRuntime) -> Result<(), Fail> {
             &[b"prove", b"a.c", b"b.c"],
             &mut third,
             Status::Refused,
-            b"a.c:1:1: later\n"
+            b"a.c:1:65537: syntax\n"
         )?
     );
     Ok(())
