@@ -5,6 +5,9 @@
 //! `specs/Answers.antt`, case by case, with the exact lines in `specs/Texts.antt`; and the headline is a clause of it: where
 //! the status is done, each output of the two programs is the same.
 //!
+//! A text without a program is refused by a line that says what is wrong and where, by line and column; of two such texts the first
+//! is told. What stands before the pair of two texts is `sources::pair_sources`.
+//!
 //! `prove` compares programs without parameters, loops, branches, contexts and commutative names by the terms that they
 //! leave: both are run over one table of shared terms, and only the cells that either assigns are looked at. Every other
 //! pair is answered by the line `later`. `instance` runs both programs of a pair at one valuation.
