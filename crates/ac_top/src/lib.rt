@@ -42,6 +42,8 @@ mod limit_tests;
 #[cfg(test)]
 mod pair_tests;
 #[cfg(test)]
+mod prove_tests;
+#[cfg(test)]
 mod rule_tests;
 #[cfg(test)]
 mod tests;
