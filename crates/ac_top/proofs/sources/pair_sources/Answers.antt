@@ -18,21 +18,21 @@ pub returns-in-Refused : goal.returns-in-Refused
 returns-in-Refused c =
     let left = c.args.left.now in
     let right = c.args.right.now in
-    let why = subst (IsParsed left.bytes.now) c.in-Refused.is c.in_ok-program_of.ensures in
+    let why = subst (IsParsed left.bytes.now) c.in-Refused.is c.in_ok-program.ensures in
     subst (AreRefused left.name.now right.name.now left.bytes.now right.bytes.now) (sym c.in_ok-refusal_line-in-Refused.ensures) (first_refused (said_by c.in-Refused.complaint) why)
 
 pub returns-in-Refused-2 : goal.returns-in-Refused-2
 returns-in-Refused-2 c =
     let left = c.args.left.now in
     let right = c.args.right.now in
-    let made = subst (IsParsed left.bytes.now) c.in-Program.is c.in_ok-program_of.ensures in
-    let why = subst (IsParsed right.bytes.now) c.in-Refused-2.is c.in_ok-program_of-2.ensures in
+    let made = subst (IsParsed left.bytes.now) c.in-Program.is c.in_ok-program.ensures in
+    let why = subst (IsParsed right.bytes.now) c.in-Refused-2.is c.in_ok-program-2.ensures in
     subst (AreRefused left.name.now right.name.now left.bytes.now right.bytes.now) (sym c.in_ok-refusal_line-in-Refused-2.ensures) (second_refused c.in-Program.program (said_by c.in-Refused-2.complaint) made.0 why)
 
 pub returns : goal.returns
 returns c =
     let left = c.args.left.now in
     let right = c.args.right.now in
-    let first = subst (IsParsed left.bytes.now) c.in-Program.is c.in_ok-program_of.ensures in
-    let second = subst (IsParsed right.bytes.now) c.in-Program-2.is c.in_ok-program_of-2.ensures in
+    let first = subst (IsParsed left.bytes.now) c.in-Program.is c.in_ok-program.ensures in
+    let second = subst (IsParsed right.bytes.now) c.in-Program-2.is c.in_ok-program-2.ensures in
     IfOk-weaker c.pair_programs.result _ _ (pairing left.name.now right.name.now left.bytes.now right.bytes.now c.in-Program.program c.in-Program-2.program first.0 first.1 second.0 second.1) c.pair_programs.ensures
