@@ -15,50 +15,18 @@ use Rattle.ac_grammar.specs.declared.tree.Expr.TheOpen as open_of
 use Rattle.ac_grammar.specs.declared.tree.Expr.{roll-Expr, map-Expr, ind-Expr}
 use Rattle.ac_rules.specs.declared.fault.Rule.{Rule}
 use Rattle.ac_rules.specs.declared.fault.Rule.TheVariants.{Undeclared, Misused}
-use Rattle.ac_rules.specs.declared.fault.Broken.{Broken}
 use Rattle.ac_rules.specs.declared.scope.Entry.{Entry}
 use Rattle.ac_rules.specs.declared.scope.Scope.{Scope}
 use Rattle.ac_rules.specs.declared.scope.Meaning.{Meaning}
 use Rattle.ac_rules.specs.declared.scope.Meaning.TheVariants as means
-use Rattle.ac_rules.specs.Faults.{earlier, rule_broken, is_earlier}
+use Rattle.ac_rules.specs.Faults.{rule_broken}
 use Rattle.ac_rules.specs.Meanings.{meaning, misused_unless}
 use Rattle.ac_rules.specs.IndexExpressions.{judged_name}
-use Rattle.ac_rules.specs.Comparisons.{first_from, first_of}
 use Rattle.ac_rules.specs.Values.{Reading, number, other, reading, reading_broken, value_of, value, value_broken, placed, access_broken, array_number, read_of, access_reading, call_reading, negative_reading, group_reading, applied_values, applied, joined_reading, chained_reading, chain_reading}
 use Rattle.ac_rules.specs.Numbers.{ReadsOf, ReadsIn}
+use Rattle.ac_rules.proofs.Absent.{NoneBroken, neither, none_of}
 use Rattle.ac_rules.proofs.Readings.{reading-number, reading-decimal, reading-access, reading-call, reading-negative, reading-group, reading-chain}
 use Rattle.ac_rules.proofs.DeclaredNumbers.{MeansBelow, NamesBelow, meaning_below}
-
--- no rule is broken in either of two
-pub earlier_left : (a b : Option Broken) → earlier a b ≡ None → a ≡ None
-earlier_left None b h = refl
-earlier_left (Some f) None h = h
-earlier_left (Some f) (Some g) h = absurd (by (is_earlier g f) h)
-  where
-    by : (b : Bool) → (if b then Some g else Some f) ≡ None → ⊥
-    by true h = absurd cc
-    by false h = absurd cc
-
-pub earlier_right : (a b : Option Broken) → earlier a b ≡ None → b ≡ None
-earlier_right None b h = h
-earlier_right (Some f) None h = refl
-earlier_right (Some f) (Some g) h = absurd (by (is_earlier g f) h)
-  where
-    by : (b : Bool) → (if b then Some g else Some f) ≡ None → ⊥
-    by true h = absurd cc
-    by false h = absurd cc
-
-abbrev pub NoneBroken : List (Option Broken) → Type 0
-NoneBroken = AllByRecursion (λ (b : Option Broken). b ≡ None)
-
-pub none_from : (b : Option Broken) (bs : List (Option Broken)) → first_from b bs ≡ None → (b ≡ None) × NoneBroken bs
-none_from b [] h = (h, tt)
-none_from b (c ∷ cs) h =
-    let r = none_from (earlier b c) cs h in
-    (earlier_left b c r.0, (earlier_right b c r.0, r.1))
-
-pub none_of : (bs : List (Option Broken)) → first_of bs ≡ None → NoneBroken bs
-none_of bs h = (none_from None bs h).1
 
 -- a value that reads none but the first n arrays
 pub number_reads : (n : ℕ) (e : IndexExpr) → ReadsOf n (v.Number e)
@@ -102,7 +70,7 @@ values_read n scope (r ∷ rs) h e = (value_reads n scope r h.0 e.0, values_read
 
 -- a name of which a rule is broken
 pub rule_holds : (names : List Entry) (scope : Scope) (rule : Option Rule) (word : Word) (subs : List Expr) → access_broken names scope rule word subs ≡ None → rule ≡ None
-rule_holds names scope rule word subs h = by rule (earlier_right _ _ (earlier_left _ _ h))
+rule_holds names scope rule word subs h = by rule (neither _ _ (neither _ _ h).0).1
   where
     by : (rule : Option Rule) → rule_broken rule word.place ≡ None → rule ≡ None
     by None e = refl
@@ -132,7 +100,7 @@ access_case n names scope means.OwnStart word subs h = scalar_case n names scope
 access_case n names scope means.Nothing word subs h = scalar_case n names scope means.Nothing word subs (length subs == 0) (Some Undeclared) (λ f e. absurd cc)
 
 call_case : (n : ℕ) (scope : Scope) (m : Meaning) (word : Word) (rs : List Reading) → AllByRecursion (Reads n) rs → Reads n (call_reading scope m word rs)
-call_case n scope m word rs h = λ e. call_reads n _ _ _ (values_read n scope rs h (none_of (map reading_broken rs) (earlier_right _ _ e)))
+call_case n scope m word rs h = λ e. call_reads n _ _ _ (values_read n scope rs h (none_of (map reading_broken rs) (neither _ _ e).1))
 
 negative_case : (n : ℕ) (place : Place) (r : Reading) → Reads n r → Reads n (negative_reading place r)
 negative_case n place (number j) h = tt
@@ -146,7 +114,7 @@ pub applied_reads : (n : ℕ) (op : Operator) (x y : Value) → ReadsOf n x → 
 applied_reads n op x y h k = call_reads n _ _ _ (h, (k, tt))
 
 applied_case : (n : ℕ) (scope : Scope) (op : Operator) (r s : Reading) → Reads n r → Reads n s → Reads n (applied scope op r s)
-applied_case n scope op r s h k = λ e. applied_reads n op (value_of scope r) (value_of scope s) (value_reads n scope r h (earlier_left _ _ e)) (value_reads n scope s k (earlier_right _ _ e))
+applied_case n scope op r s h k = λ e. applied_reads n op (value_of scope r) (value_of scope s) (value_reads n scope r h (neither _ _ e).0) (value_reads n scope s k (neither _ _ e).1)
 
 joined_case : (n : ℕ) (scope : Scope) (op : Operator) (r s : Reading) → Reads n r → Reads n s → Reads n (joined_reading scope op r s)
 joined_case n scope op (number i) (number j) h k = tt

@@ -27,7 +27,8 @@ use Rattle.ac_rules.specs.Files.{body_scope, arrays_under, names_of, broken_unde
 use Rattle.ac_rules.specs.Numbers.{ReadsOf, ArraysOf, ArraysIn, HasDeclaredNumbers}
 use Rattle.ac_rules.proofs.Stepping.{broken-loop, broken-branch, broken-assign, stmt-loop, stmt-branch, stmt-assign}
 use Rattle.ac_rules.proofs.DeclaredNumbers.{MeansBelow, NamesBelow, meaning_below, names_below, has_slots}
-use Rattle.ac_rules.proofs.ArraysRead.{earlier_left, earlier_right, NoneBroken, none_of, rule_holds, access_reads, applied_reads, value_read}
+use Rattle.ac_rules.proofs.Absent.{NoneBroken, neither, none_of}
+use Rattle.ac_rules.proofs.ArraysRead.{rule_holds, access_reads, applied_reads, value_read}
 
 row_used : (n : ℕ) (m : _) (k : Row_of-Stmt m) → AllByRecursion (ArraysOf n) (items-the_row-Stmt m k) → ArraysIn n k
 unfolding ArraysOf
@@ -74,10 +75,10 @@ module _ (n : ℕ) (names : List Entry) (below : NamesBelow n names) where
   assignment_used : (scope : Scope) (target : Word) (subs : List Expr) (operator : Option Operator) (e : Expr)
       → assignment_broken names scope target subs operator e ≡ None → (array_number (meaning names scope target.name) < n) × ReadsOf n (assigned_value names scope target subs operator e)
   assignment_used scope target subs operator e h =
-      let both = earlier_left _ _ h in
+      let both = (neither _ _ h).0 in
       let t : array_number (meaning names scope target.name) < n =
-      target_below n (length subs) (meaning names scope target.name) (rule_holds names scope _ target subs (earlier_left _ _ both)) (meaning_below n names scope target.name below) in
-      (t, assigned_reads scope target subs operator e t (value_read n names scope below e (earlier_right _ _ both)))
+      target_below n (length subs) (meaning names scope target.name) (rule_holds names scope _ target subs (neither _ _ both).0) (meaning_below n names scope target.name below) in
+      (t, assigned_reads scope target subs operator e t (value_read n names scope below e (neither _ _ both).1))
 
   abbrev IsUsed : Statement → Type 0
   IsUsed x = (scope : Scope) → statement_broken names x scope ≡ None → ArraysOf n (stmt names x scope)
@@ -95,12 +96,12 @@ module _ (n : ℕ) (names : List Entry) (below : NamesBelow n names) where
       subst IsUsed (sym (rolls-Loop typed name start cond step (map statement_of body) place)) (λ scope h.
       let e = sym (broken-loop names scope typed name start cond step (map statement_of body) place) ∙ h in
       subst (ArraysOf n) (sym (stmt-loop names scope typed name start cond step (map statement_of body) place))
-      (for_used n _ _ _ _ _ _ (all_used body (inside scope name.name) (none_of _ (earlier_right _ _ e)))))
+      (for_used n _ _ _ _ _ _ (all_used body (inside scope name.name) (none_of _ (neither _ _ e).1))))
   layer_used (open_of.Branch cond taken other place) =
       subst IsUsed (sym (rolls-Branch cond (map statement_of taken) (map statement_of other) place)) (λ scope h.
-      let e = earlier_right _ _ (sym (broken-branch names scope cond (map statement_of taken) (map statement_of other) place) ∙ h) in
+      let e = (neither _ _ (sym (broken-branch names scope cond (map statement_of taken) (map statement_of other) place) ∙ h)).1 in
       subst (ArraysOf n) (sym (stmt-branch names scope cond (map statement_of taken) (map statement_of other) place))
-      (if_used n _ _ _ _ (all_used taken scope (none_of _ (earlier_left _ _ e))) (all_used other scope (none_of _ (earlier_right _ _ e)))))
+      (if_used n _ _ _ _ (all_used taken scope (none_of _ (neither _ _ e).0)) (all_used other scope (none_of _ (neither _ _ e).1))))
   layer_used (open_of.Assign target subs operator e) =
       subst IsUsed (sym (rolls-Assign target subs operator e)) (λ scope h.
       let r = assignment_used scope target subs operator e (sym (broken-assign names scope target subs operator e) ∙ h) in
@@ -116,7 +117,7 @@ module _ (n : ℕ) (names : List Entry) (below : NamesBelow n names) where
 -- each number of an array or a parameter is one that the program has
 pub has_declared : (file : File) → file_broken file ≡ None → HasDeclaredNumbers (program_of file)
 has_declared file h = record {
-  body = each_used (length (arrays_under (names_of file) file)) (names_of file) (names_below file) file.body (body_scope (param_count file.params)) (none_of _ (earlier_left _ _ (earlier_left _ _ (earlier_right _ _ h))));
+  body = each_used (length (arrays_under (names_of file) file)) (names_of file) (names_below file) file.body (body_scope (param_count file.params)) (none_of _ (neither _ _ (neither _ _ (neither _ _ h).1).0).0);
   slots = has_slots file;
 }
 

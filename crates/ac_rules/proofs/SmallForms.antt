@@ -30,6 +30,7 @@ use Rattle.ac_rules.specs.Meanings.{meaning, is_array, read_rule}
 use Rattle.ac_rules.specs.Forms.{is_small, all_small, is_within, is_constant, signed, sum_form, multiple_form, indicator, zeros, constant_form, parameter_form, iterator_form, limited, sum_of, known_product, large_product, product_of, negative_of}
 use Rattle.ac_rules.specs.IndexExpressions.{is_long, judged_number, name_form, judged_name, judged_other, judged_variable, judged_access, form_of, joined, chained, judged_chain, judge_step, judged}
 use Rattle.ac_rules.specs.Comparisons.{form_or_zero, placed_form, index, difference_form, difference, compared_form, compared, condition}
+use Rattle.ac_rules.proofs.Absent.{both_true}
 use Rattle.ac_rules.proofs.Columns.{length-plus_times, length-times}
 
 -- a form within the limits, with a coefficient for each parameter and each loop around
@@ -43,10 +44,6 @@ pub record Few (scope : Scope) : Type 0 where
   pub loops : length scope.iterators ≤ 6
 
 -- booleans
-both : (a b : Bool) → (a && b) ≡ true → (a ≡ true) × (b ≡ true)
-both true b h = (refl, h)
-both false b h = absurd cc
-
 of_both : (a b : Bool) → a ≡ true → b ≡ true → (a && b) ≡ true
 of_both true b h k = k
 of_both false b h k = absurd cc
@@ -211,12 +208,12 @@ small_number z h = grind (arith, nat_tests)
 
 small_numbers : (zs : List ℤ) → all_small zs ≡ true → AllByRecursion IsSmall zs
 small_numbers [] h = tt
-small_numbers (z ∷ zs) h = let b = both (is_small z) (all_small zs) h in (small_number z b.0, small_numbers zs b.1)
+small_numbers (z ∷ zs) h = let b = both_true (is_small z) (all_small zs) h in (small_number z b.0, small_numbers zs b.1)
 
 small_known : (scope : Scope) (place : Place) (f : Affine) → Few scope → Fine scope (Known f) → IsSmallForm (placed_form place f)
 small_known scope place f few h =
-    let b = both (is_small f.constant && all_small f.params) (all_small f.iters) h.0 in
-    let c = both (is_small f.constant) (all_small f.params) b.0 in record {
+    let b = both_true (is_small f.constant && all_small f.params) (all_small f.iters) h.0 in
+    let c = both_true (is_small f.constant) (all_small f.params) b.0 in record {
       constant = small_number f.constant c.0;
       params = small_numbers f.params c.1;
       iters = small_numbers f.iters b.1;
