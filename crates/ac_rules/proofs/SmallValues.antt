@@ -20,7 +20,9 @@ use Rattle.ac_rules.specs.Meanings.{meaning, is_array, read_rule}
 use Rattle.ac_rules.specs.IndexExpressions.{judged_name}
 use Rattle.ac_rules.specs.Values.{Reading, number, other, placed, value_of, symbol, operator_name, array_number, access_broken, read_of, access_reading, call_reading, negative_reading, group_reading, value_place, applied_values, joined_reading, chained_reading, chain_reading, reading_step, reading, value}
 use Rattle.ac_rules.specs.Statements.{assigned_value}
-use Rattle.ac_rules.proofs.SmallForms.{Fine, Few, fine_name, fine_number, fine_negative, fine_operator, small_collected, small_indices}
+use Rattle.ac_rules.proofs.Collecting.{Shaped, form_shaped, negative_shaped}
+use Rattle.ac_rules.proofs.Judges.{number_judges, name_shaped}
+use Rattle.ac_rules.proofs.SmallForms.{Few, small_index_expr, small_indices}
 
 -- calls
 of_row : (m : _) (k : Row_of-Value m) → AllByRecursion IsSmallValue (items-the_row-Value m k) → AreSmallValues k
@@ -54,12 +56,12 @@ small_applied op v w h k = small_call (symbol (operator_name op) 2) (v ∷ w ∷
 
 -- what is read
 abbrev SmallReading : Scope → Reading → Type 0
-SmallReading scope (number j) = Fine scope j.form
+SmallReading scope (number j) = Shaped scope.params (length scope.iterators) j.form
 SmallReading scope (other broken v) = IsSmallValue v
 
 module _ (names : List Entry) (scope : Scope) (few : Few scope) where
   small_value_of : (r : Reading) → SmallReading scope r → IsSmallValue (value_of scope r)
-  small_value_of (number j) h = small_number _ (small_collected scope j.place j.form few h)
+  small_value_of (number j) h = small_number _ (small_index_expr scope few j h)
   small_value_of (other broken v) h = h
 
   small_values_of : (rs : List Reading) → AllByRecursion (SmallReading scope) rs → AllByRecursion IsSmallValue (map (value_of scope) rs)
@@ -73,14 +75,14 @@ module _ (names : List Entry) (scope : Scope) (few : Few scope) where
   reads_access m word subs = by ((length subs == 0) && not (is_array m))
     where
       by : (b : Bool) → SmallReading scope (if b then number (judged_name scope m word) else other (access_broken names scope (read_rule m (length subs)) word subs) (read_of names scope m word subs))
-      by true = fine_name scope m
+      by true = name_shaped scope m
       by false = small_read m word subs
 
   reads_call : (m : Meaning) (word : Word) (args : List Reading) → AllByRecursion (SmallReading scope) args → SmallReading scope (call_reading scope m word args)
   reads_call m word args h = small_call (symbol word.name (length args)) (map (value_of scope) args) word.place (small_values_of args h)
 
   reads_negative : (place : Place) (r : Reading) → SmallReading scope r → SmallReading scope (negative_reading place r)
-  reads_negative place (number j) h = fine_negative scope j.form h
+  reads_negative place (number j) h = negative_shaped scope.params (length scope.iterators) j.form h
   reads_negative place (other broken v) h = small_call (symbol (codes "-") 1) (v ∷ []) place (h, tt)
 
   reads_group : (place : Place) (r : Reading) → SmallReading scope r → SmallReading scope (group_reading place r)
@@ -88,7 +90,7 @@ module _ (names : List Entry) (scope : Scope) (few : Few scope) where
   reads_group place (other broken v) h = small_placed place v h
 
   reads_joined : (op : Operator) (r s : Reading) → SmallReading scope r → SmallReading scope s → SmallReading scope (joined_reading scope op r s)
-  reads_joined op (number i) (number j) h k = fine_operator scope op i.form j.form h k
+  reads_joined op (number i) (number j) h k = form_shaped scope.params (length scope.iterators) op i.form j.form h k
   reads_joined op (number i) (other broken v) h k = small_applied op _ v (small_value_of (number i) h) k
   reads_joined op (other broken v) s h k = small_applied op v _ h (small_value_of s k)
 
@@ -98,7 +100,7 @@ module _ (names : List Entry) (scope : Scope) (few : Few scope) where
   reads_chained r (s ∷ rs) (op ∷ ops) h k = reads_chained (joined_reading scope op r s) rs ops (reads_joined op r s h k.0) k.1
 
   reads_chain : (rs : List Reading) (ops : List Operator) → AllByRecursion (SmallReading scope) rs → SmallReading scope (chain_reading scope rs ops)
-  reads_chain [] ops h = fine_number scope (record { number = 0; place = record { at = 0 } })
+  reads_chain [] ops h = (number_judges scope (record { number = 0; place = record { at = 0 } })).0
   reads_chain (r ∷ rs) ops h = reads_chained r rs ops h.0 h.1
 
   abbrev Reads : Expr → Type 0
@@ -112,7 +114,7 @@ module _ (names : List Entry) (scope : Scope) (few : Few scope) where
   reads_parts (e ∷ es) = (e.1, reads_parts es)
 
   reads_step : (y : Expr-F ((e : Expr) × Reads e)) → SmallReading scope (reading_step names scope (map-Expr Expr (Expr × Reading) with_reading (map-Expr ((e : Expr) × Reads e) Expr (λ e. e.0) y)))
-  reads_step (Expr-F.Number n) = fine_number scope n
+  reads_step (Expr-F.Number n) = (number_judges scope n).0
   reads_step (Expr-F.Decimal word) = small_call (symbol word.name 0) [] word.place tt
   reads_step (Expr-F.Access name subs) = reads_access (meaning names scope name.name) name _
   reads_step (Expr-F.Call name args) = reads_call (meaning names scope name.name) name _ (reads_parts args)
