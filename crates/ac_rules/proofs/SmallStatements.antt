@@ -14,10 +14,8 @@ use Rattle.ac_grammar.specs.declared.tree.Step.{Step}
 use Rattle.ac_grammar.specs.declared.tree.Part.{Part}
 use Rattle.ac_grammar.specs.declared.tree.Operator.{Operator}
 use Rattle.ac_grammar.specs.declared.tree.Expr.{Expr}
-use Rattle.ac_grammar.specs.declared.tree.Statement.{Statement, roll-Statement}
-use Rattle.ac_grammar.specs.declared.tree.Statement.TheVariants.{Loop, Branch, Assign, rolls-Loop, rolls-Branch, rolls-Assign}
-use Rattle.ac_grammar.specs.declared.tree.Statement.TheOpen.{Statement-F}
-use Rattle.ac_grammar.specs.declared.tree.Statement.TheFolds.{ind-Statement, map-Statement}
+use Rattle.ac_grammar.specs.declared.tree.Statement.{Statement}
+use Rattle.ac_grammar.specs.declared.tree.Statement.TheVariants.{Loop, Branch, Assign}
 use Rattle.ac_rules.specs.declared.fault.Which.TheVariants as which
 use Rattle.ac_rules.specs.declared.fault.Rule.{Rule}
 use Rattle.ac_rules.specs.declared.fault.Rule.TheVariants.{Limit}
@@ -29,10 +27,11 @@ use Rattle.ac_rules.specs.Meanings.{meaning}
 use Rattle.ac_rules.specs.Comparisons.{index, condition, condition_broken}
 use Rattle.ac_rules.specs.Values.{array_number}
 use Rattle.ac_rules.specs.Statements.{inside, in_start, step_number, head_broken, assigned_value, statement_broken, statements_broken, stmt, stmts}
-use Rattle.ac_rules.proofs.Absent.{NoneBroken, neither, none_of, not_where}
+use Rattle.ac_rules.proofs.Absent.{NoneBroken, each, neither, none_of, not_where}
 use Rattle.ac_rules.proofs.Stepping.{broken-loop, broken-branch, stmt-loop, stmt-branch, stmt-assign}
 use Rattle.ac_rules.proofs.SmallForms.{Few, small_index, small_indices, small_condition}
 use Rattle.ac_rules.proofs.SmallValues.{small_assigned}
+use Rattle.ac_rules.proofs.Trees.{every_statement}
 
 front_none : (b : Bool) (rule : Rule) (place : Place) (c d : Option Broken) → earlier (earlier (broken_where b rule place) c) d ≡ None → b ≡ false
 front_none b rule place c d h = not_where b rule place (neither (broken_where b rule place) c (neither (earlier (broken_where b rule place) c) d h).0).0
@@ -103,23 +102,8 @@ module _ (names : List Entry) where
       (small_assign (array_number (meaning names scope target.name)) (map (index names scope) subs) (assigned_value names scope target subs operator e) target.place
       (small_indices names scope few subs) (small_assigned names scope few target subs operator e))
 
-  kept_parts : (ys : List ((s : Statement) × Kept s)) → AllByRecursion Kept (map (λ s. s.0) ys)
-  kept_parts [] = tt
-  kept_parts (y ∷ ys) = (y.1, kept_parts ys)
-
-  kept_step : (y : Statement-F ((s : Statement) × Kept s)) → Kept (roll-Statement (map-Statement ((s : Statement) × Kept s) Statement (λ s. s.0) y))
-  kept_step (Statement-F.Loop typed name start cond step body place) =
-      subst Kept (sym (rolls-Loop typed name start cond step (map (λ s. s.0) body) place)) (small_loop typed name start cond step (map (λ s. s.0) body) place (kept_parts body))
-  kept_step (Statement-F.Branch cond taken other place) =
-      subst Kept (sym (rolls-Branch cond (map (λ s. s.0) taken) (map (λ s. s.0) other) place)) (small_branch cond (map (λ s. s.0) taken) (map (λ s. s.0) other) place (kept_parts taken) (kept_parts other))
-  kept_step (Statement-F.Assign target subs operator e) = subst Kept (sym (rolls-Assign target subs operator e)) (small_assignment target subs operator e)
-
   kept : (s : Statement) → Kept s
-  kept = ind-Statement Kept (λ x y is. subst (λ z. Kept (roll-Statement z)) is (kept_step y))
-
-  kept_all : (ss : List Statement) → AllByRecursion Kept ss
-  kept_all [] = tt
-  kept_all (s ∷ ss) = (kept s, kept_all ss)
+  kept = every_statement Kept small_loop small_branch small_assignment
 
   pub small_statements : (scope : Scope) (ss : List Statement) → Few scope → statements_broken names scope ss ≡ None → AllByRecursion IsSmallStmt (stmts names scope ss)
-  small_statements scope ss few h = small_body ss (kept_all ss) scope few h
+  small_statements scope ss few h = small_body ss (each Kept kept ss) scope few h
