@@ -1,5 +1,5 @@
 -- The program of a file that breaks no rule has small numbers, few parameters and few loops around a statement.
-use Rattle.std.proofs.Common.{◌≡◌, ℕ, ◌+◌, ◌≤◌, Bool, true, false, List, [], ◌∷◌, ◌++◌, length, map, take, nat_lt, nat_eq, None, refl, sym, ap, subst, ◌∙◌, arith}
+use Rattle.std.proofs.Common.{◌≡◌, ℕ, ◌+◌, ◌≤◌, Bool, true, false, List, [], ◌∷◌, ◌++◌, length, take, nat_lt, nat_eq, None, refl, sym, ap, subst, ◌∙◌, arith}
 use Rattle.std.specs.Prelude.{◌||◌, not, if◌then◌else◌, cond}
 use Rattle.std.specs.List.{AllByRecursion}
 use Rattle.std.specs.Cmp.Lexicographic.{pointwise, other_text}
@@ -28,6 +28,7 @@ use Rattle.ac_rules.specs.Declarations.{is_whole, is_loop_name, entry, count, pa
 use Rattle.ac_rules.specs.Statements.{statements_broken}
 use Rattle.ac_rules.specs.Files.{body_scope, assignments_broken, declarations_broken, body_broken, pragmas_broken, context_parts, names_of, file_broken, program_of}
 use Rattle.ac_rules.proofs.Absent.{NoneBroken, neither, none_of, not_where, each, each_map, each_append}
+use Rattle.ac_rules.proofs.EachArray.{arrays_have}
 use Rattle.ac_rules.proofs.SmallForms.{Few, small_index, small_condition}
 use Rattle.ac_rules.proofs.SmallStatements.{small_statements}
 
@@ -91,20 +92,17 @@ few_params scope before (d ∷ ds) tail p a l h =
     omega (arith, r, counted d ds)
 
 -- arrays
-small_extents : (names : List Entry) (scope : Scope) → Few scope → (es : List Extent) → AreSmallForms (map (λ (extent : Extent). index names scope extent.size) es)
-small_extents names scope few es =
-    each_map (λ (extent : Extent). index names scope extent.size) IsSmallForm es (each (λ (extent : Extent). IsSmallForm (index names scope extent.size)) (λ extent. small_index names scope few extent.size) es)
+abbrev SmallExtents : Array → Type 0
+SmallExtents a = AreSmallForms a.extents
 
-abbrev SmallArrays : List Array → Type 0
-SmallArrays = AllByRecursion (λ (a : Array). AreSmallForms a.extents)
+module _ (names : List Entry) (scope : Scope) (kind : Kind) (few : Few scope) where
+  small_array : (k : ℕ) (d : Declared) → SmallExtents (array_of names scope kind k d)
+  small_array k d =
+      each_map (λ (extent : Extent). index (take k names) scope extent.size) IsSmallForm d.extents
+      (each (λ (extent : Extent). IsSmallForm (index (take k names) scope extent.size)) (λ extent. small_index (take k names) scope few extent.size) d.extents)
 
-small_arrays : (names : List Entry) (scope : Scope) (kind : Kind) (skipped : Declared → Bool) → Few scope → (k : ℕ) (ds : List Declared) → SmallArrays (arrays_from names scope kind skipped k ds)
-small_arrays names scope kind skipped few k [] = tt
-small_arrays names scope kind skipped few k (d ∷ ds) = by (skipped d) (arrays_from names scope kind skipped (k + 1) ds) (small_arrays names scope kind skipped few (k + 1) ds)
-  where
-    by : (b : Bool) (rest : List Array) → SmallArrays rest → SmallArrays (if b then rest else array_of names scope kind k d ∷ rest)
-    by true rest h = h
-    by false rest h = (small_extents (take k names) scope few d.extents, h)
+  small_arrays : (skipped : Declared → Bool) (k : ℕ) (ds : List Declared) → AllByRecursion SmallExtents (arrays_from names scope kind skipped k ds)
+  small_arrays = arrays_have SmallExtents names scope kind small_array
 
 -- the whole
 params_few : (file : File) → declarations_broken (names_of file) file ≡ None → param_count file.params ≤ 4
@@ -128,5 +126,5 @@ small_program file h =
     let fixed : Few (fixed_scope (param_count file.params)) = record { params = n; loops = omega arith } in record {
       body = small_statements names (body_scope (param_count file.params)) file.body inside s.0;
       context = small_condition names (fixed_scope (param_count file.params)) fixed (context_parts file.pragmas);
-      extents = each_append (λ (a : Array). AreSmallForms a.extents) _ _ (small_arrays names (fixed_scope (param_count file.params)) Input is_whole fixed 0 file.params) (small_arrays names (fixed_scope (param_count file.params)) Local (is_loop_name file.body) fixed (length file.params) file.locals);
+      extents = each_append SmallExtents _ _ (small_arrays names (fixed_scope (param_count file.params)) Input fixed is_whole 0 file.params) (small_arrays names (fixed_scope (param_count file.params)) Local fixed (is_loop_name file.body) (length file.params) file.locals);
     }
