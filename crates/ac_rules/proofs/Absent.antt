@@ -17,7 +17,11 @@ neither None b h = (refl, h)
 neither (Some f) None h = absurd cc
 neither (Some f) (Some g) h = one_of f g (is_earlier g f) h
 
-none_from : (b : Option Broken) (cs : List (Option Broken)) → first_from b cs ≡ None → (b ≡ None) × AllByRecursion (λ c. c ≡ None) cs
+-- in no part of several a rule is broken
+abbrev pub NoneBroken : List (Option Broken) → Type 0
+NoneBroken = AllByRecursion (λ (b : Option Broken). b ≡ None)
+
+none_from : (b : Option Broken) (cs : List (Option Broken)) → first_from b cs ≡ None → (b ≡ None) × NoneBroken cs
 none_from b [] h = (h, tt)
 none_from b (c ∷ cs) h =
     let r = none_from (earlier b c) cs h in
@@ -25,7 +29,7 @@ none_from b (c ∷ cs) h =
     (n.0, (n.1, r.1))
 
 -- of several that may be broken none is
-pub none_of : (cs : List (Option Broken)) → first_of cs ≡ None → AllByRecursion (λ c. c ≡ None) cs
+pub none_of : (cs : List (Option Broken)) → first_of cs ≡ None → NoneBroken cs
 none_of cs h = (none_from None cs h).1
 
 -- a test says that no rule is broken

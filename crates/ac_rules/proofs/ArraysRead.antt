@@ -10,55 +10,21 @@ use Rattle.ac_syntax.specs.declared.tree.Value.TheVariants as v
 use Rattle.ac_grammar.specs.declared.tree.Word.{Word}
 use Rattle.ac_grammar.specs.declared.tree.Operator.{Operator}
 use Rattle.ac_grammar.specs.declared.tree.Expr.{Expr}
-use Rattle.ac_grammar.specs.declared.tree.Expr.TheVariants.{rolls-Number, rolls-Decimal, rolls-Access, rolls-Call, rolls-Negative, rolls-Group, rolls-Chain}
-use Rattle.ac_grammar.specs.declared.tree.Expr.TheOpen as open_of
-use Rattle.ac_grammar.specs.declared.tree.Expr.{roll-Expr, map-Expr, ind-Expr}
 use Rattle.ac_rules.specs.declared.fault.Rule.{Rule}
 use Rattle.ac_rules.specs.declared.fault.Rule.TheVariants.{Undeclared, Misused}
-use Rattle.ac_rules.specs.declared.fault.Broken.{Broken}
 use Rattle.ac_rules.specs.declared.scope.Entry.{Entry}
 use Rattle.ac_rules.specs.declared.scope.Scope.{Scope}
 use Rattle.ac_rules.specs.declared.scope.Meaning.{Meaning}
 use Rattle.ac_rules.specs.declared.scope.Meaning.TheVariants as means
-use Rattle.ac_rules.specs.Faults.{earlier, rule_broken, is_earlier}
+use Rattle.ac_rules.specs.Faults.{rule_broken}
 use Rattle.ac_rules.specs.Meanings.{meaning, misused_unless}
 use Rattle.ac_rules.specs.IndexExpressions.{judged_name}
-use Rattle.ac_rules.specs.Comparisons.{first_from, first_of}
 use Rattle.ac_rules.specs.Values.{Reading, number, other, reading, reading_broken, value_of, value, value_broken, placed, access_broken, array_number, read_of, access_reading, call_reading, negative_reading, group_reading, applied_values, applied, joined_reading, chained_reading, chain_reading}
 use Rattle.ac_rules.specs.Numbers.{ReadsOf, ReadsIn}
+use Rattle.ac_rules.proofs.Absent.{NoneBroken, each_map, neither, none_of}
 use Rattle.ac_rules.proofs.Readings.{reading-number, reading-decimal, reading-access, reading-call, reading-negative, reading-group, reading-chain}
 use Rattle.ac_rules.proofs.DeclaredNumbers.{MeansBelow, NamesBelow, meaning_below}
-
--- no rule is broken in either of two
-pub earlier_left : (a b : Option Broken) → earlier a b ≡ None → a ≡ None
-earlier_left None b h = refl
-earlier_left (Some f) None h = h
-earlier_left (Some f) (Some g) h = absurd (by (is_earlier g f) h)
-  where
-    by : (b : Bool) → (if b then Some g else Some f) ≡ None → ⊥
-    by true h = absurd cc
-    by false h = absurd cc
-
-pub earlier_right : (a b : Option Broken) → earlier a b ≡ None → b ≡ None
-earlier_right None b h = h
-earlier_right (Some f) None h = refl
-earlier_right (Some f) (Some g) h = absurd (by (is_earlier g f) h)
-  where
-    by : (b : Bool) → (if b then Some g else Some f) ≡ None → ⊥
-    by true h = absurd cc
-    by false h = absurd cc
-
-abbrev pub NoneBroken : List (Option Broken) → Type 0
-NoneBroken = AllByRecursion (λ (b : Option Broken). b ≡ None)
-
-pub none_from : (b : Option Broken) (bs : List (Option Broken)) → first_from b bs ≡ None → (b ≡ None) × NoneBroken bs
-none_from b [] h = (h, tt)
-none_from b (c ∷ cs) h =
-    let r = none_from (earlier b c) cs h in
-    (earlier_left b c r.0, (earlier_right b c r.0, r.1))
-
-pub none_of : (bs : List (Option Broken)) → first_of bs ≡ None → NoneBroken bs
-none_of bs h = (none_from None bs h).1
+use Rattle.ac_rules.proofs.Trees.{every_expr}
 
 -- a value that reads none but the first n arrays
 pub number_reads : (n : ℕ) (e : IndexExpr) → ReadsOf n (v.Number e)
@@ -102,7 +68,7 @@ values_read n scope (r ∷ rs) h e = (value_reads n scope r h.0 e.0, values_read
 
 -- a name of which a rule is broken
 pub rule_holds : (names : List Entry) (scope : Scope) (rule : Option Rule) (word : Word) (subs : List Expr) → access_broken names scope rule word subs ≡ None → rule ≡ None
-rule_holds names scope rule word subs h = by rule (earlier_right _ _ (earlier_left _ _ h))
+rule_holds names scope rule word subs h = by rule (neither _ _ (neither _ _ h).0).1
   where
     by : (rule : Option Rule) → rule_broken rule word.place ≡ None → rule ≡ None
     by None e = refl
@@ -132,7 +98,7 @@ access_case n names scope means.OwnStart word subs h = scalar_case n names scope
 access_case n names scope means.Nothing word subs h = scalar_case n names scope means.Nothing word subs (length subs == 0) (Some Undeclared) (λ f e. absurd cc)
 
 call_case : (n : ℕ) (scope : Scope) (m : Meaning) (word : Word) (rs : List Reading) → AllByRecursion (Reads n) rs → Reads n (call_reading scope m word rs)
-call_case n scope m word rs h = λ e. call_reads n _ _ _ (values_read n scope rs h (none_of (map reading_broken rs) (earlier_right _ _ e)))
+call_case n scope m word rs h = λ e. call_reads n _ _ _ (values_read n scope rs h (none_of (map reading_broken rs) (neither _ _ e).1))
 
 negative_case : (n : ℕ) (place : Place) (r : Reading) → Reads n r → Reads n (negative_reading place r)
 negative_case n place (number j) h = tt
@@ -146,7 +112,7 @@ pub applied_reads : (n : ℕ) (op : Operator) (x y : Value) → ReadsOf n x → 
 applied_reads n op x y h k = call_reads n _ _ _ (h, (k, tt))
 
 applied_case : (n : ℕ) (scope : Scope) (op : Operator) (r s : Reading) → Reads n r → Reads n s → Reads n (applied scope op r s)
-applied_case n scope op r s h k = λ e. applied_reads n op (value_of scope r) (value_of scope s) (value_reads n scope r h (earlier_left _ _ e)) (value_reads n scope s k (earlier_right _ _ e))
+applied_case n scope op r s h k = λ e. applied_reads n op (value_of scope r) (value_of scope s) (value_reads n scope r h (neither _ _ e).0) (value_reads n scope s k (neither _ _ e).1)
 
 joined_case : (n : ℕ) (scope : Scope) (op : Operator) (r s : Reading) → Reads n r → Reads n s → Reads n (joined_reading scope op r s)
 joined_case n scope op (number i) (number j) h k = tt
@@ -163,36 +129,15 @@ chain_case n scope [] ops h = tt
 chain_case n scope (r ∷ rs) ops h = chained_case n scope r rs ops h.0 h.1
 
 module _ (n : ℕ) (names : List Entry) (scope : Scope) (below : NamesBelow n names) where
-  abbrev IsRead : Expr → Type 0
-  IsRead e = Reads n (reading names scope e)
-
-  abbrev expression_of : ((e : Expr) × IsRead e) → Expr
-  expression_of e = e.0
-
-  all_read : (es : List ((e : Expr) × IsRead e)) → AllByRecursion (Reads n) (map (reading names scope) (map expression_of es))
-  all_read [] = tt
-  all_read (e ∷ es) = (e.1, all_read es)
-
-  layer_read : (y : open_of.Expr-F ((e : Expr) × IsRead e)) → IsRead (roll-Expr (map-Expr _ _ expression_of y))
-  layer_read (open_of.Number m) = subst IsRead (sym (rolls-Number m)) (subst (Reads n) (sym (reading-number names scope m)) tt)
-  layer_read (open_of.Decimal word) = subst IsRead (sym (rolls-Decimal word)) (subst (Reads n) (sym (reading-decimal names scope word)) (λ e. call_reads n _ _ _ tt))
-  layer_read (open_of.Access name subs) =
-      subst IsRead (sym (rolls-Access name (map expression_of subs)))
-      (subst (Reads n) (sym (reading-access names scope name (map expression_of subs)))
-      (access_case n names scope (meaning names scope name.name) name (map expression_of subs) (meaning_below n names scope name.name below)))
-  layer_read (open_of.Call name args) =
-      subst IsRead (sym (rolls-Call name (map expression_of args)))
-      (subst (Reads n) (sym (reading-call names scope name (map expression_of args)))
-      (call_case n scope (meaning names scope name.name) name _ (all_read args)))
-  layer_read (open_of.Negative operand place) = subst IsRead (sym (rolls-Negative operand.0 place)) (subst (Reads n) (sym (reading-negative names scope operand.0 place)) (negative_case n place (reading names scope operand.0) operand.1))
-  layer_read (open_of.Group inner place) = subst IsRead (sym (rolls-Group inner.0 place)) (subst (Reads n) (sym (reading-group names scope inner.0 place)) (group_case n place (reading names scope inner.0) inner.1))
-  layer_read (open_of.Chain operands operators) =
-      subst IsRead (sym (rolls-Chain (map expression_of operands) operators))
-      (subst (Reads n) (sym (reading-chain names scope (map expression_of operands) operators))
-      (chain_case n scope _ operators (all_read operands)))
-
-  is_read : (e : Expr) → IsRead e
-  is_read = ind-Expr IsRead (λ x y is. subst (λ z. IsRead (roll-Expr z)) is (layer_read y))
+  is_read : (e : Expr) → Reads n (reading names scope e)
+  is_read = every_expr (λ e. Reads n (reading names scope e))
+      (λ m. subst (Reads n) (sym (reading-number names scope m)) tt)
+      (λ word. subst (Reads n) (sym (reading-decimal names scope word)) (λ e. call_reads n _ _ _ tt))
+      (λ name subs h. subst (Reads n) (sym (reading-access names scope name subs)) (access_case n names scope (meaning names scope name.name) name subs (meaning_below n names scope name.name below)))
+      (λ name args h. subst (Reads n) (sym (reading-call names scope name args)) (call_case n scope (meaning names scope name.name) name (map (reading names scope) args) (each_map (reading names scope) (Reads n) args h)))
+      (λ operand place h. subst (Reads n) (sym (reading-negative names scope operand place)) (negative_case n place (reading names scope operand) h))
+      (λ inner place h. subst (Reads n) (sym (reading-group names scope inner place)) (group_case n place (reading names scope inner) h))
+      (λ operands operators h. subst (Reads n) (sym (reading-chain names scope operands operators)) (chain_case n scope (map (reading names scope) operands) operators (each_map (reading names scope) (Reads n) operands h)))
 
   -- the value of an expression in which no rule is broken
   pub value_read : (e : Expr) → value_broken names scope e ≡ None → ReadsOf n (value names scope e)

@@ -1,5 +1,5 @@
 -- In a body in which no rule is broken, each array that is read or assigned is one of the program's.
-use Rattle.std.proofs.Common.{◌≡◌, ℕ, ◌<◌, ℤ, List, [], ◌∷◌, map, length, sym, subst, ap, ◌∙◌, rules, Option, Some, None}
+use Rattle.std.proofs.Common.{◌≡◌, ℕ, Bool, ◌<◌, ℤ, List, [], ◌∷◌, map, length, sym, subst, ap, ◌∙◌, rules, Option, Some, None}
 use Rattle.std.specs.List.{AllByRecursion}
 use Rattle.ac_syntax.specs.declared.tree.Place.{Place}
 use Rattle.ac_syntax.specs.declared.tree.Cond.{Cond}
@@ -10,11 +10,12 @@ use Rattle.ac_syntax.specs.declared.tree.Stmt.TheVariants as s
 use Rattle.ac_syntax.specs.declared.tree.Program.{Program}
 use Rattle.ac_grammar.specs.declared.tree.Word.{Word}
 use Rattle.ac_grammar.specs.declared.tree.Operator.{Operator}
+use Rattle.ac_grammar.specs.declared.tree.Part.{Part}
+use Rattle.ac_grammar.specs.declared.tree.Step.{Step}
 use Rattle.ac_grammar.specs.declared.tree.Expr.{Expr}
 use Rattle.ac_grammar.specs.declared.tree.File.{File}
-use Rattle.ac_grammar.specs.declared.tree.Statement.{Statement, roll-Statement, map-Statement, ind-Statement}
-use Rattle.ac_grammar.specs.declared.tree.Statement.TheVariants.{rolls-Loop, rolls-Branch, rolls-Assign}
-use Rattle.ac_grammar.specs.declared.tree.Statement.TheOpen as open_of
+use Rattle.ac_grammar.specs.declared.tree.Statement.{Statement}
+use Rattle.ac_grammar.specs.declared.tree.Statement.TheVariants.{Loop, Branch, Assign}
 use Rattle.ac_rules.specs.declared.scope.Entry.{Entry}
 use Rattle.ac_rules.specs.declared.scope.Scope.{Scope}
 use Rattle.ac_rules.specs.declared.scope.Meaning.{Meaning}
@@ -27,7 +28,9 @@ use Rattle.ac_rules.specs.Files.{body_scope, arrays_under, names_of, broken_unde
 use Rattle.ac_rules.specs.Numbers.{ReadsOf, ArraysOf, ArraysIn, HasDeclaredNumbers}
 use Rattle.ac_rules.proofs.Stepping.{broken-loop, broken-branch, broken-assign, stmt-loop, stmt-branch, stmt-assign}
 use Rattle.ac_rules.proofs.DeclaredNumbers.{MeansBelow, NamesBelow, meaning_below, names_below, has_slots}
-use Rattle.ac_rules.proofs.ArraysRead.{earlier_left, earlier_right, NoneBroken, none_of, rule_holds, access_reads, applied_reads, value_read}
+use Rattle.ac_rules.proofs.Absent.{NoneBroken, each, neither, none_of}
+use Rattle.ac_rules.proofs.ArraysRead.{rule_holds, access_reads, applied_reads, value_read}
+use Rattle.ac_rules.proofs.Trees.{every_statement}
 
 row_used : (n : ℕ) (m : _) (k : Row_of-Stmt m) → AllByRecursion (ArraysOf n) (items-the_row-Stmt m k) → ArraysIn n k
 unfolding ArraysOf
@@ -74,49 +77,45 @@ module _ (n : ℕ) (names : List Entry) (below : NamesBelow n names) where
   assignment_used : (scope : Scope) (target : Word) (subs : List Expr) (operator : Option Operator) (e : Expr)
       → assignment_broken names scope target subs operator e ≡ None → (array_number (meaning names scope target.name) < n) × ReadsOf n (assigned_value names scope target subs operator e)
   assignment_used scope target subs operator e h =
-      let both = earlier_left _ _ h in
+      let both = (neither _ _ h).0 in
       let t : array_number (meaning names scope target.name) < n =
-      target_below n (length subs) (meaning names scope target.name) (rule_holds names scope _ target subs (earlier_left _ _ both)) (meaning_below n names scope target.name below) in
-      (t, assigned_reads scope target subs operator e t (value_read n names scope below e (earlier_right _ _ both)))
+      target_below n (length subs) (meaning names scope target.name) (rule_holds names scope _ target subs (neither _ _ both).0) (meaning_below n names scope target.name below) in
+      (t, assigned_reads scope target subs operator e t (value_read n names scope below e (neither _ _ both).1))
 
   abbrev IsUsed : Statement → Type 0
   IsUsed x = (scope : Scope) → statement_broken names x scope ≡ None → ArraysOf n (stmt names x scope)
 
-  abbrev statement_of : ((x : Statement) × IsUsed x) → Statement
-  statement_of x = x.0
+  all_used : (xs : List Statement) → AllByRecursion IsUsed xs → (scope : Scope) → NoneBroken (map (λ (x : Statement). statement_broken names x scope) xs) → AllByRecursion (ArraysOf n) (stmts names scope xs)
+  all_used [] us scope h = tt
+  all_used (x ∷ xs) us scope h = (us.0 scope h.0, all_used xs us.1 scope h.1)
 
-  all_used : (xs : List ((x : Statement) × IsUsed x)) (scope : Scope) → NoneBroken (map (λ (x : Statement). statement_broken names x scope) (map statement_of xs))
-      → AllByRecursion (ArraysOf n) (stmts names scope (map statement_of xs))
-  all_used [] scope h = tt
-  all_used (x ∷ xs) scope h = (x.1 scope h.0, all_used xs scope h.1)
+  loop_used : (typed : Bool) (name : Word) (start : Expr) (cond : List Part) (step : Step) (body : List Statement) (place : Place) → AllByRecursion IsUsed body → IsUsed (Loop typed name start cond step body place)
+  loop_used typed name start cond step body place us scope h =
+      let e = sym (broken-loop names scope typed name start cond step body place) ∙ h in
+      subst (ArraysOf n) (sym (stmt-loop names scope typed name start cond step body place))
+      (for_used n _ _ _ _ _ _ (all_used body us (inside scope name.name) (none_of _ (neither _ _ e).1)))
 
-  layer_used : (y : open_of.Statement-F ((x : Statement) × IsUsed x)) → IsUsed (roll-Statement (map-Statement _ _ statement_of y))
-  layer_used (open_of.Loop typed name start cond step body place) =
-      subst IsUsed (sym (rolls-Loop typed name start cond step (map statement_of body) place)) (λ scope h.
-      let e = sym (broken-loop names scope typed name start cond step (map statement_of body) place) ∙ h in
-      subst (ArraysOf n) (sym (stmt-loop names scope typed name start cond step (map statement_of body) place))
-      (for_used n _ _ _ _ _ _ (all_used body (inside scope name.name) (none_of _ (earlier_right _ _ e)))))
-  layer_used (open_of.Branch cond taken other place) =
-      subst IsUsed (sym (rolls-Branch cond (map statement_of taken) (map statement_of other) place)) (λ scope h.
-      let e = earlier_right _ _ (sym (broken-branch names scope cond (map statement_of taken) (map statement_of other) place) ∙ h) in
-      subst (ArraysOf n) (sym (stmt-branch names scope cond (map statement_of taken) (map statement_of other) place))
-      (if_used n _ _ _ _ (all_used taken scope (none_of _ (earlier_left _ _ e))) (all_used other scope (none_of _ (earlier_right _ _ e)))))
-  layer_used (open_of.Assign target subs operator e) =
-      subst IsUsed (sym (rolls-Assign target subs operator e)) (λ scope h.
+  branch_used : (cond : List Part) (taken other : List Statement) (place : Place) → AllByRecursion IsUsed taken → AllByRecursion IsUsed other → IsUsed (Branch cond taken other place)
+  branch_used cond taken other place us vs scope h =
+      let e = neither _ _ (neither _ _ (sym (broken-branch names scope cond taken other place) ∙ h)).1 in
+      subst (ArraysOf n) (sym (stmt-branch names scope cond taken other place))
+      (if_used n _ _ _ _ (all_used taken us scope (none_of _ e.0)) (all_used other vs scope (none_of _ e.1)))
+
+  assign_is_used : (target : Word) (subs : List Expr) (operator : Option Operator) (e : Expr) → IsUsed (Assign target subs operator e)
+  assign_is_used target subs operator e scope h =
       let r = assignment_used scope target subs operator e (sym (broken-assign names scope target subs operator e) ∙ h) in
-      subst (ArraysOf n) (sym (stmt-assign names scope target subs operator e)) (assign_used n _ _ _ _ r.0 r.1))
+      subst (ArraysOf n) (sym (stmt-assign names scope target subs operator e)) (assign_used n _ _ _ _ r.0 r.1)
 
   is_used : (x : Statement) → IsUsed x
-  is_used = ind-Statement IsUsed (λ x y is. subst (λ z. IsUsed (roll-Statement z)) is (layer_used y))
+  is_used = every_statement IsUsed loop_used branch_used assign_is_used
 
   each_used : (xs : List Statement) (scope : Scope) → NoneBroken (map (λ (x : Statement). statement_broken names x scope) xs) → AllByRecursion (ArraysOf n) (stmts names scope xs)
-  each_used [] scope h = tt
-  each_used (x ∷ xs) scope h = (is_used x scope h.0, each_used xs scope h.1)
+  each_used xs = all_used xs (each IsUsed is_used xs)
 
 -- each number of an array or a parameter is one that the program has
 pub has_declared : (file : File) → file_broken file ≡ None → HasDeclaredNumbers (program_of file)
 has_declared file h = record {
-  body = each_used (length (arrays_under (names_of file) file)) (names_of file) (names_below file) file.body (body_scope (param_count file.params)) (none_of _ (earlier_left _ _ (earlier_left _ _ (earlier_right _ _ h))));
+  body = each_used (length (arrays_under (names_of file) file)) (names_of file) (names_below file) file.body (body_scope (param_count file.params)) (none_of _ (neither _ _ (neither _ _ (neither _ _ h).1).0).0);
   slots = has_slots file;
 }
 

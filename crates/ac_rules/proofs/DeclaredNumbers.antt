@@ -22,6 +22,7 @@ use Rattle.ac_rules.specs.Meanings.{declared_meaning, meaning, meaning_behind, i
 use Rattle.ac_rules.specs.Declarations.{is_whole, is_loop_name, count, entry, param_entries, local_entries, input_count, fixed_scope, array_of, arrays_from, slots_from, param_names, param_count}
 use Rattle.ac_rules.specs.Numbers.{IsSlotOf, param_numbers, array_numbers, ListsItsParameters, HasInputs}
 use Rattle.ac_rules.specs.Files.{arrays_under, names_of, program_under, program_of}
+use Rattle.ac_rules.proofs.Absent.{each_append}
 
 none_more : (n : ℕ) → n + 0 ≡ n
 none_more n = omega arith
@@ -121,10 +122,6 @@ MeansBelow n means.Nothing = Unit {0}
 abbrev pub NamesBelow : ℕ → List Entry → Type 0
 NamesBelow n = AllByRecursion (λ (e : Entry). MeansBelow n e.meaning)
 
-both_below : (n : ℕ) (xs ys : List Entry) → NamesBelow n xs → NamesBelow n ys → NamesBelow n (xs ++ ys)
-both_below n [] ys h l = l
-both_below n (x ∷ xs) ys h l = (h.0, both_below n xs ys h.1 l)
-
 params_below : (names : List Entry) (scope : Scope) (n : ℕ) (ds : List Declared) (k p a : ℕ) → a + length (arrays_from names scope Input is_whole k ds) ≤ n → NamesBelow n (param_entries ds p a)
 params_below names scope n [] k p a h = tt
 params_below names scope n (d ∷ ds) k p a h = by (is_whole d) (λ k p a. params_below names scope n ds k p a) h
@@ -162,15 +159,16 @@ names_below file =
     let locals = arrays_from (names_of file) scope Local (is_loop_name file.body) (length file.params) file.locals in
     let e : length (inputs ++ locals) ≡ length inputs + length locals = length-append inputs locals in
     let c : length inputs ≡ input_count file.params = counted (names_of file) scope file.params 0 in
-    both_below (length (inputs ++ locals)) (param_entries file.params 0 0) (local_entries file.body file.locals (input_count file.params))
+    each_append (λ (e : Entry). MeansBelow (length (inputs ++ locals)) e.meaning) (param_entries file.params 0 0) (local_entries file.body file.locals (input_count file.params))
     (params_below (names_of file) scope (length (inputs ++ locals)) file.params 0 0 0 (omega (arith, e)))
     (locals_below (names_of file) scope file.body (length (inputs ++ locals)) file.locals (length file.params) (input_count file.params) (omega (arith, e, c)))
 
-declared_below : (n : ℕ) (names : List Entry) (name : List ℕ) → NamesBelow n names → MeansBelow n (declared_meaning names name)
-declared_below n [] name h = tt
-declared_below n (e ∷ es) name h = by (pointwise nat_eq e.name name) (declared_below n es name h.1)
+-- what holds of the meaning of each entry holds of what a name is declared as
+pub declared_has : (P : Meaning → Type 0) → P means.Nothing → (names : List Entry) (name : List ℕ) → AllByRecursion (λ (e : Entry). P e.meaning) names → P (declared_meaning names name)
+declared_has P none [] name h = none
+declared_has P none (e ∷ es) name h = by (pointwise nat_eq e.name name) (declared_has P none es name h.1)
   where
-    by : (b : Bool) → MeansBelow n (declared_meaning es name) → MeansBelow n (if b then e.meaning else declared_meaning es name)
+    by : (b : Bool) → P (declared_meaning es name) → P (if b then e.meaning else declared_meaning es name)
     by true again = h.0
     by false again = again
 
@@ -181,4 +179,4 @@ meaning_below n names scope name h = by (iterator_number scope.iterators name) (
     by : (k : Option ℕ) (own : Bool) → MeansBelow n (meaning_behind k own (declared_meaning names name))
     by (Some k) own = tt
     by None true = tt
-    by None false = declared_below n names name h
+    by None false = declared_has (MeansBelow n) tt names name h

@@ -13,6 +13,8 @@ pub mod Trees
 pub mod Absent
 pub mod Collecting
 pub mod Judges
+pub mod EachArray
+pub mod EachValue
 pub mod FittingValues
 pub mod ReadyStatements
 pub mod ReadyPrograms

@@ -15,6 +15,7 @@ use Rattle.ac_rules.specs.Declarations.{is_whole, is_loop_name, count, entry, pa
 use Rattle.ac_rules.specs.Files.{names_of}
 use Rattle.ac_rules.specs.Laws.{IsNumbered, AreNumbered, FilesAreNumbered}
 use Rattle.ac_rules.proofs.Absent.{each_append}
+use Rattle.ac_rules.proofs.DeclaredNumbers.{declared_has}
 
 count_step : (d : Declared) (ds : List Declared) (p n : ℕ) → p + param_count (d ∷ ds) ≤ n → p + (count (is_whole d) + param_count ds) ≤ n
 count_step d ds p n h = omega (arith, h, sum_by-cons (λ (d : Declared). cond (is_whole d) 1 0) d ds)
@@ -65,14 +66,6 @@ numbered_in scope means.LoopName h = tt
 numbered_in scope means.OwnStart h = tt
 numbered_in scope means.Nothing h = tt
 
-declared_in : (scope : Scope) (names : List Entry) (name : List ℕ) → AreNumbered scope.params names → IsIn scope (declared_meaning names name)
-declared_in scope [] name h = tt
-declared_in scope (e ∷ es) name h = by (pointwise nat_eq e.name name) (declared_in scope es name h.1)
-  where
-    by : (b : Bool) → IsIn scope (declared_meaning es name) → IsIn scope (if b then e.meaning else declared_meaning es name)
-    by true again = numbered_in scope e.meaning h.0
-    by false again = again
-
 number_case : (n k : ℕ) (o : Option ℕ) (b : Bool) → ((k : ℕ) → o ≡ Some k → k < n) → (if b then Some n else o) ≡ Some k → k < n + 1
 number_case n k o true again h = let e : n ≡ k = cc in omega (arith, e)
 number_case n k o false again h = omega (arith, again k h)
@@ -88,4 +81,4 @@ meaning_in scope names name h = by (iterator_number scope.iterators name) (is_st
     by : (k : Option ℕ) (own : Bool) → iterator_number scope.iterators name ≡ k → IsIn scope (meaning_behind k own (declared_meaning names name))
     by (Some k) own e = iterators_numbered scope.iterators name k e
     by None true e = tt
-    by None false e = declared_in scope names name h
+    by None false e = numbered_in scope (declared_meaning names name) (declared_has (IsNumbered scope.params) tt names name h)

@@ -1,5 +1,5 @@
 -- The program of a file that breaks no rule is ready.
-use Rattle.std.proofs.Common.{◌≡◌, ◌+◌, ℕ, List, [], ◌∷◌, length, ◌∙◌, sym, subst, Bool, true, false, cond, filter, take, None}
+use Rattle.std.proofs.Common.{◌≡◌, ℕ, List, length, ◌∙◌, sym, subst, Bool, filter, take, None}
 use Rattle.std.specs.List.{AllByRecursion}
 use Rattle.std.proofs.lemmas.List.{length-map}
 use Rattle.std.proofs.lemmas.List.Sums.{length-filter}
@@ -20,6 +20,7 @@ use Rattle.ac_rules.specs.Statements.{statements_broken}
 use Rattle.ac_rules.specs.Files.{context_parts, body_scope, assignments_broken, declarations_broken, body_broken, pragmas_broken, arrays_under, body_under, context_under, names_of, file_broken, program_of}
 use Rattle.ac_rules.specs.Numbers.{HasConditions}
 use Rattle.ac_rules.proofs.Absent.{neither, each, each_map, each_append}
+use Rattle.ac_rules.proofs.EachArray.{arrays_have}
 use Rattle.ac_rules.proofs.Judges.{index_fits}
 use Rattle.ac_rules.proofs.ReadyStatements.{parts_fit, statements_ready}
 
@@ -35,13 +36,8 @@ module _ (names : List Entry) (scope : Scope) (kind : Kind) where
       each_map (λ (extent : Extent). index (take k names) scope extent.size) (Fits scope.params (length scope.iterators)) d.extents
       (each (λ (extent : Extent). Fits scope.params (length scope.iterators) (index (take k names) scope extent.size)) (λ extent. index_fits (take k names) scope extent.size) d.extents)
 
-  array_case : (a : Array) (rest : List Array) (skipped : Bool) → ExtentsFit a → AllByRecursion ExtentsFit rest → AllByRecursion ExtentsFit (cond skipped rest (a ∷ rest))
-  array_case a rest true h k = k
-  array_case a rest false h k = (h, k)
-
   arrays_fit : (skipped : Declared → Bool) (k : ℕ) (ds : List Declared) → AllByRecursion ExtentsFit (arrays_from names scope kind skipped k ds)
-  arrays_fit skipped k [] = tt
-  arrays_fit skipped k (d ∷ ds) = array_case (array_of names scope kind k d) (arrays_from names scope kind skipped (k + 1) ds) (skipped d) (array_fits k d) (arrays_fit skipped (k + 1) ds)
+  arrays_fit = arrays_have ExtentsFit names scope kind array_fits
 
 body_none : (names : List Entry) (file : File)
     → earlier (earlier (word_broken file.name) (declarations_broken names file)) (earlier (body_broken names file) (pragmas_broken names file)) ≡ None

@@ -1,5 +1,5 @@
 -- The program of a file that breaks no rule has small numbers, few parameters and few loops around a statement.
-use Rattle.std.proofs.Common.{◌≡◌, ℕ, ◌+◌, ◌≤◌, Bool, true, false, List, [], ◌∷◌, ◌++◌, length, map, take, nat_lt, nat_eq, None, refl, sym, ap, subst, ◌∙◌, arith}
+use Rattle.std.proofs.Common.{◌≡◌, ℕ, ◌+◌, ◌≤◌, Bool, true, false, List, [], ◌∷◌, ◌++◌, length, take, nat_lt, nat_eq, None, refl, sym, ap, subst, ◌∙◌, arith}
 use Rattle.std.specs.Prelude.{◌||◌, not, if◌then◌else◌, cond}
 use Rattle.std.specs.List.{AllByRecursion}
 use Rattle.std.specs.Cmp.Lexicographic.{pointwise, other_text}
@@ -7,7 +7,7 @@ use Rattle.std.proofs.Math.Seq.{take-append_seam}
 use Rattle.std.proofs.lemmas.Bool.Decides.{nat_tests}
 use Rattle.std.proofs.lemmas.List.{append_assoc, length-append}
 use Rattle.std.proofs.lemmas.List.Sums.{sum_by-cons}
-use Rattle.ac_syntax.specs.Small.{AreSmallForms, IsSmallProgram}
+use Rattle.ac_syntax.specs.Small.{IsSmallForm, AreSmallForms, IsSmallProgram}
 use Rattle.ac_syntax.specs.declared.tree.Array.{Array}
 use Rattle.ac_syntax.specs.declared.tree.Kind.{Kind}
 use Rattle.ac_syntax.specs.declared.tree.Place.{Place}
@@ -27,8 +27,10 @@ use Rattle.ac_rules.specs.Comparisons.{first_of, index}
 use Rattle.ac_rules.specs.Declarations.{is_whole, is_loop_name, entry, count, param_meaning, param_entries, local_entries, param_count, input_count, fixed_scope, is_declared, count_broken, dimensions_broken, extents_broken, name_broken, declared_broken, each_declared_broken, array_of, arrays_from}
 use Rattle.ac_rules.specs.Statements.{statements_broken}
 use Rattle.ac_rules.specs.Files.{body_scope, assignments_broken, declarations_broken, body_broken, pragmas_broken, context_parts, names_of, file_broken, program_of}
+use Rattle.ac_rules.proofs.Absent.{NoneBroken, neither, none_of, not_where, each, each_map, each_append}
+use Rattle.ac_rules.proofs.EachArray.{arrays_have}
 use Rattle.ac_rules.proofs.SmallForms.{Few, small_index, small_condition}
-use Rattle.ac_rules.proofs.SmallStatements.{NoneBroken, earlier_none, first_none, where_none, small_statements}
+use Rattle.ac_rules.proofs.SmallStatements.{small_statements}
 
 -- a name that is not declared before means what is declared behind
 behind : (before es : List Entry) (name : List ℕ) → is_declared before name ≡ false → declared_meaning (before ++ es) name ≡ declared_meaning es name
@@ -61,16 +63,16 @@ whole_few : (d : Declared) (p a : ℕ) (place : Place) → p ≤ 4 → count_bro
 whole_few d p a place h e = by (is_whole d) e
   where
     by : (b : Bool) → count_broken (if b then means.Parameter p else means.Array a (length d.extents)) place ≡ None → p + count b ≤ 4
-    by true e = let n : nat_lt 3 p ≡ false = where_none (nat_lt 3 p) (Limit which.Parameters) place e in grind (arith, nat_tests)
+    by true e = let n : nat_lt 3 p ≡ false = not_where (nat_lt 3 p) (Limit which.Parameters) place e in grind (arith, nat_tests)
     by false e = omega (arith, h)
 
 names_none : (names : List Entry) (scope : Scope) (k : ℕ) (d : Declared) → declared_broken names scope k d ≡ None
     → (is_declared (take k names) d.name.name ≡ false) × (count_broken (declared_meaning names d.name.name) d.name.place ≡ None)
 names_none names scope k d h =
-    let a = earlier_none (name_broken names k d) (earlier (dimensions_broken d.extents) (extents_broken (take k names) scope d.extents)) h in
-    let c = earlier_none (earlier (word_broken d.name) (broken_where (is_declared (take k names) d.name.name) Duplicate d.name.place)) (count_broken (declared_meaning names d.name.name) d.name.place) a.0 in
-    let b = earlier_none (word_broken d.name) (broken_where (is_declared (take k names) d.name.name) Duplicate d.name.place) c.0 in
-    (where_none (is_declared (take k names) d.name.name) Duplicate d.name.place b.1, c.1)
+    let a = neither (name_broken names k d) (earlier (dimensions_broken d.extents) (extents_broken (take k names) scope d.extents)) h in
+    let c = neither (earlier (word_broken d.name) (broken_where (is_declared (take k names) d.name.name) Duplicate d.name.place)) (count_broken (declared_meaning names d.name.name) d.name.place) a.0 in
+    let b = neither (word_broken d.name) (broken_where (is_declared (take k names) d.name.name) Duplicate d.name.place) c.0 in
+    (not_where (is_declared (take k names) d.name.name) Duplicate d.name.place b.1, c.1)
 
 -- parameters that break no rule, behind p integers, make at most 4 of them
 few_params : (scope : Scope) (before : List Entry) (ds : List Declared) (tail : List Entry) (p a : ℕ) → p ≤ 4
@@ -90,46 +92,39 @@ few_params scope before (d ∷ ds) tail p a l h =
     omega (arith, r, counted d ds)
 
 -- arrays
-small_extents : (names : List Entry) (scope : Scope) → Few scope → (es : List Extent) → AreSmallForms (map (λ (extent : Extent). index names scope extent.size) es)
-small_extents names scope few [] = tt
-small_extents names scope few (e ∷ es) = (small_index names scope few e.size, small_extents names scope few es)
+abbrev SmallExtents : Array → Type 0
+SmallExtents a = AreSmallForms a.extents
 
-abbrev SmallArrays : List Array → Type 0
-SmallArrays = AllByRecursion (λ (a : Array). AreSmallForms a.extents)
+module _ (names : List Entry) (scope : Scope) (kind : Kind) (few : Few scope) where
+  small_array : (k : ℕ) (d : Declared) → SmallExtents (array_of names scope kind k d)
+  small_array k d =
+      each_map (λ (extent : Extent). index (take k names) scope extent.size) IsSmallForm d.extents
+      (each (λ (extent : Extent). IsSmallForm (index (take k names) scope extent.size)) (λ extent. small_index (take k names) scope few extent.size) d.extents)
 
-small_arrays : (names : List Entry) (scope : Scope) (kind : Kind) (skipped : Declared → Bool) → Few scope → (k : ℕ) (ds : List Declared) → SmallArrays (arrays_from names scope kind skipped k ds)
-small_arrays names scope kind skipped few k [] = tt
-small_arrays names scope kind skipped few k (d ∷ ds) = by (skipped d) (arrays_from names scope kind skipped (k + 1) ds) (small_arrays names scope kind skipped few (k + 1) ds)
-  where
-    by : (b : Bool) (rest : List Array) → SmallArrays rest → SmallArrays (if b then rest else array_of names scope kind k d ∷ rest)
-    by true rest h = h
-    by false rest h = (small_extents (take k names) scope few d.extents, h)
-
-all_both : (xs ys : List Array) → SmallArrays xs → SmallArrays ys → SmallArrays (xs ++ ys)
-all_both [] ys h k = k
-all_both (x ∷ xs) ys h k = (h.0, all_both xs ys h.1 k)
+  small_arrays : (skipped : Declared → Bool) (k : ℕ) (ds : List Declared) → AllByRecursion SmallExtents (arrays_from names scope kind skipped k ds)
+  small_arrays = arrays_have SmallExtents names scope kind small_array
 
 -- the whole
 params_few : (file : File) → declarations_broken (names_of file) file ≡ None → param_count file.params ≤ 4
 params_few file h =
     let scope = fixed_scope (param_count file.params) in
     let names = names_of file in
-    let e = earlier_none (first_of (each_declared_broken names scope 0 file.params)) (first_of (each_declared_broken names scope (length file.params) file.locals)) h in
-    let f = first_none None (each_declared_broken names scope 0 file.params) e.0 in
-    let n = few_params scope [] file.params (local_entries file.body file.locals (input_count file.params)) 0 0 (omega arith) f.1 in
+    let e = neither (first_of (each_declared_broken names scope 0 file.params)) (first_of (each_declared_broken names scope (length file.params) file.locals)) h in
+    let f = none_of (each_declared_broken names scope 0 file.params) e.0 in
+    let n = few_params scope [] file.params (local_entries file.body file.locals (input_count file.params)) 0 0 (omega arith) f in
     omega (arith, n)
 
 pub small_program : (file : File) → file_broken file ≡ None → IsSmallProgram (program_of file)
 small_program file h =
     let names = names_of file in
-    let a = earlier_none (earlier (word_broken file.name) (declarations_broken names file)) (earlier (body_broken names file) (pragmas_broken names file)) h in
-    let d = earlier_none (word_broken file.name) (declarations_broken names file) a.0 in
-    let b = earlier_none (body_broken names file) (pragmas_broken names file) a.1 in
-    let s = earlier_none (statements_broken names (body_scope (param_count file.params)) file.body) (assignments_broken file.body) b.0 in
+    let a = neither (earlier (word_broken file.name) (declarations_broken names file)) (earlier (body_broken names file) (pragmas_broken names file)) h in
+    let d = neither (word_broken file.name) (declarations_broken names file) a.0 in
+    let b = neither (body_broken names file) (pragmas_broken names file) a.1 in
+    let s = neither (statements_broken names (body_scope (param_count file.params)) file.body) (assignments_broken file.body) b.0 in
     let n = params_few file d.1 in
     let inside : Few (body_scope (param_count file.params)) = record { params = n; loops = omega arith } in
     let fixed : Few (fixed_scope (param_count file.params)) = record { params = n; loops = omega arith } in record {
       body = small_statements names (body_scope (param_count file.params)) file.body inside s.0;
       context = small_condition names (fixed_scope (param_count file.params)) fixed (context_parts file.pragmas);
-      extents = all_both _ _ (small_arrays names (fixed_scope (param_count file.params)) Input is_whole fixed 0 file.params) (small_arrays names (fixed_scope (param_count file.params)) Local (is_loop_name file.body) fixed (length file.params) file.locals);
+      extents = each_append SmallExtents _ _ (small_arrays names (fixed_scope (param_count file.params)) Input fixed is_whole 0 file.params) (small_arrays names (fixed_scope (param_count file.params)) Local fixed (is_loop_name file.body) (length file.params) file.locals);
     }

@@ -1,6 +1,5 @@
 -- Statements that break no rule: their index expressions are within the limits, and at most 6 loops are around them.
-use Rattle.std.proofs.Common.{◌≡◌, ℕ, ℤ, Bool, true, false, List, [], ◌∷◌, length, map, nat_lt, Option, Some, None, refl, sym, subst, ◌∙◌, arith, rules}
-use Rattle.std.specs.Prelude.{if◌then◌else◌}
+use Rattle.std.proofs.Common.{◌≡◌, ℕ, ℤ, Bool, false, List, [], ◌∷◌, length, map, nat_lt, Option, None, sym, subst, ◌∙◌, arith, rules}
 use Rattle.std.specs.List.{AllByRecursion}
 use Rattle.std.proofs.lemmas.Bool.Decides.{nat_tests}
 use Rattle.ac_syntax.specs.Small.{IsSmallForm, AreSmallForms, AreSmallParts, IsSmallValue, IsSmallStmt, AreSmallStmts}
@@ -15,51 +14,27 @@ use Rattle.ac_grammar.specs.declared.tree.Step.{Step}
 use Rattle.ac_grammar.specs.declared.tree.Part.{Part}
 use Rattle.ac_grammar.specs.declared.tree.Operator.{Operator}
 use Rattle.ac_grammar.specs.declared.tree.Expr.{Expr}
-use Rattle.ac_grammar.specs.declared.tree.Statement.{Statement, roll-Statement}
-use Rattle.ac_grammar.specs.declared.tree.Statement.TheVariants.{Loop, Branch, Assign, rolls-Loop, rolls-Branch, rolls-Assign}
-use Rattle.ac_grammar.specs.declared.tree.Statement.TheOpen.{Statement-F}
-use Rattle.ac_grammar.specs.declared.tree.Statement.TheFolds.{ind-Statement, map-Statement}
+use Rattle.ac_grammar.specs.declared.tree.Statement.{Statement}
+use Rattle.ac_grammar.specs.declared.tree.Statement.TheVariants.{Loop, Branch, Assign}
 use Rattle.ac_rules.specs.declared.fault.Which.TheVariants as which
 use Rattle.ac_rules.specs.declared.fault.Rule.{Rule}
 use Rattle.ac_rules.specs.declared.fault.Rule.TheVariants.{Limit}
 use Rattle.ac_rules.specs.declared.fault.Broken.{Broken}
 use Rattle.ac_rules.specs.declared.scope.Entry.{Entry}
 use Rattle.ac_rules.specs.declared.scope.Scope.{Scope}
-use Rattle.ac_rules.specs.Faults.{is_earlier, earlier, broken_where}
+use Rattle.ac_rules.specs.Faults.{earlier, broken_where}
 use Rattle.ac_rules.specs.Meanings.{meaning}
-use Rattle.ac_rules.specs.Comparisons.{first_from, index, condition, condition_broken}
+use Rattle.ac_rules.specs.Comparisons.{index, condition, condition_broken}
 use Rattle.ac_rules.specs.Values.{array_number}
 use Rattle.ac_rules.specs.Statements.{inside, in_start, step_number, head_broken, assigned_value, statement_broken, statements_broken, stmt, stmts}
+use Rattle.ac_rules.proofs.Absent.{NoneBroken, each, neither, none_of, not_where}
 use Rattle.ac_rules.proofs.Stepping.{broken-loop, broken-branch, stmt-loop, stmt-branch, stmt-assign}
 use Rattle.ac_rules.proofs.SmallForms.{Few, small_index, small_indices, small_condition}
 use Rattle.ac_rules.proofs.SmallValues.{small_assigned}
-
--- nothing is broken
-abbrev pub NoneBroken : List (Option Broken) → Type 0
-NoneBroken = AllByRecursion (λ b. b ≡ None)
-
-pub earlier_none : (a b : Option Broken) → earlier a b ≡ None → (a ≡ None) × (b ≡ None)
-earlier_none None b h = (refl, h)
-earlier_none (Some f) None h = absurd cc
-earlier_none (Some f) (Some g) h = absurd (by (is_earlier g f) h)
-  where
-    by : (b : Bool) → ¬ ((if b then Some g else Some f) ≡ None)
-    by true = λ e. absurd cc
-    by false = λ e. absurd cc
-
-pub first_none : (b : Option Broken) (cs : List (Option Broken)) → first_from b cs ≡ None → (b ≡ None) × NoneBroken cs
-first_none b [] h = (h, tt)
-first_none b (c ∷ cs) h =
-    let r = first_none (earlier b c) cs h in
-    let e = earlier_none b c r.0 in
-    (e.0, (e.1, r.1))
-
-pub where_none : (b : Bool) (rule : Rule) (place : Place) → broken_where b rule place ≡ None → b ≡ false
-where_none true rule place h = absurd cc
-where_none false rule place h = refl
+use Rattle.ac_rules.proofs.Trees.{every_statement}
 
 front_none : (b : Bool) (rule : Rule) (place : Place) (c d : Option Broken) → earlier (earlier (broken_where b rule place) c) d ≡ None → b ≡ false
-front_none b rule place c d h = where_none b rule place (earlier_none (broken_where b rule place) c (earlier_none (earlier (broken_where b rule place) c) d h).0).0
+front_none b rule place c d h = not_where b rule place (neither (broken_where b rule place) c (neither (earlier (broken_where b rule place) c) d h).0).0
 
 -- the parts of a statement
 of_row : (m : _) (k : Row_of-Stmt m) → AllByRecursion IsSmallStmt (items-the_row-Stmt m k) → AreSmallStmts k
@@ -97,7 +72,7 @@ module _ (names : List Entry) where
   small_each (s ∷ ss) ks scope few h = (ks.0 scope few h.0, small_each ss ks.1 scope few h.1)
 
   small_body : (ss : List Statement) → AllByRecursion Kept ss → (scope : Scope) → Few scope → statements_broken names scope ss ≡ None → AllByRecursion IsSmallStmt (stmts names scope ss)
-  small_body ss ks scope few h = small_each ss ks scope few (first_none None (map (λ s. statement_broken names s scope) ss) h).1
+  small_body ss ks scope few h = small_each ss ks scope few (none_of (map (λ s. statement_broken names s scope) ss) h)
 
   one_more : (scope : Scope) (name : List ℕ) → Few scope → nat_lt 5 (length scope.iterators) ≡ false → Few (inside scope name)
   one_more scope name few h = record { params = few.params; loops = grind (arith, nat_tests) }
@@ -107,7 +82,7 @@ module _ (names : List Entry) where
 
   small_loop : (typed : Bool) (name : Word) (start : Expr) (cond : List Part) (step : Step) (body : List Statement) (place : Place) → AllByRecursion Kept body → Kept (Loop typed name start cond step body place)
   small_loop typed name start cond step body place ks scope few h =
-      let e = earlier_none (head_broken names scope typed name start cond step place) (statements_broken names (inside scope name.name) body) (sym (broken-loop names scope typed name start cond step body place) ∙ h) in
+      let e = neither (head_broken names scope typed name start cond step place) (statements_broken names (inside scope name.name) body) (sym (broken-loop names scope typed name start cond step body place) ∙ h) in
       let i = one_more scope name.name few (front_none (nat_lt 5 (length scope.iterators)) (Limit which.Depth) place _ _ e.0) in
       subst IsSmallStmt (sym (stmt-loop names scope typed name start cond step body place))
       (small_for name.name (index names (in_start scope typed name.name) start) (record { parts = condition names (inside scope name.name) cond }) (step_number step) (stmts names (inside scope name.name) body) place
@@ -115,8 +90,8 @@ module _ (names : List Entry) where
 
   small_branch : (cond : List Part) (taken other : List Statement) (place : Place) → AllByRecursion Kept taken → AllByRecursion Kept other → Kept (Branch cond taken other place)
   small_branch cond taken other place ts os scope few h =
-      let e = earlier_none (condition_broken names scope cond) (earlier (statements_broken names scope taken) (statements_broken names scope other)) (sym (broken-branch names scope cond taken other place) ∙ h) in
-      let b = earlier_none (statements_broken names scope taken) (statements_broken names scope other) e.1 in
+      let e = neither (condition_broken names scope cond) (earlier (statements_broken names scope taken) (statements_broken names scope other)) (sym (broken-branch names scope cond taken other place) ∙ h) in
+      let b = neither (statements_broken names scope taken) (statements_broken names scope other) e.1 in
       subst IsSmallStmt (sym (stmt-branch names scope cond taken other place))
       (small_if (record { parts = condition names scope cond }) (stmts names scope taken) (stmts names scope other) place
       (small_condition names scope few cond) (small_body taken ts scope few b.0) (small_body other os scope few b.1))
@@ -127,23 +102,8 @@ module _ (names : List Entry) where
       (small_assign (array_number (meaning names scope target.name)) (map (index names scope) subs) (assigned_value names scope target subs operator e) target.place
       (small_indices names scope few subs) (small_assigned names scope few target subs operator e))
 
-  kept_parts : (ys : List ((s : Statement) × Kept s)) → AllByRecursion Kept (map (λ s. s.0) ys)
-  kept_parts [] = tt
-  kept_parts (y ∷ ys) = (y.1, kept_parts ys)
-
-  kept_step : (y : Statement-F ((s : Statement) × Kept s)) → Kept (roll-Statement (map-Statement ((s : Statement) × Kept s) Statement (λ s. s.0) y))
-  kept_step (Statement-F.Loop typed name start cond step body place) =
-      subst Kept (sym (rolls-Loop typed name start cond step (map (λ s. s.0) body) place)) (small_loop typed name start cond step (map (λ s. s.0) body) place (kept_parts body))
-  kept_step (Statement-F.Branch cond taken other place) =
-      subst Kept (sym (rolls-Branch cond (map (λ s. s.0) taken) (map (λ s. s.0) other) place)) (small_branch cond (map (λ s. s.0) taken) (map (λ s. s.0) other) place (kept_parts taken) (kept_parts other))
-  kept_step (Statement-F.Assign target subs operator e) = subst Kept (sym (rolls-Assign target subs operator e)) (small_assignment target subs operator e)
-
   kept : (s : Statement) → Kept s
-  kept = ind-Statement Kept (λ x y is. subst (λ z. Kept (roll-Statement z)) is (kept_step y))
-
-  kept_all : (ss : List Statement) → AllByRecursion Kept ss
-  kept_all [] = tt
-  kept_all (s ∷ ss) = (kept s, kept_all ss)
+  kept = every_statement Kept small_loop small_branch small_assignment
 
   pub small_statements : (scope : Scope) (ss : List Statement) → Few scope → statements_broken names scope ss ≡ None → AllByRecursion IsSmallStmt (stmts names scope ss)
-  small_statements scope ss few h = small_body ss (kept_all ss) scope few h
+  small_statements scope ss few h = small_body ss (each Kept kept ss) scope few h
