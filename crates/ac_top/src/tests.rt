@@ -13,7 +13,7 @@ struct Row {
     text: &'static [u8],
 }
 
-static ROWS: [Row; 16] = [
+static ROWS: [Row; 17] = [
     // the same text twice
     Row {
         first: b"void f(int B[2], int C[1]) { C[0] = g(B[0], B[1]); }",
@@ -117,6 +117,13 @@ static ROWS: [Row; 16] = [
         second: b"",
         status: Status::Refused,
         text: b"b.c:1:1: syntax\n",
+    },
+    // a semicolon is missing
+    Row {
+        first: b"void f(int C[1]) { C[0] = 1 }",
+        second: b"void f(int C[1]) { C[0] = 1; }",
+        status: Status::Refused,
+        text: b"a.c:1:29: syntax\n",
     },
     // a name that is not declared
     Row {
