@@ -4,12 +4,12 @@ use std::alloc::Global;
 use std::test::Fail;
 
 /// Two files, the words behind their names, and what `instance a.c b.c` answers.
-struct Row {
-    first: &'static [u8],
-    second: &'static [u8],
-    options: &'static [&'static [u8]],
-    status: Status,
-    text: &'static [u8],
+pub struct Row {
+    pub first: &'static [u8],
+    pub second: &'static [u8],
+    pub options: &'static [&'static [u8]],
+    pub status: Status,
+    pub text: &'static [u8],
 }
 
 static ROWS: [Row; 20] = [
@@ -186,7 +186,8 @@ fn row_words(alloc: Global, row: &Row) -> Result<Vec<&'static [u8]>, Fail> {
     Ok(words)
 }
 
-fn row_passes(alloc: Global, row: &Row) -> Result<bool, Fail> {
+/// Whether `run` answers a row.
+pub fn row_passes(alloc: Global, row: &Row) -> Result<bool, Fail> {
     let mut files = files(alloc, row.first, row.second)?;
     let words = row_words(alloc, row)?;
     answers(alloc, &words, &mut files, row.status, row.text)
@@ -200,7 +201,7 @@ fn pairs_are_run_at_a_valuation(rt: HostRuntime) -> Result<(), Fail> {
     Ok(())
 }
 
-const USAGE: &[u8] =
+pub const USAGE: &[u8] =
     b"usage: prove A B [--budget n] [--proof P] | check A B P | instance A B [--at N=5,M=3] [--limit n] | flow A | gen SEED SIZE\n";
 
 const EQUAL: &[u8] = b"void f(int C[1]) { C[0] = 1; }";

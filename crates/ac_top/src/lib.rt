@@ -34,7 +34,21 @@ pub use status::{Status, status_of};
 pub use verdict::Verdict;
 
 #[cfg(test)]
+mod instance_halts_tests;
+#[cfg(test)]
+mod instance_kernels_tests;
+#[cfg(test)]
+mod instance_loops_tests;
+#[cfg(test)]
+mod instance_outputs_tests;
+#[cfg(test)]
+mod instance_reach_tests;
+#[cfg(test)]
+mod instance_steps_tests;
+#[cfg(test)]
 mod instance_tests;
+#[cfg(test)]
+mod instance_words_tests;
 #[cfg(test)]
 mod later_tests;
 #[cfg(test)]
