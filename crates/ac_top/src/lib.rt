@@ -34,32 +34,4 @@ pub use status::{Status, status_of};
 pub use verdict::Verdict;
 
 #[cfg(test)]
-mod instance_halts_tests;
-#[cfg(test)]
-mod instance_kernels_tests;
-#[cfg(test)]
-mod instance_loops_tests;
-#[cfg(test)]
-mod instance_outputs_tests;
-#[cfg(test)]
-mod instance_reach_tests;
-#[cfg(test)]
-mod instance_steps_tests;
-#[cfg(test)]
-mod instance_tests;
-#[cfg(test)]
-mod instance_words_tests;
-#[cfg(test)]
-mod later_tests;
-#[cfg(test)]
-mod limit_tests;
-#[cfg(test)]
-mod pair_tests;
-#[cfg(test)]
-mod prove_tests;
-#[cfg(test)]
-mod rule_tests;
-#[cfg(test)]
 mod tests;
-#[cfg(test)]
-mod text_tests;

@@ -1,3 +1,18 @@
+mod instance;
+mod instance_halts;
+mod instance_kernels;
+mod instance_loops;
+mod instance_outputs;
+mod instance_reach;
+mod instance_steps;
+mod instance_words;
+mod later;
+mod limit;
+mod pair;
+mod prove;
+mod rule;
+mod text;
+
 use crate::run;
 use crate::status::{Status, status_of};
 use crate::verdict::Verdict;

@@ -1,7 +1,7 @@
 //! Outputs, locals and commutative names at one valuation.
 
-use crate::instance_tests::{Row, row_passes};
 use crate::status::Status;
+use crate::tests::instance::{Row, row_passes};
 use std::test::Fail;
 
 static ROWS: [Row; 34] = [

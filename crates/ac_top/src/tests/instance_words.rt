@@ -1,7 +1,7 @@
 //! The words of `instance`: valuations and limits, and what comes before them.
 
-use crate::instance_tests::{Row, USAGE, row_passes};
 use crate::status::Status;
+use crate::tests::instance::{Row, USAGE, row_passes};
 use crate::tests::{answers, files};
 use std::alloc::Global;
 use std::test::Fail;
@@ -109,22 +109,46 @@ static REFUSED: [&[u8]; 46] = [
 /// Words behind the two files.
 static OPTIONS: [(&[&[u8]], Status, &[u8]); 24] = [
     // 1 + 1 + 1 events
-    (&[b"--at", b"N=5,M=3", b"--limit", b"3"], Status::Done, b"C equal\n"),
-    (&[b"--at", b"N=5,M=3", b"--limit", b"2"], Status::Halted, b"halted: more than 2 events\n"),
-    (&[b"--at", b"N=5,M=3", b"--limit", b"1"], Status::Halted, b"halted: more than 1 events\n"),
+    (
+        &[b"--at", b"N=5,M=3", b"--limit", b"3"],
+        Status::Done,
+        b"C equal\n",
+    ),
+    (
+        &[b"--at", b"N=5,M=3", b"--limit", b"2"],
+        Status::Halted,
+        b"halted: more than 2 events\n",
+    ),
+    (
+        &[b"--at", b"N=5,M=3", b"--limit", b"1"],
+        Status::Halted,
+        b"halted: more than 1 events\n",
+    ),
     // the greatest limit
-    (&[b"--at", b"N=5,M=3", b"--limit", b"1000000"], Status::Done, b"C equal\n"),
+    (
+        &[b"--at", b"N=5,M=3", b"--limit", b"1000000"],
+        Status::Done,
+        b"C equal\n",
+    ),
     // no word for the parameters
     (&[], Status::Refused, b"valuation\n"),
     (&[b"--limit", b"3"], Status::Refused, b"valuation\n"),
     // a word that looks like an option
     (&[b"--at", b"--limit"], Status::Refused, b"valuation\n"),
-    (&[b"--at", b"--limit", b"--limit", b"3"], Status::Refused, b"valuation\n"),
+    (
+        &[b"--at", b"--limit", b"--limit", b"3"],
+        Status::Refused,
+        b"valuation\n",
+    ),
     (&[b"--at", b"--limit", b"3"], Status::Usage, USAGE),
     // an option twice, in the other order, without its word, joined to it
     (&[b"--at", b"N=5", b"--at", b"M=3"], Status::Usage, USAGE),
     (&[b"--limit", b"3", b"--limit", b"3"], Status::Usage, USAGE),
-    (&[b"--limit", b"3", b"--at", b"N=5,M=3"], Status::Usage, USAGE),
+    (
+        &[b"--limit", b"3", b"--at", b"N=5,M=3"],
+        Status::Usage,
+        USAGE,
+    ),
     (&[b"--at", b"N=5,M=3", b"--limit"], Status::Usage, USAGE),
     (&[b"--at=N=5,M=3"], Status::Usage, USAGE),
     // the word without its option, and options of another command
@@ -132,12 +156,36 @@ static OPTIONS: [(&[&[u8]], Status, &[u8]); 24] = [
     (&[b"--at", b"N=5", b"M=3"], Status::Usage, USAGE),
     (&[b"--budget", b"3"], Status::Usage, USAGE),
     // no limits, also where the valuation is none
-    (&[b"--at", b"N=5,M=3", b"--limit", b""], Status::Usage, USAGE),
-    (&[b"--at", b"N=5,M=3", b"--limit", b"0"], Status::Usage, USAGE),
-    (&[b"--at", b"N=5,M=3", b"--limit", b"-1"], Status::Usage, USAGE),
-    (&[b"--at", b"N=5,M=3", b"--limit", b"+1"], Status::Usage, USAGE),
-    (&[b"--at", b"N=5,M=3", b"--limit", b"1000001"], Status::Usage, USAGE),
-    (&[b"--at", b"N=5,M=3", b"--limit", b"18446744073709551617"], Status::Usage, USAGE),
+    (
+        &[b"--at", b"N=5,M=3", b"--limit", b""],
+        Status::Usage,
+        USAGE,
+    ),
+    (
+        &[b"--at", b"N=5,M=3", b"--limit", b"0"],
+        Status::Usage,
+        USAGE,
+    ),
+    (
+        &[b"--at", b"N=5,M=3", b"--limit", b"-1"],
+        Status::Usage,
+        USAGE,
+    ),
+    (
+        &[b"--at", b"N=5,M=3", b"--limit", b"+1"],
+        Status::Usage,
+        USAGE,
+    ),
+    (
+        &[b"--at", b"N=5,M=3", b"--limit", b"1000001"],
+        Status::Usage,
+        USAGE,
+    ),
+    (
+        &[b"--at", b"N=5,M=3", b"--limit", b"18446744073709551617"],
+        Status::Usage,
+        USAGE,
+    ),
     (&[b"--at", b"N=5", b"--limit", b"01"], Status::Usage, USAGE),
 ];
 
@@ -220,7 +268,14 @@ fn valuations_give_each_parameter_once(rt: HostRuntime) -> Result<(), Fail> {
 #[test]
 fn other_words_are_no_valuation(rt: HostRuntime) -> Result<(), Fail> {
     for word in &REFUSED {
-        assert!(rt; is_answered(rt.alloc(), &[b"--at", word], Status::Refused, b"valuation\n")?);
+        assert!(rt;
+            is_answered(
+                rt.alloc(),
+                &[b"--at", word],
+                Status::Refused,
+                b"valuation\n"
+            )?
+        );
     }
     Ok(())
 }

@@ -1,7 +1,7 @@
 //! What halts a run first: starts and steps.
 
-use crate::instance_tests::{Row, row_passes};
 use crate::status::Status;
+use crate::tests::instance::{Row, row_passes};
 use std::test::Fail;
 
 static ROWS: [Row; 11] = [

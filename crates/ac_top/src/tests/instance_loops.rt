@@ -1,7 +1,7 @@
 //! Loops, branches and values: their events, and which elements differ.
 
-use crate::instance_tests::{Row, row_passes};
 use crate::status::Status;
+use crate::tests::instance::{Row, row_passes};
 use std::test::Fail;
 
 static ROWS: [Row; 42] = [
