@@ -5,6 +5,7 @@ mod instance_loops;
 mod instance_outputs;
 mod instance_reach;
 mod instance_steps;
+mod instance_values;
 mod instance_words;
 mod later;
 mod limit;
