@@ -1,0 +1,57 @@
+//! From a program to its model.
+ghost use Rattle.std.specs.Prelude.{◌≡◌, map, length, IfOk};
+ghost use Rattle.ac_syntax.specs.Ready.{ReadyProgram, FitParts};
+ghost use Rattle.ac_poly.specs.Faults.{Answers, IsFineAll, IsFirstAll};
+ghost use Rattle.ac_poly.specs.Lower.{outermost};
+ghost use Rattle.ac_poly.specs.Model.{extents_of, kind_of, model_of};
+
+use crate::enter::outermost;
+use crate::forms::{all_alone, rows_alone};
+use crate::types::{LowerFault, Model};
+use crate::walk::lower_all;
+use ac_forms::Form;
+use ac_items::Items;
+use ac_syntax::tree::{Array, Cond, Kind, Program};
+use std::alloc::{AllocError, Global};
+
+/// The program as integer points, under a context over its parameters. Where an assignment has more than 16 pieces, or a
+/// product or a sum for it leaves `i128`, the first such assignment in the text is named.
+pub fn lower(alloc: Global, p: &Program, context: &Cond) -> Result<Model, LowerFault>
+    requires program { ReadyProgram p.now }
+    requires context { FitParts (length p.now.params) 0 context.now.parts }
+    ensures exact { Answers result (λ model. IsFineAll p.now.body 0 (outermost (length p.now.params)) (Unit {0}) × (model ≡ model_of p.now context.now)) (IsFirstAll p.now.body 0 (outermost (length p.now.params)) (Unit {0})) }
+{
+    let params = p.params.len();
+    let scope = outermost(alloc, params)?;
+    let mut stmts = Items::new(alloc);
+    lower_all(alloc, p.body.as_slice(), 0, &scope, &mut stmts)?;
+    Ok(Model {
+        params,
+        context: rows_alone(alloc, context.parts.as_slice())?,
+        stmts,
+        extents: extents(alloc, p.arrays.as_slice())?,
+        kinds: kinds(alloc, p.arrays.as_slice())?,
+    })
+}
+
+/// The extents of each array.
+fn extents(alloc: Global, arrays: &[Array]) -> Result<Items<Items<Form>>, AllocError>
+    ensures { IfOk result (λ made. made ≡ map extents_of arrays.now) }
+{
+    let mut made = Items::new(alloc);
+    for array in arrays {
+        made.push(all_alone(alloc, array.extents.as_slice())?)?;
+    }
+    Ok(made)
+}
+
+/// The kind of each array.
+fn kinds(alloc: Global, arrays: &[Array]) -> Result<Items<Kind>, AllocError>
+    ensures { IfOk result (λ made. made ≡ map kind_of arrays.now) }
+{
+    let mut made = Items::new(alloc);
+    for array in arrays {
+        made.push(array.kind)?;
+    }
+    Ok(made)
+}
