@@ -85,6 +85,9 @@ by_ways : (its : List Affine) (cs : List Comparison) (q : List Row) → failing_
 by_ways its [] q = refl
 by_ways its (c ∷ cs) q = ap (λ r. with_each q (negations c.rel (lowered its c.form)) ++ r) (by_ways its cs (q ++ row_by c.rel (lowered its c.form) ∷ []))
 
-pub as_ways : (its : List Affine) (cs : List Comparison) (qs : List (List Row)) → flat_map (failing_by (map (way its) cs)) qs ≡ flat_map (failing its cs) qs
-as_ways its cs [] = refl
-as_ways its cs (q ∷ qs) = λ i. by_ways its cs q i ++ as_ways its cs qs i
+all_by_ways : (its : List Affine) (cs : List Comparison) (qs : List (List Row)) → flat_map (failing_by (map (way its) cs)) qs ≡ flat_map (failing its cs) qs
+all_by_ways its cs [] = refl
+all_by_ways its cs (q ∷ qs) = λ i. by_ways its cs q i ++ all_by_ways its cs qs i
+
+pub as_ways : (its : List Affine) (cs : List Comparison) (ws : List Way) (qs made : List (List Row)) → ws ≡ map (way its) cs → made ≡ flat_map (failing_by ws) qs → made ≡ flat_map (failing its cs) qs
+as_ways its cs ws qs made w m = m ∙ ap (λ x. flat_map (failing_by x) qs) w ∙ all_by_ways its cs qs

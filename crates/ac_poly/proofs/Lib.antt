@@ -22,3 +22,4 @@ pub mod Answering
 pub mod Seeking
 pub mod Lost
 pub mod Walks
+pub mod Whole

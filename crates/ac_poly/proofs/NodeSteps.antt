@@ -116,3 +116,14 @@ node_end its vs old i made h l =
     (h.back (rw d tt), sym ((h.value ∙ ap (λ r. made ++ nodes_of its r (length made)) d) ∙ append-nil made))
 
 pub ruleset node_steps = (node_start, node_step, node_fits, node_end)
+
+pub call_made : (its : List Affine) (v : Value) (s copy : Symbol) (args args2 args3 : List Value) (place : Place) (old mid new : List NodeModel) (numbers : List ℕ) (first : ℕ)
+    → v ≡ Call s args place → first ≡ length old + 1 → args2 ≡ args → numbers ≡ roots_of args2 first → copy ≡ s → mid ≡ old ++ Applied copy numbers ∷ [] → args3 ≡ args
+    → AllByRecursion (CanLowerValue its) args3 × (new ≡ mid ++ nodes_of its args3 (length mid)) → CanLowerValue its v × (new ≡ old ++ nodes its v (length old))
+call_made its v s copy args args2 args3 place old mid new numbers first is f a n k m b made =
+    let l : length mid ≡ length old + 1 = ap length m ∙ length-append old (Applied copy numbers ∷ []) in
+    let node : Applied copy numbers ≡ Applied s (roots_of args (length old + 1)) = (λ i. Applied (k i) ((n ∙ (λ j. roots_of (a j) (f j))) i)) in
+    rw is
+    ( rw (can_call its s args place) (subst (λ x. AllByRecursion (CanLowerValue its) x) b made.0)
+    , made.1 ∙ (λ i. m i ++ nodes_of its (b i) (l i)) ∙ append_assoc old (Applied copy numbers ∷ []) (nodes_of its args (length old + 1))
+      ∙ ap (λ x. old ++ x ∷ nodes_of its args (length old + 1)) node ∙ ap (λ x. old ++ x) (sym (nodes_call its s args place (length old))) )

@@ -1,5 +1,5 @@
 -- Looking for the first fault.
-use Rattle.std.proofs.Common.{◌≡◌, ℕ, suc, ◌+◌, ◌<◌, ◌≤◌, List, [], ◌∷◌, length, drop, get_or, refl, sym, ap, ◌∙◌, arith, rules, ℤ, subst, sum_by, Option, Some, None, Result, Ok, Err, add_assoc, add-zero, cond}
+use Rattle.std.proofs.Common.{◌≡◌, ℕ, suc, ◌+◌, ◌<◌, ◌≤◌, List, [], ◌∷◌, length, drop, get_or, refl, sym, ap, ◌∙◌, arith, rules, ℤ, subst, sum_by, Option, Some, None, Result, Ok, Err, add_assoc, add-zero, cond, true, false}
 use Rattle.std.specs.Prelude.{nat_lt}
 use Rattle.std.specs.Result.{IsErrAnd}
 use Rattle.std.proofs.lemmas.List.{drop_more, drop_all}
@@ -95,11 +95,13 @@ seek_if_stops r stop s c taken other taken2 place number pieces e is t h =
 
 pub seek_many : (s : Stmt) (array : ℕ) (subs : List IndexExpr) (value : Value) (place : Place) (number pieces : ℕ) → s ≡ Assign array subs value place → 16 < pieces → Seeks (Err (Pieces place)) s number pieces
 seek_many s array subs value place number pieces is h =
-    subst (λ s. fault s pieces ≡ Some (Pieces place)) (sym is) (fault_assign array subs value place pieces ∙ ap (λ b. Some (cond b (Pieces place) (Wide place))) (grind (arith, nat_tests)))
+    let e : nat_lt 16 pieces ≡ true = grind (arith, nat_tests) in
+    subst (λ s. fault s pieces ≡ Some (Pieces place)) (sym is) (fault_assign array subs value place pieces ∙ ap (λ b. Some (cond b (Pieces place) (Wide place))) e)
 
 pub seek_few : (s : Stmt) (array : ℕ) (subs : List IndexExpr) (value : Value) (place : Place) (number pieces : ℕ) → s ≡ Assign array subs value place → pieces ≤ 16 → Seeks (Err (Wide place)) s number pieces
 seek_few s array subs value place number pieces is h =
-    subst (λ s. fault s pieces ≡ Some (Wide place)) (sym is) (fault_assign array subs value place pieces ∙ ap (λ b. Some (cond b (Pieces place) (Wide place))) (grind (arith, nat_tests)))
+    let e : nat_lt 16 pieces ≡ false = grind (arith, nat_tests) in
+    subst (λ s. fault s pieces ≡ Some (Wide place)) (sym is) (fault_assign array subs value place pieces ∙ ap (λ b. Some (cond b (Pieces place) (Wide place))) e)
 
 -- before the statement i of a list: what is counted, and what is left
 pub record Sought (ss : List Stmt) (number pieces i next : ℕ) : Type 0 where

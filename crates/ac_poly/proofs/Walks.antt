@@ -1,5 +1,6 @@
 -- The steps of the walk that lowers a tree.
-use Rattle.std.proofs.Common.{◌≡◌, ◌⊎◌, inl, inr, ℕ, suc, ◌+◌, ◌*◌, ◌<◌, ◌≤◌, List, [], ◌∷◌, ◌++◌, length, refl, rules, sym, ap, ◌∙◌, arith, Result, Ok, Err, sum_by, ℤ, subst, append_assoc, append-nil, map, drop, get_or, add_assoc, add-zero, length-append}
+use Rattle.std.proofs.Common.{◌≡◌, ◌⊎◌, inl, inr, ℕ, suc, ◌+◌, ◌*◌, ◌<◌, ◌≤◌, List, [], ◌∷◌, ◌++◌, length, refl, rules, sym, ap, ◌∙◌, arith, Result, Ok, Err, sum_by, ℤ, subst, append_assoc, append-nil, map, drop, get_or, add_assoc, add-zero, length-append, false}
+use Rattle.std.specs.Prelude.{nat_lt}
 use Rattle.std.proofs.lemmas.Bool.Decides.{nat_tests}
 use Rattle.std.proofs.lemmas.List.{length-map, drop_more, drop_all}
 use Rattle.std.proofs.lemmas.List.Sums.{sum_by-cons}
@@ -85,7 +86,7 @@ fine_if' : (cond : Cond) (n : _) (taken : Row_of-Stmt _) (m : _) (other : Row_of
     ≡ (IsFineAll (items-the_row-Stmt _ taken) loop (where_holds sc cond) (ok × CanHold sc.iters cond.parts) × IsFineAll (items-the_row-Stmt _ other) (loop + sum_by loop_count (items-the_row-Stmt _ taken)) (where_fails sc cond) (ok × CanFail sc.iters cond.parts))
 unfolding IsFine
 fine_if' cond n taken m other place loop sc ok =
-    λ i. fine_row _ taken loop (where_holds sc cond) (ok × CanHold sc.iters cond.parts) i × fine_row _ other (loop + loop_count_row _ taken i) (where_fails sc cond) (ok × CanFail sc.iters cond.parts) i
+    λ i. fine_row _ taken loop (where_holds sc cond) (ok × CanHold sc.iters cond.parts) i × fine_row _ other (loop + loops_row _ taken i) (where_fails sc cond) (ok × CanFail sc.iters cond.parts) i
 
 fine_if : (cond : Cond) (taken other : List Stmt) (place : Place) (loop : ℕ) (sc : Scope) (ok : Type 0)
     → IsFine (If cond taken other place) loop sc ok
@@ -99,7 +100,7 @@ first_if' : (cond : Cond) (n : _) (taken : Row_of-Stmt _) (m : _) (other : Row_o
 unfolding IsFirst
 first_if' cond n taken m other place loop sc ok f =
     λ i. first_row _ taken loop (where_holds sc cond) (ok × CanHold sc.iters cond.parts) f i
-       ⊎ (fine_row _ taken loop (where_holds sc cond) (ok × CanHold sc.iters cond.parts) i × first_row _ other (loop + loop_count_row _ taken i) (where_fails sc cond) (ok × CanFail sc.iters cond.parts) f i)
+       ⊎ (fine_row _ taken loop (where_holds sc cond) (ok × CanHold sc.iters cond.parts) i × first_row _ other (loop + loops_row _ taken i) (where_fails sc cond) (ok × CanFail sc.iters cond.parts) f i)
 
 first_if : (cond : Cond) (taken other : List Stmt) (place : Place) (loop : ℕ) (sc : Scope) (ok : Type 0) (f : LowerFault)
     → IsFirst (If cond taken other place) loop sc ok f
@@ -186,7 +187,7 @@ pub few_taken : (sc inner : Scope) (cond : Cond) → inner ≡ where_holds sc co
 few_taken sc inner cond e h = rw e (let l = length-map sc.pieces (λ q. q ++ rows_of sc.iters cond.parts) in omega arith)
 
 few_by : (m w : ℕ) → m ≤ 16 → pieces_by m w ≡ m * w
-few_by m w h = ap (λ b. Rattle.std.proofs.Common.cond b m (m * w)) (grind (arith, nat_tests))
+few_by m w h = let e : nat_lt 16 m ≡ false = grind (arith, nat_tests) in ap (λ b. Rattle.std.proofs.Common.cond b m (m * w)) e
 
 -- the pieces of the other side, where those around are few
 pub count_other : (sc : Scope) (cond : Cond) (n : ℕ) → n ≡ pieces_by (length sc.pieces) (ways cond.parts) → length sc.pieces ≤ 16 → n ≡ length (where_fails sc cond).pieces

@@ -11,7 +11,7 @@ ghost use Rattle.ac_poly.specs.Steps.{ways, pieces_by};
 use crate::copy::{copy_forms, copy_pieces, joined, with_form, with_rows};
 use crate::forms::{lowered, lowered_all, plus_times, rows_of};
 use crate::nodes::add_nodes;
-use crate::pieces::{pieces_by, where_fails, ways_of};
+use crate::pieces::{pieces_by, where_fails};
 use crate::scope::Scope;
 use crate::types::StmtModel;
 use ac_forms::{Form, FormStop, Row};
@@ -128,12 +128,16 @@ pub(crate) fn taken(alloc: Global, scope: &Scope, cond: &Cond) -> Result<Scope, 
 }
 
 /// Where it fails.
-#[tactic(auto, using(crate::proofs::Failing::as_ways))]
 pub(crate) fn other(alloc: Global, scope: &Scope, cond: &Cond) -> Result<Scope, FormStop>
     ensures { MadeIff result (CanFail scope.now.iters cond.now.parts) (where_fails scope.now cond.now) }
 {
-    let ways = ways_of(alloc, scope.iters.as_slice(), cond.parts.as_slice())?;
-    let pieces = where_fails(alloc, ways.as_slice(), scope.pieces.as_slice())?;
+    let iters = scope.iters.as_slice();
+    let pieces = where_fails(
+        alloc,
+        iters,
+        cond.parts.as_slice(),
+        scope.pieces.as_slice(),
+    )?;
     Ok(with_pieces(alloc, scope, pieces)?)
 }
 

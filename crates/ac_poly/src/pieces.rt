@@ -7,7 +7,7 @@ ghost use Rattle.ac_forms.specs.Negation.{NegationFits, opposite, below};
 ghost use Rattle.ac_forms.specs.Stops.{MadeIff, MadeWhere};
 ghost use Rattle.ac_poly.specs.Forms.{lowered, row_by};
 ghost use Rattle.ac_poly.specs.Numbers.{CanLower, CanFail};
-ghost use Rattle.ac_poly.specs.Pieces.{negations, with_each};
+ghost use Rattle.ac_poly.specs.Pieces.{negations, with_each, failing};
 ghost use Rattle.ac_poly.specs.Steps.{way, failing_by, ways_by, ways, pieces_by};
 
 use crate::copy::{copy_rows, with_row};
@@ -59,7 +59,7 @@ fn way_of(alloc: Global, iters: &[Form], c: &Comparison) -> Result<Way, FormStop
 
 /// The comparisons of a condition, in order.
 #[tactic(auto, using(crate::proofs::Making::way_steps))]
-pub(crate) fn ways_of(
+fn ways_of(
     alloc: Global,
     iters: &[Form],
     parts: &[Comparison],
@@ -109,7 +109,7 @@ fn add_failing(
 
 /// The parts of all pieces in which a condition fails.
 #[tactic(auto, using(crate::proofs::Failing::flat_steps))]
-pub(crate) fn where_fails(
+fn all_failing(
     alloc: Global,
     ways: &[Way],
     pieces: &[Items<Row>],
@@ -121,6 +121,20 @@ pub(crate) fn where_fails(
         add_failing(alloc, ways, piece.as_slice(), &mut made)?;
     }
     Ok(made)
+}
+
+/// The parts of all pieces in which a condition fails, among iterators with these forms.
+#[tactic(auto, using(crate::proofs::Failing::as_ways))]
+pub(crate) fn where_fails(
+    alloc: Global,
+    iters: &[Form],
+    parts: &[Comparison],
+    pieces: &[Items<Row>],
+) -> Result<Items<Items<Row>>, FormStop>
+    ensures { MadeIff result (CanFail iters.now parts.now) (flat_map (failing iters.now parts.now) pieces.now) }
+{
+    let ways = ways_of(alloc, iters, parts)?;
+    Ok(all_failing(alloc, ways.as_slice(), pieces)?)
 }
 
 /// In how many ways a comparison fails.

@@ -3,7 +3,7 @@ ghost use Rattle.std.specs.Prelude.{◌≡◌, map, length, IfOk};
 ghost use Rattle.ac_syntax.specs.Ready.{ReadyProgram, FitParts};
 ghost use Rattle.ac_poly.specs.Faults.{Answers, IsFineAll, IsFirstAll};
 ghost use Rattle.ac_poly.specs.Lower.{outermost};
-ghost use Rattle.ac_poly.specs.Model.{extents_of, kind_of, model_of};
+ghost use Rattle.ac_poly.specs.Model.{extents_of, kind_of, model_of, HasInstances, HasCells, HasNodes, HasOrder, HasContext, HasExtents};
 
 use crate::enter::outermost;
 use crate::forms::{all_alone, rows_alone};
@@ -14,12 +14,29 @@ use ac_items::Items;
 use ac_syntax::tree::{Array, Cond, Kind, Program};
 use std::alloc::{AllocError, Global};
 
-/// The program as integer points, under a context over its parameters. Where an assignment has more than 16 pieces, or a
-/// product or a sum for it leaves `i128`, the first such assignment in the text is named.
+/// The program as integer points, under a context over its parameters.
+///
+/// At each valuation of the parameters the points of an assignment's pieces are its instances, and there its forms have
+/// the values of its index expressions. `Pieces` and `Wide` name the first assignment in the text that has more than 16
+/// pieces or for which a product or a sum leaves `i128`; where it has both, `Pieces`.
 pub fn lower(alloc: Global, p: &Program, context: &Cond) -> Result<Model, LowerFault>
     requires program { ReadyProgram p.now }
     requires context { FitParts (length p.now.params) 0 context.now.parts }
     ensures exact { Answers result (λ model. IsFineAll p.now.body 0 (outermost (length p.now.params)) (Unit {0}) × (model ≡ model_of p.now context.now)) (IsFirstAll p.now.body 0 (outermost (length p.now.params)) (Unit {0})) }
+    ensures instances { IfOk result (HasInstances p.now) }
+    ensures cells { IfOk result (HasCells p.now) }
+    ensures nodes { IfOk result (HasNodes p.now) }
+    ensures order { IfOk result (HasOrder p.now) }
+    ensures context { IfOk result (HasContext context.now) }
+    ensures extents { IfOk result (HasExtents p.now) }
+{
+    lowered_program(alloc, p, context)
+}
+
+/// The model of a program under a context.
+fn lowered_program(alloc: Global, p: &Program, context: &Cond) -> Result<Model, LowerFault>
+    requires program { ReadyProgram p.now }
+    ensures { Answers result (λ model. IsFineAll p.now.body 0 (outermost (length p.now.params)) (Unit {0}) × (model ≡ model_of p.now context.now)) (IsFirstAll p.now.body 0 (outermost (length p.now.params)) (Unit {0})) }
 {
     let params = p.params.len();
     let scope = outermost(alloc, params)?;

@@ -88,7 +88,7 @@ lower_one-returns-in_err-next-in-If t c =
 pub lower_one-returns-in_ok-push-in-Ok : goal.lower_one-returns-in_ok-push-in-Ok
 lower_one-returns-in_ok-push-in-Ok t c =
     walk_assign c.args.s.now _ c.in-Assign.subs c.as_slice-in-Assign.result.now c.in-Assign.value c.in-Assign.place c.args.number c.args.scope.now c.in-Ok.made c.args.out.now c.push.new.self
-      c.in-Assign.is c.as_slice-in-Assign.ensures c.requires.few c.in-Ok.ensures c.in_ok-push-in-Ok.ensures
+      c.in-Assign.is c.as_slice-in-Assign.ensures c.requires.few c.in-Ok.ensures c.in_ok-push-in-Ok.ensures.ok
 
 pub lower_one-returns-in-Err-Wide : goal.lower_one-returns-in-Err-Wide
 lower_one-returns-in-Err-Wide t c =
