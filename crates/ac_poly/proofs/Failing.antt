@@ -1,5 +1,5 @@
 -- What the loops over the ways in which a condition fails keep.
-use Rattle.std.proofs.Common.{◌≡◌, ℕ, ◌+◌, ◌*◌, ◌<◌, ◌≤◌, List, [], ◌∷◌, ◌++◌, length, map, drop, get_or, refl, sym, ap, ◌∙◌, arith, append_assoc, append-nil}
+use Rattle.std.proofs.Common.{◌≡◌, ℕ, ◌+◌, ◌<◌, ◌≤◌, List, [], ◌∷◌, ◌++◌, length, map, drop, get_or, refl, sym, ap, ◌∙◌, arith, append_assoc, append-nil}
 use Rattle.std.specs.List.{flat_map}
 use Rattle.std.proofs.lemmas.List.{drop_more, drop_all}
 use Rattle.ac_forms.specs.Affine.{Affine}
@@ -57,7 +57,7 @@ pub flat_start : (ws : List Way) (qs : List (List Row)) → FlatMade ws qs 0 []
 flat_start ws qs = record { value = refl }
 
 pub flat_step : (ws : List Way) (qs : List (List Row)) (i : ℕ) (made new : List (List Row)) (q : List Row) → FlatMade ws qs i made → i < length qs → q ≡ get_or qs i q → new ≡ made ++ failing_by ws q → FlatMade ws qs (i + 1) new
-flat_step ws qs i made new q h l e n = record { value = rw n (h.value ∙ rw (more qs i q l e) (sym (append_assoc made (failing_by ws q) (flat_map (failing_by ws) (drop (i + 1) qs))))); }
+flat_step ws qs i made new q h l e n = record { value = rw n (h.value ∙ rw (more qs i q l e) (sym (append_assoc made (failing_by ws q) (flat_map (failing_by ws) (drop (i + 1) qs))))) }
 
 pub flat_end : (ws : List Way) (qs : List (List Row)) (i : ℕ) (made : List (List Row)) → FlatMade ws qs i made → length qs ≤ i → made ≡ flat_map (failing_by ws) qs
 flat_end ws qs i made h l = sym ((h.value ∙ ap (λ r. made ++ flat_map (failing_by ws) r) (drop_all i qs l)) ∙ append-nil made)

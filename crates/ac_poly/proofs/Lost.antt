@@ -15,9 +15,9 @@ use Rattle.ac_syntax.specs.declared.tree.Comparison.{Comparison}
 use Rattle.ac_syntax.specs.declared.tree.Cond.{Cond}
 use Rattle.ac_syntax.specs.declared.tree.Stmt.{Stmt, Row_of-Stmt, end_of-Stmt, more_of-Stmt}
 use Rattle.ac_syntax.specs.declared.tree.Stmt.TheVariants.{For', If', Assign}
-use Rattle.ac_poly.specs.Forms.{lowered, row_by, rows_of}
+use Rattle.ac_poly.specs.Forms.{lowered, row_by}
 use Rattle.ac_poly.specs.Pieces.{negations, with_each, failing}
-use Rattle.ac_poly.specs.Lower.{in_loop, where_holds, where_fails, loop_rows, lower, lower_in, lower_all}
+use Rattle.ac_poly.specs.Lower.{in_loop, where_holds, where_fails, lower, lower_in, lower_all}
 use Rattle.ac_poly.specs.Numbers.{CanHold, CanFail, CanEnter, CanAssign}
 use Rattle.ac_poly.specs.Faults.{IsFine, IsFineIn, Names, IsFirst, IsFirstIn, IsFineAll, IsFirstAll}
 use Rattle.ac_poly.specs.Steps.{ways, ways_by, pieces_by, or_first, fault, fault_in, fault_all}
@@ -107,12 +107,12 @@ mutual
   pub lost : (ps xs : ℕ) (s : Stmt) (loop : ℕ) (sc : Scope) (ok : Type 0) (n : ℕ) → Ready ps xs s → Lost sc ok → Counts n (length sc.pieces) → Tells (fault s n) (IsFine s loop sc ok) (IsFirst s loop sc ok)
   lost ps xs (For' iter start cond step k body place) loop sc ok n r l e =
       lost_in ps (xs + 1) body (suc loop) (in_loop sc loop start cond step) (ok × CanEnter sc start cond step) n r.3
-        (lost_loop sc (in_loop sc loop start cond step) ok (CanEnter sc start cond step) (length-map sc.pieces _) l) (counts_map n sc.pieces _ e)
+      (lost_loop sc (in_loop sc loop start cond step) ok (CanEnter sc start cond step) (length-map sc.pieces _) l) (counts_map n sc.pieces _ e)
   lost ps xs (If' cond k taken m other place) loop sc ok n r l e =
       tells_or (fault_in taken n) (fault_in other (pieces_by n (ways cond.parts))) _ _ _ _
-        (lost_in ps xs taken loop (where_holds sc cond) (ok × CanHold sc.iters cond.parts) n r.1 (lost_loop sc (where_holds sc cond) ok (CanHold sc.iters cond.parts) (length-map sc.pieces _) l) (counts_map n sc.pieces _ e))
-        (lost_in ps xs other (loop + loop_count_in taken) (where_fails sc cond) (ok × CanFail sc.iters cond.parts) (pieces_by n (ways cond.parts)) r.2 (lost_other sc cond ok (CanFail sc.iters cond.parts) r.3 l)
-          (counts_other n sc.iters cond.parts sc.pieces r.3 e))
+      (lost_in ps xs taken loop (where_holds sc cond) (ok × CanHold sc.iters cond.parts) n r.1 (lost_loop sc (where_holds sc cond) ok (CanHold sc.iters cond.parts) (length-map sc.pieces _) l) (counts_map n sc.pieces _ e))
+      (lost_in ps xs other (loop + loop_count_in taken) (where_fails sc cond) (ok × CanFail sc.iters cond.parts) (pieces_by n (ways cond.parts)) r.2 (lost_other sc cond ok (CanFail sc.iters cond.parts) r.3 l)
+      (counts_other n sc.iters cond.parts sc.pieces r.3 e))
   lost ps xs (Assign array subs value place) loop sc ok n r l e = by (nat_lt 16 n) refl l e
     where
       by : (b : Bool) → nat_lt 16 n ≡ b → Lost sc ok → Counts n (length sc.pieces) → Names place sc (ok × CanAssign sc.iters subs value) (Rattle.std.proofs.Common.cond (nat_lt 16 n) (Pieces place) (Wide place))

@@ -1,5 +1,5 @@
 -- What the loops over values keep, and the nodes of a call.
-use Rattle.std.proofs.Common.{◌≡◌, ℕ, suc, ◌+◌, ◌<◌, ◌≤◌, List, [], ◌∷◌, ◌++◌, length, map, drop, get_or, refl, sym, ap, ◌∙◌, arith, append_assoc, append-nil, length-append, rules, subst}
+use Rattle.std.proofs.Common.{◌≡◌, ℕ, ◌+◌, ◌<◌, ◌≤◌, List, [], ◌∷◌, ◌++◌, length, map, drop, get_or, refl, sym, ap, ◌∙◌, append_assoc, append-nil, length-append, rules, subst}
 use Rattle.std.specs.List.{AllByRecursion}
 use Rattle.std.proofs.lemmas.List.{drop_more, drop_all}
 use Rattle.ac_forms.specs.Affine.{Affine}
@@ -28,7 +28,7 @@ pub root_start : (vs : List Value) (first : ℕ) → RootsMade vs first 0 [] fir
 root_start vs first = record { value = refl }
 
 pub root_step : (vs : List Value) (first i : ℕ) (made new : List ℕ) (at next : ℕ) (v : Value) → RootsMade vs first i made at → i < length vs → v ≡ get_or vs i v → new ≡ made ++ at ∷ [] → next ≡ at + size v → RootsMade vs first (i + 1) new next
-root_step vs first i made new at next v h l e n s = record { value = rw (n, s) (h.value ∙ rw (more vs i v l e) (sym (append_assoc made (at ∷ []) (roots_of (drop (i + 1) vs) (at + size v))))); }
+root_step vs first i made new at next v h l e n s = record { value = rw (n, s) (h.value ∙ rw (more vs i v l e) (sym (append_assoc made (at ∷ []) (roots_of (drop (i + 1) vs) (at + size v))))) }
 
 pub root_end : (vs : List Value) (first i : ℕ) (made : List ℕ) (at : ℕ) → RootsMade vs first i made at → length vs ≤ i → made ≡ roots_of vs first
 root_end vs first i made at h l = sym ((h.value ∙ ap (λ r. made ++ roots_of r at) (drop_all i vs l)) ∙ append-nil made)
@@ -123,7 +123,8 @@ pub call_made : (its : List Affine) (v : Value) (s copy : Symbol) (args args2 ar
 call_made its v s copy args args2 args3 place old mid new numbers first is f a n k m b made =
     let l : length mid ≡ length old + 1 = ap length m ∙ length-append old (Applied copy numbers ∷ []) in
     let node : Applied copy numbers ≡ Applied s (roots_of args (length old + 1)) = (λ i. Applied (k i) ((n ∙ (λ j. roots_of (a j) (f j))) i)) in
-    rw is
-    ( rw (can_call its s args place) (subst (λ x. AllByRecursion (CanLowerValue its) x) b made.0)
-    , made.1 ∙ (λ i. m i ++ nodes_of its (b i) (l i)) ∙ append_assoc old (Applied copy numbers ∷ []) (nodes_of its args (length old + 1))
-      ∙ ap (λ x. old ++ x ∷ nodes_of its args (length old + 1)) node ∙ ap (λ x. old ++ x) (sym (nodes_call its s args place (length old))) )
+    rw is (
+      rw (can_call its s args place) (subst (λ x. AllByRecursion (CanLowerValue its) x) b made.0),
+      made.1 ∙ (λ i. m i ++ nodes_of its (b i) (l i)) ∙ append_assoc old (Applied copy numbers ∷ []) (nodes_of its args (length old + 1))
+          ∙ ap (λ x. old ++ x ∷ nodes_of its args (length old + 1)) node ∙ ap (λ x. old ++ x) (sym (nodes_call its s args place (length old))),
+    )

@@ -1,5 +1,5 @@
 -- Looking for the first fault.
-use Rattle.std.proofs.Common.{◌≡◌, ℕ, suc, ◌+◌, ◌<◌, ◌≤◌, List, [], ◌∷◌, length, drop, get_or, refl, sym, ap, ◌∙◌, arith, rules, ℤ, subst, sum_by, Option, Some, None, Result, Ok, Err, add_assoc, add-zero, cond, true, false}
+use Rattle.std.proofs.Common.{◌≡◌, ℕ, suc, ◌+◌, ◌<◌, ◌≤◌, List, ◌∷◌, length, drop, get_or, refl, sym, ap, ◌∙◌, arith, rules, ℤ, subst, sum_by, Option, Some, None, Result, Ok, Err, add_assoc, add-zero, cond, true, false}
 use Rattle.std.specs.Prelude.{nat_lt}
 use Rattle.std.specs.Result.{IsErrAnd}
 use Rattle.std.proofs.lemmas.List.{drop_more, drop_all}
@@ -14,7 +14,7 @@ use Rattle.ac_syntax.specs.declared.tree.Stmt.{Stmt, Row_of-Stmt, end_of-Stmt, m
 use Rattle.ac_syntax.specs.declared.tree.Stmt.TheVariants.{For, If, Assign, For', If'}
 use Rattle.ac_poly.specs.Steps.{ways, pieces_by, or_first, fault, fault_in, fault_all, Seeks, SeeksAll}
 use Rattle.ac_poly.specs.declared.types.LowerFault.{LowerFault}
-use Rattle.ac_poly.specs.declared.types.LowerFault.TheVariants.{Pieces, Wide, Memory}
+use Rattle.ac_poly.specs.declared.types.LowerFault.TheVariants.{Pieces, Wide}
 use Rattle.ac_poly.proofs.Answering.{answers_map, err_map, err_is}
 
 pub loops_row : (m : _) (k : Row_of-Stmt m) → loop_count_in k ≡ sum_by loop_count (items-the_row-Stmt m k)
@@ -69,8 +69,8 @@ pub seek_for : (r : Result ℕ LowerFault) (s : Stmt) (iter : List ℕ) (start :
 seek_for r s iter start c step body body2 place number next pieces is b n h =
     subst (λ s. Seeks r s number pieces) (sym is)
     (answers_map r _ _ _ _
-      (λ after x. ((let l = loops_for iter start c step body place in let e : sum_by loop_count body2 ≡ sum_by loop_count body = ap (λ x. sum_by loop_count x) b in let a : after ≡ next + sum_by loop_count body2 = x.0 in let q : after ≡ number + loop_count (For iter start c step body place) = omega arith in q), fault_for iter start c step body place pieces ∙ ap (λ x. fault_all x pieces) (sym b) ∙ x.1))
-      (λ f x. fault_for iter start c step body place pieces ∙ ap (λ x. fault_all x pieces) (sym b) ∙ x) h)
+    (λ after x. ((let l = loops_for iter start c step body place in let e : sum_by loop_count body2 ≡ sum_by loop_count body = ap (λ x. sum_by loop_count x) b in let a : after ≡ next + sum_by loop_count body2 = x.0 in let q : after ≡ number + loop_count (For iter start c step body place) = omega arith in q), fault_for iter start c step body place pieces ∙ ap (λ x. fault_all x pieces) (sym b) ∙ x.1))
+    (λ f x. fault_for iter start c step body place pieces ∙ ap (λ x. fault_all x pieces) (sym b) ∙ x) h)
 
 pub seek_if : (r : Result ℕ LowerFault) (s : Stmt) (c : Cond) (taken other taken2 other2 : List Stmt) (place : Place) (number next pieces inner : ℕ)
     → s ≡ If c taken other place → taken2 ≡ taken → other2 ≡ other → SeeksAll (Ok next) taken2 number pieces → inner ≡ pieces_by pieces (ways c.parts) → SeeksAll r other2 next inner → Seeks r s number pieces
@@ -80,8 +80,8 @@ seek_if r s c taken other taken2 other2 place number next pieces inner is t o a 
     let e : fault (If c taken other place) pieces ≡ fault_all other (pieces_by pieces (ways c.parts)) = fault_if c taken other place pieces ∙ ap (λ f. or_first f (fault_all other (pieces_by pieces (ways c.parts)))) a0.1 in
     subst (λ s. Seeks r s number pieces) (sym is)
     (answers_map r _ _ _ _
-      (λ after x. ((let l = loops_if c taken other place in let b : next ≡ number + sum_by loop_count taken = a0.0 in let d : after ≡ next + sum_by loop_count other = x.0 in let q : after ≡ number + loop_count (If c taken other place) = omega arith in q), e ∙ x.1))
-      (λ f x. e ∙ x) h0)
+    (λ after x. ((let l = loops_if c taken other place in let b : next ≡ number + sum_by loop_count taken = a0.0 in let d : after ≡ next + sum_by loop_count other = x.0 in let q : after ≡ number + loop_count (If c taken other place) = omega arith in q), e ∙ x.1))
+    (λ f x. e ∙ x) h0)
 
 found_first : (a b : Option LowerFault) (f : LowerFault) → a ≡ Some f → or_first a b ≡ Some f
 found_first a b f e = ap (λ x. or_first x b) e
@@ -134,4 +134,5 @@ sought_stops r stop ss number pieces i next s is h l e x =
     (err_map stop _ _ _ _ (λ f g. h.value ∙ ap (λ l. fault_all l pieces) (more ss i s l e) ∙ found_first (fault s pieces) _ f g) x)
 
 pub ruleset seek_steps = (seek_for, seek_if, seek_if_stops, seek_many, seek_few)
+
 pub ruleset sought_steps = (sought_start, sought_step, sought_end, sought_stops)

@@ -6,7 +6,7 @@ use Rattle.std.proofs.lemmas.List.{length-map, drop_more, drop_all}
 use Rattle.std.proofs.lemmas.List.Sums.{sum_by-cons}
 use Rattle.std.specs.Result.{IsErrAnd}
 use Rattle.ac_syntax.specs.Loops.{loop_count, loop_count_in}
-use Rattle.ac_syntax.specs.Ready.{Ready, ReadyAll}
+use Rattle.ac_syntax.specs.Ready.{ReadyAll}
 use Rattle.ac_syntax.specs.declared.tree.Place.{Place}
 use Rattle.ac_syntax.specs.declared.tree.IndexExpr.{IndexExpr}
 use Rattle.ac_syntax.specs.declared.tree.Value.{Value}
@@ -96,16 +96,16 @@ fine_if cond taken other place loop sc ok = search (rules, the_lemmas, fine_if')
 first_if' : (cond : Cond) (n : _) (taken : Row_of-Stmt _) (m : _) (other : Row_of-Stmt _) (place : Place) (loop : ℕ) (sc : Scope) (ok : Type 0) (f : LowerFault)
     → IsFirst (If' cond n taken m other place) loop sc ok f
     ≡ (IsFirstAll (items-the_row-Stmt _ taken) loop (where_holds sc cond) (ok × CanHold sc.iters cond.parts) f
-      ⊎ (IsFineAll (items-the_row-Stmt _ taken) loop (where_holds sc cond) (ok × CanHold sc.iters cond.parts) × IsFirstAll (items-the_row-Stmt _ other) (loop + sum_by loop_count (items-the_row-Stmt _ taken)) (where_fails sc cond) (ok × CanFail sc.iters cond.parts) f))
+    ⊎ (IsFineAll (items-the_row-Stmt _ taken) loop (where_holds sc cond) (ok × CanHold sc.iters cond.parts) × IsFirstAll (items-the_row-Stmt _ other) (loop + sum_by loop_count (items-the_row-Stmt _ taken)) (where_fails sc cond) (ok × CanFail sc.iters cond.parts) f))
 unfolding IsFirst
 first_if' cond n taken m other place loop sc ok f =
     λ i. first_row _ taken loop (where_holds sc cond) (ok × CanHold sc.iters cond.parts) f i
-       ⊎ (fine_row _ taken loop (where_holds sc cond) (ok × CanHold sc.iters cond.parts) i × first_row _ other (loop + loops_row _ taken i) (where_fails sc cond) (ok × CanFail sc.iters cond.parts) f i)
+    ⊎ (fine_row _ taken loop (where_holds sc cond) (ok × CanHold sc.iters cond.parts) i × first_row _ other (loop + loops_row _ taken i) (where_fails sc cond) (ok × CanFail sc.iters cond.parts) f i)
 
 first_if : (cond : Cond) (taken other : List Stmt) (place : Place) (loop : ℕ) (sc : Scope) (ok : Type 0) (f : LowerFault)
     → IsFirst (If cond taken other place) loop sc ok f
     ≡ (IsFirstAll taken loop (where_holds sc cond) (ok × CanHold sc.iters cond.parts) f
-      ⊎ (IsFineAll taken loop (where_holds sc cond) (ok × CanHold sc.iters cond.parts) × IsFirstAll other (loop + sum_by loop_count taken) (where_fails sc cond) (ok × CanFail sc.iters cond.parts) f))
+    ⊎ (IsFineAll taken loop (where_holds sc cond) (ok × CanHold sc.iters cond.parts) × IsFirstAll other (loop + sum_by loop_count taken) (where_fails sc cond) (ok × CanFail sc.iters cond.parts) f))
 first_if cond taken other place loop sc ok f = search (rules, the_lemmas, first_if')
 
 all_fine_as : (ss : List Stmt) (loop : ℕ) (sc : Scope) (p q : Type 0) → (p → q) → IsFineAll ss loop sc p → IsFineAll ss loop sc q
@@ -130,19 +130,20 @@ pub unknown : (r : Result ℕ LowerFault) (ps xs : ℕ) (ss : List Stmt) (number
 unknown r ps xs ss number sc can n old ready l e h =
     let t = lost_all ps xs ss number sc can n ready l (inl e) in
     answers_map r _ _ _ _
-      (λ next x. (x.0, subst (λ o. Tells o (IsFineAll ss number sc can) (IsFirstAll ss number sc can)) x.1 t, sym (ap (λ o. old ++ o) (nothing_all ss n number sc x.1) ∙ append-nil old)))
-      (λ f x. subst (λ o. Tells o (IsFineAll ss number sc can) (IsFirstAll ss number sc can)) x t) h
+    (λ next x. (x.0, subst (λ o. Tells o (IsFineAll ss number sc can) (IsFirstAll ss number sc can)) x.1 t, sym (ap (λ o. old ++ o) (nothing_all ss n number sc x.1) ∙ append-nil old)))
+    (λ f x. subst (λ o. Tells o (IsFineAll ss number sc can) (IsFirstAll ss number sc can)) x t) h
 
 pub walk_for : (r : Result ℕ LowerFault) (s : Stmt) (iter : List ℕ) (start : IndexExpr) (cond : Cond) (step : ℤ) (body : List Stmt) (place : Place) (number : ℕ) (sc : Scope) (old new : List StmtModel)
     → s ≡ For iter start cond step body place → LowersAll r body (suc number) (in_loop sc number start cond step) (CanEnter sc start cond step) old new → Lowers r s number sc (Unit {0}) old new
 walk_for r s iter start cond step body place number sc old new is h =
     subst (λ s. Lowers r s number sc (Unit {0}) old new) (sym is)
     (answers_map r _ _ _ _
-      (λ next x.
-        ( x.0 ∙ (let e = loops_for iter start cond step body place in omega arith)
-        , rw (fine_for iter start cond step body place number sc (Unit {0})) (all_fine_as body (suc number) (in_loop sc number start cond step) _ _ (λ a. (tt, a)) x.1)
-        , x.2 ∙ ap (λ o. old ++ o) (sym (lower_for iter start cond step body place number sc)) ))
-      (λ f x. rw (first_for iter start cond step body place number sc (Unit {0}) f) (all_first_as body (suc number) (in_loop sc number start cond step) _ _ f (λ a. (tt, a)) (λ a. a.1) x)) h)
+    (λ next x. (
+      x.0 ∙ (let e = loops_for iter start cond step body place in omega arith),
+      rw (fine_for iter start cond step body place number sc (Unit {0})) (all_fine_as body (suc number) (in_loop sc number start cond step) _ _ (λ a. (tt, a)) x.1),
+      x.2 ∙ ap (λ o. old ++ o) (sym (lower_for iter start cond step body place number sc)),
+    ))
+    (λ f x. rw (first_for iter start cond step body place number sc (Unit {0}) f) (all_first_as body (suc number) (in_loop sc number start cond step) _ _ f (λ a. (tt, a)) (λ a. a.1) x)) h)
 
 -- both sides were lowered
 pub walk_if : (r : Result ℕ LowerFault) (s : Stmt) (cond : Cond) (taken other : List Stmt) (place : Place) (number next : ℕ) (sc : Scope) (old mid new : List StmtModel)
@@ -153,12 +154,13 @@ walk_if r s cond taken other place number next sc old mid new is a h =
     let fine = all_fine_as taken number (where_holds sc cond) (CanHold sc.iters cond.parts) (Unit {0} × CanHold sc.iters cond.parts) (λ a. (tt, a)) a.1 in
     subst (λ s. Lowers r s number sc (Unit {0}) old new) (sym is)
     (answers_map r _ _ _ _
-      (λ n x.
-        ( x.0 ∙ (let e = loops_if cond taken other place in omega arith)
-        , rw (fine_if cond taken other place number sc (Unit {0})) (fine, all_fine_as other (number + sum_by loop_count taken) (where_fails sc cond) _ _ (λ a. (tt, a)) x.1)
-        , x.2 ∙ ap (λ o. o ++ lower_all other (number + sum_by loop_count taken) (where_fails sc cond)) a.2
-          ∙ append_assoc old (lower_all taken number (where_holds sc cond)) (lower_all other (number + sum_by loop_count taken) (where_fails sc cond)) ∙ ap (λ o. old ++ o) (sym (lower_if cond taken other place number sc)) ))
-      (λ f x. rw (first_if cond taken other place number sc (Unit {0}) f) (inr (fine, all_first_as other (number + sum_by loop_count taken) (where_fails sc cond) _ _ f (λ a. (tt, a)) (λ a. a.1) x))) b)
+    (λ n x. (
+      x.0 ∙ (let e = loops_if cond taken other place in omega arith),
+      rw (fine_if cond taken other place number sc (Unit {0})) (fine, all_fine_as other (number + sum_by loop_count taken) (where_fails sc cond) _ _ (λ a. (tt, a)) x.1),
+      x.2 ∙ ap (λ o. o ++ lower_all other (number + sum_by loop_count taken) (where_fails sc cond)) a.2
+          ∙ append_assoc old (lower_all taken number (where_holds sc cond)) (lower_all other (number + sum_by loop_count taken) (where_fails sc cond)) ∙ ap (λ o. old ++ o) (sym (lower_if cond taken other place number sc)),
+    ))
+    (λ f x. rw (first_if cond taken other place number sc (Unit {0}) f) (inr (fine, all_first_as other (number + sum_by loop_count taken) (where_fails sc cond) _ _ f (λ a. (tt, a)) (λ a. a.1) x))) b)
 
 -- the first side has the fault
 pub walk_if_stops : (stop : LowerFault) (s : Stmt) (cond : Cond) (taken other : List Stmt) (place : Place) (number : ℕ) (sc : Scope) (old mid new : List StmtModel)
@@ -230,7 +232,7 @@ halfway_step ss number sc old i next now s after new h l e x =
 pub halfway_end : (ss : List Stmt) (number : ℕ) (sc : Scope) (old : List StmtModel) (i next : ℕ) (now : List StmtModel) → Halfway ss number sc old i next now → length ss ≤ i → LowersAll (Ok next) ss number sc (Unit {0}) old now
 halfway_end ss number sc old i next now h l =
     let d = drop_all i ss l in
-    ( (let c = rw d at h.count in sym (add-zero next) ∙ c), h.fine (rw d tt), (sym (append-nil now) ∙ (rw d at h.made)) )
+    ((let c = rw d at h.count in sym (add-zero next) ∙ c), h.fine (rw d tt), (sym (append-nil now) ∙ (rw d at h.made)))
 
 pub halfway_stops : (r : Result ℕ LowerFault) (stop : LowerFault) (ss : List Stmt) (number : ℕ) (sc : Scope) (old : List StmtModel) (i next : ℕ) (now : List StmtModel) (s : Stmt) (new : List StmtModel)
     → IsErrAnd r (λ e. e ≡ stop) → Halfway ss number sc old i next now → i < length ss → s ≡ get_or ss i s → Lowers (Err stop) s next sc (Unit {0}) now new → LowersAll r ss number sc (Unit {0}) old new

@@ -10,7 +10,7 @@ use Rattle.ac_syntax.specs.declared.tree.Cond.{Cond}
 use Rattle.ac_syntax.specs.declared.tree.Program.{Program}
 use Rattle.ac_poly.specs.Before.{levels}
 use Rattle.ac_poly.specs.Pieces.{Somewhere}
-use Rattle.ac_poly.specs.Forms.{lowered, rows_of}
+use Rattle.ac_poly.specs.Forms.{rows_of}
 use Rattle.ac_poly.specs.Laws.{values_at}
 use Rattle.ac_poly.specs.Lower.{lowered_body}
 use Rattle.ac_poly.specs.Model.{extents_of, model_of, HasInstances, HasCells, HasNodes, HasOrder, HasContext, HasExtents}
@@ -50,12 +50,12 @@ has_context p context f params l =
     let m = meets_rows params [] [] 0 context.parts (subst (λ n. FitParts n 0 context.parts) (sym l) f) in
     subst (λ q. Meets (rows_of [] context.parts) q ↔ (holds (point params []) context ≡ true)) (append-nil params) m
 
-extents_are : (params : List ℤ) (as : List Array) → AllByRecursion (λ (a : Array). AllFit (length params) 0 a.extents) as → map (values_at params) (map extents_of as) ≡ map (λ (a : Array). map (index_value (point params [])) a.extents) as
+extents_are : (params : List ℤ) (arrays : List Array) → AllByRecursion (λ (a : Array). AllFit (length params) 0 a.extents) arrays → map (values_at params) (map extents_of arrays) ≡ map (λ (a : Array). map (index_value (point params [])) a.extents) arrays
 extents_are params [] h = refl
-extents_are params (a ∷ as) h =
+extents_are params (a ∷ arrays) h =
     let v = all_values params [] [] a.extents h.0 in
     let w : map (index_value (point params [])) a.extents ≡ values_at params (extents_of a) = v ∙ ap (λ q. values_at q (extents_of a)) (append-nil params) in
-    λ i. sym w i ∷ extents_are params as h.1 i
+    λ i. sym w i ∷ extents_are params arrays h.1 i
 
 pub has_extents : (p : Program) (context : Cond) → ReadyProgram p → HasExtents p (model_of p context)
 has_extents p context r params l = extents_are params p.arrays (subst (λ n. AllByRecursion (λ (a : Array). AllFit n 0 a.extents) p.arrays) (sym l) r.extents)

@@ -26,11 +26,7 @@ pub(crate) fn with_row(alloc: Global, rows: &[Row], row: Row) -> Result<Items<Ro
 }
 
 /// The rows and further ones.
-pub(crate) fn joined(
-    alloc: Global,
-    rows: &[Row],
-    more: &[Row],
-) -> Result<Items<Row>, AllocError>
+pub(crate) fn joined(alloc: Global, rows: &[Row], more: &[Row]) -> Result<Items<Row>, AllocError>
     ensures { IfOk result (λ made. made ≡ rows.now ++ more.now) }
 {
     let mut made = copy_rows(alloc, rows)?.into_vec();
@@ -80,7 +76,11 @@ pub(crate) fn copy_forms(alloc: Global, forms: &[Form]) -> Result<Items<Form>, A
 }
 
 /// The forms and one more.
-pub(crate) fn with_form(alloc: Global, forms: &[Form], form: Form) -> Result<Items<Form>, AllocError>
+pub(crate) fn with_form(
+    alloc: Global,
+    forms: &[Form],
+    form: Form,
+) -> Result<Items<Form>, AllocError>
     ensures { IfOk result (λ made. made ≡ forms.now ++ form ∷ []) }
 {
     let mut made = copy_forms(alloc, forms)?;

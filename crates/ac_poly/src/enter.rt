@@ -103,11 +103,7 @@ pub(crate) fn in_loop(
 }
 
 /// The scope with other pieces.
-fn with_pieces(
-    alloc: Global,
-    scope: &Scope,
-    pieces: Items<Items<Row>>,
-) -> Result<Scope, AllocError>
+fn with_pieces(alloc: Global, scope: &Scope, pieces: Items<Items<Row>>) -> Result<Scope, AllocError>
     ensures { IfOk result (λ made. made ≡ record scope.now { pieces = pieces }) }
 {
     Ok(Scope {
@@ -132,12 +128,7 @@ pub(crate) fn other(alloc: Global, scope: &Scope, cond: &Cond) -> Result<Scope, 
     ensures { MadeIff result (CanFail scope.now.iters cond.now.parts) (where_fails scope.now cond.now) }
 {
     let iters = scope.iters.as_slice();
-    let pieces = where_fails(
-        alloc,
-        iters,
-        cond.parts.as_slice(),
-        scope.pieces.as_slice(),
-    )?;
+    let pieces = where_fails(alloc, iters, cond.parts.as_slice(), scope.pieces.as_slice())?;
     Ok(with_pieces(alloc, scope, pieces)?)
 }
 

@@ -33,12 +33,7 @@ fn without_iterators(alloc: Global, e: &IndexExpr) -> Result<Form, AllocError>
 
 /// The form plus `c` times another.
 #[tactic(auto, using(crate::proofs::Widening::read_back))]
-pub(crate) fn plus_times(
-    alloc: Global,
-    form: &Form,
-    c: i64,
-    other: &Form,
-) -> Result<Form, FormStop>
+pub(crate) fn plus_times(alloc: Global, form: &Form, c: i64, other: &Form) -> Result<Form, FormStop>
     ensures { MadeIff result (CanAddTimes form.now c other.now) (combined (pos 1) form.now c other.now) }
 {
     form.add_times(alloc, c as i128, other)

@@ -59,11 +59,7 @@ fn way_of(alloc: Global, iters: &[Form], c: &Comparison) -> Result<Way, FormStop
 
 /// The comparisons of a condition, in order.
 #[tactic(auto, using(crate::proofs::Making::way_steps))]
-fn ways_of(
-    alloc: Global,
-    iters: &[Form],
-    parts: &[Comparison],
-) -> Result<Items<Way>, FormStop>
+fn ways_of(alloc: Global, iters: &[Form], parts: &[Comparison]) -> Result<Items<Way>, FormStop>
     ensures { MadeWhere result (CanFail iters.now parts.now) (λ made. made ≡ map (way iters.now) parts.now) }
 {
     let mut made = Items::new(alloc);

@@ -6,8 +6,8 @@ ghost use Rattle.ac_poly.specs.Numbers.{CanEnter, CanHold, CanFail};
 ghost use Rattle.ac_poly.specs.Steps.{Lowers, LowersAll};
 
 use crate::enter::{assigned, in_loop, other, other_pieces, taken};
-use crate::scope::Scope;
 use crate::first_fault::seek_all;
+use crate::scope::Scope;
 use crate::types::{LowerFault, StmtModel};
 use ac_forms::FormStop;
 use ac_items::Items;

@@ -1,4 +1,4 @@
-use Rattle.std.proofs.Common.{rules, arith}
+use Rattle.std.proofs.Common.{rules}
 use Rattle.ac_poly.proofs.Replacing.{replacing_made, replacing_err}
 use Rattle.ac_poly.proofs.forms.lowered.Goals as goal
 

@@ -10,4 +10,4 @@ pub add_nodes-returns-in_ok-add_all_nodes-in-Call : goal.add_nodes-returns-in_ok
 add_nodes-returns-in_ok-add_all_nodes-in-Call t c =
     let e : c.in_ok-first-in-Call.first ≡ length c.args.out.now + 1 = search rules in
     call_made _ _ c.in-Call.symbol c.in_ok-symbol-in-Call.symbol c.in-Call.args _ _ c.in-Call.place _ _ _ _ _ c.in-Call.is e c.as_slice-in-Call.ensures c.in_ok-roots-in-Call.ensures c.in_ok-symbol-in-Call.ensures
-      c.in_ok-push-in-Call.ensures.ok c.as_slice-in-Call-2.ensures c.in_ok-add_all_nodes-in-Call.ensures
+    c.in_ok-push-in-Call.ensures.ok c.as_slice-in-Call-2.ensures c.in_ok-add_all_nodes-in-Call.ensures
