@@ -23,3 +23,4 @@ pub mod Seeking
 pub mod Lost
 pub mod Walks
 pub mod Whole
+pub mod Readiness

@@ -13,6 +13,14 @@ mod pieces;
 mod program;
 pub mod scope;
 #[cfg(test)]
+mod lower_tests;
+#[cfg(test)]
+mod programs;
+#[cfg(test)]
+mod ready;
+#[cfg(test)]
+mod tables;
+#[cfg(test)]
 mod tests;
 pub mod types;
 mod walk;
