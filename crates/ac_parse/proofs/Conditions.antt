@@ -32,7 +32,6 @@ mutual
   part_some (comparison sign a is b) = omega arith
   part_some (nested right o c e) = cond_some c
 
-
 all_of : {A : Type 0} (f : A → Bool) (xs : List A) → list_all (λ b. b) (map f xs) ≡ list_all f xs
 all_of f [] = refl
 all_of f (x ∷ xs) = ap (λ b. f x && b) (all_of f xs)

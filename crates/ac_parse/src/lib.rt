@@ -18,7 +18,6 @@ pub use laws::programs_are_determined;
 pub use pairing::pair;
 pub use parsing::parse;
 
-
 #[cfg(test)]
 mod round_trip_tests;
 #[cfg(test)]

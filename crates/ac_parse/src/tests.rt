@@ -269,8 +269,10 @@ fn joined(alloc: Global, left: &[u8], right: &[u8]) -> Result<(usize, usize), Fa
 
 #[test]
 fn contexts_and_commutative_names_are_those_of_both(rt: HostRuntime) -> Result<(), Fail> {
-    let left = b"#pragma affine context N > 0 && N < 9\n#pragma affine commutative + max\nvoid f(int N, int C[N]) { C[0] = 1; }";
-    let right = b"#pragma affine context N == 5\n#pragma affine commutative min\nvoid f(int N, int C[N]) { C[0] = 1; }";
+    let left =
+        b"#pragma affine context N > 0 && N < 9\n#pragma affine commutative + max\nvoid f(int N, int C[N]) { C[0] = 1; }";
+    let right =
+        b"#pragma affine context N == 5\n#pragma affine commutative min\nvoid f(int N, int C[N]) { C[0] = 1; }";
     assert_eq!(rt; joined(rt.alloc(), left, right)?, (3, 3));
     Ok(())
 }

@@ -136,6 +136,7 @@ pub bounded_by : (n : ℕ) (step : ℤ) (cond : Cond) (i : ℕ) (c : Comparison)
 bounded_by n step cond i c l e h b = record { bound = c; stands = subst (λ x. Contains cond.parts x) (sym e) (Contains-get_or cond.parts i c l); innermost = h; ends = b }
 
 pub ruleset value_parts = (number_fits, access_fits, fits_call)
+
 pub ruleset stmt_parts = (assign_ready, for_ready, if_ready)
 
 pub program_parts : (p : Program) → ReadyAll (length p.params) 0 p.body → FitParts (length p.params) 0 p.context.parts → AllByRecursion (λ (a : Array). AllFit (length p.params) 0 a.extents) p.arrays → ReadyProgram p
