@@ -7,17 +7,17 @@ mod enter;
 mod first_fault;
 mod forms;
 pub mod laws;
+#[cfg(test)]
+mod lower_tests;
 mod nodes;
 mod order;
 mod pieces;
 mod program;
-pub mod scope;
-#[cfg(test)]
-mod lower_tests;
 #[cfg(test)]
 mod programs;
 #[cfg(test)]
 mod ready;
+pub mod scope;
 #[cfg(test)]
 mod tables;
 #[cfg(test)]

@@ -174,7 +174,12 @@ fn order_agrees(
                 return Err(Fail::from("an assignment"));
             }
             let levels = before(alloc, model, s, u)?;
-            let both = point(alloc, n, first.counters.as_slice(), second.counters.as_slice())?;
+            let both = point(
+                alloc,
+                n,
+                first.counters.as_slice(),
+                second.counters.as_slice(),
+            )?;
             let holds = met(levels.as_slice(), both.as_slice())?;
             if holds != (if i < j { 1 } else { 0 }) {
                 return Ok(false);

@@ -3,10 +3,7 @@ use crate::tables::{EQ, FOR, FORM, GE, IF, SET};
 
 pub(crate) static PROGRAMS: [&'static [&'static [i64]]; 34] = [
     // C[0] = ..;
-    &[
-        &[FORM, 0, 0],
-        &[SET],
-    ],
+    &[&[FORM, 0, 0], &[SET]],
     // for (i = 0; N - i - 1 >= 0; i++) C[i] = ..;
     &[
         &[FORM, 0, 0, 1],
@@ -361,13 +358,7 @@ pub(crate) static PROGRAMS: [&'static [&'static [i64]]; 34] = [
         &[FOR, 1, 3],
     ],
     // if (N - 2 >= 0) {  } else { C[3] = ..; }
-    &[
-        &[FORM, 3, 0],
-        &[SET],
-        &[FORM, -2, 1],
-        &[GE],
-        &[IF, 0, 1],
-    ],
+    &[&[FORM, 3, 0], &[SET], &[FORM, -2, 1], &[GE], &[IF, 0, 1]],
     // for (i = 0; N - 2*i - 1 >= 0; i++) C[2*i] = ..;
     &[
         &[FORM, 0, 0, 2],

@@ -94,7 +94,11 @@ fn assignment(alloc: Global, parts: &mut Parts) -> Result<(), Fail> {
     parts.places = parts.places.checked_add(1).ok_or("places")?;
     let place = Place { at: parts.places };
     let value = make::call(symbol, args, here());
-    Ok(parts.stmts.push(make::assign(0, vec![in alloc; sub]?, value, place))?)
+    Ok(
+        parts
+            .stmts
+            .push(make::assign(0, vec![in alloc; sub]?, value, place))?,
+    )
 }
 
 fn number(row: &[i64], at: usize) -> Result<i64, Fail> {
@@ -113,14 +117,7 @@ fn repeat(alloc: Global, parts: &mut Parts, row: &[i64]) -> Result<(), Fail> {
     let body = last(parts, number(row, 2)?)?;
     let cond = condition(alloc, parts);
     let step = number(row, 1)?;
-    Ok(parts.stmts.push(make::for_loop(
-        name(alloc, b"i")?,
-        start,
-        cond,
-        step,
-        body,
-        here(),
-    ))?)
+    Ok(parts.stmts.push(make::for_loop(name(alloc, b"i")?, start, cond, step, body, here()))?)
 }
 
 /// Makes the part of a row.
