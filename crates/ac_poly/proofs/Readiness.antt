@@ -1,12 +1,15 @@
 -- What a test of readiness keeps.
-use Rattle.std.proofs.Common.{◌≡◌, ℕ, suc, ◌+◌, ◌-◌, ◌<◌, ◌≤◌, List, [], ◌∷◌, length, drop, get_or, refl, sym, ap, ◌∙◌, arith, ℤ, pos, negsuc, ◌*ℤ◌, ◌<ℤ◌, true, false, Bool, subst}
-use Rattle.std.proofs.lemmas.Int.{ints, to_z-of_z}
+use Rattle.std.proofs.Common.{◌≡◌, ℕ, suc, ◌+◌, ◌-◌, ◌<◌, ◌≤◌, zero, List, [], ◌∷◌, length, to_z, of_z, FitsSigned, drop, get_or, refl, sym, ap, ◌∙◌, arith, ℤ, pos, negsuc, ◌*ℤ◌, ◌<ℤ◌, true, false, Bool, subst}
+use Rattle.std.proofs.lemmas.Int.{to_z-of_z}
 use Rattle.std.proofs.lemmas.List.{drop_more, drop_all}
 use Rattle.std.proofs.lemmas.List.Elements.{Contains-get_or}
 use Rattle.std.specs.List.{AllByRecursion, Contains}
-use Rattle.std.specs.Prelude.{not}
+use Rattle.std.specs.Prelude.{not, nat_eq, IsTrue}
+use Rattle.std.specs.Int.{w128}
+use Rattle.std.specs.Int.Signed.{lt_z}
+use Rattle.std.proofs.lemmas.Bool.Decides.{nat_tests}
 use Rattle.ac_syntax.specs.Index.{is_zero}
-use Rattle.ac_syntax.specs.Turns.{innermost, is_negative, bounds, Bounded}
+use Rattle.ac_syntax.specs.Turns.{innermost, is_negative, bounds, bounds_by, Bounded}
 use Rattle.ac_syntax.specs.Ready.{Fits, AllFit, FitParts, FitsValue, Ready, ReadyAll, ReadyProgram}
 use Rattle.ac_syntax.specs.declared.tree.IndexExpr.{IndexExpr}
 use Rattle.ac_syntax.specs.declared.tree.Rel.{Rel}
@@ -111,26 +114,28 @@ pub ruleset stmt_steps = (stmt_start, stmt_step, stmt_end)
 -- the innermost coefficient is the last
 last_is : (xs : List ℤ) (n : ℕ) → length xs ≡ n + 1 → get_or xs n (pos 0) ≡ innermost xs
 last_is [] n h = absurd (omega arith)
-last_is (x ∷ []) n h = let e : n ≡ 0 = omega arith in rw e refl
-last_is (x ∷ y ∷ xs) 0 h = absurd (omega arith)
+last_is (x ∷ []) zero h = refl
+last_is (x ∷ []) (suc n) h = absurd (omega arith)
+last_is (x ∷ y ∷ xs) zero h = absurd (omega arith)
 last_is (x ∷ y ∷ xs) (suc n) h = last_is (y ∷ xs) n (omega arith)
 
-below_zero : (z : ℤ) → z <ℤ pos 0 → is_negative z ≡ true
-below_zero (pos n) h = absurd (omega (arith, ints))
-below_zero (negsuc n) h = refl
+negative : (z : ℤ) → IsTrue (lt_z z (pos 0)) → is_negative z ≡ true
+negative (pos n) h = absurd (let l : n < 0 = grind (arith, nat_tests, h) in omega arith)
+negative (negsuc n) h = refl
 
-not_zero : (z : ℤ) → ¬ (z ≡ pos 0) → not (is_zero z) ≡ true
-not_zero (pos 0) h = absurd (h refl)
-not_zero (pos (suc n)) h = refl
-not_zero (negsuc n) h = refl
+pub falls : (r : Rel) (z : ℤ) → r ≡ NonNegative → FitsSigned w128 z → IsTrue (lt_z (to_z w128 (of_z w128 z)) (pos 0)) → bounds_by r z ≡ true
+falls r z e f h = rw e (negative z (rw (to_z-of_z w128 z f) at h))
 
-pub falls : (c : Comparison) (step z : ℤ) (n : ℕ) → c.rel ≡ NonNegative → length c.form.iters ≡ n + 1 → z ≡ get_or c.form.iters n (pos 0) *ℤ step → z <ℤ pos 0 → bounds step c ≡ true
-falls c step z n r l e h = rw r (below_zero (innermost c.form.iters *ℤ step) (subst (λ w. w <ℤ pos 0) (e ∙ ap (λ w. w *ℤ step) (last_is c.form.iters n l)) h))
+differs : (z : ℤ) → IsTrue (not (nat_eq (of_z w128 z) 0)) → not (is_zero z) ≡ true
+differs (pos zero) h = let k : false ≡ true = h in cc
+differs (pos (suc n)) h = refl
+differs (negsuc n) h = refl
 
-pub changes : (c : Comparison) (step z : ℤ) (n : ℕ) → c.rel ≡ Zero → length c.form.iters ≡ n + 1 → z ≡ get_or c.form.iters n (pos 0) *ℤ step → ¬ (z ≡ pos 0) → bounds step c ≡ true
-changes c step z n r l e h = rw r (not_zero (innermost c.form.iters *ℤ step) (subst (λ w. ¬ (w ≡ pos 0)) (e ∙ ap (λ w. w *ℤ step) (last_is c.form.iters n l)) h))
+pub changes : (r : Rel) (z : ℤ) → r ≡ Zero → IsTrue (not (nat_eq (of_z w128 z) 0)) → bounds_by r z ≡ true
+changes r z e h = rw e (differs z h)
 
-pub ruleset bound_steps = (falls, changes, to_z-of_z)
+pub ends_by : (c : Comparison) (step z : ℤ) (n : ℕ) → length c.form.iters ≡ n + 1 → z ≡ get_or c.form.iters n (pos 0) *ℤ step → bounds_by c.rel z ≡ true → bounds step c ≡ true
+ends_by c step z n l e h = subst (λ w. bounds_by c.rel w ≡ true) (e ∙ ap (λ w. w *ℤ step) (last_is c.form.iters n l)) h
 
 pub bounded_by : (n : ℕ) (step : ℤ) (cond : Cond) (i : ℕ) (c : Comparison) → i < length cond.parts → c ≡ get_or cond.parts i c → length c.form.iters ≡ n + 1 → bounds step c ≡ true → Bounded n step cond
 bounded_by n step cond i c l e h b = record { bound = c; stands = subst (λ x. Contains cond.parts x) (sym e) (Contains-get_or cond.parts i c l); innermost = h; ends = b }

@@ -1,8 +1,8 @@
 //! A test of what lowering asks of a program.
-ghost use Rattle.std.specs.Prelude.{◌≡◌, ◌+◌, length, IsTrue, true};
+ghost use Rattle.std.specs.Prelude.{◌≡◌, ◌+◌, ◌<◌, ◌*ℤ◌, length, IsTrue, IfSome, true};
 ghost use Rattle.std.specs.List.{AllByRecursion};
 ghost use Rattle.ac_syntax.specs.Ready.{Fits, AllFit, FitParts, FitsValue, Ready, ReadyAll, ReadyProgram};
-ghost use Rattle.ac_syntax.specs.Turns.{Bounded, bounds};
+ghost use Rattle.ac_syntax.specs.Turns.{Bounded, bounds, bounds_by};
 
 use ac_syntax::tree::{Array, Comparison, Cond, IndexExpr, Program, Rel, Stmt, Value};
 
@@ -40,6 +40,15 @@ fn parts_fit(params: usize, iters: usize, parts: &[Comparison]) -> bool
     true
 }
 
+/// Whether a condition has a comparison, and the form of each fits.
+fn condition_fits(params: usize, iters: usize, cond: &Cond) -> bool
+    ensures fit { IsTrue result → FitParts params iters cond.now.parts }
+    ensures some { IsTrue result → 0 < length cond.now.parts }
+{
+    let parts = cond.parts.as_slice();
+    !parts.is_empty() && parts_fit(params, iters, parts)
+}
+
 /// Whether the extents of each array fit the parameters.
 #[tactic(auto, using(crate::proofs::Readiness::array_steps))]
 fn extents_fit(params: usize, arrays: &[Array]) -> bool
@@ -53,8 +62,26 @@ fn extents_fit(params: usize, arrays: &[Array]) -> bool
     true
 }
 
+/// The product of two numbers.
+#[tactic(auto, using(crate::proofs::Widening::read_back))]
+fn product(left: i64, right: i64) -> Option<i128>
+    ensures { IfSome result (λ z. z ≡ left *ℤ right) }
+{
+    (left as i128).checked_mul(right as i128)
+}
+
+/// Whether a form that changes by that much with each turn ends a loop.
+fn ends_by(rel: Rel, change: i128) -> bool
+    ensures { IsTrue result → bounds_by rel change ≡ true }
+{
+    match rel {
+        Rel::NonNegative => change < 0,
+        Rel::Zero => change != 0,
+    }
+}
+
 /// Whether a comparison inside that many loops and one more ends this one.
-#[tactic(auto, using(crate::proofs::Readiness::bound_steps))]
+#[tactic(auto, using(crate::proofs::Readiness::ends_by))]
 fn ends(outer: usize, step: i64, c: &Comparison) -> bool
     ensures length { IsTrue result → length c.now.form.iters ≡ outer + 1 }
     ensures ends { IsTrue result → bounds step c.now ≡ true }
@@ -63,11 +90,9 @@ fn ends(outer: usize, step: i64, c: &Comparison) -> bool
     if iters.is_empty() || iters.len() - 1 != outer {
         return false;
     }
-    let product = (iters[outer] as i128).checked_mul(step as i128);
-    match (c.rel, product) {
-        (Rel::NonNegative, Some(change)) => change < 0,
-        (Rel::Zero, Some(change)) => change != 0,
-        (_, None) => false,
+    match product(iters[outer], step) {
+        None => false,
+        Some(change) => ends_by(c.rel, change),
     }
 }
 
@@ -140,8 +165,7 @@ fn one_is_ready(params: usize, iters: usize, s: &Stmt) -> bool
             other,
             ..
         } => {
-            !cond.parts.is_empty()
-                && parts_fit(params, iters, cond.parts.as_slice())
+            condition_fits(params, iters, cond)
                 && all_are_ready(params, iters, taken.as_slice())
                 && all_are_ready(params, iters, other.as_slice())
         }
