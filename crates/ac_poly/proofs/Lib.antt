@@ -13,3 +13,13 @@ pub mod Orders
 pub mod Commons
 pub mod LevelSteps
 pub mod Equating
+pub mod Widening
+pub mod Replacing
+pub mod Making
+pub mod Failing
+pub mod NodeSteps
+pub mod Answering
+pub mod Seeking
+pub mod Lost
+pub mod Walks
+pub mod Whole

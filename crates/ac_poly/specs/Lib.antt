@@ -2,5 +2,9 @@ pub mod Forms
 pub mod Pieces
 pub mod Nodes
 pub mod Lower
+pub mod Model
+pub mod Numbers
+pub mod Faults
+pub mod Steps
 pub mod Laws
 pub mod Before

@@ -4,6 +4,7 @@ ghost use Rattle.ac_syntax.specs.Loops.{common};
 ghost use Rattle.ac_poly.specs.Before.{difference, levels, levels_from, equalities, CanEquate};
 ghost use Rattle.ac_poly.specs.declared.types.StmtModel.{StmtModel};
 
+use crate::copy::with_row;
 use crate::types::Model;
 use ac_forms::{Form, FormStop, Row};
 use ac_items::Items;
@@ -60,26 +61,6 @@ fn difference(alloc: Global, j: usize, apart: usize, k: i128) -> Result<Form, Al
     let form = Form::constant(alloc, j, k)?;
     let form = form.with_column(alloc, j, -1)?;
     form.with_column(alloc, second, 1)
-}
-
-/// The rows and one more.
-fn with_row(alloc: Global, rows: &[Row], row: Row) -> Result<Items<Row>, AllocError>
-    ensures { IfOk result (λ made. made ≡ rows.now ++ row ∷ []) }
-{
-    let mut made = copy_rows(alloc, rows)?;
-    made.push(row)?;
-    Ok(made)
-}
-
-/// The same rows again.
-fn copy_rows(alloc: Global, rows: &[Row]) -> Result<Items<Row>, AllocError>
-    ensures { IfOk result (λ made. made ≡ rows.now) }
-{
-    let mut made = Items::new(alloc);
-    for row in rows {
-        made.push(row.copy(alloc)?)?;
-    }
-    Ok(made)
 }
 
 /// How many loops stand around both of two assignments: the common beginning of the numbers of their loops.

@@ -1,6 +1,7 @@
 use ac_forms::{Form, Row};
 use ac_items::Items;
-use ac_syntax::tree::{Kind, Symbol};
+use ac_syntax::tree::{Kind, Place, Symbol};
+use std::alloc::{AllocError, AllocFailed};
 
 /// A node of a value. The nodes of a value stand in preorder, the root first; subscripts are no nodes.
 #[derive(Debug, Drop)]
@@ -42,4 +43,38 @@ pub struct Model {
     pub extents: Items<Items<Form>>,
     /// The kind of each array.
     pub kinds: Items<Kind>,
+}
+
+/// Why a program was not lowered. Of the assignments with too many pieces or too large a number the first in the text is
+/// named.
+#[derive(Debug, Drop)]
+pub enum LowerFault {
+    /// The assignment there has more than 16 pieces.
+    Pieces(Place),
+    /// A number for the assignment there leaves `i128`.
+    Wide(Place),
+    /// There was no memory.
+    Memory(AllocError),
+}
+
+impl From<AllocError> for LowerFault {
+    ghost use Rattle.ac_poly.specs.declared.types.LowerFault.TheVariants.{Memory};
+    ghost use Rattle.std.specs.Prelude.{◌≡◌};
+
+    ghost from_gives = { λ want e. e ≡ Memory want };
+
+    fn from(want: AllocError) -> LowerFault {
+        LowerFault::Memory(want)
+    }
+}
+
+impl<T: Drop> From<AllocFailed<T>> for LowerFault {
+    ghost use Rattle.ac_poly.specs.declared.types.LowerFault.TheVariants.{Memory};
+    ghost use Rattle.std.specs.Prelude.{◌≡◌, alloc_error};
+
+    ghost from_gives = { λ _ e. e ≡ Memory alloc_error };
+
+    fn from(_failed: AllocFailed<T>) -> LowerFault {
+        LowerFault::Memory(AllocError)
+    }
 }

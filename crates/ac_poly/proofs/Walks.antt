@@ -1,0 +1,244 @@
+-- The steps of the walk that lowers a tree.
+use Rattle.std.proofs.Common.{◌≡◌, ◌⊎◌, inl, inr, ℕ, suc, ◌+◌, ◌*◌, ◌<◌, ◌≤◌, List, [], ◌∷◌, ◌++◌, length, refl, rules, sym, ap, ◌∙◌, arith, Result, Ok, Err, sum_by, ℤ, subst, append_assoc, append-nil, map, drop, get_or, add_assoc, add-zero, length-append, false}
+use Rattle.std.specs.Prelude.{nat_lt}
+use Rattle.std.proofs.lemmas.Bool.Decides.{nat_tests}
+use Rattle.std.proofs.lemmas.List.{length-map, drop_more, drop_all}
+use Rattle.std.proofs.lemmas.List.Sums.{sum_by-cons}
+use Rattle.std.specs.Result.{IsErrAnd}
+use Rattle.ac_syntax.specs.Loops.{loop_count, loop_count_in}
+use Rattle.ac_syntax.specs.Ready.{ReadyAll}
+use Rattle.ac_syntax.specs.declared.tree.Place.{Place}
+use Rattle.ac_syntax.specs.declared.tree.IndexExpr.{IndexExpr}
+use Rattle.ac_syntax.specs.declared.tree.Value.{Value}
+use Rattle.ac_syntax.specs.declared.tree.Cond.{Cond}
+use Rattle.ac_syntax.specs.declared.tree.Stmt.{Stmt, Row_of-Stmt, end_of-Stmt, more_of-Stmt, items-the_row-Stmt, the_lemmas}
+use Rattle.ac_syntax.specs.declared.tree.Stmt.TheVariants.{For, If, Assign, For', If'}
+use Rattle.ac_poly.specs.Forms.{lowered, stepping, rows_of}
+use Rattle.ac_poly.specs.Lower.{columns, loop_rows, in_loop, where_holds, where_fails, assigned, lower, lower_in, lower_all}
+use Rattle.ac_poly.specs.Numbers.{CanHold, CanFail, CanEnter, CanAssign}
+use Rattle.ac_poly.specs.Faults.{IsFine, IsFineIn, IsFirst, IsFirstIn, IsFineAll, IsFirstAll}
+use Rattle.ac_poly.specs.Steps.{ways, pieces_by, Lowers, LowersAll, SeeksAll}
+use Rattle.ac_poly.specs.declared.scope.Scope.{Scope}
+use Rattle.ac_poly.specs.declared.types.StmtModel.{StmtModel}
+use Rattle.ac_poly.specs.declared.types.LowerFault.{LowerFault}
+use Rattle.ac_poly.specs.declared.types.LowerFault.TheVariants.{Wide}
+use Rattle.ac_poly.proofs.Answering.{answers_map, err_map, err_is}
+use Rattle.ac_poly.proofs.Lost.{Tells, lost_all, nothing_all, fine_as, first_as, length-fails}
+use Rattle.ac_poly.proofs.Seeking.{loops_row, loops_for, loops_if}
+
+lower_row : (m : _) (k : Row_of-Stmt m) (number : ℕ) (sc : Scope) → lower_in k number sc ≡ lower_all (items-the_row-Stmt m k) number sc
+unfolding lower
+lower_row m end_of-Stmt number sc = refl
+lower_row m (more_of-Stmt {n = n} s rest) number sc = ap (λ r. lower s number sc ++ r) (lower_row n rest (number + loop_count s) sc)
+
+lower_for_row : (iter : List ℕ) (start : IndexExpr) (cond : Cond) (step : ℤ) (n : _) (body : Row_of-Stmt _) (place : Place) (number : ℕ) (sc : Scope)
+    → lower (For' iter start cond step n body place) number sc ≡ lower_all (items-the_row-Stmt _ body) (suc number) (in_loop sc number start cond step)
+unfolding lower
+lower_for_row iter start cond step n body place number sc = lower_row _ body (suc number) (in_loop sc number start cond step)
+
+lower_for : (iter : List ℕ) (start : IndexExpr) (cond : Cond) (step : ℤ) (body : List Stmt) (place : Place) (number : ℕ) (sc : Scope)
+    → lower (For iter start cond step body place) number sc ≡ lower_all body (suc number) (in_loop sc number start cond step)
+lower_for iter start cond step body place number sc = search (rules, the_lemmas, lower_for_row)
+
+lower_if_row : (cond : Cond) (n : _) (taken : Row_of-Stmt _) (m : _) (other : Row_of-Stmt _) (place : Place) (number : ℕ) (sc : Scope)
+    → lower (If' cond n taken m other place) number sc ≡ lower_all (items-the_row-Stmt _ taken) number (where_holds sc cond) ++ lower_all (items-the_row-Stmt _ other) (number + sum_by loop_count (items-the_row-Stmt _ taken)) (where_fails sc cond)
+unfolding lower
+lower_if_row cond n taken m other place number sc =
+    ap (λ r. r ++ lower_in other (number + loop_count_in taken) (where_fails sc cond)) (lower_row _ taken number (where_holds sc cond))
+    ∙ ap (λ r. lower_all (items-the_row-Stmt _ taken) number (where_holds sc cond) ++ r) (lower_row _ other (number + loop_count_in taken) (where_fails sc cond) ∙ ap (λ k. lower_all (items-the_row-Stmt _ other) (number + k) (where_fails sc cond)) (loops_row _ taken))
+
+lower_if : (cond : Cond) (taken other : List Stmt) (place : Place) (number : ℕ) (sc : Scope)
+    → lower (If cond taken other place) number sc ≡ lower_all taken number (where_holds sc cond) ++ lower_all other (number + sum_by loop_count taken) (where_fails sc cond)
+lower_if cond taken other place number sc = search (rules, the_lemmas, lower_if_row)
+
+-- what is ready in a scope is ready in the scope that the code made
+pub ready_in_loop : (sc inner : Scope) (number : ℕ) (start : IndexExpr) (cond : Cond) (step : ℤ) (body body2 : List Stmt) → inner ≡ in_loop sc number start cond step → body2 ≡ body → ReadyAll sc.params (length sc.iters + 1) body → ReadyAll inner.params (length inner.iters) body2
+ready_in_loop sc inner number start cond step body body2 e b h = rw (e, b, length-append sc.iters (stepping (lowered sc.iters start) step (columns sc) ∷ [])) h
+
+pub ready_taken : (sc inner : Scope) (cond : Cond) (body body2 : List Stmt) → inner ≡ where_holds sc cond → body2 ≡ body → ReadyAll sc.params (length sc.iters) body → ReadyAll inner.params (length inner.iters) body2
+ready_taken sc inner cond body body2 e b h = rw (e, b) h
+
+pub ready_other : (sc inner : Scope) (cond : Cond) (body body2 : List Stmt) → inner ≡ where_fails sc cond → body2 ≡ body → ReadyAll sc.params (length sc.iters) body → ReadyAll inner.params (length inner.iters) body2
+ready_other sc inner cond body body2 e b h = rw (e, b) h
+
+fine_row : (m : _) (k : Row_of-Stmt m) (loop : ℕ) (sc : Scope) (ok : Type 0) → IsFineIn k loop sc ok ≡ IsFineAll (items-the_row-Stmt m k) loop sc ok
+unfolding IsFine
+fine_row m end_of-Stmt loop sc ok = refl
+fine_row m (more_of-Stmt {n = n} s rest) loop sc ok = λ i. IsFine s loop sc ok × fine_row n rest (loop + loop_count s) sc ok i
+
+first_row : (m : _) (k : Row_of-Stmt m) (loop : ℕ) (sc : Scope) (ok : Type 0) (f : LowerFault) → IsFirstIn k loop sc ok f ≡ IsFirstAll (items-the_row-Stmt m k) loop sc ok f
+unfolding IsFirst
+first_row m end_of-Stmt loop sc ok f = refl
+first_row m (more_of-Stmt {n = n} s rest) loop sc ok f = λ i. IsFirst s loop sc ok f ⊎ (IsFine s loop sc ok × first_row n rest (loop + loop_count s) sc ok f i)
+
+fine_for : (iter : List ℕ) (start : IndexExpr) (cond : Cond) (step : ℤ) (body : List Stmt) (place : Place) (loop : ℕ) (sc : Scope) (ok : Type 0)
+    → IsFine (For iter start cond step body place) loop sc ok ≡ IsFineAll body (suc loop) (in_loop sc loop start cond step) (ok × CanEnter sc start cond step)
+unfolding IsFine
+fine_for iter start cond step body place loop sc ok = search (rules, the_lemmas, fine_row)
+
+first_for : (iter : List ℕ) (start : IndexExpr) (cond : Cond) (step : ℤ) (body : List Stmt) (place : Place) (loop : ℕ) (sc : Scope) (ok : Type 0) (f : LowerFault)
+    → IsFirst (For iter start cond step body place) loop sc ok f ≡ IsFirstAll body (suc loop) (in_loop sc loop start cond step) (ok × CanEnter sc start cond step) f
+unfolding IsFirst
+first_for iter start cond step body place loop sc ok f = search (rules, the_lemmas, first_row)
+
+fine_if' : (cond : Cond) (n : _) (taken : Row_of-Stmt _) (m : _) (other : Row_of-Stmt _) (place : Place) (loop : ℕ) (sc : Scope) (ok : Type 0)
+    → IsFine (If' cond n taken m other place) loop sc ok
+    ≡ (IsFineAll (items-the_row-Stmt _ taken) loop (where_holds sc cond) (ok × CanHold sc.iters cond.parts) × IsFineAll (items-the_row-Stmt _ other) (loop + sum_by loop_count (items-the_row-Stmt _ taken)) (where_fails sc cond) (ok × CanFail sc.iters cond.parts))
+unfolding IsFine
+fine_if' cond n taken m other place loop sc ok =
+    λ i. fine_row _ taken loop (where_holds sc cond) (ok × CanHold sc.iters cond.parts) i × fine_row _ other (loop + loops_row _ taken i) (where_fails sc cond) (ok × CanFail sc.iters cond.parts) i
+
+fine_if : (cond : Cond) (taken other : List Stmt) (place : Place) (loop : ℕ) (sc : Scope) (ok : Type 0)
+    → IsFine (If cond taken other place) loop sc ok
+    ≡ (IsFineAll taken loop (where_holds sc cond) (ok × CanHold sc.iters cond.parts) × IsFineAll other (loop + sum_by loop_count taken) (where_fails sc cond) (ok × CanFail sc.iters cond.parts))
+fine_if cond taken other place loop sc ok = search (rules, the_lemmas, fine_if')
+
+first_if' : (cond : Cond) (n : _) (taken : Row_of-Stmt _) (m : _) (other : Row_of-Stmt _) (place : Place) (loop : ℕ) (sc : Scope) (ok : Type 0) (f : LowerFault)
+    → IsFirst (If' cond n taken m other place) loop sc ok f
+    ≡ (IsFirstAll (items-the_row-Stmt _ taken) loop (where_holds sc cond) (ok × CanHold sc.iters cond.parts) f
+    ⊎ (IsFineAll (items-the_row-Stmt _ taken) loop (where_holds sc cond) (ok × CanHold sc.iters cond.parts) × IsFirstAll (items-the_row-Stmt _ other) (loop + sum_by loop_count (items-the_row-Stmt _ taken)) (where_fails sc cond) (ok × CanFail sc.iters cond.parts) f))
+unfolding IsFirst
+first_if' cond n taken m other place loop sc ok f =
+    λ i. first_row _ taken loop (where_holds sc cond) (ok × CanHold sc.iters cond.parts) f i
+    ⊎ (fine_row _ taken loop (where_holds sc cond) (ok × CanHold sc.iters cond.parts) i × first_row _ other (loop + loops_row _ taken i) (where_fails sc cond) (ok × CanFail sc.iters cond.parts) f i)
+
+first_if : (cond : Cond) (taken other : List Stmt) (place : Place) (loop : ℕ) (sc : Scope) (ok : Type 0) (f : LowerFault)
+    → IsFirst (If cond taken other place) loop sc ok f
+    ≡ (IsFirstAll taken loop (where_holds sc cond) (ok × CanHold sc.iters cond.parts) f
+    ⊎ (IsFineAll taken loop (where_holds sc cond) (ok × CanHold sc.iters cond.parts) × IsFirstAll other (loop + sum_by loop_count taken) (where_fails sc cond) (ok × CanFail sc.iters cond.parts) f))
+first_if cond taken other place loop sc ok f = search (rules, the_lemmas, first_if')
+
+all_fine_as : (ss : List Stmt) (loop : ℕ) (sc : Scope) (p q : Type 0) → (p → q) → IsFineAll ss loop sc p → IsFineAll ss loop sc q
+all_fine_as [] loop sc p q f h = tt
+all_fine_as (s ∷ ss) loop sc p q f h = (fine_as s loop sc p q f h.0, all_fine_as ss (loop + loop_count s) sc p q f h.1)
+
+all_first_as : (ss : List Stmt) (loop : ℕ) (sc : Scope) (p q : Type 0) (f : LowerFault) → (p → q) → (q → p) → IsFirstAll ss loop sc p f → IsFirstAll ss loop sc q f
+all_first_as [] loop sc p q f a b h = h
+all_first_as (s ∷ ss) loop sc p q f a b (inl h) = inl (first_as s loop sc p q f a b h)
+all_first_as (s ∷ ss) loop sc p q f a b (inr h) = inr (fine_as s loop sc p q a h.0, all_first_as ss (loop + loop_count s) sc p q f a b h.1)
+
+-- the answer for a scope that was made
+pub known : (r : Result ℕ LowerFault) (ss : List Stmt) (number : ℕ) (inner sc : Scope) (can : Type 0) (old new : List StmtModel)
+    → can × (inner ≡ sc) → LowersAll r ss number inner (Unit {0}) old new → LowersAll r ss number sc can old new
+known r ss number inner sc can old new m h =
+    let g = subst (λ i. LowersAll r ss number i (Unit {0}) old new) m.1 h in
+    answers_map r _ _ _ _ (λ n x. (x.0, all_fine_as ss number sc (Unit {0}) can (λ _. m.0) x.1, x.2)) (λ f x. all_first_as ss number sc (Unit {0}) can f (λ _. m.0) (λ _. tt) x) g
+
+-- the answer for one that was not
+pub unknown : (r : Result ℕ LowerFault) (ps xs : ℕ) (ss : List Stmt) (number : ℕ) (sc : Scope) (can : Type 0) (n : ℕ) (old : List StmtModel)
+    → ReadyAll ps xs ss → (¬ can) ⊎ (16 < length sc.pieces) → n ≡ length sc.pieces → SeeksAll r ss number n → LowersAll r ss number sc can old old
+unknown r ps xs ss number sc can n old ready l e h =
+    let t = lost_all ps xs ss number sc can n ready l (inl e) in
+    answers_map r _ _ _ _
+    (λ next x. (x.0, subst (λ o. Tells o (IsFineAll ss number sc can) (IsFirstAll ss number sc can)) x.1 t, sym (ap (λ o. old ++ o) (nothing_all ss n number sc x.1) ∙ append-nil old)))
+    (λ f x. subst (λ o. Tells o (IsFineAll ss number sc can) (IsFirstAll ss number sc can)) x t) h
+
+pub walk_for : (r : Result ℕ LowerFault) (s : Stmt) (iter : List ℕ) (start : IndexExpr) (cond : Cond) (step : ℤ) (body : List Stmt) (place : Place) (number : ℕ) (sc : Scope) (old new : List StmtModel)
+    → s ≡ For iter start cond step body place → LowersAll r body (suc number) (in_loop sc number start cond step) (CanEnter sc start cond step) old new → Lowers r s number sc (Unit {0}) old new
+walk_for r s iter start cond step body place number sc old new is h =
+    subst (λ s. Lowers r s number sc (Unit {0}) old new) (sym is)
+    (answers_map r _ _ _ _
+    (λ next x. (
+      x.0 ∙ (let e = loops_for iter start cond step body place in omega arith),
+      rw (fine_for iter start cond step body place number sc (Unit {0})) (all_fine_as body (suc number) (in_loop sc number start cond step) _ _ (λ a. (tt, a)) x.1),
+      x.2 ∙ ap (λ o. old ++ o) (sym (lower_for iter start cond step body place number sc)),
+    ))
+    (λ f x. rw (first_for iter start cond step body place number sc (Unit {0}) f) (all_first_as body (suc number) (in_loop sc number start cond step) _ _ f (λ a. (tt, a)) (λ a. a.1) x)) h)
+
+-- both sides were lowered
+pub walk_if : (r : Result ℕ LowerFault) (s : Stmt) (cond : Cond) (taken other : List Stmt) (place : Place) (number next : ℕ) (sc : Scope) (old mid new : List StmtModel)
+    → s ≡ If cond taken other place → LowersAll (Ok next) taken number (where_holds sc cond) (CanHold sc.iters cond.parts) old mid
+    → LowersAll r other next (where_fails sc cond) (CanFail sc.iters cond.parts) mid new → Lowers r s number sc (Unit {0}) old new
+walk_if r s cond taken other place number next sc old mid new is a h =
+    let b = subst (λ n. LowersAll r other n (where_fails sc cond) (CanFail sc.iters cond.parts) mid new) a.0 h in
+    let fine = all_fine_as taken number (where_holds sc cond) (CanHold sc.iters cond.parts) (Unit {0} × CanHold sc.iters cond.parts) (λ a. (tt, a)) a.1 in
+    subst (λ s. Lowers r s number sc (Unit {0}) old new) (sym is)
+    (answers_map r _ _ _ _
+    (λ n x. (
+      x.0 ∙ (let e = loops_if cond taken other place in omega arith),
+      rw (fine_if cond taken other place number sc (Unit {0})) (fine, all_fine_as other (number + sum_by loop_count taken) (where_fails sc cond) _ _ (λ a. (tt, a)) x.1),
+      x.2 ∙ ap (λ o. o ++ lower_all other (number + sum_by loop_count taken) (where_fails sc cond)) a.2
+          ∙ append_assoc old (lower_all taken number (where_holds sc cond)) (lower_all other (number + sum_by loop_count taken) (where_fails sc cond)) ∙ ap (λ o. old ++ o) (sym (lower_if cond taken other place number sc)),
+    ))
+    (λ f x. rw (first_if cond taken other place number sc (Unit {0}) f) (inr (fine, all_first_as other (number + sum_by loop_count taken) (where_fails sc cond) _ _ f (λ a. (tt, a)) (λ a. a.1) x))) b)
+
+-- the first side has the fault
+pub walk_if_stops : (stop : LowerFault) (s : Stmt) (cond : Cond) (taken other : List Stmt) (place : Place) (number : ℕ) (sc : Scope) (old mid new : List StmtModel)
+    → s ≡ If cond taken other place → LowersAll (Err stop) taken number (where_holds sc cond) (CanHold sc.iters cond.parts) old mid → Lowers (Err stop) s number sc (Unit {0}) old new
+walk_if_stops stop s cond taken other place number sc old mid new is h =
+    subst (λ s. Lowers (Err stop) s number sc (Unit {0}) old new) (sym is)
+    (err_map stop _ _ _ _ (λ f x. rw (first_if cond taken other place number sc (Unit {0}) f) (inl (all_first_as taken number (where_holds sc cond) _ _ f (λ a. (tt, a)) (λ a. a.1) x))) h)
+
+-- an assignment
+pub walk_assign : (s : Stmt) (array : ℕ) (subs subs2 : List IndexExpr) (value : Value) (place : Place) (number : ℕ) (sc : Scope) (made : StmtModel) (old new : List StmtModel)
+    → s ≡ Assign array subs value place → subs2 ≡ subs → length sc.pieces ≤ 16 → CanAssign sc.iters subs2 value × (made ≡ assigned sc array subs2 value)
+    → new ≡ old ++ made ∷ [] → Lowers (Ok number) s number sc (Unit {0}) old new
+unfolding IsFine loop_count lower
+walk_assign s array subs subs2 value place number sc made old new is b few m n =
+    rw is (sym (omega arith), (few, tt, subst (λ x. CanAssign sc.iters x value) b m.0), n ∙ ap (λ x. old ++ x ∷ []) (m.1 ∙ ap (λ u. assigned sc array u value) b))
+
+pub walk_assign_wide : (s : Stmt) (array : ℕ) (subs subs2 : List IndexExpr) (value : Value) (place : Place) (number : ℕ) (sc : Scope) (old new : List StmtModel)
+    → s ≡ Assign array subs value place → subs2 ≡ subs → length sc.pieces ≤ 16 → ¬ (CanAssign sc.iters subs2 value) → Lowers (Err (Wide place)) s number sc (Unit {0}) old new
+unfolding IsFirst
+walk_assign_wide s array subs subs2 value place number sc old new is b few m = rw is (refl, few, λ h. m (subst (λ x. CanAssign sc.iters x value) (sym b) h.1))
+
+pub few_in_loop : (sc inner : Scope) (number : ℕ) (start : IndexExpr) (cond : Cond) (step : ℤ) → inner ≡ in_loop sc number start cond step → length sc.pieces ≤ 16 → length inner.pieces ≤ 16
+few_in_loop sc inner number start cond step e h = rw e (let l = length-map sc.pieces (λ q. q ++ loop_rows sc start cond step) in omega arith)
+
+pub few_taken : (sc inner : Scope) (cond : Cond) → inner ≡ where_holds sc cond → length sc.pieces ≤ 16 → length inner.pieces ≤ 16
+few_taken sc inner cond e h = rw e (let l = length-map sc.pieces (λ q. q ++ rows_of sc.iters cond.parts) in omega arith)
+
+few_by : (m w : ℕ) → m ≤ 16 → pieces_by m w ≡ m * w
+few_by m w h = let e : nat_lt 16 m ≡ false = grind (arith, nat_tests) in ap (λ b. Rattle.std.proofs.Common.cond b m (m * w)) e
+
+-- the pieces of the other side, where those around are few
+pub count_other : (sc : Scope) (cond : Cond) (n : ℕ) → n ≡ pieces_by (length sc.pieces) (ways cond.parts) → length sc.pieces ≤ 16 → n ≡ length (where_fails sc cond).pieces
+count_other sc cond n e h = e ∙ few_by (length sc.pieces) (ways cond.parts) h ∙ sym (length-fails sc.iters cond.parts sc.pieces)
+
+pub few_other : (sc inner : Scope) (cond : Cond) (n : ℕ) → inner ≡ where_fails sc cond → n ≡ pieces_by (length sc.pieces) (ways cond.parts) → length sc.pieces ≤ 16 → n ≤ 16 → length inner.pieces ≤ 16
+few_other sc inner cond n e i f h = rw e (let l = count_other sc cond n i f in omega arith)
+
+pub count_in_loop : (sc : Scope) (number : ℕ) (start : IndexExpr) (cond : Cond) (step : ℤ) → length sc.pieces ≡ length (in_loop sc number start cond step).pieces
+count_in_loop sc number start cond step = sym (length-map sc.pieces _)
+
+pub count_taken : (sc : Scope) (cond : Cond) → length sc.pieces ≡ length (where_holds sc cond).pieces
+count_taken sc cond = sym (length-map sc.pieces _)
+
+pub walk_if_err : (r : Result ℕ LowerFault) (stop : LowerFault) (s : Stmt) (cond : Cond) (taken other : List Stmt) (place : Place) (number : ℕ) (sc : Scope) (old mid new : List StmtModel)
+    → IsErrAnd r (λ e. e ≡ stop) → s ≡ If cond taken other place → LowersAll (Err stop) taken number (where_holds sc cond) (CanHold sc.iters cond.parts) old mid → Lowers r s number sc (Unit {0}) old new
+walk_if_err r stop s cond taken other place number sc old mid new e is h = subst (λ r. Lowers r s number sc (Unit {0}) old new) (sym (err_is r stop e)) (walk_if_stops stop s cond taken other place number sc old mid new is h)
+
+-- before the statement i of a list: what is done, and what is left
+pub record Halfway (ss : List Stmt) (number : ℕ) (sc : Scope) (old : List StmtModel) (i next : ℕ) (now : List StmtModel) : Type 0 where
+  pub count : next + sum_by loop_count (drop i ss) ≡ number + sum_by loop_count ss
+  pub made : now ++ lower_all (drop i ss) next sc ≡ old ++ lower_all ss number sc
+  pub fine : IsFineAll (drop i ss) next sc (Unit {0}) → IsFineAll ss number sc (Unit {0})
+  pub first : (f : LowerFault) → IsFirstAll (drop i ss) next sc (Unit {0}) f → IsFirstAll ss number sc (Unit {0}) f
+
+pub halfway_start : (ss : List Stmt) (number : ℕ) (sc : Scope) (old : List StmtModel) → Halfway ss number sc old 0 number old
+halfway_start ss number sc old = record { count = refl; made = refl; fine = λ h. h; first = λ f h. h }
+
+pub halfway_step : (ss : List Stmt) (number : ℕ) (sc : Scope) (old : List StmtModel) (i next : ℕ) (now : List StmtModel) (s : Stmt) (after : ℕ) (new : List StmtModel)
+    → Halfway ss number sc old i next now → i < length ss → s ≡ get_or ss i s → Lowers (Ok after) s next sc (Unit {0}) now new → Halfway ss number sc old (i + 1) after new
+halfway_step ss number sc old i next now s after new h l e x =
+    let d : drop i ss ≡ s ∷ drop (i + 1) ss = rw e (drop_more ss i s l) in
+    record {
+      count = rw x.0 (add_assoc next (loop_count s) (sum_by loop_count (drop (i + 1) ss)) ∙ ap (λ n. next + n) (sym (sum_by-cons loop_count s (drop (i + 1) ss))) ∙ (rw d at h.count));
+      made = rw (x.0, x.2) (append_assoc now (lower s next sc) (lower_all (drop (i + 1) ss) (next + loop_count s) sc) ∙ (rw d at h.made));
+      fine = λ g. h.fine (rw d (x.1, rw x.0 at g));
+      first = λ f g. h.first f (rw d (inr (x.1, rw x.0 at g)));
+    }
+
+pub halfway_end : (ss : List Stmt) (number : ℕ) (sc : Scope) (old : List StmtModel) (i next : ℕ) (now : List StmtModel) → Halfway ss number sc old i next now → length ss ≤ i → LowersAll (Ok next) ss number sc (Unit {0}) old now
+halfway_end ss number sc old i next now h l =
+    let d = drop_all i ss l in
+    ((let c = rw d at h.count in sym (add-zero next) ∙ c), h.fine (rw d tt), (sym (append-nil now) ∙ (rw d at h.made)))
+
+pub halfway_stops : (r : Result ℕ LowerFault) (stop : LowerFault) (ss : List Stmt) (number : ℕ) (sc : Scope) (old : List StmtModel) (i next : ℕ) (now : List StmtModel) (s : Stmt) (new : List StmtModel)
+    → IsErrAnd r (λ e. e ≡ stop) → Halfway ss number sc old i next now → i < length ss → s ≡ get_or ss i s → Lowers (Err stop) s next sc (Unit {0}) now new → LowersAll r ss number sc (Unit {0}) old new
+halfway_stops r stop ss number sc old i next now s new is h l e x =
+    let d : drop i ss ≡ s ∷ drop (i + 1) ss = rw e (drop_more ss i s l) in
+    subst (λ r. LowersAll r ss number sc (Unit {0}) old new) (sym (err_is r stop is))
+    (err_map stop _ _ _ _ (λ f g. h.first f (rw d (inl g))) x)
+
+pub ruleset list_steps = (halfway_start, halfway_step, halfway_end, halfway_stops)

@@ -1,0 +1,6 @@
+use Rattle.std.proofs.Common.{◌≡◌, take, map}
+use Rattle.ac_poly.specs.Model.{extents_of}
+use Rattle.ac_poly.proofs.program.extents.Given as goal
+
+abbrev pub invariant-loop-array : goal.invariant-loop-array
+invariant-loop-array l = l.made ≡ map extents_of (take l.array-index l.arrays)

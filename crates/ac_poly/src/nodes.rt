@@ -1,0 +1,92 @@
+//! The nodes of a value.
+ghost use Rattle.std.specs.Prelude.{◌≡◌, ◌++◌, length, IfOk};
+ghost use Rattle.std.specs.List.{AllByRecursion};
+ghost use Rattle.ac_forms.specs.Stops.{MadeWhere};
+ghost use Rattle.ac_syntax.specs.Nodes.{size};
+ghost use Rattle.ac_poly.specs.Nodes.{nodes};
+ghost use Rattle.ac_poly.specs.Numbers.{CanLowerValue};
+ghost use Rattle.ac_poly.specs.Steps.{nodes_of, roots_of};
+
+use crate::forms::{lowered, lowered_all};
+use crate::types::NodeModel;
+use ac_forms::{Form, FormStop};
+use ac_items::Items;
+use ac_syntax::copy::copy_symbol;
+use ac_syntax::count;
+use ac_syntax::tree::Value;
+use std::alloc::{AllocError, Global};
+
+/// How many nodes a value has.
+fn size(value: &Value) -> Result<usize, AllocError>
+    ensures { IfOk result (λ count. count ≡ size value.now) }
+{
+    match count::nodes(value) {
+        None => Err(AllocError),
+        Some(count) => usize::try_from(count).map_err(|_wide| AllocError),
+    }
+}
+
+/// The numbers of values that stand one after another from `first` on.
+#[tactic(auto, using(crate::proofs::NodeSteps::root_steps))]
+fn roots_of(alloc: Global, values: &[Value], first: usize) -> Result<Items<usize>, AllocError>
+    ensures { IfOk result (λ made. made ≡ roots_of values.now first) }
+{
+    let mut made = Items::new(alloc);
+    let mut at = first;
+    for value in values {
+        made.push(at)?;
+        at = at.checked_add(size(value)?).ok_or(AllocError)?;
+    }
+    Ok(made)
+}
+
+/// Adds the nodes of a value, which are numbered by their places in the list.
+#[cycle(nodes)]
+#[tactic(auto, using(crate::proofs::NodeSteps::value_steps))]
+pub(crate) fn add_nodes(
+    alloc: Global,
+    iters: &[Form],
+    value: &Value,
+    out: &mut Items<NodeModel>,
+) -> Result<(), FormStop>
+    ensures { MadeWhere result (CanLowerValue iters.now value.now) (λ _. out.new ≡ out.old ++ nodes iters.now value.now (length out.old)) }
+{
+    match value {
+        Value::Number(e) => out.push(NodeModel::Number(lowered(alloc, iters, e)?))?,
+        Value::Access { array, subs, .. } => {
+            let subs = lowered_all(alloc, iters, subs.as_slice())?;
+            out.push(NodeModel::Read {
+                array: *array,
+                subs,
+            })?;
+        }
+        Value::Call { symbol, args, .. } => {
+            let first = out.len().checked_add(1).ok_or(AllocError)?;
+            let roots = roots_of(alloc, args.as_slice(), first)?;
+            let symbol = copy_symbol(alloc, symbol)?;
+            out.push(NodeModel::Call {
+                symbol,
+                args: roots,
+            })?;
+            add_all_nodes(alloc, iters, args.as_slice(), out)?;
+        }
+    }
+    Ok(())
+}
+
+/// Adds the nodes of values, one after another.
+#[cycle(nodes)]
+#[tactic(auto, using(crate::proofs::NodeSteps::node_steps))]
+fn add_all_nodes(
+    alloc: Global,
+    iters: &[Form],
+    values: &[Value],
+    out: &mut Items<NodeModel>,
+) -> Result<(), FormStop>
+    ensures { MadeWhere result (AllByRecursion (CanLowerValue iters.now) values.now) (λ _. out.new ≡ out.old ++ nodes_of iters.now values.now (length out.old)) }
+{
+    for value in values {
+        add_nodes(alloc, iters, value, out)?;
+    }
+    Ok(())
+}

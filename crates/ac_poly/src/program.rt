@@ -1,0 +1,74 @@
+//! From a program to its model.
+ghost use Rattle.std.specs.Prelude.{◌≡◌, map, length, IfOk};
+ghost use Rattle.ac_syntax.specs.Ready.{ReadyProgram, FitParts};
+ghost use Rattle.ac_poly.specs.Faults.{Answers, IsFineAll, IsFirstAll};
+ghost use Rattle.ac_poly.specs.Lower.{outermost};
+ghost use Rattle.ac_poly.specs.Model.{extents_of, kind_of, model_of, HasInstances, HasCells, HasNodes, HasOrder, HasContext, HasExtents};
+
+use crate::enter::outermost;
+use crate::forms::{all_alone, rows_alone};
+use crate::types::{LowerFault, Model};
+use crate::walk::lower_all;
+use ac_forms::Form;
+use ac_items::Items;
+use ac_syntax::tree::{Array, Cond, Kind, Program};
+use std::alloc::{AllocError, Global};
+
+/// The program as integer points, under a context over its parameters.
+///
+/// At each valuation of the parameters the points of an assignment's pieces are its instances, and there its forms have
+/// the values of its index expressions. `Pieces` and `Wide` name the first assignment in the text that has more than 16
+/// pieces or for which a product or a sum leaves `i128`; where it has both, `Pieces`.
+pub fn lower(alloc: Global, p: &Program, context: &Cond) -> Result<Model, LowerFault>
+    requires program { ReadyProgram p.now }
+    requires context { FitParts (length p.now.params) 0 context.now.parts }
+    ensures exact { Answers result (λ model. IsFineAll p.now.body 0 (outermost (length p.now.params)) (Unit {0}) × (model ≡ model_of p.now context.now)) (IsFirstAll p.now.body 0 (outermost (length p.now.params)) (Unit {0})) }
+    ensures instances { IfOk result (HasInstances p.now) }
+    ensures cells { IfOk result (HasCells p.now) }
+    ensures nodes { IfOk result (HasNodes p.now) }
+    ensures order { IfOk result (HasOrder p.now) }
+    ensures context { IfOk result (HasContext context.now) }
+    ensures extents { IfOk result (HasExtents p.now) }
+{
+    lowered_program(alloc, p, context)
+}
+
+/// The model of a program under a context.
+fn lowered_program(alloc: Global, p: &Program, context: &Cond) -> Result<Model, LowerFault>
+    requires program { ReadyProgram p.now }
+    ensures { Answers result (λ model. IsFineAll p.now.body 0 (outermost (length p.now.params)) (Unit {0}) × (model ≡ model_of p.now context.now)) (IsFirstAll p.now.body 0 (outermost (length p.now.params)) (Unit {0})) }
+{
+    let params = p.params.len();
+    let scope = outermost(alloc, params)?;
+    let mut stmts = Items::new(alloc);
+    lower_all(alloc, p.body.as_slice(), 0, &scope, &mut stmts)?;
+    Ok(Model {
+        params,
+        context: rows_alone(alloc, context.parts.as_slice())?,
+        stmts,
+        extents: extents(alloc, p.arrays.as_slice())?,
+        kinds: kinds(alloc, p.arrays.as_slice())?,
+    })
+}
+
+/// The extents of each array.
+fn extents(alloc: Global, arrays: &[Array]) -> Result<Items<Items<Form>>, AllocError>
+    ensures { IfOk result (λ made. made ≡ map extents_of arrays.now) }
+{
+    let mut made = Items::new(alloc);
+    for array in arrays {
+        made.push(all_alone(alloc, array.extents.as_slice())?)?;
+    }
+    Ok(made)
+}
+
+/// The kind of each array.
+fn kinds(alloc: Global, arrays: &[Array]) -> Result<Items<Kind>, AllocError>
+    ensures { IfOk result (λ made. made ≡ map kind_of arrays.now) }
+{
+    let mut made = Items::new(alloc);
+    for array in arrays {
+        made.push(array.kind)?;
+    }
+    Ok(made)
+}
