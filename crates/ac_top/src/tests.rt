@@ -8,6 +8,7 @@ mod instance_steps;
 mod instance_words;
 mod later;
 mod limit;
+mod lowering;
 mod pair;
 mod prove;
 mod rule;
