@@ -1,18 +1,12 @@
--- What is known of a program that is lowered, or not, and of the context under which it is.
-use Rattle.std.proofs.Common.{◌≡◌, ℕ, List, [], ◌∷◌, ◌++◌, length, Some, refl, sym, subst}
+-- What the lowering of the programs of a pair rests on.
+use Rattle.std.proofs.Common.{◌≡◌, ℕ, List, [], ◌∷◌, ◌++◌, length, Option, Some, None, refl, sym, subst}
 use Rattle.ac_syntax.specs.Ready.{FitParts}
 use Rattle.ac_syntax.specs.declared.tree.Comparison.{Comparison}
 use Rattle.ac_syntax.specs.declared.tree.Pair.{Pair}
 use Rattle.ac_syntax.specs.declared.tree.Program.{Program}
-use Rattle.ac_poly.specs.Faults.{IsFirstAll, Answers}
-use Rattle.ac_poly.specs.Lower.{outermost}
-use Rattle.ac_poly.specs.declared.types.LowerFault.{LowerFault}
-use Rattle.ac_poly.specs.declared.types.LowerFault.TheVariants.{Pieces, Wide, Memory}
-use Rattle.ac_poly.specs.declared.types.Model.{Model}
-use Rattle.std.specs.Prelude.{Err}
-use Rattle.ac_top.specs.Answers.{IsNotLowered}
-use Rattle.ac_top.specs.Stages.{IsReadPair}
-use Rattle.ac_top.specs.Texts.{Complaint, lower_complaint}
+use Rattle.ac_top.specs.Answers.{IsLowered}
+use Rattle.ac_top.specs.Stages.{IsLowering, IsReadPair}
+use Rattle.ac_top.specs.declared.refusals.Complaint.{Complaint as Said}
 
 both_fit : (ps xs : ℕ) (cs ds : List Comparison) → FitParts ps xs cs → FitParts ps xs ds → FitParts ps xs (cs ++ ds)
 both_fit ps xs [] ds h k = k
@@ -27,9 +21,7 @@ fits_left pair is =
 pub fits_right : (pair : Pair) → IsReadPair pair → FitParts (length pair.right.params) 0 pair.context.parts
 fits_right pair is = subst (λ n. FitParts n 0 pair.context.parts) is.ready.params (fits_left pair is)
 
--- a fault of which something is said is no want of memory
-pub first_fault : (program : Program) (Good : Model → Type 0) (fault : LowerFault) (said : Complaint)
-    → Answers (Err fault) Good (IsFirstAll program.body 0 (outermost (length program.params)) (Unit {0})) → Some said ≡ lower_complaint fault → IsNotLowered program said
-first_fault program Good (Pieces place) said h e = record { fault = Pieces place; is_first = h; is_said = sym e }
-first_fault program Good (Wide place) said h e = record { fault = Wide place; is_first = h; is_said = sym e }
-first_fault program Good (Memory error) said h e = absurd cc
+-- a program with which nothing is wrong is lowered
+pub nothing_wrong : (program : Program) (found : Option Said) → ((said : Said) → ¬ (found ≡ Some said)) → IsLowering program found → IsLowered program
+nothing_wrong program None none h = h
+nothing_wrong program (Some said) none h = absurd (none said refl)

@@ -1,5 +1,6 @@
 -- What the stages of a run hand on.
-use Rattle.std.specs.Prelude.{◌≡◌, ◌≤◌, ℕ, List, true, Option, Some, None, IfSome, Result, Ok, Err, option_map}
+use Rattle.std.specs.Prelude.{◌≡◌, ◌≤◌, ℕ, List, true, Option, Some, None, IfSome, Result, Ok, Err, Vec, option_map}
+use Rattle.std.specs.Global.{Global}
 use Rattle.std.specs.declared.alloc.AllocError.{AllocError}
 use Rattle.std.specs.List.{list_all}
 use Rattle.ac_port.specs.Contents.{Contents, IsTooBig}
@@ -82,7 +83,7 @@ IsLowering program None = IsLowered program
 IsLowering program (Some said) = IsNotLowered program (said_by said)
 
 -- both programs of the pair of two texts are lowered, or the line that says which is not
-abbrev pub IsLoweringOf : (a b first second : List ℕ) → Pair → Option (Vec ℕ) → Type 0
+abbrev pub IsLoweringOf : (a b first second : List ℕ) → Pair → Option (Vec ℕ Global) → Type 0
 IsLoweringOf a b first second pair None = AreLowered pair
 IsLoweringOf a b first second pair (Some text) = AreRefused a b first second text.items
 

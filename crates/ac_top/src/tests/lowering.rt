@@ -62,10 +62,12 @@ fn programs_that_are_not_lowered_are_named(rt: HostRuntime) -> Result<(), Fail> 
 }
 
 /// 18 pieces.
-const PIECES: &[u8] = b"void f(int N, int C[1]) { if (N == 0 && N == 1 && N == 2 && N == 3 && N == 4 && N == 5 && N == 6 && N == 7 && N == 8) ; else C[0] = 1; }";
+const PIECES: &[u8] =
+    b"void f(int N, int C[1]) { if (N == 0 && N == 1 && N == 2 && N == 3 && N == 4 && N == 5 && N == 6 && N == 7 && N == 8) ; else C[0] = 1; }";
 
 /// A start that leaves 128 bits.
-const WIDE: &[u8] = b"void f(int N, int C[1]) { for (int a = 0; a < N; a++) for (int b = 2147483648*a; b < N; b++) for (int c = 2147483648*b; c < N; c++)\n  for (int d = 2147483648*c; d < N; d++) for (int e = 2147483648*d; e < N; e++) for (int f = 2147483648*e; f < N; f++) C[0] = 1; }";
+const WIDE: &[u8] =
+    b"void f(int N, int C[1]) { for (int a = 0; a < N; a++) for (int b = 2147483648*a; b < N; b++) for (int c = 2147483648*b; c < N; c++)\n  for (int d = 2147483648*c; d < N; d++) for (int e = 2147483648*d; e < N; e++) for (int f = 2147483648*e; f < N; f++) C[0] = 1; }";
 
 const PLAIN: &[u8] = b"void f(int N, int C[1]) { C[0] = 1; }";
 
