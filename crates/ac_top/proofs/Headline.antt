@@ -40,7 +40,7 @@ module _ (files : Option Contents) (a b : List ℕ) (Is : Pair → Type 0) where
   of_sources : (first second : List ℕ) (OfPair : Pair → Report → Type 0) → ((pair : Pair) (r : Report) → OfPair pair r → r.status ≡ status.Done → Is pair)
       → Holds files a first → Holds files b second → (r : Report) → SourceReports a b first second OfPair r → r.status ≡ status.Done → HoldAPair files a b Is
   of_sources first second OfPair good h k r (refused text why) d = absurd cc
-  of_sources first second OfPair good h k r (paired pair u are p) d =
+  of_sources first second OfPair good h k r (paired pair u are lowered p) d =
       record { first = first; second = second; holds_first = h; holds_second = k; pair = pair; are = are; is = good pair u p d }
 
   of_files : (faulty : Type 0) (OfPair : List ℕ → List ℕ → Pair → Report → Type 0) → ((first second : List ℕ) (pair : Pair) (r : Report) → OfPair first second pair r → r.status ≡ status.Done → Is pair)

@@ -9,6 +9,7 @@ pub mod Instances
 pub mod Leasts
 pub mod Limits
 pub mod Lines
+pub mod Lowerings
 pub mod Pairs
 pub mod Rising
 pub mod Verdicts

@@ -3,6 +3,9 @@ use Rattle.std.specs.Prelude.{◌≡◌, ◌≤◌, ℕ, List, [], ◌∷◌, �
 use Rattle.std.specs.FinMap.{get}
 use Rattle.std.specs.List.{Contains}
 use Rattle.ac_port.specs.Contents.{Contents, IsTooBig}
+use Rattle.ac_poly.specs.Faults.{IsFineAll, IsFirstAll}
+use Rattle.ac_poly.specs.Lower.{outermost}
+use Rattle.ac_poly.specs.declared.types.LowerFault.{LowerFault}
 use Rattle.ac_syntax.specs.Outputs.{SameOutput}
 use Rattle.ac_syntax.specs.declared.tree.Program.{Program}
 use Rattle.ac_syntax.specs.declared.tree.Pair.{Pair}
@@ -16,7 +19,7 @@ use Rattle.ac_top.specs.Reports.{Report, report}
 use Rattle.ac_top.specs.Runs.{InstanceReports, IsTheSameAt}
 use Rattle.ac_top.specs.Statuses.{status_of}
 use Rattle.ac_top.specs.Straight.{is_straight_program}
-use Rattle.ac_top.specs.Texts.{Complaint, complaint, usage_line, read_fault_line, refusal_line, too_long_line, later_line, signature_line, no_output_line, verdict_lines}
+use Rattle.ac_top.specs.Texts.{Complaint, complaint, lower_complaint, usage_line, read_fault_line, refusal_line, too_long_line, later_line, signature_line, no_output_line, verdict_lines}
 use Rattle.ac_top.specs.Verdicts.{AreVerdicts}
 use Rattle.ac_top.specs.declared.status.Status.{Status}
 use Rattle.ac_top.specs.declared.status.Status.TheVariants as status
@@ -40,12 +43,6 @@ pub data AreNoPair (left right : Program) : List ℕ → Type 0 where
   signatures_differ : (number : ℕ) → HasPairFault left right (Signature number) → AreNoPair left right (signature_line number)
   nothing_compared : HasPairFault left right NoOutput → AreNoPair left right no_output_line
 
--- two texts give no pair: the line of the first that has no program, or of their programs
-pub data AreRefused (a b first second : List ℕ) : List ℕ → Type 0 where
-  first_refused : (said : Complaint) → HasComplaint first said → AreRefused a b first second (refusal_line a first said)
-  second_refused : (left : Program) (said : Complaint) → IsProgramOf first left → HasComplaint second said → AreRefused a b first second (refusal_line b second said)
-  no_pair : (left right : Program) (text : List ℕ) → IsProgramOf first left → IsProgramOf second right → AreNoPair left right text → AreRefused a b first second text
-
 -- two texts have programs, and these are a pair
 pub record ArePaired (first second : List ℕ) (pair : Pair) : Type 0 where
   pub left : Program
@@ -54,10 +51,35 @@ pub record ArePaired (first second : List ℕ) (pair : Pair) : Type 0 where
   pub is_right : IsProgramOf second right
   pub is_pair : IsPairOf left right pair
 
--- of the bytes of two files: why they give no pair, or what is reported of their pair
+-- a program is lowered: each assignment has at most 16 pieces, and its numbers stay in 128 bits
+abbrev pub IsLowered : Program → Type 0
+IsLowered program = IsFineAll program.body 0 (outermost (length program.params)) (Unit {0})
+
+-- a program is not lowered: of the first assignment that has more pieces or a larger number this is said
+pub record IsNotLowered (program : Program) (said : Complaint) : Type 0 where
+  pub fault : LowerFault
+  pub is_first : IsFirstAll program.body 0 (outermost (length program.params)) (Unit {0}) fault
+  pub is_said : lower_complaint fault ≡ Some said
+
+-- both programs of a pair are lowered
+pub record AreLowered (pair : Pair) : Type 0 where
+  pub left : IsLowered pair.left
+  pub right : IsLowered pair.right
+
+-- two texts are refused: the line of the first that has no program, of their programs where these are no pair, or of the
+-- first whose program is not lowered
+pub data AreRefused (a b first second : List ℕ) : List ℕ → Type 0 where
+  first_refused : (said : Complaint) → HasComplaint first said → AreRefused a b first second (refusal_line a first said)
+  second_refused : (left : Program) (said : Complaint) → IsProgramOf first left → HasComplaint second said → AreRefused a b first second (refusal_line b second said)
+  no_pair : (left right : Program) (text : List ℕ) → IsProgramOf first left → IsProgramOf second right → AreNoPair left right text → AreRefused a b first second text
+  first_not_lowered : (pair : Pair) (said : Complaint) → ArePaired first second pair → IsNotLowered pair.left said → AreRefused a b first second (refusal_line a first said)
+  second_not_lowered : (pair : Pair) (said : Complaint) → ArePaired first second pair → IsLowered pair.left → IsNotLowered pair.right said
+      → AreRefused a b first second (refusal_line b second said)
+
+-- of the bytes of two files: why they are refused, or what is reported of their pair, whose programs are lowered
 pub data SourceReports (a b first second : List ℕ) (OfPair : Pair → Report → Type 0) : Report → Type 0 where
   refused : (text : List ℕ) → AreRefused a b first second text → SourceReports a b first second OfPair (report status.Refused text)
-  paired : (pair : Pair) (r : Report) → ArePaired first second pair → OfPair pair r → SourceReports a b first second OfPair r
+  paired : (pair : Pair) (r : Report) → ArePaired first second pair → AreLowered pair → OfPair pair r → SourceReports a b first second OfPair r
 
 -- the named file holds these bytes, where contents are told, and they are at most 65,536
 pub record Holds (files : Option Contents) (name bytes : List ℕ) : Type 0 where

@@ -1,5 +1,6 @@
 -- What the stages of a run hand on.
-use Rattle.std.specs.Prelude.{◌≡◌, ◌≤◌, ℕ, List, true, Option, Some, None, IfSome, Result, Ok, Err, option_map}
+use Rattle.std.specs.Prelude.{◌≡◌, ◌≤◌, ℕ, List, true, Option, Some, None, IfSome, Result, Ok, Err, Vec, option_map}
+use Rattle.std.specs.Global.{Global}
 use Rattle.std.specs.declared.alloc.AllocError.{AllocError}
 use Rattle.std.specs.List.{list_all}
 use Rattle.ac_port.specs.Contents.{Contents, IsTooBig}
@@ -11,7 +12,7 @@ use Rattle.ac_syntax.specs.declared.tree.Pair.{Pair}
 use Rattle.ac_rules.specs.Numbers.{HasInputs, ListsItsParameters}
 use Rattle.ac_parse.specs.Pairing.{IsPairOf}
 use Rattle.ac_parse.specs.Program.{IsProgramOf}
-use Rattle.ac_top.specs.Answers.{AreNoPair, ArePaired, AreRefused, HasComplaint, Holds, PairReports}
+use Rattle.ac_top.specs.Answers.{AreLowered, AreNoPair, ArePaired, AreRefused, HasComplaint, Holds, IsLowered, IsNotLowered, PairReports}
 use Rattle.ac_top.specs.Reports.{Report, report as a_report}
 use Rattle.ac_top.specs.Runs.{InstanceReports, IsReadyPair}
 use Rattle.ac_top.specs.Statuses.{status_of}
@@ -75,6 +76,16 @@ pub record IsReadPair (pair : Pair) : Type 0 where
 abbrev pub IsPairingOf : List ℕ → List ℕ → List ℕ → List ℕ → Paired → Type 0
 IsPairingOf a b first second (Together pair) = ArePaired first second pair × IsReadPair pair
 IsPairingOf a b first second (Refused text) = AreRefused a b first second text.items
+
+-- a program is lowered, or what is wrong with it
+abbrev pub IsLowering : Program → Option Said → Type 0
+IsLowering program None = IsLowered program
+IsLowering program (Some said) = IsNotLowered program (said_by said)
+
+-- both programs of the pair of two texts are lowered, or the line that says which is not
+abbrev pub IsLoweringOf : (a b first second : List ℕ) → Pair → Option (Vec ℕ Global) → Type 0
+IsLoweringOf a b first second pair None = AreLowered pair
+IsLoweringOf a b first second pair (Some text) = AreRefused a b first second text.items
 
 -- what a task reports of a pair of the texts of two files
 abbrev pub TaskReports : Task → (a b first second : List ℕ) → Pair → Report → Type 0

@@ -12,6 +12,8 @@ use Rattle.ac_rules.specs.declared.fault.Which.{Which}
 use Rattle.ac_rules.specs.declared.fault.Which.TheVariants.{File, Nesting, Parameters, Arrays, Dimensions, Depth, Assignments, Nodes, Literal, Coefficient, Pieces}
 use Rattle.ac_parse.specs.declared.faults.SourceFault.{SourceFault}
 use Rattle.ac_parse.specs.declared.faults.SourceFault.TheVariants.{Lex, Syntax, NotAffine, Undeclared, Misused, Duplicate, Endless, Limit, Memory}
+use Rattle.ac_poly.specs.declared.types.LowerFault.{LowerFault}
+use Rattle.ac_poly.specs.declared.types.LowerFault.TheVariants as lowering
 use Rattle.ac_top.specs.Places.{place_text}
 use Rattle.ac_top.specs.declared.verdict.Verdict.{Verdict}
 use Rattle.ac_top.specs.declared.verdict.Verdict.TheVariants.{Equal, Different}
@@ -66,6 +68,12 @@ complaint (Duplicate place) = about place (codes "duplicate")
 complaint (Endless place) = about place (codes "endless loop")
 complaint (Limit which place) = about place (limit_words which)
 complaint (Memory error) = None
+
+-- what is said of a program that is not lowered; want of memory is none of its own
+abbrev pub lower_complaint : LowerFault → Option Complaint
+lower_complaint (lowering.Pieces place) = about place (codes "limit pieces")
+lower_complaint (lowering.Wide place) = about place (codes "wide")
+lower_complaint (lowering.Memory error) = None
 
 -- NAME:L:C: WORDS
 abbrev pub refusal_line : List ℕ → List ℕ → Complaint → List ℕ

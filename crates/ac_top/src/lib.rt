@@ -6,7 +6,8 @@
 //! the status is done, each output of the two programs is the same.
 //!
 //! A text without a program is refused by a line that says what is wrong and where, by line and column; of two such texts the first
-//! is told. What stands before the pair of two texts is `sources::pair_sources`.
+//! is told. What stands before the pair of two texts is `sources::pair_sources`. Both programs of a pair are then lowered to integer
+//! points, and the first that is not is refused in the same way (`lowering`).
 //!
 //! `prove` compares programs without parameters, loops, branches, contexts and commutative names by the terms that they
 //! leave: both are run over one table of shared terms, and only the cells that either assigns are looked at. Every other
@@ -17,6 +18,7 @@ mod cells;
 mod compare;
 mod evaluate;
 mod halts;
+mod lowering;
 mod places;
 mod program;
 mod prove;

@@ -34,7 +34,8 @@ fn limit_words(which: Which) -> &'static [u8]
     }
 }
 
-fn about(place: Place, words: &'static [u8]) -> Complaint
+/// What is said of a place.
+pub fn about(place: Place, words: &'static [u8]) -> Complaint
     ensures { said_by result ≡ record { words = words.now; at = place.at } }
 {
     Complaint { words, place }

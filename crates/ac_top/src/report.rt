@@ -3,11 +3,12 @@ ghost use Rattle.ac_port.specs.Counts.{Rose};
 ghost use Rattle.std.specs.List.{list_all};
 ghost use Rattle.ac_syntax.specs.Outputs.{input_at};
 ghost use Rattle.ac_top.specs.Verdicts.{IsJoined};
-ghost use Rattle.ac_top.specs.Answers.{PairReports, SourceReports, FileReports};
+ghost use Rattle.ac_top.specs.Answers.{ArePaired, PairReports, SourceReports, FileReports};
 ghost use Rattle.ac_top.specs.Reports.{report as a_report};
 ghost use Rattle.ac_top.specs.Stages.{IsReadPair, IsSource, IsWithin, TaskReports, written, verdicts_report};
 
 use crate::evaluate::Side;
+use crate::lowering::not_lowered;
 use crate::prove::{Answer, prove};
 use crate::runs::{Named, Task, report_instance};
 use crate::sources::{Paired, pair_sources};
@@ -115,6 +116,25 @@ fn report_task(
     }
 }
 
+/// What a task reports of the pair of two files, where both programs are lowered.
+fn report_lowered(
+    alloc: Global,
+    left: &Named<'_>,
+    right: &Named<'_>,
+    pair: &Pair,
+    task: &Task<'_>,
+) -> Result<Report, AllocError>
+    requires are { ArePaired left.now.bytes.now right.now.bytes.now pair.now }
+    requires pair { IsReadPair pair.now }
+    requires within { IsWithin task.now }
+    ensures { IfOk result (λ r. SourceReports left.now.name.now right.now.name.now left.now.bytes.now right.now.bytes.now (TaskReports task.now left.now.name.now right.now.name.now left.now.bytes.now right.now.bytes.now) (written r)) }
+{
+    match not_lowered(alloc, left, right, pair)? {
+        Some(line) => Ok(refused(line)),
+        None => report_task(alloc, left, right, pair, task),
+    }
+}
+
 /// What a task reports of two files.
 fn report_sources(
     alloc: Global,
@@ -126,7 +146,7 @@ fn report_sources(
     ensures { IfOk result (λ r. SourceReports left.now.name.now right.now.name.now left.now.bytes.now right.now.bytes.now (TaskReports task.now left.now.name.now right.now.name.now left.now.bytes.now right.now.bytes.now) (written r)) }
 {
     match pair_sources(alloc, left, right)? {
-        Paired::Together(pair) => report_task(alloc, left, right, &pair, task),
+        Paired::Together(pair) => report_lowered(alloc, left, right, &pair, task),
         Paired::Refused(text) => Ok(refused(text)),
     }
 }

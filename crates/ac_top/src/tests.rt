@@ -9,6 +9,7 @@ mod instance_values;
 mod instance_words;
 mod later;
 mod limit;
+mod lowering;
 mod pair;
 mod prove;
 mod rule;
