@@ -1,5 +1,5 @@
 //! The ends of the tree of a difference.
-ghost use Rattle.std.specs.Prelude.{◌≡◌, ◌≤◌, List, slice_get};
+ghost use Rattle.std.specs.Prelude.{◌≡◌, IfOk};
 ghost use Rattle.std.specs.Option.{option_copied};
 ghost use Rattle.ac_sets.specs.Ends.{conj_of, is_among, stands, part_refusal, IsInPart};
 ghost use Rattle.ac_sets.specs.Moves.{moved_row};

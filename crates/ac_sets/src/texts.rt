@@ -1,5 +1,5 @@
 //! The texts of unions.
-ghost use Rattle.std.specs.Prelude.{◌≡◌, ◌++◌, ◌∷◌, [], ◌+◌, pos, codes, decimal, length, unsigned_abs, IfOk, OnOk, if◌then◌else◌};
+ghost use Rattle.std.specs.Prelude.{◌≡◌, ◌++◌, ◌∷◌, [], ◌+◌, pos, codes, decimal, length, unsigned_abs, false, IfOk, OnOk, if◌then◌else◌};
 ghost use Rattle.std.specs.Fmt.{signed_decimal};
 ghost use Rattle.ac_sets.specs.Texts.{column_name, multiple_text, term_of, terms_from, form_text, row_text, rows_text, pieces_text};
 ghost use Rattle.ac_sets.specs.Printing.{continued, has_terms};
@@ -83,6 +83,7 @@ fn push_term(
 }
 
 /// Adds the terms of the coefficients that are not 0, and answers whether there are any.
+#[tactic(auto, using(crate::proofs::Sums::terms_steps))]
 fn push_terms(bytes: &mut Vec<u8>, coefs: &[i128], names: &[Name]) -> Result<bool, AllocError>
     ensures text { IfOk result (λ now. bytes.new.items ≡ bytes.old.items ++ continued false (terms_from names.now 0 coefs.now)) }
     ensures any { IfOk result (λ now. now ≡ has_terms false (terms_from names.now 0 coefs.now)) }
@@ -108,6 +109,7 @@ fn push_constant(bytes: &mut Vec<u8>, any: bool, konst: &i128) -> Result<bool, A
 }
 
 /// Adds a form.
+#[tactic(auto, using(crate::proofs::Sums::form_steps))]
 fn push_form(bytes: &mut Vec<u8>, names: &[Name], form: &Form) -> Result<(), AllocError>
     ensures { OnOk result (bytes.new.items ≡ bytes.old.items ++ form_text names.now form.now) }
 {

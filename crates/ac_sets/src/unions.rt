@@ -21,6 +21,7 @@ pub struct Union {
 
 impl Union {
     /// Whether the union is well made: each piece is, and has the visible columns.
+    #[tactic(auto, using(crate::proofs::Searches::pieces_steps))]
     pub fn is_well_made(&self) -> bool
         ensures { IsTrue result ↔ IsUnion self.now }
     {
@@ -33,6 +34,7 @@ impl Union {
     }
 
     /// Whether no piece has more than that many columns.
+    #[tactic(auto, using(crate::proofs::Searches::within_steps))]
     pub fn is_within(&self, columns: usize) -> bool
         ensures { IsTrue result ↔ AreWithin columns self.now.pieces }
     {
@@ -47,6 +49,7 @@ impl Union {
     /// Whether a point, which has a number for each column of the widest piece, meets one of the pieces, each at its
     /// first numbers. The pieces and their rows are tested in order, up to the first that decides; `Wide` exactly where
     /// one up to there can't be evaluated in `i128`. It takes no memory.
+    #[tactic(auto, using(crate::proofs::Searches::search_steps))]
     pub fn contains(&self, point: &[i128]) -> Result<bool, Wide>
         requires made { IsUnion self.now }
         requires columns { AreWithin (length point.now) self.now.pieces }
