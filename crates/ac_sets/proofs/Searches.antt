@@ -1,6 +1,6 @@
 -- The search of a union for a point, and the tests of its pieces.
-use Rattle.std.proofs.Common.{◌≡◌, ◌⊎◌, inl, inr, ℕ, zero, suc, ◌+◌, ◌-◌, ◌<◌, ◌≤◌, ℤ, List, [], ◌∷◌, ◌++◌, length, take, drop, get_or, refl, sym, ap, ◌∙◌, subst, arith, min}
-use Rattle.std.proofs.lemmas.List.{drop_more, drop_all, length-append, length-take-le, take-append-drop, take-take}
+use Rattle.std.proofs.Common.{◌≡◌, ◌⊎◌, inl, inr, ℕ, zero, suc, ◌+◌, ◌-◌, ◌<◌, ◌≤◌, ℤ, List, [], ◌∷◌, ◌++◌, length, take, drop, drop_of_length-le, get_or, refl, sym, ap, ◌∙◌, subst, arith, min}
+use Rattle.std.proofs.lemmas.List.{drop_more, length-append, length-take-le, take-append-drop, take-take}
 use Rattle.ac_forms.specs.Negation.{Extends, InSome}
 use Rattle.ac_forms.specs.Rows.{IsWellMade, Meets, CanTest}
 use Rattle.ac_forms.specs.declared.conj.Conj.{Conj}
@@ -43,10 +43,10 @@ search_found cs p i c h m e can met =
     (h.back (rw d (can, λ n. absurd (n met))), h.meets (rw d (inl met)))
 
 pub search_wide : (cs : List Conj) (p : List ℤ) (i : ℕ) (c : Conj) → SearchHalfway cs p i → i < length cs → c ≡ get_or cs i c → ¬ CanTest c.rows (take c.columns p) → ¬ CanSearch cs p
-search_wide cs p i c h m e no f = let d = split-at cs i c m e in no (rw d at (h.onward f)).0
+search_wide cs p i c h m e wide f = let d = split-at cs i c m e in wide (rw d at (h.onward f)).0
 
 pub search_end : (cs : List Conj) (p : List ℤ) (i : ℕ) → SearchHalfway cs p i → length cs ≤ i → CanSearch cs p × (¬ IsSomeMet p cs)
-search_end cs p i h l = let d = drop_all cs i l in (h.back (rw d tt), λ f. rw d at (h.met f))
+search_end cs p i h l = let d = drop_of_length-le cs l in (h.back (rw d tt), λ f. rw d at (h.met f))
 
 pub ruleset search_steps = (search_start, search_step, search_found, search_wide, search_end)
 
@@ -82,7 +82,7 @@ pub pieces_bad : (n : ℕ) (cs : List Conj) (i : ℕ) (c : Conj) → PiecesHalfw
 pieces_bad n cs i c h m e bad f = let d = split-at cs i c m e in bad (rw d at (h.onward f)).1
 
 pub pieces_end : (n : ℕ) (cs : List Conj) (i : ℕ) → PiecesHalfway n cs i → length cs ≤ i → ArePieces n cs
-pieces_end n cs i h l = let d = drop_all cs i l in h.back (rw d tt)
+pieces_end n cs i h l = let d = drop_of_length-le cs l in h.back (rw d tt)
 
 pub ruleset pieces_steps = (pieces_start, pieces_step, pieces_few, pieces_bad, pieces_end)
 
@@ -103,7 +103,7 @@ pub within_more : (n : ℕ) (cs : List Conj) (i : ℕ) (c : Conj) → WithinHalf
 within_more n cs i c h m e more f = let d = split-at cs i c m e in omega (arith, (rw d at (h.onward f)).0, more)
 
 pub within_end : (n : ℕ) (cs : List Conj) (i : ℕ) → WithinHalfway n cs i → length cs ≤ i → AreWithin n cs
-within_end n cs i h l = let d = drop_all cs i l in h.back (rw d tt)
+within_end n cs i h l = let d = drop_of_length-le cs l in h.back (rw d tt)
 
 pub ruleset within_steps = (within_start, within_step, within_more, within_end)
 
