@@ -125,9 +125,9 @@ as-point p c x = (x.0, record { long = x.1; meets = x.2 })
 common-extends : (n : ℕ) (c d : Conj) (p : List ℤ) → n ≤ c.columns → n ≤ d.columns → IsWellMade c → length p ≡ n → Extends p (common n c d) ↔ (Extends p c × Extends p d)
 common-extends n c d p low lower w l = (
   (λ x. let t = pair-of n c d p x.0 low lower w l (record { long = x.1; meets = x.2 }) in
-  ((t.first, t.at_first.long, t.at_first.meets), (t.second, t.at_second.long, t.at_second.meets))),
+      ((t.first, t.at_first.long, t.at_first.meets), (t.second, t.at_second.long, t.at_second.meets))),
   (λ x. let t = pair-in n c d p x.0.0 x.1.0 low lower w l (record { long = x.0.1; meets = x.0.2 }) (record { long = x.1.1; meets = x.1.2 }) in
-  (x.0.0 ++ x.1.0, t.long, t.meets)),
+      (x.0.0 ++ x.1.0, t.long, t.meets)),
 )
 
 common-fixed : (n : ℕ) (c d : Conj) → n ≤ c.columns → n ≤ d.columns → IsWellMade c → IsFixed n c → IsFixed n d → IsFixed n (common n c d)
@@ -180,8 +180,8 @@ pub common-points : (a b u : Union) → a.visible ≡ b.visible → IsUnion a �
 common-points a b u e w v s t p =
     let second : ArePieces a.visible b.pieces = subst (λ (n : ℕ). ArePieces n b.pieces) (sym e) v in (
       (λ h. let l = h.0 ∙ s in
-      let x = all-out a.visible a.pieces b.pieces p w second l (subst (InSome p) t h.1) in
-      ((l, x.0), (l ∙ e, x.1))),
+          let x = all-out a.visible a.pieces b.pieces p w second l (subst (InSome p) t h.1) in
+          ((l, x.0), (l ∙ e, x.1))),
       (λ h. (h.0.0 ∙ sym s, subst (InSome p) (sym t) (all-in a.visible a.pieces b.pieces p w second h.0.0 h.0.1 h.1.1))),
     )
 

@@ -1,12 +1,14 @@
 -- The path of the tree of a difference: the rows behind each row of what is taken away, and the ends beside it.
-use Rattle.std.specs.Prelude.{◌≡◌, ℕ, ◌+◌, ℤ, ◌-ℤ◌, pos, neg_ℤ, List, [], ◌∷◌, None}
+use Rattle.std.specs.Prelude.{◌≡◌, ℕ, ◌+◌, ℤ, ◌-ℤ◌, pos, neg_ℤ, List, [], ◌∷◌, length, None}
 use Rattle.ac_forms.specs.Affine.{Affine, shifted}
 use Rattle.ac_forms.specs.Negation.{opposite, above, below, with_column}
 use Rattle.ac_forms.specs.declared.conj.Conj.{Conj}
 use Rattle.ac_forms.specs.declared.row.Row.{Row}
 use Rattle.ac_forms.specs.declared.row.Row.TheVariants.{Eq, Div, Ge}
+use Rattle.ac_cert.specs.Accepted.{Accepts}
 use Rattle.ac_cert.specs.Faults.{Refusal}
 use Rattle.ac_cert.specs.Rules.{with_row, with_column_row}
+use Rattle.ac_cert.specs.declared.types.Tree.{Tree}
 use Rattle.ac_sets.specs.declared.parts.Part.{Part}
 use Rattle.ac_sets.specs.declared.parts.Part.TheVariants.{Piece, Inside}
 
@@ -36,3 +38,11 @@ SidesStand refusal (Ge f) c k = refusal (Piece k) (with_row c (Ge (below f))) �
 abbrev pub EndsStand : Refusal Part → List Row → Conj → ℕ → Type 0
 EndsStand refusal [] c k = refusal Inside c ≡ None
 EndsStand refusal (r ∷ rs) c k = SidesStand refusal r c k × EndsStand refusal rs (behind c r) (k + piece_count r)
+
+-- behind a path of so many columns and rows the tree is accepted, where the pieces of the row, from piece k on, and the further tree are
+abbrev pub LeadsOn : Row → ℕ → ℕ → ℕ → Tree Part → Tree Part → Type 0
+LeadsOn r columns count k onward t = (refusal : Refusal Part) (c : Conj) → c.columns ≡ columns → length c.rows ≡ count → SidesStand refusal r c k → Accepts onward refusal (behind c r) → Accepts t refusal c
+
+-- behind a path of so many columns and rows the tree is accepted, where all ends along the rows are, from piece k on
+abbrev pub Leads : List Row → ℕ → ℕ → ℕ → Tree Part → Type 0
+Leads rs columns count k t = (refusal : Refusal Part) (c : Conj) → c.columns ≡ columns → length c.rows ≡ count → EndsStand refusal rs c k → Accepts t refusal c

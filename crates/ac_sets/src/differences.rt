@@ -46,6 +46,7 @@ pub fn subtract(alloc: Global, a: &Conj, b: &Conj) -> Result<Difference, FormSto
 }
 
 /// The pieces of the conjunction outside the rows.
+#[tactic(auto, using(crate::proofs::Outsides::outside_steps))]
 fn pieces_outside(alloc: Global, conj: &Conj, rows: &[Row]) -> Result<Items<Conj>, FormStop>
     requires { AreRowsOver conj.now.columns rows.now }
     ensures { MadeWhere result (NegationsFit rows.now) (λ pieces. pieces ≡ outside conj.now rows.now) }
