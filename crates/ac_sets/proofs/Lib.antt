@@ -5,3 +5,4 @@ pub mod Opposites
 pub mod Divided
 pub mod Branches
 pub mod Outsides
+pub mod Standing
