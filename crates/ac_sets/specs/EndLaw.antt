@@ -88,6 +88,14 @@ cut n by p room =
       last = omega (arith, length-drop by rest, left, room);
     }
 
+cut-extends : (n : ℕ) (path c : Conj) (p : List ℤ) → n ≤ c.columns → c.columns ≤ path.columns → list_all (λ r. is_among path.rows (moved_row n (path.columns - c.columns) r)) c.rows ≡ true → IsPoint path p → Cut n (path.columns - c.columns) p → Extends (take n p) c
+cut-extends n path c p low high e at x =
+    let met = subst (Meets path.rows) (sym x.whole) at.meets in
+    let all = subst (λ (by : ℕ). list_all (λ r. is_among path.rows (moved_row n by r)) c.rows ≡ true) (sym x.between) e in
+    let meets = standing-meets n path.rows c.rows x.front x.gap x.back x.first all met in
+    let long : length (x.front ++ x.back) ≡ c.columns = omega (arith, length-append x.front x.back, x.first, x.last, at.long, low, high) in
+    subst (λ (q : List ℤ). Extends q c) x.taken (x.back, long, meets)
+
 standing-in : (n : ℕ) (path : Conj) (p : List ℤ) (o : Option Conj) → is_standing n path o ≡ true → IsPoint path p → ExtendsSome (take n p) o
 standing-in n path p None e at = absurd cc
 standing-in n path p (Some c) e at =
@@ -95,11 +103,7 @@ standing-in n path p (Some c) e at =
     let d = both_of (nat_le c.columns path.columns) _ b.1 in
     let low : n ≤ c.columns = grind (arith, b.0) in
     let high : c.columns ≤ path.columns = grind (arith, d.0) in
-    let x = cut n (path.columns - c.columns) p (omega (arith, low, high, at.long)) in
-    let met = subst (λ (q : List ℤ). Meets path.rows q) (sym x.whole) at.meets in
-    let all = subst (λ (by : ℕ). list_all (λ r. is_among path.rows (moved_row n by r)) c.rows ≡ true) (sym x.between) d.1 in
-    let meets = standing-meets n path.rows c.rows x.front x.gap x.back x.first all met in
-    subst (λ (q : List ℤ). Extends q c) x.taken (x.back, omega (arith, length-append x.front x.back, x.first, x.last, at.long, low, high), meets)
+    cut-extends n path c p low high d.1 at (cut n (path.columns - c.columns) p (omega (arith, low, high, at.long)))
 
 accepted : (b : Bool) → cond b None (Some rule.Hit) ≡ None → b ≡ true
 accepted true e = refl

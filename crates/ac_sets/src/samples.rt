@@ -14,13 +14,14 @@ pub(crate) const GE: i128 = 2;
 
 pub(crate) type Given = [i128; 7];
 
-/// A row, without the zeros at the end of its form.
-pub(crate) fn row_of(alloc: Global, given: &Given) -> Result<Row, AllocError> {
-    let mut last = 7;
-    while last > 3 && given[last - 1] == 0 {
-        last -= 1;
-    }
-    let form = Form::from_parts(alloc, given[2], &given[3..last])?;
+/// A row over 2, 3 or 4 columns.
+pub(crate) fn row_of(alloc: Global, columns: usize, given: &Given) -> Result<Row, AllocError> {
+    let coefs = match columns {
+        2 => &given[3..5],
+        3 => &given[3..6],
+        _ => &given[3..7],
+    };
+    let form = Form::from_parts(alloc, given[2], coefs)?;
     Ok(if given[0] == EQ {
         Row::Eq(form)
     } else if given[0] == DIV {
@@ -33,7 +34,7 @@ pub(crate) fn row_of(alloc: Global, given: &Given) -> Result<Row, AllocError> {
 pub(crate) fn conj_of(alloc: Global, columns: usize, given: &[Given]) -> Result<Conj, AllocError> {
     let mut rows = Items::new(alloc);
     for row in given {
-        rows.push(row_of(alloc, row)?)?;
+        rows.push(row_of(alloc, columns, row)?)?;
     }
     Ok(Conj { columns, rows })
 }
@@ -67,7 +68,8 @@ pub(crate) fn meets(conj: &Conj, x: i128, y: i128) -> Result<bool, Fail> {
     if conj.columns == 2 {
         return holds(conj, &[x, y]);
     }
-    for quotient in -30i128..30 {
+    for step in 0u8..60 {
+        let quotient = step as i128 - 30;
         if holds(conj, &[x, y, quotient])? {
             return Ok(true);
         }

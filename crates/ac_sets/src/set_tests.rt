@@ -95,13 +95,23 @@ fn is_exact_at(pieces: &[Conj], a: &Conj, b: &Conj, x: i128, y: i128) -> Result<
     Ok(count_at(pieces, x, y)? == wanted as usize)
 }
 
+/// The same at each point of a column of a box.
+fn is_exact_along(pieces: &[Conj], a: &Conj, b: &Conj, x: i128) -> Result<bool, Fail> {
+    for step in 0u8..9 {
+        let y = step as i128 - 4;
+        if !is_exact_at(pieces, a, b, x, y)? {
+            return Ok(false);
+        }
+    }
+    Ok(true)
+}
+
 /// The same at each point of a box.
 fn is_exact(pieces: &[Conj], a: &Conj, b: &Conj) -> Result<bool, Fail> {
-    for x in -4i128..12 {
-        for y in -4i128..5 {
-            if !is_exact_at(pieces, a, b, x, y)? {
-                return Ok(false);
-            }
+    for step in 0u8..16 {
+        let x = step as i128 - 4;
+        if !is_exact_along(pieces, a, b, x)? {
+            return Ok(false);
         }
     }
     Ok(true)
