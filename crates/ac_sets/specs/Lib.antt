@@ -1,0 +1,9 @@
+pub mod Unions
+pub mod Moves
+pub mod MoveLaws
+pub mod Differences
+pub mod Ends
+pub mod EndLaw
+pub mod Paths
+pub mod Texts
+pub mod Printing

@@ -1,0 +1,94 @@
+//! The ends of the tree of a difference.
+ghost use Rattle.std.specs.Prelude.{◌≡◌, IfOk};
+ghost use Rattle.std.specs.Option.{option_copied};
+ghost use Rattle.ac_sets.specs.Ends.{conj_of, is_among, stands, part_refusal, IsInPart};
+ghost use Rattle.ac_sets.specs.Moves.{moved_row};
+
+use crate::moves::moved_row;
+use ac_cert::{End, EndStop, Rule};
+use ac_forms::{Conj, Row};
+use ac_items::Items;
+use std::alloc::{AllocError, Global};
+
+/// An end of the tree of a difference.
+#[derive(Clone, Copy, Debug, PartialEq, Eq, Drop)]
+pub enum Part {
+    /// The piece with this number, from 0.
+    Piece(usize),
+    /// The conjunction that is taken away.
+    Inside,
+}
+
+/// What the ends of the tree of a difference speak of.
+#[derive(Debug, Drop)]
+pub struct Parts {
+    /// The pieces, which may have further columns behind those of the conjunction that is taken away.
+    pub pieces: Items<Conj>,
+    /// The conjunction that is taken away.
+    pub inside: Conj,
+}
+
+/// The conjunction of a part.
+fn conj_of<'a>(parts: &'a Parts, part: &Part) -> Option<&'a Conj>
+    ensures { option_copied result ≡ conj_of parts.now part.now }
+{
+    match part {
+        Part::Piece(at) => parts.pieces.get(*at),
+        Part::Inside => Some(&parts.inside),
+    }
+}
+
+/// Whether a row is among the rows.
+fn is_among(rows: &[Row], row: &Row) -> bool
+    ensures { result ≡ is_among rows.now row.now }
+{
+    for other in rows {
+        if *other == *row {
+            return true;
+        }
+    }
+    false
+}
+
+/// Whether each row of the conjunction is among those of the path, whose last columns are its further ones.
+fn stands(alloc: Global, visible: usize, path: &Conj, conj: &Conj) -> Result<bool, AllocError>
+    ensures { IfOk result (λ standing. standing ≡ stands visible path.now conj.now) }
+{
+    if conj.columns < visible || path.columns < conj.columns {
+        return Ok(false);
+    }
+    let by = path.columns - conj.columns;
+    for row in conj.rows.as_slice() {
+        if !is_among(path.rows.as_slice(), &moved_row(alloc, visible, by, row)?) {
+            return Ok(false);
+        }
+    }
+    Ok(true)
+}
+
+impl End for Part {
+    type Env = Parts;
+
+    ghost use Rattle.std.specs.Prelude.{◌≡◌, ◌≤◌, List, Option};
+    ghost use Rattle.ac_sets.specs.declared.parts.Part.{Part};
+    ghost use Rattle.ac_sets.specs.declared.parts.Parts.{Parts};
+    ghost use Rattle.ac_sets.specs.Ends.{part_refusal, IsInPart};
+    ghost use Rattle.ac_sets.specs.EndLaw.{part_sound};
+
+    ghost means = { λ e env p. IsInPart env e p };
+
+    ghost refusal = { λ e env c. part_refusal env e c };
+
+    ghost sound = { λ e env c p r w at. part_sound env e c p r at };
+
+    fn check(&self, alloc: Global, env: &Parts, rows: &Conj) -> Result<(), EndStop> {
+        let Some(conj) = conj_of(env, self) else {
+            return Err(EndStop::Refused(Rule::Hit));
+        };
+        if stands(alloc, env.inside.columns, rows, conj)? {
+            Ok(())
+        } else {
+            Err(EndStop::Refused(Rule::Hit))
+        }
+    }
+}
