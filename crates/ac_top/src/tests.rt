@@ -1,7 +1,9 @@
 mod instance;
+mod instance_examples;
 mod instance_halts;
 mod instance_kernels;
 mod instance_loops;
+mod instance_nests;
 mod instance_outputs;
 mod instance_reach;
 mod instance_steps;
