@@ -1,11 +1,11 @@
 -- What stays in `i128`, from the answers of exact arithmetic.
-use Rattle.std.proofs.Common.{◌≡◌, ◌↔◌, ℤ, pos, ◌+ℤ◌, ◌*ℤ◌, Bool, true, false, ◌&&◌, Some, None, refl}
+use Rattle.std.proofs.Common.{◌≡◌, ◌↔◌, ℤ, pos, ◌+ℤ◌, ◌*ℤ◌, List, Bool, true, false, ◌&&◌, Some, None, refl}
 use Rattle.std.specs.Prelude.{unsigned_abs}
-use Rattle.ac_forms.specs.Affine.{Affine, mix_numbers, combined, CanCombine, scaled, shifted, FormFits}
+use Rattle.ac_forms.specs.Affine.{Affine, mix_numbers, combined, CanCombine, CanEvaluate, scaled, shifted, FormFits}
 use Rattle.ac_forms.specs.Fits.{Fits, fits, all_fit}
 use Rattle.ac_forms.specs.Negation.{opposite}
-use Rattle.ac_forms.specs.Tests.{form_fits, can_combine}
-use Rattle.ac_forms.proofs.Twins.{fits-is, and-is, all_fit-is, form_fits-is}
+use Rattle.ac_forms.specs.Tests.{form_fits, can_combine, can_evaluate}
+use Rattle.ac_forms.proofs.Twins.{fits-is, and-is, all_fit-is, form_fits-is, can_evaluate-is}
 use Rattle.ac_cert.specs.Rules.{combination, rest_of, multiple_of, greater_modulus}
 use Rattle.ac_cert.proofs.Truths.{test-false}
 
@@ -68,6 +68,12 @@ modulus_none m k h = rw (fits_false _ h) refl
 pub modulus_wide : (m k : ℤ) → ¬ Fits (m *ℤ pos (unsigned_abs k)) → greater_modulus m k ≡ None
 unfolding greater_modulus
 modulus_wide m k h = rw (fits_false _ h, and-false (fits (pos (unsigned_abs k)))) refl
+
+pub evaluate_true : (f : Affine) (p : List ℤ) → CanEvaluate f p → can_evaluate f p ≡ true
+evaluate_true f p h = (can_evaluate-is f p).1 h
+
+pub evaluate_false : (f : Affine) (p : List ℤ) → ¬ CanEvaluate f p → can_evaluate f p ≡ false
+evaluate_false f p h = test-false (can_evaluate f p) (can_evaluate-is f p) h
 
 pub true_fits : (z : ℤ) → fits z ≡ true → Fits z
 true_fits z h = (fits-is z).0 h

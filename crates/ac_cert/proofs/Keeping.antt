@@ -64,6 +64,9 @@ row-made n [] i r w e = absurd cc
 row-made n (s ∷ rows) zero r w e = subst (λ (x : Row). IsRowOver n x) (some-is s r e) w.0
 row-made n (s ∷ rows) (suc i) r w e = row-made n rows i r w.1 e
 
+pub row_within : (n : ℕ) (rows : List Row) (i : ℕ) (f : Affine) → AreRowsOver n rows → slice_get rows i ≡ Some (Eq f) → length f.coefs ≤ n
+row_within n rows i f w e = (row-made n rows i (Eq f) w e).0
+
 -- a further row that holds wherever the rows do
 pub keeps-push : (c : Conj) (r : Row) → IsWellMade c → IsRowOver c.columns r → ((p : List ℤ) → Meets c.rows p → Holds r p) → Keeps c (with_row c r)
 keeps-push c r w l h = record {

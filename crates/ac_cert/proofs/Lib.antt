@@ -2,6 +2,13 @@ pub mod Truths
 pub mod Fitting
 pub mod Stands
 pub mod Keeping
+pub mod OneColumn
+pub mod ColumnParts
+pub mod DarkShadows
+pub mod Equalities
+pub mod Spreads
+pub mod Lifting
+pub mod Covering
 pub mod RowRules
 pub mod StepRules
 pub mod Equations
@@ -12,3 +19,8 @@ pub mod Checks
 pub mod Soundness
 pub mod EveryNumber
 pub mod Making
+pub mod Parts
+pub mod LeftMade
+pub mod Values
+pub mod Cleared
+pub mod GoingBack

@@ -8,3 +8,8 @@ pub mod Ends
 pub mod AbsurdLaw
 pub mod Accepted
 pub mod StepRows
+pub mod Bounds
+pub mod Choices
+pub mod ChoiceFits
+pub mod Splinters
+pub mod Extremes

@@ -2,22 +2,32 @@
 //! no integer point is lost.
 #![tactic(auto)]
 
+mod back;
 mod check;
+mod choose;
+mod column;
 mod ends;
 pub mod laws;
+mod leave;
+mod legal;
 mod make;
 mod names;
 mod numbers;
+mod replace;
 mod rows;
+mod shadow;
 mod steps;
 pub mod types;
 
 pub use check::{End, check_tree, walk};
+pub use choose::{Choice, StepStop, lift, step};
 pub use ends::Absurd;
 pub use make::{absurd_tree, behind_steps, end_tree, residue_tree, split_tree};
 pub use steps::{apply, apply_onto, residue, split};
 pub use types::{EndStop, Next, Rule, Tree, TreeFault};
 
+#[cfg(test)]
+mod choice_tests;
 #[cfg(test)]
 mod samples;
 #[cfg(test)]
