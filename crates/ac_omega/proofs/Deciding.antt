@@ -1,0 +1,44 @@
+-- A question's walk, and what it decides.
+use Rattle.std.proofs.Common.{◌≡◌, inl, ℕ, ◌+◌, ℤ, List, Some, None, Result, Err, Bool, true, false, cond, refl, ◌∙◌, ap, sym, subst}
+use Rattle.ac_forms.specs.NormalForm.{normal_conj, RowsFit}
+use Rattle.ac_forms.specs.Rows.{IsWellMade, Meets}
+use Rattle.ac_forms.specs.Tests.{rows_fit}
+use Rattle.ac_forms.specs.declared.conj.Conj.{Conj}
+use Rattle.ac_forms.proofs.Twins.{rows_fit-is}
+use Rattle.ac_cert.specs.Points.{IsPoint}
+use Rattle.ac_omega.specs.declared.decision.Decided.{Decided}
+use Rattle.ac_omega.specs.declared.sweeping.Halt.{Halt}
+use Rattle.ac_omega.specs.declared.sweeping.Halt.TheVariants as halt
+use Rattle.ac_omega.specs.Decisions.{Decides, walk_of}
+use Rattle.ac_omega.specs.Elimination.{eliminating}
+use Rattle.ac_omega.specs.Maxima.{Maxima, nothing_met, with_rows}
+use Rattle.ac_omega.specs.Searching.{Searches, IsNormal, columns_to}
+use Rattle.ac_omega.specs.Walk as def
+use Rattle.ac_omega.proofs.NormalMade.{conj_made}
+
+pub normal-made : (q d : Conj) → IsWellMade q → d ≡ normal_conj q → IsWellMade d
+normal-made q d made e = subst IsWellMade (sym e) (conj_made q made)
+
+pub normal-normal : (q d : Conj) → d ≡ normal_conj q → IsNormal d
+normal-normal q d e = (q.rows, ap (λ x. x.rows) e)
+
+pub normal-wide : (budget : ℕ) (q : Conj) → (RowsFit q.rows → ⊥) → walk_of budget q ≡ def.Wide
+normal-wide budget q h = by (rows_fit q.rows) refl
+  where
+    by : (t : Bool) → rows_fit q.rows ≡ t → def.entered (cond t (Some (normal_conj q)) None) (λ c. def.walk (eliminating (columns_to c.columns)) (budget + 1) budget c 0 (with_rows q.rows nothing_met)) ≡ def.Wide
+    by true e = absurd (h ((rows_fit-is q.rows).0 e))
+    by false e = refl
+
+pub walk-is : (budget : ℕ) (q d : Conj) (s : Maxima) → RowsFit q.rows → d ≡ normal_conj q → s ≡ with_rows q.rows nothing_met → walk_of budget q ≡ def.walk (eliminating (columns_to d.columns)) (budget + 1) budget d 0 s
+walk-is budget q d s f e m = rw ((rows_fit-is q.rows).1 f, e, m) refl
+
+pub err-decides : (e : Halt) (q : Conj) (v w : def.Walked Maxima) → v ≡ w → Searches (Err e) w → Decides (Err e) q v
+err-decides halt.Wide q v w s h = inl (s ∙ h)
+err-decides (halt.Spent c) q v w s h = (h.0, s ∙ h.1, h.2)
+err-decides (halt.Memory e) q v w s h = tt
+
+pub found-decides : (r : Result Decided Halt) (q : Conj) (p : List ℤ) (v w : def.Walked Maxima) → v ≡ w → w ≡ def.Found p → Decides r q (def.Found p) → Decides r q v
+found-decides r q p v w s h d = subst (λ x. Decides r q x) (sym (s ∙ h)) d
+
+pub point-back : (q d : Conj) (p : List ℤ) → d ≡ normal_conj q → (Meets d.rows p → Meets q.rows p) → IsPoint d p → IsPoint q p
+point-back q d p e m h = record { long = h.long ∙ ap (λ x. x.columns) e; meets = m h.meets }

@@ -1,0 +1,108 @@
+-- The next column is one of the columns, and its choices are legal.
+use Rattle.std.proofs.Common.{◌≡◌, inl, inr, ℕ, ◌<◌, Bool, true, false, cond, ◌||◌, ◌==◌, eq-eqb, ℤ, List, [], ◌∷◌, Option, Some, None, refl, subst}
+use Rattle.std.proofs.lemmas.Bool.{lt-ltb}
+use Rattle.std.specs.List.{filter}
+use Rattle.ac_forms.proofs.Passes.{moduli_of}
+use Rattle.ac_forms.specs.Rows.{IsWellMade}
+use Rattle.ac_forms.specs.declared.conj.Conj.{Conj}
+use Rattle.ac_forms.specs.declared.row.Row.{Row}
+use Rattle.ac_forms.specs.declared.row.Row.TheVariants.{Eq, Div, Ge}
+use Rattle.ac_cert.specs.Bounds.{has_column}
+use Rattle.ac_cert.specs.Choices.{are_absurd}
+use Rattle.ac_cert.specs.declared.choose.Choice.{Choice}
+use Rattle.ac_omega.specs.Answers.{AreLegal}
+use Rattle.ac_omega.specs.Columns.{AreColumns, better, precedes, least_from, or_else, by_equality, by_rule, passes, key, size_key, next_column}
+use Rattle.ac_omega.specs.declared.ranking.Rule.{Rule}
+use Rattle.ac_omega.specs.declared.ranking.Rule.TheVariants as rule
+use Rattle.ac_omega.specs.Projection.{is_among}
+use Rattle.ac_omega.specs.Tries.{Tries, tries_for}
+use Rattle.ac_omega.specs.Walk.{IsTried}
+use Rattle.ac_omega.proofs.Legal.{Allowed, AreAllowed, all-allowed}
+
+-- P holds of each of these columns
+abbrev pub Each : (ℕ → Type 0) → List ℕ → Type 0
+Each P [] = Unit {0}
+Each P (z ∷ zs) = P z × Each P zs
+
+better-in : (P : ℕ → Type 0) (key : ℕ → Option ℤ) (best : Option ℕ) (x z : ℕ) → ((y : ℕ) → best ≡ Some y → P y) → P x → better key best x ≡ Some z → P z
+better-in P key None x z b l e = let s : x ≡ z = cc in subst P s l
+better-in P key (Some y) x z b l e = by (precedes key x y) e
+  where
+    by : (t : Bool) → Some (cond t x y) ≡ Some z → P z
+    by true e = let s : x ≡ z = cc in subst P s l
+    by false e = b z e
+
+from-in : (P : ℕ → Type 0) (key : ℕ → Option ℤ) (best : Option ℕ) (zs : List ℕ) (z : ℕ) → ((y : ℕ) → best ≡ Some y → P y) → Each P zs → least_from key best zs ≡ Some z → P z
+from-in P key best [] z b a e = b z e
+from-in P key best (x ∷ xs) z b a e = from-in P key (better key best x) xs z (λ y f. better-in P key best x y b a.0 f) a.1 e
+
+filter-in : (P : ℕ → Type 0) (test : ℕ → Bool) (zs : List ℕ) → Each P zs → Each P (filter test zs)
+filter-in P test [] a = tt
+filter-in P test (x ∷ xs) a = by (test x) (filter-in P test xs a.1)
+  where
+    by : (t : Bool) → Each P (filter test xs) → Each P (cond t (x ∷ filter test xs) (filter test xs))
+    by true f = (a.0, f)
+    by false f = f
+
+none-in : (P : ℕ → Type 0) (z : ℕ) → None ≡ Some z → P z
+none-in P z e = absurd cc
+
+or-in : (P : ℕ → Type 0) (z : ℕ) (o p : Option ℕ) → (o ≡ Some z → P z) → (p ≡ Some z → P z) → or_else o p ≡ Some z → P z
+or-in P z None p f g e = g e
+or-in P z (Some y) p f g e = f e
+
+least-in : (P : ℕ → Type 0) (key : ℕ → Option ℤ) (test : ℕ → Bool) (zs : List ℕ) (z : ℕ) → Each P zs → least_from key None (filter test zs) ≡ Some z → P z
+least-in P key test zs z a e = from-in P key None (filter test zs) z (λ y. none-in P y) (filter-in P test zs a) e
+
+equality-in : (P : ℕ → Type 0) (vars : List ℕ) (rows : List Row) (z : ℕ) → Each P vars → by_equality vars rows ≡ Some z → P z
+equality-in P vars [] z a e = absurd cc
+equality-in P vars (Eq f ∷ rs) z a e =
+    or-in P z (least_from (size_key f) None (filter (λ x. has_column x (Eq f)) vars)) (by_equality vars rs) (least-in P (size_key f) (λ x. has_column x (Eq f)) vars z a) (equality-in P vars rs z a) e
+equality-in P vars (Div m f ∷ rs) z a e = equality-in P vars rs z a e
+equality-in P vars (Ge f ∷ rs) z a e = equality-in P vars rs z a e
+
+rule-in : (P : ℕ → Type 0) (r : Rule) (vars : List ℕ) (rows : List Row) (z : ℕ) → Each P vars → by_rule r vars rows ≡ Some z → P z
+rule-in P r vars rows z a e = least-in P (key r rows) (passes r rows) vars z a e
+
+-- what holds of each column holds of the next one
+next-in : (P : ℕ → Type 0) (vars : List ℕ) (rows : List Row) (z : ℕ) → Each P vars → next_column vars rows ≡ Some z → P z
+unfolding next_column
+next-in P vars rows z a e =
+    or-in P z (by_equality vars rows) _ (equality-in P vars rows z a)
+    (or-in P z (by_rule rule.Divided vars rows) _ (rule-in P rule.Divided vars rows z a)
+    (or-in P z (by_rule rule.OneSided vars rows) _ (rule-in P rule.OneSided vars rows z a)
+    (or-in P z (by_rule rule.UnitPairs vars rows) _ (rule-in P rule.UnitPairs vars rows z a) (rule-in P rule.TwoSided vars rows z a)))) e
+
+each-below : (n : ℕ) (vars : List ℕ) → AreColumns n vars → Each (λ z. z < n) vars
+each-below n [] a = tt
+each-below n (z ∷ zs) a = (a.0, each-below n zs a.1)
+
+pub next-below : (n : ℕ) (vars : List ℕ) (rows : List Row) (z : ℕ) → AreColumns n vars → next_column vars rows ≡ Some z → z < n
+next-below n vars rows z a e = next-in (λ y. y < n) vars rows z (each-below n vars a) e
+
+each-more : (y : ℕ) (zs vars : List ℕ) → Each (λ z. is_among z vars ≡ true) zs → Each (λ z. is_among z (y ∷ vars) ≡ true) zs
+each-more y [] vars a = tt
+each-more y (z ∷ zs) vars a = (rw a.0 (elim (z == y) as (λ t. (t || true) ≡ true) [ true ↦ refl | false ↦ refl ]), each-more y zs vars a.1)
+
+each-among : (vars : List ℕ) → Each (λ z. is_among z vars ≡ true) vars
+each-among [] = tt
+each-among (z ∷ zs) = (rw (eq-eqb z z refl) refl, each-more z zs zs (each-among zs))
+
+pub least-among : (rank : ℕ → Option ℤ) (zs : List ℕ) (z : ℕ) → least_from rank None zs ≡ Some z → is_among z zs ≡ true
+least-among rank zs z e = from-in (λ y. is_among y zs ≡ true) rank None zs z (λ y. none-in (λ x. is_among x zs ≡ true) y) (each-among zs) e
+
+pub next-among : (vars : List ℕ) (rows : List Row) (z : ℕ) → next_column vars rows ≡ Some z → is_among z vars ≡ true
+next-among vars rows z e = next-in (λ y. is_among y vars ≡ true) vars rows z (each-among vars) e
+
+pub allowed-each : (z : ℕ) (rows : List Row) (hs : Tries) (h : Choice) → AreAllowed z rows hs → IsTried h hs → Allowed z rows h
+unfolding AreAllowed
+allowed-each z rows [] h a i = absurd i
+allowed-each z rows (None ∷ hs) h a (inl s) = absurd cc
+allowed-each z rows (None ∷ hs) h a (inr i) = allowed-each z rows hs h a i
+allowed-each z rows (Some x ∷ hs) h a (inl s) = let e : x ≡ h = cc in subst (Allowed z rows) e a.0
+allowed-each z rows (Some x ∷ hs) h a (inr i) = allowed-each z rows hs h a.1 i
+
+pub tries-legal : (z : ℕ) (c : Conj) → IsWellMade c → z < c.columns → are_absurd c.rows ≡ false → AreLegal (tries_for z c.rows) c
+tries-legal z c made below e = λ h i.
+    let a = allowed-each z c.rows (tries_for z c.rows) h (all-allowed z c.rows (moduli_of c.columns c.rows made)) i in
+    rw (e, a.column, lt-ltb z c.columns below, a.allowed) refl

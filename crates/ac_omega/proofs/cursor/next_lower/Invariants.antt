@@ -1,0 +1,6 @@
+use Rattle.std.proofs.Common.{◌≡◌, drop}
+use Rattle.ac_omega.specs.Tries.{splinters}
+use Rattle.ac_omega.proofs.cursor.next_lower.Given as goal
+
+abbrev pub invariant-loop-i : goal.invariant-loop-i
+invariant-loop-i l = splinters l.z l.a l.start (drop l.start l.rows) ≡ splinters l.z l.a l.i (drop l.i l.rows)

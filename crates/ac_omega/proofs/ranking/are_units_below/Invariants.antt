@@ -1,0 +1,7 @@
+use Rattle.std.proofs.Common.{◌≡◌, drop}
+use Rattle.ac_cert.specs.Bounds.{lows}
+use Rattle.ac_omega.specs.Columns.{are_units}
+use Rattle.ac_omega.proofs.ranking.are_units_below.Given as goal
+
+abbrev pub invariant-loop-row : goal.invariant-loop-row
+invariant-loop-row l = are_units (lows l.z l.rows) ≡ are_units (lows l.z (drop l.row-index l.rows))

@@ -1,0 +1,26 @@
+use Rattle.std.proofs.Common.{◌≡◌, ℕ, ◌<◌, ◌≤◌, ◌-◌, ◌*◌, ◌+◌, length}
+use Rattle.ac_omega.specs.Cursors.{tries_left, IsSound}
+use Rattle.ac_omega.specs.Searching.{tried, AreLegal}
+use Rattle.ac_omega.specs.Tries.{tries_for}
+use Rattle.ac_omega.proofs.search.+searches.Given as goal
+
+abbrev pub decreases-by_choice : goal.decreases-by_choice
+decreases-by_choice l = 3 * (l.budget - l.cost) + 1
+
+abbrev pub decreases-by_column : goal.decreases-by_column
+decreases-by_column l = 3 * (l.budget - l.cost) + 2
+
+abbrev pub decreases-search : goal.decreases-search
+decreases-search l = 3 * (l.budget - l.cost)
+
+abbrev pub invariant-by_column-choices : goal.invariant-by_column-choices
+invariant-by_column-choices l = record {
+  low : l.cost ≤ l.spent;
+  high : l.spent ≤ l.budget;
+  sound : IsSound l.z l.rows l.cursor;
+  legal : AreLegal (tries_left l.z l.rows l.cursor) l.conj;
+  so_far : (n : ℕ) → l.budget < n + l.cost → tried l.vars n l.budget l.conj (tries_for l.z l.conj.rows) l.cost l.fn.met ≡ tried l.vars n l.budget l.conj (tries_left l.z l.rows l.cursor) l.spent l.all;
+}
+
+abbrev pub decreases-by_column-choices : goal.decreases-by_column-choices
+decreases-by_column-choices l = length (tries_left l.z l.rows l.cursor)

@@ -1,0 +1,13 @@
+pub mod CommonMultiple
+pub mod Tries
+pub mod Stops
+pub mod Walk
+pub mod Sweep
+pub mod Maxima
+pub mod Columns
+pub mod Elimination
+pub mod Answers
+pub mod Projection
+pub mod Cursors
+pub mod Searching
+pub mod Decisions

@@ -1,0 +1,49 @@
+//! What the walk of elimination says, in words: each function here does nothing, and its contract is a fact about all
+//! conjunctions.
+ghost use Rattle.std.specs.Prelude.{◌≡◌, ◌<◌, ◌≤◌, ◌+◌, ℕ, ℤ, List, [], Option, Some, None, true, false, length};
+ghost use Rattle.ac_forms.specs.Rows.{IsWellMade, Meets};
+ghost use Rattle.ac_forms.specs.declared.row.Row.{Row};
+ghost use Rattle.ac_cert.specs.Choices.{are_absurd};
+ghost use Rattle.ac_omega.specs.Columns.{AreColumns, is_present, least_by, next_column, precedes};
+ghost use Rattle.ac_omega.specs.Searching.{IsNormal};
+ghost use Rattle.ac_omega.specs.Elimination.{elimination};
+ghost use Rattle.ac_omega.specs.Maxima.{Maxima};
+ghost use Rattle.ac_omega.specs.Projection.{HaveNone, is_among};
+ghost use Rattle.ac_omega.specs.Walk.{Gone, walk};
+
+use ac_forms::Conj;
+
+/// A walk needs no more conjunctions on one path than the budget leaves: any two numbers above that give the same walk.
+pub fn walk_is_one(vars: &[usize], conj: &Conj, budget: u64, cost: u64)
+    requires { cost ≤ budget }
+    ensures { (n o : ℕ) (s : Maxima) → budget < n + cost → budget < o + cost → walk (elimination vars.now) n budget conj.now cost s ≡ walk (elimination vars.now) o budget conj.now cost s }
+{}
+
+/// Where a walk finds no point, no integer point meets the conjunction, and its cost is within the budget.
+pub fn walk_without_a_point(vars: &[usize], conj: &Conj, budget: u64, cost: u64)
+    requires made { IsWellMade conj.now }
+    requires columns { AreColumns conj.now.columns vars.now }
+    ensures empty { (n k : ℕ) (s t : Maxima) → walk (elimination vars.now) n budget conj.now cost s ≡ Gone k t → (p : List ℤ) → length p ≡ conj.now.columns → Meets conj.now.rows p → ⊥ }
+    ensures cost { (n k : ℕ) (s t : Maxima) → walk (elimination vars.now) n budget conj.now cost s ≡ Gone k t → (cost ≤ k) × (k ≤ budget) }
+{}
+
+/// Where no column is the next one, no row has one of the columns.
+pub fn no_next_column(vars: &[usize])
+    ensures { (rows : List Row) → next_column vars.now rows ≡ None → HaveNone vars.now rows }
+{}
+
+/// A conjunction in normal form in which no row has a column has no row, or is the absurd one.
+pub fn normal_without_columns(conj: &Conj)
+    requires made { IsWellMade conj.now }
+    requires normal { IsNormal conj.now }
+    requires not_absurd { are_absurd conj.now.rows ≡ false }
+    requires absent { (z : ℕ) → z < conj.now.columns → is_present z conj.now.rows ≡ false }
+    ensures { conj.now.rows ≡ [] }
+{}
+
+/// The column that is found by a key is one that no other of the columns comes before: the least one by its key, and of
+/// those the least one by its place.
+pub fn least_column(columns: &[usize])
+    ensures among { (rank : ℕ → Option ℤ) (z : ℕ) → least_by rank columns.now ≡ Some z → is_among z columns.now ≡ true }
+    ensures first { (rank : ℕ → Option ℤ) (z y : ℕ) → least_by rank columns.now ≡ Some z → is_among y columns.now ≡ true → precedes rank y z ≡ false }
+{}

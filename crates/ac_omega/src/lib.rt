@@ -1,0 +1,28 @@
+//! Elimination of integer columns: the Omega test (W. Pugh, 1991) with certificates.
+#![tactic(auto)]
+
+mod cursor;
+mod decision;
+mod extent;
+pub mod laws;
+mod listing;
+mod pieces;
+mod ranking;
+mod scan;
+mod search;
+mod sweeping;
+
+pub use decision::{Decided, find_point};
+pub use extent::Maxima;
+pub use listing::choices;
+pub use pieces::{Stop, eliminate};
+pub use ranking::are_columns;
+pub use scan::are_absurd;
+pub use sweeping::Piece;
+
+#[cfg(test)]
+mod decision_tests;
+#[cfg(test)]
+mod listing_tests;
+#[cfg(test)]
+mod pieces_tests;

@@ -1,0 +1,194 @@
+-- Trees over a range of numbers are accepted where their leaves are.
+use Rattle.std.proofs.Common.{◌≡◌, ℕ, zero, suc, ◌-◌, ◌≤◌, ℤ, pos, negsuc, neg_ℤ, ◌+ℤ◌, ◌-ℤ◌, ◌*ℤ◌, ◌≤ℤ◌, List, [], ◌∷◌, ◌++◌, length, map, Some, true, slice_get, refl, sym, ap, ◌∙◌, subst, arith, lit<, append_assoc}
+use Rattle.std.proofs.lemmas.Int.{ints}
+use Rattle.std.proofs.lemmas.List.{append-nil}
+use Rattle.ac_forms.specs.Affine.{Affine, combined, added, plus, CanCombine, FormFits}
+use Rattle.ac_forms.specs.Fits.{Fits, AllFit}
+use Rattle.ac_forms.specs.Negation.{opposite, below}
+use Rattle.ac_forms.specs.declared.conj.Conj.{Conj}
+use Rattle.ac_forms.specs.declared.row.Row.{Row}
+use Rattle.ac_forms.specs.declared.row.Row.TheVariants.{Eq, Ge}
+use Rattle.ac_forms.proofs.Adds.{added_is, can_add}
+use Rattle.ac_cert.specs.declared.ends.Absurd.{Absurd}
+use Rattle.ac_cert.specs.declared.types.Step.{Step}
+use Rattle.ac_cert.specs.declared.types.Step.TheVariants.{EqCut}
+use Rattle.ac_cert.specs.declared.types.Tree.{Tree}
+use Rattle.ac_cert.specs.Accepted.{Accepts, absurd_refusals, after_steps}
+use Rattle.ac_cert.specs.Faults.{Refusal}
+use Rattle.ac_cert.specs.Rules.{with_row, after_step, both_sides, is_zero, all_zero}
+use Rattle.ac_cert.specs.StepRows.{IsAt}
+use Rattle.ac_cert.proofs.Equations.{split-rows, eq_cut-row}
+use Rattle.ac_trails.specs.Leaves.{less, under, HasRoom, GoesOn, AcceptsFrom}
+
+-- ---- a form and its opposite
+
+zeros-of : (cs : List ℤ) → all_zero (plus cs (map (λ c. negsuc 0 *ℤ c) cs)) ≡ true
+zeros-of [] = refl
+zeros-of (c ∷ cs) =
+    let e : c +ℤ negsuc 0 *ℤ c ≡ pos 0 = omega (arith, ints) in
+    rw e (zeros-of cs)
+
+zeros-fit : (cs : List ℤ) → AllFit (plus cs (map (λ c. negsuc 0 *ℤ c) cs))
+zeros-fit [] = tt
+zeros-fit (c ∷ cs) =
+    let e : c +ℤ negsuc 0 *ℤ c ≡ pos 0 = omega (arith, ints) in
+    (rw e (record { sfits = lit< tt }), zeros-fit cs)
+
+no-constant : (f : Affine) → f.konst +ℤ negsuc 0 *ℤ f.konst ≡ pos 0
+no-constant f = omega (arith, ints)
+
+can_cancel : (f : Affine) → FormFits f → FormFits (opposite f) → CanCombine (pos 1) f (pos 1) (opposite f)
+can_cancel f a b = (can_add f (opposite f) a b).1 (zeros-fit f.coefs, rw (no-constant f) (record { sfits = lit< tt }))
+
+cancelled : (f : Affine) → is_zero (combined (pos 1) f (pos 1) (opposite f)) ≡ true
+cancelled f =
+    let zero : is_zero (added f (opposite f)) ≡ true = rw (zeros-of f.coefs, no-constant f) refl in
+    ap is_zero (added_is f (opposite f)) ∙ zero
+
+abbrev form_with : List ℤ → ℤ → Affine
+form_with cs k = record { konst = k; coefs = cs }
+
+same-form : (k l : ℤ) (cs : List ℤ) → k ≡ l → form_with cs k ≡ form_with cs l
+same-form k l cs e = ap (form_with cs) e
+
+-- less than 1: the opposite
+under-one : (f : Affine) → under f 1 ≡ opposite f
+under-one f =
+    let o = opposite f in
+    let e : o.konst +ℤ (pos 1 -ℤ pos 1) ≡ o.konst = omega (arith, ints) in
+    same-form (o.konst +ℤ (pos 1 -ℤ pos 1)) o.konst o.coefs e
+
+-- ---- numbers between two numbers of `i128`
+
+pub fits-between : (a b z : ℤ) → Fits a → Fits b → a ≤ℤ z → z ≤ℤ b → Fits z
+fits-between (pos a) b (pos z) f g l m = up b g m
+  where
+    up : (b : ℤ) → Fits b → pos z ≤ℤ b → Fits (pos z)
+    up (pos b) g m = record { sfits = omega (arith, ints, g.sfits, m) }
+    up (negsuc b) g m = absurd (omega (arith, ints, m))
+fits-between (pos a) b (negsuc z) f g l m = absurd (omega (arith, ints, l))
+fits-between (negsuc a) b (negsuc z) f g l m = record { sfits = omega (arith, ints, f.sfits, l) }
+fits-between (negsuc a) b (pos z) f g l m = up b g m
+  where
+    up : (b : ℤ) → Fits b → pos z ≤ℤ b → Fits (pos z)
+    up (pos b) g m = record { sfits = omega (arith, ints, g.sfits, m) }
+    up (negsuc b) g m = absurd (omega (arith, ints, m))
+
+pub room-low : (f : Affine) (n m : ℕ) → HasRoom f n → m ≤ n → Fits (f.konst -ℤ pos m)
+room-low f n m h l = fits-between (f.konst -ℤ pos n) f.konst (f.konst -ℤ pos m) h.low h.form.1 (omega (arith, ints, l)) (omega (arith, ints))
+
+pub room-high : (f : Affine) (n m : ℕ) → HasRoom f n → m ≤ n → Fits ((opposite f).konst +ℤ pos m)
+room-high f n m h l =
+    let o : ℤ = (opposite f).konst in
+    fits-between o (o +ℤ pos n) (o +ℤ pos m) h.turned.1 h.high (omega (arith, ints)) (omega (arith, ints, l))
+
+pub room-less : (f : Affine) (n m : ℕ) → HasRoom f n → m ≤ n → HasRoom f m
+room-less f n m h l = record { form = h.form; turned = h.turned; low = room-low f n m h l; high = room-high f n m h l }
+
+turned-less : (k : ℤ) (n : ℕ) → negsuc 0 *ℤ (k +ℤ neg_ℤ (pos n)) ≡ negsuc 0 *ℤ k +ℤ pos n
+turned-less k n = omega (arith, ints)
+
+-- the form less m has room for the rest
+pub room-rest : (f : Affine) (n m : ℕ) → HasRoom f n → m ≤ n → HasRoom (less f m) (n - m)
+room-rest f n m h l =
+    let low : Fits (f.konst +ℤ neg_ℤ (pos m)) = subst Fits (minus f.konst m) (room-low f n m h l) in
+    let high : Fits (negsuc 0 *ℤ (f.konst +ℤ neg_ℤ (pos m))) = rw (turned-less f.konst m) (room-high f n m h l) in
+    record { form = (h.form.0, low); turned = (h.turned.0, high); low = subst Fits (far f.konst) h.low; high = subst Fits (near f.konst) h.high }
+  where
+    minus : (k : ℤ) (m : ℕ) → k -ℤ pos m ≡ k +ℤ neg_ℤ (pos m)
+    minus k m = omega (arith, ints)
+
+    far : (k : ℤ) → k -ℤ pos n ≡ (k +ℤ neg_ℤ (pos m)) -ℤ pos (n - m)
+    far k = omega (arith, ints, l)
+
+    near : (k : ℤ) → negsuc 0 *ℤ k +ℤ pos n ≡ negsuc 0 *ℤ (k +ℤ neg_ℤ (pos m)) +ℤ pos (n - m)
+    near k = omega (arith, ints, l)
+
+-- ---- places
+
+pub at-last : (rows : List Row) (r : Row) (n : ℕ) → length rows ≡ n → slice_get (rows ++ r ∷ []) n ≡ Some r
+at-last [] r zero e = refl
+at-last [] r (suc n) e = absurd (omega (arith, e))
+at-last (s ∷ rows) r zero e = absurd (omega (arith, e))
+at-last (s ∷ rows) r (suc n) e = at-last rows r n (omega (arith, e))
+
+pub at-before : (rows : List Row) (r s : Row) (i : ℕ) → slice_get rows i ≡ Some s → slice_get (rows ++ r ∷ []) i ≡ Some s
+at-before [] r s i e = absurd cc
+at-before (x ∷ rows) r s zero e = e
+at-before (x ∷ rows) r s (suc i) e = at-before rows r s i e
+
+-- ---- one number
+
+one-step : (s : Step) (c d : Conj) → after_step s c ≡ Some d → after_steps (s ∷ []) c ≡ Some d
+one-step s c d e = rw e refl
+
+-- what the makers of trees say
+abbrev pub Splits : Affine → Tree Absurd → Tree Absurd → Tree Absurd → Type 0
+Splits e l r t = (refusal : Refusal Absurd) (c a b : Conj) → both_sides e c ≡ Some (a, b) → Accepts l refusal a → Accepts r refusal b → Accepts t refusal c
+
+abbrev pub StepsTo : List Step → Tree Absurd → Tree Absurd → Type 0
+StepsTo steps onward t = (refusal : Refusal Absurd) (c d : Conj) → after_steps steps c ≡ Some d → Accepts onward refusal d → Accepts t refusal c
+
+pub is-zero : (c : Conj) (f : Affine) (low high : ℕ) → HasRoom f 1 → IsAt c low (Ge f) → IsAt c high (Ge (under f 1)) → after_steps (EqCut low high ∷ []) c ≡ Some (with_row c (Eq f))
+is-zero c f low high h a b =
+    let turned : IsAt c high (Ge (opposite f)) = subst (λ (g : Affine). IsAt c high (Ge g)) (under-one f) b in
+    one-step (EqCut low high) c (with_row c (Eq f)) (eq_cut-row c low high f (opposite f) a turned (can_cancel f h.form h.turned) (cancelled f))
+
+-- ---- two halves
+
+-- less than a number: at most -1 less than it
+below-less : (f : Affine) (n : ℕ) → below (less f n) ≡ under f n
+below-less f n =
+    let o = opposite f in
+    let e : negsuc 0 *ℤ (f.konst +ℤ neg_ℤ (pos n)) +ℤ negsuc 0 ≡ o.konst +ℤ (pos n -ℤ pos 1) = omega (arith, ints) in
+    same-form (negsuc 0 *ℤ (f.konst +ℤ neg_ℤ (pos n)) +ℤ negsuc 0) (o.konst +ℤ (pos n -ℤ pos 1)) o.coefs e
+
+pub both-halves : (c : Conj) (f : Affine) (n : ℕ) → 1 ≤ n → length f.coefs ≤ c.columns → HasRoom f n → both_sides (less f n) c ≡ Some (with_row c (Ge (less f n)), with_row c (Ge (under f n)))
+both-halves c f n one short h =
+    let high : Fits (negsuc 0 *ℤ (f.konst +ℤ neg_ℤ (pos n))) = rw (turned-less f.konst n) h.high in
+    let room : Fits ((opposite f).konst +ℤ pos (n - 1)) = room-high f n (n - 1) h (omega arith) in
+    let last : Fits ((opposite (less f n)).konst +ℤ negsuc 0) = subst Fits (omega (arith, ints, one)) room in
+    split-rows c (less f n) short (h.turned.0, high) last ∙ ap (λ (g : Affine). Some (with_row c (Ge (less f n)), with_row c (Ge g))) (below-less f n)
+
+-- ---- the leaves
+
+abbrev rows_over : ℕ → List Row → Conj
+rows_over n rows = record { columns = n; rows = rows }
+
+further : (n : ℕ) (c d : Conj) (r : Row) → GoesOn n (with_row c r) d → GoesOn (suc n) c d
+further n c d r g = record {
+  more = r ∷ g.more;
+  long = ap (λ (k : ℕ). suc k) g.long;
+  is = g.is ∙ ap (rows_over c.columns) (append_assoc c.rows (r ∷ []) g.more);
+}
+
+-- what the leaves stand on stands behind a further row
+pub accepts-further : (ts : List (Tree Absurd)) (f : Affine) (n : ℕ) (c : Conj) (r : Row) → AcceptsFrom ts f (suc n) c → AcceptsFrom ts f n (with_row c r)
+accepts-further [] f n c r h = tt
+accepts-further (t ∷ ts) f n c r h = ((λ d g. h.0 d (further n c d r g)), accepts-further ts (less f 1) n c r h.1)
+
+less-less : (f : Affine) (n : ℕ) → less (less f 1) n ≡ less f (suc n)
+less-less f n = same-form ((f.konst +ℤ neg_ℤ (pos 1)) +ℤ neg_ℤ (pos n)) (f.konst +ℤ neg_ℤ (pos (suc n))) f.coefs (omega (arith, ints))
+
+less-none : (f : Affine) → less f 0 ≡ f
+less-none f = same-form (f.konst +ℤ neg_ℤ (pos 0)) f.konst f.coefs (omega (arith, ints))
+
+pub accepts-front : (xs ys : List (Tree Absurd)) (f : Affine) (n : ℕ) (c : Conj) → AcceptsFrom (xs ++ ys) f n c → AcceptsFrom xs f n c
+accepts-front [] ys f n c h = tt
+accepts-front (x ∷ xs) ys f n c h = (h.0, accepts-front xs ys (less f 1) n c h.1)
+
+pub accepts-back : (xs ys : List (Tree Absurd)) (f : Affine) (n : ℕ) (c : Conj) → AcceptsFrom (xs ++ ys) f n c → AcceptsFrom ys (less f (length xs)) n c
+accepts-back [] ys f n c h = subst (λ (g : Affine). AcceptsFrom ys g n c) (sym (less-none f)) h
+accepts-back (x ∷ xs) ys f n c h = subst (λ (g : Affine). AcceptsFrom ys g n c) (less-less f (length xs)) (accepts-back xs ys (less f 1) n c h.1)
+
+-- the leaf that is left
+pub accepts-one : (t : Tree Absurd) (f : Affine) (c : Conj) → AcceptsFrom (t ∷ []) f 0 c → Accepts t absurd_refusals (with_row c (Eq f))
+accepts-one t f c h = h.0 c (record { more = []; long = refl; is = ap (rows_over c.columns) (sym (append-nil c.rows)) })
+
+-- ---- the parts of a range
+
+-- the last number of the form less m
+pub under-less : (f : Affine) (n m : ℕ) → m ≤ n → under f n ≡ under (less f m) (n - m)
+under-less f n m l = same-form (negsuc 0 *ℤ f.konst +ℤ (pos n -ℤ pos 1)) (negsuc 0 *ℤ (f.konst +ℤ neg_ℤ (pos m)) +ℤ (pos (n - m) -ℤ pos 1)) (opposite f).coefs (omega (arith, ints, l))
+
+pub ruleset leaves_room = (room-low, room-less, room-rest)

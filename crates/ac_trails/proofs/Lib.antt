@@ -1,0 +1,14 @@
+pub mod Renaming
+pub mod Terms
+pub mod Paths
+pub mod Quotients
+pub mod Divisibilities
+pub mod Inequalities
+pub mod Starts
+pub mod Replacing
+pub mod Raising
+pub mod Signed
+pub mod Contradictions
+pub mod Leaves
+pub mod Ranges
+pub mod Classes

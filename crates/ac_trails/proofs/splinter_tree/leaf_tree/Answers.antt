@@ -1,0 +1,12 @@
+use Rattle.std.proofs.Common.{List, subst}
+use Rattle.ac_forms.specs.declared.row.Row.TheVariants.{Eq}
+use Rattle.ac_cert.specs.Accepted.{absurd_refusals}
+use Rattle.ac_cert.specs.Rules.{with_row}
+use Rattle.ac_cert.specs.declared.types.Step.{Step}
+use Rattle.ac_trails.proofs.Leaves.{StepsTo, is-zero}
+use Rattle.ac_trails.proofs.splinter_tree.leaf_tree.Goals as goal
+
+pub returns : goal.returns
+returns c = λ d f room low high leaf.
+    let steps = subst (λ (s : List Step). StepsTo s c.args.leaf c.in_ok-tree.tree) c.in_ok-steps.ensures c.in_ok-tree.ensures.accepted in
+    steps absurd_refusals d (with_row d (Eq f)) (is-zero d f c.args.low c.args.high room low high) leaf
