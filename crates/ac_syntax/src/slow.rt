@@ -36,6 +36,11 @@ pub enum Stop {
 }
 
 impl From<AllocError> for Stop {
+    ghost use Rattle.ac_syntax.specs.declared.slow.Stop.TheVariants.{Memory};
+    ghost use Rattle.std.specs.Prelude.{◌≡◌};
+
+    ghost from_gives = { λ refused stop. stop ≡ Memory refused };
+
     fn from(refused: AllocError) -> Stop {
         Stop::Memory(refused)
     }
