@@ -14,7 +14,7 @@ use Rattle.ac_omega.specs.Elimination.{eliminating}
 use Rattle.ac_omega.specs.Maxima.{Maxima, nothing_met, with_rows}
 use Rattle.ac_omega.specs.Searching.{Searches, IsNormal, columns_to}
 use Rattle.ac_omega.specs.Walk as def
-use Rattle.ac_omega.proofs.NormalMade.{conj_made}
+use Rattle.ac_cert.proofs.LeftMade.{conj_made}
 
 pub normal-made : (q d : Conj) → IsWellMade q → d ≡ normal_conj q → IsWellMade d
 normal-made q d made e = subst IsWellMade (sym e) (conj_made q made)

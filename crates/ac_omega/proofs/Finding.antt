@@ -19,7 +19,7 @@ use Rattle.ac_omega.specs.Elimination.{elimination, eliminating}
 use Rattle.ac_omega.specs.Maxima.{Maxima, nothing_met, with_rows}
 use Rattle.ac_omega.specs.Searching.{columns_to}
 use Rattle.ac_omega.specs.Walk as def
-use Rattle.ac_omega.proofs.NormalMade.{conj_made}
+use Rattle.ac_cert.proofs.LeftMade.{conj_made}
 use Rattle.ac_omega.proofs.Projecting.{gone-empty}
 
 one-more : (n : ℕ) (xs : List ℕ) (y : ℕ) → AreColumns n xs → y < n → AreColumns n (xs ++ y ∷ [])

@@ -21,6 +21,5 @@ pub mod Advances
 pub mod Searches
 pub mod Emptied
 pub mod AllColumns
-pub mod NormalMade
 pub mod Deciding
 pub mod Finding

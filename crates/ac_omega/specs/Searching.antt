@@ -1,16 +1,17 @@
 -- What an answer of a search says of the walk. Want of memory may come at any time.
-use Rattle.std.specs.Prelude.{◌≡◌, ℕ, zero, suc, ◌∷◌, ◌++◌, ◌+◌, ◌-◌, ◌<◌, ◌≤◌, ◌^◌, min, false, true, cond, ℤ, List, [], Option, Some, None, Result, Ok, Err}
+use Rattle.std.specs.Prelude.{◌≡◌, ℕ, zero, suc, ◌∷◌, ◌++◌, ◌+◌, ◌-◌, ◌<◌, ◌≤◌, ◌^◌, min, false, cond, ℤ, List, [], Option, Some, None, Result, Ok, Err}
 use Rattle.ac_forms.specs.NormalForm.{normal_form}
 use Rattle.ac_forms.specs.Rows.{IsWellMade}
 use Rattle.ac_forms.specs.declared.conj.Conj.{Conj}
 use Rattle.ac_forms.specs.declared.row.Row.{Row}
-use Rattle.ac_cert.specs.Choices.{are_absurd, is_legal, lifted}
+use Rattle.ac_cert.specs.Choices.{are_absurd, lifted}
 use Rattle.ac_cert.specs.ChoiceFits.{lift_fits}
 use Rattle.ac_cert.specs.declared.choose.Choice.{Choice}
 use Rattle.ac_omega.specs.declared.sweeping.Halt.{Halt}
 use Rattle.ac_omega.specs.declared.sweeping.Halt.TheVariants as halt
 use Rattle.ac_omega.specs.declared.search.Walked.{Walked}
 use Rattle.ac_omega.specs.declared.search.Walked.TheVariants as done
+pub use Rattle.ac_omega.specs.Answers.{Leaves, AreLegal}
 use Rattle.ac_omega.specs.Columns.{next_column}
 use Rattle.ac_omega.specs.Elimination.{eliminating}
 use Rattle.ac_omega.specs.Maxima.{Maxima}
@@ -38,13 +39,6 @@ Tried result vars budget c hs k s = (n : ℕ) → budget < n + k → Searches re
 abbrev pub lifted_to : Choice → Conj → List ℤ → Option (List ℤ)
 lifted_to h c p = cond (lift_fits h c.rows p) (Some (lifted h c.rows p)) None
 
--- what a choice leaves; too wide exactly where there is none
-abbrev pub Leaves : Result Conj Halt → Option Conj → Type 0
-Leaves (Ok c) made = made ≡ Some c
-Leaves (Err halt.Wide) made = made ≡ None
-Leaves (Err (halt.Spent c)) made = ⊥
-Leaves (Err (halt.Memory e)) made = Unit {0}
-
 abbrev pub IfFound : Walked → (List ℤ → Type 0) → Type 0
 IfFound (done.Gone k s) P = Unit {0}
 IfFound (done.Found p) P = P p.items
@@ -53,10 +47,6 @@ IfFound (done.Found p) P = P p.items
 abbrev pub HasGrown : ℕ → ℕ → Walked → Type 0
 HasGrown k budget (done.Gone j s) = (k ≤ j) × (j ≤ budget)
 HasGrown k budget (done.Found p) = Unit {0}
-
--- each of the choices is legal
-abbrev pub AreLegal : Tries → Conj → Type 0
-AreLegal hs c = (h : Choice) → IsTried h hs → is_legal h c ≡ true
 
 -- the conjunction is in normal form
 abbrev pub IsNormal : Conj → Type 0

@@ -42,7 +42,7 @@ fn zeros(alloc: Global, columns: usize) -> Result<Vec<i128>, AllocError>
 }
 
 /// What a legal choice leaves.
-fn left_by(alloc: Global, conj: &Conj, choice: &Choice) -> Result<Conj, Halt>
+pub(crate) fn left_by(alloc: Global, conj: &Conj, choice: &Choice) -> Result<Conj, Halt>
     requires made { IsWellMade conj.now }
     requires legal { is_legal choice.now conj.now ≡ true }
     ensures exact { Leaves result (after_choice choice.now conj.now) }

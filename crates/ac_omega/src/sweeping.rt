@@ -15,7 +15,8 @@ use crate::scan::{
     are_absurd, common_modulus, first_equality, greatest_size, has_divisibility, is_lower_row,
     is_one_sided, last_splinter,
 };
-use ac_cert::{Choice, StepStop};
+use crate::search::left_by;
+use ac_cert::Choice;
 use ac_forms::{Conj, Row};
 use ac_items::Items;
 use std::alloc::{AllocError, Global};
@@ -48,22 +49,6 @@ impl From<AllocError> for Halt {
 
     fn from(want: AllocError) -> Halt {
         Halt::Memory(want)
-    }
-}
-
-/// What a legal choice leaves.
-fn left_by(alloc: Global, conj: &Conj, choice: &Choice) -> Result<Conj, Halt>
-    requires made { IsWellMade conj.now }
-    requires legal { is_legal choice.now conj.now ≡ true }
-    ensures exact { Leaves result (after_choice choice.now conj.now) }
-    ensures made { IfOk result (λ rest. IsWellMade rest) }
-    ensures columns { IfOk result (λ rest. rest.columns ≡ conj.now.columns) }
-{
-    match ac_cert::step(alloc, conj, choice) {
-        Ok(rest) => Ok(rest),
-        Err(StepStop::Memory(want)) => Err(Halt::Memory(want)),
-        Err(StepStop::Wide) => Err(Halt::Wide),
-        Err(StepStop::Illegal) => unreachable!(),
     }
 }
 
