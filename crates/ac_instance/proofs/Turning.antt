@@ -6,7 +6,7 @@ use Rattle.ac_syntax.specs.Algebra.{Algebra, Cell, run, store, target, value_of}
 use Rattle.ac_syntax.specs.Trace.{Entry, trace, trace_all, assignments}
 use Rattle.ac_syntax.specs.Ready.{ReadyAll}
 use Rattle.ac_syntax.specs.Term.{Term, free}
-use Rattle.ac_syntax.proofs.SlowTurns.{in_turn_of}
+use Rattle.ac_syntax.proofs.TurnEntries.{in_turn_of}
 use Rattle.ac_syntax.specs.declared.tree.Comparison.{Comparison}
 use Rattle.ac_syntax.specs.Turns.{inside, iterator_at, turns, Bounded}
 use Rattle.ac_syntax.specs.declared.tree.Place.{Place}

@@ -7,7 +7,7 @@ use crate::tables::{FOR, FORM, GE, IF, Parts, SET, add, nothing, program, progra
 use crate::types::{LowerFault, Model, NodeModel, StmtModel};
 use ac_forms::{Form, Row};
 use ac_items::Items;
-use ac_syntax::slow::{self, Execution};
+use ac_plain::slow::{self, Execution};
 use ac_syntax::tree::Program;
 use std::alloc::Global;
 use std::test::Fail;

@@ -28,10 +28,7 @@ pub mod PrintedLines
 pub mod Exact
 pub mod Walking
 pub mod ReadyAt
-pub mod SlowSteps
-pub mod SlowTurns
-pub mod SourceSteps
-pub mod Stores
-pub mod Listings
 pub mod Sums
 pub mod Shapes
+pub mod TraceSteps
+pub mod TurnEntries

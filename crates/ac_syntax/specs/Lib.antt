@@ -20,10 +20,7 @@ pub mod LawsOfTraces
 pub mod LawsOfSources
 pub mod LawsOfTerms
 pub mod Checked
-pub mod Executions
 pub mod Counts
-pub mod TermTrees
-pub mod Listed
 pub mod Text
 pub mod Printing
 pub mod Small

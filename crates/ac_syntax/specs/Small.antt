@@ -1,5 +1,5 @@
 -- Programs whose numbers have an absolute value of at most 2^31, with at most 4 parameters and 6 loops around a statement.
-use Rattle.std.specs.Prelude.{◌≤◌, ◌^◌, ℕ, ℤ, List, length, unsigned_abs}
+use Rattle.std.specs.Prelude.{◌≤◌, ◌^◌, ℤ, List, length, unsigned_abs}
 use Rattle.std.specs.List.{AllByRecursion}
 use Rattle.ac_syntax.specs.declared.tree.IndexExpr.{IndexExpr}
 use Rattle.ac_syntax.specs.declared.tree.Comparison.{Comparison}

@@ -14,8 +14,6 @@ pub mod name;
 mod print;
 #[cfg(test)]
 mod print_tests;
-pub mod slow;
-pub mod slow_terms;
 #[cfg(test)]
 mod tests;
 pub mod tree;

@@ -9,8 +9,8 @@ use Rattle.ac_syntax.specs.Term.{Term, free}
 use Rattle.ac_syntax.specs.Trace.{trace, trace_all, assignments, each_turn}
 use Rattle.ac_syntax.specs.Turns.{inside, iterator_at, turns}
 use Rattle.ac_syntax.proofs.ReadyAt.{ready_for, ready_if}
-use Rattle.ac_syntax.proofs.SlowSteps.{trace_if, trace_assign}
-use Rattle.ac_syntax.proofs.SlowTurns.{in_turn_of, turns_listed}
+use Rattle.ac_syntax.proofs.TraceSteps.{trace_if, trace_assign}
+use Rattle.ac_syntax.proofs.TurnEntries.{in_turn_of, turns_listed}
 use Rattle.ac_syntax.proofs.Traces.{trace_for}
 use Rattle.ac_syntax.proofs.Walking.{walk_first, walk_next, walk_done}
 use Rattle.ac_instance.specs.declared.state.Machine.{Machine}

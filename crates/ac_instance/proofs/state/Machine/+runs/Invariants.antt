@@ -7,7 +7,7 @@ use Rattle.ac_syntax.specs.Term.{Term, free}
 use Rattle.ac_syntax.specs.Trace.{trace_all}
 use Rattle.ac_syntax.specs.Turns.{Bounded, turns}
 use Rattle.ac_syntax.proofs.Walking.{Walking}
-use Rattle.ac_syntax.proofs.SlowTurns.{in_turn_of}
+use Rattle.ac_syntax.proofs.TurnEntries.{in_turn_of}
 use Rattle.ac_instance.specs.Events.{in_all, in_loop}
 use Rattle.ac_instance.specs.Kept.{leaf_in, Holds}
 use Rattle.ac_instance.proofs.Happen.{Continues}

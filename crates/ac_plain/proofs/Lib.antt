@@ -1,0 +1,4 @@
+pub mod SlowTurns
+pub mod SourceSteps
+pub mod Stores
+pub mod Listings
