@@ -7,7 +7,7 @@ use Rattle.ac_forms.proofs.Twins.{fits-is}
 use Rattle.ac_cert.specs.declared.choose.Choice.TheVariants as choice
 use Rattle.ac_cert.specs.Bounds.{is_one_sided, highs}
 use Rattle.ac_cert.specs.ChoiceFits.{sizes_fit}
-use Rattle.ac_omega.specs.Tries.{Tries, first_equality, has_divisibility, common_modulus, tries_for, residues_from, splinters_from, splinters_of, splinters, greatest_size}
+use Rattle.ac_trails.specs.Tries.{Tries, first_equality, has_divisibility, common_modulus, tries_for, residues_from, splinters_from, splinters_of, splinters, greatest_size}
 use Rattle.ac_omega.specs.Cursors.{IsNext, row_splinters}
 use Rattle.ac_omega.specs.declared.cursor.Next.{Next}
 use Rattle.ac_omega.proofs.Moduli.{drop-at}

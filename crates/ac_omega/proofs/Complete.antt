@@ -20,7 +20,7 @@ use Rattle.ac_cert.specs.Splinters.{IsOnSplinter}
 use Rattle.ac_cert.proofs.Covering.{covers-equal, covers-residue, covers-drop, covers-bounds}
 use Rattle.ac_cert.proofs.Lifting.{lifts-somewhere}
 use Rattle.ac_omega.specs.Stops.{MadeOf}
-use Rattle.ac_omega.specs.Tries.{Tries, first_equality, has_divisibility, common_modulus, residues_from, residues, splinters_from, count_to, last_splinter_fits, splinters_of, splinters, by_bounds, tries_by, tries_for, all_of, IsAmong}
+use Rattle.ac_trails.specs.Tries.{Tries, first_equality, has_divisibility, common_modulus, residues_from, residues, splinters_from, count_to, last_splinter_fits, splinters_of, splinters, by_bounds, tries_by, tries_for, all_of, IsAmong}
 use Rattle.ac_omega.proofs.Moduli.{common-grows}
 use Rattle.ac_omega.proofs.Legal.{Allowed, all-allowed, among-allowed, equality-found, only-bounds}
 

@@ -6,7 +6,7 @@ use Rattle.ac_forms.specs.declared.stop.FormStop.{FormStop}
 use Rattle.ac_forms.specs.declared.stop.FormStop.TheVariants.{Wide, Memory}
 use Rattle.ac_cert.specs.declared.choose.Choice.{Choice}
 use Rattle.ac_cert.specs.declared.choose.Choice.TheVariants as choice
-use Rattle.ac_omega.specs.Tries.{Tries, first_equality, has_divisibility, common_modulus, residues, by_bounds, tries_for, residues_from, splinters_from, splinters_of, splinters, all_of, gathered}
+use Rattle.ac_trails.specs.Tries.{Tries, first_equality, has_divisibility, common_modulus, residues, by_bounds, tries_for, residues_from, splinters_from, splinters_of, splinters, all_of, gathered}
 use Rattle.ac_omega.specs.Stops.{MadeOf, Becomes}
 use Rattle.ac_omega.proofs.Moduli.{drop-at}
 

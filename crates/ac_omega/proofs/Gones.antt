@@ -13,7 +13,7 @@ use Rattle.ac_omega.specs.Answers.{parts}
 use Rattle.ac_omega.specs.Columns.{is_present, precedes, least_from, or_else, by_equality, by_rule, passes, key, next_column}
 use Rattle.ac_omega.specs.Elimination.{elimination, look, look_at}
 use Rattle.ac_omega.specs.Projection.{is_among, HaveNone, AllGone}
-use Rattle.ac_omega.specs.Tries.{tries_for}
+use Rattle.ac_trails.specs.Tries.{tries_for}
 use Rattle.ac_omega.specs.Walk.{Done, Absurd, Open}
 use Rattle.ac_omega.proofs.Sweeps.{AllDone}
 

@@ -23,7 +23,7 @@ use Rattle.ac_cert.specs.Bounds.{has_column, is_low, highs, only_bounds, is_one_
 use Rattle.ac_cert.specs.Choices.{column_of, are_absurd, is_equality_of, is_lower_row, is_common_multiple, allows, is_legal}
 use Rattle.ac_cert.specs.ChoiceFits.{sizes_fit}
 use Rattle.ac_cert.proofs.Truths.{true-le}
-use Rattle.ac_omega.specs.Tries.{Tries, first_equality, has_divisibility, lcm, common_modulus, residues_from, residues, splinters_from, count_to, last_splinter, last_splinter_fits, splinters_of, splinters, greatest_size, by_bounds, tries_by, tries_for, all_of, IsAmong}
+use Rattle.ac_trails.specs.Tries.{Tries, first_equality, has_divisibility, lcm, common_modulus, residues_from, residues, splinters_from, count_to, last_splinter, last_splinter_fits, splinters_of, splinters, greatest_size, by_bounds, tries_by, tries_for, all_of, IsAmong}
 use Rattle.ac_omega.specs.Walk.{IsTried}
 use Rattle.ac_omega.proofs.CommonMultiples.{IsLcm-lcm, lcm-positive}
 use Rattle.ac_omega.proofs.Moduli.{common-cons, row-grows, size_positive}

@@ -15,7 +15,7 @@ use Rattle.ac_omega.specs.Columns.{AreColumns, better, precedes, least_from, or_
 use Rattle.ac_omega.specs.declared.ranking.Rule.{Rule}
 use Rattle.ac_omega.specs.declared.ranking.Rule.TheVariants as rule
 use Rattle.ac_omega.specs.Projection.{is_among}
-use Rattle.ac_omega.specs.Tries.{Tries, tries_for}
+use Rattle.ac_trails.specs.Tries.{Tries, tries_for}
 use Rattle.ac_omega.specs.Walk.{IsTried}
 use Rattle.ac_omega.proofs.Legal.{Allowed, AreAllowed, all-allowed}
 

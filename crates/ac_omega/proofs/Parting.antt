@@ -14,7 +14,7 @@ use Rattle.ac_omega.specs.declared.sweeping.Halt.{Halt}
 use Rattle.ac_omega.specs.declared.sweeping.Piece.{Piece}
 use Rattle.ac_omega.specs.Answers.{Sweeps, tried, AreLegal}
 use Rattle.ac_omega.specs.Sweep as def
-use Rattle.ac_omega.specs.Tries.{Tries, first_equality, has_divisibility, common_modulus, residues, residues_from, splinters, splinters_of, splinters_from, greatest_size, by_bounds, tries_for}
+use Rattle.ac_trails.specs.Tries.{Tries, first_equality, has_divisibility, common_modulus, residues, residues_from, splinters, splinters_of, splinters_from, greatest_size, by_bounds, tries_for}
 use Rattle.ac_omega.specs.Walk.{IsTried}
 use Rattle.ac_omega.proofs.Stepping.{answers, goes-on, stops-at}
 

@@ -26,7 +26,7 @@ use Rattle.ac_omega.specs.Columns.{AreColumns, is_present, next_column}
 use Rattle.ac_omega.specs.Elimination.{elimination}
 use Rattle.ac_omega.specs.Projection.{is_among, DiffersIn, HoldsFor, SomeHolds, HaveNone}
 use Rattle.ac_omega.specs.Sweep.{Projects, InSome, Pieces, sweep}
-use Rattle.ac_omega.specs.Tries.{Tries, tries_for, all_of, IsAmong}
+use Rattle.ac_trails.specs.Tries.{Tries, tries_for, all_of, IsAmong}
 use Rattle.ac_omega.specs.Maxima.{Maxima}
 use Rattle.ac_omega.specs.Walk.{IsTried, IsWhole, Covers, Gone, walk}
 use Rattle.ac_omega.proofs.Walks.{walk-gone}

@@ -14,7 +14,7 @@ use Rattle.ac_omega.specs.Columns.{next_column}
 use Rattle.ac_omega.specs.Elimination.{eliminating}
 use Rattle.ac_omega.specs.Maxima.{Maxima, with_choice, with_rows}
 use Rattle.ac_omega.specs.Searching.{Searches, tried, Tried, lifted_to, Leaves, IsNormal, Settle}
-use Rattle.ac_omega.specs.Tries.{Tries, tries_for}
+use Rattle.ac_trails.specs.Tries.{Tries, tries_for}
 use Rattle.ac_omega.specs.Walk as def
 use Rattle.ac_omega.specs.Walk.{walk, looked, behind, entered}
 use Rattle.ac_omega.specs.declared.sweeping.Halt.{Halt}

@@ -14,7 +14,7 @@ use Rattle.ac_omega.specs.Answers.{parts, saturated, Sweeps, tried, Leaves}
 use Rattle.ac_omega.specs.Columns.{next_column}
 use Rattle.ac_omega.specs.Elimination.{elimination, look, look_at}
 use Rattle.ac_omega.specs.Sweep as def
-use Rattle.ac_omega.specs.Tries.{Tries, tries_for}
+use Rattle.ac_trails.specs.Tries.{Tries, tries_for}
 use Rattle.ac_omega.specs.Walk.{Look, Absurd}
 
 -- what a choice leaves has as many columns

@@ -10,7 +10,7 @@ use Rattle.ac_omega.specs.declared.pieces.Stop.{Stop}
 use Rattle.ac_omega.specs.declared.pieces.Stop.TheVariants as stop
 use Rattle.ac_omega.specs.Elimination.{elimination}
 use Rattle.ac_omega.specs.Sweep as def
-use Rattle.ac_omega.specs.Tries.{Tries, splinters_from}
+use Rattle.ac_trails.specs.Tries.{Tries, splinters_from}
 use Rattle.ac_omega.specs.Walk.{IsTried}
 
 -- each piece as the definition has it

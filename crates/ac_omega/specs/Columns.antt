@@ -8,7 +8,7 @@ use Rattle.ac_forms.specs.declared.row.Row.{Row}
 use Rattle.ac_forms.specs.declared.row.Row.TheVariants.{Eq, Div, Ge}
 use Rattle.ac_cert.specs.declared.column.Bound.{Bound}
 use Rattle.ac_cert.specs.Bounds.{has_column, lows, highs, is_one_sided}
-use Rattle.ac_omega.specs.Tries.{has_divisibility, common_modulus}
+use Rattle.ac_trails.specs.Tries.{has_divisibility, common_modulus}
 use Rattle.ac_omega.specs.declared.ranking.Rule.{Rule}
 use Rattle.ac_omega.specs.declared.ranking.Rule.TheVariants as rule
 

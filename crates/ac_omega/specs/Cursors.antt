@@ -8,7 +8,7 @@ use Rattle.ac_omega.specs.declared.cursor.Cursor.{Cursor}
 use Rattle.ac_omega.specs.declared.cursor.Cursor.TheVariants as at
 use Rattle.ac_omega.specs.declared.cursor.Next.{Next}
 use Rattle.ac_omega.specs.declared.cursor.Next.TheVariants as next
-use Rattle.ac_omega.specs.Tries.{Tries, residues_from, splinters_from, splinters, greatest_size}
+use Rattle.ac_trails.specs.Tries.{Tries, residues_from, splinters_from, splinters, greatest_size}
 
 -- the choices that are left
 abbrev pub tries_left : ℕ → List Row → Cursor → Tries

@@ -9,7 +9,7 @@ use Rattle.ac_cert.specs.ChoiceFits.{after_choice, lift_fits}
 use Rattle.ac_omega.specs.Columns.{next_column}
 use Rattle.ac_omega.specs.Maxima.{Maxima, with_rows, with_choice}
 use Rattle.ac_omega.specs.Sweep.{Swept, into, sweep}
-use Rattle.ac_omega.specs.Tries.{tries_for}
+use Rattle.ac_trails.specs.Tries.{tries_for}
 use Rattle.ac_omega.specs.Walk.{Method, Look, Done, Absurd, Open}
 
 -- the choices for the next column; without one, all columns are 0 where no row is left

@@ -1,5 +1,4 @@
 pub mod CommonMultiple
-pub mod Tries
 pub mod Stops
 pub mod Walk
 pub mod Sweep

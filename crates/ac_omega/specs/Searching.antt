@@ -15,7 +15,7 @@ pub use Rattle.ac_omega.specs.Answers.{Leaves, AreLegal}
 use Rattle.ac_omega.specs.Columns.{next_column}
 use Rattle.ac_omega.specs.Elimination.{eliminating}
 use Rattle.ac_omega.specs.Maxima.{Maxima}
-use Rattle.ac_omega.specs.Tries.{Tries}
+use Rattle.ac_trails.specs.Tries.{Tries}
 use Rattle.ac_omega.specs.Walk as def
 use Rattle.ac_omega.specs.Walk.{IsTried}
 

@@ -2,7 +2,7 @@ ghost use Rattle.std.specs.Prelude.{◌≡◌, ◌<◌, ◌≤◌, ◌^◌, ◌-
 ghost use Rattle.ac_forms.specs.Rows.{HaveModuli};
 ghost use Rattle.ac_cert.specs.Bounds.{is_one_sided};
 ghost use Rattle.ac_omega.specs.Cursors.{tries_left, IsSound, IsNext, row_splinters};
-ghost use Rattle.ac_omega.specs.Tries.{residues_from, splinters_from, splinters_of, splinters, tries_for};
+ghost use Rattle.ac_trails.specs.Tries.{residues_from, splinters_from, splinters_of, splinters, tries_for};
 
 use crate::listing::count_to;
 use crate::scan::{

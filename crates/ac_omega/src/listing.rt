@@ -3,7 +3,7 @@ ghost use Rattle.ac_forms.specs.Rows.{IsWellMade, HaveModuli, Meets};
 ghost use Rattle.ac_cert.specs.Bounds.{is_one_sided};
 ghost use Rattle.ac_cert.specs.declared.choose.Choice.{Choice};
 ghost use Rattle.ac_cert.specs.Choices.{are_absurd, is_legal, left_by};
-ghost use Rattle.ac_omega.specs.Tries.{count_to, residues_from, residues, common_modulus, splinters_from, splinters_of, splinters, by_bounds, tries_for, all_of, gathered, IsAmong};
+ghost use Rattle.ac_trails.specs.Tries.{count_to, residues_from, residues, common_modulus, splinters_from, splinters_of, splinters, by_bounds, tries_for, all_of, gathered, IsAmong};
 ghost use Rattle.ac_omega.specs.Stops.{MadeOf, Becomes};
 
 use crate::scan::{

@@ -5,7 +5,7 @@ ghost use Rattle.ac_cert.specs.Bounds.{has_column, lows, highs, is_none, is_one_
 ghost use Rattle.ac_cert.specs.Choices.{are_absurd, is_equality_of, is_lower_row};
 ghost use Rattle.ac_cert.specs.ChoiceFits.{sizes_fit};
 ghost use Rattle.ac_omega.specs.CommonMultiple.{IsLcm};
-ghost use Rattle.ac_omega.specs.Tries.{first_equality, has_divisibility, lcm, common_modulus, greatest_size, last_splinter, last_splinter_fits};
+ghost use Rattle.ac_trails.specs.Tries.{first_equality, has_divisibility, lcm, common_modulus, greatest_size, last_splinter, last_splinter_fits};
 
 use ac_forms::Row;
 use ac_integers::greatest_common_divisor;

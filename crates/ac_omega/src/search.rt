@@ -6,7 +6,7 @@ ghost use Rattle.ac_cert.specs.ChoiceFits.{after_choice};
 ghost use Rattle.ac_cert.specs.Points.{IsPoint};
 ghost use Rattle.ac_omega.specs.Elimination.{eliminating};
 ghost use Rattle.ac_omega.specs.Searching.{Searches, Tried, lifted_to, Leaves, IfFound, HasGrown, AreLegal, IsNormal, AreBelow, Settle};
-ghost use Rattle.ac_omega.specs.Tries.{tries_for};
+ghost use Rattle.ac_trails.specs.Tries.{tries_for};
 ghost use Rattle.ac_omega.specs.Walk.{walk, lifted};
 
 use crate::cursor::{Next, advance, first};

@@ -7,7 +7,7 @@ ghost use Rattle.ac_omega.specs.Answers.{Sweeps, Tried, Leaves, AreLegal, HasGro
 ghost use Rattle.ac_omega.specs.Columns.{AreColumns};
 ghost use Rattle.ac_omega.specs.Elimination.{elimination};
 ghost use Rattle.ac_omega.specs.Sweep.{sweep, joined};
-ghost use Rattle.ac_omega.specs.Tries.{tries_for, residues, common_modulus, by_bounds, splinters, splinters_of, splinters_from};
+ghost use Rattle.ac_trails.specs.Tries.{tries_for, residues, common_modulus, by_bounds, splinters, splinters_of, splinters_from};
 
 use crate::listing::count_to;
 use crate::ranking::next_column;

@@ -1,6 +1,6 @@
 use Rattle.std.proofs.Common.{◌≡◌, ◌-◌}
 use Rattle.std.specs.Prelude.{unsigned_abs}
-use Rattle.ac_omega.specs.Tries.{gathered, residues_from}
+use Rattle.ac_trails.specs.Tries.{gathered, residues_from}
 use Rattle.ac_omega.proofs.listing.push_residues.Given as goal
 
 abbrev pub invariant-loop-r : goal.invariant-loop-r

@@ -1,5 +1,5 @@
 use Rattle.std.proofs.Common.{◌≡◌, drop}
-use Rattle.ac_omega.specs.Tries.{gathered, splinters}
+use Rattle.ac_trails.specs.Tries.{gathered, splinters}
 use Rattle.ac_omega.proofs.listing.push_splinters.Given as goal
 
 abbrev pub invariant-loop-i : goal.invariant-loop-i

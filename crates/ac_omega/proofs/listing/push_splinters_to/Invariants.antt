@@ -1,5 +1,5 @@
 use Rattle.std.proofs.Common.{◌≡◌, ◌-◌}
-use Rattle.ac_omega.specs.Tries.{gathered, splinters_from}
+use Rattle.ac_trails.specs.Tries.{gathered, splinters_from}
 use Rattle.ac_omega.proofs.listing.push_splinters_to.Given as goal
 
 abbrev pub invariant-loop-k : goal.invariant-loop-k

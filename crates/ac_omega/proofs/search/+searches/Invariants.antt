@@ -1,7 +1,7 @@
 use Rattle.std.proofs.Common.{◌≡◌, ℕ, ◌<◌, ◌≤◌, ◌-◌, ◌*◌, ◌+◌, length}
 use Rattle.ac_omega.specs.Cursors.{tries_left, IsSound}
 use Rattle.ac_omega.specs.Searching.{tried, AreLegal}
-use Rattle.ac_omega.specs.Tries.{tries_for}
+use Rattle.ac_trails.specs.Tries.{tries_for}
 use Rattle.ac_omega.proofs.search.+searches.Given as goal
 
 abbrev pub decreases-by_choice : goal.decreases-by_choice

@@ -9,7 +9,7 @@ use Rattle.ac_cert.specs.declared.choose.Choice.TheVariants as choice
 use Rattle.ac_omega.specs.Answers.{parts, tried, saturated}
 use Rattle.ac_omega.specs.Sweep as def
 use Rattle.ac_omega.specs.Sweep.{joined}
-use Rattle.ac_omega.specs.Tries.{tries_for, residues, residues_from, common_modulus, by_bounds, greatest_size, splinters, splinters_from}
+use Rattle.ac_trails.specs.Tries.{tries_for, residues, residues_from, common_modulus, by_bounds, greatest_size, splinters, splinters_from}
 use Rattle.ac_omega.proofs.Nexts.{next-below, tries-legal}
 use Rattle.ac_omega.proofs.Rows.{column-rows}
 use Rattle.ac_omega.proofs.Sides.{greatest-one}

@@ -1,7 +1,7 @@
 use Rattle.std.proofs.Common.{◌≡◌, ℕ, ◌<◌, ◌≤◌, ◌-◌, ◌*◌, ◌+◌, drop, unsigned_abs}
 use Rattle.ac_omega.specs.Answers.{AreLegal, parts, tried}
 use Rattle.ac_omega.specs.Sweep.{joined}
-use Rattle.ac_omega.specs.Tries.{residues_from, splinters, splinters_from}
+use Rattle.ac_trails.specs.Tries.{residues_from, splinters, splinters_from}
 use Rattle.ac_omega.proofs.sweeping.+sweeps.Given as goal
 
 abbrev pub decreases-sweep : goal.decreases-sweep
