@@ -1,3 +1,5 @@
 pub mod Standing
 pub mod Leaves
 pub mod Tries
+pub mod Refutations
+pub mod Descents

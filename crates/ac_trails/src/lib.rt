@@ -10,7 +10,14 @@
 //! the condition on numbers from their greatest, and the tree of a whole elimination.
 #![tactic(auto)]
 
+mod by_equality;
+mod by_residue;
+mod by_shadow;
+mod certificate;
+mod descent;
+mod normal_form;
 mod path;
+mod refutation;
 mod residues;
 mod shown_bounds;
 mod shown_equal;
@@ -18,7 +25,9 @@ mod shown_rows;
 mod splinter_tree;
 mod start;
 
+pub use certificate::certify;
 pub use path::Trail;
+pub use refutation::Refutation;
 
 #[cfg(test)]
 mod tests;
