@@ -1,5 +1,5 @@
 -- What the plain programs cannot say in small numbers: where they give up other than for memory.
-use Rattle.std.specs.Prelude.{◌≡◌, ◌+◌, ◌-◌, ◌^◌, ◌<◌, ◌≤◌, ◌⊎◌, ℕ, ℤ, List, [], ◌∷◌, None, true, false, FitsSigned}
+use Rattle.std.specs.Prelude.{◌≡◌, ◌+◌, ◌-◌, ◌^◌, ◌<◌, ◌≤◌, ◌⊎◌, ℕ, ℤ, List, [], ◌∷◌, None, true, false, Result, MatchResult, FitsSigned}
 use Rattle.std.specs.Int.{w64}
 use Rattle.ac_syntax.specs.Index.{Point, point, index_value, holds}
 use Rattle.ac_syntax.specs.Turns.{inside, iterator_at}
@@ -19,6 +19,10 @@ use Rattle.ac_plain.specs.declared.slow.Stop.TheVariants.{Range, Memory}
 abbrev pub OnRange : Type 0 → Stop → Type 0
 OnRange P Range = P
 OnRange P (Memory refused) = Unit {0}
+
+-- a plain program gives up because of a number exactly where P holds
+abbrev pub RangeIff : {A : Type 0} → Result A Stop → Type 0 → Type 0
+RangeIff result P = MatchResult result (λ _. ¬ P) (OnRange P)
 
 -- the value of an index expression leaves 64 bits, or a partial sum 128
 abbrev pub HasNoValue : Point → IndexExpr → Type 0

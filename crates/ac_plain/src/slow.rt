@@ -1,6 +1,6 @@
 //! The definitions of execution as plain programs, for small programs and small numbers: what they answer is what the
 //! definitions say. They are slow, and refuse where a number leaves its type.
-ghost use Rattle.std.specs.Prelude.{◌≡◌, List, ◌+◌, ◌^◌, ◌≤◌, ◌⊎◌, pos, ◌+ℤ◌, ◌∷◌, [], ◌++◌, length, map, sum_by, IfOk, IfErr, OnOk, MatchResult, FitsSigned, ◌*ℤ◌, false};
+ghost use Rattle.std.specs.Prelude.{◌≡◌, List, ◌+◌, ◌^◌, ◌≤◌, ◌⊎◌, pos, ◌+ℤ◌, ◌∷◌, [], ◌++◌, length, map, sum_by, IfOk, IfErr, OnOk, FitsSigned, ◌*ℤ◌, false};
 ghost use Rattle.std.specs.Int.{w64};
 ghost use Rattle.ac_syntax.specs.Index.{point, index_value, holds};
 ghost use Rattle.ac_syntax.specs.Checked.{checked_holds};
@@ -10,7 +10,7 @@ ghost use Rattle.ac_syntax.specs.Algebra.{same_cell};
 ghost use Rattle.ac_syntax.specs.Source.{source};
 ghost use Rattle.ac_syntax.specs.Ready.{Ready, ReadyAll};
 ghost use Rattle.ac_plain.specs.Executions.{seen, cell, place_of};
-ghost use Rattle.ac_plain.specs.Limits.{OnRange, HasNoValue, SomeHasNoValue, HoldsBefore, Uncounted, Unlisted, UnlistedAll};
+ghost use Rattle.ac_plain.specs.Limits.{OnRange, HasNoValue, SomeHasNoValue, HoldsBefore, RangeIff, Uncounted, Unlisted, UnlistedAll};
 
 use ac_items::Items;
 use ac_syntax::copy::copy_value;
@@ -61,7 +61,7 @@ fn extended(alloc: Global, numbers: &[i64], last: i64) -> Result<Vec<i64>, Alloc
 // The value of an index expression, in 64 bits.
 pub(crate) fn small_value(form: &IndexExpr, params: &[i64], iters: &[i64]) -> Result<i64, Stop>
     ensures value { IfOk result (λ v. v ≡ index_value (point params.now iters.now) form.now) }
-    ensures range { MatchResult result (λ _. ¬ (HasNoValue (point params.now iters.now) form.now)) (OnRange (HasNoValue (point params.now iters.now) form.now)) }
+    ensures range { RangeIff result (HasNoValue (point params.now iters.now) form.now) }
 {
     match form.value(params, iters) {
         None => Err(Stop::Range),
@@ -72,7 +72,7 @@ pub(crate) fn small_value(form: &IndexExpr, params: &[i64], iters: &[i64]) -> Re
 // The iterator after one more step, in 64 bits.
 fn stepped(x: i64, step: i64) -> Result<i64, Stop>
     ensures value { IfOk result (λ next. next ≡ x +ℤ step) }
-    ensures range { MatchResult result (λ _. ¬ (¬ FitsSigned w64 (x +ℤ step))) (OnRange (¬ FitsSigned w64 (x +ℤ step))) }
+    ensures range { RangeIff result (¬ FitsSigned w64 (x +ℤ step)) }
 {
     match x.checked_add(step) {
         None => Err(Stop::Range),
@@ -83,7 +83,7 @@ fn stepped(x: i64, step: i64) -> Result<i64, Stop>
 // The number of a turn as a counter.
 fn small_count(k: u64) -> Result<i64, Stop>
     ensures value { IfOk result (λ counter. counter ≡ pos k) }
-    ensures range { MatchResult result (λ _. ¬ (2 ^ 63 ≤ k)) (OnRange (2 ^ 63 ≤ k)) }
+    ensures range { RangeIff result (2 ^ 63 ≤ k) }
 {
     i64::try_from(k).map_err(|_wide| Stop::Range)
 }
@@ -98,7 +98,7 @@ fn after_steps(first: i64, step: i64, counter: i64) -> i128
 // A number in 64 bits.
 fn narrowed(x: i128) -> Result<i64, Stop>
     ensures value { IfOk result (λ narrow. narrow ≡ x) }
-    ensures range { MatchResult result (λ _. ¬ (¬ FitsSigned w64 x)) (OnRange (¬ FitsSigned w64 x)) }
+    ensures range { RangeIff result (¬ FitsSigned w64 x) }
 {
     i64::try_from(x).map_err(|_wide| Stop::Range)
 }
@@ -112,7 +112,7 @@ fn iterator_in_turn(
     iters: &[i64],
 ) -> Result<i64, Stop>
     ensures value { IfOk result (λ x. x ≡ iterator_at (index_value (point params.now iters.now) start.now) step k) }
-    ensures range { MatchResult result (λ _. ¬ (HasNoValue (point params.now iters.now) start.now ⊎ ((2 ^ 63 ≤ k) ⊎ (¬ FitsSigned w64 (iterator_at (index_value (point params.now iters.now) start.now) step k))))) (OnRange (HasNoValue (point params.now iters.now) start.now ⊎ ((2 ^ 63 ≤ k) ⊎ (¬ FitsSigned w64 (iterator_at (index_value (point params.now iters.now) start.now) step k))))) }
+    ensures range { let p = point params.now iters.now in RangeIff result (HasNoValue p start.now ⊎ ((2 ^ 63 ≤ k) ⊎ (¬ FitsSigned w64 (iterator_at (index_value p start.now) step k)))) }
 {
     let first = small_value(start, params, iters)?;
     let counter = small_count(k)?;
@@ -122,13 +122,15 @@ fn iterator_in_turn(
 // Whether the condition of a loop holds where its iterator is `x`.
 fn holds_at(alloc: Global, cond: &Cond, params: &[i64], iters: &[i64], x: i64) -> Result<bool, Stop>
     ensures value { IfOk result (λ b. b ≡ holds (inside (point params.now iters.now) x) cond.now) }
-    ensures range { MatchResult result (λ _. ¬ (checked_holds (inside (point params.now iters.now) x) cond.now.parts ≡ None)) (OnRange (checked_holds (inside (point params.now iters.now) x) cond.now.parts ≡ None)) }
+    ensures range { RangeIff result (checked_holds (inside (point params.now iters.now) x) cond.now.parts ≡ None) }
 {
     let inner = extended(alloc, iters, x)?;
     cond.holds(params, inner.as_slice()).ok_or(Stop::Range)
 }
 
-/// How many turns a loop makes whose iterator starts at the value of `start` and grows by `step`.
+/// How many turns a loop makes whose iterator starts at the value of `start` and grows by `step`: the number of the
+/// first turn in which its condition fails. `Range` exactly where the start has no value in 64 bits, the iterator leaves
+/// 64 bits in a turn that is come to, the condition has no value in 128 bits there, or it holds in the turns 0 to 2^64 - 2.
 pub fn turns_of(
     alloc: Global,
     start: &IndexExpr,
@@ -138,8 +140,8 @@ pub fn turns_of(
     iters: &[i64],
 ) -> Result<u64, Stop>
     ensures value { Bounded (length iters.now) step cond.now → IfOk result (λ n. n ≡ turns (point params.now iters.now) start.now cond.now step) }
-    ensures first { IfOk result (λ n. HoldsBefore (point params.now iters.now) start.now cond.now step n × (holds (inside (point params.now iters.now) (iterator_at (index_value (point params.now iters.now) start.now) step n)) cond.now ≡ false)) }
-    ensures range { let p = point params.now iters.now in MatchResult result (λ _. ¬ Uncounted p start.now cond.now step) (OnRange (Uncounted p start.now cond.now step)) }
+    ensures first { let p = point params.now iters.now in IfOk result (λ n. HoldsBefore p start.now cond.now step n × (holds (inside p (iterator_at (index_value p start.now) step n)) cond.now ≡ false)) }
+    ensures range { RangeIff result (Uncounted (point params.now iters.now) start.now cond.now step) }
 {
     let mut x = small_value(start, params, iters)?;
     for k in 0..u64::MAX {
@@ -159,7 +161,7 @@ pub(crate) fn small_values(
     iters: &[i64],
 ) -> Result<Vec<i64>, Stop>
     ensures value { IfOk result (λ at. at.items ≡ map (index_value (point params.now iters.now)) subs.now) }
-    ensures range { MatchResult result (λ _. ¬ (SomeHasNoValue (point params.now iters.now) subs.now)) (OnRange (SomeHasNoValue (point params.now iters.now) subs.now)) }
+    ensures range { RangeIff result (SomeHasNoValue (point params.now iters.now) subs.now) }
 {
     let mut at = Vec::new(alloc);
     for sub in subs {
@@ -172,7 +174,7 @@ pub(crate) fn small_values(
 // The number of the first assignment after some statements.
 fn number_after(first: u64, ss: &[Stmt]) -> Result<u64, Stop>
     ensures value { IfOk result (λ next. next ≡ first + sum_by assignments ss.now) }
-    ensures range { MatchResult result (λ _. ¬ (2 ^ 64 ≤ first + sum_by assignments ss.now)) (OnRange (2 ^ 64 ≤ first + sum_by assignments ss.now)) }
+    ensures range { RangeIff result (2 ^ 64 ≤ first + sum_by assignments ss.now) }
 {
     match count::assignments_in(ss) {
         None => Err(Stop::Range),
@@ -183,7 +185,7 @@ fn number_after(first: u64, ss: &[Stmt]) -> Result<u64, Stop>
 // The number of the first assignment after a statement.
 fn number_after_one(first: u64, s: &Stmt) -> Result<u64, Stop>
     ensures value { IfOk result (λ next. next ≡ first + assignments s.now) }
-    ensures range { MatchResult result (λ _. ¬ (2 ^ 64 ≤ first + assignments s.now)) (OnRange (2 ^ 64 ≤ first + assignments s.now)) }
+    ensures range { RangeIff result (2 ^ 64 ≤ first + assignments s.now) }
 {
     match count::assignments(s) {
         None => Err(Stop::Range),
@@ -203,7 +205,7 @@ fn executed(
     counters: &[i64],
 ) -> Result<Execution, Stop>
     ensures value { IfOk result (λ e. e ≡ record { stmt = stmt; counters = counters.now; iters = iters.now; array = array; at = map (index_value (point params.now iters.now)) subs.now; value = value.now }) }
-    ensures range { MatchResult result (λ _. ¬ (SomeHasNoValue (point params.now iters.now) subs.now)) (OnRange (SomeHasNoValue (point params.now iters.now) subs.now)) }
+    ensures range { RangeIff result (SomeHasNoValue (point params.now iters.now) subs.now) }
 {
     Ok(Execution {
         stmt,
@@ -312,7 +314,9 @@ fn walk_all(
     Ok(())
 }
 
-/// The trace of a program's body at a valuation of its parameters, as far as the plain program can list it.
+/// The trace of a program's body at a valuation of its parameters. `Range` only where the turns of a loop that is come to
+/// cannot be counted, a counter or a subscript leaves 64 bits, a condition has no value in 128, or the number of an
+/// assignment leaves 64 bits.
 pub fn trace(alloc: Global, body: &[Stmt], params: &[i64]) -> Result<Vec<Execution>, Stop>
     ensures range { IfErr result (OnRange (UnlistedAll body.now 0 (point params.now []))) }
     ensures listed { ReadyAll (length params.now) 0 body.now → IfOk result (λ executions. executions.items ≡ map seen (trace_of body.now params.now)) }

@@ -177,7 +177,8 @@ fn stores_of(alloc: Global, executions: &[Execution], params: &[i64]) -> Result<
     Ok(stored)
 }
 
-/// The term that a program's body leaves in the cell `at` of an array, at a valuation of its parameters.
+/// The term that a program's body leaves in the cell `at` of an array, at a valuation of its parameters. `Range` only
+/// where the trace cannot be listed, or a number or a subscript in the value of one of its entries leaves 64 bits.
 pub fn term_of(
     alloc: Global,
     body: &[Stmt],
