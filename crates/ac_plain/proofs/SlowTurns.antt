@@ -1,10 +1,10 @@
 -- What the loops of the plain walk keep.
-use Rattle.std.proofs.Common.{◌≡◌, ℕ, zero, suc, ◌+◌, List, [], ◌∷◌, ◌++◌, map, length, sym, ap, ◌∙◌, arith, subst, ℤ, pos, append_assoc, append-nil, length-append, ◌≤◌, true, false, cond, sum_by, Result, Ok, Err, OnOk, add-one}
+use Rattle.std.proofs.Common.{◌≡◌, ℕ, ◌+◌, List, [], ◌∷◌, ◌++◌, map, length, sym, ap, ◌∙◌, arith, subst, ℤ, pos, append_assoc, length-append, ◌≤◌, true, false, cond, sum_by, Result, Ok, Err, OnOk, add-one}
 use Rattle.std.specs.List.{flat_map, range_with_len}
 use Rattle.std.proofs.lemmas.List.{map-append}
 use Rattle.ac_syntax.specs.Index.{Point, point, index_value, holds}
 use Rattle.ac_syntax.specs.Turns.{inside, iterator_at, turns, Bounded}
-use Rattle.ac_syntax.specs.Trace.{Entry, each_turn, trace, trace_all, assignments}
+use Rattle.ac_syntax.specs.Trace.{Entry, trace, trace_all, assignments}
 use Rattle.ac_syntax.specs.Ready.{Ready, ReadyAll}
 use Rattle.ac_plain.specs.Executions.{seen}
 use Rattle.ac_plain.specs.declared.slow.Execution.{Execution}

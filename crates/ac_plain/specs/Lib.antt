@@ -1,3 +1,4 @@
+pub mod Limits
 pub mod Executions
 pub mod TermTrees
 pub mod Listed

@@ -1,13 +1,16 @@
 //! The definitions of execution as plain programs, for small programs and small numbers: what they answer is what the
 //! definitions say. They are slow, and refuse where a number leaves its type.
-ghost use Rattle.std.specs.Prelude.{◌≡◌, List, ◌+◌, pos, ◌+ℤ◌, ◌∷◌, [], ◌++◌, length, map, sum_by, IfOk, IfSome, OnOk};
+ghost use Rattle.std.specs.Prelude.{◌≡◌, List, ◌+◌, ◌^◌, ◌≤◌, ◌⊎◌, pos, ◌+ℤ◌, ◌∷◌, [], ◌++◌, length, map, sum_by, IfOk, IfErr, OnOk, FitsSigned, ◌*ℤ◌, false};
+ghost use Rattle.std.specs.Int.{w64};
 ghost use Rattle.ac_syntax.specs.Index.{point, index_value, holds};
+ghost use Rattle.ac_syntax.specs.Checked.{checked_holds};
 ghost use Rattle.ac_syntax.specs.Turns.{inside, iterator_at, turns, Bounded};
 ghost use Rattle.ac_syntax.specs.Trace.{Entry, assignments, trace, trace_all, trace_of};
 ghost use Rattle.ac_syntax.specs.Algebra.{same_cell};
 ghost use Rattle.ac_syntax.specs.Source.{source};
 ghost use Rattle.ac_syntax.specs.Ready.{Ready, ReadyAll};
 ghost use Rattle.ac_plain.specs.Executions.{seen, cell, place_of};
+ghost use Rattle.ac_plain.specs.Limits.{OnRange, HasNoValue, SomeHasNoValue, HoldsBefore, RangeIff, Uncounted, Unlisted, UnlistedAll};
 
 use ac_items::Items;
 use ac_syntax::copy::copy_value;
@@ -57,7 +60,8 @@ fn extended(alloc: Global, numbers: &[i64], last: i64) -> Result<Vec<i64>, Alloc
 
 // The value of an index expression, in 64 bits.
 pub(crate) fn small_value(form: &IndexExpr, params: &[i64], iters: &[i64]) -> Result<i64, Stop>
-    ensures { IfOk result (λ v. v ≡ index_value (point params.now iters.now) form.now) }
+    ensures value { IfOk result (λ v. v ≡ index_value (point params.now iters.now) form.now) }
+    ensures range { RangeIff result (HasNoValue (point params.now iters.now) form.now) }
 {
     match form.value(params, iters) {
         None => Err(Stop::Range),
@@ -67,7 +71,8 @@ pub(crate) fn small_value(form: &IndexExpr, params: &[i64], iters: &[i64]) -> Re
 
 // The iterator after one more step, in 64 bits.
 fn stepped(x: i64, step: i64) -> Result<i64, Stop>
-    ensures { IfOk result (λ next. next ≡ x +ℤ step) }
+    ensures value { IfOk result (λ next. next ≡ x +ℤ step) }
+    ensures range { RangeIff result (¬ FitsSigned w64 (x +ℤ step)) }
 {
     match x.checked_add(step) {
         None => Err(Stop::Range),
@@ -77,9 +82,25 @@ fn stepped(x: i64, step: i64) -> Result<i64, Stop>
 
 // The number of a turn as a counter.
 fn small_count(k: u64) -> Result<i64, Stop>
-    ensures { IfOk result (λ counter. counter ≡ pos k) }
+    ensures value { IfOk result (λ counter. counter ≡ pos k) }
+    ensures range { RangeIff result (2 ^ 63 ≤ k) }
 {
     i64::try_from(k).map_err(|_wide| Stop::Range)
+}
+
+// The iterator of a loop after some steps.
+fn after_steps(first: i64, step: i64, counter: i64) -> i128
+    ensures { result ≡ first +ℤ (step *ℤ counter) }
+{
+    first as i128 + step as i128 * counter as i128
+}
+
+// A number in 64 bits.
+fn narrowed(x: i128) -> Result<i64, Stop>
+    ensures value { IfOk result (λ narrow. narrow ≡ x) }
+    ensures range { RangeIff result (¬ FitsSigned w64 x) }
+{
+    i64::try_from(x).map_err(|_wide| Stop::Range)
 }
 
 // The iterator of a loop in the turn k, in 64 bits.
@@ -90,25 +111,26 @@ fn iterator_in_turn(
     params: &[i64],
     iters: &[i64],
 ) -> Result<i64, Stop>
-    ensures { IfOk result (λ x. x ≡ iterator_at (index_value (point params.now iters.now) start.now) step k) }
+    ensures value { IfOk result (λ x. x ≡ iterator_at (index_value (point params.now iters.now) start.now) step k) }
+    ensures range { let p = point params.now iters.now in RangeIff result (HasNoValue p start.now ⊎ ((2 ^ 63 ≤ k) ⊎ (¬ FitsSigned w64 (iterator_at (index_value p start.now) step k)))) }
 {
     let first = small_value(start, params, iters)?;
     let counter = small_count(k)?;
-    match first.checked_add(step.checked_mul(counter).ok_or(Stop::Range)?) {
-        None => Err(Stop::Range),
-        Some(x) => Ok(x),
-    }
+    narrowed(after_steps(first, step, counter))
 }
 
 // Whether the condition of a loop holds where its iterator is `x`.
 fn holds_at(alloc: Global, cond: &Cond, params: &[i64], iters: &[i64], x: i64) -> Result<bool, Stop>
-    ensures { IfOk result (λ b. b ≡ holds (inside (point params.now iters.now) x) cond.now) }
+    ensures value { IfOk result (λ b. b ≡ holds (inside (point params.now iters.now) x) cond.now) }
+    ensures range { RangeIff result (checked_holds (inside (point params.now iters.now) x) cond.now.parts ≡ None) }
 {
     let inner = extended(alloc, iters, x)?;
     cond.holds(params, inner.as_slice()).ok_or(Stop::Range)
 }
 
-/// How many turns a loop makes whose iterator starts at the value of `start` and grows by `step`.
+/// How many turns a loop makes whose iterator starts at the value of `start` and grows by `step`: the number of the
+/// first turn in which its condition fails. `Range` exactly where the start has no value in 64 bits, the iterator leaves
+/// 64 bits in a turn that is come to, the condition has no value in 128 bits there, or it holds in the turns 0 to 2^64 - 2.
 pub fn turns_of(
     alloc: Global,
     start: &IndexExpr,
@@ -117,7 +139,9 @@ pub fn turns_of(
     params: &[i64],
     iters: &[i64],
 ) -> Result<u64, Stop>
-    ensures { Bounded (length iters.now) step cond.now → IfOk result (λ n. n ≡ turns (point params.now iters.now) start.now cond.now step) }
+    ensures value { Bounded (length iters.now) step cond.now → IfOk result (λ n. n ≡ turns (point params.now iters.now) start.now cond.now step) }
+    ensures first { let p = point params.now iters.now in IfOk result (λ n. HoldsBefore p start.now cond.now step n × (holds (inside p (iterator_at (index_value p start.now) step n)) cond.now ≡ false)) }
+    ensures range { RangeIff result (Uncounted (point params.now iters.now) start.now cond.now step) }
 {
     let mut x = small_value(start, params, iters)?;
     for k in 0..u64::MAX {
@@ -136,7 +160,8 @@ pub(crate) fn small_values(
     params: &[i64],
     iters: &[i64],
 ) -> Result<Vec<i64>, Stop>
-    ensures { IfOk result (λ at. at.items ≡ map (index_value (point params.now iters.now)) subs.now) }
+    ensures value { IfOk result (λ at. at.items ≡ map (index_value (point params.now iters.now)) subs.now) }
+    ensures range { RangeIff result (SomeHasNoValue (point params.now iters.now) subs.now) }
 {
     let mut at = Vec::new(alloc);
     for sub in subs {
@@ -148,7 +173,8 @@ pub(crate) fn small_values(
 
 // The number of the first assignment after some statements.
 fn number_after(first: u64, ss: &[Stmt]) -> Result<u64, Stop>
-    ensures { IfOk result (λ next. next ≡ first + sum_by assignments ss.now) }
+    ensures value { IfOk result (λ next. next ≡ first + sum_by assignments ss.now) }
+    ensures range { RangeIff result (2 ^ 64 ≤ first + sum_by assignments ss.now) }
 {
     match count::assignments_in(ss) {
         None => Err(Stop::Range),
@@ -158,7 +184,8 @@ fn number_after(first: u64, ss: &[Stmt]) -> Result<u64, Stop>
 
 // The number of the first assignment after a statement.
 fn number_after_one(first: u64, s: &Stmt) -> Result<u64, Stop>
-    ensures { IfOk result (λ next. next ≡ first + assignments s.now) }
+    ensures value { IfOk result (λ next. next ≡ first + assignments s.now) }
+    ensures range { RangeIff result (2 ^ 64 ≤ first + assignments s.now) }
 {
     match count::assignments(s) {
         None => Err(Stop::Range),
@@ -177,7 +204,8 @@ fn executed(
     iters: &[i64],
     counters: &[i64],
 ) -> Result<Execution, Stop>
-    ensures { IfOk result (λ e. e ≡ record { stmt = stmt; counters = counters.now; iters = iters.now; array = array; at = map (index_value (point params.now iters.now)) subs.now; value = value.now }) }
+    ensures value { IfOk result (λ e. e ≡ record { stmt = stmt; counters = counters.now; iters = iters.now; array = array; at = map (index_value (point params.now iters.now)) subs.now; value = value.now }) }
+    ensures range { RangeIff result (SomeHasNoValue (point params.now iters.now) subs.now) }
 {
     Ok(Execution {
         stmt,
@@ -201,7 +229,8 @@ fn walk(
     counters: &[i64],
     out: &mut Vec<Execution>,
 ) -> Result<(), Stop>
-    ensures { Ready (length params.now) (length iters.now) s.now → OnOk result (out.new.items ≡ out.old.items ++ map seen (trace s.now first (point params.now iters.now) counters.now)) }
+    ensures range { IfErr result (OnRange (Unlisted s.now first (point params.now iters.now))) }
+    ensures listed { Ready (length params.now) (length iters.now) s.now → OnOk result (out.new.items ≡ out.old.items ++ map seen (trace s.now first (point params.now iters.now) counters.now)) }
 {
     match s {
         Stmt::For {
@@ -274,7 +303,8 @@ fn walk_all(
     counters: &[i64],
     out: &mut Vec<Execution>,
 ) -> Result<(), Stop>
-    ensures { ReadyAll (length params.now) (length iters.now) ss.now → OnOk result (out.new.items ≡ out.old.items ++ map seen (trace_all ss.now first (point params.now iters.now) counters.now)) }
+    ensures range { IfErr result (OnRange (UnlistedAll ss.now first (point params.now iters.now))) }
+    ensures listed { ReadyAll (length params.now) (length iters.now) ss.now → OnOk result (out.new.items ≡ out.old.items ++ map seen (trace_all ss.now first (point params.now iters.now) counters.now)) }
 {
     let mut next = first;
     for s in ss {
@@ -284,9 +314,12 @@ fn walk_all(
     Ok(())
 }
 
-/// The trace of a program's body at a valuation of its parameters, as far as the plain program can list it.
+/// The trace of a program's body at a valuation of its parameters. `Range` only where the turns of a loop that is come to
+/// cannot be counted, a counter or a subscript leaves 64 bits, a condition has no value in 128, or the number of an
+/// assignment leaves 64 bits.
 pub fn trace(alloc: Global, body: &[Stmt], params: &[i64]) -> Result<Vec<Execution>, Stop>
-    ensures { ReadyAll (length params.now) 0 body.now → IfOk result (λ executions. executions.items ≡ map seen (trace_of body.now params.now)) }
+    ensures range { IfErr result (OnRange (UnlistedAll body.now 0 (point params.now []))) }
+    ensures listed { ReadyAll (length params.now) 0 body.now → IfOk result (λ executions. executions.items ≡ map seen (trace_of body.now params.now)) }
 {
     let mut out = Vec::new(alloc);
     walk_all(alloc, body, 0, params, &[], &[], &mut out)?;

@@ -1,5 +1,5 @@
 //! The terms that a small program leaves in its cells, computed statement by statement.
-ghost use Rattle.std.specs.Prelude.{◌≡◌, ◌<◌, List, ◌∷◌, [], ◌++◌, length, map, get_or, IfOk, OnOk, MatchOption};
+ghost use Rattle.std.specs.Prelude.{◌≡◌, ◌<◌, ◌⊎◌, List, ◌∷◌, [], ◌++◌, length, map, get_or, IfOk, IfErr, OnOk, MatchOption};
 ghost use Rattle.ac_syntax.specs.Index.{point, index_value};
 ghost use Rattle.ac_syntax.specs.Algebra.{Cell, same_cell, value_of};
 ghost use Rattle.ac_syntax.specs.Term.{Leaf, Initial, free};
@@ -8,6 +8,8 @@ ghost use Rattle.ac_syntax.specs.Ready.{ReadyAll};
 ghost use Rattle.ac_plain.specs.Executions.{cell};
 ghost use Rattle.ac_plain.specs.TermTrees.{tree_term, left_in};
 ghost use Rattle.ac_plain.specs.Listed.{run_listed};
+ghost use Rattle.ac_syntax.specs.Trace.{trace_of};
+ghost use Rattle.ac_plain.specs.Limits.{OnRange, UnlistedAll, HasNoTerm, SomeHasNoTerm, EntryHasNoTerm, ExecutionHasNoTerm};
 
 use crate::slow::{self, Execution, Stop};
 use ac_items::Items;
@@ -113,7 +115,8 @@ fn value_term(
     iters: &[i64],
     stored: &[Stored],
 ) -> Result<TermTree, Stop>
-    ensures { (leaf : Cell → Leaf) → IfOk result (λ t. tree_term leaf t ≡ value_of free (point params.now iters.now) (left_in leaf stored.now) value.now) }
+    ensures range { IfErr result (OnRange (HasNoTerm (point params.now iters.now) value.now)) }
+    ensures term { (leaf : Cell → Leaf) → IfOk result (λ t. tree_term leaf t ≡ value_of free (point params.now iters.now) (left_in leaf stored.now) value.now) }
 {
     match value {
         Value::Number(form) => Ok(TermTree::Number(slow::small_value(form, params, iters)?)),
@@ -136,7 +139,8 @@ fn value_terms(
     iters: &[i64],
     stored: &[Stored],
 ) -> Result<Items<TermTree>, Stop>
-    ensures { (leaf : Cell → Leaf) → IfOk result (λ ts. map (tree_term leaf) ts ≡ map (value_of free (point params.now iters.now) (left_in leaf stored.now)) values.now) }
+    ensures range { IfErr result (OnRange (SomeHasNoTerm (point params.now iters.now) values.now)) }
+    ensures terms { (leaf : Cell → Leaf) → IfOk result (λ ts. map (tree_term leaf) ts ≡ map (value_of free (point params.now iters.now) (left_in leaf stored.now)) values.now) }
 {
     let mut terms = Items::new(alloc);
     for value in values {
@@ -154,7 +158,8 @@ fn add(stored: &mut Vec<Stored>, last: Stored) -> Result<(), AllocError>
 
 // The stores of executions, one after another.
 fn stores_of(alloc: Global, executions: &[Execution], params: &[i64]) -> Result<Vec<Stored>, Stop>
-    ensures { (leaf : Cell → Leaf) → IfOk result (λ stored. left_in leaf stored.items ≡ run_listed params.now executions.now (λ c. Initial (leaf c))) }
+    ensures range { IfErr result (OnRange (ExecutionHasNoTerm params.now executions.now)) }
+    ensures left { (leaf : Cell → Leaf) → IfOk result (λ stored. left_in leaf stored.items ≡ run_listed params.now executions.now (λ c. Initial (leaf c))) }
 {
     let mut stored = Vec::new(alloc);
     for execution in executions {
@@ -172,7 +177,8 @@ fn stores_of(alloc: Global, executions: &[Execution], params: &[i64]) -> Result<
     Ok(stored)
 }
 
-/// The term that a program's body leaves in the cell `at` of an array, at a valuation of its parameters.
+/// The term that a program's body leaves in the cell `at` of an array, at a valuation of its parameters. `Range` only
+/// where the trace cannot be listed, or a number or a subscript in the value of one of its entries leaves 64 bits.
 pub fn term_of(
     alloc: Global,
     body: &[Stmt],
@@ -180,7 +186,8 @@ pub fn term_of(
     array: usize,
     at: &[i64],
 ) -> Result<TermTree, Stop>
-    ensures { ReadyAll (length params.now) 0 body.now → (leaf : Cell → Leaf) → IfOk result (λ t. tree_term leaf t ≡ term body.now params.now leaf (cell array at.now)) }
+    ensures range { ReadyAll (length params.now) 0 body.now → IfErr result (OnRange (UnlistedAll body.now 0 (point params.now []) ⊎ EntryHasNoTerm (trace_of body.now params.now))) }
+    ensures term { ReadyAll (length params.now) 0 body.now → (leaf : Cell → Leaf) → IfOk result (λ t. tree_term leaf t ≡ term body.now params.now leaf (cell array at.now)) }
 {
     let executions = slow::trace(alloc, body, params)?;
     let stored = stores_of(alloc, executions.as_slice(), params)?;

@@ -1,4 +1,4 @@
-use crate::slow::{self, Execution};
+use crate::slow::{self, Execution, Stop};
 use crate::slow_terms::{self, TermTree};
 use ac_syntax::name::Name;
 use ac_syntax::tree::{Comparison, Cond, IndexExpr, Place, Rel, Stmt, Symbol, Value};
@@ -275,5 +275,90 @@ fn parts_of_trees_are_counted_and_copied(rt: HostRuntime) -> Result<(), Fail> {
     assert!(rt; copies_are_same(alloc)?);
     assert_eq!(rt; count::nodes(&example_value(alloc)?), Some(3));
     assert_eq!(rt; count::assignments(&numbered_branch(alloc)?), Some(3));
+    Ok(())
+}
+
+// Whether the turns from `start` on cannot be counted, where the condition compares a form with 0.
+fn turns_give_up(
+    alloc: Global,
+    start: [i64; 2],
+    bound: [i64; 3],
+    step: i64,
+    param: i64,
+) -> Result<bool, Fail> {
+    let first = form(alloc, start[0], start[1], &[])?;
+    let cond = holds(
+        alloc,
+        Rel::NonNegative,
+        form(alloc, bound[0], bound[1], &[bound[2]])?,
+    )?;
+    match slow::turns_of(alloc, &first, &cond, step, &[param], &[]) {
+        Err(Stop::Range) => Ok(true),
+        Err(Stop::Memory(refused)) => Err(Fail::from(refused)),
+        Ok(_turns) => Ok(false),
+    }
+}
+
+#[test]
+fn turns_beyond_small_numbers_are_not_counted(rt: HostRuntime) -> Result<(), Fail> {
+    let table = [
+        ([i64::MAX, 0], [0, 0, -1], 1, 7, false), // the condition fails at once
+        ([i64::MAX, 1], [0, 0, -1], 1, 7, true), // the start leaves 64 bits
+        ([i64::MAX, 0], [0, 0, 1], 1, 7, true), // and here the iterator after a turn
+        ([i64::MIN, 0], [-1, 0, -1], -1, 7, true),
+        ([i64::MIN, 0], [0, i64::MIN, i64::MIN], 1, i64::MIN, true), // 2^126 + 2^126
+        ([i64::MIN, 0], [0, i64::MIN, 1], -1, 0, false),
+    ];
+    for (start, bound, step, param, want) in table {
+        assert_eq!(rt; turns_give_up(rt.alloc(), start, bound, step, param)?, want);
+    }
+    Ok(())
+}
+
+// if (k + n >= 0) A[sub] = value; where n is the parameter, and the first of each is the constant
+fn guarded(
+    alloc: Global,
+    test: [i64; 2],
+    sub: [i64; 2],
+    value: [i64; 2],
+) -> Result<Vec<Stmt>, Fail> {
+    let number = Value::Number(form(alloc, value[0], value[1], &[])?);
+    let write = store(alloc, 0, form(alloc, sub[0], sub[1], &[])?, number)?;
+    let cond = holds(alloc, Rel::NonNegative, form(alloc, test[0], test[1], &[])?)?;
+    let branch = make::branch(cond, vec![in alloc; write]?, Vec::new(alloc), here());
+    Ok(vec![in alloc; branch]?)
+}
+
+fn trace_gives_up(alloc: Global, program: &[Stmt]) -> Result<bool, Fail> {
+    match slow::trace(alloc, program, &[7]) {
+        Err(Stop::Range) => Ok(true),
+        Err(Stop::Memory(refused)) => Err(Fail::from(refused)),
+        Ok(_executions) => Ok(false),
+    }
+}
+
+fn term_gives_up(alloc: Global, program: &[Stmt]) -> Result<bool, Fail> {
+    match slow_terms::term_of(alloc, program, &[7], 0, &[0]) {
+        Err(Stop::Range) => Ok(true),
+        Err(Stop::Memory(refused)) => Err(Fail::from(refused)),
+        Ok(_term) => Ok(false),
+    }
+}
+
+#[test]
+fn numbers_beyond_64_bits_are_not_listed(rt: HostRuntime) -> Result<(), Fail> {
+    let alloc = rt.alloc();
+    let last = i64::MAX;
+    let table = [
+        ([0, 1], [last, 0], [last, 0], false, false),
+        ([0, 1], [last, 1], [0, 0], true, true), // the subscript
+        ([0, 1], [0, 0], [last, 1], false, true), // the number, which a trace leaves alone
+        ([0, -1], [last, 1], [last, 1], false, false), // not come to
+    ];
+    for (test, sub, value, no_trace, no_term) in table {
+        let program = guarded(alloc, test, sub, value)?;
+        assert_eq!(rt; trace_gives_up(alloc, program.as_slice())?, no_trace);
+        assert_eq!(rt; term_gives_up(alloc, program.as_slice())?, no_term);
+    }
     Ok(())
 }

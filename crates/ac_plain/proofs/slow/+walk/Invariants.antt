@@ -4,7 +4,8 @@ use Rattle.ac_syntax.specs.Index.{point}
 use Rattle.ac_syntax.specs.Trace.{trace_all}
 use Rattle.ac_syntax.specs.Ready.{ReadyAll}
 use Rattle.ac_plain.specs.Executions.{seen}
-use Rattle.ac_plain.proofs.SlowTurns.{in_turn_of}
+use Rattle.ac_syntax.proofs.TurnEntries.{in_turn_of}
+use Rattle.ac_plain.specs.Limits.{UnlistedAll}
 use Rattle.ac_plain.proofs.slow.+walk.Given as goal
 
 abbrev pub invariant-walk-loop-k : goal.invariant-walk-loop-k
@@ -14,7 +15,8 @@ invariant-walk-loop-k l =
 
 abbrev pub invariant-walk_all-loop-s : goal.invariant-walk_all-loop-s
 invariant-walk_all-loop-s l =
-    ReadyAll (length l.params) (length l.iters) l.ss
+    (ReadyAll (length l.params) (length l.iters) l.ss
     → ReadyAll (length l.params) (length l.iters) (drop l.s-index l.ss)
     × (l.out.items ++ map seen (trace_all (drop l.s-index l.ss) l.next (point l.params l.iters) l.counters)
-    ≡ l.fn.out.items ++ map seen (trace_all l.ss l.first (point l.params l.iters) l.counters))
+    ≡ l.fn.out.items ++ map seen (trace_all l.ss l.first (point l.params l.iters) l.counters)))
+    × (UnlistedAll (drop l.s-index l.ss) l.next (point l.params l.iters) → UnlistedAll l.ss l.first (point l.params l.iters))
