@@ -23,3 +23,4 @@ pub mod Emptied
 pub mod AllColumns
 pub mod Deciding
 pub mod Finding
+pub mod DifferenceForms
