@@ -24,3 +24,5 @@ pub mod AllColumns
 pub mod Deciding
 pub mod Finding
 pub mod DifferenceForms
+pub mod DifferenceRows
+pub mod DifferenceNormals
