@@ -9,7 +9,7 @@ use Rattle.ac_omega.specs.Differences.{one_in, IsDifference}
 abbrev pub IsUnit : ℤ → Type 0
 IsUnit x = (x ≡ pos 1) ⊎ (x ≡ pos 0) ⊎ (x ≡ negsuc 0)
 
-one-cases : (o : Option ℕ) (j : ℕ) → ((one_in o j ≡ pos 1) × (o ≡ Some j)) ⊎ (one_in o j ≡ pos 0)
+pub one-cases : (o : Option ℕ) (j : ℕ) → ((one_in o j ≡ pos 1) × (o ≡ Some j)) ⊎ (one_in o j ≡ pos 0)
 one-cases None j = inr refl
 one-cases (Some x) j = by (nat_eq x j) refl
   where

@@ -26,3 +26,5 @@ pub mod Finding
 pub mod DifferenceForms
 pub mod DifferenceRows
 pub mod DifferenceNormals
+pub mod DifferenceCounts
+pub mod DifferenceLabels
