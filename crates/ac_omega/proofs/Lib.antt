@@ -28,3 +28,4 @@ pub mod DifferenceRows
 pub mod DifferenceNormals
 pub mod DifferenceCounts
 pub mod DifferenceLabels
+pub mod DifferenceChoices
