@@ -29,3 +29,4 @@ pub mod DifferenceNormals
 pub mod DifferenceCounts
 pub mod DifferenceLabels
 pub mod DifferenceChoices
+pub mod DifferenceShadows
