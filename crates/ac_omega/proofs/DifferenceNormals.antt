@@ -96,7 +96,7 @@ normal-each vars b xs l h = by (has_absurd xs) (has_clash (in_order (left_rows x
 pub fits-within : (z : ℤ) (b : ℕ) → unsigned_abs z ≤ b → b < 2 ^ 127 → fits z ≡ true
 fits-within z b h l = fits_true z (fits_signed_from_abs w128 z (omega arith))
 
-unit-fits : (c : ℤ) → IsUnit c → (fits (pos (unsigned_abs c)) ≡ true) × (fits (negsuc 0 *ℤ c) ≡ true)
+pub unit-fits : (c : ℤ) → IsUnit c → (fits (pos (unsigned_abs c)) ≡ true) × (fits (negsuc 0 *ℤ c) ≡ true)
 unit-fits c (inl e) = rw e (refl, refl)
 unit-fits c (inr (inl e)) = rw e (refl, refl)
 unit-fits c (inr (inr e)) = rw e (refl, refl)

@@ -134,7 +134,7 @@ pub all-bit : (d : ℕ) (cs : List ℤ) → IsBit d → AreUnits cs → IsBit (g
 all-bit d [] h u = h
 all-bit d (c ∷ cs) h u = all-bit (gcd d (unsigned_abs c)) cs (gcd-bit d (unsigned_abs c) h (unit-size c u.0)) u.1
 
-by-one : (x : ℤ) → int_div_euclid x (pos 1) ≡ x
+pub by-one : (x : ℤ) → int_div_euclid x (pos 1) ≡ x
 by-one x = let k : 0 < 1 = omega arith in omega (arith, ints, floor_le x 1 k, lt_floor x 1 k)
 
 floored-one : (cs : List ℤ) → floored (pos 1) cs ≡ cs

@@ -30,3 +30,6 @@ pub mod DifferenceCounts
 pub mod DifferenceLabels
 pub mod DifferenceChoices
 pub mod DifferenceShadows
+pub mod DifferenceFits
+pub mod DifferencePoints
+pub mod DifferenceTries
