@@ -33,3 +33,5 @@ pub mod DifferenceShadows
 pub mod DifferenceFits
 pub mod DifferencePoints
 pub mod DifferenceTries
+pub mod DifferenceNexts
+pub mod DifferenceWalks
