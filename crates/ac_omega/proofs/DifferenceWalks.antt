@@ -57,7 +57,7 @@ pub cost-level : (m : ℕ) → level m ≤ cost m
 unfolding level cost
 cost-level m = omega (arith, suc-times m (suc m * suc m))
 
-squares : (m n : ℕ) → m ≤ n → suc m * suc m ≤ suc n * suc n
+pub squares : (m n : ℕ) → m ≤ n → suc m * suc m ≤ suc n * suc n
 squares m n l =
     let s : suc m ≤ suc n = omega arith in
     omega (arith, mul-le-mul_left (suc m) s, mul-le-mul_left (suc n) s)
@@ -95,7 +95,7 @@ form-small vars b top f s h l m a = record {
   number = greatest-small f.coefs (max s.number (unsigned_abs f.konst)) top (form-units vars b f h) (omega (arith, h.small, a.number)) m;
 }
 
-rows-small : (vars : List ℕ) (b top : ℕ) (rs : List Row) (s : Maxima) → Each (IsRow vars b) rs → b ≤ top → 1 ≤ top → AreSmall top s → AreSmall top (with_rows rs s)
+pub rows-small : (vars : List ℕ) (b top : ℕ) (rs : List Row) (s : Maxima) → Each (IsRow vars b) rs → b ≤ top → 1 ≤ top → AreSmall top s → AreSmall top (with_rows rs s)
 rows-small vars b top [] s h l m a = a
 rows-small vars b top (Eq f ∷ rs) s h l m a = rows-small vars b top rs (with_form f s) h.1 l m (form-small vars b top f s h.0.0 l m a)
 rows-small vars b top (Div n f ∷ rs) s h l m a = absurd h.0
@@ -108,16 +108,16 @@ Comes top budget n m k (Found p) = AreWithin (m * top) p × (length p ≡ n)
 Comes top budget n m k (Spent j) = budget < k + cost m
 Comes top budget n m k Wide = ⊥
 
-zeros-within : (v n : ℕ) → AreWithin v (replicate n (pos 0))
+pub zeros-within : (v n : ℕ) → AreWithin v (replicate n (pos 0))
 zeros-within v zero = tt
 zeros-within v (suc n) = (omega arith, zeros-within v n)
 
-zeros-length : (n : ℕ) → length (replicate n (pos 0)) ≡ n
+pub zeros-length : (n : ℕ) → length (replicate n (pos 0)) ≡ n
 zeros-length zero = refl
 zeros-length (suc n) = ap suc (zeros-length n)
 
 -- behind the one choice
-behind-comes : (top budget n m k j : ℕ) (w : Walked Maxima) (lift : List ℤ → Option (List ℤ)) → j + cost m ≤ k + cost (suc m)
+pub behind-comes : (top budget n m k j : ℕ) (w : Walked Maxima) (lift : List ℤ → Option (List ℤ)) → j + cost m ≤ k + cost (suc m)
     → ((q : List ℤ) → AreWithin (m * top) q → length q ≡ n → (p : List ℤ) × (lift q ≡ Some p) × AreWithin (suc m * top) p × (length p ≡ n))
     → Comes top budget n m j w → Comes top budget n (suc m) k (behind w lift (λ i s. Gone i s))
 behind-comes top budget n m k j (Gone i s) lift l h g = (omega (arith, g.0), g.1)

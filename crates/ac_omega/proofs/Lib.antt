@@ -35,3 +35,4 @@ pub mod DifferencePoints
 pub mod DifferenceTries
 pub mod DifferenceNexts
 pub mod DifferenceWalks
+pub mod DifferencePaths

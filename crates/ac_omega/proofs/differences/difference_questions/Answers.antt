@@ -1,4 +1,4 @@
-use Rattle.ac_omega.proofs.DifferenceWalks.{Comes}
+use Rattle.ac_omega.proofs.DifferencePaths.{walk-comes}
 use Rattle.ac_omega.proofs.differences.difference_questions.Goals as goal
 
 pub returns-clause-never_wide : goal.returns-clause-never_wide
