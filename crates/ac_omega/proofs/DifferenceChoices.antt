@@ -1,18 +1,14 @@
 -- What the choices for a column leave of rows of differences: such rows over the other columns, with constants up to twice as great.
-use Rattle.std.proofs.Common.{◌≡◌, ◌⊎◌, inl, inr, ℕ, zero, suc, ◌+◌, ◌<◌, ◌≤◌, nat_eq, cond, Bool, true, false, not, ◌&&◌, ◌||◌, ◌==◌, ℤ, pos, negsuc, ◌+ℤ◌, ◌-ℤ◌, ◌*ℤ◌, neg_ℤ, int_eq, List, [], ◌∷◌, ◌++◌, map, take, drop, set, get_or, Option, Some, None, slice_get, arith, refl, ap, sym, subst, ◌∙◌}
+use Rattle.std.proofs.Common.{◌≡◌, ◌⊎◌, inl, inr, ℕ, zero, suc, ◌+◌, ◌≤◌, cond, Bool, true, false, not, ◌||◌, ◌==◌, ℤ, pos, negsuc, ◌+ℤ◌, ◌*ℤ◌, neg_ℤ, int_eq, List, [], ◌∷◌, ◌++◌, map, take, drop, Some, slice_get, arith, refl, ap, sym, subst, ◌∙◌}
 use Rattle.std.specs.Prelude.{unsigned_abs}
-use Rattle.std.specs.Int.Signed.{lt_z}
 use Rattle.std.proofs.lemmas.Int.{ints}
-use borrow.Author.Tests.{eqb-true, eqb-false}
-use Rattle.ac_integers.specs.Dot.{mix}
+use borrow.Author.Tests.{eqb-true}
 use Rattle.ac_forms.specs.Affine.{Affine, coef, combined, scaled}
-use Rattle.ac_forms.specs.Rows.{form_of}
 use Rattle.ac_forms.specs.declared.row.Row.{Row}
 use Rattle.ac_forms.specs.declared.row.Row.TheVariants.{Eq, Div, Ge}
-use Rattle.ac_cert.specs.declared.column.Bound.{Bound}
-use Rattle.ac_cert.specs.Bounds.{has_column, without, is_low, is_high, low_bound, high_bound, lows, highs, frees}
-use Rattle.ac_cert.specs.Choices.{size_of, against, replaced, replaced_row, others, by_equality, shadow_form, shadows_with, shadows}
-use Rattle.ac_cert.proofs.OneColumn.{coef-combined, has-not, coef-without}
+use Rattle.ac_cert.specs.Bounds.{without}
+use Rattle.ac_cert.specs.Choices.{size_of, against, replaced, replaced_row, others, by_equality}
+use Rattle.ac_cert.proofs.OneColumn.{coef-combined}
 use Rattle.ac_omega.specs.Differences.{IsDifference}
 use Rattle.ac_omega.specs.Projection.{is_among}
 use Rattle.ac_omega.proofs.DifferenceForms.{IsUnit, unit-at, sum-difference, same-difference}

@@ -1,26 +1,22 @@
 -- How many rows of differences over some columns a normal form has: no two have one kind and the same coefficients.
-use Rattle.std.proofs.Common.{◌≡◌, ◌⊎◌, inl, inr, ℕ, zero, suc, ◌+◌, ◌*◌, ◌≤◌, cond, Bool, true, false, int_eq, int_cmp, nat_cmp, ℤ, pos, ◌-ℤ◌, List, [], ◌∷◌, ◌++◌, length, map, get_or, Option, Some, None, arith, refl, ap, sym, subst, ◌∙◌, length-append}
-use Rattle.std.specs.List.{dedup, dedup_from}
+use Rattle.std.proofs.Common.{◌≡◌, ℕ, zero, suc, cond, Bool, true, false, int_eq, int_cmp, ℤ, pos, List, [], ◌∷◌, get_or, arith, refl, ap, sym, subst, ◌∙◌}
+use Rattle.std.specs.List.{dedup_from}
 use Rattle.std.specs.Cmp.Lexicographic.{pointwise}
 use Rattle.std.specs.Ordering.{is_gt, ordering_then, ordering_reverse}
 use Rattle.std.specs.declared.cmp.Ordering.{Ordering}
 use Rattle.std.specs.declared.cmp.Ordering.TheVariants.{Less, Equal, Greater}
 use Rattle.std.proofs.lemmas.Cmp.{lists_equiv, int_eq_equiv}
-use Rattle.std.proofs.lemmas.Int.{ints}
-use Rattle.std.proofs.lemmas.List.{length-map}
 use Rattle.ac_forms.specs.Affine.{Affine, coef}
-use Rattle.ac_forms.specs.NormalForm.{absurd_rows, left_rows, has_absurd, in_order, alike, has_clash, normal_form}
+use Rattle.ac_forms.specs.NormalForm.{alike}
 use Rattle.ac_forms.specs.NormalRows.{trim, trim_onto}
 use Rattle.ac_forms.specs.Orders.{columns_cmp, form_cmp, row_cmp, kind_of}
 use Rattle.ac_forms.specs.Rows.{form_of}
 use Rattle.ac_forms.specs.Ties.{columns_total, int_tied, then_tied}
 use Rattle.ac_forms.specs.declared.row.Row.{Row}
 use Rattle.ac_forms.specs.declared.row.Row.TheVariants.{Eq, Div, Ge}
-use Rattle.ac_forms.proofs.Sorting.{Below, Rising, rising-in_order}
-use Rattle.ac_omega.specs.Differences.{one_in, IsDifference}
-use Rattle.ac_omega.specs.Projection.{is_among}
-use Rattle.ac_omega.proofs.DifferenceRows.{IsOver, IsTrimmed, IsRow, IsRaw, Each}
-use Rattle.ac_omega.proofs.DifferenceNormals.{each-left, each-in_order, each-dedup_from}
+use Rattle.ac_forms.proofs.Sorting.{Below, Rising}
+use Rattle.ac_omega.proofs.DifferenceRows.{IsTrimmed, Each}
+use Rattle.ac_omega.proofs.DifferenceNormals.{each-dedup_from, nothing-at}
 
 -- Two lists in which each column has one number are the same but for zeros at their ends.
 zero-onto : (c : ℤ) → c ≡ pos 0 → trim_onto c [] ≡ []
@@ -30,21 +26,17 @@ trim-zeros : (ys : List ℤ) → ((j : ℕ) → get_or ys j (pos 0) ≡ pos 0) �
 trim-zeros [] h = refl
 trim-zeros (y ∷ ys) h = ap (λ (zs : List ℤ). trim_onto y zs) (trim-zeros ys (λ j. h (suc j))) ∙ zero-onto y (h 0)
 
-nothing : (j : ℕ) → get_or [] j (pos 0) ≡ pos 0
-nothing zero = refl
-nothing (suc j) = refl
-
 trim-same : (xs ys : List ℤ) → ((j : ℕ) → get_or xs j (pos 0) ≡ get_or ys j (pos 0)) → trim xs ≡ trim ys
-trim-same [] ys h = sym (trim-zeros ys (λ j. sym (h j) ∙ nothing j))
-trim-same (x ∷ xs) [] h = trim-zeros (x ∷ xs) (λ j. h j ∙ nothing j)
+trim-same [] ys h = sym (trim-zeros ys (λ j. sym (h j) ∙ nothing-at j))
+trim-same (x ∷ xs) [] h = trim-zeros (x ∷ xs) (λ j. h j ∙ nothing-at j)
 trim-same (x ∷ xs) (y ∷ ys) h = ap (λ (c : ℤ). trim_onto c (trim xs)) (h 0) ∙ ap (λ (zs : List ℤ). trim_onto y zs) (trim-same xs ys (λ j. h (suc j)))
 
 tied-at : (xs ys : List ℤ) → columns_cmp xs ys ≡ Equal → (j : ℕ) → get_or xs j (pos 0) ≡ get_or ys j (pos 0)
 tied-at [] [] e j = refl
 tied-at [] (y ∷ ys) e zero = int_tied (pos 0) y (then_tied (int_cmp (pos 0) y) (columns_cmp [] ys) e).0
-tied-at [] (y ∷ ys) e (suc j) = sym (nothing j) ∙ nothing j ∙ sym (nothing j) ∙ tied-at [] ys (then_tied (int_cmp (pos 0) y) (columns_cmp [] ys) e).1 j
+tied-at [] (y ∷ ys) e (suc j) = tied-at [] ys (then_tied (int_cmp (pos 0) y) (columns_cmp [] ys) e).1 j
 tied-at (x ∷ xs) [] e zero = int_tied x (pos 0) (then_tied (int_cmp x (pos 0)) (columns_cmp xs []) e).0
-tied-at (x ∷ xs) [] e (suc j) = tied-at xs [] (then_tied (int_cmp x (pos 0)) (columns_cmp xs []) e).1 j ∙ nothing j ∙ sym (nothing j)
+tied-at (x ∷ xs) [] e (suc j) = tied-at xs [] (then_tied (int_cmp x (pos 0)) (columns_cmp xs []) e).1 j
 tied-at (x ∷ xs) (y ∷ ys) e zero = int_tied x y (then_tied (int_cmp x y) (columns_cmp xs ys) e).0
 tied-at (x ∷ xs) (y ∷ ys) e (suc j) = tied-at xs ys (then_tied (int_cmp x y) (columns_cmp xs ys) e).1 j
 

@@ -1,5 +1,5 @@
 -- The numbers of the choices for a column of rows of differences stay in `i128`.
-use Rattle.std.proofs.Common.{◌≡◌, ◌⊎◌, inl, inr, ℕ, zero, suc, ◌+◌, ◌<◌, ◌≤◌, ◌^◌, lit<, cond, Bool, true, false, ◌&&◌, ℤ, pos, negsuc, ◌+ℤ◌, ◌-ℤ◌, ◌*ℤ◌, neg_ℤ, List, [], ◌∷◌, set, Some, arith, refl, ap, sym, subst, ◌∙◌}
+use Rattle.std.proofs.Common.{◌≡◌, inl, inr, ℕ, zero, suc, ◌+◌, ◌<◌, ◌≤◌, ◌^◌, lit<, Bool, true, ◌&&◌, ℤ, pos, negsuc, ◌+ℤ◌, ◌-ℤ◌, ◌*ℤ◌, neg_ℤ, List, [], ◌∷◌, set, Some, arith, refl, sym, subst}
 use Rattle.std.specs.Prelude.{unsigned_abs}
 use Rattle.std.proofs.lemmas.Int.{ints}
 use Rattle.ac_forms.specs.Affine.{Affine, coef, combined, mix_numbers}
@@ -10,7 +10,7 @@ use Rattle.ac_forms.specs.declared.row.Row.TheVariants.{Eq, Div, Ge}
 use Rattle.ac_cert.specs.declared.column.Bound.{Bound}
 use Rattle.ac_cert.specs.Bounds.{without}
 use Rattle.ac_cert.specs.Choices.{size_of, against, others}
-use Rattle.ac_cert.specs.ChoiceFits.{replaced_fits, replaced_row_fits, all_replaced_fit, equality_fits, sizes_fit, shadow_fits, shadows_fit_with, shadows_fit}
+use Rattle.ac_cert.specs.ChoiceFits.{replaced_fits, all_replaced_fit, equality_fits, sizes_fit, shadow_fits, shadows_fit_with, shadows_fit}
 use Rattle.ac_omega.proofs.DifferenceForms.{IsUnit, unit-at}
 use Rattle.ac_omega.proofs.DifferenceRows.{IsOver, IsRow, Each, AreUnits, form-units}
 use Rattle.ac_omega.proofs.DifferenceNormals.{fits-within, both-true}

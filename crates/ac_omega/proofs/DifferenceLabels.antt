@@ -1,10 +1,9 @@
 -- How many rows of differences over m columns are apart: at most 2 (m + 1)^2, one of each kind for each pair of a column or 0.
-use Rattle.std.proofs.Common.{◌≡◌, ◌⊎◌, inl, inr, ℕ, zero, suc, ◌+◌, ◌*◌, ◌≤◌, nat_eq, cond, Bool, true, false, ◌||◌, ◌==◌, ℤ, pos, ◌-ℤ◌, List, [], ◌∷◌, ◌++◌, length, map, Option, Some, None, arith, refl, ap, sym, ◌∙◌, length-append}
+use Rattle.std.proofs.Common.{◌≡◌, ◌⊎◌, inl, inr, ℕ, suc, ◌+◌, ◌*◌, ◌≤◌, cond, Bool, true, false, ◌||◌, ◌==◌, ℤ, pos, ◌-ℤ◌, List, [], ◌∷◌, ◌++◌, length, Option, Some, None, arith, refl, ap, sym, ◌∙◌, length-append}
 use Rattle.std.specs.List.{dedup}
 use Rattle.std.proofs.lemmas.Int.{ints}
-use Rattle.std.proofs.lemmas.List.{length-map}
 use borrow.Author.Tests.{eq-eqb, eqb-true}
-use Rattle.ac_forms.specs.Affine.{Affine, coef}
+use Rattle.ac_forms.specs.Affine.{coef}
 use Rattle.ac_forms.specs.NormalForm.{absurd_rows, left_rows, has_absurd, in_order, alike, has_clash, normal_form}
 use Rattle.ac_forms.specs.Orders.{kind_of}
 use Rattle.ac_forms.specs.Rows.{form_of}
@@ -29,9 +28,9 @@ pub record Has (r : Row) (l : Label) : Type 0 where
   pub is : (j : ℕ) → coef j (form_of r) ≡ one_in l.plus j -ℤ one_in l.minus j
 
 -- P holds of one of them
-abbrev pub Some-of : {A : Type 0} → (A → Type 0) → List A → Type 0
-Some-of P [] = ⊥
-Some-of P (x ∷ xs) = P x ⊎ Some-of P xs
+abbrev pub SomeOf : {A : Type 0} → (A → Type 0) → List A → Type 0
+SomeOf P [] = ⊥
+SomeOf P (x ∷ xs) = P x ⊎ SomeOf P xs
 
 plain-row : (vars : List ℕ) (b : ℕ) (r : Row) → IsRow vars b r → IsPlain r
 plain-row vars b (Eq f) h = h.1
@@ -53,18 +52,18 @@ one-label r s l p q h g =
     record { kind = h.kind ∙ sym g.kind; coefs = same-lists (form_of r) (form_of s) t.0 t.1 (λ j. h.is j ∙ sym (g.is j)) }
 
 -- the labels but for the one that the row has
-without : (r : Row) (ls : List Label) → Some-of (Has r) ls → List Label
+without : (r : Row) (ls : List Label) → SomeOf (Has r) ls → List Label
 without r [] h = []
 without r (l ∷ ls) (inl h) = ls
 without r (l ∷ ls) (inr h) = l ∷ without r ls h
 
-one-less : (r : Row) (ls : List Label) (h : Some-of (Has r) ls) → length ls ≡ suc (length (without r ls h))
+one-less : (r : Row) (ls : List Label) (h : SomeOf (Has r) ls) → length ls ≡ suc (length (without r ls h))
 unfolding without
 one-less r [] h = absurd h
 one-less r (l ∷ ls) (inl h) = refl
 one-less r (l ∷ ls) (inr h) = ap suc (one-less r ls h)
 
-still : (r s : Row) (ls : List Label) (h : Some-of (Has r) ls) → IsPlain r → IsPlain s → (AreSame r s → ⊥) → Some-of (Has s) ls → Some-of (Has s) (without r ls h)
+still : (r s : Row) (ls : List Label) (h : SomeOf (Has r) ls) → IsPlain r → IsPlain s → (AreSame r s → ⊥) → SomeOf (Has s) ls → SomeOf (Has s) (without r ls h)
 unfolding without
 still r s [] h p q n g = absurd h
 still r s (l ∷ ls) (inl h) p q n (inl g) = absurd (n (one-label r s l p q h g))
@@ -72,12 +71,12 @@ still r s (l ∷ ls) (inl h) p q n (inr g) = g
 still r s (l ∷ ls) (inr h) p q n (inl g) = inl g
 still r s (l ∷ ls) (inr h) p q n (inr g) = inr (still r s ls h p q n g)
 
-still-each : (r : Row) (rs : List Row) (ls : List Label) (h : Some-of (Has r) ls) → IsPlain r → Each IsPlain rs → Each (λ s. AreSame r s → ⊥) rs → Each (λ s. Some-of (Has s) ls) rs → Each (λ s. Some-of (Has s) (without r ls h)) rs
+still-each : (r : Row) (rs : List Row) (ls : List Label) (h : SomeOf (Has r) ls) → IsPlain r → Each IsPlain rs → Each (λ s. AreSame r s → ⊥) rs → Each (λ s. SomeOf (Has s) ls) rs → Each (λ s. SomeOf (Has s) (without r ls h)) rs
 still-each r [] ls h p q n g = tt
 still-each r (s ∷ rs) ls h p q n g = (still r s ls h p q.0 n.0 g.0, still-each r rs ls h p q.1 n.1 g.1)
 
 -- no more rows that are apart than labels
-pigeonhole : (rs : List Row) (ls : List Label) → Each IsPlain rs → AreApart rs → Each (λ s. Some-of (Has s) ls) rs → length rs ≤ length ls
+pigeonhole : (rs : List Row) (ls : List Label) → Each IsPlain rs → AreApart rs → Each (λ s. SomeOf (Has s) ls) rs → length rs ≤ length ls
 pigeonhole [] ls p a h = omega arith
 pigeonhole (r ∷ rs) ls p a h =
     let t = pigeonhole rs (without r ls h.0) p.1 a.1 (still-each r rs ls h.0 p.0 p.1 a.0 h.1) in
@@ -135,33 +134,33 @@ length-labels vars =
     omega (arith, a, n, o, m)
 
 -- an end is among them
-some-first : {A : Type 0} (P : A → Type 0) (xs ys : List A) → Some-of P xs → Some-of P (xs ++ ys)
+some-first : {A : Type 0} (P : A → Type 0) (xs ys : List A) → SomeOf P xs → SomeOf P (xs ++ ys)
 some-first P [] ys h = absurd h
 some-first P (x ∷ xs) ys (inl h) = inl h
 some-first P (x ∷ xs) ys (inr h) = inr (some-first P xs ys h)
 
-some-second : {A : Type 0} (P : A → Type 0) (xs ys : List A) → Some-of P ys → Some-of P (xs ++ ys)
+some-second : {A : Type 0} (P : A → Type 0) (xs ys : List A) → SomeOf P ys → SomeOf P (xs ++ ys)
 some-second P [] ys h = h
 some-second P (x ∷ xs) ys h = inr (some-second P xs ys h)
 
-some-label : (r : Row) (k : ℕ) (p q : Option ℕ) (qs : List (Option ℕ)) → Some-of (λ e. e ≡ q) qs → Has r (label k p q) → Some-of (Has r) (labels-of k p qs)
+some-label : (r : Row) (k : ℕ) (p q : Option ℕ) (qs : List (Option ℕ)) → SomeOf (λ e. e ≡ q) qs → Has r (label k p q) → SomeOf (Has r) (labels-of k p qs)
 unfolding labels-of
 some-label r k p q [] i h = absurd i
 some-label r k p q (e ∷ qs) (inl s) h = inl (rw s h)
 some-label r k p q (e ∷ qs) (inr i) h = inr (some-label r k p q qs i h)
 
-some-pair : (r : Row) (k : ℕ) (p q : Option ℕ) (ps qs : List (Option ℕ)) → Some-of (λ e. e ≡ p) ps → Some-of (λ e. e ≡ q) qs → Has r (label k p q) → Some-of (Has r) (pairs k ps qs)
+some-pair : (r : Row) (k : ℕ) (p q : Option ℕ) (ps qs : List (Option ℕ)) → SomeOf (λ e. e ≡ p) ps → SomeOf (λ e. e ≡ q) qs → Has r (label k p q) → SomeOf (Has r) (pairs k ps qs)
 unfolding pairs
 some-pair r k p q [] qs i j h = absurd i
 some-pair r k p q (e ∷ ps) qs (inl s) j h = some-first (Has r) (labels-of k e qs) (pairs k ps qs) (rw s (some-label r k p q qs j h))
 some-pair r k p q (e ∷ ps) qs (inr i) j h = some-second (Has r) (labels-of k e qs) (pairs k ps qs) (some-pair r k p q ps qs i j h)
 
-some-end : (x : ℕ) (vars : List ℕ) → is_among x vars ≡ true → Some-of (λ e. e ≡ Some x) (somes vars)
+some-end : (x : ℕ) (vars : List ℕ) → is_among x vars ≡ true → SomeOf (λ e. e ≡ Some x) (somes vars)
 unfolding somes
 some-end x [] a = absurd cc
 some-end x (y ∷ ys) a = by (x == y) refl (some-end x ys) a
   where
-    by : (t : Bool) → (x == y) ≡ t → (is_among x ys ≡ true → Some-of (λ e. e ≡ Some x) (somes ys)) → (t || is_among x ys) ≡ true → Some-of (λ e. e ≡ Some x) (Some y ∷ somes ys)
+    by : (t : Bool) → (x == y) ≡ t → (is_among x ys ≡ true → SomeOf (λ e. e ≡ Some x) (somes ys)) → (t || is_among x ys) ≡ true → SomeOf (λ e. e ≡ Some x) (Some y ∷ somes ys)
     by true e i a = inl (ap (λ (z : ℕ). Some z) (sym (eqb-true x y e)))
     by false e i a = inr (i a)
 
@@ -193,20 +192,20 @@ minus-gone c d x e z = elim (one-cases d.plus x) [
     apart : (c p q : ℤ) → c ≡ p -ℤ q → c ≡ pos 0 → p ≡ pos 0 → q ≡ pos 1 → ⊥
     apart c p q e f g h = omega (arith, ints)
 
-place : (vars : List ℕ) (o : Option ℕ) → Some-of (λ e. e ≡ o) (ends vars) ⊎ ((x : ℕ) × (o ≡ Some x) × (is_among x vars ≡ false))
+place : (vars : List ℕ) (o : Option ℕ) → SomeOf (λ e. e ≡ o) (ends vars) ⊎ ((x : ℕ) × (o ≡ Some x) × (is_among x vars ≡ false))
 unfolding ends
 place vars None = inl (inl refl)
 place vars (Some x) = by (is_among x vars) refl
   where
-    by : (t : Bool) → is_among x vars ≡ t → Some-of (λ e. e ≡ Some x) (ends vars) ⊎ ((y : ℕ) × (Some x ≡ Some y) × (is_among y vars ≡ false))
+    by : (t : Bool) → is_among x vars ≡ t → SomeOf (λ e. e ≡ Some x) (ends vars) ⊎ ((y : ℕ) × (Some x ≡ Some y) × (is_among y vars ≡ false))
     by true a = inl (inr (some-end x vars a))
     by false a = inr (x, refl, a)
 
-label-none : (r : Row) (k : ℕ) (vars : List ℕ) → kind_of r ≡ k → ((j : ℕ) → coef j (form_of r) ≡ pos 0) → Some-of (Has r) (pairs k (ends vars) (ends vars))
+label-none : (r : Row) (k : ℕ) (vars : List ℕ) → kind_of r ≡ k → ((j : ℕ) → coef j (form_of r) ≡ pos 0) → SomeOf (Has r) (pairs k (ends vars) (ends vars))
 unfolding ends label
 label-none r k vars e z = some-pair r k None None (ends vars) (ends vars) (inl refl) (inl refl) (record { kind = e; is = λ j. z j })
 
-some-row : (r : Row) (k : ℕ) (vars : List ℕ) (b : ℕ) → kind_of r ≡ k → IsOver vars b (form_of r) → Some-of (Has r) (pairs k (ends vars) (ends vars))
+some-row : (r : Row) (k : ℕ) (vars : List ℕ) (b : ℕ) → kind_of r ≡ k → IsOver vars b (form_of r) → SomeOf (Has r) (pairs k (ends vars) (ends vars))
 unfolding label
 some-row r k vars b e h =
     let d = h.difference in
@@ -218,7 +217,7 @@ some-row r k vars b e h =
       | inr p ↦ label-none r k vars e (both-gone _ d (plus-gone _ d p.0 p.1 (h.within p.0 p.2)))
     ]
 
-some-labels : (r : Row) (vars : List ℕ) (b : ℕ) → IsRow vars b r → Some-of (Has r) (labels vars)
+some-labels : (r : Row) (vars : List ℕ) (b : ℕ) → IsRow vars b r → SomeOf (Has r) (labels vars)
 unfolding labels
 some-labels (Eq f) vars b h = some-first (Has (Eq f)) (pairs 0 (ends vars) (ends vars)) (pairs 2 (ends vars) (ends vars)) (some-row (Eq f) 0 vars b refl h.0)
 some-labels (Div m f) vars b h = absurd h
@@ -228,7 +227,7 @@ each-plain : (vars : List ℕ) (b : ℕ) (rs : List Row) → Each (IsRow vars b)
 each-plain vars b [] h = tt
 each-plain vars b (r ∷ rs) h = (plain-row vars b r h.0, each-plain vars b rs h.1)
 
-each-labels : (vars : List ℕ) (b : ℕ) (rs : List Row) → Each (IsRow vars b) rs → Each (λ r. Some-of (Has r) (labels vars)) rs
+each-labels : (vars : List ℕ) (b : ℕ) (rs : List Row) → Each (IsRow vars b) rs → Each (λ r. SomeOf (Has r) (labels vars)) rs
 each-labels vars b [] h = tt
 each-labels vars b (r ∷ rs) h = (some-labels r vars b h.0, each-labels vars b rs h.1)
 

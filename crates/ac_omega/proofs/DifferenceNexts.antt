@@ -1,10 +1,9 @@
 -- The next column is in some row, so it is one of the columns that are left.
-use Rattle.std.proofs.Common.{◌≡◌, ◌⊎◌, inl, inr, ℕ, zero, suc, ◌+◌, ◌<◌, ◌≤◌, ◌==◌, cond, Bool, true, false, not, ◌&&◌, ◌||◌, ℤ, pos, int_eq, List, [], ◌∷◌, length, Option, Some, None, arith, refl, ap, sym, subst, ◌∙◌}
+use Rattle.std.proofs.Common.{◌≡◌, ◌⊎◌, inl, inr, ℕ, ◌<◌, ◌≤◌, ◌==◌, cond, Bool, true, false, not, ◌&&◌, ◌||◌, ℤ, pos, int_eq, List, [], ◌∷◌, length, Option, Some, None, arith, refl}
 use Rattle.std.specs.Int.Signed.{lt_z}
 use Rattle.std.specs.List.{filter}
 use Rattle.std.proofs.lemmas.Int.{ints}
-use Rattle.ac_forms.specs.Affine.{Affine, coef}
-use Rattle.ac_forms.specs.Rows.{form_of}
+use Rattle.ac_forms.specs.Affine.{coef}
 use Rattle.ac_forms.specs.declared.row.Row.{Row}
 use Rattle.ac_forms.specs.declared.row.Row.TheVariants.{Eq, Div, Ge}
 use Rattle.ac_cert.specs.Bounds.{has_column, is_low, low_bound, lows, highs, is_none, is_one_sided}
@@ -13,7 +12,7 @@ use Rattle.ac_omega.specs.Columns.{is_present, is_two_sided, are_unit_pairs, lea
 use Rattle.ac_omega.specs.declared.ranking.Rule.{Rule}
 use Rattle.ac_omega.specs.declared.ranking.Rule.TheVariants as rule
 use Rattle.ac_omega.specs.Projection.{is_among}
-use Rattle.ac_omega.proofs.DifferenceRows.{IsOver, IsRow, Each}
+use Rattle.ac_omega.proofs.DifferenceRows.{IsRow, Each}
 use Rattle.ac_omega.proofs.DifferenceChoices.{leave}
 use Rattle.ac_omega.proofs.DifferenceTries.{least-passes}
 

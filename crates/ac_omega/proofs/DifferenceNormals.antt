@@ -1,5 +1,5 @@
 -- Normal forms of rows of differences: they are such rows, and are made in `i128`.
-use Rattle.std.proofs.Common.{◌≡◌, ◌⊎◌, inl, inr, ℕ, zero, suc, ◌+◌, ◌<◌, ◌≤◌, ◌^◌, ◌==◌, cond, Bool, true, false, ◌&&◌, int_eq, ℤ, pos, negsuc, ◌*ℤ◌, ◌≤ℤ◌, List, [], ◌∷◌, ◌++◌, map, get_or, arith, refl, ap, subst, ◌∙◌}
+use Rattle.std.proofs.Common.{◌≡◌, inl, inr, ℕ, zero, suc, ◌<◌, ◌≤◌, ◌^◌, cond, Bool, true, false, ◌&&◌, int_eq, ℤ, pos, negsuc, ◌*ℤ◌, List, [], ◌∷◌, ◌++◌, map, get_or, arith, refl}
 use Rattle.std.specs.Prelude.{unsigned_abs}
 use Rattle.std.specs.Int.{w128, int_div_euclid, int_rem_euclid}
 use Rattle.std.specs.List.{dedup, dedup_from}
@@ -8,8 +8,8 @@ use Rattle.std.proofs.lemmas.Int.{ints, fits_signed_from_abs}
 use Rattle.ac_integers.specs.Dot.{residues}
 use Rattle.ac_integers.specs.Gcd.{gcd_all, content}
 use Rattle.ac_integers.specs.Multiple.{divides}
-use Rattle.ac_forms.specs.Affine.{Affine, coef, scaled}
-use Rattle.ac_forms.specs.Fits.{Fits, fits, all_fit}
+use Rattle.ac_forms.specs.Affine.{Affine}
+use Rattle.ac_forms.specs.Fits.{fits, all_fit}
 use Rattle.ac_forms.specs.NormalForm.{absurd_rows, left_onto, left_rows, has_absurd, insert_row, in_order, alike, has_clash, normal_form}
 use Rattle.ac_forms.specs.NormalRows.{divided, reduced, modular_content, leads_negative, absolutes, sign_numbers, eq_numbers, normal_row}
 use Rattle.ac_forms.specs.Orders.{row_cmp}
@@ -78,11 +78,17 @@ nothing-at zero = refl
 nothing-at (suc j) = refl
 
 absurd-each : (vars : List ℕ) (b : ℕ) → 1 ≤ b → Each (IsRow vars b) absurd_rows
-absurd-each vars b l = ((record {
-  difference = no-difference (λ z. get_or [] z (pos 0)) (λ j. nothing-at j);
-  within = λ j a. nothing-at j;
-  small = l;
-}, refl), tt)
+absurd-each vars b l = (
+  (
+    record {
+      difference = no-difference (λ z. get_or [] z (pos 0)) (λ j. nothing-at j);
+      within = λ j a. nothing-at j;
+      small = l;
+    },
+    refl,
+  ),
+  tt,
+)
 
 pub normal-each : (vars : List ℕ) (b : ℕ) (xs : List Row) → 1 ≤ b → Each (IsRaw vars b) xs → Each (IsRow vars b) (normal_form xs)
 normal-each vars b xs l h = by (has_absurd xs) (has_clash (in_order (left_rows xs)))

@@ -1,6 +1,6 @@
 -- The walk over rows of differences is one path: by the number of columns that are left.
-use Rattle.std.proofs.Common.{◌≡◌, ℕ, zero, suc, ◌+◌, ◌*◌, ◌<◌, ◌≤◌, ◌^◌, nat_lt, cond, Bool, true, false, ◌&&◌, ℤ, pos, List, [], ◌∷◌, length, Option, Some, None, arith, refl, ap, sym, subst, ◌∙◌, mul-le-mul_left}
-use borrow.Author.Tests.{ltb-true, ltb-false}
+use Rattle.std.proofs.Common.{◌≡◌, ℕ, zero, suc, ◌+◌, ◌*◌, ◌<◌, ◌≤◌, ◌^◌, nat_lt, cond, Bool, true, false, ℤ, List, length, Option, Some, None, arith, refl, sym, subst, ◌∙◌, mul-le-mul_left}
+use borrow.Author.Tests.{ltb-true}
 use Rattle.ac_forms.specs.NormalForm.{normal_conj}
 use Rattle.ac_forms.specs.Tests.{rows_fit}
 use Rattle.ac_forms.specs.declared.conj.Conj.{Conj}
@@ -14,7 +14,6 @@ use Rattle.ac_omega.specs.Maxima.{Maxima, with_rows, with_choice}
 use Rattle.ac_omega.specs.Searching.{AreBelow}
 use Rattle.ac_omega.specs.Walk.{Walked, Gone, Spent, Absurd, behind, entered, tries, looked, walk}
 use Rattle.ac_omega.proofs.Rows.{column-rows}
-use Rattle.ac_omega.proofs.DifferenceRows.{Each, IsRaw}
 use Rattle.ac_omega.proofs.DifferenceNormals.{rows-fit}
 use Rattle.ac_omega.proofs.DifferenceChoices.{leave}
 use Rattle.ac_omega.proofs.DifferencePoints.{AreWithin, within-more}
@@ -78,7 +77,7 @@ some-lifted : (t : Bool) (q : List ℤ) → t ≡ true → cond t (Some q) None 
 some-lifted true q e = refl
 some-lifted false q e = absurd cc
 
-times-room : (m top b : ℕ) → m ≤ 60 → b ≤ top → 121 * top < 2 ^ 127 → m * top + m * top + b < 2 ^ 127
+pub times-room : (m top b : ℕ) → m ≤ 60 → b ≤ top → 121 * top < 2 ^ 127 → m * top + m * top + b < 2 ^ 127
 times-room m top b l k room =
     let t : top * m ≤ top * 60 = mul-le-mul_left top l in
     let u : m * top ≤ 60 * top = omega arith in
@@ -98,9 +97,9 @@ choice-comes top budget n m cols vars b c f z k s frame h e o w =
     let lift : List ℤ → Option (List ℤ) = λ q. cond (lift_fits o.one c.rows q) (Some (lifted o.one c.rows q)) None in
     let least : b ≤ top = omega arith in
     let back : (q : List ℤ) → AreWithin (m * top) q → length q ≡ n → (p : List ℤ) × (lift q ≡ Some p) × AreWithin (suc m * top) p × (length p ≡ n) = λ q v l.
-      let below : z < length q = omega (arith, frame.below c z e, l) in
-      let g = o.back (m * top) q below v (times-room m top b (omega (arith, h.depth)) least frame.room) in
-      (lifted o.one c.rows q, some-lifted (lift_fits o.one c.rows q) (lifted o.one c.rows q) g.fits, within-more (m * top + b) (suc m * top) (lifted o.one c.rows q) (more-times m top b least) g.within, g.long ∙ l) in
+    let below : z < length q = omega (arith, frame.below c z e, l) in
+    let g = o.back (m * top) q below v (times-room m top b (omega (arith, h.depth)) least frame.room) in
+    (lifted o.one c.rows q, some-lifted (lift_fits o.one c.rows q) (lifted o.one c.rows q) g.fits, within-more (m * top + b) (suc m * top) (lifted o.one c.rows q) (more-times m top b least) g.within, g.long ∙ l) in
     let sum : k + length c.rows + cost m ≤ k + cost (suc m) = omega (arith, stage-rows top n (suc m) vars b c h, cost-step m) in
     let y = behind-comes top budget n m k (k + length c.rows) _ lift sum back w in
     let y1 = subst (λ (t : Maxima). Comes top budget n (suc m) k (behind (going cols f budget (normal_conj (raw o.one c)) (k + length c.rows) t) lift (λ i u. Gone i u))) (sym (o.mark s)) y in

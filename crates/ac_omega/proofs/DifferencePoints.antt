@@ -1,22 +1,21 @@
 -- Forms of differences at points whose coordinates are small, and points that go back along a choice.
-use Rattle.std.proofs.Common.{◌≡◌, ◌⊎◌, inl, inr, ℕ, zero, suc, ◌+◌, ◌*◌, ◌<◌, ◌≤◌, ◌^◌, cond, Bool, true, false, not, ◌&&◌, ℤ, pos, negsuc, ◌+ℤ◌, ◌-ℤ◌, ◌*ℤ◌, ◌≤ℤ◌, neg_ℤ, List, [], ◌∷◌, length, set, get_or, Option, Some, None, arith, refl, ap, sym, subst, ◌∙◌, mul-le-mul_left}
+use Rattle.std.proofs.Common.{◌≡◌, inl, inr, ℕ, zero, suc, ◌+◌, ◌*◌, ◌<◌, ◌≤◌, ◌^◌, cond, Bool, true, false, ◌&&◌, ℤ, pos, negsuc, ◌+ℤ◌, ◌*ℤ◌, neg_ℤ, List, [], ◌∷◌, length, set, get_or, Some, arith, refl, ap, sym, subst, mul-le-mul_left}
 use Rattle.std.specs.Prelude.{unsigned_abs}
 use Rattle.std.specs.Int.{w128, int_div_euclid, int_max, int_min}
 use Rattle.std.proofs.lemmas.Int.{ints, clamps, unsigned_abs-mul, fits_signed_from_abs}
 use Rattle.std.proofs.lemmas.List.{length-set}
 use Rattle.ac_integers.specs.Dot.{dot}
 use Rattle.ac_forms.specs.Affine.{Affine, coef, value_at, partial_sums, CanEvaluate}
-use Rattle.ac_forms.specs.Fits.{Fits, AllFit, fits}
+use Rattle.ac_forms.specs.Fits.{AllFit, fits}
 use Rattle.ac_forms.specs.Tests.{can_evaluate}
 use Rattle.ac_forms.specs.declared.row.Row.{Row}
 use Rattle.ac_forms.specs.declared.row.Row.TheVariants.{Eq, Div, Ge}
-use Rattle.ac_cert.specs.Bounds.{without, is_low, is_high, is_none, lows}
+use Rattle.ac_cert.specs.Bounds.{is_low, is_high, is_none, lows}
 use Rattle.ac_cert.specs.Choices.{size_of, against, rest_at, low_values, high_values, greatest, least, between, solved}
 use Rattle.ac_cert.specs.ChoiceFits.{low_values_fit, high_values_fit, between_fits, solved_fits}
 use Rattle.ac_cert.proofs.Fitting.{evaluate_true}
 use Rattle.ac_cert.proofs.OneColumn.{value-rest}
-use Rattle.ac_omega.specs.Differences.{IsDifference}
-use Rattle.ac_omega.proofs.DifferenceForms.{IsUnit, unit-at, weight, weight-two}
+use Rattle.ac_omega.proofs.DifferenceForms.{unit-at, weight, weight-two}
 use Rattle.ac_omega.proofs.DifferenceRows.{IsOver, IsRow, Each, by-one}
 use Rattle.ac_omega.proofs.DifferenceNormals.{fits-within, both-true}
 use Rattle.ac_omega.proofs.DifferenceChoices.{IsSign, sign-size}

@@ -1,5 +1,5 @@
 -- Rows of differences over some columns, and the normal form of one of them.
-use Rattle.std.proofs.Common.{◌≡◌, ◌⊎◌, inl, inr, ℕ, zero, suc, ◌+◌, ◌*◌, ◌<◌, ◌≤◌, ◌==◌, cond, Bool, true, false, not, ◌&&◌, int_eq, int_le, ℤ, pos, negsuc, ◌+ℤ◌, ◌-ℤ◌, ◌*ℤ◌, neg_ℤ, List, [], ◌∷◌, map, length, get_or, arith, refl, ap, sym, subst, ◌∙◌}
+use Rattle.std.proofs.Common.{◌≡◌, ◌⊎◌, inl, inr, ℕ, zero, suc, ◌<◌, ◌≤◌, cond, Bool, true, false, int_eq, int_le, ℤ, pos, negsuc, ◌*ℤ◌, neg_ℤ, List, [], ◌∷◌, map, get_or, arith, refl, ap, sym, ◌∙◌}
 use Rattle.std.specs.Prelude.{unsigned_abs}
 use Rattle.std.specs.Int.{int_div_euclid}
 use Rattle.std.proofs.lemmas.Int.{ints}
@@ -9,7 +9,6 @@ use Rattle.ac_integers.specs.Multiple.{divides}
 use Rattle.ac_integers.proofs.Floor.{floor_le, lt_floor}
 use Rattle.ac_forms.specs.Affine.{Affine, coef, scaled}
 use Rattle.ac_forms.specs.NormalRows.{trim, trim_onto, divided, leads_negative, signed, normal_row}
-use Rattle.ac_forms.specs.Rows.{form_of}
 use Rattle.ac_forms.specs.declared.row.Row.{Row}
 use Rattle.ac_forms.specs.declared.row.Row.TheVariants.{Eq, Div, Ge}
 use Rattle.ac_forms.specs.declared.normal.NormalRow.{NormalRow}
@@ -145,11 +144,14 @@ pub divided-is : (f : Affine) (j : ℕ) → coef j (divided (pos 1) f) ≡ coef 
 divided-is f j = at-trim (floored (pos 1) f.coefs) j ∙ ap (λ (cs : List ℤ). get_or cs j (pos 0)) (floored-one f.coefs)
 
 pub over-divided : (vars : List ℕ) (b : ℕ) (f : Affine) → IsOver vars b f → IsOver vars b (divided (pos 1) f) × IsTrimmed (divided (pos 1) f)
-over-divided vars b f h = (record {
-  difference = same-difference (λ z. coef z f) (λ z. coef z (divided (pos 1) f)) (λ j. divided-is f j) h.difference;
-  within = λ j a. divided-is f j ∙ h.within j a;
-  small = rw (by-one f.konst) h.small;
-}, trim-trim (floored (pos 1) f.coefs))
+over-divided vars b f h = (
+  record {
+    difference = same-difference (λ z. coef z f) (λ z. coef z (divided (pos 1) f)) (λ j. divided-is f j) h.difference;
+    within = λ j a. divided-is f j ∙ h.within j a;
+    small = rw (by-one f.konst) h.small;
+  },
+  trim-trim (floored (pos 1) f.coefs),
+)
 
 abs-turned : (c : ℤ) → unsigned_abs (negsuc 0 *ℤ c) ≡ unsigned_abs c
 abs-turned c = omega (arith, ints)

@@ -1,10 +1,8 @@
 -- The bounds of a column among rows of differences: their sizes are 1, and their shadows are sums in which the column goes.
-use Rattle.std.proofs.Common.{◌≡◌, ◌⊎◌, inl, inr, ℕ, zero, suc, ◌+◌, ◌<◌, ◌≤◌, nat_eq, cond, Bool, true, false, not, ◌&&◌, ℤ, pos, negsuc, ◌+ℤ◌, ◌-ℤ◌, ◌*ℤ◌, ◌≤ℤ◌, neg_ℤ, List, [], ◌∷◌, ◌++◌, set, get_or, arith, refl, ap, sym, subst, ◌∙◌}
-use Rattle.std.specs.Prelude.{unsigned_abs}
+use Rattle.std.proofs.Common.{◌≡◌, inl, inr, ℕ, zero, suc, ◌+◌, nat_eq, cond, Bool, true, false, not, ℤ, pos, negsuc, ◌+ℤ◌, ◌-ℤ◌, ◌*ℤ◌, neg_ℤ, List, [], ◌∷◌, set, get_or, arith, refl, ap, sym, subst, ◌∙◌}
 use Rattle.std.specs.Int.Signed.{lt_z}
 use Rattle.std.proofs.lemmas.Int.{ints}
 use borrow.Author.Tests.{eqb-true, eqb-false}
-use Rattle.ac_integers.specs.Dot.{mix}
 use Rattle.ac_forms.specs.Affine.{Affine, coef, combined}
 use Rattle.ac_forms.specs.Rows.{form_of}
 use Rattle.ac_forms.specs.declared.row.Row.{Row}
@@ -94,7 +92,7 @@ shadow-coef z j f g e d = coef-combined j (pos 1) (without z f) (pos 1) (without
     by : (t : Bool) → nat_eq z j ≡ t → pos 1 *ℤ coef j (without z f) +ℤ pos 1 *ℤ coef j (without z g) ≡ coef j f +ℤ coef j g
     by true s =
         let at : (i : ℕ) → z ≡ i → pos 1 *ℤ coef i (without z f) +ℤ pos 1 *ℤ coef i (without z g) ≡ coef i f +ℤ coef i g = λ i q.
-          subst (λ (i : ℕ). pos 1 *ℤ coef i (without z f) +ℤ pos 1 *ℤ coef i (without z g) ≡ coef i f +ℤ coef i g) q (sum-zero _ _ (coef z f) (coef z g) (coef-without z f) (coef-without z g) e d) in
+        subst (λ (i : ℕ). pos 1 *ℤ coef i (without z f) +ℤ pos 1 *ℤ coef i (without z g) ≡ coef i f +ℤ coef i g) q (sum-zero _ _ (coef z f) (coef z g) (coef-without z f) (coef-without z g) e d) in
         at j (eqb-true z j s)
     by false s = sum-same _ _ (coef j f) (coef j g) (set-other f.coefs z j (eqb-false z j s)) (set-other g.coefs z j (eqb-false z j s))
 

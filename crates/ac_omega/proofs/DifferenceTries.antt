@@ -1,30 +1,27 @@
 -- The one choice for the next column of rows of differences.
-use Rattle.std.proofs.Common.{◌≡◌, ◌⊎◌, inl, inr, ℕ, zero, suc, ◌+◌, ◌<◌, ◌≤◌, ◌^◌, ◌==◌, cond, Bool, true, false, not, ◌&&◌, ◌||◌, ℤ, pos, negsuc, int_eq, List, [], ◌∷◌, ◌++◌, length, set, slice_get, Option, Some, None, arith, refl, ap, sym, subst, ◌∙◌}
+use Rattle.std.proofs.Common.{◌≡◌, ◌⊎◌, inl, inr, ℕ, suc, ◌+◌, ◌<◌, ◌^◌, ◌==◌, cond, Bool, true, false, ◌||◌, ℤ, pos, negsuc, List, [], ◌∷◌, ◌++◌, length, set, slice_get, Option, Some, None, arith, refl, ap, sym, subst}
 use Rattle.std.specs.Int.{int_max}
-use Rattle.std.specs.Int.Signed.{lt_z}
 use Rattle.std.specs.List.{filter}
-use Rattle.std.proofs.lemmas.Int.{ints}
 use borrow.Author.Tests.{eqb-true}
 use Rattle.ac_forms.specs.Affine.{Affine, coef}
-use Rattle.ac_forms.specs.Rows.{form_of}
 use Rattle.ac_forms.specs.declared.row.Row.{Row}
 use Rattle.ac_forms.specs.declared.row.Row.TheVariants.{Eq, Div, Ge}
 use Rattle.ac_cert.specs.declared.column.Bound.{Bound}
 use Rattle.ac_cert.specs.declared.choose.Choice.{Choice}
 use Rattle.ac_cert.specs.declared.choose.Choice.TheVariants as choice
-use Rattle.ac_cert.specs.Bounds.{has_column, is_low, low_bound, lows, highs, frees, is_none, is_one_sided, greatest_size, last_splinter}
+use Rattle.ac_cert.specs.Bounds.{has_column, is_low, lows, highs, frees, is_none, is_one_sided, greatest_size, last_splinter}
 use Rattle.ac_cert.specs.Choices.{is_equality_of, by_equality, shadows, left_by, lifted, solved}
 use Rattle.ac_cert.specs.ChoiceFits.{choice_fits, equality_fits, sizes_fit, shadows_fit, lift_fits, solved_fits}
-use Rattle.ac_trails.specs.Tries.{Tries, first_equality, has_divisibility, tries_for, last_splinter_fits, splinters_from, count_to, splinters_of, splinters}
+use Rattle.ac_trails.specs.Tries.{Tries, first_equality, has_divisibility, tries_for, last_splinter_fits, splinters_from, count_to, splinters}
 use Rattle.ac_omega.specs.Columns.{least_by}
 use Rattle.ac_omega.specs.Maxima.{Maxima, with_choice}
 use Rattle.ac_omega.specs.Projection.{is_among}
 use Rattle.ac_omega.proofs.Legal.{equality-found}
 use Rattle.ac_omega.proofs.Nexts.{least-among}
 use Rattle.ac_omega.proofs.DifferenceForms.{unit-at}
-use Rattle.ac_omega.proofs.DifferenceRows.{IsOver, IsRow, IsRaw, Each}
+use Rattle.ac_omega.proofs.DifferenceRows.{IsRow, IsRaw, Each}
 use Rattle.ac_omega.proofs.DifferenceNormals.{both-true}
-use Rattle.ac_omega.proofs.DifferenceChoices.{leave, IsSign, sign-of, each-at, each-append, equality-each}
+use Rattle.ac_omega.proofs.DifferenceChoices.{leave, sign-of, each-at, each-append, equality-each}
 use Rattle.ac_omega.proofs.DifferenceShadows.{IsBound, EachBound, each-free, each-low, each-high, each-shadow, low-one}
 use Rattle.ac_omega.proofs.DifferenceFits.{equality-fit, sizes-fit, shadows-fit}
 use Rattle.ac_omega.proofs.DifferencePoints.{AreWithin, GoesBack, between-back, solved-back}

@@ -1,34 +1,18 @@
 -- The walk over rows of differences: what it costs, which numbers it meets, and how far its points reach.
-use Rattle.std.proofs.Common.{◌≡◌, ◌⊎◌, inl, inr, ℕ, zero, suc, ◌+◌, ◌*◌, ◌<◌, ◌≤◌, ◌^◌, max, nat_lt, cond, Bool, true, false, ◌&&◌, ℤ, pos, List, [], ◌∷◌, length, Option, Some, None, arith, refl, ap, sym, subst, ◌∙◌, mul-le-mul_left}
+use Rattle.std.proofs.Common.{◌≡◌, ℕ, zero, suc, ◌+◌, ◌*◌, ◌<◌, ◌≤◌, max, ℤ, pos, List, [], ◌∷◌, length, Option, Some, arith, refl, ap, mul-le-mul_left}
 use Rattle.std.specs.Prelude.{unsigned_abs, replicate}
-use Rattle.std.proofs.lemmas.Int.{ints}
-use borrow.Author.Tests.{ltb-true, ltb-false}
-use Rattle.ac_forms.specs.Affine.{Affine, coef}
-use Rattle.ac_forms.specs.NormalForm.{normal_form, normal_conj}
-use Rattle.ac_forms.specs.Tests.{rows_fit}
+use Rattle.ac_forms.specs.Affine.{Affine}
+use Rattle.ac_forms.specs.NormalForm.{normal_conj}
 use Rattle.ac_forms.specs.declared.conj.Conj.{Conj}
 use Rattle.ac_forms.specs.declared.row.Row.{Row}
 use Rattle.ac_forms.specs.declared.row.Row.TheVariants.{Eq, Div, Ge}
-use Rattle.ac_cert.specs.Choices.{are_absurd, left_by, lifted}
-use Rattle.ac_cert.specs.ChoiceFits.{after_choice, choice_fits, lift_fits, raw}
-use Rattle.ac_cert.specs.declared.choose.Choice.{Choice}
-use Rattle.ac_trails.specs.Tries.{tries_for}
-use Rattle.ac_omega.specs.Columns.{next_column}
-use Rattle.ac_omega.specs.Elimination.{eliminating, look, look_at}
-use Rattle.ac_omega.specs.Maxima.{Maxima, greatest_abs, with_form, with_row, with_rows, with_choice}
-use Rattle.ac_omega.specs.Searching.{AreBelow}
-use Rattle.ac_omega.specs.Walk.{Walked, Gone, Found, Spent, Wide, Look, Done, Absurd, Open, behind, entered, tries, looked, walk}
-use Rattle.ac_omega.specs.Walk as def
-use Rattle.ac_omega.proofs.Rows.{column-rows}
-use Rattle.ac_omega.proofs.DifferenceForms.{IsUnit}
+use Rattle.ac_omega.specs.Maxima.{Maxima, greatest_abs, with_form, with_rows}
+use Rattle.ac_omega.specs.Walk.{Walked, Gone, Found, Spent, Wide, behind}
 use Rattle.ac_omega.proofs.DifferenceRows.{IsOver, IsRow, IsRaw, Each, AreUnits, form-units}
-use Rattle.ac_omega.proofs.DifferenceNormals.{normal-each, rows-fit}
+use Rattle.ac_omega.proofs.DifferenceNormals.{normal-each}
 use Rattle.ac_omega.proofs.DifferenceLabels.{normal-few}
-use Rattle.ac_omega.proofs.DifferenceChoices.{leave}
 use Rattle.ac_omega.proofs.DifferenceFits.{unit-small}
-use Rattle.ac_omega.proofs.DifferencePoints.{AreWithin, within-more, GoesBack}
-use Rattle.ac_omega.proofs.DifferenceTries.{OneChoice, one-choice}
-use Rattle.ac_omega.proofs.DifferenceNexts.{next-left, leave-less}
+use Rattle.ac_omega.proofs.DifferencePoints.{AreWithin}
 
 -- the rows over m columns, and those of all walks from there on
 unfoldable pub level : ℕ → ℕ

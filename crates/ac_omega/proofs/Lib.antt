@@ -36,3 +36,4 @@ pub mod DifferenceTries
 pub mod DifferenceNexts
 pub mod DifferenceWalks
 pub mod DifferencePaths
+pub mod DifferenceQuestions
