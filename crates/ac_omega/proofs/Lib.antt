@@ -23,3 +23,17 @@ pub mod Emptied
 pub mod AllColumns
 pub mod Deciding
 pub mod Finding
+pub mod DifferenceForms
+pub mod DifferenceRows
+pub mod DifferenceNormals
+pub mod DifferenceCounts
+pub mod DifferenceLabels
+pub mod DifferenceChoices
+pub mod DifferenceShadows
+pub mod DifferenceFits
+pub mod DifferencePoints
+pub mod DifferenceTries
+pub mod DifferenceNexts
+pub mod DifferenceWalks
+pub mod DifferencePaths
+pub mod DifferenceQuestions

@@ -10,3 +10,4 @@ pub mod Projection
 pub mod Cursors
 pub mod Searching
 pub mod Decisions
+pub mod Differences

@@ -3,6 +3,7 @@
 
 mod cursor;
 mod decision;
+pub mod differences;
 mod extent;
 pub mod laws;
 mod listing;
