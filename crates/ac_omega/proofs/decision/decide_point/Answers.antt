@@ -18,7 +18,7 @@ returns-in-Ok-Found-clause-exact c =
     let w = walk-is c.args.budget c.args.conj.now c.in-Ok.normal c.with_rows-met.result c.in-Ok.ensures.exact.0 c.in-Ok.ensures.exact.1 (rw c.as_slice.ensures at c.with_rows-met.ensures) in
     found-decides c.tested.result c.args.conj.now c.in-Ok-Found.point.items _ _ w (rw c.in-Ok-Found.field-0-is at c.in-Ok-Found.ensures.exact) c.tested.ensures.exact
 
-pub returns-in-Err-clause-exact : goal.returns-in-Err-clause-exact
-returns-in-Err-clause-exact c =
+pub returns-clause-exact : goal.returns-clause-exact
+returns-clause-exact c =
     let w = walk-is c.args.budget c.args.conj.now c.in-Ok.normal c.with_rows-met.result c.in-Ok.ensures.exact.0 c.in-Ok.ensures.exact.1 (rw c.as_slice.ensures at c.with_rows-met.ensures) in
     err-decides c.in-Err.stop c.args.conj.now _ _ w c.in-Err.ensures.exact
