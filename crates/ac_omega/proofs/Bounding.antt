@@ -8,7 +8,7 @@ use Rattle.ac_forms.specs.declared.row.Row.TheVariants.{Eq, Div, Ge}
 use Rattle.ac_cert.specs.declared.choose.Choice.{Choice}
 use Rattle.ac_cert.specs.declared.choose.Choice.TheVariants as choice
 use Rattle.ac_omega.specs.Maxima.{Maxima, greatest_abs, with_form, with_modulus, with_row, with_rows, with_choice}
-use Rattle.ac_omega.specs.Within.{Bound, HaveRisen, IsWithin, AreAllWithin}
+use Rattle.ac_omega.specs.Within.{Bounds, HaveRisen, IsWithin, AreAllWithin}
 use Rattle.ac_trails.specs.Refutations.{IsFormWithin, IsRowWithin, AreModuliWithin, AreModest, IsModest, AreAllModest}
 use Rattle.ac_trails.specs.declared.refutation.Refutation.{Refutation, Row_of-Refutation, end_of-Refutation, more_of-Refutation}
 use Rattle.ac_trails.specs.declared.refutation.Refutation.TheVariants.{Absurd, Open'}
@@ -67,7 +67,7 @@ row-on s t (Eq f) h w = form-on s t f h w
 row-on s t (Div m f) h w = (form-on s t f h w.0, omega (arith, h.factor, w.1), omega (arith, h.number, w.2))
 row-on s t (Ge f) h w = form-on s t f h w
 
-pub rows-on : (s t : Maxima) (rows : List Row) → HaveRisen s t → Bound s rows → Bound t rows
+pub rows-on : (s t : Maxima) (rows : List Row) → HaveRisen s t → Bounds s rows → Bounds t rows
 rows-on s t [] h w = tt
 rows-on s t (r ∷ rows) h w = (row-on s t r h w.0, rows-on s t rows h w.1)
 
@@ -123,7 +123,7 @@ row-met (Div m f) s =
     (form-met f t, omega (arith, h.factor), omega (arith, h.number))
 row-met (Ge f) s = form-met f s
 
-pub rows-met : (rows : List Row) (s : Maxima) → Bound (with_rows rows s) rows
+pub rows-met : (rows : List Row) (s : Maxima) → Bounds (with_rows rows s) rows
 rows-met [] s = tt
 rows-met (r ∷ rows) s =
     let t = with_row r s in
@@ -137,7 +137,7 @@ choice-met (choice.Shadow z) s = tt
 choice-met (choice.Splinter z i k) s = tt
 
 -- numbers whose product is at most 2^120 are not large
-pub modest : (s : Maxima) (rows : List Row) (hs : List Choice) → s.factor * s.number ≤ 2 ^ 120 → Bound s rows → AreModuliWithin s.factor hs → AreModest rows hs
+pub modest : (s : Maxima) (rows : List Row) (hs : List Choice) → s.factor * s.number ≤ 2 ^ 120 → Bounds s rows → AreModuliWithin s.factor hs → AreModest rows hs
 modest s rows hs l b m = record { factor = s.factor; number = s.number; product = l; rows = b; moduli = m }
 
 mutual

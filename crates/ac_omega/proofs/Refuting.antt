@@ -9,7 +9,7 @@ use Rattle.ac_cert.specs.Choices.{are_absurd}
 use Rattle.ac_cert.specs.declared.choose.Choice.{Choice}
 use Rattle.ac_omega.specs.Maxima.{Maxima}
 use Rattle.ac_omega.specs.Searching.{IfGone, IsRefuted, IsRefutedBehind}
-use Rattle.ac_omega.specs.Within.{Bound, HaveRisen, IsWithin, AreAllWithin}
+use Rattle.ac_omega.specs.Within.{Bounds, HaveRisen, IsWithin, AreAllWithin}
 use Rattle.ac_omega.specs.declared.search.Walked.{Walked}
 use Rattle.ac_omega.specs.declared.search.Walked.TheVariants as done
 use Rattle.ac_omega.specs.declared.sweeping.Halt.{Halt}
@@ -58,14 +58,14 @@ unfolding IsWithin
 within_row s m end_of-Refutation a = tt
 within_row s m (more_of-Refutation {n = n} r rest) a = (a.0, within_row s n rest a.1)
 
-within_open_row : (s : Maxima) (c : Conj) (hs : List Choice) (n : _) (below : Row_of-Refutation _) → Bound s c.rows → AreModuliWithin s.factor hs → AllByRecursion (IsWithin s) (items-the_row-Refutation _ below) → IsWithin s (Open' c hs n below)
+within_open_row : (s : Maxima) (c : Conj) (hs : List Choice) (n : _) (below : Row_of-Refutation _) → Bounds s c.rows → AreModuliWithin s.factor hs → AllByRecursion (IsWithin s) (items-the_row-Refutation _ below) → IsWithin s (Open' c hs n below)
 unfolding IsWithin
 within_open_row s c hs n below b m a = (b, m, within_row s _ below a)
 
-pub open-within : (s : Maxima) (c : Conj) (hs : List Choice) (below : List Refutation) → Bound s c.rows → AreModuliWithin s.factor hs → AllByRecursion (IsWithin s) below → IsWithin s (Open c hs below)
+pub open-within : (s : Maxima) (c : Conj) (hs : List Choice) (below : List Refutation) → Bounds s c.rows → AreModuliWithin s.factor hs → AllByRecursion (IsWithin s) below → IsWithin s (Open c hs below)
 open-within s c hs below b m a = search (rules, the_lemmas, within_open_row, b, m, a)
 
-pub absurd-within : (s : Maxima) (c : Conj) → Bound s c.rows → IsWithin s (Absurd c)
+pub absurd-within : (s : Maxima) (c : Conj) → Bounds s c.rows → IsWithin s (Absurd c)
 unfolding IsWithin
 absurd-within s c b = b
 

@@ -12,14 +12,14 @@ pub record HaveRisen (from to : Maxima) : Type 0 where
   pub number : from.number ≤ to.number
 
 -- the maxima bound the numbers of these rows
-abbrev pub Bound : Maxima → List Row → Type 0
-Bound s rows = AreRowsWithin s.factor s.number rows
+abbrev pub Bounds : Maxima → List Row → Type 0
+Bounds s rows = AreRowsWithin s.factor s.number rows
 
 -- they bound the rows of each conjunction of the refutation, and the factor bounds the moduli of its residues
 unfoldable mutual
   pub IsWithin : Maxima → Refutation → Type 0
-  IsWithin s (Absurd c) = Bound s c.rows
-  IsWithin s (Open' c hs n below) = Bound s c.rows × AreModuliWithin s.factor hs × AreAllWithin s below
+  IsWithin s (Absurd c) = Bounds s c.rows
+  IsWithin s (Open' c hs n below) = Bounds s c.rows × AreModuliWithin s.factor hs × AreAllWithin s below
 
   pub AreAllWithin : Maxima → {m : _} → Row_of-Refutation m → Type 0
   AreAllWithin s end_of-Refutation = Unit {0}

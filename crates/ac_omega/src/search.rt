@@ -8,7 +8,7 @@ ghost use Rattle.ac_omega.specs.Elimination.{eliminating};
 ghost use Rattle.ac_omega.specs.Searching.{Searches, Tried, lifted_to, Leaves, IfFound, IfGone, IsRefuted, IsRefutedBehind, HasGrown, AreLegal, IsNormal, AreBelow, Settle};
 ghost use Rattle.ac_trails.specs.Tries.{tries_for};
 ghost use Rattle.ac_omega.specs.Walk.{walk, lifted};
-ghost use Rattle.ac_omega.specs.Within.{Bound, HaveRisen, IsWithin};
+ghost use Rattle.ac_omega.specs.Within.{Bounds, HaveRisen, IsWithin};
 ghost use Rattle.ac_trails.specs.Refutations.{AreModuliWithin};
 
 use crate::cursor::{Next, advance, first};
@@ -139,7 +139,7 @@ fn by_column(
     requires settle { Settle conj.columns vars.now }
     requires possible { are_absurd conj.rows ≡ false }
     requires column { z < conj.columns }
-    requires within { Bound met conj.rows }
+    requires within { Bounds met conj.rows }
     requires legal { AreLegal (tries_for z conj.rows) conj }
     ensures exact { Tried result vars.now budget conj (tries_for z conj.rows) cost met }
     ensures point { IfOk result (λ w. IfFound w (λ p. IsPoint conj p)) }

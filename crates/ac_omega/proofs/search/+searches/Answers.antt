@@ -3,7 +3,7 @@ use Rattle.ac_forms.proofs.Passes.{moduli_of}
 use Rattle.ac_cert.specs.Choices.{are_absurd}
 use Rattle.ac_omega.specs.Columns.{next_column}
 use Rattle.ac_omega.specs.Maxima.{with_rows}
-use Rattle.ac_omega.specs.Within.{Bound, HaveRisen}
+use Rattle.ac_omega.specs.Within.{Bounds, HaveRisen}
 use Rattle.ac_trails.specs.Tries.{all_of, tries_for}
 use Rattle.ac_omega.proofs.Bounding.{rows-met, rows-risen, rows-on, no-less, risen-on, all-more, all-on, moduli-more, moduli-on}
 use Rattle.ac_omega.proofs.Legal.{tried-legal}
@@ -32,7 +32,7 @@ search-by_column-requires t c =
     let o : next_column c.args.vars.now c.args.conj.rows ≡ Some c.in-Some.z = sym (rw c.as_slice-3.ensures at c.in-Some.ensures) in
     let r = column-rows c.args.vars.now c.args.conj.rows c.in-Some.z o in
     let within : c.in-Some.z < c.args.conj.columns = c.requires.columns c.args.conj c.in-Some.z o in
-    let bound : Bound c.with_rows-all.result c.args.conj.rows = rw (c.with_rows-all.ensures, c.as_slice.ensures) (rows-met c.args.conj.rows c.args.met) in
+    let bound : Bounds c.with_rows-all.result c.args.conj.rows = rw (c.with_rows-all.ensures, c.as_slice.ensures) (rows-met c.args.conj.rows c.args.met) in
     (omega (arith, c.len-count.ensures), (omega (arith, c.len-count.ensures), (c.requires.made, (c.requires.columns, (c.requires.settle, (a, (within, (bound, λ h i. tried-legal c.in-Some.z c.args.conj h c.requires.made within a i))))))))
 
 pub search-returns-in-Some-clause-exact : goal.search-returns-in-Some-clause-exact
