@@ -1,19 +1,22 @@
 -- A question's walk, and what it decides.
-use Rattle.std.proofs.Common.{◌≡◌, inl, ℕ, ◌+◌, ℤ, List, Some, None, Result, Err, Bool, true, false, cond, refl, ◌∙◌, ap, sym, subst}
+use Rattle.std.proofs.Common.{◌≡◌, inl, ℕ, ◌+◌, ℤ, List, Some, None, Err, Bool, true, false, cond, refl, ◌∙◌, ap, sym, subst}
 use Rattle.ac_forms.specs.NormalForm.{normal_conj, RowsFit}
 use Rattle.ac_forms.specs.Rows.{IsWellMade, Meets}
 use Rattle.ac_forms.specs.Tests.{rows_fit}
 use Rattle.ac_forms.specs.declared.conj.Conj.{Conj}
 use Rattle.ac_forms.proofs.Twins.{rows_fit-is}
 use Rattle.ac_cert.specs.Points.{IsPoint}
-use Rattle.ac_omega.specs.declared.decision.Decided.{Decided}
 use Rattle.ac_omega.specs.declared.sweeping.Halt.{Halt}
 use Rattle.ac_omega.specs.declared.sweeping.Halt.TheVariants as halt
 use Rattle.ac_omega.specs.Decisions.{Decides, walk_of}
 use Rattle.ac_omega.specs.Elimination.{eliminating}
 use Rattle.ac_omega.specs.Maxima.{Maxima, nothing_met, with_rows}
-use Rattle.ac_omega.specs.Searching.{Searches, IsNormal, columns_to}
+use Rattle.ac_omega.specs.Searching.{Searches, IsNormal, IsRefuted, columns_to}
 use Rattle.ac_omega.specs.Walk as def
+use Rattle.ac_omega.specs.Within.{Bounds, HaveRisen}
+use Rattle.ac_omega.proofs.Bounding.{rows-met, rows-on}
+use Rattle.ac_trails.specs.Refutations.{IsRefutationOf}
+use Rattle.ac_trails.specs.declared.refutation.Refutation.{Refutation}
 use Rattle.ac_cert.proofs.LeftMade.{conj_made}
 
 pub normal-made : (q d : Conj) → IsWellMade q → d ≡ normal_conj q → IsWellMade d
@@ -37,8 +40,13 @@ err-decides halt.Wide q v w s h = inl (s ∙ h)
 err-decides (halt.Spent c) q v w s h = (h.0, s ∙ h.1, h.2)
 err-decides (halt.Memory e) q v w s h = tt
 
-pub found-decides : (r : Result Decided Halt) (q : Conj) (p : List ℤ) (v w : def.Walked Maxima) → v ≡ w → w ≡ def.Found p → Decides r q (def.Found p) → Decides r q v
-found-decides r q p v w s h d = subst (λ x. Decides r q x) (sym (s ∙ h)) d
-
 pub point-back : (q d : Conj) (p : List ℤ) → d ≡ normal_conj q → (Meets d.rows p → Meets q.rows p) → IsPoint d p → IsPoint q p
 point-back q d p e m h = record { long = h.long ∙ ap (λ x. x.columns) e; meets = m h.meets }
+
+-- the refutation of the normal form is one of the question
+pub refutation-of : (q d : Conj) (r : Refutation) → RowsFit q.rows → d ≡ normal_conj q → IsRefuted d r → IsRefutationOf q r
+refutation-of q d r f e h = record { fits = (rows_fit-is q.rows).1 f; normal = h.conj ∙ e; refutes = h.refutes }
+
+-- the question's own numbers are met first
+pub question-bound : (q : Conj) (m s : Maxima) → m ≡ with_rows q.rows nothing_met → HaveRisen m s → Bounds s q.rows
+question-bound q m s e h = rows-on m s q.rows h (rw e (rows-met q.rows nothing_met))

@@ -1,20 +1,13 @@
 -- A search that finds no point shows that there is none, and what a stop hands back.
-use Rattle.std.proofs.Common.{◌≡◌, ℕ, zero, suc, ◌+◌, ◌<◌, ◌≤◌, ℤ, List, [], ◌∷◌, ◌++◌, Some, None, Ok, Err, Bool, true, false, cond, refl, subst, arith}
+use Rattle.std.proofs.Common.{◌≡◌, ℕ, zero, suc, ◌+◌, ◌<◌, ◌≤◌, ℤ, List, [], ◌∷◌, ◌++◌, Some, None, Bool, true, false, cond, refl, subst, arith}
 use Rattle.ac_forms.specs.NormalForm.{normal_conj}
 use Rattle.ac_forms.specs.Rows.{IsWellMade}
 use Rattle.ac_forms.specs.Tests.{rows_fit}
 use Rattle.ac_forms.specs.declared.conj.Conj.{Conj}
 use Rattle.ac_forms.proofs.Joining.{form_keeps}
 use Rattle.ac_cert.specs.Points.{IsPoint}
-use Rattle.ac_omega.specs.declared.decision.Decided.{Decided}
-use Rattle.ac_omega.specs.declared.decision.Decided.TheVariants as answer
-use Rattle.ac_omega.specs.declared.pieces.Stop.{Stop}
-use Rattle.ac_omega.specs.declared.pieces.Stop.TheVariants as stop
-use Rattle.ac_omega.specs.declared.sweeping.Halt.{Halt}
-use Rattle.ac_omega.specs.declared.sweeping.Halt.TheVariants as halt
-use Rattle.ac_omega.specs.Answers.{HandsBack}
 use Rattle.ac_omega.specs.Columns.{AreColumns}
-use Rattle.ac_omega.specs.Decisions.{Decides, Finds, IfEmpty, walk_of}
+use Rattle.ac_omega.specs.Decisions.{walk_of}
 use Rattle.ac_omega.specs.Elimination.{elimination, eliminating}
 use Rattle.ac_omega.specs.Maxima.{Maxima, nothing_met, with_rows}
 use Rattle.ac_omega.specs.Searching.{columns_to}
@@ -45,17 +38,3 @@ gone-none b q k s made e p at =
     let vars = columns_to q.columns in
     let w = subst (λ m. def.walk m (b + 1) b (normal_conj q) 0 (with_rows q.rows nothing_met) ≡ def.Gone k s) (same-method vars) (from-normal (rows_fit q.rows) b q k s e) in
     gone-empty vars b (normal_conj q) 0 (conj_made q made) (columns-below q.columns q.columns (omega arith)) (b + 1) k (with_rows q.rows nothing_met) s w p at.long ((form_keeps q.columns q.rows p made).1 at.meets)
-
--- an answer that there is none
-pub empty-none : (d : Decided) (b : ℕ) (q : Conj) → IsWellMade q → Decides (Ok d) q (walk_of b q) → IfEmpty d ((p : List ℤ) → IsPoint q p → ⊥)
-empty-none (answer.Empty s) b q made e = gone-none b q e.0 s made e.1
-empty-none (answer.Point p) b q made e = tt
-
-pub halted : (s : Stop) (h : Halt) (q : Conj) (w : def.Walked Maxima) → HandsBack s h q → Decides (Err h) q w → Finds (Err s) q w
-halted (stop.Overflow d) halt.Wide q w b e = (b.1, e)
-halted (stop.Overflow d) (halt.Spent k) q w b e = let f = b.0 in absurd cc
-halted (stop.Overflow d) (halt.Memory x) q w b e = let f = b.0 in absurd cc
-halted (stop.Spent d k) halt.Wide q w b e = let f = b.0 in absurd cc
-halted (stop.Spent d k) (halt.Spent j) q w b e = let f = b.0 in let s : j ≡ k = cc in (b.1, subst (λ (i : ℕ). Decides (Err (halt.Spent i)) q w) s e)
-halted (stop.Spent d k) (halt.Memory x) q w b e = let f = b.0 in absurd cc
-halted (stop.Memory x) h q w b e = tt

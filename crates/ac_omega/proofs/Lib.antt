@@ -19,6 +19,8 @@ pub mod Projecting
 pub mod Endings
 pub mod Advances
 pub mod Searches
+pub mod Bounding
+pub mod Refuting
 pub mod Emptied
 pub mod AllColumns
 pub mod Deciding

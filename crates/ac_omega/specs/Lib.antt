@@ -8,6 +8,7 @@ pub mod Elimination
 pub mod Answers
 pub mod Projection
 pub mod Cursors
+pub mod Within
 pub mod Searching
 pub mod Decisions
 pub mod Differences

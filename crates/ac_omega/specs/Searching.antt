@@ -5,7 +5,7 @@ use Rattle.ac_forms.specs.Rows.{IsWellMade}
 use Rattle.ac_forms.specs.declared.conj.Conj.{Conj}
 use Rattle.ac_forms.specs.declared.row.Row.{Row}
 use Rattle.ac_cert.specs.Choices.{are_absurd, lifted}
-use Rattle.ac_cert.specs.ChoiceFits.{lift_fits}
+use Rattle.ac_cert.specs.ChoiceFits.{after_choice, lift_fits}
 use Rattle.ac_cert.specs.declared.choose.Choice.{Choice}
 use Rattle.ac_omega.specs.declared.sweeping.Halt.{Halt}
 use Rattle.ac_omega.specs.declared.sweeping.Halt.TheVariants as halt
@@ -15,13 +15,15 @@ pub use Rattle.ac_omega.specs.Answers.{Leaves, AreLegal}
 use Rattle.ac_omega.specs.Columns.{next_column}
 use Rattle.ac_omega.specs.Elimination.{eliminating}
 use Rattle.ac_omega.specs.Maxima.{Maxima}
+use Rattle.ac_trails.specs.Refutations.{conj_of, Refutes}
 use Rattle.ac_trails.specs.Tries.{Tries}
+use Rattle.ac_trails.specs.declared.refutation.Refutation.{Refutation}
 use Rattle.ac_omega.specs.Walk as def
 use Rattle.ac_omega.specs.Walk.{IsTried}
 
 -- the answer is the walk's; it stops where the walk does, at the first cost above the budget or at 2^64 - 1
 abbrev pub Searches : Result Walked Halt → def.Walked Maxima → Type 0
-Searches (Ok (done.Gone k s)) w = w ≡ def.Gone k s
+Searches (Ok (done.Gone k s r)) w = w ≡ def.Gone k s
 Searches (Ok (done.Found p)) w = w ≡ def.Found p.items
 Searches (Err halt.Wide) w = w ≡ def.Wide
 Searches (Err (halt.Spent c)) w = (j : ℕ) × (w ≡ def.Spent j) × (c ≡ min j (2 ^ 64 - 1))
@@ -40,13 +42,27 @@ abbrev pub lifted_to : Choice → Conj → List ℤ → Option (List ℤ)
 lifted_to h c p = cond (lift_fits h c.rows p) (Some (lifted h c.rows p)) None
 
 abbrev pub IfFound : Walked → (List ℤ → Type 0) → Type 0
-IfFound (done.Gone k s) P = Unit {0}
+IfFound (done.Gone k s r) P = Unit {0}
 IfFound (done.Found p) P = P p.items
+
+abbrev pub IfGone : Walked → (Maxima → Refutation → Type 0) → Type 0
+IfGone (done.Gone k s r) P = P s r
+IfGone (done.Found p) P = Unit {0}
 
 -- the running cost did not fall, and is within the budget
 abbrev pub HasGrown : ℕ → ℕ → Walked → Type 0
-HasGrown k budget (done.Gone j s) = (k ≤ j) × (j ≤ budget)
+HasGrown k budget (done.Gone j s r) = (k ≤ j) × (j ≤ budget)
 HasGrown k budget (done.Found p) = Unit {0}
+
+-- the refutation of this conjunction stands
+pub record IsRefuted (c : Conj) (r : Refutation) : Type 0 where
+  pub conj : conj_of r ≡ c
+  pub refutes : Refutes r
+
+-- the refutation of what the choice leaves stands
+pub record IsRefutedBehind (h : Choice) (c : Conj) (r : Refutation) : Type 0 where
+  pub left : after_choice h c ≡ Some (conj_of r)
+  pub refutes : Refutes r
 
 -- the conjunction is in normal form
 abbrev pub IsNormal : Conj → Type 0

@@ -1,16 +1,21 @@
-ghost use Rattle.std.specs.Prelude.{◌≡◌, ◌+◌, ℤ, List, IfOk};
-ghost use Rattle.ac_forms.specs.Rows.{IsWellMade};
+ghost use Rattle.std.specs.Prelude.{◌≡◌, ◌+◌, ℤ, List, [], IfOk, MatchResult};
+ghost use Rattle.ac_forms.specs.Rows.{IsWellMade, CanTest};
+ghost use Rattle.ac_cert.specs.Accepted.{Accepts, absurd_refusals};
 ghost use Rattle.ac_cert.specs.Points.{IsPoint};
 ghost use Rattle.ac_omega.specs.Elimination.{eliminating};
-ghost use Rattle.ac_omega.specs.Searching.{Searches, IfFound, IsNormal, columns_to};
-ghost use Rattle.ac_omega.specs.Decisions.{Decides, Finds, IfEmpty, IfPoint, walk_of};
-ghost use Rattle.ac_omega.specs.Walk.{walk, Found};
+ghost use Rattle.ac_omega.specs.Searching.{Searches, IfFound, IfGone, IsRefuted, IsNormal, columns_to};
+ghost use Rattle.ac_omega.specs.Decisions.{Decides, Finds, Settles, Certifies, IfEmpty, IfPoint, IfCertified, IfMet, walk_of};
+ghost use Rattle.ac_omega.specs.Walk.{walk};
+ghost use Rattle.ac_omega.specs.Within.{Bounds, HaveRisen, IsWithin};
+ghost use Rattle.ac_trails.specs.Refutations.{IsRefutationOf};
 
-use crate::extent::{Maxima, with_rows};
+use crate::extent::{Maxima, are_large, with_rows};
 use crate::pieces::{Stop, handed_back};
 use crate::search::{Walked, search};
 use crate::sweeping::Halt;
+use ac_cert::{Absurd, Tree};
 use ac_forms::{Conj, FormStop};
+use ac_trails::{Refutation, certify};
 use std::alloc::{AllocError, Global};
 
 /// What a question comes to.
@@ -18,6 +23,15 @@ use std::alloc::{AllocError, Global};
 pub enum Decided {
     /// It has no point; the greatest numbers that its walk meets.
     Empty(Maxima),
+    /// A point.
+    Point(Vec<i128>),
+}
+
+/// What a question comes to, with a certificate where it has no point.
+#[derive(Drop)]
+pub enum Decision {
+    /// It has no point: `check_tree` accepts the tree.
+    Empty(Tree<Absurd>),
     /// A point.
     Point(Vec<i128>),
 }
@@ -44,22 +58,66 @@ pub(crate) fn search_all(
     requires normal { IsNormal conj }
     ensures exact { Searches result (walk (eliminating (columns_to conj.columns)) (budget + 1) budget conj 0 met) }
     ensures point { IfOk result (λ w. IfFound w (λ p. IsPoint conj p)) }
+    ensures refuted { IfOk result (λ w. IfGone w (λ s r. IsRefuted conj r)) }
+    ensures within { IfOk result (λ w. IfGone w (λ s r. IsWithin s r)) }
+    ensures risen { IfOk result (λ w. IfGone w (λ s r. HaveRisen met s)) }
 {
     let vars = all_columns(alloc, conj.columns)?;
     search(alloc, &vars, conj, budget, 0, met)
 }
 
-/// A point of a question, where its rows can be evaluated at it.
-fn tested(conj: &Conj, point: Vec<i128>) -> Result<Decided, Halt>
+/// Whether the rows of a question, in order, can be evaluated in `i128` at one of its points; `Wide` exactly where not.
+fn test(conj: &Conj, point: &[i128]) -> Result<(), Halt>
     requires made { IsWellMade conj.now }
-    requires point { IsPoint conj.now point.items }
-    ensures exact { Decides result conj.now (Found point.items) }
-    ensures point { IfOk result (λ d. IfPoint d (λ p. IsPoint conj.now p)) }
+    requires point { IsPoint conj.now point.now }
+    ensures { MatchResult result (λ _. CanTest conj.now.rows point.now) (λ halt. (halt ≡ Halt.Wide) × ¬ CanTest conj.now.rows point.now) }
 {
-    match conj.holds_at(&point) {
-        Ok(true) => Ok(Decided::Point(point)),
+    match conj.holds_at(point) {
+        Ok(true) => Ok(()),
         Ok(false) => unreachable!(),
         Err(_) => Err(Halt::Wide),
+    }
+}
+
+/// The walk of a question, where its rows can be evaluated in `i128` at the point that it finds.
+///
+/// `Wide` exactly where a number leaves `i128` first, also with a budget of 0 for the question's own normal form; `Spent`
+/// exactly where the running cost exceeds the budget first, with that cost.
+fn walked(alloc: Global, conj: &Conj, budget: u64) -> Result<Walked, Halt>
+    requires { IsWellMade conj.now }
+    ensures exact { Decides result conj.now (walk_of budget conj.now) }
+    ensures point { IfOk result (λ w. IfFound w (λ p. IsPoint conj.now p)) }
+    ensures refuted { IfOk result (λ w. IfGone w (λ s r. IsRefutationOf conj.now r)) }
+    ensures within { IfOk result (λ w. IfGone w (λ s r. IsWithin s r)) }
+    ensures bound { IfOk result (λ w. IfGone w (λ s r. Bounds s conj.now.rows)) }
+{
+    let normal = match conj.normalise(alloc) {
+        Ok(normal) => normal,
+        Err(FormStop::Wide) => return Err(Halt::Wide),
+        Err(FormStop::Memory(want)) => return Err(Halt::Memory(want)),
+    };
+    let none = Maxima {
+        factor: 0,
+        number: 0,
+    };
+    let met = with_rows(conj.rows.as_slice(), none);
+    match search_all(alloc, normal, budget, met) {
+        Ok(
+            Walked::Gone {
+                cost,
+                maxima,
+                refutation,
+            },
+        ) => Ok(Walked::Gone {
+            cost,
+            maxima,
+            refutation,
+        }),
+        Ok(Walked::Found(point)) => match test(conj, &point) {
+            Ok(()) => Ok(Walked::Found(point)),
+            Err(stop) => Err(stop),
+        },
+        Err(stop) => Err(stop),
     }
 }
 
@@ -77,34 +135,62 @@ pub fn find_point(alloc: Global, conj: &Conj, budget: u64) -> Result<Decided, St
     ensures point { IfOk result (λ d. IfPoint d (λ p. IsPoint conj.now p)) }
     ensures empty { IfOk result (λ d. IfEmpty d ((p : List ℤ) → IsPoint conj.now p → ⊥)) }
 {
-    match decide_point(alloc, conj, budget) {
-        Ok(decided) => Ok(decided),
+    match walked(alloc, conj, budget) {
+        Ok(Walked::Gone { maxima, .. }) => Ok(Decided::Empty(maxima)),
+        Ok(Walked::Found(point)) => Ok(Decided::Point(point)),
         Err(halt) => Err(handed_back(alloc, halt, conj)),
     }
 }
 
-/// The same, without the question in a stop.
+/// Whether a question has an integer point (W. Pugh, The Omega test, 1991): a number for each column at which all its rows
+/// hold, or a certificate that there is none, which `check_tree` accepts.
 ///
-/// `Wide` exactly where a number leaves `i128` first, also with a budget of 0 for the question's own normal form; `Spent`
-/// exactly where the running cost exceeds the budget first, with that cost.
-pub(crate) fn decide_point(alloc: Global, conj: &Conj, budget: u64) -> Result<Decided, Halt>
+/// The walk, its point, its cost and its stops are those of `find_point`. `Overflow` also exactly where the walk finds no
+/// point and its greatest numbers are too large for a certificate: where the greatest coefficient, modulus of a row or
+/// modulus of a residue times the greatest coefficient, modulus of a row or constant exceeds 2^120, by absolute values, over
+/// the question and all that the walk meets.
+pub fn decide(alloc: Global, conj: &Conj, budget: u64) -> Result<Decision, Stop>
     requires { IsWellMade conj.now }
-    ensures exact { Decides result conj.now (walk_of budget conj.now) }
-    ensures point { IfOk result (λ d. IfPoint d (λ p. IsPoint conj.now p)) }
+    ensures exact { Settles result conj.now (walk_of budget conj.now) }
+    ensures point { IfOk result (λ d. IfMet d (λ p. IsPoint conj.now p)) }
+    ensures accepted { IfOk result (λ d. IfCertified d (λ tree. Accepts tree absurd_refusals conj.now)) }
+    ensures empty { IfOk result (λ d. IfCertified d (λ tree. (p : List ℤ) → IsPoint conj.now p → ⊥)) }
 {
-    let normal = match conj.normalise(alloc) {
-        Ok(normal) => normal,
-        Err(FormStop::Wide) => return Err(Halt::Wide),
-        Err(FormStop::Memory(want)) => return Err(Halt::Memory(want)),
-    };
-    let none = Maxima {
-        factor: 0,
-        number: 0,
-    };
-    let met = with_rows(conj.rows.as_slice(), none);
-    match search_all(alloc, normal, budget, met) {
-        Ok(Walked::Gone { maxima, .. }) => Ok(Decided::Empty(maxima)),
-        Ok(Walked::Found(point)) => tested(conj, point),
-        Err(stop) => Err(stop),
+    match walked(alloc, conj, budget) {
+        Ok(
+            Walked::Gone {
+                maxima,
+                refutation,
+                ..
+            },
+        ) => match certificate(alloc, conj, &maxima, &refutation) {
+            Ok(tree) => Ok(Decision::Empty(tree)),
+            Err(halt) => Err(handed_back(alloc, halt, conj)),
+        },
+        Ok(Walked::Found(point)) => Ok(Decision::Point(point)),
+        Err(halt) => Err(handed_back(alloc, halt, conj)),
+    }
+}
+
+/// The certificate from a question's refutation and maxima that bound its numbers; `Wide` exactly where they are too large.
+fn certificate(
+    alloc: Global,
+    conj: &Conj,
+    all: &Maxima,
+    refutation: &Refutation,
+) -> Result<Tree<Absurd>, Halt>
+    requires made { IsWellMade conj.now }
+    requires refuted { IsRefutationOf conj.now refutation.now }
+    requires within { IsWithin all.now refutation.now }
+    requires bound { Bounds all.now conj.now.rows }
+    ensures exact { Certifies result all.now }
+    ensures accepted { IfOk result (λ tree. Accepts tree absurd_refusals conj.now) }
+{
+    if are_large(all) {
+        return Err(Halt::Wide);
+    }
+    match certify(alloc, conj, refutation) {
+        Ok(tree) => Ok(tree),
+        Err(want) => Err(Halt::Memory(want)),
     }
 }

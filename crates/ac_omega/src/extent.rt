@@ -1,4 +1,4 @@
-ghost use Rattle.std.specs.Prelude.{◌≡◌};
+ghost use Rattle.std.specs.Prelude.{◌≡◌, ◌*◌, ◌<◌, ◌^◌, ◌↔◌, IsTrue};
 ghost use Rattle.ac_omega.specs.Maxima.{greatest_abs, with_form, with_modulus, with_row, with_rows, with_choice};
 
 use ac_cert::Choice;
@@ -79,5 +79,18 @@ pub(crate) fn with_choice(choice: &Choice, met: Maxima) -> Maxima
         Choice::Drop(_) | Choice::Equal(_, _) | Choice::Shadow(_) | Choice::Splinter(_, _, _) => {
             met
         }
+    }
+}
+
+/// The greatest product of the maxima from which a certificate is made.
+const LIMIT: u128 = 1 << 120;
+
+/// Whether the product of the maxima exceeds 2^120.
+pub(crate) fn are_large(all: &Maxima) -> bool
+    ensures { IsTrue result ↔ (2 ^ 120 < all.now.factor * all.now.number) }
+{
+    match all.factor.checked_mul(all.number) {
+        Some(product) => product > LIMIT,
+        None => true,
     }
 }

@@ -13,7 +13,7 @@ mod scan;
 mod search;
 mod sweeping;
 
-pub use decision::{Decided, find_point};
+pub use decision::{Decided, Decision, decide, find_point};
 pub use extent::Maxima;
 pub use listing::choices;
 pub use pieces::{Stop, eliminate};

@@ -5,9 +5,11 @@ ghost use Rattle.ac_cert.specs.Choices.{are_absurd, is_legal, left_by};
 ghost use Rattle.ac_cert.specs.ChoiceFits.{after_choice};
 ghost use Rattle.ac_cert.specs.Points.{IsPoint};
 ghost use Rattle.ac_omega.specs.Elimination.{eliminating};
-ghost use Rattle.ac_omega.specs.Searching.{Searches, Tried, lifted_to, Leaves, IfFound, HasGrown, AreLegal, IsNormal, AreBelow, Settle};
+ghost use Rattle.ac_omega.specs.Searching.{Searches, Tried, lifted_to, Leaves, IfFound, IfGone, IsRefuted, IsRefutedBehind, HasGrown, AreLegal, IsNormal, AreBelow, Settle};
 ghost use Rattle.ac_trails.specs.Tries.{tries_for};
 ghost use Rattle.ac_omega.specs.Walk.{walk, lifted};
+ghost use Rattle.ac_omega.specs.Within.{Bounds, HaveRisen, IsWithin};
+ghost use Rattle.ac_trails.specs.Refutations.{AreModuliWithin};
 
 use crate::cursor::{Next, advance, first};
 use crate::extent::{Maxima, with_choice, with_rows};
@@ -16,6 +18,8 @@ use crate::scan::are_absurd;
 use crate::sweeping::Halt;
 use ac_cert::{Choice, StepStop};
 use ac_forms::{Conj, FormStop, Row};
+use ac_items::Items;
+use ac_trails::Refutation;
 use std::alloc::{AllocError, Global};
 
 /// What a search comes to.
@@ -27,6 +31,8 @@ pub(crate) enum Walked {
         cost: u64,
         /// The greatest numbers that were met.
         maxima: Maxima,
+        /// Why there is none.
+        refutation: Refutation,
     },
     /// A point.
     Found(Vec<i128>),
@@ -93,6 +99,9 @@ pub(crate) fn search(
     ensures exact { (n : ℕ) → budget < n + cost → Searches result (walk (eliminating vars.now) n budget conj cost met) }
     ensures point { IfOk result (λ w. IfFound w (λ p. IsPoint conj p)) }
     ensures grown { IfOk result (λ w. HasGrown cost budget w) }
+    ensures refuted { IfOk result (λ w. IfGone w (λ s r. IsRefuted conj r)) }
+    ensures within { IfOk result (λ w. IfGone w (λ s r. IsWithin s r)) }
+    ensures risen { IfOk result (λ w. IfGone w (λ s r. HaveRisen met s)) }
 {
     let count = conj.rows.len() as u64;
     if count > budget - cost {
@@ -104,10 +113,11 @@ pub(crate) fn search(
         return Ok(Walked::Gone {
             cost: spent,
             maxima: all,
+            refutation: Refutation::Absurd(conj),
         });
     }
     match next_column(vars, conj.rows.as_slice()) {
-        Some(z) => by_column(alloc, vars, &conj, z, budget, spent, all),
+        Some(z) => by_column(alloc, vars, conj, z, budget, spent, all),
         None => Ok(Walked::Found(zeros(alloc, conj.columns)?)),
     }
 }
@@ -117,37 +127,48 @@ pub(crate) fn search(
 fn by_column(
     alloc: Global,
     vars: &[usize],
-    conj: &Conj,
+    conj: Conj,
     z: usize,
     budget: u64,
     cost: u64,
     met: Maxima,
 ) -> Result<Walked, Halt>
     requires cost { cost ≤ budget }
-    requires made { IsWellMade conj.now }
-    requires columns { AreBelow conj.now.columns vars.now }
-    requires settle { Settle conj.now.columns vars.now }
-    requires legal { AreLegal (tries_for z conj.now.rows) conj.now }
-    ensures exact { Tried result vars.now budget conj.now (tries_for z conj.now.rows) cost met }
-    ensures point { IfOk result (λ w. IfFound w (λ p. IsPoint conj.now p)) }
+    requires made { IsWellMade conj }
+    requires columns { AreBelow conj.columns vars.now }
+    requires settle { Settle conj.columns vars.now }
+    requires possible { are_absurd conj.rows ≡ false }
+    requires column { z < conj.columns }
+    requires within { Bounds met conj.rows }
+    requires legal { AreLegal (tries_for z conj.rows) conj }
+    ensures exact { Tried result vars.now budget conj (tries_for z conj.rows) cost met }
+    ensures point { IfOk result (λ w. IfFound w (λ p. IsPoint conj p)) }
     ensures grown { IfOk result (λ w. HasGrown cost budget w) }
+    ensures refuted { IfOk result (λ w. IfGone w (λ s r. IsRefuted conj r)) }
+    ensures within { IfOk result (λ w. IfGone w (λ s r. IsWithin s r)) }
+    ensures risen { IfOk result (λ w. IfGone w (λ s r. HaveRisen met s)) }
 {
     let rows = conj.rows.as_slice();
+    let mut choices = Items::new(alloc);
+    let mut below = Items::new(alloc);
     let mut cursor = first(z, rows);
     let mut spent = cost;
     let mut all = met;
     'choices: loop {
         match advance(z, rows, &cursor) {
-            Next::End => {
-                return Ok(Walked::Gone {
-                    cost: spent,
-                    maxima: all,
-                });
-            }
+            Next::End => break,
             Next::Wide => return Err(Halt::Wide),
             Next::Try(choice, next) => {
-                match by_choice(alloc, vars, conj, &choice, budget, spent, all) {
-                    Ok(Walked::Gone { cost, maxima }) => {
+                match by_choice(alloc, vars, &conj, &choice, budget, spent, all) {
+                    Ok(
+                        Walked::Gone {
+                            cost,
+                            maxima,
+                            refutation,
+                        },
+                    ) => {
+                        choices.push(choice)?;
+                        below.push(refutation)?;
                         spent = cost;
                         all = maxima;
                         cursor = next;
@@ -158,6 +179,15 @@ fn by_column(
             }
         }
     }
+    Ok(Walked::Gone {
+        cost: spent,
+        maxima: all,
+        refutation: Refutation::Open {
+            conj,
+            choices,
+            below,
+        },
+    })
 }
 
 /// The search behind one choice.
@@ -179,13 +209,27 @@ fn by_choice(
     ensures exact { Tried result vars.now budget conj.now (Some choice.now ∷ []) cost met }
     ensures point { IfOk result (λ w. IfFound w (λ p. IsPoint conj.now p)) }
     ensures grown { IfOk result (λ w. HasGrown cost budget w) }
+    ensures refuted { IfOk result (λ w. IfGone w (λ s r. IsRefutedBehind choice.now conj.now r)) }
+    ensures within { IfOk result (λ w. IfGone w (λ s r. IsWithin s r)) }
+    ensures moduli { IfOk result (λ w. IfGone w (λ s r. AreModuliWithin s.factor (choice.now ∷ []))) }
+    ensures risen { IfOk result (λ w. IfGone w (λ s r. HaveRisen met s)) }
 {
     let rest = match left_by(alloc, conj, choice) {
         Ok(rest) => rest,
         Err(stop) => return Err(stop),
     };
     match search(alloc, vars, rest, budget, cost, with_choice(choice, met)) {
-        Ok(Walked::Gone { cost, maxima }) => Ok(Walked::Gone { cost, maxima }),
+        Ok(
+            Walked::Gone {
+                cost,
+                maxima,
+                refutation,
+            },
+        ) => Ok(Walked::Gone {
+            cost,
+            maxima,
+            refutation,
+        }),
         Ok(Walked::Found(point)) => lifted(alloc, conj, choice, &point),
         Err(stop) => Err(stop),
     }

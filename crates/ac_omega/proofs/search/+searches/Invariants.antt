@@ -1,7 +1,11 @@
 use Rattle.std.proofs.Common.{◌≡◌, ℕ, ◌<◌, ◌≤◌, ◌-◌, ◌*◌, ◌+◌, length}
+use Rattle.std.specs.List.{AllByRecursion}
 use Rattle.ac_omega.specs.Cursors.{tries_left, IsSound}
 use Rattle.ac_omega.specs.Searching.{tried, AreLegal}
-use Rattle.ac_trails.specs.Tries.{tries_for}
+use Rattle.ac_omega.specs.Within.{HaveRisen, IsWithin}
+use Rattle.ac_trails.specs.Refutations.{AreModuliWithin}
+use Rattle.ac_trails.specs.Tries.{tries_for, all_of, gathered}
+use Rattle.ac_omega.proofs.Refuting.{AreRefutedBehind}
 use Rattle.ac_omega.proofs.search.+searches.Given as goal
 
 abbrev pub decreases-by_choice : goal.decreases-by_choice
@@ -18,8 +22,13 @@ invariant-by_column-choices l = record {
   low : l.cost ≤ l.spent;
   high : l.spent ≤ l.budget;
   sound : IsSound l.z l.rows l.cursor;
-  legal : AreLegal (tries_left l.z l.rows l.cursor) l.conj;
-  so_far : (n : ℕ) → l.budget < n + l.cost → tried l.vars n l.budget l.conj (tries_for l.z l.conj.rows) l.cost l.fn.met ≡ tried l.vars n l.budget l.conj (tries_left l.z l.rows l.cursor) l.spent l.all;
+  legal : AreLegal (tries_left l.z l.rows l.cursor) l.fn.conj;
+  so_far : (n : ℕ) → l.budget < n + l.cost → tried l.vars n l.budget l.fn.conj (tries_for l.z l.fn.conj.rows) l.cost l.fn.met ≡ tried l.vars n l.budget l.fn.conj (tries_left l.z l.rows l.cursor) l.spent l.all;
+  tried : all_of (tries_for l.z l.fn.conj.rows) ≡ gathered l.choices (tries_left l.z l.rows l.cursor);
+  refuted : AreRefutedBehind l.choices l.fn.conj l.below;
+  within : AllByRecursion (IsWithin l.all) l.below;
+  moduli : AreModuliWithin l.all.factor l.choices;
+  risen : HaveRisen l.fn.met l.all;
 }
 
 abbrev pub decreases-by_column-choices : goal.decreases-by_column-choices

@@ -1,6 +1,6 @@
 use Rattle.std.proofs.Common.{◌∙◌, inl}
-use Rattle.ac_omega.proofs.Deciding.{normal-made, normal-wide, walk-is, err-decides, found-decides}
-use Rattle.ac_omega.proofs.decision.decide_point.Goals as goal
+use Rattle.ac_omega.proofs.Deciding.{normal-made, normal-wide, walk-is, err-decides, refutation-of, question-bound}
+use Rattle.ac_omega.proofs.decision.walked.Goals as goal
 
 pub returns-in-Err-Wide-clause-exact : goal.returns-in-Err-Wide-clause-exact
 returns-in-Err-Wide-clause-exact c = inl (normal-wide c.args.budget c.args.conj.now (rw c.in-Err-Wide.field-0-is at c.in-Err-Wide.ensures.exact))
@@ -11,12 +11,20 @@ search_all-requires-clause-made c = normal-made c.args.conj.now c.in-Ok.normal c
 pub returns-in-Ok-Gone-clause-exact : goal.returns-in-Ok-Gone-clause-exact
 returns-in-Ok-Gone-clause-exact c =
     let w = walk-is c.args.budget c.args.conj.now c.in-Ok.normal c.with_rows-met.result c.in-Ok.ensures.exact.0 c.in-Ok.ensures.exact.1 (rw c.as_slice.ensures at c.with_rows-met.ensures) in
-    (c.in-Ok-Gone.field-0-0, w ∙ (rw c.in-Ok-Gone.field-0-is at c.in-Ok-Gone.ensures.exact))
+    w ∙ (rw c.in-Ok-Gone.field-0-is at c.in-Ok-Gone.ensures.exact)
 
-pub returns-in-Ok-Found-clause-exact : goal.returns-in-Ok-Found-clause-exact
-returns-in-Ok-Found-clause-exact c =
+pub returns-in-Ok-Gone-clause-refuted : goal.returns-in-Ok-Gone-clause-refuted
+returns-in-Ok-Gone-clause-refuted c =
+    refutation-of c.args.conj.now c.in-Ok.normal c.in-Ok-Gone.refutation c.in-Ok.ensures.exact.0 c.in-Ok.ensures.exact.1 (rw c.in-Ok-Gone.field-0-is at c.in-Ok-Gone.ensures.refuted)
+
+pub returns-in-Ok-Gone-clause-bound : goal.returns-in-Ok-Gone-clause-bound
+returns-in-Ok-Gone-clause-bound c =
+    question-bound c.args.conj.now c.with_rows-met.result c.in-Ok-Gone.maxima (rw c.as_slice.ensures at c.with_rows-met.ensures) (rw c.in-Ok-Gone.field-0-is at c.in-Ok-Gone.ensures.risen)
+
+pub returns-in-Ok-test-clause-exact : goal.returns-in-Ok-test-clause-exact
+returns-in-Ok-test-clause-exact c =
     let w = walk-is c.args.budget c.args.conj.now c.in-Ok.normal c.with_rows-met.result c.in-Ok.ensures.exact.0 c.in-Ok.ensures.exact.1 (rw c.as_slice.ensures at c.with_rows-met.ensures) in
-    found-decides c.tested.result c.args.conj.now c.in-Ok-Found.point.items _ _ w (rw c.in-Ok-Found.field-0-is at c.in-Ok-Found.ensures.exact) c.tested.ensures.exact
+    (w ∙ (rw c.in-Ok-Found.field-0-is at c.in-Ok-Found.ensures.exact), rw c.deref.ensures.value at c.in-Ok-test.ensures)
 
 pub returns-in-Err-clause-exact : goal.returns-in-Err-clause-exact
 returns-in-Err-clause-exact c =
