@@ -39,3 +39,4 @@ pub mod DifferenceNexts
 pub mod DifferenceWalks
 pub mod DifferencePaths
 pub mod DifferenceQuestions
+pub mod DifferenceStops

@@ -1,4 +1,5 @@
-ghost use Rattle.std.specs.Prelude.{◌≡◌, ◌+◌, ℤ, List, [], IfOk, MatchResult};
+ghost use Rattle.std.specs.Prelude.{◌≡◌, ◌+◌, ◌^◌, ◌≤◌, ℤ, List, [], IfOk, IfErr, MatchResult};
+ghost use Rattle.ac_omega.specs.Differences.{AreDifferences, StopsBelow};
 ghost use Rattle.ac_forms.specs.Rows.{IsWellMade, CanTest};
 ghost use Rattle.ac_cert.specs.Accepted.{Accepts, absurd_refusals};
 ghost use Rattle.ac_cert.specs.Points.{IsPoint};
@@ -149,7 +150,22 @@ pub fn find_point(alloc: Global, conj: &Conj, budget: u64) -> Result<Decided, St
 /// point and its greatest numbers are too large for a certificate: where the greatest coefficient, modulus of a row or
 /// modulus of a residue times the greatest coefficient, modulus of a row or constant exceeds 2^120, by absolute values, over
 /// the question and all that the walk meets.
+///
+/// A question of differences over n columns, at most 60, with numbers of at most 2^48 by absolute value, is always decided
+/// within a budget of 2 (n + 1)^3.
 pub fn decide(alloc: Global, conj: &Conj, budget: u64) -> Result<Decision, Stop>
+    requires { IsWellMade conj.now }
+    ensures exact { Settles result conj.now (walk_of budget conj.now) }
+    ensures point { IfOk result (λ d. IfMet d (λ p. IsPoint conj.now p)) }
+    ensures accepted { IfOk result (λ d. IfCertified d (λ tree. Accepts tree absurd_refusals conj.now)) }
+    ensures empty { IfOk result (λ d. IfCertified d (λ tree. (p : List ℤ) → IsPoint conj.now p → ⊥)) }
+    ensures differences { conj.now.columns ≤ 60 → AreDifferences (2 ^ 48) conj.now.rows → IfErr result (StopsBelow conj.now.columns budget) }
+{
+    settled(alloc, conj, budget)
+}
+
+/// The same as `decide`, of any question.
+fn settled(alloc: Global, conj: &Conj, budget: u64) -> Result<Decision, Stop>
     requires { IsWellMade conj.now }
     ensures exact { Settles result conj.now (walk_of budget conj.now) }
     ensures point { IfOk result (λ d. IfMet d (λ p. IsPoint conj.now p)) }

@@ -27,3 +27,7 @@ mod decision_tests;
 mod listing_tests;
 #[cfg(test)]
 mod pieces_tests;
+#[cfg(test)]
+mod questions;
+#[cfg(test)]
+mod questions_tests;

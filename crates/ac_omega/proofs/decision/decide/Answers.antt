@@ -1,5 +1,5 @@
-use Rattle.ac_omega.proofs.Finding.{gone-none}
+use Rattle.ac_omega.proofs.DifferenceStops.{differences-settle}
 use Rattle.ac_omega.proofs.decision.decide.Goals as goal
 
-pub returns-in-Ok-clause-empty : goal.returns-in-Ok-clause-empty
-returns-in-Ok-clause-empty c = gone-none c.args.budget c.args.conj.now c.in-Ok-Gone.field-0-0 c.in-Ok-Gone.maxima c.requires (rw c.in-Ok-Gone.field-0-is at c.in-Ok-Gone.ensures.exact)
+pub returns-clause-differences : goal.returns-clause-differences
+returns-clause-differences c = λ few are. differences-settle c.settled.result c.args.conj.now c.args.budget c.requires c.settled.ensures.exact few are
