@@ -15,6 +15,8 @@ mod by_residue;
 mod by_shadow;
 mod certificate;
 mod descent;
+mod left;
+mod normal_equality;
 mod normal_form;
 mod path;
 mod refutation;
