@@ -14,3 +14,4 @@ pub mod Ranges
 pub mod Classes
 pub mod SmallNumbers
 pub mod NormalEqualities
+pub mod Names

@@ -20,6 +20,7 @@ mod normal_equality;
 mod normal_form;
 mod path;
 mod refutation;
+mod renamed;
 mod residues;
 mod shown_bounds;
 mod shown_equal;
