@@ -15,3 +15,4 @@ pub mod Classes
 pub mod SmallNumbers
 pub mod NormalEqualities
 pub mod Names
+pub mod NormalDivisibilities
