@@ -12,3 +12,7 @@ pub mod Contradictions
 pub mod Leaves
 pub mod Ranges
 pub mod Classes
+pub mod SmallNumbers
+pub mod NormalEqualities
+pub mod Names
+pub mod NormalDivisibilities
