@@ -12,3 +12,5 @@ pub mod Contradictions
 pub mod Leaves
 pub mod Ranges
 pub mod Classes
+pub mod Moderate
+pub mod ModerateSplinters
