@@ -14,3 +14,5 @@ pub mod Ranges
 pub mod Classes
 pub mod Moderate
 pub mod ModerateSplinters
+pub mod StandingLists
+pub mod FreeRows

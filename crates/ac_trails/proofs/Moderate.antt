@@ -1,5 +1,5 @@
 -- The numbers of modest rows, of which products are at most 2^120: what choices make of them stays in `i128`, and is calm.
-use Rattle.std.proofs.Common.{lit<, ◌≡◌, ℕ, zero, suc, ◌+◌, ◌*◌, ◌≤◌, ◌^◌, ℤ, pos, negsuc, neg_ℤ, ◌+ℤ◌, ◌*ℤ◌, ◌≤ℤ◌, List, [], ◌∷◌, ◌++◌, map, get_or, ◌⊎◌, inl, inr, set, Bool, true, false, cond, unsigned_abs, refl, sym, ap, ◌∙◌, arith, mul_comm, mul-le-mul}
+use Rattle.std.proofs.Common.{◌≡◌, ℕ, zero, suc, ◌+◌, ◌*◌, ◌≤◌, ◌^◌, ℤ, pos, negsuc, neg_ℤ, ◌+ℤ◌, ◌*ℤ◌, ◌≤ℤ◌, List, [], ◌∷◌, ◌++◌, map, get_or, ◌⊎◌, inl, inr, set, Bool, true, false, cond, unsigned_abs, refl, arith, mul_comm, mul-le-mul}
 use Rattle.std.specs.Prelude.{◌≢◌}
 use Rattle.std.specs.Int.{w128}
 use Rattle.std.proofs.lemmas.Int.{ints, unsigned_abs-mul, fits_signed_from_abs}
@@ -9,7 +9,7 @@ use Rattle.std.proofs.lemmas.Nat.Gcd.{dvd-zero}
 use Rattle.ac_integers.specs.Gcd.{content, DividesEach}
 use Rattle.ac_integers.proofs.Columns.{get_or-mix}
 use Rattle.ac_integers.proofs.Divisors.{divides_gcd_all}
-use Rattle.ac_forms.specs.Affine.{Affine, coef, combined, MixFits}
+use Rattle.ac_forms.specs.Affine.{Affine, coef, MixFits}
 use Rattle.ac_forms.specs.Fits.{Fits}
 use Rattle.ac_forms.specs.Orders.{modulus_of}
 use Rattle.ac_forms.specs.Rows.{form_of, HasModulus, HaveModuli}

@@ -1,19 +1,24 @@
 -- The numbers of a splinter of a lower row stay in `i128`, and are calm.
-use Rattle.std.proofs.Common.{◌≡◌, ℕ, zero, suc, ◌+◌, ◌*◌, ◌≤◌, ◌<◌, ◌^◌, ℤ, pos, negsuc, neg_ℤ, ◌+ℤ◌, ◌-ℤ◌, ◌*ℤ◌, ◌≤ℤ◌, List, [], ◌∷◌, ◌++◌, inr, true, Some, slice_get, unsigned_abs, refl, arith, mul-le-mul_left, ⊎_elim}
+use Rattle.std.proofs.Common.{◌≡◌, ℕ, zero, suc, ◌+◌, ◌≤◌, ◌<◌, ◌^◌, ℤ, pos, negsuc, neg_ℤ, ◌-ℤ◌, ◌*ℤ◌, ◌≤ℤ◌, List, [], ◌∷◌, ◌++◌, inr, true, Some, slice_get, get_or, length, unsigned_abs, refl, arith}
 use Rattle.std.specs.Prelude.{◌≢◌}
-use Rattle.std.specs.Int.{int_div_euclid}
 use Rattle.std.specs.Int.Signed.{lt_z}
 use Rattle.std.proofs.lemmas.Int.{ints, clamps, by_lt_z}
+use Rattle.std.proofs.lemmas.Option.{slice_get_read}
 use Rattle.ac_integers.proofs.Floor.{floor_le}
 use Rattle.ac_integers.proofs.Products.{mul-le-mul_ℤ}
 use Rattle.ac_forms.specs.Affine.{Affine, coef}
 use Rattle.ac_forms.specs.Fits.{Fits}
 use Rattle.ac_forms.specs.Rows.{HaveModuli}
 use Rattle.ac_forms.specs.declared.row.Row.{Row}
-use Rattle.ac_forms.specs.declared.row.Row.TheVariants.{Eq, Ge}
+use Rattle.ac_forms.specs.declared.row.Row.TheVariants.{Eq, Div, Ge}
+use Rattle.ac_cert.specs.Choices.{splinter}
 use Rattle.ac_cert.specs.declared.column.Bound.{Bound}
 use Rattle.ac_cert.specs.Bounds.{is_low, highs, greatest_size, last_splinter}
-use Rattle.ac_trails.specs.Descents.{IsModerate, IsCalm, AreCalm}
+use Rattle.ac_forms.specs.declared.conj.Conj.{Conj}
+use Rattle.ac_trails.specs.Descents.{AreCalm, StandOn}
+use Rattle.ac_trails.specs.Standing.{StandsAt}
+use Rattle.ac_trails.specs.declared.descent.Base.{Base}
+use Rattle.ac_trails.proofs.StandingLists.{stand-push}
 use Rattle.ac_trails.specs.Refutations.{IsFormWithin, AreRowsWithin, AreModest}
 use Rattle.ac_trails.proofs.Moderate.{sum_size, turned_size, fits_within, number_small, modest-calm, calm-append}
 
@@ -77,3 +82,19 @@ pub splinter-calm : (rs : List Row) (z i : ℕ) (k : ℤ) (f : Affine) → AreMo
 splinter-calm rs z i k f a m e l low last =
     let s = splinter_size rs z i k f a e l low last in
     calm-append rs _ (modest-calm rs a m) (inr (record { konst = s.0; coefs = s.1 }), tt)
+
+-- the rows with a splinter of the row at a place
+pub splinter-is : (k : ℤ) (rows : List Row) (i : ℕ) (r : Row) (f : Affine) (made : List Row) (x : Row) → i < length rows → r ≡ get_or rows i r → r ≡ Ge f → x ≡ Eq (record { konst = f.konst -ℤ k; coefs = f.coefs })
+    → made ≡ rows ++ x ∷ [] → made ≡ splinter k (slice_get rows i) rows
+splinter-is k rows i r f made x h e g t m = rw (slice_get_read rows (length rows) i r refl h e, g) (rw t at m)
+
+pub no-splinter : (k : ℤ) (rows : List Row) (i : ℕ) (r : Row) (made : List Row) → i < length rows → r ≡ get_or rows i r → ((f : Affine) → r ≡ Ge f → ⊥) → made ≡ rows → made ≡ splinter k (slice_get rows i) rows
+no-splinter k rows i r made h e n m = rw (slice_get_read rows (length rows) i r refl h e) (by r n)
+  where
+    by : (r : Row) → ((f : Affine) → r ≡ Ge f → ⊥) → made ≡ splinter k (Some r) rows
+    by (Eq f) n = m
+    by (Div d f) n = m
+    by (Ge f) n = absurd (n f refl)
+
+pub splinter-stands : (b : Base) (path : Conj) (names : List ℕ) (rows : List Row) (places : List ℕ) (r : Row) (i : ℕ) → StandOn b names rows places path → StandsAt names path i r → StandOn b names (rows ++ r ∷ []) (places ++ i ∷ []) path
+splinter-stands b path names rows places r i h s = record { columns = h.columns; rows = h.rows; one = h.one; names = h.names; stand = stand-push names path rows places r i h.stand s }
