@@ -16,3 +16,4 @@ pub mod Moderate
 pub mod ModerateSplinters
 pub mod StandingLists
 pub mod FreeRows
+pub mod Names

@@ -19,6 +19,7 @@ mod kept;
 mod normal_form;
 mod path;
 mod refutation;
+mod renamed;
 mod residues;
 mod shown_bounds;
 mod shown_equal;
