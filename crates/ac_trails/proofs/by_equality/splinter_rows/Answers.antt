@@ -31,13 +31,12 @@ returns-in_ok-keep-in-Ge-clause-calm c =
     (splinter-calm c.args.rows.now c.args.z c.args.i c.args.k c.in-Ge.form c.requires.modest c.requires.moduli e c.requires.low l.0 l.1)
 
 pub returns-in_ok-keep-in-Ge-clause-stand : goal.returns-in_ok-keep-in-Ge-clause-stand
-returns-in_ok-keep-in-Ge-clause-stand c = λ b path names f e h s.
+returns-in_ok-keep-in-Ge-clause-stand c = λ b path names h s.
     let fk : FitsSigned w128 c.args.k = c.ranges.k in
     let x = simp read_back at c.in_ok-row-in-Ge.ensures in
-    let g : slice_get c.args.rows.now c.args.i ≡ Some (Ge c.in-Ge.form) = rw (← c.in-Ge.is) (slice_get_read c.args.rows.now (length c.args.rows.now) c.args.i c.index-rows-i.result refl c.requires.lower c.index-rows-i.is) in
-    let same : f ≡ c.in-Ge.form = cc in
-    rw (c.in_ok-keep-in-Ge.ensures.rows, c.in_ok-keep-in-Ge.ensures.places, c.in_ok-copied.ensures, c.in_ok-from_slice.ensures.items, x, ← same)
-    (splinter-stands b path names c.args.rows.now c.args.places.now (Eq (record { konst = f.konst -ℤ c.args.k; coefs = f.coefs })) c.args.place h s)
+    let e : slice_get c.args.rows.now c.args.i ≡ Some (Ge c.in-Ge.form) = rw (← c.in-Ge.is) (slice_get_read c.args.rows.now (length c.args.rows.now) c.args.i c.index-rows-i.result refl c.requires.lower c.index-rows-i.is) in
+    rw (c.in_ok-keep-in-Ge.ensures.rows, c.in_ok-keep-in-Ge.ensures.places, c.in_ok-copied.ensures, c.in_ok-from_slice.ensures.items, x)
+    (splinter-stands b path names c.args.rows.now c.args.places.now (Eq (record { konst = c.in-Ge.form.konst -ℤ c.args.k; coefs = c.in-Ge.form.coefs })) c.args.place h (s c.in-Ge.form e))
 
 pub returns-in-Eq-clause-rows : goal.returns-in-Eq-clause-rows
 returns-in-Eq-clause-rows c = no-splinter c.args.k c.args.rows.now c.args.i c.index-rows-i.result c.in_ok-copied.field-0.items c.requires.lower c.index-rows-i.is other c.in_ok-copied.ensures
