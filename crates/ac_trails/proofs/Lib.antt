@@ -16,3 +16,8 @@ pub mod SmallNumbers
 pub mod NormalEqualities
 pub mod Names
 pub mod NormalDivisibilities
+pub mod Moderate
+pub mod ModerateSplinters
+pub mod StandingLists
+pub mod FreeRows
+pub mod Names

@@ -18,6 +18,7 @@ mod descent;
 mod left;
 mod normal_divisibility;
 mod normal_equality;
+mod kept;
 mod normal_form;
 mod path;
 mod refutation;
