@@ -12,3 +12,7 @@ pub mod Contradictions
 pub mod Leaves
 pub mod Ranges
 pub mod Classes
+pub mod Enough
+pub mod ShadowNumbers
+pub mod Shadowed
+pub mod Bounding

@@ -15,6 +15,7 @@ mod by_residue;
 mod by_shadow;
 mod certificate;
 mod descent;
+mod margins;
 mod normal_form;
 mod path;
 mod refutation;
