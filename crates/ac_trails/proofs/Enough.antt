@@ -122,7 +122,7 @@ count_is (negsuc a) b la lb = absurd (omega (arith, ints))
 count_is (pos (suc a)) (pos zero) la lb = absurd (omega (arith, ints))
 count_is (pos (suc a)) (negsuc b) la lb = absurd (omega (arith, ints))
 
-smaller-fits : (x y : ℤ) → pos 0 ≤ℤ x → x ≤ℤ y → Fits y → Fits x
+pub smaller-fits : (x y : ℤ) → pos 0 ≤ℤ x → x ≤ℤ y → Fits y → Fits x
 smaller-fits (pos a) (pos b) h l f = let m = f.sfits in record { sfits = omega (arith, ints) }
 smaller-fits (pos a) (negsuc b) h l f = absurd (omega (arith, ints))
 smaller-fits (negsuc a) y h l f = absurd (omega (arith, ints))

@@ -16,3 +16,4 @@ pub mod Enough
 pub mod ShadowNumbers
 pub mod Shadowed
 pub mod Bounding
+pub mod Shadowings

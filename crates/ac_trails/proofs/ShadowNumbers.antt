@@ -8,6 +8,7 @@ use Rattle.ac_forms.specs.Affine.{Affine, coef, combined, shifted, MixFits}
 use Rattle.ac_forms.specs.Fits.{Fits}
 use Rattle.ac_trails.specs.Descents.{IsModerate}
 use Rattle.ac_trails.specs.Refutations.{IsFormWithin}
+use Rattle.ac_trails.specs.Shadowing.{loss}
 use Rattle.ac_trails.specs.Standing.{Blends, CanRaise, raised}
 
 pub times-size : (x y : ℤ) (p q n : ℕ) → unsigned_abs x ≤ p → unsigned_abs y ≤ q → p * q ≤ n → unsigned_abs (x *ℤ y) ≤ n
@@ -44,11 +45,11 @@ both-small x p q n h k l = by (unsigned_abs x) p q h k l
     by (suc x) p zero h k l = absurd (omega arith)
     by (suc x) p (suc q) h k l = let m = le-mul_of_pos_right {m = suc q} p (omega arith) in omega arith
 
-pub negative-fits : (f : Affine) (z p q : ℕ) → IsFormWithin p q f → p * q ≤ 2 ^ 120 → Fits (pos 0 -ℤ coef z f)
-negative-fits f z p q h l =
+pub opposite-fits : (f : Affine) (z p q : ℕ) → IsFormWithin p q f → p * q ≤ 2 ^ 120 → Fits (neg_ℤ (coef z f))
+opposite-fits f z p q h l =
     let s = both-small (coef z f) p q (2 ^ 120) (h.factors z) (h.coefs z) l in
-    let t = less-size (pos 0) (coef z f) in
-    small-fits (pos 0 -ℤ coef z f) (omega arith)
+    let t = opposite-size (coef z f) in
+    small-fits (neg_ℤ (coef z f)) (omega arith)
 
 mix-fits : (k x l y : ℤ) → unsigned_abs (k *ℤ x) ≤ 2 ^ 122 → unsigned_abs (l *ℤ y) ≤ 2 ^ 122 → MixFits k x l y
 mix-fits k x l y h g =
@@ -69,10 +70,6 @@ pub record IsPair (f g : Affine) (a b n : ℤ) : Type 0 where
   pub above : pos 1 ≤ℤ b
   pub some : pos 0 ≤ℤ n
   pub within : n ≤ℤ b
-  pub enough : ((a -ℤ pos 1) *ℤ (b -ℤ pos 1)) ≤ℤ (a *ℤ n)
-
-abbrev pub loss : ℤ → ℤ → ℤ
-loss a b = (a -ℤ pos 1) *ℤ (b -ℤ pos 1)
 
 low-konst : (f g : Affine) (a b n : ℤ) → IsPair f g a b n → unsigned_abs (a *ℤ f.konst) ≤ 2 ^ 120
 low-konst f g a b n p = times-size a f.konst p.factor p.number (2 ^ 120) p.size p.low.konst p.product
@@ -164,3 +161,15 @@ shadow-moderate f g a b n p =
     let t = sum-size (a *ℤ f.konst +ℤ b *ℤ g.konst) (neg_ℤ (loss a b)) in
     let o = opposite-size (loss a b) in
     record { konst = omega arith; coefs = λ j. omega (arith, sum-coef f g a b n j p) }
+
+pub loss-fits : (f g : Affine) (a b n : ℤ) → IsPair f g a b n → Fits (loss a b)
+loss-fits f g a b n p = small-fits (loss a b) (omega (arith, loss-size f g a b n p))
+
+pub times-fits : (f g : Affine) (a b n : ℤ) → IsPair f g a b n → Fits (a *ℤ n)
+times-fits f g a b n p = small-fits (a *ℤ n) (omega (arith, times-taken f g a b n p))
+
+pub rest-fits : (f g : Affine) (a b n : ℤ) → IsPair f g a b n → Fits (a *ℤ n -ℤ loss a b)
+rest-fits f g a b n p = small-fits (a *ℤ n -ℤ loss a b) (omega (arith, rest-size f g a b n p))
+
+pub shadow-fits : (f g : Affine) (a b n : ℤ) → IsPair f g a b n → Fits ((combined a f b g).konst +ℤ neg_ℤ (loss a b))
+shadow-fits f g a b n p = let m = shadow-moderate f g a b n p in let k = m.konst in small-fits _ (omega (arith, k))

@@ -1,14 +1,23 @@
 -- The dark shadow of a lower and an upper row of a column, from rows that stand.
-use Rattle.std.proofs.Common.{◌≡◌, ℕ, zero, suc, ◌<◌, ◌≤◌, ℤ, pos, negsuc, ◌+ℤ◌, ◌-ℤ◌, ◌*ℤ◌, neg_ℤ, ◌≤ℤ◌, List, [], ◌∷◌, length, set, get_or, arith, refl, sym, ap, ◌∙◌}
+use Rattle.std.proofs.Common.{◌≡◌, ℕ, zero, suc, ◌<◌, ◌≤◌, ℤ, pos, negsuc, ◌+ℤ◌, ◌-ℤ◌, ◌*ℤ◌, neg_ℤ, ◌≤ℤ◌, List, [], ◌∷◌, length, set, get_or, true, arith, refl, sym, ap, ◌∙◌, subst, to_z, of_z}
+use Rattle.std.specs.Int.{w128}
+use Rattle.std.specs.Int.Signed.{lt_z}
 use Rattle.std.proofs.lemmas.Int.{ints}
 use Rattle.ac_integers.specs.Dot.{mix}
-use Rattle.ac_integers.proofs.Products.{mul-add_ℤ, mul-neg_ℤ, neg-mul_ℤ, mul_comm_ℤ}
+use Rattle.ac_integers.proofs.Bits.{again_128}
+use Rattle.ac_integers.proofs.Products.{mul-add_ℤ, mul-neg_ℤ, neg-mul_ℤ}
 use Rattle.ac_forms.specs.Affine.{Affine, coef, combined, shifted}
-use Rattle.ac_cert.specs.Bounds.{low_bound, high_bound}
+use Rattle.ac_forms.specs.Fits.{Fits}
+use Rattle.ac_forms.specs.declared.conj.Conj.{Conj}
+use Rattle.ac_forms.specs.declared.row.Row.TheVariants.{Ge}
+use Rattle.ac_cert.specs.Bounds.{is_high, low_bound, high_bound, highs}
 use Rattle.ac_cert.specs.Choices.{shadow_form}
-use Rattle.ac_trails.specs.Standing.{raised}
-use Rattle.ac_trails.proofs.ShadowNumbers.{loss}
+use Rattle.ac_trails.specs.Refutations.{AreModest}
+use Rattle.ac_trails.specs.Shadowing.{loss, IsEnough}
+use Rattle.ac_trails.specs.Standing.{raised, Leads}
+use Rattle.ac_trails.specs.declared.path.Trail.{Trail}
 use Rattle.ac_trails.proofs.Renaming.{none_mixed}
+use Rattle.ac_trails.proofs.ShadowNumbers.{IsPair, opposite-size, opposite-fits}
 
 has-place : (cs : List ℤ) (z : ℕ) → (get_or cs z (pos 0) ≡ pos 0 → ⊥) → z < length cs
 has-place [] z h = absurd (h refl)
@@ -43,3 +52,60 @@ taken-konst a k n y l = rw (mul-add_ℤ a k (neg_ℤ n), mul-neg_ℤ a n) (omega
 -- what was taken comes back
 pub taken-is : (f g : Affine) (a b n : ℤ) → raised (combined a (shifted f (neg_ℤ n)) b g) (a *ℤ n -ℤ loss a b) ≡ shifted (combined a f b g) (neg_ℤ (loss a b))
 taken-is f g a b n = ap (λ (k : ℤ). record { konst = k; coefs = mix a f.coefs b g.coefs }) (taken-konst a f.konst n (b *ℤ g.konst) (loss a b))
+
+-- as the code forms it
+abbrev pub again : ℤ → ℤ
+again z = to_z w128 (of_z w128 z)
+
+pub again-is : (x y : ℤ) → x ≡ y → Fits x → again x ≡ y
+again-is x y e f = again_128 x f ∙ e
+
+pub high-size : (c : ℤ) → lt_z c (pos 0) ≡ true → pos 1 ≤ℤ neg_ℤ c
+high-size c e = grind (arith, ints, e)
+
+-- a lower row and an upper one, of modest rows
+pub pair-of : (z : ℕ) (f g : Affine) (n : ℤ) → AreModest (Ge f ∷ Ge g ∷ []) [] → pos 1 ≤ℤ coef z f → is_high z g ≡ true → pos 0 ≤ℤ n → n ≤ℤ coef z f → IsPair f g (neg_ℤ (coef z g)) (coef z f) n
+pair-of z f g n m l h s w =
+    let low = m.rows.0 in
+    let high = m.rows.1.0 in
+    let o = opposite-size (coef z g) in
+    let k = high.factors z in
+    record {
+      factor = m.factor;
+      number = m.number;
+      product = m.product;
+      low = low;
+      high = high;
+      size = omega arith;
+      positive = high-size (coef z g) h;
+      other = low.factors z;
+      less = low.coefs z;
+      above = l;
+      some = s;
+      within = w;
+    }
+
+-- nothing taken
+pub plain-pair : (z : ℕ) (f g : Affine) → AreModest (Ge f ∷ Ge g ∷ []) [] → pos 1 ≤ℤ coef z f → is_high z g ≡ true → IsPair f g (neg_ℤ (coef z g)) (coef z f) (pos 0)
+plain-pair z f g m l h = pair-of z f g (pos 0) m l h (omega (arith, ints)) (omega (arith, ints, l))
+
+pub size-fits : (z : ℕ) (f g : Affine) → AreModest (Ge f ∷ Ge g ∷ []) [] → Fits (neg_ℤ (coef z g))
+size-fits z f g m = opposite-fits g z m.factor m.number m.rows.1.0 m.product
+
+pub shadow-made : (z : ℕ) (f g s h : Affine) → AreModest (Ge f ∷ Ge g ∷ []) [] → pos 1 ≤ℤ coef z f → is_high z g ≡ true
+    → s ≡ combined (neg_ℤ (coef z g)) f (coef z f) g → h ≡ shifted s (neg_ℤ (loss (neg_ℤ (coef z g)) (coef z f))) → h ≡ shadow_form (low_bound z f) (high_bound z g)
+shadow-made z f g s h m l k e d =
+    d ∙ ap (λ (x : Affine). shifted x (neg_ℤ (loss (neg_ℤ (coef z g)) (coef z f)))) e ∙ shadow-is z f g l (high-size (coef z g) k)
+
+pub pair-leads : (z : ℕ) (f g : Affine) (n : ℤ) (u : Trail) (start path : Conj) (names : List ℕ) (i : ℕ) → pos 1 ≤ℤ coef z f → is_high z g ≡ true
+    → Leads u start path names i (Ge (raised (combined (neg_ℤ (coef z g)) (shifted f (neg_ℤ n)) (coef z f) g) ((neg_ℤ (coef z g)) *ℤ n -ℤ loss (neg_ℤ (coef z g)) (coef z f))))
+    → Leads u start path names i (Ge (shadow_form (low_bound z f) (high_bound z g)))
+pair-leads z f g n u start path names i l h s =
+    subst (λ (x : Affine). Leads u start path names i (Ge x)) (taken-is f g (neg_ℤ (coef z g)) (coef z f) n ∙ shadow-is z f g l (high-size (coef z g) h)) s
+
+pub at-least-one : (x : ℤ) → pos 1 ≤ℤ x → pos 0 ≤ℤ x
+at-least-one x h = omega (arith, ints, h)
+
+-- what is left of the multiple is not negative
+pub enough-one : (z : ℕ) (g : Affine) (n b : ℤ) → is_high z g ≡ true → IsEnough n b (highs z (Ge g ∷ [])) → pos 0 ≤ℤ ((neg_ℤ (coef z g)) *ℤ n -ℤ loss (neg_ℤ (coef z g)) b)
+enough-one z g n b h e = let l = (rw h at e).0 in omega (arith, ints, l)

@@ -11,10 +11,14 @@ use Rattle.ac_trails.specs.Standing.{IsOnto, Reaches, HasOne, Stand}
 use Rattle.ac_trails.specs.declared.descent.Standing.{Standing}
 use Rattle.ac_trails.specs.declared.path.Trail.{Trail}
 
--- n times the size a of each upper row is at least (a - 1) (b - 1)
+-- what the dark shadow of a lower row with coefficient b and an upper row of size a takes from their sum
+abbrev pub loss : ℤ → ℤ → ℤ
+loss a b = (a -ℤ pos 1) *ℤ (b -ℤ pos 1)
+
+-- n times the size of each upper row is at least what is lost
 abbrev pub IsEnough : ℤ → ℤ → List Bound → Type 0
 IsEnough n b [] = Unit {0}
-IsEnough n b (high ∷ hs) = (((high.size -ℤ pos 1) *ℤ (b -ℤ pos 1)) ≤ℤ (high.size *ℤ n)) × IsEnough n b hs
+IsEnough n b (high ∷ hs) = (loss high.size b ≤ℤ (high.size *ℤ n)) × IsEnough n b hs
 
 -- a lower row of the column less n goes on to its dark shadow with each upper one of the rows
 pub record IsMargin (z : ℕ) (n : ℤ) (form : Affine) (rows : List Row) : Type 0 where
@@ -31,3 +35,8 @@ pub record ShowsAll (t : Trail) (start path : Conj) (names : List ℕ) (s : Stan
   pub onto : IsOnto path further
   pub one : HasOne t further
   pub stand : Stand names further s.rows.items s.places.items
+
+-- the second trail goes on from each path of the first one on which the fact holds and the rows that were made stand: to one on which those of the second stand
+abbrev pub Continues : Trail → Trail → Standing → Standing → (List ℕ → Conj → Type 0) → Type 0
+Continues t u made more holds =
+    (start path : Conj) (names : List ℕ) → Reaches t start path → HasOne t path → holds names path → Stand names path made.rows.items made.places.items → ShowsAll u start path names more
