@@ -1,14 +1,16 @@
 -- The bounds of a column, row by row.
-use Rattle.std.proofs.Common.{◌≡◌, ℕ, zero, suc, ◌+◌, ◌<◌, ◌≤◌, ℤ, pos, neg_ℤ, ◌≤ℤ◌, Bool, true, false, cond, List, [], ◌∷◌, ◌++◌, length, get_or, drop, refl, sym, ap, ◌∙◌, arith}
+use Rattle.std.proofs.Common.{◌≡◌, ℕ, zero, suc, ◌+◌, ◌<◌, ◌≤◌, ℤ, pos, neg_ℤ, ◌≤ℤ◌, Bool, true, false, cond, List, [], ◌∷◌, ◌++◌, length, get_or, drop, append_assoc, refl, sym, ap, ◌∙◌, arith}
 use Rattle.std.specs.Int.{int_max}
 use Rattle.std.proofs.lemmas.Int.{ints, clamps}
 use Rattle.std.proofs.lemmas.List.{at_drop_all}
-use Rattle.ac_forms.specs.Affine.{coef}
+use Rattle.ac_forms.specs.Affine.{Affine, coef}
 use Rattle.ac_forms.specs.declared.row.Row.{Row}
 use Rattle.ac_forms.specs.declared.row.Row.TheVariants.{Eq, Div, Ge}
 use Rattle.ac_cert.specs.declared.column.Bound.{Bound}
 use Rattle.ac_cert.specs.Bounds.{is_high, high_bound, highs, greatest_size}
 use Rattle.ac_cert.proofs.Parts.{drop-at}
+use Rattle.ac_cert.specs.Choices.{shadow_form, shadows_with}
+use Rattle.ac_trails.specs.Shadowing.{IsEnough, IsMargin}
 use Rattle.ac_trails.specs.Refutations.{AreModest, AreRowsWithin, IsRowWithin}
 
 -- one row of them
@@ -68,3 +70,42 @@ greatest-more z i rows r m size next held h e is n =
 
 pub greatest-end : (z i : ℕ) (rows : List Row) (m : ℤ) → GreatestSoFar z m rows (drop i rows) → length rows ≤ i → m ≡ greatest_size (highs z rows)
 greatest-end z i rows m held h = sym (held.value ∙ at_drop_all (λ x. int_max m (greatest_size (highs z x))) rows i h ∙ max-last m held.positive)
+
+highs-cons : (z : ℕ) (r : Row) (rs : List Row) → highs z (r ∷ rs) ≡ highs z (r ∷ []) ++ highs z rs
+highs-cons z (Eq f) rs = refl
+highs-cons z (Div m f) rs = refl
+highs-cons z (Ge f) rs = elim (is_high z f) as (λ t. cond t (high_bound z f ∷ highs z rs) (highs z rs) ≡ cond t (high_bound z f ∷ []) [] ++ highs z rs) [ true ↦ refl | false ↦ refl ]
+
+shadows-both : (low : Bound) (hs gs : List Bound) → shadows_with low (hs ++ gs) ≡ shadows_with low hs ++ shadows_with low gs
+shadows-both low [] gs = refl
+shadows-both low (high ∷ hs) gs = ap (λ (rs : List Row). Ge (shadow_form low high) ∷ rs) (shadows-both low hs gs)
+
+-- the shadows beside the first row, then beside the others
+pub shadows-cons : (z : ℕ) (low : Bound) (r : Row) (rs : List Row) → shadows_with low (highs z (r ∷ rs)) ≡ shadows_with low (highs z (r ∷ [])) ++ shadows_with low (highs z rs)
+shadows-cons z low r rs = ap (shadows_with low) (highs-cons z r rs) ∙ shadows-both low (highs z (r ∷ [])) (highs z rs)
+
+-- what the rows that are left add
+pub rows-more : (done next : List Row) (part left : List Row) (all whole : List Row) → all ≡ part ++ left → whole ≡ done ++ all → next ≡ done ++ part → whole ≡ next ++ left
+rows-more done next part left all whole e w n = rw (w, e, n) (sym (append_assoc done part left))
+
+enough-front : (n b : ℤ) (hs gs : List Bound) → IsEnough n b (hs ++ gs) → IsEnough n b hs
+enough-front n b [] gs h = tt
+enough-front n b (x ∷ hs) gs h = (h.0, enough-front n b hs gs h.1)
+
+enough-back : (n b : ℤ) (hs gs : List Bound) → IsEnough n b (hs ++ gs) → IsEnough n b gs
+enough-back n b [] gs h = h
+enough-back n b (x ∷ hs) gs h = enough-back n b hs gs h.1
+
+enough-at : (z : ℕ) (n b : ℤ) (rows : List Row) (i : ℕ) (r : Row) → IsEnough n b (highs z rows) → i < length rows → r ≡ get_or rows i r → IsEnough n b (highs z (r ∷ []))
+enough-at z n b [] i r h l e = absurd (omega arith)
+enough-at z n b (x ∷ rows) zero r h l e = rw e (enough-front n b (highs z (x ∷ [])) (highs z rows) (rw (highs-cons z x rows) at h))
+enough-at z n b (x ∷ rows) (suc i) r h l e = enough-at z n b rows i r (enough-back n b (highs z (x ∷ [])) (highs z rows) (rw (highs-cons z x rows) at h)) (omega arith) e
+
+pub margin-at : (z : ℕ) (n : ℤ) (f : Affine) (rows : List Row) (i : ℕ) (r : Row) → IsMargin z n f rows → i < length rows → r ≡ get_or rows i r → IsMargin z n f (r ∷ [])
+margin-at z n f rows i r m l e = record {
+  modest = record { factor = m.modest.factor; number = m.modest.number; product = m.modest.product; rows = (m.modest.rows.0, (row-within m.modest.factor m.modest.number rows i r m.modest.rows.1 l e, tt)); moduli = tt };
+  low = m.low;
+  some = m.some;
+  within = m.within;
+  enough = enough-at z n (coef z f) rows i r m.enough l e;
+}

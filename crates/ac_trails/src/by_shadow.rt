@@ -13,7 +13,7 @@ ghost use Rattle.ac_cert.specs.declared.choose.Choice.TheVariants.{Shadow};
 ghost use Rattle.ac_trails.specs.Descents.{AreCalm, Carries, raised_rows};
 ghost use Rattle.ac_trails.specs.Refutations.{AreModest};
 ghost use Rattle.ac_trails.specs.Shadowing.{IsMargin, Continues};
-ghost use Rattle.ac_trails.specs.Standing.{StandsAt, Reaches, HasOne, Leads, IsSameBase};
+ghost use Rattle.ac_trails.specs.Standing.{StandsAt, Stand, Reaches, HasOne, Leads, IsSameBase};
 
 use crate::by_equality::free_rows;
 use crate::descent::Standing;
@@ -125,6 +125,27 @@ impl Trail {
         let sum = self.show_pair(alloc, z, low, high, place)?;
         made.rows.push(Row::Ge(form))?;
         made.places.push(sum)?;
+        Ok(())
+    }
+
+    /// The dark shadows of a lower row and each upper row, in order.
+    fn show_uppers(
+        &mut self,
+        alloc: Global,
+        bounded: &Bounded,
+        low: &Lower,
+        made: &mut Standing,
+    ) -> Result<(), AllocError>
+        requires long { length bounded.now.places.now ≡ length bounded.now.rows.now }
+        requires margin { IsMargin bounded.now.column low.now.margin low.now.form.now bounded.now.rows.now }
+        ensures rows { IfOk result (λ _. made.new.rows.items ≡ made.old.rows.items ++ shadows_with (low_bound bounded.now.column low.now.form.now) (highs bounded.now.column bounded.now.rows.now)) }
+        ensures long { IfOk result (λ _. length made.old.places.items ≡ length made.old.rows.items → length made.new.places.items ≡ length made.new.rows.items) }
+        ensures shows { IfOk result (λ _. Continues self.old self.new made.old made.new (λ names path. StandsAt names path low.now.place (Ge (shifted low.now.form.now (neg_ℤ low.now.margin))) × Stand names path bounded.now.rows.now bounded.now.places.now)) }
+    {
+        let z = bounded.column;
+        for i in 0..bounded.rows.len() {
+            self.show_beside(alloc, z, low, &bounded.rows[i], bounded.places[i], made)?;
+        }
         Ok(())
     }
 
