@@ -21,3 +21,8 @@ pub mod ModerateSplinters
 pub mod StandingLists
 pub mod FreeRows
 pub mod Names
+pub mod Enough
+pub mod ShadowNumbers
+pub mod Shadowed
+pub mod Bounding
+pub mod Shadowings

@@ -5,3 +5,4 @@ pub mod Refutations
 pub mod Descents
 pub mod Lefts
 pub mod Replacements
+pub mod Shadowing

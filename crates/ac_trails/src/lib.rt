@@ -19,6 +19,7 @@ mod left;
 mod normal_divisibility;
 mod normal_equality;
 mod kept;
+mod margins;
 mod normal_form;
 mod path;
 mod refutation;
