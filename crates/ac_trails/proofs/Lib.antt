@@ -20,7 +20,6 @@ pub mod Moderate
 pub mod ModerateSplinters
 pub mod StandingLists
 pub mod FreeRows
-pub mod Names
 pub mod Enough
 pub mod ShadowNumbers
 pub mod Shadowed
