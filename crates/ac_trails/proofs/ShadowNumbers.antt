@@ -1,5 +1,5 @@
 -- The numbers of a dark shadow stay in `i128`.
-use Rattle.std.proofs.Common.{lit<, ◌≡◌, ℕ, zero, suc, ◌+◌, ◌*◌, ◌<◌, ◌≤◌, ◌^◌, ℤ, pos, negsuc, ◌+ℤ◌, ◌-ℤ◌, ◌*ℤ◌, neg_ℤ, ◌≤ℤ◌, List, [], ◌∷◌, unsigned_abs, arith, refl, mul-le-mul}
+use Rattle.std.proofs.Common.{◌≡◌, ℕ, zero, suc, ◌+◌, ◌*◌, ◌≤◌, ◌^◌, ℤ, pos, negsuc, ◌+ℤ◌, ◌-ℤ◌, ◌*ℤ◌, neg_ℤ, ◌≤ℤ◌, unsigned_abs, arith, refl, mul-le-mul}
 use Rattle.std.proofs.Math.Nat.{le-mul_of_pos_right}
 use Rattle.std.specs.Int.{w128}
 use Rattle.std.proofs.lemmas.Int.{ints, unsigned_abs-mul, fits_signed_from_abs}
@@ -9,7 +9,7 @@ use Rattle.ac_forms.specs.Fits.{Fits}
 use Rattle.ac_trails.specs.Descents.{IsModerate}
 use Rattle.ac_trails.specs.Refutations.{IsFormWithin}
 use Rattle.ac_trails.specs.Shadowing.{loss}
-use Rattle.ac_trails.specs.Standing.{Blends, CanRaise, raised}
+use Rattle.ac_trails.specs.Standing.{Blends, CanRaise}
 
 pub times-size : (x y : ℤ) (p q n : ℕ) → unsigned_abs x ≤ p → unsigned_abs y ≤ q → p * q ≤ n → unsigned_abs (x *ℤ y) ≤ n
 times-size x y p q n h k l = let m = mul-le-mul h k in rw unsigned_abs-mul (omega arith)

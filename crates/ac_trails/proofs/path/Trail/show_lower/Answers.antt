@@ -1,9 +1,8 @@
-use Rattle.std.proofs.Common.{◌≡◌, ◌+◌, ◌<◌, [], ◌∷◌, pos, true, length, rules, refl, sym, ◌∙◌, arith, FitsSigned}
+use Rattle.std.proofs.Common.{◌≡◌, ◌<◌, pos, true, length, rules, refl, sym, ◌∙◌, FitsSigned}
 use Rattle.std.specs.Int.{w128}
 use Rattle.ac_integers.proofs.Bits.{again_128}
 use Rattle.ac_forms.specs.Affine.{coef}
-use Rattle.ac_forms.specs.declared.row.Row.TheVariants.{Ge}
-use Rattle.ac_cert.specs.Bounds.{is_low, lows, last_splinter}
+use Rattle.ac_cert.specs.Bounds.{is_low, last_splinter}
 use Rattle.ac_trails.specs.Tries.{count_to}
 use Rattle.ac_trails.proofs.Enough.{splinters-margin}
 use Rattle.ac_trails.proofs.Shadowed.{again-is}
