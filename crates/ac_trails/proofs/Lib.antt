@@ -12,6 +12,11 @@ pub mod Contradictions
 pub mod Leaves
 pub mod Ranges
 pub mod Classes
+pub mod Moderate
+pub mod ModerateSplinters
+pub mod StandingLists
+pub mod FreeRows
+pub mod Names
 pub mod Enough
 pub mod ShadowNumbers
 pub mod Shadowed

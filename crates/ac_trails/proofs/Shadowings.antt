@@ -1,6 +1,7 @@
 -- Shadows that are shown one after the other.
 use Rattle.std.proofs.Common.{◌≡◌, ℕ, zero, suc, ◌+◌, ◌<◌, ◌≤◌, ℤ, pos, neg_ℤ, Bool, true, false, cond, List, [], ◌∷◌, ◌++◌, length, get_or, drop, arith, refl, sym, ap, ◌∙◌}
 use Rattle.std.proofs.lemmas.List.{append-nil, at_drop_all, drop_more}
+use Rattle.std.proofs.lemmas.Option.{slice_get_read}
 use Rattle.std.proofs.Math.Seq.{drop-nil}
 use Rattle.ac_forms.specs.Affine.{Affine, coef, shifted}
 use Rattle.ac_forms.specs.declared.conj.Conj.{Conj}
@@ -18,13 +19,8 @@ use Rattle.ac_trails.specs.Standing.{StandsAt, Stand, Reaches, Leads, HasOne, Is
 use Rattle.ac_trails.specs.declared.descent.Standing.{Standing}
 use Rattle.ac_trails.specs.declared.path.Trail.{Trail}
 use Rattle.ac_trails.proofs.Bounding.{rows-more, shadows-cons, lower-shadows, lows-length}
+use Rattle.ac_trails.proofs.StandingLists.{stand-push, stand-at}
 use Rattle.ac_trails.proofs.Paths.{stands-on, stand-on, onto-self, onto-again}
-
-pub stand-both : (names : List ℕ) (c : Conj) (rs ss : List Row) (is js : List ℕ) → Stand names c rs is → Stand names c ss js → Stand names c (rs ++ ss) (is ++ js)
-stand-both names c [] ss [] js h k = k
-stand-both names c [] ss (i ∷ is) js h k = absurd h
-stand-both names c (r ∷ rs) ss [] js h k = absurd h
-stand-both names c (r ∷ rs) ss (i ∷ is) js h k = (h.0, stand-both names c rs ss is js h.1 k)
 
 -- one row more
 pub shows-one : (t u : Trail) (start path : Conj) (names : List ℕ) (i : ℕ) (r : Row) (made more : Standing) → IsSameBase t u → HasOne t path → Stand names path made.rows.items made.places.items → Leads u start path names i r
@@ -34,7 +30,7 @@ shows-one t u start path names i r made more b o s l er ep = record {
   reaches = l.reaches;
   onto = l.onto;
   one = rw b.one (stands-on [] path l.further t.one (Ge one_form) l.onto o);
-  stand = rw (er, ep) (stand-both names l.further made.rows.items (r ∷ []) made.places.items (i ∷ []) (stand-on names path l.further made.rows.items made.places.items l.onto s) (l.stands, tt));
+  stand = rw (er, ep) (stand-push names l.further made.rows.items made.places.items r i (stand-on names path l.further made.rows.items made.places.items l.onto s) l.stands);
 }
 
 -- nothing more
@@ -49,11 +45,8 @@ shows-again t u v made more most holds on first then = λ start path names h o k
     let b = then start a.further names a.reaches a.one (on names path a.further a.onto k) a.stand in
     record { further = b.further; reaches = b.reaches; onto = onto-again path a.further b.further a.onto b.onto; one = b.one; stand = b.stand }
 
-pub stand-at : (names : List ℕ) (c : Conj) (rs : List Row) (is : List ℕ) (k : ℕ) (r : Row) (i : ℕ) → Stand names c rs is → k < length rs → r ≡ get_or rs k r → i ≡ get_or is k 0 → StandsAt names c i r
-stand-at names c [] is k r i s l e f = absurd (omega arith)
-stand-at names c (x ∷ rs) [] k r i s l e f = absurd s
-stand-at names c (x ∷ rs) (j ∷ is) zero r i s l e f = rw (e, f) s.0
-stand-at names c (x ∷ rs) (j ∷ is) (suc k) r i s l e f = stand-at names c rs is k r i s.1 (omega arith) e f
+row-at : (names : List ℕ) (c : Conj) (rs : List Row) (is : List ℕ) (k : ℕ) (r : Row) (i : ℕ) → Stand names c rs is → k < length rs → r ≡ get_or rs k r → i ≡ get_or is k 0 → StandsAt names c i r
+row-at names c rs is k r i s l e f = rw f (stand-at names c rs is k r s (slice_get_read rs (length rs) k r refl l e))
 
 -- a lower row that stands less a number, beside rows that stand
 abbrev pub Beside : Affine → ℤ → ℕ → List Row → List ℕ → List ℕ → Conj → Type 0
@@ -80,7 +73,7 @@ uppers-more z f n x rs is t u v made more most i r p s l e d rows long shows = r
   rows = rows-more more.rows.items most.rows.items (shadows_with (low_bound z f) (highs z (r ∷ []))) (shadows_with (low_bound z f) (highs z (drop (i + 1) rs))) (shadows_with (low_bound z f) (highs z (drop i rs))) _
       (ap (λ (ls : List Row). shadows_with (low_bound z f) (highs z ls)) (drop-at rs i r l e) ∙ shadows-cons z (low_bound z f) r (drop (i + 1) rs)) s.rows rows;
   long = λ h. long (s.long h);
-  shows = shows-again t u v made more most (Beside f n x rs is) (beside-on f n x rs is) s.shows (λ start path names h o k w. shows start path names h o (k.0, stand-at names path rs is i r p k.1 l e d) w);
+  shows = shows-again t u v made more most (Beside f n x rs is) (beside-on f n x rs is) s.shows (λ start path names h o k w. shows start path names h o (k.0, row-at names path rs is i r p k.1 l e d) w);
 }
 
 nothing-left : (z : ℕ) (low : Bound) (rs : List Row) (i : ℕ) (done : List Row) → length rs ≤ i → done ++ shadows_with low (highs z (drop i rs)) ≡ done

@@ -1,6 +1,7 @@
 -- What the shadow of a column leaves: calm rows, and where they stand.
 use Rattle.std.proofs.Common.{◌≡◌, ℕ, ◌*◌, ◌≤◌, ◌^◌, pos, neg_ℤ, Bool, true, false, cond, inr, List, [], ◌∷◌, ◌++◌, length, refl, subst, arith}
 use Rattle.ac_forms.specs.Affine.{Affine, coef}
+use Rattle.ac_forms.specs.Rows.{AreRowsOver, HaveModuli}
 use Rattle.ac_forms.specs.declared.conj.Conj.{Conj}
 use Rattle.ac_forms.specs.declared.row.Row.{Row}
 use Rattle.ac_forms.specs.declared.row.Row.TheVariants.{Eq, Div, Ge}
@@ -14,12 +15,9 @@ use Rattle.ac_trails.specs.declared.descent.Base.{Base}
 use Rattle.ac_trails.specs.declared.descent.Standing.{Standing}
 use Rattle.ac_trails.specs.declared.path.Trail.{Trail}
 use Rattle.ac_trails.proofs.Enough.{low-size}
+use Rattle.ac_trails.proofs.Moderate.{calm-append}
 use Rattle.ac_trails.proofs.ShadowNumbers.{shadow-moderate}
 use Rattle.ac_trails.proofs.Shadowed.{shadow-is, high-size, plain-pair}
-
-pub calm-both : (rs ss : List Row) → AreCalm rs → AreCalm ss → AreCalm (rs ++ ss)
-calm-both [] ss h k = k
-calm-both (r ∷ rs) ss h k = (h.0, calm-both rs ss h.1 k)
 
 one-shadow : (z : ℕ) (f g : Affine) → AreModest (Ge f ∷ Ge g ∷ []) [] → is_low z f ≡ true → is_high z g ≡ true → IsModerate (shadow_form (low_bound z f) (high_bound z g))
 one-shadow z f g m h k =
@@ -43,11 +41,11 @@ calm-lowers z p q (Div m f ∷ left) rows l w k = calm-lowers z p q left rows l 
 calm-lowers z p q (Ge f ∷ left) rows l w k = by (is_low z f) refl (calm-lowers z p q left rows l w.1 k)
   where
     by : (t : Bool) → is_low z f ≡ t → AreCalm (shadows (lows z left) (highs z rows)) → AreCalm (shadows (cond t (low_bound z f ∷ lows z left) (lows z left)) (highs z rows))
-    by true e rest = calm-both (shadows_with (low_bound z f) (highs z rows)) (shadows (lows z left) (highs z rows)) (calm-beside z p q f rows l w.0 e k) rest
+    by true e rest = calm-append (shadows_with (low_bound z f) (highs z rows)) (shadows (lows z left) (highs z rows)) (calm-beside z p q f rows l w.0 e k) rest
     by false e rest = rest
 
 pub shadows-calm : (z : ℕ) (rows made more : List Row) → AreModest rows [] → AreCalm made → more ≡ made ++ shadows (lows z rows) (highs z rows) → AreCalm more
-shadows-calm z rows made more m h e = rw e (calm-both made (shadows (lows z rows) (highs z rows)) h (calm-lowers z m.factor m.number rows rows m.product m.rows m.rows))
+shadows-calm z rows made more m h e = rw e (calm-append made (shadows (lows z rows) (highs z rows)) h (calm-lowers z m.factor m.number rows rows m.product m.rows m.rows))
 
 stand-front : (names : List ℕ) (c : Conj) (rs ss : List Row) (is js : List ℕ) → length is ≡ length rs → Stand names c (rs ++ ss) (is ++ js) → Stand names c rs is
 stand-front names c [] ss [] js l h = tt
@@ -87,3 +85,8 @@ carries-shadows t u names rs ss is js made more l stand shows start c =
       steps = s.reaches.steps;
       stand = record { columns = s.reaches.columns; rows = s.reaches.rows; one = s.one; names = more-names t.columns u.columns names wide c.stand.names; stand = s.stand };
     }
+
+-- rows over columns have their moduli
+pub over-moduli : (columns : ℕ) (rows : List Row) → AreRowsOver columns rows → HaveModuli rows
+over-moduli columns [] h = tt
+over-moduli columns (r ∷ rs) h = (h.0.1, over-moduli columns rs h.1)

@@ -3,4 +3,5 @@ pub mod Leaves
 pub mod Tries
 pub mod Refutations
 pub mod Descents
+pub mod Replacements
 pub mod Shadowing

@@ -1,22 +1,45 @@
 //! The rows that choices of one outcome leave, on the path: by an equality, and without a column; and those of a splinter
 //! (W. Pugh, The Omega test, 1991).
-ghost use Rattle.std.specs.Prelude.{◌≡◌, ◌≤◌, ◌<◌, ℕ, List, [], ◌∷◌, ◌++◌, pos, ◌≤ℤ◌, length, true, slice_get, Some, IfOk, OnOk};
-ghost use Rattle.ac_forms.specs.Affine.{coef};
-ghost use Rattle.ac_forms.specs.Rows.{AreRowsOver};
+ghost use Rattle.std.specs.Prelude.{◌≡◌, ◌≤◌, ◌<◌, ℕ, List, [], ◌∷◌, ◌++◌, pos, ◌≤ℤ◌, ◌-ℤ◌, length, true, slice_get, Some, IfOk, OnOk};
+ghost use Rattle.ac_forms.specs.Affine.{Affine, coef};
+ghost use Rattle.ac_forms.specs.Fits.{Fits};
+ghost use Rattle.ac_forms.specs.Rows.{AreRowsOver, HaveModuli};
 ghost use Rattle.ac_forms.specs.declared.conj.Conj.{Conj};
 ghost use Rattle.ac_forms.specs.declared.row.Row.TheVariants.{Eq, Ge};
-ghost use Rattle.ac_cert.specs.Bounds.{is_low, highs, greatest_size, last_splinter};
+ghost use Rattle.ac_cert.specs.Bounds.{frees, is_low, highs, greatest_size, last_splinter};
 ghost use Rattle.ac_cert.specs.ChoiceFits.{equality_fits};
 ghost use Rattle.ac_cert.specs.Choices.{is_equality_of, left_by};
 ghost use Rattle.ac_cert.specs.declared.choose.Choice.TheVariants.{Drop, Equal, Splinter};
 ghost use Rattle.ac_trails.specs.Descents.{AreCalm, Carries, StandOn};
 ghost use Rattle.ac_trails.specs.Leaves.{less};
 ghost use Rattle.ac_trails.specs.Refutations.{AreModest};
+ghost use Rattle.ac_trails.specs.Standing.{StandsAt, Stand};
 
 use crate::descent::{Base, Standing};
+use crate::kept::{keep, no_rows};
 use crate::path::Trail;
 use ac_forms::{Form, Row};
 use std::alloc::{AllocError, Global};
+
+/// Adds a copy of a row without the column, and its place.
+#[tactic(auto, using(ac_integers::proofs::Bits::again_128))]
+fn keep_free(
+    alloc: Global,
+    z: usize,
+    row: &Row,
+    place: usize,
+    kept: &mut Standing,
+) -> Result<(), AllocError>
+    ensures rows { OnOk result (kept.new.rows.items ≡ kept.old.rows.items ++ frees z (row.now ∷ [])) }
+    ensures long { OnOk result (length kept.old.places.items ≡ length kept.old.rows.items → length kept.new.places.items ≡ length kept.new.rows.items) }
+    ensures stand { OnOk result ((path : Conj) (names : List ℕ) → StandsAt names path place row.now → Stand names path kept.old.rows.items kept.old.places.items → Stand names path kept.new.rows.items kept.new.places.items) }
+{
+    if row.form().coef(z) != 0 {
+        return Ok(());
+    }
+    keep(kept, row.copy(alloc)?, place)?;
+    Ok(())
+}
 
 /// The rows without a column, at their places.
 pub(crate) fn free_rows(
@@ -27,12 +50,38 @@ pub(crate) fn free_rows(
 ) -> Result<Standing, AllocError>
     requires long { length places.now ≡ length rows.now }
     requires modest { AreModest rows.now [] }
+    requires moduli { HaveModuli rows.now }
     ensures long { IfOk result (λ s. length s.places.items ≡ length s.rows.items) }
     ensures rows { IfOk result (λ s. s.rows.items ≡ left_by (Drop z) rows.now) }
     ensures calm { IfOk result (λ s. AreCalm s.rows.items) }
     ensures stand { IfOk result (λ s. (b : Base) (path : Conj) (names : List ℕ) → StandOn b names rows.now places.now path → StandOn b names s.rows.items s.places.items path) }
 {
-    Err(AllocError)
+    let mut kept = no_rows(alloc);
+    for (i, row) in rows.iter().enumerate() {
+        keep_free(alloc, z, row, places[i], &mut kept)?;
+    }
+    Ok(kept)
+}
+
+/// The same rows again.
+fn copied(alloc: Global, rows: &[Row]) -> Result<Vec<Row>, AllocError>
+    ensures { IfOk result (λ copies. copies.items ≡ rows.now) }
+{
+    let mut copies = Vec::new(alloc);
+    for row in rows {
+        copies.push(row.copy(alloc)?)?;
+    }
+    Ok(copies)
+}
+
+/// The form is worth k.
+#[tactic(auto, using(ac_integers::proofs::Bits::again_128))]
+fn worth(alloc: Global, form: &Form, k: i128) -> Result<Row, AllocError>
+    requires { Fits (form.now.konst -ℤ k) }
+    ensures { IfOk result (λ row. row ≡ Eq (record { konst = form.now.konst -ℤ k; coefs = form.now.coefs })) }
+{
+    let konst = form.konst() - k;
+    Ok(Row::Eq(Form::from_parts(alloc, konst, form.coefs())?))
 }
 
 /// The rows and that one of them, a lower one of the column, is worth k, which stands at a place.
@@ -47,14 +96,27 @@ pub(crate) fn splinter_rows(
 ) -> Result<Standing, AllocError>
     requires long { length places.now ≡ length rows.now }
     requires modest { AreModest rows.now [] }
+    requires moduli { HaveModuli rows.now }
     requires lower { i < length rows.now }
     requires low { pos 0 ≤ℤ k }
     requires last { (f : _) → slice_get rows.now i ≡ Some (Ge f) → (is_low z f ≡ true) × (k ≤ℤ last_splinter (greatest_size (highs z rows.now)) (coef z f)) }
     ensures long { IfOk result (λ s. length s.places.items ≡ length s.rows.items) }
     ensures rows { IfOk result (λ s. s.rows.items ≡ left_by (Splinter z i k) rows.now) }
     ensures calm { IfOk result (λ s. AreCalm s.rows.items) }
+    ensures stand { IfOk result (λ s. (b : Base) (path : Conj) (names : List ℕ) → StandOn b names rows.now places.now path → ((f : Affine) → slice_get rows.now i ≡ Some (Ge f) → StandsAt names path place (Eq (record { konst = f.konst -ℤ k; coefs = f.coefs }))) → StandOn b names s.rows.items s.places.items path) }
 {
-    Err(AllocError)
+    let mut kept = Standing {
+        rows: copied(alloc, rows)?,
+        places: Vec::from_slice(alloc, places)?,
+    };
+    match &rows[i] {
+        Row::Ge(form) => {
+            let row = worth(alloc, form, k)?;
+            keep(&mut kept, row, place)?;
+            Ok(kept)
+        }
+        Row::Eq(_) | Row::Div(_, _) => Ok(kept),
+    }
 }
 
 impl Trail {

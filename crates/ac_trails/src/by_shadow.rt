@@ -17,6 +17,7 @@ ghost use Rattle.ac_trails.specs.Standing.{StandsAt, Stand, Reaches, HasOne, Lea
 
 use crate::by_equality::free_rows;
 use crate::descent::Standing;
+use crate::kept::keep;
 use crate::margins::{
     greatest_size, is_high, is_low, loss, opposite_coef, splinter_count, surplus,
 };
@@ -123,8 +124,7 @@ impl Trail {
         }
         let form = shadow_of(alloc, z, low.form, high)?;
         let sum = self.show_pair(alloc, z, low, high, place)?;
-        made.rows.push(Row::Ge(form))?;
-        made.places.push(sum)?;
+        keep(made, Row::Ge(form), sum)?;
         Ok(())
     }
 

@@ -1,12 +1,15 @@
-use Rattle.std.proofs.Common.{◌≡◌, pos, of_z, ap}
+use Rattle.std.proofs.Common.{◌≡◌, pos, of_z, length, ap}
 use Rattle.std.specs.Int.{w128}
 use Rattle.std.proofs.lemmas.List.{append-nil}
 use Rattle.ac_cert.specs.Bounds.{highs, greatest_size}
 use Rattle.ac_trails.specs.Descents.{raised_rows}
 use Rattle.ac_trails.proofs.Bounding.{shadows-none, some-size, zero-size}
 use Rattle.ac_trails.proofs.Shadowed.{again-is}
-use Rattle.ac_trails.proofs.ShadowsLeft.{shadows-calm, carries-front, carries-shadows}
+use Rattle.ac_trails.proofs.ShadowsLeft.{over-moduli, shadows-calm, carries-front, carries-shadows}
 use Rattle.ac_trails.proofs.path.Trail.show_shadow.Goals as goal
+
+pub free_rows-requires-clause-moduli : goal.free_rows-requires-clause-moduli
+free_rows-requires-clause-moduli c = over-moduli (length c.args.names.now) c.args.rows.now c.requires.made
 
 pub returns-then-greatest-eq0-clause-rows : goal.returns-then-greatest-eq0-clause-rows
 returns-then-greatest-eq0-clause-rows c =
