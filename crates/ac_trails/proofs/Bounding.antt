@@ -1,15 +1,16 @@
 -- The bounds of a column, row by row.
-use Rattle.std.proofs.Common.{◌≡◌, ℕ, zero, suc, ◌+◌, ◌<◌, ◌≤◌, ℤ, pos, neg_ℤ, ◌≤ℤ◌, Bool, true, false, cond, List, [], ◌∷◌, ◌++◌, length, get_or, drop, append_assoc, refl, sym, ap, ◌∙◌, arith}
-use Rattle.std.specs.Int.{int_max}
+use Rattle.std.proofs.Common.{◌≡◌, ℕ, zero, suc, ◌+◌, ◌<◌, ◌≤◌, ℤ, pos, negsuc, neg_ℤ, ◌≤ℤ◌, true, false, cond, List, [], ◌∷◌, ◌++◌, length, get_or, drop, of_z, append_assoc, length-append, refl, sym, ap, ◌∙◌, arith}
+use Rattle.std.specs.Int.{int_max, w128}
 use Rattle.std.proofs.lemmas.Int.{ints, clamps}
 use Rattle.std.proofs.lemmas.List.{at_drop_all}
 use Rattle.ac_forms.specs.Affine.{Affine, coef}
 use Rattle.ac_forms.specs.declared.row.Row.{Row}
 use Rattle.ac_forms.specs.declared.row.Row.TheVariants.{Eq, Div, Ge}
 use Rattle.ac_cert.specs.declared.column.Bound.{Bound}
-use Rattle.ac_cert.specs.Bounds.{is_high, high_bound, highs, greatest_size}
-use Rattle.ac_cert.proofs.Parts.{drop-at}
-use Rattle.ac_cert.specs.Choices.{shadow_form, shadows_with}
+use Rattle.ac_cert.specs.Bounds.{is_low, low_bound, lows, is_high, high_bound, highs, greatest_size}
+use Rattle.ac_cert.proofs.Parts.{drop-at, highs_positive}
+use Rattle.ac_cert.specs.ChoiceFits.{ArePositive}
+use Rattle.ac_cert.specs.Choices.{shadow_form, shadows_with, shadows}
 use Rattle.ac_trails.specs.Shadowing.{IsEnough, IsMargin}
 use Rattle.ac_trails.specs.Refutations.{AreModest, AreRowsWithin, IsRowWithin}
 
@@ -109,3 +110,50 @@ margin-at z n f rows i r m l e = record {
   within = m.within;
   enough = enough-at z n (coef z f) rows i r m.enough l e;
 }
+
+lows-cons : (z : ℕ) (r : Row) (rs : List Row) → lows z (r ∷ rs) ≡ lows z (r ∷ []) ++ lows z rs
+lows-cons z (Eq f) rs = refl
+lows-cons z (Div m f) rs = refl
+lows-cons z (Ge f) rs = elim (is_low z f) as (λ t. cond t (low_bound z f ∷ lows z rs) (lows z rs) ≡ cond t (low_bound z f ∷ []) [] ++ lows z rs) [ true ↦ refl | false ↦ refl ]
+
+shadows-append : (ls ks hs : List Bound) → shadows (ls ++ ks) hs ≡ shadows ls hs ++ shadows ks hs
+shadows-append [] ks hs = refl
+shadows-append (low ∷ ls) ks hs = ap (λ (rs : List Row). shadows_with low hs ++ rs) (shadows-append ls ks hs) ∙ sym (append_assoc (shadows_with low hs) (shadows ls hs) (shadows ks hs))
+
+-- the shadows of the first row, then those of the others
+pub lower-shadows : (z : ℕ) (r : Row) (rs : List Row) (hs : List Bound) → shadows (lows z (r ∷ rs)) hs ≡ shadows (lows z (r ∷ [])) hs ++ shadows (lows z rs) hs
+lower-shadows z r rs hs = ap (λ (ls : List Bound). shadows ls hs) (lows-cons z r rs) ∙ shadows-append (lows z (r ∷ [])) (lows z rs) hs
+
+pub lows-length : (z : ℕ) (r : Row) (rs : List Row) → length (lows z (r ∷ rs)) ≡ length (lows z (r ∷ [])) + length (lows z rs)
+lows-length z r rs = ap (λ (ls : List Bound). length ls) (lows-cons z r rs) ∙ length-append (lows z (r ∷ [])) (lows z rs)
+
+pub modest-beside : (rows : List Row) (i : ℕ) (r : Row) → AreModest rows [] → i < length rows → r ≡ get_or rows i r → AreModest (r ∷ rows) []
+modest-beside rows i r m h e = record { factor = m.factor; number = m.number; product = m.product; rows = (row-within m.factor m.number rows i r m.rows h e, m.rows); moduli = tt }
+
+no-highs : (hs : List Bound) → ArePositive hs → greatest_size hs ≡ pos 0 → hs ≡ []
+no-highs [] p e = refl
+no-highs (b ∷ bs) p e = let h = p.0 in absurd (omega (arith, ints, clamps, e, h))
+
+no-shadows : (ls : List Bound) → shadows ls [] ≡ []
+no-shadows [] = refl
+no-shadows (low ∷ ls) = no-shadows ls
+
+-- without an upper row there is no shadow
+pub shadows-none : (z : ℕ) (rows : List Row) (a : ℤ) → a ≡ greatest_size (highs z rows) → a ≡ pos 0 → shadows (lows z rows) (highs z rows) ≡ []
+shadows-none z rows a e n = rw (no-highs (highs z rows) (highs_positive z rows) (sym e ∙ n)) (no-shadows (lows z rows))
+
+pub some-size : (z : ℕ) (rows : List Row) (a : ℤ) → a ≡ greatest_size (highs z rows) → (a ≡ pos 0 → ⊥) → pos 1 ≤ℤ a
+some-size z rows a e n = by a (rw e (greatest-positive (highs z rows))) n
+  where
+    by : (a : ℤ) → pos 0 ≤ℤ a → (a ≡ pos 0 → ⊥) → pos 1 ≤ℤ a
+    by (pos zero) h n = absurd (n refl)
+    by (pos (suc a)) h n = omega (arith, ints)
+    by (negsuc a) h n = absurd (omega (arith, ints, h))
+
+-- as the code tests it
+pub zero-size : (z : ℕ) (rows : List Row) (a : ℤ) → a ≡ greatest_size (highs z rows) → of_z w128 a ≡ 0 → a ≡ pos 0
+zero-size z rows a e n = by a (rw e (greatest-positive (highs z rows))) n
+  where
+    by : (a : ℤ) → pos 0 ≤ℤ a → of_z w128 a ≡ 0 → a ≡ pos 0
+    by (pos k) h n = ap pos n
+    by (negsuc k) h n = absurd (omega (arith, ints, h))

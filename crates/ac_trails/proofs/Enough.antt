@@ -1,5 +1,5 @@
 -- How much is taken from a lower row of a column: enough for its dark shadows, and at most its coefficient.
-use Rattle.std.proofs.Common.{◌≡◌, ℕ, zero, suc, ◌+◌, ◌*◌, ◌<◌, ◌≤◌, ℤ, pos, negsuc, ◌+ℤ◌, ◌-ℤ◌, ◌*ℤ◌, neg_ℤ, ◌≤ℤ◌, ◌<ℤ◌, List, [], ◌∷◌, Bool, true, false, cond, arith, refl, ap, ◌∙◌, mul-le-mul_left, ⊎_elim, to_z, of_z}
+use Rattle.std.proofs.Common.{◌≡◌, ℕ, zero, suc, ◌*◌, ◌<◌, ◌≤◌, ℤ, pos, negsuc, ◌+ℤ◌, ◌-ℤ◌, ◌*ℤ◌, neg_ℤ, ◌≤ℤ◌, ◌<ℤ◌, List, [], ◌∷◌, true, arith, refl, ap, ◌∙◌, mul-le-mul_left, ⊎_elim, to_z, of_z}
 use Rattle.std.specs.Int.{int_div_euclid, w128}
 use Rattle.std.specs.Int.Signed.{lt_z}
 use Rattle.std.proofs.lemmas.Int.{ints, clamps, by_lt_z}
@@ -8,15 +8,17 @@ use Rattle.ac_integers.proofs.Bits.{again_128}
 use Rattle.ac_integers.proofs.Floor.{floor_low, floor_high}
 use Rattle.ac_integers.proofs.Products.{mul-le-mul_ℤ, mul-add_ℤ, mul-neg_ℤ}
 use Rattle.ac_integers.proofs.Shadows.{smaller_factor}
-use Rattle.ac_forms.specs.Affine.{coef}
+use Rattle.ac_forms.specs.Affine.{Affine, coef}
 use Rattle.ac_forms.specs.Fits.{Fits}
 use Rattle.ac_forms.specs.declared.row.Row.{Row}
+use Rattle.ac_forms.specs.declared.row.Row.TheVariants.{Ge}
 use Rattle.ac_cert.specs.declared.column.Bound.{Bound}
-use Rattle.ac_cert.specs.Bounds.{highs, greatest_size, last_splinter}
+use Rattle.ac_cert.specs.Bounds.{is_low, highs, greatest_size, last_splinter}
 use Rattle.ac_cert.specs.ChoiceFits.{ArePositive}
 use Rattle.ac_cert.proofs.DarkShadows.{less_one}
 use Rattle.ac_cert.proofs.Parts.{highs_positive}
-use Rattle.ac_trails.specs.Shadowing.{IsEnough}
+use Rattle.ac_trails.specs.Refutations.{AreModest}
+use Rattle.ac_trails.specs.Shadowing.{IsEnough, IsMargin}
 use Rattle.ac_trails.specs.Tries.{count_to}
 
 count-enough : (a b : ℕ) (q : ℤ) → (pos (suc a) *ℤ pos (suc b) -ℤ pos (suc a) -ℤ pos (suc b)) <ℤ (pos (suc a) *ℤ q +ℤ pos (suc a)) → a * b ≤ suc a * count_to q
@@ -139,3 +141,18 @@ count_made a b q fa fb fq la lb e =
     let count : b -ℤ pos 1 -ℤ q ≡ n = ap (λ x. b -ℤ pos 1 -ℤ x) is ∙ count_is a b la lb in
     let some : Fits n = smaller-fits n b (omega (arith, ints)) (splinters-within a b la lb) fb in
     rw (again_128 b fb, again_128 q fq, again_128 (b -ℤ pos 1) less) (rw count (again_128 n some))
+
+pub low-size : (c : ℤ) → lt_z (pos 0) c ≡ true → pos 1 ≤ℤ c
+low-size c e = grind (arith, ints, e)
+
+-- the splinters of a lower row are a margin
+pub splinters-margin : (z : ℕ) (a n : ℤ) (f : Affine) (rows : List Row) → AreModest (Ge f ∷ rows) [] → a ≡ greatest_size (highs z rows) → pos 1 ≤ℤ a → is_low z f ≡ true → n ≡ pos (count_to (last_splinter a (coef z f))) → IsMargin z n f rows
+splinters-margin z a n f rows m e l h is =
+    let b = low-size (coef z f) h in
+    record {
+      modest = m;
+      low = b;
+      some = rw is (omega (arith, ints));
+      within = rw is (splinters-within a (coef z f) l b);
+      enough = rw (is, e) (enough-for z rows (coef z f) (rw (← e) l) b);
+    }

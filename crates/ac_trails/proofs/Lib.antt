@@ -25,3 +25,4 @@ pub mod ShadowNumbers
 pub mod Shadowed
 pub mod Bounding
 pub mod Shadowings
+pub mod ShadowsLeft

@@ -1,5 +1,5 @@
 -- The dark shadow of a lower and an upper row of a column, from rows that stand.
-use Rattle.std.proofs.Common.{◌≡◌, ℕ, zero, suc, ◌<◌, ◌≤◌, ℤ, pos, negsuc, ◌+ℤ◌, ◌-ℤ◌, ◌*ℤ◌, neg_ℤ, ◌≤ℤ◌, List, [], ◌∷◌, length, set, get_or, true, arith, refl, sym, ap, ◌∙◌, subst, to_z, of_z}
+use Rattle.std.proofs.Common.{◌≡◌, ℕ, zero, suc, ◌<◌, ℤ, pos, ◌+ℤ◌, ◌-ℤ◌, ◌*ℤ◌, neg_ℤ, ◌≤ℤ◌, List, [], ◌∷◌, length, set, get_or, true, arith, refl, sym, ap, ◌∙◌, subst, to_z, of_z}
 use Rattle.std.specs.Int.{w128}
 use Rattle.std.specs.Int.Signed.{lt_z}
 use Rattle.std.proofs.lemmas.Int.{ints}
@@ -17,7 +17,8 @@ use Rattle.ac_trails.specs.Shadowing.{loss, IsEnough}
 use Rattle.ac_trails.specs.Standing.{raised, Leads}
 use Rattle.ac_trails.specs.declared.path.Trail.{Trail}
 use Rattle.ac_trails.proofs.Renaming.{none_mixed}
-use Rattle.ac_trails.proofs.ShadowNumbers.{IsPair, opposite-size, opposite-fits}
+use Rattle.ac_trails.proofs.Moderate.{turned_size}
+use Rattle.ac_trails.proofs.ShadowNumbers.{IsPair, opposite-fits}
 
 has-place : (cs : List ℤ) (z : ℕ) → (get_or cs z (pos 0) ≡ pos 0 → ⊥) → z < length cs
 has-place [] z h = absurd (h refl)
@@ -68,7 +69,7 @@ pub pair-of : (z : ℕ) (f g : Affine) (n : ℤ) → AreModest (Ge f ∷ Ge g �
 pair-of z f g n m l h s w =
     let low = m.rows.0 in
     let high = m.rows.1.0 in
-    let o = opposite-size (coef z g) in
+    let o = turned_size (coef z g) in
     let k = high.factors z in
     record {
       factor = m.factor;

@@ -1,5 +1,5 @@
 //! The rows of the dark shadow of a column, on the path (W. Pugh, The Omega test, 1991).
-ghost use Rattle.std.specs.Prelude.{◌≡◌, ℕ, List, [], ◌∷◌, ◌++◌, pos, neg_ℤ, ◌+ℤ◌, ◌≤ℤ◌, drop, length, true, false, IfOk, OnOk};
+ghost use Rattle.std.specs.Prelude.{◌≡◌, ℕ, ◌+◌, ◌≤◌, List, [], ◌∷◌, ◌++◌, pos, neg_ℤ, ◌+ℤ◌, ◌≤ℤ◌, drop, length, true, false, IfOk, OnOk};
 ghost use Rattle.ac_forms.specs.Affine.{coef, combined, shifted, CanCombine};
 ghost use Rattle.ac_forms.specs.Fits.{Fits};
 ghost use Rattle.ac_forms.specs.Rows.{AreRowsOver};
@@ -17,6 +17,7 @@ ghost use Rattle.ac_trails.specs.Standing.{StandsAt, Stand, Reaches, HasOne, Lea
 
 use crate::by_equality::free_rows;
 use crate::descent::Standing;
+use crate::kept::keep;
 use crate::margins::{
     greatest_size, is_high, is_low, loss, opposite_coef, splinter_count, surplus,
 };
@@ -123,8 +124,7 @@ impl Trail {
         }
         let form = shadow_of(alloc, z, low.form, high)?;
         let sum = self.show_pair(alloc, z, low, high, place)?;
-        made.rows.push(Row::Ge(form))?;
-        made.places.push(sum)?;
+        keep(made, Row::Ge(form), sum)?;
         Ok(())
     }
 
@@ -145,6 +145,66 @@ impl Trail {
         let z = bounded.column;
         for i in 0..bounded.rows.len() {
             self.show_beside(alloc, z, low, &bounded.rows[i], bounded.places[i], made)?;
+        }
+        Ok(())
+    }
+
+    /// The dark shadows of a row, if it is a lower one, and each upper row, in order. So many of the places `raised` were used
+    /// before; gives how many are then.
+    fn show_lower(
+        &mut self,
+        alloc: Global,
+        bounded: &Bounded,
+        row: &Row,
+        raised: &[usize],
+        used: usize,
+        made: &mut Standing,
+    ) -> Result<usize, AllocError>
+        requires long { length bounded.now.places.now ≡ length bounded.now.rows.now }
+        requires modest { AreModest (row.now ∷ bounded.now.rows.now) [] }
+        requires greatest { bounded.now.greatest ≡ greatest_size (highs bounded.now.column bounded.now.rows.now) }
+        requires size { pos 1 ≤ℤ bounded.now.greatest }
+        requires raised { used + length (lows bounded.now.column (row.now ∷ [])) ≤ length raised.now }
+        ensures used { IfOk result (λ n. n ≡ used + length (lows bounded.now.column (row.now ∷ []))) }
+        ensures rows { IfOk result (λ _. made.new.rows.items ≡ made.old.rows.items ++ shadows (lows bounded.now.column (row.now ∷ [])) (highs bounded.now.column bounded.now.rows.now)) }
+        ensures long { IfOk result (λ _. length made.old.places.items ≡ length made.old.rows.items → length made.new.places.items ≡ length made.new.rows.items) }
+        ensures shows { IfOk result (λ _. (rest : List Row) → Continues self.old self.new made.old made.new (λ names path. Stand names path (raised_rows bounded.now.column bounded.now.greatest (row.now ∷ rest)) (drop used raised.now) × Stand names path bounded.now.rows.now bounded.now.places.now)) }
+    {
+        let Row::Ge(form) = row else {
+            return Ok(used);
+        };
+        if !is_low(bounded.column, form) {
+            return Ok(used);
+        }
+        let low = Lower {
+            form,
+            margin: splinter_count(bounded.greatest, form.coef(bounded.column)),
+            place: raised[used],
+        };
+        self.show_uppers(alloc, bounded, &low, made)?;
+        Ok(used + 1)
+    }
+
+    /// The dark shadows of each lower row and each upper row, in order.
+    fn show_lowers(
+        &mut self,
+        alloc: Global,
+        bounded: &Bounded,
+        raised: &[usize],
+        made: &mut Standing,
+    ) -> Result<(), AllocError>
+        requires long { length bounded.now.places.now ≡ length bounded.now.rows.now }
+        requires modest { AreModest bounded.now.rows.now [] }
+        requires greatest { bounded.now.greatest ≡ greatest_size (highs bounded.now.column bounded.now.rows.now) }
+        requires size { pos 1 ≤ℤ bounded.now.greatest }
+        requires raised { length raised.now ≡ length (lows bounded.now.column bounded.now.rows.now) }
+        ensures rows { IfOk result (λ _. made.new.rows.items ≡ made.old.rows.items ++ shadows (lows bounded.now.column bounded.now.rows.now) (highs bounded.now.column bounded.now.rows.now)) }
+        ensures long { IfOk result (λ _. length made.old.places.items ≡ length made.old.rows.items → length made.new.places.items ≡ length made.new.rows.items) }
+        ensures shows { IfOk result (λ _. Continues self.old self.new made.old made.new (λ names path. Stand names path (raised_rows bounded.now.column bounded.now.greatest bounded.now.rows.now) raised.now × Stand names path bounded.now.rows.now bounded.now.places.now)) }
+    {
+        let mut used = 0;
+        for i in 0..bounded.rows.len() {
+            used = self.show_lower(alloc, bounded, &bounded.rows[i], raised, used, made)?;
         }
         Ok(())
     }
@@ -171,6 +231,18 @@ impl Trail {
         ensures calm { IfOk result (λ s. AreCalm s.rows.items) }
         ensures carries { IfOk result (λ s. (start : Conj) → Carries self.old start names.now (rows.now ++ raised_rows z (greatest_size (highs z rows.now)) rows.now) (places.now ++ raised.now) → Carries self.new start names.now s.rows.items s.places.items) }
     {
-        Err(AllocError)
+        let mut made = free_rows(alloc, z, rows, places)?;
+        let greatest = greatest_size(z, rows);
+        if greatest == 0 {
+            return Ok(made);
+        }
+        let bounded = Bounded {
+            column: z,
+            greatest,
+            rows,
+            places,
+        };
+        self.show_lowers(alloc, &bounded, raised, &mut made)?;
+        Ok(made)
     }
 }

@@ -1,10 +1,6 @@
-use Rattle.std.proofs.Common.{◌≡◌, ℤ, neg_ℤ, FitsSigned}
-use Rattle.std.specs.Int.{w128}
-use Rattle.ac_forms.specs.Affine.{coef}
-use Rattle.ac_trails.specs.Shadowing.{loss}
 use Rattle.ac_trails.proofs.Renaming.{blends-can}
-use Rattle.ac_trails.proofs.ShadowNumbers.{IsPair, pair-blends, loss-fits, shadow-fits}
-use Rattle.ac_trails.proofs.Shadowed.{again, again-is, plain-pair, size-fits, shadow-made}
+use Rattle.ac_trails.proofs.ShadowNumbers.{pair-blends, loss-fits, shadow-fits}
+use Rattle.ac_trails.proofs.Shadowed.{again-is, plain-pair, size-fits, shadow-made}
 use Rattle.ac_trails.proofs.by_shadow.shadow_of.Goals as goal
 
 pub opposite_coef-a-requires : goal.opposite_coef-a-requires

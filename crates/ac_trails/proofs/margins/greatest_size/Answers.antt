@@ -1,5 +1,5 @@
-use Rattle.std.proofs.Common.{◌≡◌, FitsSigned, ap, ◌∙◌}
-use Rattle.std.specs.Int.{w128, int_max}
+use Rattle.std.proofs.Common.{FitsSigned}
+use Rattle.std.specs.Int.{w128}
 use Rattle.ac_integers.proofs.Bits.{again_128}
 use Rattle.ac_trails.proofs.Bounding.{modest-at, greatest-start, greatest-more, greatest-end}
 use Rattle.ac_trails.proofs.margins.greatest_size.Goals as goal

@@ -14,4 +14,4 @@ returns-clause-shows c = λ start path names h o k s.
     let y = rw c.in-Ge.is at k.1 in
     let l = c.in_ok-sum.ensures.leads start path names h o k.0 y in
     shows-one c.args.self.now c.show_pair.new.self start path names c.in_ok-sum.sum (Ge (shadow_form (low_bound z f) (high_bound z g))) c.args.made.now _ c.in_ok-sum.ensures.base o s l
-    (c.in_ok-push.ensures.items ∙ ap (λ (x : Affine). c.args.made.now.rows.items ++ Ge x ∷ []) c.in_ok-form.ensures) c.in_ok-push-2.ensures.items
+    (c.in_ok-keep.ensures.rows ∙ ap (λ (x : Affine). c.args.made.now.rows.items ++ Ge x ∷ []) c.in_ok-form.ensures) c.in_ok-keep.ensures.places
