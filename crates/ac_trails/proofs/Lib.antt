@@ -16,3 +16,5 @@ pub mod SmallNumbers
 pub mod NormalEqualities
 pub mod Names
 pub mod NormalDivisibilities
+pub mod SameRows
+pub mod LeftRows
