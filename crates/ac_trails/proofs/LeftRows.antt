@@ -133,3 +133,5 @@ left_more t u v names rs is ls new i x r l h same less er ex el shows e = rw e (
 
 pub left_end : (t u : Trail) (names : List ℕ) (rs : List Row) (is : List ℕ) (ls : List Left) (i : ℕ) → LeftHalfway t u names rs is ls i → length rs ≤ i → map (λ l. l.row) ls ≡ map normal_row rs
 left_end t u names rs is ls i h l = rw (take_all i rs l) at h.rows
+
+pub ruleset left_steps = (left_start, left_more, left_end, modulus_at, fits_at, calm_at)

@@ -18,3 +18,4 @@ pub mod Names
 pub mod NormalDivisibilities
 pub mod SameRows
 pub mod LeftRows
+pub mod LeftSearches

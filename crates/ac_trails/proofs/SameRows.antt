@@ -1,5 +1,5 @@
 -- Rows that the test of equality takes for equal are equal.
-use Rattle.std.proofs.Common.{◌≡◌, ℤ, true, ap, ◌∙◌, arith}
+use Rattle.std.proofs.Common.{◌≡◌, ℤ, true, false, ap, ◌∙◌, arith}
 use Rattle.std.specs.Ordering.{int_eq}
 use Rattle.std.proofs.lemmas.Int.{ints}
 use Rattle.ac_forms.proofs.Joining.{lists_same, both_of}
@@ -8,6 +8,7 @@ use Rattle.ac_forms.specs.Orders.{row_eq, form_eq}
 use Rattle.ac_forms.specs.Ties.{row_equiv}
 use Rattle.ac_forms.specs.declared.row.Row.{Row}
 use Rattle.ac_forms.specs.declared.row.Row.TheVariants.{Eq, Div, Ge}
+use Rattle.ac_forms.specs.declared.normal.NormalRow.TheVariants.{Kept}
 
 same-int : (x y : ℤ) → int_eq x y ≡ true → x ≡ y
 same-int x y e = grind (arith, ints, e)
@@ -35,3 +36,9 @@ same-row (Ge f) (Ge g) e = ap Ge (same-form f g e)
 -- and each row is taken for itself
 pub row-same : (r s : Row) → r ≡ s → row_eq r s ≡ true
 row-same r s e = rw e (row_equiv.refl s)
+
+pub kept-same : (r s : Row) → Kept r ≡ Kept s → row_eq r s ≡ false → ⊥
+kept-same r s k e =
+    let same : r ≡ s = cc in
+    let t : row_eq r s ≡ true = row-same r s same in
+    cc

@@ -1,5 +1,5 @@
 //! What is left of one row that stands on the path, in normal form.
-ghost use Rattle.std.specs.Prelude.{◌≡◌, true, OnOk, IfOk};
+ghost use Rattle.std.specs.Prelude.{◌≡◌, true, false, OnOk, IfOk};
 ghost use Rattle.ac_forms.specs.NormalRows.{normal_row};
 ghost use Rattle.ac_forms.specs.Rows.{HasModulus};
 ghost use Rattle.ac_forms.specs.Tests.{normal_fits};
@@ -33,8 +33,9 @@ fn normal_of(alloc: Global, row: &Row) -> Result<NormalRow, AllocError>
 }
 
 /// Whether a row is left as it is.
-fn is_normal(row: &Row, normal: &NormalRow) -> bool
-    ensures { result ≡ true → normal.now ≡ Kept row.now }
+pub(crate) fn is_normal(row: &Row, normal: &NormalRow) -> bool
+    ensures same { result ≡ true → normal.now ≡ Kept row.now }
+    ensures other { result ≡ false → ¬ (normal.now ≡ Kept row.now) }
 {
     match normal {
         NormalRow::Kept(kept) => kept == row,

@@ -16,6 +16,7 @@ mod by_shadow;
 mod certificate;
 mod descent;
 mod left;
+mod left_search;
 mod normal_divisibility;
 mod normal_equality;
 mod normal_form;
