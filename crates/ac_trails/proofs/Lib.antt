@@ -19,3 +19,4 @@ pub mod NormalDivisibilities
 pub mod SameRows
 pub mod LeftRows
 pub mod LeftSearches
+pub mod NormalForms

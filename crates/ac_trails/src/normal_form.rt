@@ -10,6 +10,7 @@ ghost use Rattle.ac_trails.specs.Lefts.{CarriesLefts};
 
 use crate::descent::{Below, Standing};
 use crate::left::Left;
+use crate::left_search::{absurd_place, clash_places, places_of};
 use crate::path::Trail;
 use ac_forms::Row;
 use std::alloc::{AllocError, Global};
@@ -30,7 +31,21 @@ impl Trail {
         requires normal { normal.now ≡ normal_form standing.now.rows.items }
         ensures settles { IfOk result (λ b. (start : Conj) → Carries self.old start names.now standing.now.rows.items standing.now.places.items → Settles self.new start names.now b normal.now) }
     {
-        Err(AllocError)
+        let lefts = self.show_all_left(
+            alloc,
+            names,
+            standing.rows.as_slice(),
+            standing.places.as_slice(),
+        )?;
+        if let Some(place) = absurd_place(lefts.as_slice()) {
+            return Ok(Below::Absurd(place));
+        }
+        if let Some((first, second)) = clash_places(lefts.as_slice()) {
+            let place = self.show_clash(alloc, first, second)?;
+            return Ok(Below::Absurd(place));
+        }
+        let places = places_of(alloc, lefts.as_slice(), normal)?;
+        Ok(Below::Rows(places))
     }
 
     /// What is left of each of the rows that stand at these places, and where that stands.
