@@ -26,3 +26,7 @@ pub mod Shadowed
 pub mod Bounding
 pub mod Shadowings
 pub mod ShadowsLeft
+pub mod SameRows
+pub mod LeftRows
+pub mod LeftSearches
+pub mod NormalForms

@@ -1,5 +1,5 @@
 -- What is left of rows in normal form, and where that stands on a path.
-use Rattle.std.specs.Prelude.{◌≡◌, ◌⊎◌, ℕ, ℤ, pos, negsuc, List, [], ◌∷◌, true, Some}
+use Rattle.std.specs.Prelude.{◌≡◌, ◌⊎◌, ℕ, ℤ, pos, negsuc, List, [], ◌∷◌, Bool, true, false, Some}
 use Rattle.ac_forms.specs.Affine.{Affine, scaled}
 use Rattle.ac_forms.specs.NormalForm.{clash}
 use Rattle.ac_forms.specs.NormalRows.{divided}
@@ -7,7 +7,7 @@ use Rattle.ac_forms.specs.declared.conj.Conj.{Conj}
 use Rattle.ac_forms.specs.declared.row.Row.{Row}
 use Rattle.ac_forms.specs.declared.row.Row.TheVariants.{Eq, Ge}
 use Rattle.ac_forms.specs.declared.normal.NormalRow.{NormalRow}
-use Rattle.ac_forms.specs.declared.normal.NormalRow.TheVariants.{Kept}
+use Rattle.ac_forms.specs.declared.normal.NormalRow.TheVariants.{Kept, Dropped, Absurd}
 use Rattle.ac_cert.specs.Accepted.{after_steps}
 use Rattle.ac_trails.specs.Descents.{base_of, StandOn}
 use Rattle.ac_trails.specs.Standing.{LeftStands, StandsAt, Reaches, IsOnto}
@@ -54,6 +54,24 @@ ClashesAt f y ls = (g : Affine) × IsLeftAt y (Kept (Eq g)) ls × (clash (Eq f) 
 -- none of them clashes with the equality
 abbrev pub ClashesWithNone : Affine → List Left → Type 0
 ClashesWithNone f ls = (g : Affine) → HasLeft (Kept (Eq g)) ls → clash (Eq f) (Eq g) ≡ true → ⊥
+
+-- two of them, at these places, are equalities that clash
+abbrev pub HaveClashAt : ℕ → ℕ → List Left → Type 0
+HaveClashAt x y ls = (f : Affine) × IsLeftAt x (Kept (Eq f)) ls × ClashesAt f y ls
+
+-- no two of them clash
+abbrev pub HaveNoClash : List Left → Type 0
+HaveNoClash ls = (f : Affine) → HasLeft (Kept (Eq f)) ls → ClashesWithNone f ls
+
+-- this one of them is an equality that clashes with another, at that place
+abbrev pub ClashOf : Left → ℕ → ℕ → List Left → Type 0
+ClashOf l x y ls = (x ≡ l.place) × ((f : Affine) × (l.row ≡ Kept (Eq f)) × ClashesAt f y ls)
+
+-- what is left of a row clashes with the equality
+abbrev pub clashes : Affine → NormalRow → Bool
+clashes f (Kept r) = clash (Eq f) r
+clashes f Dropped = false
+clashes f Absurd = false
 
 -- the trail goes on from the path, to one on which the quotients of an equality's form and of its opposite are not negative
 pub record Bounds (t : Trail) (start path : Conj) (names : List ℕ) (x y : ℕ) (g : ℤ) (f : Affine) : Type 0 where

@@ -18,6 +18,7 @@ mod descent;
 mod kept;
 mod left;
 mod margins;
+mod left_search;
 mod normal_divisibility;
 mod normal_equality;
 mod normal_form;
