@@ -17,3 +17,7 @@ pub mod ModerateSplinters
 pub mod StandingLists
 pub mod FreeRows
 pub mod Names
+pub mod Equated
+pub mod ReplacedRows
+pub mod Divided
+pub mod ByEquality
