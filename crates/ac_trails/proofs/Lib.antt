@@ -30,3 +30,8 @@ pub mod SameRows
 pub mod LeftRows
 pub mod LeftSearches
 pub mod NormalForms
+pub mod Names
+pub mod Equated
+pub mod ReplacedRows
+pub mod Divided
+pub mod ByEquality

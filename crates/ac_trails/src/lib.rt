@@ -25,6 +25,7 @@ mod normal_form;
 mod path;
 mod refutation;
 mod renamed;
+mod replaced;
 mod residues;
 mod shown_bounds;
 mod shown_equal;
