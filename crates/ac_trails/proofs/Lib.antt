@@ -30,7 +30,6 @@ pub mod SameRows
 pub mod LeftRows
 pub mod LeftSearches
 pub mod NormalForms
-pub mod Names
 pub mod Equated
 pub mod ReplacedRows
 pub mod Divided
