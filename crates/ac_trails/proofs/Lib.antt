@@ -12,3 +12,9 @@ pub mod Contradictions
 pub mod Leaves
 pub mod Ranges
 pub mod Classes
+pub mod Places
+pub mod SpreadNumbers
+pub mod Spreading
+pub mod QuotientSteps
+pub mod SpreadSizes
+pub mod SpreadRows
