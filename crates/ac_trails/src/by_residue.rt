@@ -88,7 +88,7 @@ fn class_form(alloc: Global, name: usize, r: i128) -> Result<Form, AllocError>
 
 impl Trail {
     /// A further column and `z - r - m q = 0` for it, where m divides z less r at place `class`: the place of that row.
-    fn show_quotient(
+    fn show_class_quotient(
         &mut self,
         alloc: Global,
         names: &[usize],
@@ -190,7 +190,7 @@ impl Trail {
         ensures calm { IfOk result (λ s. AreCalm s.rows.items) }
         ensures carries { IfOk result (λ s. (start : Conj) → Carries self.old start names.now (Div m (column_less (length names.now) z r) ∷ rows.now) (class ∷ places.now) → Carries self.new start (set names.now z self.old.columns) s.rows.items s.places.items) }
     {
-        let equality = self.show_quotient(alloc, names, z, m, r, class)?;
+        let equality = self.show_class_quotient(alloc, names, z, m, r, class)?;
         let places = self.take_each(alloc, z, equality, rows, places)?;
         let rows = spread_rows(alloc, z, m, r, rows)?;
         Ok(Standing { rows, places })

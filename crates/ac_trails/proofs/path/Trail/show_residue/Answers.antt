@@ -29,6 +29,6 @@ returns-clause-carries c = λ start carries.
     let made = simp read_back at c.in_ok-rows.ensures in
     let bound = residue-bound c.args.z c.args.m c.args.r c.args.rows.now h c.requires.modulus c.requires.low c.requires.high in
     subst (λ (rs : List Row). Carries c.take_each.new.self start (set c.args.names.now c.args.z c.args.self.now.columns) rs c.in_ok-places.places.items) (sym made)
-    (residue-carries c.args.self.now c.show_quotient.new.self c.take_each.new.self start c.args.names.now c.args.z c.args.class c.in_ok-equality.equality c.args.m c.args.r c.args.rows.now c.args.places.now c.in_ok-places.places.items
+    (residue-carries c.args.self.now c.show_class_quotient.new.self c.take_each.new.self start c.args.names.now c.args.z c.args.class c.in_ok-equality.equality c.args.m c.args.r c.args.rows.now c.args.places.now c.in_ok-places.places.items
     c.requires.column c.requires.made (all-taken h.factor h.number (length c.args.names.now) c.args.z c.args.m c.args.r c.args.rows.now c.requires.column bound h.rows c.requires.made)
     c.in_ok-equality.ensures.columns c.in_ok-equality.ensures.one c.in_ok-places.ensures.base (simp read_back at c.in_ok-equality.ensures.leads) c.in_ok-places.ensures.leads carries)

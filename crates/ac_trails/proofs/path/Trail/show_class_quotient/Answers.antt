@@ -2,7 +2,7 @@ use Rattle.std.proofs.Common.{FitsSigned}
 use Rattle.std.specs.Int.{w128}
 use Rattle.ac_integers.proofs.Bits.{read_back}
 use Rattle.ac_trails.proofs.QuotientSteps.{quotient_leads}
-use Rattle.ac_trails.proofs.path.Trail.show_quotient.Goals as goal
+use Rattle.ac_trails.proofs.path.Trail.show_class_quotient.Goals as goal
 
 pub returns-clause-leads : goal.returns-clause-leads
 returns-clause-leads c = λ start path h ns s.
