@@ -34,3 +34,9 @@ pub mod Equated
 pub mod ReplacedRows
 pub mod Divided
 pub mod ByEquality
+pub mod Places
+pub mod SpreadNumbers
+pub mod Spreading
+pub mod QuotientSteps
+pub mod SpreadSizes
+pub mod SpreadRows

@@ -6,3 +6,4 @@ pub mod Descents
 pub mod Lefts
 pub mod Replacements
 pub mod Shadowing
+pub mod Residues

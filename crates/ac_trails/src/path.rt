@@ -1,13 +1,16 @@
-ghost use Rattle.std.specs.Prelude.{◌≡◌, ◌≢◌, ℕ, ◌≤◌, ℤ, pos, neg_ℤ, ◌*ℤ◌, ◌≤ℤ◌, List, length, unsigned_abs, OnOk, IfOk};
+ghost use Rattle.std.specs.Prelude.{◌≡◌, ◌+◌, ◌≢◌, ℕ, ◌≤◌, ℤ, pos, neg_ℤ, ◌*ℤ◌, ◌≤ℤ◌, List, length, unsigned_abs, OnOk, IfOk};
 ghost use Rattle.ac_integers.specs.Gcd.{DividesEach};
 ghost use Rattle.ac_integers.specs.Multiple.{IsMultiple};
 ghost use Rattle.ac_forms.specs.Affine.{Affine, combined, scaled};
 ghost use Rattle.ac_forms.specs.Fits.{Fits};
+ghost use Rattle.ac_forms.specs.Negation.{with_column};
 ghost use Rattle.ac_forms.specs.NormalRows.{divided};
 ghost use Rattle.ac_forms.specs.Rows.{form_of};
 ghost use Rattle.ac_forms.specs.declared.conj.Conj.{Conj};
 ghost use Rattle.ac_forms.specs.declared.row.Row.{Row};
 ghost use Rattle.ac_forms.specs.declared.row.Row.TheVariants.{Eq, Div, Ge};
+ghost use Rattle.ac_cert.specs.Rules.{with_column_row};
+ghost use Rattle.ac_cert.specs.StepRows.{IsAt};
 ghost use Rattle.ac_trails.specs.Standing.{StandsAt, Reaches, Leads, Grows, IsSameBase, AreOpposite, CanScale, LeavesMultiple, Renames, CanAdd, Blends, sum_of};
 
 use ac_cert::types::Step;
@@ -108,6 +111,21 @@ impl Trail {
         ensures leads { IfOk result (λ i. (start path : Conj) (names : List ℕ) (f : Affine) → Reaches self.old start path → StandsAt names path x (Eq f) → pos 1 ≤ℤ n → Leads self.new start path names i (Div n f)) }
     {
         let place = self.add_row(Step::DivEq(x, n))?;
+        Ok(place)
+    }
+
+    /// A further column q with `form - m q = 0`, where m divides the form of row x: the place of that row.
+    pub fn quotient(&mut self, x: usize) -> Result<usize, AllocError>
+        ensures columns { OnOk result (self.new.columns ≡ self.old.columns + 1) }
+        ensures one { OnOk result (self.new.one ≡ self.old.one) }
+        ensures place { IfOk result (λ i. i ≡ self.old.rows) }
+        ensures reaches { IfOk result (λ i. (start path : Conj) (m : ℤ) (f : Affine) → Reaches self.old start path → IsAt path x (Div m f) → pos 1 ≤ℤ m → length f.coefs ≤ path.columns → Reaches self.new start (with_column_row path (Eq (with_column path.columns (neg_ℤ m) f)))) }
+    {
+        let Some(columns) = self.columns.checked_add(1) else {
+            return Err(AllocError);
+        };
+        let place = self.add_row(Step::Quot(x))?;
+        self.columns = columns;
         Ok(place)
     }
 
