@@ -12,3 +12,4 @@ pub mod Contradictions
 pub mod Leaves
 pub mod Ranges
 pub mod Classes
+pub mod Refuted

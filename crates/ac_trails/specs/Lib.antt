@@ -3,3 +3,4 @@ pub mod Leaves
 pub mod Tries
 pub mod Refutations
 pub mod Descents
+pub mod Branches

@@ -1,8 +1,8 @@
 //! The rows that choices of one outcome leave, on the path: by an equality, and without a column; and those of a splinter
 //! (W. Pugh, The Omega test, 1991).
-ghost use Rattle.std.specs.Prelude.{◌≡◌, ◌≤◌, ◌<◌, ℕ, List, [], ◌∷◌, ◌++◌, pos, ◌≤ℤ◌, length, true, slice_get, Some, IfOk, OnOk};
-ghost use Rattle.ac_forms.specs.Affine.{coef};
-ghost use Rattle.ac_forms.specs.Rows.{AreRowsOver};
+ghost use Rattle.std.specs.Prelude.{◌≡◌, ◌≤◌, ◌<◌, ℕ, List, [], ◌∷◌, ◌++◌, pos, ◌≤ℤ◌, ◌-ℤ◌, length, true, slice_get, Some, IfOk, OnOk};
+ghost use Rattle.ac_forms.specs.Affine.{Affine, coef};
+ghost use Rattle.ac_forms.specs.Rows.{AreRowsOver, HaveModuli};
 ghost use Rattle.ac_forms.specs.declared.conj.Conj.{Conj};
 ghost use Rattle.ac_forms.specs.declared.row.Row.TheVariants.{Eq, Ge};
 ghost use Rattle.ac_cert.specs.Bounds.{is_low, highs, greatest_size, last_splinter};
@@ -12,6 +12,7 @@ ghost use Rattle.ac_cert.specs.declared.choose.Choice.TheVariants.{Drop, Equal, 
 ghost use Rattle.ac_trails.specs.Descents.{AreCalm, Carries, StandOn};
 ghost use Rattle.ac_trails.specs.Leaves.{less};
 ghost use Rattle.ac_trails.specs.Refutations.{AreModest};
+ghost use Rattle.ac_trails.specs.Standing.{StandsAt};
 
 use crate::descent::{Base, Standing};
 use crate::path::Trail;
@@ -27,6 +28,7 @@ pub(crate) fn free_rows(
 ) -> Result<Standing, AllocError>
     requires long { length places.now ≡ length rows.now }
     requires modest { AreModest rows.now [] }
+    requires moduli { HaveModuli rows.now }
     ensures long { IfOk result (λ s. length s.places.items ≡ length s.rows.items) }
     ensures rows { IfOk result (λ s. s.rows.items ≡ left_by (Drop z) rows.now) }
     ensures calm { IfOk result (λ s. AreCalm s.rows.items) }
@@ -47,12 +49,14 @@ pub(crate) fn splinter_rows(
 ) -> Result<Standing, AllocError>
     requires long { length places.now ≡ length rows.now }
     requires modest { AreModest rows.now [] }
+    requires moduli { HaveModuli rows.now }
     requires lower { i < length rows.now }
     requires low { pos 0 ≤ℤ k }
     requires last { (f : _) → slice_get rows.now i ≡ Some (Ge f) → (is_low z f ≡ true) × (k ≤ℤ last_splinter (greatest_size (highs z rows.now)) (coef z f)) }
     ensures long { IfOk result (λ s. length s.places.items ≡ length s.rows.items) }
     ensures rows { IfOk result (λ s. s.rows.items ≡ left_by (Splinter z i k) rows.now) }
     ensures calm { IfOk result (λ s. AreCalm s.rows.items) }
+    ensures stand { IfOk result (λ s. (b : Base) (path : Conj) (names : List ℕ) → StandOn b names rows.now places.now path → ((f : Affine) → slice_get rows.now i ≡ Some (Ge f) → StandsAt names path place (Eq (record { konst = f.konst -ℤ k; coefs = f.coefs }))) → StandOn b names s.rows.items s.places.items path) }
 {
     Err(AllocError)
 }

@@ -10,14 +10,17 @@
 //! the condition on numbers from their greatest, and the tree of a whole elimination.
 #![tactic(auto)]
 
+mod branch;
 mod by_equality;
 mod by_residue;
 mod by_shadow;
 mod certificate;
 mod descent;
+mod choice_tree;
 mod normal_form;
 mod path;
 mod refutation;
+mod renamed;
 mod residues;
 mod shown_bounds;
 mod shown_equal;
