@@ -1,49 +1,64 @@
 -- Trees over a range of numbers are accepted where their leaves are.
-use Rattle.std.proofs.Common.{◌≡◌, ℕ, zero, suc, ◌-◌, ◌≤◌, ℤ, pos, negsuc, neg_ℤ, ◌+ℤ◌, ◌-ℤ◌, ◌*ℤ◌, ◌≤ℤ◌, List, [], ◌∷◌, ◌++◌, length, map, Some, true, slice_get, refl, sym, ap, ◌∙◌, subst, arith, lit<, append_assoc}
+use Rattle.std.proofs.Common.{◌≡◌, ℕ, zero, suc, ◌-◌, ◌≤◌, ℤ, pos, negsuc, neg_ℤ, ◌+ℤ◌, ◌-ℤ◌, ◌*ℤ◌, ◌≤ℤ◌, List, [], ◌∷◌, ◌++◌, length, get_or, Some, true, slice_get, refl, sym, ap, ◌∙◌, subst, arith, append_assoc}
 use Rattle.std.proofs.lemmas.Int.{ints}
 use Rattle.std.proofs.lemmas.List.{append-nil}
-use Rattle.ac_forms.specs.Affine.{Affine, combined, added, plus, CanCombine, FormFits}
+use Rattle.ac_integers.proofs.Columns.{get_or-mix}
+use Rattle.ac_forms.specs.Affine.{Affine, coef, combined, MixFits, CanCombine, FormFits}
 use Rattle.ac_forms.specs.Fits.{Fits, AllFit}
 use Rattle.ac_forms.specs.Negation.{opposite, below}
 use Rattle.ac_forms.specs.declared.conj.Conj.{Conj}
 use Rattle.ac_forms.specs.declared.row.Row.{Row}
 use Rattle.ac_forms.specs.declared.row.Row.TheVariants.{Eq, Ge}
-use Rattle.ac_forms.proofs.Adds.{added_is, can_add}
 use Rattle.ac_cert.specs.declared.ends.Absurd.{Absurd}
 use Rattle.ac_cert.specs.declared.types.Step.{Step}
 use Rattle.ac_cert.specs.declared.types.Step.TheVariants.{EqCut}
 use Rattle.ac_cert.specs.declared.types.Tree.{Tree}
 use Rattle.ac_cert.specs.Accepted.{Accepts, absurd_refusals, after_steps}
 use Rattle.ac_cert.specs.Faults.{Refusal}
-use Rattle.ac_cert.specs.Rules.{with_row, after_step, both_sides, is_zero, all_zero}
+use Rattle.ac_cert.specs.Rules.{with_row, after_step, both_sides, is_zero}
 use Rattle.ac_cert.specs.StepRows.{IsAt}
 use Rattle.ac_cert.proofs.Equations.{split-rows, eq_cut-row}
 use Rattle.ac_trails.specs.Leaves.{less, under, HasRoom, GoesOn, AcceptsFrom}
+use Rattle.ac_trails.specs.Standing.{Alike}
+use Rattle.ac_trails.proofs.Terms.{once}
+use Rattle.ac_trails.proofs.Renaming.{fits-zero, blends-can}
+use Rattle.ac_trails.proofs.Quotients.{test_zero, zeros}
+use Rattle.ac_trails.proofs.Divisibilities.{get_or-scaled}
 
 -- ---- a form and its opposite
 
-zeros-of : (cs : List ℤ) → all_zero (plus cs (map (λ c. negsuc 0 *ℤ c) cs)) ≡ true
-zeros-of [] = refl
-zeros-of (c ∷ cs) =
-    let e : c +ℤ negsuc 0 *ℤ c ≡ pos 0 = omega (arith, ints) in
-    rw e (zeros-of cs)
+pub alike-self : (f : Affine) → Alike f f
+alike-self f = record { konst = refl; coefs = λ j. refl }
 
-zeros-fit : (cs : List ℤ) → AllFit (plus cs (map (λ c. negsuc 0 *ℤ c) cs))
-zeros-fit [] = tt
-zeros-fit (c ∷ cs) =
-    let e : c +ℤ negsuc 0 *ℤ c ≡ pos 0 = omega (arith, ints) in
-    (rw e (record { sfits = lit< tt }), zeros-fit cs)
+column-fits : (cs : List ℤ) (j : ℕ) → AllFit cs → Fits (get_or cs j (pos 0))
+column-fits [] zero h = fits-zero
+column-fits [] (suc j) h = fits-zero
+column-fits (c ∷ cs) zero h = h.0
+column-fits (c ∷ cs) (suc j) h = column-fits cs j h.1
 
-no-constant : (f : Affine) → f.konst +ℤ negsuc 0 *ℤ f.konst ≡ pos 0
-no-constant f = omega (arith, ints)
+no-sum : (x : ℤ) → pos 1 *ℤ x +ℤ pos 1 *ℤ (negsuc 0 *ℤ x) ≡ pos 0
+no-sum x = omega (arith, ints)
 
-can_cancel : (f : Affine) → FormFits f → FormFits (opposite f) → CanCombine (pos 1) f (pos 1) (opposite f)
-can_cancel f a b = (can_add f (opposite f) a b).1 (zeros-fit f.coefs, rw (no-constant f) (record { sfits = lit< tt }))
+cancels : (x y z : ℤ) → y ≡ x → z ≡ negsuc 0 *ℤ x → pos 1 *ℤ y +ℤ pos 1 *ℤ z ≡ pos 0
+cancels x y z a b = rw (a, b) (no-sum x)
 
-cancelled : (f : Affine) → is_zero (combined (pos 1) f (pos 1) (opposite f)) ≡ true
-cancelled f =
-    let zero : is_zero (added f (opposite f)) ≡ true = rw (zeros-of f.coefs, no-constant f) refl in
-    ap is_zero (added_is f (opposite f)) ∙ zero
+cancelled-fits : (x y z : ℤ) → y ≡ x → z ≡ negsuc 0 *ℤ x → Fits x → Fits (negsuc 0 *ℤ x) → MixFits (pos 1) y (pos 1) z
+cancelled-fits x y z a b h k = rw (cancels x y z a b, a, b, once x, once (negsuc 0 *ℤ x)) (h, k, fits-zero)
+
+turned-coef : (f h : Affine) → Alike (opposite f) h → (j : ℕ) → coef j h ≡ negsuc 0 *ℤ coef j f
+turned-coef f h b j = b.coefs j ∙ get_or-scaled (negsuc 0) f.coefs j
+
+-- forms that say what a form and its opposite say
+pub can_cancel : (f g h : Affine) → Alike f g → Alike (opposite f) h → FormFits f → FormFits (opposite f) → CanCombine (pos 1) g (pos 1) h
+can_cancel f g h a b x y = blends-can (pos 1) g (pos 1) h (record {
+  konst = cancelled-fits f.konst g.konst h.konst a.konst b.konst x.1 y.1;
+  coefs = λ j. cancelled-fits (coef j f) (coef j g) (coef j h) (a.coefs j) (turned-coef f h b j) (column-fits f.coefs j x.0) (subst Fits (get_or-scaled (negsuc 0) f.coefs j) (column-fits (opposite f).coefs j y.0));
+})
+
+pub cancelled : (f g h : Affine) → Alike f g → Alike (opposite f) h → is_zero (combined (pos 1) g (pos 1) h) ≡ true
+cancelled f g h a b =
+    rw (zeros (combined (pos 1) g (pos 1) h).coefs (λ j. get_or-mix (pos 1) g.coefs (pos 1) h.coefs j ∙ cancels (coef j f) (coef j g) (coef j h) (a.coefs j) (turned-coef f h b j)))
+    (test_zero _ (cancels f.konst g.konst h.konst a.konst b.konst))
 
 abbrev form_with : List ℤ → ℤ → Affine
 form_with cs k = record { konst = k; coefs = cs }
@@ -129,10 +144,10 @@ Splits e l r t = (refusal : Refusal Absurd) (c a b : Conj) → both_sides e c �
 abbrev pub StepsTo : List Step → Tree Absurd → Tree Absurd → Type 0
 StepsTo steps onward t = (refusal : Refusal Absurd) (c d : Conj) → after_steps steps c ≡ Some d → Accepts onward refusal d → Accepts t refusal c
 
-pub is-zero : (c : Conj) (f : Affine) (low high : ℕ) → HasRoom f 1 → IsAt c low (Ge f) → IsAt c high (Ge (under f 1)) → after_steps (EqCut low high ∷ []) c ≡ Some (with_row c (Eq f))
-is-zero c f low high h a b =
-    let turned : IsAt c high (Ge (opposite f)) = subst (λ (g : Affine). IsAt c high (Ge g)) (under-one f) b in
-    one-step (EqCut low high) c (with_row c (Eq f)) (eq_cut-row c low high f (opposite f) a turned (can_cancel f h.form h.turned) (cancelled f))
+pub is-zero : (c : Conj) (f g h : Affine) (low high : ℕ) → HasRoom f 1 → IsAt c low (Ge g) → Alike f g → IsAt c high (Ge h) → Alike (under f 1) h → after_steps (EqCut low high ∷ []) c ≡ Some (with_row c (Eq g))
+is-zero c f g h low high room a p b q =
+    let turned : Alike (opposite f) h = subst (λ (o : Affine). Alike o h) (under-one f) q in
+    one-step (EqCut low high) c (with_row c (Eq g)) (eq_cut-row c low high g h a b (can_cancel f g h p turned room.form room.turned) (cancelled f g h p turned))
 
 -- ---- two halves
 
@@ -182,7 +197,7 @@ accepts-back [] ys f n c h = subst (λ (g : Affine). AcceptsFrom ys g n c) (sym 
 accepts-back (x ∷ xs) ys f n c h = subst (λ (g : Affine). AcceptsFrom ys g n c) (less-less f (length xs)) (accepts-back xs ys (less f 1) n c h.1)
 
 -- the leaf that is left
-pub accepts-one : (t : Tree Absurd) (f : Affine) (c : Conj) → AcceptsFrom (t ∷ []) f 0 c → Accepts t absurd_refusals (with_row c (Eq f))
+pub accepts-one : (t : Tree Absurd) (f : Affine) (c : Conj) → AcceptsFrom (t ∷ []) f 0 c → (g : Affine) → Alike f g → Accepts t absurd_refusals (with_row c (Eq g))
 accepts-one t f c h = h.0 c (record { more = []; long = refl; is = ap (rows_over c.columns) (sym (append-nil c.rows)) })
 
 -- ---- the parts of a range

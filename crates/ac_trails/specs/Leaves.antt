@@ -11,6 +11,7 @@ use Rattle.ac_cert.specs.declared.types.Tree.{Tree}
 use Rattle.ac_cert.specs.Accepted.{Accepts, absurd_refusals}
 use Rattle.ac_cert.specs.Rules.{with_row}
 use Rattle.ac_cert.specs.StepRows.{IsAt}
+use Rattle.ac_trails.specs.Standing.{Alike}
 
 -- the form less a number
 abbrev pub less : Affine → ℕ → Affine
@@ -33,16 +34,20 @@ pub record GoesOn (n : ℕ) (c d : Conj) : Type 0 where
   pub long : length more ≡ n
   pub is : d ≡ record { columns = c.columns; rows = c.rows ++ more }
 
--- the tree is accepted behind so many further rows and then this one
-abbrev pub AcceptsBehind : Tree Absurd → ℕ → Row → Conj → Type 0
-AcceptsBehind t n r c = (d : Conj) → GoesOn n c d → Accepts t absurd_refusals (with_row d r)
+-- a row stands at the place that says what `f >= 0` says: up to coefficients 0 at the end of its form
+abbrev pub IsLikeAt : Conj → ℕ → Affine → Type 0
+IsLikeAt c i f = (g : Affine) × IsAt c i (Ge g) × Alike f g
+
+-- the tree is accepted behind so many further rows and then an equality that says what `f = 0` says
+abbrev pub AcceptsBehind : Tree Absurd → ℕ → Affine → Conj → Type 0
+AcceptsBehind t n f c = (d : Conj) → GoesOn n c d → (g : Affine) → Alike f g → Accepts t absurd_refusals (with_row d (Eq g))
 
 -- the trees in turn are accepted behind so many further rows where the form is worth 0, 1, 2 and so on
 abbrev pub AcceptsFrom : List (Tree Absurd) → Affine → ℕ → Conj → Type 0
 AcceptsFrom [] f n c = Unit {0}
-AcceptsFrom (t ∷ ts) f n c = AcceptsBehind t n (Eq f) c × AcceptsFrom ts (less f 1) n c
+AcceptsFrom (t ∷ ts) f n c = AcceptsBehind t n f c × AcceptsFrom ts (less f 1) n c
 
 -- the tree is accepted where the form is worth one of as many numbers as there are leaves, by the rows at these places of so many, and the leaves are behind them
 abbrev pub AcceptsRange : Tree Absurd → Affine → List (Tree Absurd) → ℕ → ℕ → ℕ → ℕ → Type 0
 AcceptsRange t f leaves depth low high end =
-    (c : Conj) → length f.coefs ≤ c.columns → length c.rows ≡ end → IsAt c low (Ge f) → IsAt c high (Ge (under f (length leaves))) → AcceptsFrom leaves f depth c → Accepts t absurd_refusals c
+    (c : Conj) → length f.coefs ≤ c.columns → length c.rows ≡ end → IsLikeAt c low f → IsLikeAt c high (under f (length leaves)) → AcceptsFrom leaves f depth c → Accepts t absurd_refusals c

@@ -6,14 +6,23 @@ ghost use Rattle.ac_forms.specs.declared.row.Row.TheVariants.{Eq, Ge};
 ghost use Rattle.ac_cert.specs.Accepted.{Accepts, absurd_refusals};
 ghost use Rattle.ac_cert.specs.Rules.{with_row};
 ghost use Rattle.ac_cert.specs.declared.types.Step.TheVariants.{EqCut};
-ghost use Rattle.ac_cert.specs.StepRows.{IsAt};
-ghost use Rattle.ac_trails.specs.Leaves.{less, under, HasRoom, AcceptsFrom, AcceptsRange};
+ghost use Rattle.ac_trails.specs.Leaves.{less, under, HasRoom, IsLikeAt, AcceptsFrom, AcceptsRange};
+ghost use Rattle.ac_trails.specs.Standing.{Alike};
 
 use ac_cert::types::Step;
 use ac_cert::{Absurd, Tree, behind_steps, split_tree};
 use ac_forms::Form;
 use ac_items::Items;
 use std::alloc::{AllocError, Global};
+
+/// How often a range of numbers is halved until each part has one of them.
+pub(crate) fn depth_of(count: usize) -> u32
+    ensures deep { count ≤ 2 ^ result }
+    ensures least { (k : ℕ) → count ≤ 2 ^ k → result ≤ k }
+{
+    let last = count.saturating_sub(1);
+    usize::BITS - last.leading_zeros()
+}
 
 /// The form less a number.
 #[tactic(auto, using(ac_integers::proofs::Bits::again_128))]
@@ -41,7 +50,7 @@ fn leaf_tree(
     high: usize,
     leaf: Tree<Absurd>,
 ) -> Result<Tree<Absurd>, AllocError>
-    ensures { IfOk result (λ t. (c : Conj) (f : Affine) → HasRoom f 1 → IsAt c low (Ge f) → IsAt c high (Ge (under f 1)) → Accepts leaf absurd_refusals (with_row c (Eq f)) → Accepts t absurd_refusals c) }
+    ensures { IfOk result (λ t. (c : Conj) (f : Affine) → HasRoom f 1 → IsLikeAt c low f → IsLikeAt c high (under f 1) → ((g : Affine) → Alike f g → Accepts leaf absurd_refusals (with_row c (Eq g))) → Accepts t absurd_refusals c) }
 {
     let steps = zero_steps(alloc, low, high)?;
     let tree = behind_steps(steps, leaf)?;
@@ -108,7 +117,7 @@ fn range_tree(
 
 /// A tree for a lower row of a column: where the row's form is at least the number of leaves the tree goes on with the row
 /// raised by it; else the form is worth one of the numbers from 0 on, and the leaves follow.
-fn raised_tree(
+pub(crate) fn raised_tree(
     alloc: Global,
     form: &Form,
     depth: u32,
@@ -120,7 +129,7 @@ fn raised_tree(
     requires some { 1 ≤ length leaves.items }
     requires deep { length leaves.items ≤ 2 ^ depth }
     requires room { HasRoom form.now (length leaves.items) }
-    ensures { IfOk result (λ t. (c : Conj) → length form.now.coefs ≤ c.columns → length c.rows ≡ end → IsAt c low (Ge form.now) → Accepts onward absurd_refusals (with_row c (Ge (less form.now (length leaves.items)))) → AcceptsFrom leaves.items form.now depth (with_row c (Ge (under form.now (length leaves.items)))) → Accepts t absurd_refusals c) }
+    ensures { IfOk result (λ t. (c : Conj) → length form.now.coefs ≤ c.columns → length c.rows ≡ end → IsLikeAt c low form.now → Accepts onward absurd_refusals (with_row c (Ge (less form.now (length leaves.items)))) → AcceptsFrom leaves.items form.now depth (with_row c (Ge (under form.now (length leaves.items)))) → Accepts t absurd_refusals c) }
 {
     let count = leaves.len();
     let Some(next) = end.checked_add(1) else {
