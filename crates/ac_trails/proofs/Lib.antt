@@ -13,3 +13,6 @@ pub mod Leaves
 pub mod Ranges
 pub mod Classes
 pub mod Refuted
+pub mod Branching
+pub mod RaisedPlaces
+pub mod Tried

@@ -59,12 +59,19 @@ lifts (r ∷ rs) [] = []
 lifts (r ∷ rs) (zero ∷ ns) = lifts rs ns
 lifts (r ∷ rs) (suc n ∷ ns) = Ge (less (form_of r) (suc n)) ∷ lifts rs ns
 
--- the place of each lower row of the column, raised by its number: its own where that is 0, else the next one
+-- where a row raised by a number stands: at its own place where that is 0, else at the next one
+abbrev pub raised_place : ℕ → ℕ → ℕ → ℕ
+raised_place zero p next = p
+raised_place (suc n) p next = next
+
+abbrev pub place_after : ℕ → ℕ → ℕ
+place_after zero next = next
+place_after (suc n) next = next + 1
+
+-- the places of the lower rows of the column, each raised by its number
 abbrev pub raised_places : ℕ → List Row → List ℕ → List ℕ → ℕ → List ℕ
-raised_places z [] ns ps next = []
-raised_places z (r ∷ rs) (zero ∷ ns) (p ∷ ps) next = cond (is_lower_row z (Some r)) (p ∷ raised_places z rs ns ps next) (raised_places z rs ns ps next)
-raised_places z (r ∷ rs) (suc n ∷ ns) (p ∷ ps) next = cond (is_lower_row z (Some r)) (next ∷ raised_places z rs ns ps (next + 1)) (raised_places z rs ns ps (next + 1))
-raised_places z (r ∷ rs) _ _ next = []
+raised_places z (r ∷ rs) (n ∷ ns) (p ∷ ps) next = cond (is_lower_row z (Some r)) (raised_place n p next ∷ raised_places z rs ns ps (place_after n next)) (raised_places z rs ns ps (place_after n next))
+raised_places z _ _ _ next = []
 
 -- the second row is the first one on the path
 pub record IsAlong (ns : List ℕ) (r s : Row) : Type 0 where

@@ -1,11 +1,11 @@
 //! Where the rows that a choice leaves stand.
-ghost use Rattle.std.specs.Prelude.{◌≡◌, ◌<◌, ◌≤ℤ◌, ◌<ℤ◌, pos, ℕ, List, [], ◌∷◌, true, length, map, slice_get, Some, ◌+◌, IfOk, IfSome};
+ghost use Rattle.std.specs.Prelude.{◌≡◌, ◌<◌, ◌≤ℤ◌, ◌<ℤ◌, pos, ℕ, List, [], ◌∷◌, true, length, map, slice_get, Some, ◌+◌, ◌++◌, cond, IfOk, IfSome};
 ghost use Rattle.ac_forms.specs.Rows.{AreRowsOver, IsWellMade};
 ghost use Rattle.ac_cert.specs.Bounds.{greatest_size, highs, only_bounds};
 ghost use Rattle.ac_cert.specs.ChoiceFits.{choice_fits};
 ghost use Rattle.ac_cert.specs.Choices.{is_equality_of, is_lower_row};
 ghost use Rattle.ac_cert.specs.declared.choose.Choice.TheVariants.{Drop, Equal, Residue, Shadow, Splinter};
-ghost use Rattle.ac_trails.specs.Branches.{IsBranch, IsSplinterOf, IsTry, lift_count, raised_places, splinter_count, stage};
+ghost use Rattle.ac_trails.specs.Branches.{IsBranch, IsSplinterOf, IsTry, lift_count, place_after, raised_place, raised_places, splinter_count, stage};
 ghost use Rattle.ac_trails.specs.Refutations.{AreModest};
 
 use crate::by_equality::{free_rows, splinter_rows};
@@ -110,6 +110,7 @@ fn residue_branch(
 }
 
 /// How many numbers are not 0.
+#[tactic(auto, using(crate::proofs::RaisedPlaces::lift_steps))]
 fn lift_count(counts: &[usize]) -> usize
     ensures { result ≡ lift_count counts.now }
 {
@@ -133,7 +134,43 @@ fn is_lower_row(z: usize, row: &Row) -> bool
     }
 }
 
+/// Where a row with so many splinters stands beyond them: at its own place, if there is none, else at the next one.
+#[tactic(auto, using(crate::proofs::RaisedPlaces::place_steps))]
+fn raised_place(count: usize, place: usize, next: usize) -> usize
+    ensures { result ≡ raised_place count place next }
+{
+    if count == 0 { place } else { next }
+}
+
+/// The next place behind a row with so many splinters.
+#[tactic(auto, using(crate::proofs::RaisedPlaces::place_steps))]
+fn place_after(count: usize, next: usize) -> Option<usize>
+    ensures { IfSome result (λ after. after ≡ place_after count next) }
+{
+    if count == 0 {
+        return Some(next);
+    }
+    next.checked_add(1)
+}
+
+/// Adds the place of a row, if it is a lower one of a column.
+fn push_lower(
+    raised: &mut Vec<usize>,
+    z: usize,
+    row: &Row,
+    place: usize,
+) -> Result<(), AllocError>
+    ensures { IfOk result (λ _. raised.new.items ≡ raised.old.items ++ cond (is_lower_row z (Some row.now)) (place ∷ []) []) }
+{
+    if !is_lower_row(z, row) {
+        return Ok(());
+    }
+    raised.push(place)?;
+    Ok(())
+}
+
 /// The place of each lower row of a column behind its splinters: its own where it has none, else the next one.
+#[tactic(auto, using(crate::proofs::RaisedPlaces::raised_step))]
 fn raised_places(
     alloc: Global,
     z: usize,
@@ -149,15 +186,11 @@ fn raised_places(
     let mut raised = Vec::new(alloc);
     let mut next = first;
     for i in 0..rows.len() {
-        let place = if counts[i] == 0 { places[i] } else { next };
-        if is_lower_row(z, &rows[i]) {
-            raised.push(place)?;
-        }
-        if counts[i] > 0 {
-            let Some(after) = next.checked_add(1) else {
-                return Err(AllocError);
-            };
-            next = after;
+        let place = raised_place(counts[i], places[i], next);
+        push_lower(&mut raised, z, &rows[i], place)?;
+        match place_after(counts[i], next) {
+            Some(after) => next = after,
+            None => return Err(AllocError),
         }
     }
     Ok(raised)

@@ -56,7 +56,7 @@ pub(crate) fn splinter_rows(
     ensures long { IfOk result (λ s. length s.places.items ≡ length s.rows.items) }
     ensures rows { IfOk result (λ s. s.rows.items ≡ left_by (Splinter z i k) rows.now) }
     ensures calm { IfOk result (λ s. AreCalm s.rows.items) }
-    ensures stand { IfOk result (λ s. (b : Base) (path : Conj) (names : List ℕ) → StandOn b names rows.now places.now path → ((f : Affine) → slice_get rows.now i ≡ Some (Ge f) → StandsAt names path place (Eq (record { konst = f.konst -ℤ k; coefs = f.coefs }))) → StandOn b names s.rows.items s.places.items path) }
+    ensures stand { IfOk result (λ s. (b : Base) (path : Conj) (names : List ℕ) (f : Affine) → slice_get rows.now i ≡ Some (Ge f) → StandOn b names rows.now places.now path → StandsAt names path place (Eq (record { konst = f.konst -ℤ k; coefs = f.coefs })) → StandOn b names s.rows.items s.places.items path) }
 {
     Err(AllocError)
 }

@@ -10,9 +10,10 @@ ghost use Rattle.ac_trails.specs.Descents.{AreCalm, Carries, StandOn};
 ghost use Rattle.ac_trails.specs.Refutations.{IsRefutationOf, IsModest, AreModest, Refutes, conj_of};
 
 use crate::branch::{Branch, branch_of};
-use crate::choice_tree::{choice_tree, counts_of, depth_of};
+use crate::choice_tree::{choice_tree, counts_of};
 use crate::descent::{Base, Below};
 use crate::refutation::Refutation;
+use crate::splinter_tree::depth_of;
 use ac_cert::{Absurd, Choice, Tree, absurd_tree, behind_steps};
 use ac_forms::Conj;
 use std::alloc::{AllocError, Global};

@@ -14,13 +14,6 @@ use ac_cert::{Absurd, Choice, Tree};
 use ac_forms::{Conj, Form, Row};
 use std::alloc::{AllocError, Global};
 
-/// A number of bits for numbers up to a count.
-pub(crate) fn depth_of(count: usize) -> u32
-    ensures { count ≤ 2 ^ result }
-{
-    64
-}
-
 /// How many of the choices are splinters of a row.
 fn count_of(choices: &[Choice], i: usize) -> usize
     ensures value { result ≡ count_of i choices.now }

@@ -14,7 +14,6 @@ pub(crate) fn renamed(
     columns: usize,
     form: &Form,
 ) -> Result<Form, AllocError>
-    requires { length form.now.coefs ≤ length names.now }
     ensures renames { IfOk result (λ f. AreNames columns names.now → Renames names.now form.now f) }
     ensures konst { IfOk result (λ f. f.konst ≡ form.now.konst) }
     ensures sizes { IfOk result (λ f. (n : ℕ) → ((j : ℕ) → unsigned_abs (coef j form.now) ≤ n) → (j : ℕ) → unsigned_abs (coef j f) ≤ n) }
