@@ -16,3 +16,4 @@ pub mod Refuted
 pub mod Branching
 pub mod RaisedPlaces
 pub mod Tried
+pub mod Certified

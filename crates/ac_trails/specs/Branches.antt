@@ -14,6 +14,7 @@ use Rattle.ac_cert.specs.Accepted.{Accepts, absurd_refusals}
 use Rattle.ac_cert.specs.Bounds.{is_low, highs, only_bounds, greatest_size, last_splinter}
 use Rattle.ac_cert.specs.ChoiceFits.{after_choice}
 use Rattle.ac_cert.specs.Choices.{is_equality_of, is_lower_row, left_by}
+use Rattle.ac_cert.specs.Ends.{is_absurd}
 use Rattle.ac_cert.specs.Rules.{class}
 use Rattle.ac_trails.specs.Descents.{StandOn, AreCalm, Carries}
 use Rattle.ac_trails.specs.Leaves.{less}
@@ -229,3 +230,8 @@ AllModest (r ∷ rs) = IsModest r × AllModest rs
 abbrev pub HasPlaces : Below → List Row → Type 0
 HasPlaces (below.Absurd i) rs = Unit {0}
 HasPlaces (below.Rows places) rs = length places.items ≡ length rs
+
+-- the rows stand on the path, or an absurd row does
+abbrev pub IsSettled : Base → List ℕ → Below → List Row → Conj → Type 0
+IsSettled b ns (below.Absurd i) rs path = is_absurd (slice_get path.rows i) ≡ true
+IsSettled b ns (below.Rows places) rs path = StandOn b ns rs places.items path

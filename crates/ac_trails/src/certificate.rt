@@ -5,7 +5,7 @@ ghost use Rattle.ac_forms.specs.Rows.{AreRowsOver, IsWellMade};
 ghost use Rattle.ac_forms.specs.Tests.{rows_fit};
 ghost use Rattle.ac_forms.specs.declared.conj.Conj.{Conj};
 ghost use Rattle.ac_cert.specs.Accepted.{Accepts, absurd_refusals};
-ghost use Rattle.ac_trails.specs.Branches.{AllModest, AreTries, RefuteAll, ServeFirst, stage};
+ghost use Rattle.ac_trails.specs.Branches.{AllModest, AreTries, HasPlaces, IsSettled, RefuteAll, ServeFirst, stage};
 ghost use Rattle.ac_trails.specs.Descents.{AreCalm, Carries, StandOn};
 ghost use Rattle.ac_trails.specs.Refutations.{IsRefutationOf, IsModest, AreModest, Refutes, conj_of};
 
@@ -120,11 +120,29 @@ fn beneath(
     } = branch;
     let normal = child.conj().rows.as_slice();
     let below = trail.show_normal_form(alloc, &names, &standing, normal)?;
-    let tree = match below {
-        Below::Absurd(place) => absurd_tree(alloc, place),
-        Below::Rows(places) => certify_at(alloc, trail.base(), &names, &places, child)?,
-    };
+    let tree = certify_below(alloc, trail.base(), &names, below, child)?;
     behind_steps(trail.steps, tree)
+}
+
+/// The tree behind the steps to a normal form.
+#[cycle(certifies)]
+fn certify_below(
+    alloc: Global,
+    base: Base,
+    names: &[usize],
+    below: Below,
+    refutation: &Refutation,
+) -> Result<Tree<Absurd>, AllocError>
+    requires long { HasPlaces below (conj_of refutation.now).rows }
+    requires names { length names.now ≡ (conj_of refutation.now).columns }
+    requires refutes { Refutes refutation.now }
+    requires modest { IsModest refutation.now }
+    ensures { IfOk result (λ t. (path : Conj) → IsSettled base names.now below (conj_of refutation.now).rows path → Accepts t absurd_refusals path) }
+{
+    match below {
+        Below::Absurd(place) => Ok(absurd_tree(alloc, place)),
+        Below::Rows(places) => certify_at(alloc, base, names, &places, refutation),
+    }
 }
 
 /// The certificate that a question has no integer point, from a refutation of its normal form whose numbers are not large:
