@@ -1,6 +1,6 @@
 -- From a refutation's parts to what the makers of its certificate ask, and back to acceptance.
 use Rattle.std.proofs.Common.{◌≡◌, ℕ, zero, suc, ◌+◌, ◌<◌, ◌≤◌, ℤ, pos, negsuc, Bool, true, false, cond, List, [], ◌∷◌, ◌++◌, length, get_or, Option, Some, None, slice_get, refl, sym, ap, subst, ◌∙◌, arith, rules}
-use Rattle.std.specs.Prelude.{◌&&◌}
+use Rattle.std.specs.Prelude.{◌&&◌, Result, IfOk}
 use Rattle.std.specs.Int.Signed.{lt_z}
 use Rattle.std.specs.Ordering.{int_eq}
 use Rattle.std.proofs.lemmas.Int.{ints}
@@ -34,6 +34,7 @@ use Rattle.ac_trails.specs.declared.path.Trail.{Trail}
 use Rattle.ac_trails.specs.declared.refutation.Refutation.{Refutation, the_lemmas}
 use Rattle.ac_trails.specs.declared.refutation.Refutation.TheVariants.{Absurd, Open}
 use Rattle.ac_trails.proofs.Inequalities.{absurd-at}
+use Rattle.ac_trails.proofs.Branching.{ok-as}
 use Rattle.ac_trails.proofs.Refuted.{refutes_open, refutes_absurd, modest_open, refuted-at, all_modest-at, try-at, modest-at, after-choice, refute-lengths}
 use Rattle.ac_trails.proofs.Tried.{Fan, choices_fan}
 
@@ -170,3 +171,21 @@ serves s h b t i go = λ c d on begins. go d (i.carries c d on begins)
 pub settled : (t : Trail) (start : Conj) (ns : List ℕ) (b : Below) (rs : List Row) → Settles t start ns b rs → (path : Conj) × (after_steps t.steps start ≡ Some path) × IsSettled (base_of t) ns b rs path
 settled t start ns (below.Absurd i) rs h = (h.path, h.steps, h.row)
 settled t start ns (below.Rows places) rs h = (h.path, h.steps, h.stand)
+
+pub behind : {E : Type 0} (x : Branch) (t : Trail) (b : Base) (ns ms : List ℕ) (l : Below) (normal : List Row) (r : Refutation) (tree : Tree End) (res : Result (Tree End) E) → ns ≡ x.names.items → ms ≡ x.names.items → normal ≡ (conj_of r).rows → b ≡ base_of t
+    → ((start : Conj) → Carries x.trail start ns x.standing.rows.items x.standing.places.items → Settles t start ns l normal)
+    → ((path : Conj) → IsSettled b ms l (conj_of r).rows path → Accepts tree absurd_refusals path)
+    → IfOk res (λ u. (refusal : Refusal End) (c d : Conj) → after_steps t.steps c ≡ Some d → Accepts tree refusal d → Accepts u refusal c)
+    → IfOk res (λ u. (start : Conj) → Carries x.trail start x.names.items x.standing.rows.items x.standing.places.items → Accepts u absurd_refusals start)
+behind x t b ns ms l normal r tree res en em er eb settle go k =
+    ok-as (λ (u : Tree End). (refusal : Refusal End) (c d : Conj) → after_steps t.steps c ≡ Some d → Accepts tree refusal d → Accepts u refusal c)
+    (λ (u : Tree End). (start : Conj) → Carries x.trail start x.names.items x.standing.rows.items x.standing.places.items → Accepts u absurd_refusals start)
+    res (λ u accepted start carries. one u accepted start carries) k
+  where
+    one : (u : Tree End) → ((refusal : Refusal End) (c d : Conj) → after_steps t.steps c ≡ Some d → Accepts tree refusal d → Accepts u refusal c) → (start : Conj) → Carries x.trail start x.names.items x.standing.rows.items x.standing.places.items → Accepts u absurd_refusals start
+    one u accepted start carries =
+        let first : Carries x.trail start ns x.standing.rows.items x.standing.places.items = subst (λ (q : List ℕ). Carries x.trail start q x.standing.rows.items x.standing.places.items) (sym en) carries in
+        let s = settled t start ns l normal (settle start first) in
+        let here : IsSettled b ns l normal s.0 = subst (λ (q : Base). IsSettled q ns l normal s.0) (sym eb) s.2 in
+        let renamed : IsSettled b ms l normal s.0 = subst (λ (q : List ℕ). IsSettled b q l normal s.0) (en ∙ sym em) here in
+        accepted absurd_refusals start s.0 s.1 (go s.0 (subst (λ (q : List Row). IsSettled b ms l q s.0) er renamed))

@@ -5,7 +5,7 @@ use Rattle.ac_cert.specs.declared.choose.Choice.TheVariants.{Drop}
 use Rattle.ac_trails.specs.Branches.{Stage, stage, IsBranch}
 use Rattle.ac_trails.specs.Refutations.{conj_of}
 use Rattle.ac_trails.specs.declared.refutation.Refutation.{the_lemmas}
-use Rattle.ac_trails.proofs.Certified.{open-conj, absurd-rows, absurd-length, absurd-stands, choice-own, choice-fits, Opened, opened, Chosen, chosen, Ready, ready, serves, settled}
+use Rattle.ac_trails.proofs.Certified.{open-conj, absurd-rows, absurd-length, absurd-stands, behind, choice-own, choice-fits, Opened, opened, Chosen, chosen, Ready, ready, serves, settled}
 use Rattle.ac_trails.proofs.Refuted.{served-more, refute-lengths, modest-at, try-at}
 use Rattle.ac_trails.proofs.certificate.+certifies.Goals as goal
 
@@ -92,4 +92,6 @@ pub certify_each-returns-clause-each : goal.certify_each-returns-clause-each
 certify_each-returns-clause-each t c = omega (arith, c.loop-j.invariant.long, refute-lengths c.args.conj.now c.args.choices.now c.args.below.now c.requires.refuted)
 
 pub beneath-returns : goal.beneath-returns
-beneath-returns t c = ?
+beneath-returns t c =
+    behind c.args.branch c.show_normal_form.new.self c.base.result c.deref.result.now c.deref-2.result.now c.in_ok-below.below c.as_slice-normal.result.now c.args.child.now c.in_ok-tree.tree c.behind_steps.result c.deref.ensures.value c.deref-2.ensures.value (c.as_slice-normal.ensures ∙ ap (λ (d : Conj). d.rows) c.conj.ensures) c.base.ensures
+    c.in_ok-below.ensures.settles c.in_ok-tree.ensures c.behind_steps.ensures.accepted
