@@ -17,3 +17,5 @@ pub mod Branching
 pub mod RaisedPlaces
 pub mod Tried
 pub mod Certified
+pub mod Counting
+pub mod ChoiceTrees

@@ -32,7 +32,7 @@ use Rattle.ac_trails.specs.Tries.{Tries, first_equality, has_divisibility, lcm, 
 one-of : (h : Choice) (hs : List Choice) → all_of (Some h ∷ []) ≡ Some hs → hs ≡ h ∷ []
 one-of h hs e = cc
 
-residues-are : (n z : ℕ) (m : ℤ) (r : ℕ) → all_of (residues_from n z m r) ≡ Some (residue_choices n z m r)
+pub residues-are : (n z : ℕ) (m : ℤ) (r : ℕ) → all_of (residues_from n z m r) ≡ Some (residue_choices n z m r)
 residues-are zero z m r = refl
 residues-are (suc n) z m r = ap (option_map (λ (rest : List Choice). choice.Residue z m (pos r) ∷ rest)) (residues-are n z m (suc r))
 
@@ -79,7 +79,7 @@ other-place i j h = ne_eqb i j (λ e. omega (arith, e))
 other-above : (i j : ℕ) → i < j → nat_eq j i ≡ false
 other-above i j h = ne_eqb j i (λ e. omega (arith, e))
 
-count-append : (i : ℕ) (xs ys : List Choice) → count_of i (xs ++ ys) ≡ count_of i xs + count_of i ys
+pub count-append : (i : ℕ) (xs ys : List Choice) → count_of i (xs ++ ys) ≡ count_of i xs + count_of i ys
 count-append i [] ys = omega arith
 count-append i (choice.Drop z ∷ xs) ys = count-append i xs ys
 count-append i (choice.Equal z j ∷ xs) ys = count-append i xs ys

@@ -14,33 +14,38 @@ use ac_cert::{Absurd, Choice, Tree};
 use ac_forms::{Conj, Form, Row};
 use std::alloc::{AllocError, Global};
 
+/// How many splinters of a row a choice is: one or none.
+#[tactic(auto, using(crate::proofs::Counting::place_steps))]
+fn count_in(choice: &Choice, i: usize) -> usize
+    ensures value { result ≡ count_of i (choice.now ∷ []) }
+    ensures few { result ≤ 1 }
+{
+    match choice {
+        Choice::Splinter(_, place, _) => {
+            if *place == i {
+                1
+            } else {
+                0
+            }
+        }
+        Choice::Drop(_) | Choice::Equal(_, _) | Choice::Residue(_, _, _) | Choice::Shadow(_) => 0,
+    }
+}
+
 /// How many of the choices are splinters of a row.
+#[tactic(auto, using(crate::proofs::Counting::count_step))]
 fn count_of(choices: &[Choice], i: usize) -> usize
-    ensures value { result ≡ count_of i choices.now }
-    ensures few { result ≤ length choices.now }
+    ensures { result ≡ count_of i choices.now }
 {
     let mut count = 0;
     for choice in choices {
-        if is_splinter_of(choice, i) {
-            count += 1;
-        }
+        count += count_in(choice, i);
     }
     count
 }
 
-/// Whether a choice is a splinter of a row.
-fn is_splinter_of(choice: &Choice, i: usize) -> bool
-    ensures { count_of i (choice.now ∷ []) ≡ cond result 1 0 }
-{
-    match choice {
-        Choice::Splinter(_, place, _) => *place == i,
-        Choice::Drop(_) | Choice::Equal(_, _) | Choice::Residue(_, _, _) | Choice::Shadow(_) => {
-            false
-        }
-    }
-}
-
 /// How many of the choices are splinters of each row.
+#[tactic(auto, using(crate::proofs::Counting::counts_step))]
 pub(crate) fn counts_of(
     alloc: Global,
     choices: &[Choice],
