@@ -40,3 +40,10 @@ pub mod Spreading
 pub mod QuotientSteps
 pub mod SpreadSizes
 pub mod SpreadRows
+pub mod Refuted
+pub mod Branching
+pub mod RaisedPlaces
+pub mod Tried
+pub mod Certified
+pub mod Counting
+pub mod ChoiceTrees

@@ -7,3 +7,4 @@ pub mod Lefts
 pub mod Replacements
 pub mod Shadowing
 pub mod Residues
+pub mod Branches

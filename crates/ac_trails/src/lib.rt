@@ -10,6 +10,7 @@
 //! the condition on numbers from their greatest, and the tree of a whole elimination.
 #![tactic(auto)]
 
+mod branch;
 mod by_equality;
 mod by_residue;
 mod by_shadow;
@@ -21,6 +22,7 @@ mod left_search;
 mod margins;
 mod normal_divisibility;
 mod normal_equality;
+mod choice_tree;
 mod normal_form;
 mod path;
 mod refutation;

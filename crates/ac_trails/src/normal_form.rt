@@ -5,6 +5,7 @@ ghost use Rattle.ac_forms.specs.NormalRows.{normal_row};
 ghost use Rattle.ac_forms.specs.Rows.{AreRowsOver};
 ghost use Rattle.ac_forms.specs.Tests.{rows_fit};
 ghost use Rattle.ac_forms.specs.declared.conj.Conj.{Conj};
+ghost use Rattle.ac_trails.specs.Branches.{HasPlaces};
 ghost use Rattle.ac_trails.specs.Descents.{AreCalm, Carries, Settles};
 ghost use Rattle.ac_trails.specs.Lefts.{CarriesLefts};
 
@@ -29,6 +30,7 @@ impl Trail {
         requires fits { rows_fit standing.now.rows.items ≡ true }
         requires calm { AreCalm standing.now.rows.items }
         requires normal { normal.now ≡ normal_form standing.now.rows.items }
+        ensures long { IfOk result (λ b. HasPlaces b normal.now) }
         ensures settles { IfOk result (λ b. (start : Conj) → Carries self.old start names.now standing.now.rows.items standing.now.places.items → Settles self.new start names.now b normal.now) }
     {
         let lefts = self.show_all_left(

@@ -1,0 +1,20 @@
+use Rattle.std.proofs.Common.{◌≡◌, ℕ, pos, List, length, arith, rules, sym, ap, ◌∙◌, subst}
+use Rattle.ac_integers.proofs.Bits.{again_128}
+use Rattle.ac_forms.specs.Fits.{Fits}
+use Rattle.ac_cert.specs.declared.choose.Choice.{Choice}
+use Rattle.ac_trails.specs.Branches.{Stage, stage, AreResidues, ServeFirst, residue_choices}
+use Rattle.ac_trails.proofs.ChoiceTrees.{are-residues, residues-long, residues-accepted}
+use Rattle.ac_trails.proofs.choice_tree.choice_tree.Goals as goal
+
+pub residues_tree-requires-clause-each : goal.residues_tree-requires-clause-each
+residues_tree-requires-clause-each c =
+    let f : Fits c.in-Residue.m = search rules in
+    let a : AreResidues c.args.conj.now.columns c.in-Residue.z c.in-Residue.m c.args.choices.now = are-residues c.args.conj.now.columns c.args.conj.now.rows c.args.counts.now c.args.choices.now c.in-Residue.z c.in-Residue.m c.in-Residue.field-2 c.requires.all c.in-Residue.is in
+    again_128 c.in-Residue.m f ∙ a.is ∙ ap (λ (n : ℕ). pos n) (sym (c.requires.each ∙ residues-long c.args.conj.now.columns c.in-Residue.z c.in-Residue.m c.args.choices.now a))
+
+pub returns-in-Residue : goal.returns-in-Residue
+returns-in-Residue c =
+    let f : Fits c.in-Residue.m = search rules in
+    let s : Stage = stage c.args.base c.args.names.now c.args.places.now c.args.conj.now.rows c.args.counts.now c.args.depth in
+    let a : AreResidues c.args.conj.now.columns c.in-Residue.z c.in-Residue.m c.args.choices.now = are-residues c.args.conj.now.columns c.args.conj.now.rows c.args.counts.now c.args.choices.now c.in-Residue.z c.in-Residue.m c.in-Residue.field-2 c.requires.all c.in-Residue.is in
+    residues-accepted s c.args.conj.now.columns c.in-Residue.z c.in-Residue.m c.args.choices.now c.args.trees.items c.residues_tree.result a c.requires.each c.requires.served (rw (again_128 c.in-Residue.m f) at c.residues_tree.ensures)
