@@ -40,4 +40,6 @@ pub use path::Trail;
 pub use refutation::Refutation;
 
 #[cfg(test)]
+mod normal_form_tests;
+#[cfg(test)]
 mod tests;
