@@ -33,4 +33,6 @@ pub use path::Trail;
 pub use refutation::Refutation;
 
 #[cfg(test)]
+mod equality_tests;
+#[cfg(test)]
 mod tests;
