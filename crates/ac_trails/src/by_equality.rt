@@ -1,6 +1,6 @@
 //! The rows that choices of one outcome leave, on the path: by an equality, and without a column; and those of a splinter
 //! (W. Pugh, The Omega test, 1991).
-ghost use Rattle.std.specs.Prelude.{◌≡◌, ◌≤◌, ◌<◌, ℕ, List, [], ◌∷◌, ◌++◌, pos, ◌≤ℤ◌, ◌-ℤ◌, length, take, drop, ◌+◌, true, slice_get, Some, IfOk, OnOk};
+ghost use Rattle.std.specs.Prelude.{◌≡◌, ◌<◌, ℕ, List, [], ◌∷◌, ◌++◌, pos, ◌≤ℤ◌, ◌-ℤ◌, length, take, drop, ◌+◌, true, slice_get, Some, IfOk, OnOk};
 ghost use Rattle.ac_forms.specs.Affine.{Affine, coef};
 ghost use Rattle.ac_forms.specs.Fits.{Fits};
 ghost use Rattle.ac_forms.specs.Rows.{AreRowsOver, HaveModuli};
@@ -11,7 +11,6 @@ ghost use Rattle.ac_cert.specs.ChoiceFits.{equality_fits};
 ghost use Rattle.ac_cert.specs.Choices.{size_of, by_equality, is_equality_of, left_by};
 ghost use Rattle.ac_cert.specs.declared.choose.Choice.TheVariants.{Drop, Equal, Splinter};
 ghost use Rattle.ac_trails.specs.Descents.{AreNames, AreCalm, Carries, StandOn};
-ghost use Rattle.ac_trails.specs.Leaves.{less};
 ghost use Rattle.ac_trails.specs.Refutations.{AreModest};
 ghost use Rattle.ac_trails.specs.Replacements.{CanDivide, CanReplaceAll, LeadsAll};
 ghost use Rattle.ac_trails.specs.Standing.{StandsAt, Stand, Reaches, Leads, IsSameBase};
@@ -175,7 +174,7 @@ impl Trail {
         Ok(place)
     }
 
-    /// Adds that row.
+    /// Adds that row, of the equality at a place.
     fn keep_divided(
         &mut self,
         alloc: Global,

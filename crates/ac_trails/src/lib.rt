@@ -41,5 +41,6 @@ pub use refutation::Refutation;
 
 #[cfg(test)]
 mod normal_form_tests;
+mod equality_tests;
 #[cfg(test)]
 mod tests;

@@ -1,6 +1,6 @@
 //! Rows in which an equality replaces a column, one by one: as they are written, and on the path
 //! (W. Pugh, The Omega test, 1991).
-ghost use Rattle.std.specs.Prelude.{◌≡◌, ◌≤◌, ℕ, List, [], ◌∷◌, ◌++◌, map, length, OnOk, IfOk};
+ghost use Rattle.std.specs.Prelude.{◌≡◌, ℕ, List, [], ◌∷◌, ◌++◌, map, length, OnOk, IfOk};
 ghost use Rattle.ac_forms.specs.Affine.{coef, combined, CanCombine};
 ghost use Rattle.ac_forms.specs.Fits.{Fits};
 ghost use Rattle.ac_forms.specs.declared.conj.Conj.{Conj};

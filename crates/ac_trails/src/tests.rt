@@ -21,7 +21,12 @@ fn conj_of(alloc: Global, first: Row, second: Row, third: Row) -> Result<Conj, A
 }
 
 /// Whether the trail shows an absurd row of the conjunction at a place.
-fn is_refuted(alloc: Global, conj: &Conj, trail: Trail, place: usize) -> Result<bool, AllocError> {
+pub(crate) fn is_refuted(
+    alloc: Global,
+    conj: &Conj,
+    trail: Trail,
+    place: usize,
+) -> Result<bool, AllocError> {
     let tree = behind_steps(trail.steps, absurd_tree(alloc, place))?;
     Ok(conj.is_well_made() && check_tree(alloc, conj, &tree, &()).is_ok())
 }
