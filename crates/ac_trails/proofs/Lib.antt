@@ -20,3 +20,12 @@ pub mod Certified
 pub mod Counting
 pub mod ChoiceTrees
 pub mod RaisedTrees
+pub mod Moderate
+pub mod ModerateSplinters
+pub mod StandingLists
+pub mod FreeRows
+pub mod Names
+pub mod Equated
+pub mod ReplacedRows
+pub mod Divided
+pub mod ByEquality

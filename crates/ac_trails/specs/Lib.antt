@@ -4,3 +4,4 @@ pub mod Tries
 pub mod Refutations
 pub mod Descents
 pub mod Branches
+pub mod Replacements
