@@ -29,3 +29,9 @@ pub mod Equated
 pub mod ReplacedRows
 pub mod Divided
 pub mod ByEquality
+pub mod Enough
+pub mod ShadowNumbers
+pub mod Shadowed
+pub mod Bounding
+pub mod Shadowings
+pub mod ShadowsLeft

@@ -5,3 +5,4 @@ pub mod Refutations
 pub mod Descents
 pub mod Branches
 pub mod Replacements
+pub mod Shadowing

@@ -18,6 +18,7 @@ mod certificate;
 mod descent;
 mod choice_tree;
 mod kept;
+mod margins;
 mod normal_form;
 mod path;
 mod refutation;

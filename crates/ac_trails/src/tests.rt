@@ -98,6 +98,26 @@ fn sums_of_bounds(alloc: Global) -> Result<bool, AllocError> {
     is_refuted(alloc, &halves(alloc)?, trail, place)
 }
 
+/// `2y - 3 >= 0`, `-3y + 4 >= 0` and `2y - 4 >= 0`.
+fn thirds(alloc: Global) -> Result<Conj, AllocError> {
+    let low = Row::Ge(form(alloc, -3, 0, 2)?);
+    let high = Row::Ge(form(alloc, 4, 0, -3)?);
+    let raised = Row::Ge(form(alloc, -4, 0, 2)?);
+    conj_of(alloc, low, high, raised)
+}
+
+/// The first column here is the second one there. The row has one splinter, 0, and is raised beyond it.
+fn a_dark_shadow(alloc: Global) -> Result<bool, AllocError> {
+    let low = Row::Ge(Form::from_parts(alloc, -3, &[2])?);
+    let high = Row::Ge(Form::from_parts(alloc, 4, &[-3])?);
+    let mut trail = Trail::start(alloc, 2, 3)?;
+    let left = trail.show_shadow(alloc, &[1, 0], 0, &[low, high], &[0, 1], &[2])?;
+    match left.places.as_slice() {
+        [place] => is_refuted(alloc, &thirds(alloc)?, trail, *place),
+        _ => Ok(false),
+    }
+}
+
 #[test]
 fn each_call_shows_what_it_says(rt: HostRuntime) -> Result<(), Fail> {
     let alloc = rt.alloc();
@@ -107,5 +127,6 @@ fn each_call_shows_what_it_says(rt: HostRuntime) -> Result<(), Fail> {
     assert!(rt; two_equalities_that_clash(alloc)?);
     assert!(rt; normal_forms_of_bounds(alloc)?);
     assert!(rt; sums_of_bounds(alloc)?);
+    assert!(rt; a_dark_shadow(alloc)?);
     Ok(())
 }
