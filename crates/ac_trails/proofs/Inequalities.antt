@@ -25,7 +25,7 @@ zero_size : (c : ℤ) → unsigned_abs c ≡ 0 → c ≡ pos 0
 zero_size (pos n) e = ap pos e
 zero_size (negsuc n) e = absurd (omega arith)
 
-no_coefs : (cs : List ℤ) (j : ℕ) → (content cs == 0) ≡ true → get_or cs j (pos 0) ≡ pos 0
+pub no_coefs : (cs : List ℤ) (j : ℕ) → (content cs == 0) ≡ true → get_or cs j (pos 0) ≡ pos 0
 no_coefs cs j e =
     let d : DividesEach 0 cs = rw (eqb-true _ _ e) at (gcd_all_divides 0 cs).1 in
     zero_size (get_or cs j (pos 0)) (eq-zero_of_zero-dvd (divides-coef 0 cs j d))

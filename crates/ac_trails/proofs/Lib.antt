@@ -35,3 +35,10 @@ pub mod Shadowed
 pub mod Bounding
 pub mod Shadowings
 pub mod ShadowsLeft
+pub mod SmallNumbers
+pub mod NormalEqualities
+pub mod NormalDivisibilities
+pub mod SameRows
+pub mod LeftRows
+pub mod LeftSearches
+pub mod NormalForms

@@ -6,3 +6,4 @@ pub mod Descents
 pub mod Branches
 pub mod Replacements
 pub mod Shadowing
+pub mod Lefts

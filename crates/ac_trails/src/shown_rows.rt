@@ -1,5 +1,5 @@
 //! Rows that stand on the path, and the steps to what is left of them in normal form.
-ghost use Rattle.std.specs.Prelude.{◌≡◌, ℕ, pos, negsuc, List, OnOk, IfOk, IfSome};
+ghost use Rattle.std.specs.Prelude.{◌≡◌, ◌≤◌, ◌^◌, ℕ, pos, negsuc, List, OnOk, IfOk, IfSome, IfNone};
 ghost use Rattle.ac_forms.specs.Affine.{Affine};
 ghost use Rattle.ac_forms.specs.Fits.{Fits};
 ghost use Rattle.ac_forms.specs.NormalRows.{normal_ge};
@@ -13,8 +13,9 @@ use ac_forms::Form;
 use std::alloc::{AllocError, Global};
 
 /// The number in `i128`, where it fits.
-fn narrow(number: u128) -> Option<i128>
-    ensures { IfSome result (λ n. (n ≡ pos number) × Fits n) }
+pub(crate) fn narrow(number: u128) -> Option<i128>
+    ensures value { IfSome result (λ n. (n ≡ pos number) × Fits n) }
+    ensures wide { IfNone result (2 ^ 127 ≤ number) }
 {
     if number > i128::MAX as u128 {
         None

@@ -17,8 +17,8 @@ returns-then-divisor-eq0-clause-shows c = λ start path names h a.
 pub returns-clause-shows : goal.returns-clause-shows
 returns-clause-shows c = λ start path names h a.
     let e : c.content-divisor.result ≡ content c.args.form.now.coefs = rw (← c.coefs.ensures) c.content-divisor.ensures.value in
-    let s : c.in-Some.size ≡ pos c.content-divisor.result = c.in-Some.ensures.0 in
-    let k : FitsSigned w128 c.in-Some.size = c.in-Some.ensures.1 in
+    let s : c.in-Some.size ≡ pos c.content-divisor.result = c.in-Some.ensures.value.0 in
+    let k : FitsSigned w128 c.in-Some.size = c.in-Some.ensures.value.1 in
     let l : pos 1 ≤ℤ c.in-Some.size = rw s (omega (arith, ints, c.if-divisor-eq0.false)) in
     let d : DividesEach (unsigned_abs c.in-Some.size) c.args.form.now.coefs = rw (s, ← c.coefs.ensures) c.content-divisor.ensures.divides in
     let m : Leads c.cut.new.self start path names c.in_ok-place.place (Ge (divided (pos c.content-divisor.result) c.args.form.now)) = rw (← s) ((simp read_back at c.in_ok-place.ensures.leads) start path names c.args.form.now h a l d) in
