@@ -1,8 +1,9 @@
 -- A lower row that is raised beyond its splinters: the trees behind it, and the path in front of it.
-use Rattle.std.proofs.Common.{◌≡◌, ℕ, zero, suc, ◌+◌, ◌-◌, ◌*◌, ◌<◌, ◌≤◌, ◌^◌, ℤ, pos, negsuc, neg_ℤ, ◌+ℤ◌, ◌-ℤ◌, ◌*ℤ◌, ◌≤ℤ◌, ◌<ℤ◌, Bool, true, false, cond, List, [], ◌∷◌, ◌++◌, length, map, take, drop, get_or, sum, Option, Some, None, slice_get, refl, sym, ap, subst, ◌∙◌, arith, append_assoc, length-append}
+use Rattle.std.proofs.Common.{◌≡◌, ℕ, zero, suc, ◌+◌, ◌-◌, ◌*◌, ◌<◌, ◌≤◌, ◌^◌, ℤ, pos, negsuc, neg_ℤ, ◌+ℤ◌, ◌-ℤ◌, ◌*ℤ◌, ◌≤ℤ◌, ◌<ℤ◌, Bool, true, false, cond, List, [], ◌∷◌, ◌++◌, length, map, take, drop, get_or, Option, Some, None, slice_get, refl, sym, ap, subst, ◌∙◌, arith, lit<, append_assoc, length-append}
 use Rattle.std.specs.Prelude.{unsigned_abs, Result, IfOk}
 use Rattle.std.specs.Int.Signed.{lt_z}
 use Rattle.std.proofs.lemmas.Int.{ints}
+use Rattle.std.proofs.Math.Nat.{mul-le-mul_right}
 use Rattle.ac_forms.specs.Affine.{Affine, coef, FormFits}
 use Rattle.ac_forms.specs.Fits.{Fits, AllFit}
 use Rattle.ac_forms.specs.Negation.{opposite}
@@ -18,13 +19,14 @@ use Rattle.ac_cert.specs.Accepted.{Accepts, absurd_refusals}
 use Rattle.ac_cert.specs.Bounds.{is_low, last_splinter}
 use Rattle.ac_cert.specs.Rules.{with_row}
 use Rattle.ac_cert.specs.StepRows.{IsAt}
-use Rattle.ac_trails.specs.Branches.{splinter_count, lift_count, lifts, IsAlong, AreAlong, with_rows, Stage, stage, IsOn, IsRaised, worth, IsSplintered, Serves, ServeFirst, splinter_choices, leaf_choices}
+use Rattle.ac_trails.specs.Branches.{splinter_count, lift_count, lifts, IsAlong, AreAlong, with_rows, Stage, stage, IsOn, IsRaised, worth, IsSplintered, Serves, ServeFirst, ServeLeaves, splinter_choices, leaf_choices}
 use Rattle.ac_trails.specs.Descents.{StandOn}
 use Rattle.ac_trails.specs.Leaves.{less, under, HasRoom, GoesOn, IsLikeAt, AcceptsBehind, AcceptsFrom}
 use Rattle.ac_trails.specs.Refutations.{IsFormWithin, IsRowWithin, AreRowsWithin, AreModest}
 use Rattle.ac_trails.specs.Standing.{place_of, coef_of, Renames, Alike, with_form, StandsAt, Stand, IsOnto}
 use Rattle.ac_trails.specs.Tries.{count_to}
 use Rattle.ac_trails.proofs.Branching.{ok-as, onto-rows, along-length, lifts-length}
+use Rattle.ac_trails.proofs.Leaves.{fits-between}
 use Rattle.ac_trails.proofs.Paths.{stands-on}
 use Rattle.ac_trails.proofs.Renaming.{alike-renames}
 
@@ -148,33 +150,66 @@ counts-front (x ∷ xs) (suc i) h = counts-front xs i (omega arith) ∙ ap (λ (
     more : (i : ℕ) → suc (i + 1) ≡ suc i + 1
     more i = omega arith
 
-pub sum-front : (ns : List ℕ) (i : ℕ) → i < length ns → sum (drop i ns) ≡ get_or ns i 0 + sum (drop (i + 1) ns)
-sum-front ns i h = ap sum (counts-front ns i h)
-
 pub leaves-front : (z i : ℕ) (ns : List ℕ) → i < length ns → leaf_choices z i (drop i ns) ≡ splinter_choices (get_or ns i 0) z i 0 ++ leaf_choices z (i + 1) (drop (i + 1) ns)
 leaves-front z i ns h =
     let s : suc i ≡ i + 1 = omega arith in
     ap (leaf_choices z i) (counts-front ns i h) ∙ ap (λ (j : ℕ). splinter_choices (get_or ns i 0) z i 0 ++ leaf_choices z j (drop (i + 1) ns)) s
 
--- what serves the later rows
-pub serves-same : (s : Stage) (i : ℕ) (ts : List (Tree Absurd)) → i < length s.counts → get_or s.counts i 0 ≡ 0 → (z : ℕ) × ServeFirst s (leaf_choices z i (drop i s.counts)) ts → (z : ℕ) × ServeFirst s (leaf_choices z (i + 1) (drop (i + 1) s.counts)) ts
-serves-same s i ts l e h =
-    let all = subst (λ (hs : List Choice). ServeFirst s hs ts) (leaves-front h.0 i s.counts l) h.1 in
-    (h.0, subst (λ (n : ℕ). ServeFirst s (splinter_choices n h.0 i 0 ++ leaf_choices h.0 (i + 1) (drop (i + 1) s.counts)) ts) e all)
+pub counts-long : (rs : List Row) (counts : List ℕ) → ((z : ℕ) × (a : ℤ) × (counts ≡ map (splinter_count z a) rs)) → length counts ≡ length rs
+counts-long rs counts h = ap length h.2 ∙ map-long h.0 h.1 rs
+  where
+    map-long : (z : ℕ) (a : ℤ) (rs : List Row) → length (map (splinter_count z a) rs) ≡ length rs
+    map-long z a [] = refl
+    map-long z a (r ∷ rs) = ap (λ (n : ℕ). suc n) (map-long z a rs)
 
-pub record Served (s : Stage) (i : ℕ) (front back : List (Tree Absurd)) : Type 0 where
+-- what serves the later rows
+pub serves-same : (s : Stage) (i : ℕ) (ts : List (Tree Absurd)) → i < length s.counts → get_or s.counts i 0 ≡ 0 → ServeLeaves s i ts → ServeLeaves s (i + 1) ts
+serves-same s i ts l e h =
+    let front : leaf_choices h.column i (drop i s.counts) ≡ leaf_choices h.column (i + 1) (drop (i + 1) s.counts) =
+      leaves-front h.column i s.counts l ∙ ap (λ (n : ℕ). splinter_choices n h.column i 0 ++ leaf_choices h.column (i + 1) (drop (i + 1) s.counts)) e in
+    record { column = h.column; served = subst (λ (hs : List Choice). ServeFirst s hs ts) front h.served; long = h.long ∙ ap length front }
+
+pub record Served (s : Stage) (i : ℕ) (ts front back : List (Tree Absurd)) : Type 0 where
   pub column : ℕ
   pub here : ServeFirst s (splinter_choices (get_or s.counts i 0) column i 0) front
-  pub later : ServeFirst s (leaf_choices column (i + 1) (drop (i + 1) s.counts)) back
+  pub later : ServeLeaves s (i + 1) back
+  pub front-long : length front ≡ get_or s.counts i 0
+  pub back-long : length back ≤ length ts
 
-pub serves-parts : (s : Stage) (i : ℕ) (ts front back : List (Tree Absurd)) → i < length s.counts → ts ≡ front ++ back → length front ≡ get_or s.counts i 0 → (z : ℕ) × ServeFirst s (leaf_choices z i (drop i s.counts)) ts → Served s i front back
-serves-parts s i ts front back l e n h =
+pub leaves-long : (s : Stage) (i : ℕ) (ts : List (Tree Absurd)) → i < length s.counts → ServeLeaves s i ts → get_or s.counts i 0 ≤ length ts
+leaves-long s i ts l h =
     let n0 = get_or s.counts i 0 in
-    let here = splinter_choices n0 h.0 i 0 in
-    let later = leaf_choices h.0 (i + 1) (drop (i + 1) s.counts) in
-    let long : length front ≡ length here = n ∙ sym (splinters-long n0 h.0 i 0) in
-    let all : ServeFirst s (here ++ later) (front ++ back) = subst (λ (us : List (Tree Absurd)). ServeFirst s (here ++ later) us) e (subst (λ (hs : List Choice). ServeFirst s hs ts) (leaves-front h.0 i s.counts l) h.1) in
-    record { column = h.0; here = serve-front s here later front back (omega (arith, long)) all; later = serve-back s here later front back long all }
+    omega (arith, h.long, ap length (leaves-front h.column i s.counts l), length-append (splinter_choices n0 h.column i 0) (leaf_choices h.column (i + 1) (drop (i + 1) s.counts)), splinters-long n0 h.column i 0)
+
+pub serves-parts : (s : Stage) (i : ℕ) (ts front back : List (Tree Absurd)) → i < length s.counts → front ≡ take (get_or s.counts i 0) ts → back ≡ drop (get_or s.counts i 0) ts → ServeLeaves s i ts → Served s i ts front back
+serves-parts s i ts front back l ef eb h =
+    let n0 = get_or s.counts i 0 in
+    let here = splinter_choices n0 h.column i 0 in
+    let later = leaf_choices h.column (i + 1) (drop (i + 1) s.counts) in
+    let within : n0 ≤ length ts = leaves-long s i ts l h in
+    let whole : ts ≡ front ++ back = sym (rw (ef, eb) (parts n0 ts)) in
+    let size : length front ≡ n0 = ap length ef ∙ front-size n0 ts within in
+    let long : length front ≡ length here = size ∙ sym (splinters-long n0 h.column i 0) in
+    let all : ServeFirst s (here ++ later) (front ++ back) = subst (λ (us : List (Tree Absurd)). ServeFirst s (here ++ later) us) whole (subst (λ (hs : List Choice). ServeFirst s hs ts) (leaves-front h.column i s.counts l) h.served) in
+    let rest : length back ≡ length later =
+      omega (arith, h.long, ap length (leaves-front h.column i s.counts l), length-append here later, long, ap length whole, length-append front back) in
+    record {
+      column = h.column;
+      here = serve-front s here later front back (omega (arith, long)) all;
+      later = record { column = h.column; served = serve-back s here later front back long all; long = rest };
+      front-long = size;
+      back-long = omega (arith, ap length whole, length-append front back);
+    }
+  where
+    parts : (n : ℕ) (xs : List (Tree Absurd)) → take n xs ++ drop n xs ≡ xs
+    parts zero xs = refl
+    parts (suc n) [] = refl
+    parts (suc n) (x ∷ xs) = ap (λ (ys : List (Tree Absurd)). x ∷ ys) (parts n xs)
+
+    front-size : (n : ℕ) (xs : List (Tree Absurd)) → n ≤ length xs → length (take n xs) ≡ n
+    front-size zero xs l = refl
+    front-size (suc n) [] l = absurd (omega arith)
+    front-size (suc n) (x ∷ xs) l = ap (λ (k : ℕ). suc k) (front-size n xs (omega arith))
 
 -- ---- the leaves
 
@@ -265,3 +300,115 @@ turned-fits x h = rw (turned x) (small-fits (neg_ℤ x) (size x h))
 
     size : (x : ℤ) → unsigned_abs x ≤ 2 ^ 120 → unsigned_abs (neg_ℤ x) ≤ 2 ^ 120
     size x h = omega (arith, ints, h)
+
+low-fits : (x : ℤ) (n : ℕ) → unsigned_abs x ≤ 2 ^ 120 → n < 2 ^ 64 → Fits (x -ℤ pos n)
+low-fits x n h l = fits-between (negsuc (2 ^ 122)) (pos (2 ^ 122)) (x -ℤ pos n) (record { sfits = lit< tt }) (record { sfits = lit< tt }) (above x h) (below x h)
+  where
+    above : (x : ℤ) → unsigned_abs x ≤ 2 ^ 120 → negsuc (2 ^ 122) ≤ℤ (x -ℤ pos n)
+    above x h = omega (arith, ints, h, l)
+
+    below : (x : ℤ) → unsigned_abs x ≤ 2 ^ 120 → (x -ℤ pos n) ≤ℤ pos (2 ^ 122)
+    below x h = omega (arith, ints, h, l)
+
+high-fits : (x : ℤ) (n : ℕ) → unsigned_abs x ≤ 2 ^ 120 → n < 2 ^ 64 → Fits (negsuc 0 *ℤ x +ℤ pos n)
+high-fits x n h l = fits-between (negsuc (2 ^ 122)) (pos (2 ^ 122)) (negsuc 0 *ℤ x +ℤ pos n) (record { sfits = lit< tt }) (record { sfits = lit< tt }) (above x h) (below x h)
+  where
+    above : (x : ℤ) → unsigned_abs x ≤ 2 ^ 120 → negsuc (2 ^ 122) ≤ℤ (negsuc 0 *ℤ x +ℤ pos n)
+    above x h = omega (arith, ints, h, l)
+
+    below : (x : ℤ) → unsigned_abs x ≤ 2 ^ 120 → (negsuc 0 *ℤ x +ℤ pos n) ≤ℤ pos (2 ^ 122)
+    below x h = omega (arith, ints, h, l)
+
+turned-all : (cs : List ℤ) → ((j : ℕ) → unsigned_abs (get_or cs j (pos 0)) ≤ 2 ^ 120) → AllFit (map (λ (c : ℤ). negsuc 0 *ℤ c) cs)
+turned-all [] h = tt
+turned-all (c ∷ cs) h = (turned-fits c (h 0), turned-all cs (λ j. h (suc j)))
+
+room-of : (f : Affine) (n : ℕ) → ((j : ℕ) → unsigned_abs (coef j f) ≤ 2 ^ 120) → unsigned_abs f.konst ≤ 2 ^ 120 → n < 2 ^ 64 → HasRoom f n
+room-of f n cs k l = record {
+  form = (all-fit f.coefs (λ j. small-fits (coef j f) (cs j)), small-fits f.konst k);
+  turned = (turned-all f.coefs cs, turned-fits f.konst k);
+  low = low-fits f.konst n k l;
+  high = high-fits f.konst n k l;
+}
+
+within-at : (factor number : ℕ) (rs : List Row) (i : ℕ) (r : Row) → AreRowsWithin factor number rs → i < length rs → r ≡ get_or rs i r → IsRowWithin factor number r
+within-at factor number [] i r h l e = absurd (omega arith)
+within-at factor number (x ∷ rs) zero r h l e = subst (IsRowWithin factor number) (sym e) h.0
+within-at factor number (x ∷ rs) (suc i) r h l e = within-at factor number rs i r h.1 (omega arith) e
+
+low-size : (k : ℤ) → lt_z (pos 0) k ≡ true → 1 ≤ unsigned_abs k
+low-size (pos zero) e = absurd cc
+low-size (pos (suc n)) e = omega (arith, ints)
+low-size (negsuc n) e = absurd cc
+
+number-small : (a b : ℕ) → 1 ≤ a → a * b ≤ 2 ^ 120 → b ≤ 2 ^ 120
+number-small zero b h l = absurd (omega arith)
+number-small (suc a) b h l = omega (arith, mul-le-mul_right b (one-more a))
+  where
+    one-more : (a : ℕ) → 1 ≤ suc a
+    one-more a = omega arith
+
+-- the form of a lower row on the path has room for as many numbers as there may be trees
+pub lower-room : (rs : List Row) (i : ℕ) (r : Row) (g : Affine) (n : ℕ) → AreModest rs [] → i < length rs → r ≡ get_or rs i r → IsLower r → g.konst ≡ (form_of r).konst → ((b : ℕ) → ((j : ℕ) → unsigned_abs (coef j (form_of r)) ≤ b) → (j : ℕ) → unsigned_abs (coef j g) ≤ b) → n < 2 ^ 64
+    → HasRoom g n
+lower-room rs i r g n m l e w k s small =
+    let h : IsFormWithin m.factor m.number w.form = subst (IsRowWithin m.factor m.number) w.is (within-at m.factor m.number rs i r m.rows l e) in
+    let one : 1 ≤ m.factor = omega (arith, low-size (coef w.column w.form) w.low, h.factors w.column) in
+    let most : m.number ≤ 2 ^ 120 = number-small m.factor m.number one m.product in
+    let form : form_of r ≡ w.form = ap form_of w.is in
+    let coefs : (j : ℕ) → unsigned_abs (coef j (form_of r)) ≤ 2 ^ 120 = λ j. rw form (omega (arith, h.coefs j, most)) in
+    room-of g n (s (2 ^ 120) coefs) (rw (k, form) (omega (arith, h.konst, most))) small
+
+-- ---- the tree of a row
+
+pub record Behind (s : Stage) (i : ℕ) (r : Row) (g : Affine) (leaves : List (Tree Absurd)) (onward : Tree Absurd) (end : ℕ) : Type 0 where
+  pub within : i < length s.rows
+  pub long : length s.counts ≡ length s.rows
+  pub row : r ≡ get_or s.rows i r
+  pub lower : IsLower r
+  pub some : 0 < get_or s.counts i 0
+  pub count : length leaves ≡ get_or s.counts i 0
+  pub column : ℕ
+  pub served : ServeFirst s (splinter_choices (get_or s.counts i 0) column i 0) leaves
+  pub ends : end ≡ s.base.rows + lift_count (take i s.counts)
+  pub short : length g.coefs ≤ s.base.columns
+
+pub raised-behind : (s : Stage) (i end : ℕ) (r : Row) (g : Affine) (leaves : List (Tree Absurd)) (onward t : Tree Absurd) → Behind s i r g leaves onward end → ((c : Conj) → IsOn s c → Renames s.names (form_of r) g)
+    → ((c d : Conj) → IsOn s c → IsRaised s.names (take (i + 1) s.rows) s.counts c d → Accepts onward absurd_refusals d)
+    → ((c : Conj) → length g.coefs ≤ c.columns → length c.rows ≡ end → IsLikeAt c (get_or s.places i 0) g → Accepts onward absurd_refusals (with_row c (Ge (less g (length leaves)))) → AcceptsFrom leaves g s.depth (with_row c (Ge (under g (length leaves)))) → Accepts t absurd_refusals c)
+    → (c d : Conj) → IsOn s c → IsRaised s.names (take i s.rows) s.counts c d → Accepts t absurd_refusals d
+raised-behind s i end r g leaves onward t b named go make c d on up =
+    let x : Renames s.names (form_of r) g = named c on in
+    let f = b.lower.form in
+    let form : form_of r ≡ f = ap form_of b.lower.is in
+    let xf : Renames s.names f g = subst (λ (y : Affine). Renames s.names y g) form x in
+    let at : slice_get s.rows i ≡ Some (Ge f) = row-at s.rows i r b.within b.row ∙ ap (λ (y : Row). Some y) b.lower.is in
+    let own : Ge f ≡ get_or s.rows i (Ge f) = subst (λ (y : Row). y ≡ get_or s.rows i y) b.lower.is b.row in
+    let columns : d.columns ≡ s.base.columns = ap (λ (q : Conj). q.columns) up.is ∙ on.columns in
+    let short : length g.coefs ≤ d.columns = omega (arith, b.short, columns) in
+    let size : length up.more ≡ lift_count (take i s.counts) = along-length s.names (lifts (take i s.rows) s.counts) up.more up.along ∙ lifts-length i s.rows s.counts b.long in
+    let long : length d.rows ≡ end = ap (λ (q : Conj). length q.rows) up.is ∙ omega (arith, length-append c.rows up.more, on.rows, size, b.ends) in
+    let next = raised-more s.names s.rows s.counts i r g c d b.long b.within b.row b.some x up in
+    let further : Accepts onward absurd_refusals (with_row d (Ge (less g (length leaves)))) = subst (λ (n : ℕ). Accepts onward absurd_refusals (with_row d (Ge (less g n)))) (sym b.count) (go c (with_row d (Ge (less g (get_or s.counts i 0)))) on next) in
+    let from : AcceptsFrom leaves (less g 0) s.depth (with_row d (Ge (under g (length leaves)))) = leaves-from s b.column i (get_or s.counts i 0) 0 f g (under g (length leaves)) c d leaves on up at xf b.served in
+    make d short long (like-at s i f g c d up.more on up.is b.within own xf) further (subst (λ (y : Affine). AcceptsFrom leaves y s.depth (with_row d (Ge (under g (length leaves))))) (less-zero g) from)
+
+pub raised-by : {E : Type 0} (s : Stage) (i end : ℕ) (r : Row) (g : Affine) (leaves : List (Tree Absurd)) (onward : Tree Absurd) (res : Result (Tree Absurd) E) → Behind s i r g leaves onward end → ((c : Conj) → IsOn s c → Renames s.names (form_of r) g)
+    → ((c d : Conj) → IsOn s c → IsRaised s.names (take (i + 1) s.rows) s.counts c d → Accepts onward absurd_refusals d)
+    → IfOk res (λ t. (c : Conj) → length g.coefs ≤ c.columns → length c.rows ≡ end → IsLikeAt c (get_or s.places i 0) g → Accepts onward absurd_refusals (with_row c (Ge (less g (length leaves)))) → AcceptsFrom leaves g s.depth (with_row c (Ge (under g (length leaves)))) → Accepts t absurd_refusals c)
+    → IfOk res (λ t. (c d : Conj) → IsOn s c → IsRaised s.names (take i s.rows) s.counts c d → Accepts t absurd_refusals d)
+raised-by s i end r g leaves onward res b named go k =
+    ok-as (λ (t : Tree Absurd). (c : Conj) → length g.coefs ≤ c.columns → length c.rows ≡ end → IsLikeAt c (get_or s.places i 0) g → Accepts onward absurd_refusals (with_row c (Ge (less g (length leaves)))) → AcceptsFrom leaves g s.depth (with_row c (Ge (under g (length leaves)))) → Accepts t absurd_refusals c)
+    (λ (t : Tree Absurd). (c d : Conj) → IsOn s c → IsRaised s.names (take i s.rows) s.counts c d → Accepts t absurd_refusals d) res
+    (λ t make. raised-behind s i end r g leaves onward t b named go make) k
+
+pub raised-past : {E : Type 0} (s : Stage) (i : ℕ) (res : Result (Tree Absurd) E) → length s.counts ≡ length s.rows → get_or s.counts i 0 ≡ 0
+    → IfOk res (λ t. (c d : Conj) → IsOn s c → IsRaised s.names (take (i + 1) s.rows) s.counts c d → Accepts t absurd_refusals d)
+    → IfOk res (λ t. (c d : Conj) → IsOn s c → IsRaised s.names (take i s.rows) s.counts c d → Accepts t absurd_refusals d)
+raised-past s i res l e k =
+    ok-as (λ (t : Tree Absurd). (c d : Conj) → IsOn s c → IsRaised s.names (take (i + 1) s.rows) s.counts c d → Accepts t absurd_refusals d)
+    (λ (t : Tree Absurd). (c d : Conj) → IsOn s c → IsRaised s.names (take i s.rows) s.counts c d → Accepts t absurd_refusals d) res
+    (λ t h c d on up. h c d on (raised-same s.names s.rows s.counts i c d l e up)) k
+
+pub lower-row : (rs : List Row) (counts : List ℕ) (i : ℕ) (r : Row) → ((z : ℕ) × (a : ℤ) × (counts ≡ map (splinter_count z a) rs)) → i < length rs → r ≡ get_or rs i r → 0 < get_or counts i 0 → IsLower r
+lower-row rs counts i r h l e p = lower-at h.0 h.1 rs i r l e (subst (λ (ns : List ℕ). 0 < get_or ns i 0) h.2 p)

@@ -1,10 +1,10 @@
 //! The tree of all choices for a column, from the tree of each.
-ghost use Rattle.std.specs.Prelude.{◌≡◌, ◌<◌, ◌≤◌, ◌+◌, ◌^◌, ℕ, ℤ, List, [], ◌∷◌, length, map, take, drop, sum, pos, cond, IfOk};
+ghost use Rattle.std.specs.Prelude.{◌≡◌, ◌<◌, ◌≤◌, ◌+◌, ◌^◌, ℕ, ℤ, List, [], ◌∷◌, length, map, take, pos, IfOk};
 ghost use Rattle.ac_forms.specs.Fits.{Fits};
 ghost use Rattle.ac_forms.specs.Rows.{AreRowsOver, IsWellMade};
 ghost use Rattle.ac_forms.specs.declared.conj.Conj.{Conj};
 ghost use Rattle.ac_cert.specs.Accepted.{Accepts, absurd_refusals};
-ghost use Rattle.ac_trails.specs.Branches.{AreAll, IsOn, IsRaised, ServeFirst, count_of, counts_from, leaf_choices, lift_count, residue_choices, splinter_count, stage};
+ghost use Rattle.ac_trails.specs.Branches.{AreAll, IsOn, IsRaised, ServeFirst, ServeLeaves, count_of, counts_from, lift_count, residue_choices, splinter_count, stage};
 ghost use Rattle.ac_trails.specs.Refutations.{AreModest};
 
 use crate::descent::Base;
@@ -102,8 +102,7 @@ fn raised_from(
     requires deep { length splinters.items ≤ 2 ^ depth }
     requires here { i ≤ length rows.now }
     requires end { end ≡ base.rows + lift_count (take i counts.now) }
-    requires each { length splinters.items ≡ sum (drop i counts.now) }
-    requires served { (z : ℕ) × ServeFirst (stage base names.now places.now rows.now counts.now depth) (leaf_choices z i (drop i counts.now)) splinters.items }
+    requires served { ServeLeaves (stage base names.now places.now rows.now counts.now depth) i splinters.items }
     requires shadow { (c d : Conj) → IsOn (stage base names.now places.now rows.now counts.now depth) c → IsRaised names.now rows.now counts.now c d → Accepts shadow absurd_refusals d }
     ensures { IfOk result (λ t. (c d : Conj) → IsOn (stage base names.now places.now rows.now counts.now depth) c → IsRaised names.now (take i rows.now) counts.now c d → Accepts t absurd_refusals d) }
 {
