@@ -1,5 +1,5 @@
 -- The tree of all choices is accepted where the tree of each is.
-use Rattle.std.proofs.Common.{◌≡◌, ℕ, zero, suc, ◌+◌, ◌-◌, ◌<◌, ◌≤◌, ◌^◌, ℤ, pos, negsuc, neg_ℤ, ◌+ℤ◌, ◌-ℤ◌, ◌*ℤ◌, ◌≤ℤ◌, Bool, true, false, cond, List, [], ◌∷◌, ◌++◌, length, take, drop, get_or, Option, Some, None, slice_get, refl, sym, ap, subst, ◌∙◌, arith}
+use Rattle.std.proofs.Common.{◌≡◌, ℕ, zero, suc, ◌+◌, ◌-◌, ◌<◌, ◌≤◌, ◌^◌, ℤ, pos, negsuc, neg_ℤ, ◌+ℤ◌, ◌-ℤ◌, ◌*ℤ◌, ◌≤ℤ◌, Bool, true, false, cond, List, [], ◌∷◌, ◌++◌, length, map, take, drop, get_or, Option, Some, None, slice_get, refl, sym, ap, subst, ◌∙◌, arith}
 use Rattle.std.specs.Prelude.{unsigned_abs, Result, IfOk}
 use Rattle.std.proofs.lemmas.Int.{ints}
 use Rattle.ac_forms.specs.Affine.{Affine, coef, column_form}
@@ -12,9 +12,11 @@ use Rattle.ac_cert.specs.declared.choose.Choice.TheVariants as choice
 use Rattle.ac_cert.specs.declared.ends.Absurd.{Absurd}
 use Rattle.ac_cert.specs.declared.types.Tree.{Tree}
 use Rattle.ac_cert.specs.Accepted.{Accepts, AcceptsEach, absurd_refusals}
-use Rattle.ac_trails.specs.Branches.{Stage, stage, IsOn, IsClass, Serves, ServeFirst, residue_choices, AreResidues, AreAll}
+use Rattle.ac_cert.specs.Bounds.{greatest_size, highs}
+use Rattle.ac_trails.specs.Branches.{Stage, stage, IsOn, IsClass, Serves, ServeFirst, ServeLeaves, IsRaised, splinter_count, leaf_choices, residue_choices, AreResidues, AreAll}
 use Rattle.ac_trails.specs.Standing.{Renames}
 use Rattle.ac_trails.proofs.Branching.{ok-as}
+use Rattle.ac_trails.proofs.RaisedTrees.{raised-nothing}
 
 -- ---- residues
 
@@ -63,3 +65,41 @@ residues-accepted s n z m hs ts res a e served k =
     let here : ServeFirst s (residue_choices (length ts) z m 0) ts = subst (λ (gs : List Choice). ServeFirst s gs ts) all served in
     ok-as (λ (t : Tree Absurd). (places counts : List ℕ) (rows : List Row) (depth : ℕ) (c : Conj) → ServeFirst (stage s.base s.names places rows counts depth) (residue_choices (length ts) z m 0) ts → IsOn (stage s.base s.names places rows counts depth) c → Accepts t absurd_refusals c)
     (λ (t : Tree Absurd). (c : Conj) → IsOn s c → Accepts t absurd_refusals c) res (λ t h c on. h s.places s.counts s.rows s.depth c here on) k
+
+-- ---- a shadow and its splinters
+
+pub record AreSplinters (rows : List Row) (counts : List ℕ) (hs : List Choice) (z : ℕ) : Type 0 where
+  pub is : hs ≡ choice.Shadow z ∷ leaf_choices z 0 counts
+  pub counted : counts ≡ map (splinter_count z (greatest_size (highs z rows))) rows
+
+pub are-splinters : (n : ℕ) (rows : List Row) (counts : List ℕ) (hs : List Choice) (z : ℕ) → AreAll n rows counts hs → get_or hs 0 (choice.Drop 0) ≡ choice.Shadow z → AreSplinters rows counts hs z
+are-splinters n rows counts [] z a e = absurd a
+are-splinters n rows counts (h ∷ hs) z a e =
+    let b : AreAll n rows counts (choice.Shadow z ∷ hs) = subst (λ (x : Choice). AreAll n rows counts (x ∷ hs)) e a in
+    subst (λ (x : Choice). AreSplinters rows counts (x ∷ hs) z) (sym e) (record { is = ap (λ (gs : List Choice). choice.Shadow z ∷ gs) b.0; counted = b.1 })
+
+-- the first tree is that of the shadow, and the others those of the splinters
+pub record ShadowFirst (s : Stage) (t : Tree Absurd) (ts : List (Tree Absurd)) : Type 0 where
+  pub shadow : (c d : Conj) → IsOn s c → IsRaised s.names s.rows s.counts c d → Accepts t absurd_refusals d
+  pub leaves : ServeLeaves s 0 ts
+
+pub shadow-first : (s : Stage) (hs : List Choice) (z : ℕ) (ts us : List (Tree Absurd)) (t : Tree Absurd) → AreSplinters s.rows s.counts hs z → length ts ≡ length hs → ts ≡ t ∷ us → ServeFirst s hs ts → ShadowFirst s t us
+shadow-first s hs z ts us t a l e h =
+    let served : ServeFirst s (choice.Shadow z ∷ leaf_choices z 0 s.counts) (t ∷ us) = subst (λ (gs : List Choice). ServeFirst s gs (t ∷ us)) a.is (subst (λ (vs : List (Tree Absurd)). ServeFirst s hs vs) e h) in
+    let long : suc (length us) ≡ suc (length (leaf_choices z 0 s.counts)) = sym (ap length e) ∙ l ∙ ap length a.is in
+    record { shadow = served.0; leaves = record { column = z; served = served.1; long = omega (arith, long) } }
+
+parted : (ts us : List (Tree Absurd)) (t : Tree Absurd) → 1 ≤ length ts → t ≡ get_or ts 0 t → us ≡ drop 1 ts → ts ≡ t ∷ us
+parted [] us t l e f = absurd (omega arith)
+parted (x ∷ ts) us t l e f = rw (e, f) refl
+
+pub shadow-taken : (s : Stage) (rows : List Row) (n : ℕ) (hs : List Choice) (z : ℕ) (ts us : List (Tree Absurd)) (t : Tree Absurd) → s.rows ≡ rows → AreAll n rows s.counts hs → get_or hs 0 (choice.Drop 0) ≡ choice.Shadow z → length ts ≡ length hs → t ≡ get_or ts 0 t → us ≡ drop 1 ts → ServeFirst s hs ts → ShadowFirst s t us
+shadow-taken s rows n hs z ts us t er a i l e f h =
+    let x : AreSplinters s.rows s.counts hs z = subst (λ (q : List Row). AreSplinters q s.counts hs z) (sym er) (are-splinters n rows s.counts hs z a i) in
+    let some : 1 ≤ length ts = omega (arith, l, ap length x.is) in
+    shadow-first s hs z ts us t x l (parted ts us t some e f) h
+
+pub from-nothing : {E : Type 0} (s : Stage) (res : Result (Tree Absurd) E) → IfOk res (λ t. (c d : Conj) → IsOn s c → IsRaised s.names (take 0 s.rows) s.counts c d → Accepts t absurd_refusals d) → IfOk res (λ t. (c : Conj) → IsOn s c → Accepts t absurd_refusals c)
+from-nothing s res k =
+    ok-as (λ (t : Tree Absurd). (c d : Conj) → IsOn s c → IsRaised s.names (take 0 s.rows) s.counts c d → Accepts t absurd_refusals d) (λ (t : Tree Absurd). (c : Conj) → IsOn s c → Accepts t absurd_refusals c) res
+    (λ t h c on. h c c on (raised-nothing s.names s.rows s.counts c)) k

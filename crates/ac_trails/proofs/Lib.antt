@@ -47,3 +47,4 @@ pub mod Tried
 pub mod Certified
 pub mod Counting
 pub mod ChoiceTrees
+pub mod RaisedTrees

@@ -1,5 +1,5 @@
 -- The rows of a normal form stand where what is left of rows does, or an absurd row stands.
-use Rattle.std.proofs.Common.{◌≡◌, ◌==◌, ◌⊎◌, inl, inr, ℕ, ◌^◌, ◌<◌, ◌≤◌, ℤ, pos, negsuc, ◌≤ℤ◌, List, [], ◌∷◌, map, Bool, true, false, cond, int_eq, int_le, unsigned_abs, refl, sym, ap, subst, arith}
+use Rattle.std.proofs.Common.{◌≡◌, ◌==◌, ◌⊎◌, inl, inr, ℕ, suc, ◌^◌, ◌<◌, ◌≤◌, ℤ, pos, negsuc, ◌≤ℤ◌, List, [], ◌∷◌, length, map, Bool, true, false, cond, int_eq, int_le, unsigned_abs, refl, sym, ap, subst, arith}
 use Rattle.std.specs.Prelude.{not, ◌≢◌}
 use Rattle.std.proofs.lemmas.Int.{ints}
 use Rattle.ac_integers.specs.Gcd.{content}
@@ -193,3 +193,10 @@ clash_settles u v start names rs is ls x y i calm e h shows c =
     let mg = calm_kept rs g calm (to-rows (Kept (Eq g)) ls rs e (at-left y (Kept (Eq g)) ls h.2.1)) in
     let s = shows start c.path names f g (stand_reaches u start c.path names rs is c.steps c.stand) (lefts_at names c.path ls x (Kept (Eq f)) c.lefts h.1) (lefts_at names c.path ls y (Kept (Eq g)) c.lefts h.2.1) (clashing f g h.2.2) (clash_blends f g mf mg) in
     record { path = s.further; steps = s.reaches.steps; row = s.stands }
+
+-- as many places as rows
+pub left_places : (ps : List ℕ) (rs : List Row) (ls : List Left) → AreLeftAt ps rs ls → length ps ≡ length rs
+left_places [] [] ls h = refl
+left_places [] (r ∷ rs) ls h = absurd h
+left_places (p ∷ ps) [] ls h = absurd h
+left_places (p ∷ ps) (r ∷ rs) ls h = ap (λ (n : ℕ). suc n) (left_places ps rs ls h.1)

@@ -1,5 +1,5 @@
 -- Branches: where the trees of the choices for a column begin on the path.
-use Rattle.std.specs.Prelude.{◌≡◌, ℕ, zero, suc, ◌+◌, ◌<◌, ◌≤◌, ℤ, pos, ◌≤ℤ◌, ◌<ℤ◌, ◌-ℤ◌, List, [], ◌∷◌, ◌++◌, map, take, length, cond, nat_eq, true, slice_get, Some}
+use Rattle.std.specs.Prelude.{◌≡◌, ℕ, zero, suc, ◌+◌, ◌<◌, ◌≤◌, ℤ, pos, ◌≤ℤ◌, ◌<ℤ◌, ◌-ℤ◌, List, [], ◌∷◌, ◌++◌, map, take, drop, length, cond, nat_eq, true, slice_get, Some}
 use Rattle.ac_forms.specs.Affine.{Affine, coef, column_form}
 use Rattle.ac_forms.specs.Fits.{Fits}
 use Rattle.ac_forms.specs.Rows.{AreRowsOver, form_of}
@@ -197,6 +197,12 @@ splinter_choices (suc n) z i k = choice.Splinter z i (pos k) ∷ splinter_choice
 abbrev pub leaf_choices : ℕ → ℕ → List ℕ → List Choice
 leaf_choices z i [] = []
 leaf_choices z i (n ∷ ns) = splinter_choices n z i 0 ++ leaf_choices z (suc i) ns
+
+-- the trees of the splinters of all rows from row i on, in order
+pub record ServeLeaves (s : Stage) (i : ℕ) (ts : List (Tree Absurd)) : Type 0 where
+  pub column : ℕ
+  pub served : ServeFirst s (leaf_choices column i (drop i s.counts)) ts
+  pub long : length ts ≡ length (leaf_choices column i (drop i s.counts))
 
 -- the residues of a column
 pub record AreResidues (n z : ℕ) (m : ℤ) (hs : List Choice) : Type 0 where

@@ -1,15 +1,16 @@
 //! The tree of all choices for a column, from the tree of each.
-ghost use Rattle.std.specs.Prelude.{◌≡◌, ◌<◌, ◌≤◌, ◌+◌, ◌^◌, ℕ, ℤ, List, [], ◌∷◌, length, map, take, drop, sum, pos, cond, IfOk};
+ghost use Rattle.std.specs.Prelude.{◌≡◌, ◌<◌, ◌≤◌, ◌+◌, ◌^◌, ℕ, ℤ, List, [], ◌∷◌, length, map, take, pos, IfOk};
 ghost use Rattle.ac_forms.specs.Fits.{Fits};
 ghost use Rattle.ac_forms.specs.Rows.{AreRowsOver, IsWellMade};
 ghost use Rattle.ac_forms.specs.declared.conj.Conj.{Conj};
 ghost use Rattle.ac_cert.specs.Accepted.{Accepts, absurd_refusals};
-ghost use Rattle.ac_trails.specs.Branches.{AreAll, IsOn, IsRaised, ServeFirst, count_of, counts_from, leaf_choices, lift_count, residue_choices, splinter_count, stage};
+ghost use Rattle.ac_trails.specs.Branches.{AreAll, IsOn, IsRaised, ServeFirst, ServeLeaves, count_of, counts_from, lift_count, residue_choices, splinter_count, stage};
 ghost use Rattle.ac_trails.specs.Refutations.{AreModest};
 
 use crate::descent::Base;
 use crate::renamed::renamed;
 use crate::residues::class_tree;
+use crate::splinter_tree::raised_tree;
 use ac_cert::{Absurd, Choice, Tree};
 use ac_forms::{Conj, Form, Row};
 use std::alloc::{AllocError, Global};
@@ -80,6 +81,72 @@ fn residues_tree(
     Ok(class_tree(alloc, m, form, trees))
 }
 
+/// The tree of the rows from row i on, from that of the dark shadow and those of their splinters in turn: each row that has
+/// splinters is raised beyond the last of them, at the place `end`, or worth one of the numbers up to it.
+fn raised_from(
+    alloc: Global,
+    base: Base,
+    names: &[usize],
+    places: &[usize],
+    rows: &[Row],
+    counts: &[usize],
+    depth: u32,
+    i: usize,
+    end: usize,
+    shadow: Tree<Absurd>,
+    splinters: Vec<Tree<Absurd>>,
+) -> Result<Tree<Absurd>, AllocError>
+    requires long { length places.now ≡ length rows.now }
+    requires counts { (z : ℕ) × (a : ℤ) × (counts.now ≡ map (splinter_count z a) rows.now) }
+    requires modest { AreModest rows.now [] }
+    requires deep { length splinters.items ≤ 2 ^ depth }
+    requires here { i ≤ length rows.now }
+    requires end { end ≡ base.rows + lift_count (take i counts.now) }
+    requires served { ServeLeaves (stage base names.now places.now rows.now counts.now depth) i splinters.items }
+    requires shadow { (c d : Conj) → IsOn (stage base names.now places.now rows.now counts.now depth) c → IsRaised names.now rows.now counts.now c d → Accepts shadow absurd_refusals d }
+    ensures { IfOk result (λ t. (c d : Conj) → IsOn (stage base names.now places.now rows.now counts.now depth) c → IsRaised names.now (take i rows.now) counts.now c d → Accepts t absurd_refusals d) }
+{
+    if i == rows.len() {
+        return Ok(shadow);
+    }
+    let count = counts[i];
+    if count == 0 {
+        return raised_from(
+            alloc,
+            base,
+            names,
+            places,
+            rows,
+            counts,
+            depth,
+            i + 1,
+            end,
+            shadow,
+            splinters,
+        );
+    }
+    let Some(next) = end.checked_add(1) else {
+        return Err(AllocError);
+    };
+    let mut leaves = splinters;
+    let later = leaves.split_off(count)?;
+    let onward = raised_from(
+        alloc,
+        base,
+        names,
+        places,
+        rows,
+        counts,
+        depth,
+        i + 1,
+        next,
+        shadow,
+        later,
+    )?;
+    let form = renamed(alloc, names, base.columns, rows[i].form())?;
+    raised_tree(alloc, &form, depth, leaves, onward, places[i], end)
+}
+
 /// The tree of all choices for a column.
 pub(crate) fn choice_tree(
     alloc: Global,
@@ -107,6 +174,12 @@ pub(crate) fn choice_tree(
     match &choices[0] {
         Choice::Drop(_) | Choice::Equal(_, _) | Choice::Splinter(_, _, _) => Ok(trees.remove(0)),
         Choice::Residue(z, m, _) => residues_tree(alloc, base, names, *z, *m, trees),
-        Choice::Shadow(_) => Err(AllocError),
+        Choice::Shadow(_) => {
+            let shadow = trees.remove(0);
+            let rows = conj.rows.as_slice();
+            raised_from(
+                alloc, base, names, places, rows, counts, depth, 0, base.rows, shadow, trees,
+            )
+        }
     }
 }

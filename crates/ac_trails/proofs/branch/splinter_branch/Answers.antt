@@ -1,8 +1,10 @@
-use Rattle.std.proofs.Common.{◌≡◌, ℕ, ℤ, ◌+◌, ◌≤ℤ◌, List, true, length, take, subst, sym, ap, ◌∙◌, arith, rules}
+use Rattle.std.proofs.Common.{◌≡◌, ℕ, ℤ, ◌+◌, ◌≤ℤ◌, List, Some, length, take, subst, sym, ap, ◌∙◌, arith, rules}
 use Rattle.ac_integers.proofs.Bits.{again_128}
 use Rattle.ac_forms.specs.Affine.{Affine}
+use Rattle.ac_forms.specs.declared.row.Row.TheVariants.{Eq, Ge}
 use Rattle.ac_forms.proofs.Passes.{moduli_of}
-use Rattle.ac_trails.specs.Branches.{Stage, stage, lift_count}
+use Rattle.ac_trails.specs.Branches.{Stage, stage, lift_count, worth}
+use Rattle.ac_trails.specs.Standing.{StandsAt}
 use Rattle.ac_trails.specs.Descents.{Carries}
 use Rattle.ac_trails.proofs.Branching.{carries-behind, OnSplinter, stand-splinter}
 use Rattle.ac_trails.proofs.RaisedPlaces.{at-within}
@@ -13,6 +15,9 @@ splinter_rows-requires-clause-moduli c = moduli_of _ c.args.rows.now c.requires.
 
 pub splinter_rows-requires-clause-lower : goal.splinter_rows-requires-clause-lower
 splinter_rows-requires-clause-lower c = at-within c.args.rows.now c.args.i _ c.requires.lower.at
+
+same-row : (g f : Affine) → Some (Ge g) ≡ Some (Ge f) → f ≡ g
+same-row g f e = cc
 
 pub returns : goal.returns
 returns c = record {
@@ -27,5 +32,5 @@ returns c = record {
       let end : c.in-Some-checked_add.end ≡ c.in-Some.place + 1 = first_of (omega arith, omega (arith, c.in-Some-checked_add.ensures)) in
       let at : OnSplinter s c.args.i c.args.k c.in-Some.place c.in-Some-checked_add.end f d = stand-splinter s c.args.i c.args.k c.in-Some.place c.in-Some-checked_add.end f p d c.requires.counts place end c.requires.lower.at on is in
       let go = rw (again_128 c.args.k c.ranges.k) at c.in_ok-standing.ensures.stand in
-      rw c.in_ok-names.ensures.items (carries-behind c.behind-trail.result _ d c.args.names.now _ _ c.behind-trail.ensures.steps c.behind-trail.ensures.base (go _ d c.args.names.now f c.requires.lower.at at.stand at.worth-row));
+      rw c.in_ok-names.ensures.items (carries-behind c.behind-trail.result _ d c.args.names.now _ _ c.behind-trail.ensures.steps c.behind-trail.ensures.base (go _ d c.args.names.now at.stand (λ g e. subst (λ (h : Affine). StandsAt c.args.names.now d c.in-Some.place (Eq (worth c.args.k h))) (same-row g f (sym e ∙ c.requires.lower.at)) at.worth-row)));
 }
