@@ -42,3 +42,4 @@ pub mod SameRows
 pub mod LeftRows
 pub mod LeftSearches
 pub mod NormalForms
+pub mod Questions

@@ -8,7 +8,12 @@ use ac_forms::Form;
 use std::alloc::Global;
 
 /// The tree of all residues of a form modulo a number: a child for each of them, in order from 0 on.
-pub(crate) fn class_tree(alloc: Global, modulus: i128, form: Form, kids: Vec<Tree<Absurd>>) -> Tree<Absurd>
+pub(crate) fn class_tree(
+    alloc: Global,
+    modulus: i128,
+    form: Form,
+    kids: Vec<Tree<Absurd>>,
+) -> Tree<Absurd>
     requires each { modulus ≡ pos (length kids.items) }
     requires some { 1 ≤ length kids.items }
     requires room { Fits (form.konst -ℤ (modulus -ℤ pos 1)) }
