@@ -22,9 +22,9 @@ use Rattle.ac_cert.specs.ChoiceFits.{choice_fits}
 use Rattle.ac_cert.specs.Ends.{is_absurd}
 use Rattle.ac_cert.specs.Faults.{Refusal}
 use Rattle.ac_cert.proofs.Truths.{and-true}
-use Rattle.ac_trails.specs.Branches.{counts_from, Stage, IsOn, Begins, Serves, ServeFirst, IsBranch, IsTry, AreTries, AreAll, RefuteAll, AllModest, HasPlaces, IsSettled}
+use Rattle.ac_trails.specs.Branches.{counts_from, Stage, IsOn, Begins, Serves, ServeFirst, IsBranch, IsTry, AreTries, AreAll, RefuteAll, AllModest, HasPlaces, IsSettled, IsFirst}
 use Rattle.ac_trails.specs.Descents.{StandOn, Carries, ShowsAbsurd, Settles, base_of, AreCalm}
-use Rattle.ac_trails.specs.Refutations.{conj_of, Refutes, AreModest, IsModest}
+use Rattle.ac_trails.specs.Refutations.{conj_of, Refutes, AreModest, IsModest, IsRefutationOf}
 use Rattle.ac_trails.specs.Standing.{StandsAt, Stand}
 use Rattle.ac_trails.specs.declared.branch.Branch.{Branch}
 use Rattle.ac_trails.specs.declared.descent.Base.{Base}
@@ -189,3 +189,19 @@ behind x t b ns ms l normal r tree res en em er eb settle go k =
         let here : IsSettled b ns l normal s.0 = subst (λ (q : Base). IsSettled q ns l normal s.0) (sym eb) s.2 in
         let renamed : IsSettled b ms l normal s.0 = subst (λ (q : List ℕ). IsSettled b q l normal s.0) (en ∙ sym em) here in
         accepted absurd_refusals start s.0 s.1 (go s.0 (subst (λ (q : List Row). IsSettled b ms l q s.0) er renamed))
+
+-- ---- a question
+
+pub first-ready : (q : Conj) (r : Refutation) (b : Branch) → IsFirst q b → IsRefutationOf q r → IsWellMade q → Ready b r
+first-ready q r b f h made = record {
+  names = f.names ∙ sym (ap (λ (d : Conj). d.columns) h.normal);
+  made = rw (f.names, f.rows) made;
+  fits = rw f.rows h.fits;
+  normal = ap (λ (d : Conj). d.rows) h.normal ∙ ap normal_form (sym f.rows);
+}
+
+pub question-accepted : {E : Type 0} (q : Conj) (b : Branch) (res : Result (Tree End) E) → IsFirst q b
+    → IfOk res (λ t. (start : Conj) → Carries b.trail start b.names.items b.standing.rows.items b.standing.places.items → Accepts t absurd_refusals start)
+    → IfOk res (λ t. Accepts t absurd_refusals q)
+question-accepted q b res f k =
+    ok-as (λ (t : Tree End). (start : Conj) → Carries b.trail start b.names.items b.standing.rows.items b.standing.places.items → Accepts t absurd_refusals start) (λ (t : Tree End). Accepts t absurd_refusals q) res (λ t h. h q f.carries) k

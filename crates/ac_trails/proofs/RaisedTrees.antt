@@ -166,7 +166,7 @@ counts-long rs counts h = ap length h.2 ∙ map-long h.0 h.1 rs
 pub serves-same : (s : Stage) (i : ℕ) (ts : List (Tree Absurd)) → i < length s.counts → get_or s.counts i 0 ≡ 0 → ServeLeaves s i ts → ServeLeaves s (i + 1) ts
 serves-same s i ts l e h =
     let front : leaf_choices h.column i (drop i s.counts) ≡ leaf_choices h.column (i + 1) (drop (i + 1) s.counts) =
-      leaves-front h.column i s.counts l ∙ ap (λ (n : ℕ). splinter_choices n h.column i 0 ++ leaf_choices h.column (i + 1) (drop (i + 1) s.counts)) e in
+    leaves-front h.column i s.counts l ∙ ap (λ (n : ℕ). splinter_choices n h.column i 0 ++ leaf_choices h.column (i + 1) (drop (i + 1) s.counts)) e in
     record { column = h.column; served = subst (λ (hs : List Choice). ServeFirst s hs ts) front h.served; long = h.long ∙ ap length front }
 
 pub record Served (s : Stage) (i : ℕ) (ts front back : List (Tree Absurd)) : Type 0 where
@@ -192,7 +192,7 @@ serves-parts s i ts front back l ef eb h =
     let long : length front ≡ length here = size ∙ sym (splinters-long n0 h.column i 0) in
     let all : ServeFirst s (here ++ later) (front ++ back) = subst (λ (us : List (Tree Absurd)). ServeFirst s (here ++ later) us) whole (subst (λ (hs : List Choice). ServeFirst s hs ts) (leaves-front h.column i s.counts l) h.served) in
     let rest : length back ≡ length later =
-      omega (arith, h.long, ap length (leaves-front h.column i s.counts l), length-append here later, long, ap length whole, length-append front back) in
+    omega (arith, h.long, ap length (leaves-front h.column i s.counts l), length-append here later, long, ap length whole, length-append front back) in
     record {
       column = h.column;
       here = serve-front s here later front back (omega (arith, long)) all;
@@ -253,7 +253,7 @@ leaves-from s z i (suc n) k f g u c d (t ∷ ts) on up at x h = (
         let last = Eq v ∷ [] in
         let rest = Ge u ∷ goes.more in
         let rows : (((c.rows ++ up.more) ++ Ge u ∷ []) ++ goes.more) ++ last ≡ c.rows ++ (up.more ++ (rest ++ last)) =
-          ap (λ (q : List Row). q ++ last) (append_assoc (c.rows ++ up.more) (Ge u ∷ []) goes.more) ∙ append_assoc (c.rows ++ up.more) rest last ∙ append_assoc c.rows up.more (rest ++ last) in
+        ap (λ (q : List Row). q ++ last) (append_assoc (c.rows ++ up.more) (Ge u ∷ []) goes.more) ∙ append_assoc (c.rows ++ up.more) rest last ∙ append_assoc c.rows up.more (rest ++ last) in
         let first : e ≡ record { columns = c.columns; rows = ((c.rows ++ up.more) ++ Ge u ∷ []) ++ goes.more } = goes.is ∙ ap (λ (q : Conj). record { columns = q.columns; rows = (q.rows ++ Ge u ∷ []) ++ goes.more }) up.is in
         record {
           raised = up.more;

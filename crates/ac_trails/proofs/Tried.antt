@@ -110,8 +110,8 @@ counts-are : (z i : ℕ) (xs : List Choice) (ns : List ℕ) → ((j : ℕ) → i
 counts-are z i xs [] none = refl
 counts-are z i xs (n ∷ ns) none =
     let here : count_of i (xs ++ (splinter_choices n z i 0 ++ leaf_choices z (suc i) ns)) ≡ n =
-      count-append i xs (splinter_choices n z i 0 ++ leaf_choices z (suc i) ns) ∙
-      omega (arith, none i (omega arith), count-append i (splinter_choices n z i 0) (leaf_choices z (suc i) ns), count-same n z i 0, count-later z i (suc i) ns (omega arith)) in
+    count-append i xs (splinter_choices n z i 0 ++ leaf_choices z (suc i) ns) ∙
+    omega (arith, none i (omega arith), count-append i (splinter_choices n z i 0) (leaf_choices z (suc i) ns), count-same n z i 0, count-later z i (suc i) ns (omega arith)) in
     let none' : (j : ℕ) → suc i ≤ j → count_of j (xs ++ splinter_choices n z i 0) ≡ 0 = λ j h. count-append j xs (splinter_choices n z i 0) ∙ omega (arith, none j (omega arith), count-other n z i j 0 (omega arith)) in
     let rest = counts-are z (suc i) (xs ++ splinter_choices n z i 0) ns none' in
     let rest' : counts_from (suc i) (length ns) (xs ++ (splinter_choices n z i 0 ++ leaf_choices z (suc i) ns)) ≡ ns = ap (counts_from (suc i) (length ns)) (sym (append_assoc xs (splinter_choices n z i 0) (leaf_choices z (suc i) ns))) ∙ rest in

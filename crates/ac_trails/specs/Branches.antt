@@ -241,3 +241,16 @@ HasPlaces (below.Rows places) rs = length places.items ≡ length rs
 abbrev pub IsSettled : Base → List ℕ → Below → List Row → Conj → Type 0
 IsSettled b ns (below.Absurd i) rs path = is_absurd (slice_get path.rows i) ≡ true
 IsSettled b ns (below.Rows places) rs path = StandOn b ns rs places.items path
+
+-- so many numbers from i on
+abbrev pub numbers_from : ℕ → ℕ → List ℕ
+numbers_from i zero = []
+numbers_from i (suc n) = i ∷ numbers_from (suc i) n
+
+-- the rows of the question stand where its tree begins
+pub record IsFirst (question : Conj) (b : Branch) : Type 0 where
+  pub names : length b.names.items ≡ question.columns
+  pub long : length b.standing.places.items ≡ length b.standing.rows.items
+  pub rows : b.standing.rows.items ≡ question.rows
+  pub calm : AreCalm b.standing.rows.items
+  pub carries : Carries b.trail question b.names.items b.standing.rows.items b.standing.places.items

@@ -154,12 +154,7 @@ fn place_after(count: usize, next: usize) -> Option<usize>
 }
 
 /// Adds the place of a row, if it is a lower one of a column.
-fn push_lower(
-    raised: &mut Vec<usize>,
-    z: usize,
-    row: &Row,
-    place: usize,
-) -> Result<(), AllocError>
+fn push_lower(raised: &mut Vec<usize>, z: usize, row: &Row, place: usize) -> Result<(), AllocError>
     ensures { IfOk result (λ _. raised.new.items ≡ raised.old.items ++ cond (is_lower_row z (Some row.now)) (place ∷ []) []) }
 {
     if !is_lower_row(z, row) {
@@ -298,9 +293,7 @@ pub(crate) fn branch_of(
     match choice {
         Choice::Drop(z) => drop_branch(alloc, base, names, places, rows, *z),
         Choice::Equal(z, i) => equal_branch(alloc, base, names, places, rows, *z, *i),
-        Choice::Residue(z, m, r) => {
-            residue_branch(alloc, base, names, places, rows, *z, *m, *r)
-        }
+        Choice::Residue(z, m, r) => { residue_branch(alloc, base, names, places, rows, *z, *m, *r) }
         Choice::Shadow(z) => shadow_branch(alloc, base, names, places, rows, counts, *z),
         Choice::Splinter(z, i, k) => splinter_branch(
             alloc, base, names, places, rows, counts, depth, *z, *i, *k,

@@ -66,7 +66,7 @@ pub(crate) fn free_rows(
 }
 
 /// The same rows again.
-fn copied(alloc: Global, rows: &[Row]) -> Result<Vec<Row>, AllocError>
+pub(crate) fn copied(alloc: Global, rows: &[Row]) -> Result<Vec<Row>, AllocError>
     ensures { IfOk result (λ copies. copies.items ≡ rows.now) }
 {
     let mut copies = Vec::new(alloc);

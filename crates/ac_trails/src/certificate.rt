@@ -12,6 +12,7 @@ ghost use Rattle.ac_trails.specs.Refutations.{IsRefutationOf, IsModest, AreModes
 use crate::branch::{Branch, branch_of};
 use crate::choice_tree::{choice_tree, counts_of};
 use crate::descent::{Base, Below};
+use crate::question::question_branch;
 use crate::refutation::Refutation;
 use crate::splinter_tree::depth_of;
 use ac_cert::{Absurd, Choice, Tree, absurd_tree, behind_steps};
@@ -80,16 +81,7 @@ fn certify_each(
 {
     let mut trees = Vec::new(alloc);
     for j in 0..below.len() {
-        let branch = branch_of(
-            alloc,
-            base,
-            names,
-            places,
-            conj,
-            counts,
-            depth,
-            &choices[j],
-        )?;
+        let branch = branch_of(alloc, base, names, places, conj, counts, depth, &choices[j])?;
         let tree = beneath(alloc, branch, &below[j])?;
         trees.push(tree)?;
     }
@@ -98,11 +90,7 @@ fn certify_each(
 
 /// The tree of a branch, from a refutation of the normal form of its rows.
 #[cycle(certifies)]
-fn beneath(
-    alloc: Global,
-    branch: Branch,
-    child: &Refutation,
-) -> Result<Tree<Absurd>, AllocError>
+fn beneath(alloc: Global, branch: Branch, child: &Refutation) -> Result<Tree<Absurd>, AllocError>
     requires long { length branch.standing.places.items ≡ length branch.standing.rows.items }
     requires names { length branch.names.items ≡ (conj_of child.now).columns }
     requires made { AreRowsOver (length branch.names.items) branch.standing.rows.items }
@@ -158,5 +146,6 @@ pub fn certify(
     requires numbers { AreModest question.now.rows [] }
     ensures accepted { IfOk result (λ t. Accepts t absurd_refusals question.now) }
 {
-    Err(AllocError)
+    let branch = question_branch(alloc, question)?;
+    beneath(alloc, branch, refutation)
 }

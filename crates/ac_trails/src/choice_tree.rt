@@ -22,13 +22,7 @@ fn count_in(choice: &Choice, i: usize) -> usize
     ensures few { result ≤ 1 }
 {
     match choice {
-        Choice::Splinter(_, place, _) => {
-            if *place == i {
-                1
-            } else {
-                0
-            }
-        }
+        Choice::Splinter(_, place, _) => { if *place == i { 1 } else { 0 } }
         Choice::Drop(_) | Choice::Equal(_, _) | Choice::Residue(_, _, _) | Choice::Shadow(_) => 0,
     }
 }

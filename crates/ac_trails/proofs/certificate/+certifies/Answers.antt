@@ -19,8 +19,8 @@ pub certify_at-certify_each-requires : goal.certify_at-certify_each-requires
 certify_at-certify_each-requires t c = (
   search (rules, the_lemmas),
   let o : Opened c.in-Open.conj c.as_slice-choices.result.now c.as_slice-below.result.now c.deref.result.now = opened c.args.refutation.now c.in-Open.conj c.in-Open.choices c.as_slice-choices.result.now c.in-Open.below c.as_slice-below.result.now c.in_ok-counts-in-Open.counts.items c.deref.result.now c.len.result c.in-Open.is c.as_slice-choices.ensures c.as_slice-below.ensures c.deref.ensures.value c.in_ok-counts-in-Open.ensures c.len.ensures c.requires.refutes c.requires.modest in
-  let conj = open-conj c.args.refutation.now c.in-Open.conj c.in-Open.choices c.in-Open.below c.in-Open.is in
-  (c.requires.long ∙ ap (λ (d : Conj). length d.rows) conj, (c.requires.names ∙ ap (λ (d : Conj). d.columns) conj, (o.long, (o.made, (o.modest, (o.fan.tries, (o.refuted, o.all_modest))))))),
+      let conj = open-conj c.args.refutation.now c.in-Open.conj c.in-Open.choices c.in-Open.below c.in-Open.is in
+      (c.requires.long ∙ ap (λ (d : Conj). length d.rows) conj, (c.requires.names ∙ ap (λ (d : Conj). d.columns) conj, (o.long, (o.made, (o.modest, (o.fan.tries, (o.refuted, o.all_modest))))))),
 )
 
 pub certify_at-choice_tree-requires-clause-counts : goal.certify_at-choice_tree-requires-clause-counts
@@ -64,12 +64,12 @@ pub certify_each-beneath-requires : goal.certify_each-beneath-requires
 certify_each-beneath-requires t c = (
   search (rules, the_lemmas),
   let l = c.loop-j-test.true in
-  let s : Stage = stage c.args.base c.args.names.now c.args.places.now c.args.conj.now.rows c.args.counts.now c.args.depth in
-  let x : Chosen c.args.conj.now (get_or c.args.choices.now c.loop-j.j (Drop 0)) c.index-below-j.result c.args.counts.now =
-    chosen c.args.conj.now c.args.choices.now c.args.below.now c.args.counts.now c.loop-j.j (get_or c.args.choices.now c.loop-j.j (Drop 0)) c.index-below-j.result c.requires.modest c.requires.tries c.requires.refuted c.requires.below l (choice-own c.args.conj.now c.args.choices.now c.args.below.now c.loop-j.j c.requires.refuted l) c.index-below-j.is in
-  let r : Ready c.in_ok-branch.branch c.index-below-j.result = ready s c.args.conj.now (get_or c.args.choices.now c.loop-j.j (Drop 0)) c.index-below-j.result c.in_ok-branch.branch refl c.requires.names x c.in_ok-branch.ensures in
-  let i : IsBranch s (get_or c.args.choices.now c.loop-j.j (Drop 0)) c.in_ok-branch.branch = c.in_ok-branch.ensures in
-  (i.long, (r.names, (r.made, (r.fits, (i.calm, (r.normal, (x.refutes, x.is_modest))))))),
+      let s : Stage = stage c.args.base c.args.names.now c.args.places.now c.args.conj.now.rows c.args.counts.now c.args.depth in
+      let x : Chosen c.args.conj.now (get_or c.args.choices.now c.loop-j.j (Drop 0)) c.index-below-j.result c.args.counts.now =
+      chosen c.args.conj.now c.args.choices.now c.args.below.now c.args.counts.now c.loop-j.j (get_or c.args.choices.now c.loop-j.j (Drop 0)) c.index-below-j.result c.requires.modest c.requires.tries c.requires.refuted c.requires.below l (choice-own c.args.conj.now c.args.choices.now c.args.below.now c.loop-j.j c.requires.refuted l) c.index-below-j.is in
+      let r : Ready c.in_ok-branch.branch c.index-below-j.result = ready s c.args.conj.now (get_or c.args.choices.now c.loop-j.j (Drop 0)) c.index-below-j.result c.in_ok-branch.branch refl c.requires.names x c.in_ok-branch.ensures in
+      let i : IsBranch s (get_or c.args.choices.now c.loop-j.j (Drop 0)) c.in_ok-branch.branch = c.in_ok-branch.ensures in
+      (i.long, (r.names, (r.made, (r.fits, (i.calm, (r.normal, (x.refutes, x.is_modest))))))),
 )
 
 pub certify_each-loop-j-preserved : goal.certify_each-loop-j-preserved

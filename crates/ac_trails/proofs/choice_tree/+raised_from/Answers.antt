@@ -19,11 +19,11 @@ pub raised_from-requires : goal.raised_from-requires
 raised_from-requires t c = (
   search rules,
   let s : Stage = stage c.args.base c.args.names.now c.args.places.now c.args.rows.now c.args.counts.now c.args.depth in
-  let long : length c.args.counts.now ≡ length c.args.rows.now = counts-long c.args.rows.now c.args.counts.now c.requires.counts in
-  let within : c.args.i < length c.args.counts.now = omega arith in
-  let none : get_or c.args.counts.now c.args.i 0 ≡ 0 = c.if-count-eq0.true in
-  let same : lift_count (take (c.args.i + 1) c.args.counts.now) ≡ lift_count (take c.args.i c.args.counts.now) = lift_same c.args.counts.now c.args.i (c.args.i + 1) refl refl within (omega arith) in
-  (c.requires.long, (c.requires.counts, (c.requires.modest, (c.requires.deep, (omega arith, (c.requires.end ∙ ap (λ (n : ℕ). c.args.base.rows + n) (sym same), (serves-same s c.args.i c.args.splinters.items within none c.requires.served, c.requires.shadow))))))),
+      let long : length c.args.counts.now ≡ length c.args.rows.now = counts-long c.args.rows.now c.args.counts.now c.requires.counts in
+      let within : c.args.i < length c.args.counts.now = omega arith in
+      let none : get_or c.args.counts.now c.args.i 0 ≡ 0 = c.if-count-eq0.true in
+      let same : lift_count (take (c.args.i + 1) c.args.counts.now) ≡ lift_count (take c.args.i c.args.counts.now) = lift_same c.args.counts.now c.args.i (c.args.i + 1) refl refl within (omega arith) in
+      (c.requires.long, (c.requires.counts, (c.requires.modest, (c.requires.deep, (omega arith, (c.requires.end ∙ ap (λ (n : ℕ). c.args.base.rows + n) (sym same), (serves-same s c.args.i c.args.splinters.items within none c.requires.served, c.requires.shadow))))))),
 )
 
 pub returns-then-count-eq0 : goal.returns-then-count-eq0
@@ -42,13 +42,13 @@ pub raised_from-requires-2 : goal.raised_from-requires-2
 raised_from-requires-2 t c = (
   search rules,
   let s : Stage = stage c.args.base c.args.names.now c.args.places.now c.args.rows.now c.args.counts.now c.args.depth in
-  let long : length c.args.counts.now ≡ length c.args.rows.now = counts-long c.args.rows.now c.args.counts.now c.requires.counts in
-  let within : c.args.i < length c.args.counts.now = omega arith in
-  let some : 0 < get_or c.args.counts.now c.args.i 0 = omega arith in
-  let p : Served s c.args.i c.args.splinters.items c.split_off.new.self.items c.in_ok-later.later.items = serves-parts s c.args.i c.args.splinters.items c.split_off.new.self.items c.in_ok-later.later.items within c.in_ok-later.ensures.items c.in_ok-later.ensures.tail c.requires.served in
-  let more : lift_count (take (c.args.i + 1) c.args.counts.now) ≡ lift_count (take c.args.i c.args.counts.now) + 1 = lift_more c.args.counts.now c.args.i (c.args.i + 1) refl within some in
-  let next : c.in-Some.next ≡ c.args.end + 1 = first_of (omega arith, search rules) in
-  (c.requires.long, (c.requires.counts, (c.requires.modest, (omega (arith, p.back-long, c.requires.deep), (omega arith, (omega (arith, c.requires.end, next, more), (p.later, c.requires.shadow))))))),
+      let long : length c.args.counts.now ≡ length c.args.rows.now = counts-long c.args.rows.now c.args.counts.now c.requires.counts in
+      let within : c.args.i < length c.args.counts.now = omega arith in
+      let some : 0 < get_or c.args.counts.now c.args.i 0 = omega arith in
+      let p : Served s c.args.i c.args.splinters.items c.split_off.new.self.items c.in_ok-later.later.items = serves-parts s c.args.i c.args.splinters.items c.split_off.new.self.items c.in_ok-later.later.items within c.in_ok-later.ensures.items c.in_ok-later.ensures.tail c.requires.served in
+      let more : lift_count (take (c.args.i + 1) c.args.counts.now) ≡ lift_count (take c.args.i c.args.counts.now) + 1 = lift_more c.args.counts.now c.args.i (c.args.i + 1) refl within some in
+      let next : c.in-Some.next ≡ c.args.end + 1 = first_of (omega arith, search rules) in
+      (c.requires.long, (c.requires.counts, (c.requires.modest, (omega (arith, p.back-long, c.requires.deep), (omega arith, (omega (arith, c.requires.end, next, more), (p.later, c.requires.shadow))))))),
 )
 
 pub raised_tree-requires-clause-room : goal.raised_tree-requires-clause-room
@@ -73,7 +73,16 @@ returns t c =
     let p : Served s c.args.i c.args.splinters.items c.split_off.new.self.items c.in_ok-later.later.items = serves-parts s c.args.i c.args.splinters.items c.split_off.new.self.items c.in_ok-later.later.items within c.in_ok-later.ensures.items c.in_ok-later.ensures.tail c.requires.served in
     let lower : IsLower c.index-rows-i.result = lower-row c.args.rows.now c.args.counts.now c.args.i c.index-rows-i.result c.requires.counts here c.index-rows-i.is some in
     let b : Behind s c.args.i c.index-rows-i.result c.in_ok-form.form c.split_off.new.self.items c.in_ok-onward.onward c.args.end = record {
-      within = here; long = long; row = c.index-rows-i.is; lower = lower; some = some; count = p.front-long; column = p.column; served = p.here; ends = c.requires.end; short = c.in_ok-form.ensures.within;
+      within = here;
+      long = long;
+      row = c.index-rows-i.is;
+      lower = lower;
+      some = some;
+      count = p.front-long;
+      column = p.column;
+      served = p.here;
+      ends = c.requires.end;
+      short = c.in_ok-form.ensures.within;
     } in
     raised-by s c.args.i c.args.end c.index-rows-i.result c.in_ok-form.form c.split_off.new.self.items c.in_ok-onward.onward c.raised_tree.result b
     (λ q on. subst (λ (f : Affine). Renames c.args.names.now f c.in_ok-form.form) c.form.ensures (c.in_ok-form.ensures.renames on.names)) c.in_ok-onward.ensures c.raised_tree.ensures
