@@ -1,13 +1,10 @@
-//! Trails: the steps of a certificate as they are made, and what stands behind them. The rows of a conjunction stand on the
-//! path of a tree at places, under names for their columns; each call adds steps and says which row stands where behind them,
-//! whatever stood there before. From these a certificate of emptiness is made that follows an elimination.
+//! Certificates of refutations (W. Pugh, The Omega test, 1991). A refutation says why a conjunction has no integer point: the
+//! choices for a column, and why what each leaves has none. `certify` makes a tree of it that the check of trees accepts.
 //!
-//! Here stand: the row `1 >= 0`, which turns an equality into bounds and lowers a bound; each rule over rows that stand; the
-//! normal form of a row `>= 0`, two equalities that clash, a divisibility in which an equality replaces a column, sums of
-//! bounds; the binary tree over the numbers that a form may be worth, and the tree over its residues.
-//!
-//! What is to come: the normal forms of equalities and divisibilities and of a list of rows, whole choices of elimination,
-//! the condition on numbers from their greatest, and the tree of a whole elimination.
+//! The rows of a conjunction stand on the path of a tree at places, under names for their columns; each call of `Trail` adds
+//! steps and says which row stands where behind them, whatever stood there before. For each choice the rows that it leaves are
+//! shown so, then their normal form, and so on down; where a column has splinters, they hang on a binary tree over the numbers
+//! that a lower row may be worth, beside the shadow. That all numbers stay in `i128` follows from their greatest.
 #![tactic(auto)]
 
 mod branch;
@@ -23,7 +20,6 @@ mod left_search;
 mod margins;
 mod normal_divisibility;
 mod normal_equality;
-mod choice_tree;
 mod normal_form;
 mod path;
 mod question;
@@ -42,7 +38,8 @@ pub use path::Trail;
 pub use refutation::Refutation;
 
 #[cfg(test)]
-mod normal_form_tests;
 mod equality_tests;
+#[cfg(test)]
+mod normal_form_tests;
 #[cfg(test)]
 mod tests;
