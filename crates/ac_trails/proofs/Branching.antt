@@ -1,19 +1,18 @@
 -- Where the rows that a choice leaves stand: behind trails without steps, behind a class, behind raised rows, and behind splinters.
-use Rattle.std.proofs.Common.{◌≡◌, ℕ, zero, suc, ◌+◌, ◌<◌, ◌≤◌, ℤ, pos, neg_ℤ, ◌+ℤ◌, Bool, true, false, cond, List, [], ◌∷◌, ◌++◌, length, take, map, set, Option, Some, None, slice_get, refl, sym, ap, subst, ◌∙◌, arith, append_assoc, length-append}
+use Rattle.std.proofs.Common.{◌≡◌, ℕ, zero, suc, ◌+◌, ℤ, pos, neg_ℤ, ◌+ℤ◌, Bool, true, false, cond, List, [], ◌∷◌, ◌++◌, length, take, map, Option, Some, None, slice_get, refl, sym, ap, subst, ◌∙◌, arith, append_assoc, length-append}
 use Rattle.std.specs.Prelude.{Result, Ok, Err, IfOk}
 use Rattle.std.proofs.lemmas.Int.{ints}
 use Rattle.ac_forms.specs.Affine.{Affine, coef, column_form, shifted}
-use Rattle.ac_forms.specs.Rows.{form_of}
 use Rattle.ac_forms.specs.declared.conj.Conj.{Conj}
 use Rattle.ac_forms.specs.declared.row.Row.{Row}
 use Rattle.ac_forms.specs.declared.row.Row.TheVariants.{Eq, Div, Ge}
 use Rattle.ac_cert.specs.declared.choose.Choice.{Choice}
 use Rattle.ac_cert.specs.Bounds.{is_low, last_splinter}
-use Rattle.ac_cert.specs.Rules.{class, class_row}
+use Rattle.ac_cert.specs.Rules.{class_row}
 use Rattle.ac_trails.specs.Branches.{lift_count, lifts, raised_places, splinter_count, IsAlong, AreAlong, with_rows, Stage, IsOn, IsClass, IsRaised, worth, IsSplintered, IsBranch, stage}
 use Rattle.ac_trails.specs.Descents.{StandOn, Carries, base_of, column_less, raised_rows}
 use Rattle.ac_trails.specs.Leaves.{less}
-use Rattle.ac_trails.specs.Standing.{place_of, coef_of, Renames, with_form, StandsAt, Stand, IsOnto}
+use Rattle.ac_trails.specs.Standing.{place_of, coef_of, Renames, StandsAt, Stand, IsOnto}
 use Rattle.ac_trails.specs.Tries.{count_to}
 use Rattle.ac_trails.specs.declared.branch.Branch.{Branch}
 use Rattle.ac_trails.specs.declared.descent.Base.{Base}

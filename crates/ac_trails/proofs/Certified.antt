@@ -1,10 +1,10 @@
 -- From a refutation's parts to what the makers of its certificate ask, and back to acceptance.
-use Rattle.std.proofs.Common.{◌≡◌, ℕ, zero, suc, ◌+◌, ◌<◌, ◌≤◌, ℤ, pos, negsuc, Bool, true, false, cond, List, [], ◌∷◌, ◌++◌, length, get_or, Option, Some, None, slice_get, refl, sym, ap, subst, ◌∙◌, arith, rules}
-use Rattle.std.specs.Prelude.{◌&&◌, Result, IfOk}
+use Rattle.std.proofs.Common.{◌≡◌, ℕ, zero, suc, ◌<◌, ℤ, pos, negsuc, true, List, [], ◌∷◌, length, get_or, Some, slice_get, refl, sym, ap, subst, ◌∙◌, arith, rules}
+use Rattle.std.specs.Prelude.{Result, IfOk}
 use Rattle.std.specs.Int.Signed.{lt_z}
 use Rattle.std.specs.Ordering.{int_eq}
 use Rattle.std.proofs.lemmas.Int.{ints}
-use Rattle.ac_forms.specs.Affine.{Affine, coef}
+use Rattle.ac_forms.specs.Affine.{coef}
 use Rattle.ac_forms.specs.NormalForm.{normal_form}
 use Rattle.ac_forms.specs.Rows.{AreRowsOver, IsWellMade}
 use Rattle.ac_forms.specs.Tests.{rows_fit}
@@ -14,18 +14,15 @@ use Rattle.ac_forms.specs.declared.row.Row.TheVariants.{Eq, Div, Ge}
 use Rattle.ac_cert.specs.declared.choose.Choice.{Choice}
 use Rattle.ac_cert.specs.declared.choose.Choice.TheVariants as choice
 use Rattle.ac_cert.specs.declared.ends.Absurd.{Absurd as End}
-use Rattle.ac_cert.specs.declared.types.Step.{Step}
 use Rattle.ac_cert.specs.declared.types.Tree.{Tree}
 use Rattle.ac_cert.specs.Accepted.{Accepts, absurd_refusals, after_steps}
 use Rattle.ac_cert.specs.Choices.{are_absurd, left_by}
 use Rattle.ac_cert.specs.ChoiceFits.{choice_fits}
 use Rattle.ac_cert.specs.Ends.{is_absurd}
 use Rattle.ac_cert.specs.Faults.{Refusal}
-use Rattle.ac_cert.proofs.Truths.{and-true}
-use Rattle.ac_trails.specs.Branches.{counts_from, Stage, IsOn, Begins, Serves, ServeFirst, IsBranch, IsTry, AreTries, AreAll, RefuteAll, AllModest, HasPlaces, IsSettled, IsFirst}
-use Rattle.ac_trails.specs.Descents.{StandOn, Carries, ShowsAbsurd, Settles, base_of, AreCalm}
+use Rattle.ac_trails.specs.Branches.{counts_from, Stage, Serves, IsBranch, IsTry, AreTries, RefuteAll, AllModest, IsSettled, IsFirst}
+use Rattle.ac_trails.specs.Descents.{StandOn, Carries, Settles, base_of}
 use Rattle.ac_trails.specs.Refutations.{conj_of, Refutes, AreModest, IsModest, IsRefutationOf}
-use Rattle.ac_trails.specs.Standing.{StandsAt, Stand}
 use Rattle.ac_trails.specs.declared.branch.Branch.{Branch}
 use Rattle.ac_trails.specs.declared.descent.Base.{Base}
 use Rattle.ac_trails.specs.declared.descent.Below.{Below}

@@ -1,19 +1,18 @@
 -- The tree of all choices is accepted where the tree of each is.
-use Rattle.std.proofs.Common.{◌≡◌, ℕ, zero, suc, ◌+◌, ◌-◌, ◌<◌, ◌≤◌, ◌^◌, ℤ, pos, negsuc, neg_ℤ, ◌+ℤ◌, ◌-ℤ◌, ◌*ℤ◌, ◌≤ℤ◌, Bool, true, false, cond, List, [], ◌∷◌, ◌++◌, length, map, take, drop, get_or, Option, Some, None, slice_get, refl, sym, ap, subst, ◌∙◌, arith}
-use Rattle.std.specs.Prelude.{unsigned_abs, Result, IfOk}
+use Rattle.std.proofs.Common.{◌≡◌, ℕ, zero, suc, ◌+◌, ◌≤◌, ℤ, pos, negsuc, neg_ℤ, ◌-ℤ◌, ◌≤ℤ◌, List, [], ◌∷◌, length, map, take, drop, get_or, refl, sym, ap, subst, ◌∙◌, arith}
+use Rattle.std.specs.Prelude.{Result, IfOk}
 use Rattle.std.proofs.lemmas.Int.{ints}
-use Rattle.ac_forms.specs.Affine.{Affine, coef, column_form}
-use Rattle.ac_forms.specs.Fits.{Fits, AllFit}
+use Rattle.ac_forms.specs.Affine.{Affine, column_form}
+use Rattle.ac_forms.specs.Fits.{Fits}
 use Rattle.ac_forms.specs.declared.conj.Conj.{Conj}
 use Rattle.ac_forms.specs.declared.row.Row.{Row}
-use Rattle.ac_forms.specs.declared.row.Row.TheVariants.{Eq, Div, Ge}
 use Rattle.ac_cert.specs.declared.choose.Choice.{Choice}
 use Rattle.ac_cert.specs.declared.choose.Choice.TheVariants as choice
 use Rattle.ac_cert.specs.declared.ends.Absurd.{Absurd}
 use Rattle.ac_cert.specs.declared.types.Tree.{Tree}
 use Rattle.ac_cert.specs.Accepted.{Accepts, AcceptsEach, absurd_refusals}
 use Rattle.ac_cert.specs.Bounds.{greatest_size, highs}
-use Rattle.ac_trails.specs.Branches.{Stage, stage, IsOn, IsClass, Serves, ServeFirst, ServeLeaves, IsRaised, splinter_count, leaf_choices, residue_choices, AreResidues, AreAll}
+use Rattle.ac_trails.specs.Branches.{Stage, stage, IsOn, ServeFirst, ServeLeaves, IsRaised, splinter_count, leaf_choices, residue_choices, AreResidues, AreAll}
 use Rattle.ac_trails.specs.Standing.{Renames}
 use Rattle.ac_trails.proofs.Branching.{ok-as}
 use Rattle.ac_trails.proofs.RaisedTrees.{raised-nothing}

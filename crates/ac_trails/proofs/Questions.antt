@@ -1,5 +1,5 @@
 -- The rows of a question stand at their places, under the numbers of their columns.
-use Rattle.std.proofs.Common.{◌≡◌, ℕ, zero, suc, ◌+◌, ◌-◌, ◌<◌, ◌≤◌, ℤ, pos, Bool, true, false, cond, nat_eq, nat_lt, List, [], ◌∷◌, ◌++◌, length, get_or, Option, Some, None, slice_get, eq-eqb, refl, sym, ap, subst, ◌∙◌, arith, append_assoc, length-append}
+use Rattle.std.proofs.Common.{◌≡◌, ℕ, zero, suc, ◌+◌, ◌-◌, ◌<◌, ◌≤◌, ℤ, pos, Bool, true, false, nat_lt, List, [], ◌∷◌, ◌++◌, length, get_or, Some, None, eq-eqb, refl, sym, ap, ◌∙◌, arith, append_assoc, length-append}
 use Rattle.std.specs.Prelude.{option_map}
 use Rattle.std.proofs.lemmas.Bool.{ne_eqb}
 use borrow.Author.Tests.{ltb-true, ltb-false}
@@ -9,8 +9,8 @@ use Rattle.ac_forms.specs.declared.conj.Conj.{Conj}
 use Rattle.ac_forms.specs.declared.row.Row.{Row}
 use Rattle.ac_forms.specs.declared.row.Row.TheVariants.{Eq, Div, Ge}
 use Rattle.ac_trails.specs.Branches.{numbers_from}
-use Rattle.ac_trails.specs.Descents.{AreNames, StandOn, Carries, base_of}
-use Rattle.ac_trails.specs.Standing.{place_of, coef_of, Renames, with_form, StandsAt, Stand, Starts}
+use Rattle.ac_trails.specs.Descents.{AreNames, Carries}
+use Rattle.ac_trails.specs.Standing.{place_of, coef_of, Renames, with_form, Stand, Starts}
 use Rattle.ac_trails.specs.declared.path.Trail.{Trail}
 use Rattle.ac_trails.proofs.Branching.{at-front}
 

@@ -1,29 +1,25 @@
 -- A lower row that is raised beyond its splinters: the trees behind it, and the path in front of it.
-use Rattle.std.proofs.Common.{◌≡◌, ℕ, zero, suc, ◌+◌, ◌-◌, ◌*◌, ◌<◌, ◌≤◌, ◌^◌, ℤ, pos, negsuc, neg_ℤ, ◌+ℤ◌, ◌-ℤ◌, ◌*ℤ◌, ◌≤ℤ◌, ◌<ℤ◌, Bool, true, false, cond, List, [], ◌∷◌, ◌++◌, length, map, take, drop, get_or, Option, Some, None, slice_get, refl, sym, ap, subst, ◌∙◌, arith, lit<, append_assoc, length-append}
+use Rattle.std.proofs.Common.{◌≡◌, ℕ, zero, suc, ◌+◌, ◌*◌, ◌<◌, ◌≤◌, ◌^◌, ℤ, pos, negsuc, neg_ℤ, ◌+ℤ◌, ◌-ℤ◌, ◌*ℤ◌, ◌≤ℤ◌, Bool, true, false, cond, List, [], ◌∷◌, ◌++◌, length, map, take, drop, get_or, Option, Some, None, slice_get, refl, sym, ap, subst, ◌∙◌, arith, lit<, append_assoc, length-append}
 use Rattle.std.specs.Prelude.{unsigned_abs, Result, IfOk}
 use Rattle.std.specs.Int.Signed.{lt_z}
 use Rattle.std.proofs.lemmas.Int.{ints}
 use Rattle.std.proofs.Math.Nat.{mul-le-mul_right}
-use Rattle.ac_forms.specs.Affine.{Affine, coef, FormFits}
+use Rattle.ac_forms.specs.Affine.{Affine, coef}
 use Rattle.ac_forms.specs.Fits.{Fits, AllFit}
-use Rattle.ac_forms.specs.Negation.{opposite}
 use Rattle.ac_forms.specs.Rows.{form_of}
 use Rattle.ac_forms.specs.declared.conj.Conj.{Conj}
 use Rattle.ac_forms.specs.declared.row.Row.{Row}
 use Rattle.ac_forms.specs.declared.row.Row.TheVariants.{Eq, Div, Ge}
 use Rattle.ac_cert.specs.declared.choose.Choice.{Choice}
-use Rattle.ac_cert.specs.declared.choose.Choice.TheVariants as choice
 use Rattle.ac_cert.specs.declared.ends.Absurd.{Absurd}
 use Rattle.ac_cert.specs.declared.types.Tree.{Tree}
 use Rattle.ac_cert.specs.Accepted.{Accepts, absurd_refusals}
 use Rattle.ac_cert.specs.Bounds.{is_low, last_splinter}
 use Rattle.ac_cert.specs.Rules.{with_row}
-use Rattle.ac_cert.specs.StepRows.{IsAt}
-use Rattle.ac_trails.specs.Branches.{splinter_count, lift_count, lifts, IsAlong, AreAlong, with_rows, Stage, stage, IsOn, IsRaised, worth, IsSplintered, Serves, ServeFirst, ServeLeaves, splinter_choices, leaf_choices}
-use Rattle.ac_trails.specs.Descents.{StandOn}
-use Rattle.ac_trails.specs.Leaves.{less, under, HasRoom, GoesOn, IsLikeAt, AcceptsBehind, AcceptsFrom}
+use Rattle.ac_trails.specs.Branches.{splinter_count, lift_count, lifts, IsAlong, AreAlong, with_rows, Stage, IsOn, IsRaised, worth, IsSplintered, ServeFirst, ServeLeaves, splinter_choices, leaf_choices}
+use Rattle.ac_trails.specs.Leaves.{less, under, HasRoom, GoesOn, IsLikeAt, AcceptsFrom}
 use Rattle.ac_trails.specs.Refutations.{IsFormWithin, IsRowWithin, AreRowsWithin, AreModest}
-use Rattle.ac_trails.specs.Standing.{place_of, coef_of, Renames, Alike, with_form, StandsAt, Stand, IsOnto}
+use Rattle.ac_trails.specs.Standing.{place_of, coef_of, Renames, Alike, StandsAt, Stand}
 use Rattle.ac_trails.specs.Tries.{count_to}
 use Rattle.ac_trails.proofs.Branching.{ok-as, onto-rows, along-length, lifts-length}
 use Rattle.ac_trails.proofs.Leaves.{fits-between}

@@ -1,5 +1,5 @@
 -- What a refutation says at lists, and of each choice in turn.
-use Rattle.std.proofs.Common.{◌≡◌, ℕ, zero, suc, ◌<◌, List, [], ◌∷◌, ◌++◌, length, get_or, Bool, true, false, cond, Option, Some, None, rules, refl, arith, sym, ap, ◌∙◌}
+use Rattle.std.proofs.Common.{◌≡◌, ℕ, zero, suc, ◌<◌, List, [], ◌∷◌, ◌++◌, length, get_or, Bool, true, false, cond, Some, None, rules, refl, arith, ap}
 use Rattle.std.specs.Prelude.{◌&&◌}
 use Rattle.ac_forms.specs.NormalForm.{normal_conj}
 use Rattle.ac_forms.specs.Rows.{IsWellMade}

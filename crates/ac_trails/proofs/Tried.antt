@@ -1,16 +1,15 @@
 -- What the choices for a column are, and what the rows allow of each.
-use Rattle.std.proofs.Common.{◌≡◌, ℕ, zero, suc, ◌+◌, ◌*◌, ◌/◌, ◌<◌, ◌≤◌, ◌==◌, ◌%◌, ℤ, pos, negsuc, ◌≤ℤ◌, ◌<ℤ◌, Bool, true, false, cond, not, ◌&&◌, ◌||◌, nat_eq, nat_lt, List, [], ◌∷◌, ◌++◌, length, map, set, Option, Some, None, slice_get, eq-eqb, refl, sym, ap, subst, ◌∙◌, arith, append_assoc}
+use Rattle.std.proofs.Common.{◌≡◌, ℕ, zero, suc, ◌+◌, ◌*◌, ◌/◌, ◌<◌, ◌≤◌, ℤ, pos, negsuc, ◌≤ℤ◌, Bool, true, false, cond, not, ◌&&◌, ◌||◌, nat_eq, List, [], ◌∷◌, ◌++◌, length, map, set, Option, Some, None, slice_get, eq-eqb, refl, sym, ap, subst, ◌∙◌, arith, append_assoc}
 use Rattle.std.specs.Prelude.{unsigned_abs, option_map}
-use Rattle.std.specs.Int.{◌∣◌}
 use Rattle.std.proofs.lemmas.Bool.{lt-ltb, ne_eqb}
 use Rattle.std.proofs.lemmas.Int.{ints}
-use Rattle.std.proofs.lemmas.List.{append-nil, length-set}
-use Rattle.std.proofs.Math.Nat.{pos_of_dvd_of_pos, div-mul_cancel}
+use Rattle.std.proofs.lemmas.List.{length-set}
+use Rattle.std.proofs.Math.Nat.{div-mul_cancel}
 use Rattle.ac_integers.specs.Gcd.{gcd}
 use Rattle.ac_integers.proofs.Divisors.{IsGcd-gcd}
 use Rattle.ac_forms.specs.Affine.{Affine, coef}
-use Rattle.ac_forms.specs.Fits.{Fits, fits}
-use Rattle.ac_forms.specs.Rows.{HasModulus, HaveModuli, IsRowOver, AreRowsOver, IsWellMade}
+use Rattle.ac_forms.specs.Fits.{fits}
+use Rattle.ac_forms.specs.Rows.{HaveModuli, IsRowOver, AreRowsOver, IsWellMade}
 use Rattle.ac_forms.specs.declared.conj.Conj.{Conj}
 use Rattle.ac_forms.specs.declared.row.Row.{Row}
 use Rattle.ac_forms.specs.declared.row.Row.TheVariants.{Eq, Div, Ge}
@@ -18,14 +17,14 @@ use Rattle.ac_forms.proofs.Passes.{moduli_of}
 use Rattle.ac_cert.specs.declared.choose.Choice.{Choice}
 use Rattle.ac_cert.specs.declared.choose.Choice.TheVariants as choice
 use Rattle.ac_cert.specs.Bounds.{has_column, is_low, highs, only_bounds, is_one_sided, greatest_size, last_splinter}
-use Rattle.ac_cert.specs.Choices.{column_of, are_absurd, is_equality_of, is_lower_row, allows, is_legal, spread_row, left_by}
-use Rattle.ac_cert.specs.ChoiceFits.{sizes_fit, raw}
+use Rattle.ac_cert.specs.Choices.{column_of, are_absurd, is_equality_of, allows, spread_row, left_by}
+use Rattle.ac_cert.specs.ChoiceFits.{sizes_fit}
 use Rattle.ac_cert.proofs.LeftMade.{raw_made}
 use Rattle.ac_cert.proofs.Fitting.{true_fits}
 use Rattle.ac_cert.proofs.Truths.{true-le}
-use Rattle.ac_trails.specs.Branches.{splinter_count, count_of, counts_from, IsSplinterOf, Allows, IsTry, AreTries, residue_choices, splinter_choices, leaf_choices, AreResidues, AreAll}
+use Rattle.ac_trails.specs.Branches.{splinter_count, count_of, counts_from, IsTry, AreTries, residue_choices, splinter_choices, leaf_choices, AreResidues, AreAll}
 use Rattle.ac_trails.specs.Refutations.{AreChoicesOf}
-use Rattle.ac_trails.specs.Tries.{Tries, first_equality, has_divisibility, lcm, common_modulus, residues_from, residues, splinters_from, count_to, last_splinter_fits, splinters_of, splinters, by_bounds, tries_by, tries_for, all_of}
+use Rattle.ac_trails.specs.Tries.{Tries, first_equality, has_divisibility, lcm, common_modulus, residues_from, residues, splinters_from, count_to, last_splinter_fits, splinters, tries_by, tries_for, all_of}
 
 -- ---- which choices these are
 

@@ -1,5 +1,5 @@
 -- From the rows of a conjunction on the path to the rows that a choice leaves.
-use Rattle.std.specs.Prelude.{◌≡◌, ◌⊎◌, ℕ, ◌<◌, ◌≤◌, ◌^◌, ℤ, pos, negsuc, neg_ℤ, unsigned_abs, List, [], ◌∷◌, length, get_or, cond, true, Some, slice_get}
+use Rattle.std.specs.Prelude.{◌≡◌, ◌⊎◌, ℕ, ◌<◌, ◌≤◌, ◌^◌, ℤ, neg_ℤ, unsigned_abs, List, [], ◌∷◌, length, get_or, cond, true, Some, slice_get}
 use Rattle.ac_integers.specs.Gcd.{content}
 use Rattle.ac_forms.specs.Affine.{Affine, coef, shifted, column_form}
 use Rattle.ac_forms.specs.declared.conj.Conj.{Conj}

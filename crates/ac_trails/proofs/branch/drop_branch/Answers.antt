@@ -1,6 +1,4 @@
-use Rattle.std.proofs.Common.{◌≡◌, length, rules, refl, subst, sym, ap}
-use Rattle.std.proofs.Common.{List, ℕ}
-use Rattle.ac_forms.specs.declared.conj.Conj.{Conj}
+use Rattle.std.proofs.Common.{length, subst, sym, ap}
 use Rattle.ac_forms.proofs.Passes.{moduli_of}
 use Rattle.ac_trails.specs.Descents.{StandOn}
 use Rattle.ac_trails.proofs.Branching.{carries-behind}

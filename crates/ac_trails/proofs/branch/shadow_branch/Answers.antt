@@ -1,8 +1,7 @@
-use Rattle.std.proofs.Common.{◌≡◌, ◌++◌, ℕ, ◌+◌, List, length, subst, sym, ap, ◌∙◌, arith, rules}
+use Rattle.std.proofs.Common.{◌≡◌, ◌++◌, ℕ, ◌+◌, List, length, subst, sym, ap, ◌∙◌, arith}
 use Rattle.std.proofs.lemmas.List.{length-map}
-use Rattle.ac_forms.specs.declared.row.Row.{Row}
 use Rattle.ac_cert.specs.Bounds.{highs, greatest_size}
-use Rattle.ac_trails.specs.Branches.{lift_count, raised_places, splinter_count}
+use Rattle.ac_trails.specs.Branches.{lift_count, raised_places}
 use Rattle.ac_trails.specs.Descents.{Carries, raised_rows}
 use Rattle.ac_trails.proofs.Branching.{carries-behind, stand-shadow}
 use Rattle.ac_trails.proofs.RaisedPlaces.{raised-length}

@@ -1,11 +1,10 @@
-use Rattle.std.proofs.Common.{◌≡◌, ℕ, ℤ, ◌+◌, ◌≤ℤ◌, List, Some, length, take, subst, sym, ap, ◌∙◌, arith, rules}
+use Rattle.std.proofs.Common.{◌≡◌, ℕ, ◌+◌, Some, length, take, subst, sym, ap, ◌∙◌, arith}
 use Rattle.ac_integers.proofs.Bits.{again_128}
 use Rattle.ac_forms.specs.Affine.{Affine}
 use Rattle.ac_forms.specs.declared.row.Row.TheVariants.{Eq, Ge}
 use Rattle.ac_forms.proofs.Passes.{moduli_of}
 use Rattle.ac_trails.specs.Branches.{Stage, stage, lift_count, worth}
 use Rattle.ac_trails.specs.Standing.{StandsAt}
-use Rattle.ac_trails.specs.Descents.{Carries}
 use Rattle.ac_trails.proofs.Branching.{carries-behind, OnSplinter, stand-splinter}
 use Rattle.ac_trails.proofs.RaisedPlaces.{at-within}
 use Rattle.ac_trails.proofs.branch.splinter_branch.Goals as goal

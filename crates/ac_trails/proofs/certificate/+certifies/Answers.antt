@@ -1,11 +1,11 @@
-use Rattle.std.proofs.Common.{◌≡◌, ℕ, ◌+◌, ◌≤◌, ◌<◌, [], ◌∷◌, length, get_or, refl, sym, ap, ◌∙◌, arith, rules, length-append}
+use Rattle.std.proofs.Common.{ℕ, ◌+◌, [], ◌∷◌, length, get_or, refl, ap, ◌∙◌, arith, rules, length-append}
 use Rattle.ac_forms.specs.declared.conj.Conj.{Conj}
 use Rattle.ac_cert.specs.declared.choose.Choice.{Choice}
 use Rattle.ac_cert.specs.declared.choose.Choice.TheVariants.{Drop}
 use Rattle.ac_trails.specs.Branches.{Stage, stage, IsBranch}
 use Rattle.ac_trails.specs.Refutations.{conj_of}
 use Rattle.ac_trails.specs.declared.refutation.Refutation.{the_lemmas}
-use Rattle.ac_trails.proofs.Certified.{open-conj, absurd-rows, absurd-length, absurd-stands, behind, choice-own, choice-fits, Opened, opened, Chosen, chosen, Ready, ready, serves, settled}
+use Rattle.ac_trails.proofs.Certified.{open-conj, absurd-rows, absurd-length, absurd-stands, behind, choice-own, choice-fits, Opened, opened, Chosen, chosen, Ready, ready, serves}
 use Rattle.ac_trails.proofs.Refuted.{served-more, refute-lengths, modest-at, try-at}
 use Rattle.ac_trails.proofs.certificate.+certifies.Goals as goal
 

@@ -1,13 +1,7 @@
 use Rattle.std.proofs.Common.{◌≡◌, ℕ, ◌+◌, ◌<◌, ◌≤◌, ◌^◌, length, take, get_or, arith, rules, refl, sym, ap, ◌∙◌, subst}
 use Rattle.ac_forms.specs.Affine.{Affine}
-use Rattle.ac_cert.specs.declared.ends.Absurd.{Absurd}
-use Rattle.ac_cert.specs.declared.types.Tree.{Tree}
-use Rattle.ac_cert.specs.Accepted.{Accepts, absurd_refusals}
-use Rattle.ac_forms.specs.Rows.{form_of}
-use Rattle.ac_forms.specs.declared.conj.Conj.{Conj}
-use Rattle.ac_trails.specs.Branches.{Stage, stage, IsOn, IsRaised, lift_count}
+use Rattle.ac_trails.specs.Branches.{Stage, stage, lift_count}
 use Rattle.ac_trails.specs.Standing.{Renames}
-use Rattle.ac_trails.proofs.Branching.{ok-as}
 use Rattle.ac_trails.proofs.RaisedPlaces.{lift_same, lift_more}
 use Rattle.ac_trails.proofs.RaisedTrees.{Served, serves-same, serves-parts, leaves-long, counts-long, raised-whole, raised-past, IsLower, lower-row, lower-room, Behind, raised-by}
 use Rattle.ac_trails.proofs.choice_tree.+raised_from.Goals as goal

@@ -1,9 +1,8 @@
-use Rattle.std.proofs.Common.{◌≡◌, ℕ, pos, List, length, arith, rules, sym, ap, ◌∙◌, subst}
+use Rattle.std.proofs.Common.{ℕ, pos, rules, sym, ap, ◌∙◌}
 use Rattle.ac_integers.proofs.Bits.{again_128}
 use Rattle.ac_forms.specs.Fits.{Fits}
-use Rattle.ac_cert.specs.declared.choose.Choice.{Choice}
 use Rattle.ac_cert.specs.Bounds.{greatest_size, highs}
-use Rattle.ac_trails.specs.Branches.{Stage, stage, AreResidues, ServeFirst, residue_choices}
+use Rattle.ac_trails.specs.Branches.{Stage, stage, AreResidues, ServeFirst}
 use Rattle.ac_trails.proofs.ChoiceTrees.{are-splinters, ShadowFirst, shadow-taken, from-nothing, are-residues, residues-long, residues-accepted}
 use Rattle.ac_trails.proofs.choice_tree.choice_tree.Goals as goal
 

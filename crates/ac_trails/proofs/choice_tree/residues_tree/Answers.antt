@@ -1,4 +1,4 @@
-use Rattle.std.proofs.Common.{◌≡◌, ◌≤◌, length, arith, sym, ap, ◌∙◌, subst}
+use Rattle.std.proofs.Common.{◌≤◌, length, arith, subst}
 use Rattle.ac_integers.proofs.Bits.{again_128}
 use Rattle.ac_forms.specs.Affine.{Affine, column_form}
 use Rattle.ac_trails.specs.Branches.{Stage, stage}

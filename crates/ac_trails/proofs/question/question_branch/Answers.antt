@@ -1,5 +1,4 @@
-use Rattle.std.proofs.Common.{◌≡◌, List, length, refl, sym, ap, ◌∙◌, subst}
-use Rattle.ac_forms.specs.declared.row.Row.{Row}
+use Rattle.std.proofs.Common.{◌≡◌, length, refl, sym, ap, ◌∙◌, subst}
 use Rattle.ac_forms.proofs.Passes.{moduli_of}
 use Rattle.ac_trails.specs.Branches.{numbers_from}
 use Rattle.ac_trails.specs.Descents.{AreCalm}
