@@ -457,3 +457,16 @@ pub(crate) const MORE_POINTS: [Question; 12] = [
         Some([31, 24, 0, 0]),
     ),
 ];
+
+/// `2^60 x = 1`, whose greatest numbers are just not large, and `2^61 x = 1`, where they are.
+pub(crate) const LARGEST: [[i128; 7]; 1] = [[EQ, 0, -1, 1_152_921_504_606_846_976, 0, 0, 0]];
+
+pub(crate) const LARGE: [[i128; 7]; 1] = [[EQ, 0, -1, 2_305_843_009_213_693_952, 0, 0, 0]];
+
+/// A point behind 99,966 splinters of at least five rows each.
+pub(crate) const SPLINTERED: [[i128; 7]; 4] = [
+    [GE, 0, -40, 100003, -100000, 0, 0],
+    [GE, 0, 100010, -100003, 100000, 0, 0],
+    [GE, 0, -1, 0, 1, 0, 0],
+    [GE, 0, 10, 0, -1, 0, 0],
+];

@@ -2,7 +2,9 @@
 use crate::decision::{Decision, decide};
 use crate::listing_tests::{DIV, EQ};
 use crate::pieces::Stop;
-use crate::questions::{EMPTIES, MORE_EMPTIES, MORE_POINTS, POINTS, Question};
+use crate::questions::{
+    EMPTIES, LARGE, LARGEST, MORE_EMPTIES, MORE_POINTS, POINTS, Question, SPLINTERED,
+};
 use ac_cert::check_tree;
 use ac_forms::{Conj, Form, Row};
 use ac_items::Items;
@@ -73,5 +75,28 @@ fn empty_questions_have_certificates(rt: HostRuntime) -> Result<(), Fail> {
 fn other_questions_have_points(rt: HostRuntime) -> Result<(), Fail> {
     assert!(rt; all_come_out(rt.alloc(), &POINTS)?);
     assert!(rt; all_come_out(rt.alloc(), &MORE_POINTS)?);
+    Ok(())
+}
+
+/// What stops the decision of rows: the cost, 0 for a number that is too large; none where they are decided.
+fn stopped(alloc: Global, rows: &[[i128; 7]], budget: u64) -> Result<Option<u64>, Fail> {
+    let conj = conj_of(alloc, rows)?;
+    if !conj.is_well_made() {
+        return Err(Fail::from("not well made"));
+    }
+    match decide(alloc, &conj, budget) {
+        Ok(_) => Ok(None),
+        Err(Stop::Spent { cost, .. }) => Ok(Some(cost)),
+        Err(Stop::Overflow(_)) => Ok(Some(0)),
+        Err(Stop::Memory(_)) => Err(Fail::from("no memory")),
+    }
+}
+
+#[test]
+fn large_and_dear_questions_stop(rt: HostRuntime) -> Result<(), Fail> {
+    let alloc = rt.alloc();
+    assert!(rt; comes_to(alloc, &conj_of(alloc, &LARGEST)?, 1, None));
+    assert_eq!(rt; stopped(alloc, &LARGE, 1)?, Some(0));
+    assert_eq!(rt; stopped(alloc, &SPLINTERED, 50_000)?, Some(50_001));
     Ok(())
 }
