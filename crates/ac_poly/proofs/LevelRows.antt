@@ -7,8 +7,8 @@ use Rattle.ac_forms.specs.declared.row.Row.{Row}
 use Rattle.ac_forms.specs.declared.row.Row.TheVariants.{Ge, Eq}
 use Rattle.ac_integers.specs.Dot.{dot}
 use Rattle.ac_syntax.specs.Before.{Before}
-use Rattle.ac_poly.specs.Before.{difference, levels_from, AtMostOne, LevelsAreApart}
-use Rattle.ac_poly.specs.Pieces.{Somewhere}
+use Rattle.ac_poly.specs.Before.{difference, levels_from, LevelsAreApart}
+use Rattle.ac_poly.specs.Pieces.{Somewhere, AtMostOne}
 use Rattle.ac_poly.proofs.Differences.{value-difference}
 use Rattle.ac_poly.proofs.Rows.{meets_append}
 

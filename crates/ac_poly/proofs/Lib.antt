@@ -23,4 +23,8 @@ pub mod Seeking
 pub mod Lost
 pub mod Walks
 pub mod Whole
+pub mod Models
+pub mod PiecesApart
+pub mod Columns
+pub mod Dimensions
 pub mod Readiness

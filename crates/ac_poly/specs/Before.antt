@@ -11,7 +11,7 @@ use Rattle.ac_syntax.specs.Source.{Writer, Stands}
 use Rattle.ac_syntax.specs.Trace.{trace_of}
 use Rattle.ac_syntax.specs.declared.tree.Stmt.{Stmt}
 use Rattle.ac_poly.specs.Laws.{Lowered, values_at}
-use Rattle.ac_poly.specs.Pieces.{Somewhere}
+use Rattle.ac_poly.specs.Pieces.{Somewhere, AtMostOne}
 use Rattle.ac_poly.specs.declared.types.StmtModel.{StmtModel}
 
 -- the column that stands `apart` columns behind the column j, less the column j, plus k
@@ -28,11 +28,6 @@ levels_from (suc c) j apart text done =
 -- the levels of an assignment in loops ls and one in loops ms, over n parameters; `text` says that the first stands before in the text
 abbrev pub levels : ℕ → List ℕ → List ℕ → Bool → List (List Row)
 levels n ls ms text = levels_from (common ls ms) n (length ls) text []
-
--- a point meets at most one of the pieces
-abbrev pub AtMostOne : List (List Row) → List ℤ → Type 0
-AtMostOne [] p = Unit {0}
-AtMostOne (q ∷ qs) p = (Meets q p → ¬ Somewhere qs p) × AtMostOne qs p
 
 -- an entry stands before another in the trace exactly where one of the levels holds
 abbrev pub LevelsAreTheOrder : Type 0

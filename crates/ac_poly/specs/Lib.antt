@@ -2,6 +2,7 @@ pub mod Forms
 pub mod Pieces
 pub mod Nodes
 pub mod Lower
+pub mod Coordinates
 pub mod Model
 pub mod Numbers
 pub mod Faults

@@ -15,6 +15,11 @@ abbrev pub Somewhere : List (List Row) → List ℤ → Type 0
 Somewhere [] p = ⊥
 Somewhere (q ∷ qs) p = Meets q p ⊎ Somewhere qs p
 
+-- a point meets at most one of the pieces
+abbrev pub AtMostOne : List (List Row) → List ℤ → Type 0
+AtMostOne [] p = Unit {0}
+AtMostOne (q ∷ qs) p = (Meets q p → ¬ Somewhere qs p) × AtMostOne qs p
+
 -- the ways in which a comparison fails: a form that is to be at least 0 is at most -1, one that is to be 0 is at least 1 or at most -1
 abbrev pub negations : Rel → Affine → List Row
 negations NonNegative f = Ge (below f) ∷ []

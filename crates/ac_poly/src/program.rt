@@ -1,9 +1,10 @@
 //! From a program to its model.
 ghost use Rattle.std.specs.Prelude.{◌≡◌, map, length, IfOk};
+ghost use Rattle.ac_syntax.specs.Dimensions.{HasDimensions};
 ghost use Rattle.ac_syntax.specs.Ready.{ReadyProgram, FitParts};
 ghost use Rattle.ac_poly.specs.Faults.{Answers, IsFineAll, IsFirstAll};
 ghost use Rattle.ac_poly.specs.Lower.{outermost};
-ghost use Rattle.ac_poly.specs.Model.{extents_of, kind_of, model_of, HasInstances, HasCells, HasNodes, HasOrder, HasContext, HasExtents};
+ghost use Rattle.ac_poly.specs.Model.{extents_of, kind_of, model_of, HasModels, HasInstances, PiecesAreApart, HasCells, HasNodes, HasOrder, HasContext, HasExtents, HasKinds, HasColumns, CellsHaveDimensions};
 
 use crate::enter::outermost;
 use crate::forms::{all_alone, rows_alone};
@@ -16,19 +17,26 @@ use std::alloc::{AllocError, Global};
 
 /// The program as integer points, under a context over its parameters.
 ///
-/// At each valuation of the parameters the points of an assignment's pieces are its instances, and there its forms have
-/// the values of its index expressions. `Pieces` and `Wide` name the first assignment in the text that has more than 16
-/// pieces or for which a product or a sum leaves `i128`; where it has both, `Pieces`.
+/// At each valuation of the parameters the points of an assignment's pieces are its instances, each in one piece, and there
+/// its forms have the values of its index expressions. The rows of the context and the extents are over the parameters,
+/// the rows and forms of an assignment over the parameters and then the coordinates of an instance; the modulus of a row is
+/// at least 1. Where each cell of the program has an index expression for each dimension of its array, so has the model's. `Pieces` and `Wide` name the first assignment in the text that has more than 16 pieces or for which a
+/// product or a sum leaves `i128`; where it has both, `Pieces`.
 pub fn lower(alloc: Global, p: &Program, context: &Cond) -> Result<Model, LowerFault>
     requires program { ReadyProgram p.now }
     requires context { FitParts (length p.now.params) 0 context.now.parts }
     ensures exact { Answers result (λ model. IsFineAll p.now.body 0 (outermost (length p.now.params)) (Unit {0}) × (model ≡ model_of p.now context.now)) (IsFirstAll p.now.body 0 (outermost (length p.now.params)) (Unit {0})) }
+    ensures models { IfOk result (HasModels p.now) }
     ensures instances { IfOk result (HasInstances p.now) }
+    ensures apart { IfOk result PiecesAreApart }
     ensures cells { IfOk result (HasCells p.now) }
     ensures nodes { IfOk result (HasNodes p.now) }
     ensures order { IfOk result (HasOrder p.now) }
     ensures context { IfOk result (HasContext context.now) }
     ensures extents { IfOk result (HasExtents p.now) }
+    ensures kinds { IfOk result (HasKinds p.now) }
+    ensures columns { IfOk result (HasColumns p.now) }
+    ensures dimensions { HasDimensions p.now → IfOk result CellsHaveDimensions }
 {
     lowered_program(alloc, p, context)
 }

@@ -20,7 +20,8 @@ pub mod Levels
 pub mod TurnRows
 pub mod Cells
 pub mod Places
-pub mod Positions
+pub mod PlaceLaws
+pub mod ValueCases
 pub mod LastWriters
 pub mod Wide
 pub mod PrintedValues

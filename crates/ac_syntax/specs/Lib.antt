@@ -15,8 +15,11 @@ pub mod Spot
 pub mod Where
 pub mod Matches
 pub mod Ready
+pub mod Dimensions
 pub mod LawsOfTurns
 pub mod LawsOfTraces
+pub mod LawsOfPlaces
+pub mod LawsOfNodes
 pub mod LawsOfSources
 pub mod LawsOfTerms
 pub mod Checked

@@ -1,4 +1,5 @@
--- The spots that a position of a program names, at the counters of an instance or the coordinates of an element.
+-- A program at a valuation of its parameters, and the spots that its positions name at the coordinates of an instance or of
+-- an element.
 use Rattle.std.specs.Prelude.{ℕ, ◌≡◌, List, ℤ, Some}
 use Rattle.ac_syntax.specs.Trace.{Entry}
 use Rattle.ac_syntax.specs.Algebra.{Cell}
@@ -12,19 +13,25 @@ use Rattle.ac_syntax.specs.declared.tree.Value.TheVariants.{Access}
 use Rattle.ac_syntax.specs.declared.tree.Position.{Position}
 use Rattle.ac_syntax.specs.declared.tree.Position.TheVariants.{Output, Node, InitialOutput, InitialNode}
 
--- the entry of a trace for an instance
-pub record InstanceAt (es : List Entry) (number : ℕ) (x : List ℤ) (w : Writer) : Type 0 where
-  pub stands : Stands es w
+-- the trace, which elements an output has, and what the coordinates of an entry are
+pub record Execution : Type 1 where
+  pub trace : List Entry
+  pub inside : ℕ → List ℤ → Type 0
+  pub coords : Entry → List ℤ
+
+-- the entry of an instance
+pub record InstanceAt (x : Execution) (number : ℕ) (at : List ℤ) (w : Writer) : Type 0 where
+  pub stands : Stands x.trace w
   pub stmt : w.entry.stmt ≡ number
-  pub counters : w.entry.counters ≡ x
+  pub coords : x.coords w.entry ≡ at
 
 abbrev pub element : ℕ → List ℤ → Cell
-element array x = record { array = array; at = x }
+element array at = record { array = array; at = at }
 
--- `inside` says which elements an output has
-unfoldable pub At : List Entry → (ℕ → List ℤ → Type 0) → Position → List ℤ → Spot → Type 0
-At es inside (Output o) x s = inside o x × (s ≡ AtEnd (element o x))
-At es inside (Node stmt node) x s = (w : Writer) × InstanceAt es stmt x w × (v : Value) × (node_of w.entry.value node ≡ Some v) × (s ≡ AtNode w v)
-At es inside (InitialOutput o) x s = inside o x × (s ≡ AtStart (element o x))
-At es inside (InitialNode stmt node) x s =
-    (w : Writer) × InstanceAt es stmt x w × (array : ℕ) × (subs : List IndexExpr) × (place : Place) × (node_of w.entry.value node ≡ Some (Access array subs place)) × (s ≡ AtStart (cell_at w array subs))
+-- the spot of a position at its coordinates
+unfoldable pub At : Execution → Position → List ℤ → Spot → Type 0
+At x (Output o) at s = x.inside o at × (s ≡ AtEnd (element o at))
+At x (Node stmt node) at s = (w : Writer) × InstanceAt x stmt at w × (v : Value) × (node_of w.entry.value node ≡ Some v) × (s ≡ AtNode w v)
+At x (InitialOutput o) at s = x.inside o at × (s ≡ AtStart (element o at))
+At x (InitialNode stmt node) at s =
+    (w : Writer) × InstanceAt x stmt at w × (array : ℕ) × (subs : List IndexExpr) × (place : Place) × (node_of w.entry.value node ≡ Some (Access array subs place)) × (s ≡ AtStart (cell_at w array subs))

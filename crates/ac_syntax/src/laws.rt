@@ -2,6 +2,8 @@
 //! all programs. The crates above rest on these facts.
 ghost use Rattle.ac_syntax.specs.LawsOfTurns.{EachTurnHolds, TurnsEnd, TurnsAreWhereTheConditionHolds};
 ghost use Rattle.ac_syntax.specs.LawsOfTraces.{EntriesAreInstances, EntriesFollowTheText, EntriesStandInOrder, EachEntryStandsOnce};
+ghost use Rattle.ac_syntax.specs.LawsOfPlaces.{EntriesHavePlaces, OnePlaceOneEntry, EntriesBeforeStandEarlier, CellsAreCompared, SourceStandsLast, NoSourceIsNoWriter};
+ghost use Rattle.ac_syntax.specs.LawsOfNodes.{ValuesHaveThreeCases, RootIsTheFirstNode, ArgumentsStandInOrder};
 ghost use Rattle.ac_syntax.specs.LawsOfSources.{SourceIsTheLastWriterBefore, SourceIsTheLastWriter, RunLeavesWhatTheSourceStored};
 ghost use Rattle.ac_syntax.specs.LawsOfTerms.{IntegersAreValuesOfTerms, TermsAreOfTheSource, AgreeingTermsHaveEqualValues, AgreementIsMatching, AgreeingTermsAreTheSame, AgreeingOutputsAreTheSame};
 
@@ -24,6 +26,30 @@ pub fn entries_of_a_trace()
 pub fn order_of_entries()
     ensures order { EntriesStandInOrder }
     ensures once { EachEntryStandsOnce }
+{}
+
+/// Each entry of a list stands at a place there, and at one place stands one entry. The entries before an entry are those
+/// at earlier places.
+pub fn places_of_entries()
+    ensures each { EntriesHavePlaces }
+    ensures one { OnePlaceOneEntry }
+    ensures before { EntriesBeforeStandEarlier }
+{}
+
+/// Among any entries the source of a cell is the one at the last place that writes it, and there is none exactly where no
+/// entry does. Two cells are tested to be one exactly where they are.
+pub fn sources_by_place()
+    ensures last { SourceStandsLast }
+    ensures none { NoSourceIsNoWriter }
+    ensures cells { CellsAreCompared }
+{}
+
+/// A value is a number, an access or a call. Its nodes stand in preorder: the root is node 0, and an argument stands behind
+/// its call and the arguments before it.
+pub fn nodes_of_values()
+    ensures cases { ValuesHaveThreeCases }
+    ensures root { RootIsTheFirstNode }
+    ensures arguments { ArgumentsStandInOrder }
 {}
 
 /// The source of a read is the last entry before the reader that writes the cell, and that of an output the last entry

@@ -1,0 +1,19 @@
+-- What names an instance of an assignment: its coordinates, which stand behind the parameters. They are its counters, and
+-- only this file says so.
+use Rattle.std.specs.Prelude.{ℕ, ◌≡◌, List, length, ℤ}
+use Rattle.std.specs.List.{Contains}
+use Rattle.ac_syntax.specs.Trace.{Entry}
+use Rattle.ac_poly.specs.declared.types.Model.{Model}
+use Rattle.ac_poly.specs.declared.types.StmtModel.{StmtModel}
+
+-- how many coordinates an instance of the assignment has
+abbrev pub width : StmtModel → ℕ
+width stmt = length stmt.loops
+
+-- the coordinates of an entry, at a valuation of the parameters
+abbrev pub coordinates : Model → List ℤ → Entry → List ℤ
+coordinates m params e = e.counters
+
+-- an entry of the assignment with a number, with these coordinates
+abbrev pub HasInstance : Model → List ℤ → List Entry → ℕ → List ℤ → Type 0
+HasInstance m params es number at = (e : Entry) × Contains es e × (e.stmt ≡ number) × (coordinates m params e ≡ at)
