@@ -17,3 +17,7 @@ pub mod Clashes
 pub mod Negations
 pub mod Twins
 pub mod Traces
+pub mod Renamings
+pub mod Standings
+pub mod Trimmed
+pub mod Distinct

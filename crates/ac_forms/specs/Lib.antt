@@ -9,3 +9,6 @@ pub mod NormalForm
 pub mod Ties
 pub mod Traces
 pub mod Tests
+pub mod Renaming
+pub mod Standing
+pub mod Columns

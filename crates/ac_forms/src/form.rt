@@ -66,6 +66,15 @@ impl Form {
         Form { konst, coefs }
     }
 
+    /// The constant and the coefficients that are kept.
+    pub(crate) fn into_parts(self) -> (i128, SmallVec<i128, 8>)
+        ensures konst { result.0 ≡ self.konst }
+        ensures coefs { result.1.items ≡ self.coefs }
+    {
+        let Form { konst, coefs } = self;
+        (konst, coefs)
+    }
+
     /// The same form again.
     pub fn copy(&self, alloc: Global) -> Result<Form, AllocError>
         ensures { IfOk result (λ form. form ≡ self.now) }
@@ -211,7 +220,7 @@ impl Form {
     }
 
     /// Shows that each number of the form is one of `i128`.
-    fn see_range(&self)
+    pub(crate) fn see_range(&self)
         ensures { FormFits self.now }
     {
         see_slice(self.coefs.as_slice());

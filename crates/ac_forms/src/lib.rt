@@ -5,16 +5,23 @@
 mod conj;
 mod form;
 mod join;
+pub mod laws;
 mod negate;
 mod normal;
 mod order;
+mod parts;
+mod rename;
 mod row;
+mod standing;
 mod stop;
+mod trim;
 
 pub use conj::Conj;
 pub use form::{Form, coefficient};
 pub use normal::NormalRow;
+pub use rename::renamed_rows;
 pub use row::Row;
+pub use standing::{all_stand, is_among, kept_rows, stands, stands_among};
 pub use stop::{FormStop, Wide};
 
 #[cfg(test)]

@@ -75,7 +75,12 @@ fn not_multiple(
 
 /// The form less the modulus times a further column, less 1.
 #[tactic(auto, using(ac_integers::proofs::Bits::again_128))]
-fn at_least_one(alloc: Global, modulus: i128, form: &Form, columns: usize) -> Result<Form, FormStop>
+pub(crate) fn at_least_one(
+    alloc: Global,
+    modulus: i128,
+    form: &Form,
+    columns: usize,
+) -> Result<Form, FormStop>
     requires { IsRowOver columns (Div modulus form.now) }
     ensures { MadeIff result (Fits (form.now.konst +ℤ negsuc 0)) (with_column columns (neg_ℤ modulus) (above form.now)) }
 {
@@ -85,7 +90,7 @@ fn at_least_one(alloc: Global, modulus: i128, form: &Form, columns: usize) -> Re
 
 /// The modulus times a further column, plus the modulus less 1, less the form.
 #[tactic(auto, using(ac_integers::proofs::Bits::again_128))]
-fn below_modulus(
+pub(crate) fn below_modulus(
     alloc: Global,
     modulus: i128,
     form: &Form,
@@ -100,7 +105,7 @@ fn below_modulus(
 
 /// The number less the form.
 #[tactic(auto, using(ac_integers::proofs::Bits::again_128))]
-fn less_form(alloc: Global, number: i128, form: &Form) -> Result<Form, FormStop>
+pub(crate) fn less_form(alloc: Global, number: i128, form: &Form) -> Result<Form, FormStop>
     ensures { MadeIff result (FormFits (opposite form.now) × Fits ((opposite form.now).konst +ℤ number)) (shifted (opposite form.now) number) }
 {
     form.opposite(alloc)?.shift(alloc, number)

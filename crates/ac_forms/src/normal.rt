@@ -219,7 +219,7 @@ fn remainders(alloc: Global, coefs: &[i128], modulus: i128) -> Result<SmallVec<i
 }
 
 /// The form of a constant and of coefficients, without the zeros at their end.
-fn trimmed(konst: i128, coefs: SmallVec<i128, 8>) -> Form
+pub(crate) fn trimmed(konst: i128, coefs: SmallVec<i128, 8>) -> Form
     ensures { result ≡ record { konst = konst; coefs = trim coefs.items } }
 {
     let mut coefs = coefs;
