@@ -21,6 +21,3 @@ pub use mem_files::MemFiles;
 pub use mem_sink::MemSink;
 pub use sink::{Sink, SinkStop};
 pub use std_sink::StdSink;
-
-#[cfg(test)]
-mod tests;

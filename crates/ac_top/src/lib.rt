@@ -34,6 +34,3 @@ pub mod verdict;
 pub use program::run;
 pub use status::{Status, status_of};
 pub use verdict::Verdict;
-
-#[cfg(test)]
-mod tests;

@@ -1,0 +1,145 @@
+//! A case: its files and its sink.
+
+use crate::answers::status_words;
+use crate::draft::Draft;
+use crate::lines::{push_answer, push_bytes, push_line};
+use crate::relay::{RelayStop, relay};
+use ac_port::{Files, MemFiles, MemSink, WriteStop};
+use ac_top::run;
+use std::alloc::{AllocError, Global};
+
+/// The files of a case, their names, and its sink.
+#[derive(Drop)]
+pub struct Case {
+    alloc: Global,
+    files: MemFiles,
+    names: Vec<Vec<u8>>,
+    sink: MemSink,
+}
+
+/// What a file held before a run.
+#[derive(Drop)]
+struct Held {
+    name: Vec<u8>,
+    bytes: Option<Vec<u8>>,
+}
+
+impl Case {
+    pub fn new(alloc: Global) -> Self {
+        Case {
+            alloc,
+            files: MemFiles::new(alloc),
+            names: Vec::new(alloc),
+            sink: MemSink::new(alloc),
+        }
+    }
+
+    /// Adds a file under each of its names.
+    pub fn add(&mut self, draft: Draft) -> Result<(), AllocError> {
+        for name in draft.names {
+            self.files.add(name.as_slice(), draft.bytes.as_slice())?;
+            if !self.names.contains(&name) {
+                self.names.push(name)?;
+            }
+        }
+        Ok(())
+    }
+
+    /// Lets a call of a kind fail; answers whether there is such a kind.
+    pub fn fail(&mut self, kind: &[u8], call: u64) -> Result<bool, AllocError> {
+        match kind {
+            b"read" => self.files.fail_read(call)?,
+            b"write" => self.files.fail_write(call)?,
+            b"put" => self.sink.fail_put(call)?,
+            _ => return Ok(false),
+        }
+        Ok(true)
+    }
+
+    /// What a file holds.
+    fn held(&self, name: &[u8]) -> Result<Held, AllocError> {
+        let bytes = match self.files.get(name) {
+            Some(bytes) => Some(bytes.to_vec(self.alloc)?),
+            None => None,
+        };
+        let name = name.to_vec(self.alloc)?;
+        Ok(Held { name, bytes })
+    }
+
+    /// What the files of the case hold, and those that words name.
+    fn all_held(&self, words: &[Vec<u8>]) -> Result<Vec<Held>, AllocError> {
+        let mut all = Vec::new(self.alloc);
+        for name in &self.names {
+            all.push(self.held(name.as_slice())?)?;
+        }
+        for word in words {
+            if !self.names.contains(word) {
+                all.push(self.held(word.as_slice())?)?;
+            }
+        }
+        Ok(all)
+    }
+
+    /// The files that do not hold what they held.
+    fn push_changes(&self, out: &mut Vec<u8>, held: &[Held]) -> Result<(), AllocError> {
+        for file in held {
+            let before = file.bytes.as_ref().map(|bytes| bytes.as_slice());
+            let now = self.files.get(file.name.as_slice());
+            if now != before {
+                out.extend_from_slice(b"changed ")?;
+                push_line(out, file.name.as_slice())?;
+                push_bytes(out, now.unwrap_or(b""))?;
+            }
+        }
+        Ok(())
+    }
+
+    /// Answers a command line.
+    pub fn run(&mut self, out: &mut Vec<u8>, words: &[Vec<u8>]) -> Result<(), AllocError> {
+        let count = self.sink.bytes().len();
+        let held = self.all_held(words)?;
+        let status = run(self.alloc, words, &mut self.files, &mut self.sink);
+        push_answer(out, status_words(status).as_bytes())?;
+        let put = self.sink.bytes().get(count..).unwrap_or(b"");
+        push_bytes(out, put)?;
+        self.push_changes(out, held.as_slice())
+    }
+
+    /// Answers a relay, with all that was put.
+    pub fn relay(&mut self, out: &mut Vec<u8>, name: &[u8], limit: u64) -> Result<(), AllocError> {
+        let answer: &[u8] = match relay(self.alloc, &mut self.files, &mut self.sink, name, limit) {
+            Ok(()) => b"relayed",
+            Err(RelayStop::Read) => b"read fault",
+            Err(RelayStop::TooBig) => b"too big",
+            Err(RelayStop::Put) => b"put fault",
+            Err(RelayStop::Memory) => b"memory",
+        };
+        push_answer(out, answer)?;
+        push_bytes(out, self.sink.bytes())
+    }
+
+    /// Answers a write.
+    pub fn write(
+        &mut self,
+        out: &mut Vec<u8>,
+        name: &[u8],
+        bytes: &[u8],
+    ) -> Result<(), AllocError> {
+        match self.files.write(name, bytes) {
+            Ok(()) => push_answer(out, b"written"),
+            Err(WriteStop::Failed) => push_answer(out, b"write fault"),
+            Err(WriteStop::Memory(error)) => Err(error),
+        }
+    }
+
+    /// Answers what a file holds.
+    pub fn get(&self, out: &mut Vec<u8>, name: &[u8]) -> Result<(), AllocError> {
+        match self.files.get(name) {
+            Some(bytes) => {
+                push_answer(out, b"held")?;
+                push_bytes(out, bytes)
+            }
+            None => push_answer(out, b"absent"),
+        }
+    }
+}
