@@ -1,0 +1,10 @@
+pub mod Combinations
+pub mod Setting
+pub mod Obligations
+pub mod Derivations
+pub mod Claims
+pub mod Refutations
+pub mod Narrowing
+pub mod Paths
+pub mod Walks
+pub mod Statements
