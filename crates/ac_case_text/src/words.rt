@@ -66,9 +66,14 @@ impl<'a> Words<'a> {
 
     /// The next number: an optional minus, and digits.
     pub fn number(&mut self) -> Result<i128, CaseStop> {
-        let sign = if self.accept("-") { b'-' } else { b'+' };
+        let is_negative = self.accept("-");
+        self.digits_as(is_negative)
+    }
+
+    /// The next digits, as a number of that sign.
+    pub fn digits_as(&mut self, is_negative: bool) -> Result<i128, CaseStop> {
         self.skip_blanks();
-        signed(sign, self.digits()).ok_or(CaseStop::Malformed("a number"))
+        signed(is_negative, self.digits()).ok_or(CaseStop::Malformed("a number"))
     }
 
     /// The next number, which has no minus.
@@ -144,7 +149,7 @@ fn run(bytes: &[u8], kind: Kind) -> usize {
 }
 
 /// The number with a sign and digits, where it has 128 bits.
-fn signed(sign: u8, digits: &[u8]) -> Option<i128> {
+fn signed(is_negative: bool, digits: &[u8]) -> Option<i128> {
     if digits.is_empty() {
         return None;
     }
@@ -152,7 +157,7 @@ fn signed(sign: u8, digits: &[u8]) -> Option<i128> {
     for digit in digits {
         let worth = i128::from(digit.saturating_sub(b'0'));
         let tens = value.checked_mul(10)?;
-        value = if sign == b'-' {
+        value = if is_negative {
             tens.checked_sub(worth)?
         } else {
             tens.checked_add(worth)?
