@@ -27,4 +27,3 @@ pub mod Models
 pub mod PiecesApart
 pub mod Columns
 pub mod Dimensions
-pub mod Readiness
