@@ -24,3 +24,7 @@ pub mod LeftMade
 pub mod Values
 pub mod Cleared
 pub mod GoingBack
+pub mod Apart
+pub mod Opposites
+pub mod Divided
+pub mod RowBranching

@@ -13,3 +13,5 @@ pub mod Choices
 pub mod ChoiceFits
 pub mod Splinters
 pub mod Extremes
+pub mod Apart
+pub mod Branches

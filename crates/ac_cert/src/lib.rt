@@ -3,6 +3,7 @@
 #![tactic(auto)]
 
 mod back;
+pub mod branch_laws;
 mod check;
 mod choose;
 mod column;
@@ -13,7 +14,9 @@ mod legal;
 mod make;
 mod names;
 mod numbers;
+mod path;
 mod replace;
+mod row_branches;
 mod rows;
 mod shadow;
 mod steps;
@@ -23,6 +26,8 @@ pub use check::{End, check_tree, walk};
 pub use choose::{Choice, StepStop, lift, step};
 pub use ends::Absurd;
 pub use make::{absurd_tree, behind_steps, end_tree, residue_tree, split_tree};
+pub use path::{cut_back, row_of_class, rows_of_sides, with_row};
+pub use row_branches::{at_divisibility, at_equality, at_inequality};
 pub use steps::{apply, apply_onto, residue, split};
 pub use types::{EndStop, Next, Rule, Tree, TreeFault};
 
