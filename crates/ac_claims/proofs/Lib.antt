@@ -1,0 +1,10 @@
+pub mod Covered
+pub mod Central
+pub mod Claimed
+pub mod Plans
+pub mod Trees
+pub mod Headline
+pub mod Folding
+pub mod ProofFolding
+pub mod Driving
+pub mod Sanity

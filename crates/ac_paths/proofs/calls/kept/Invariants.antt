@@ -1,0 +1,5 @@
+use Rattle.ac_paths.proofs.CallLoops.{AtArgument}
+use Rattle.ac_paths.proofs.calls.kept.Given as goal
+
+abbrev pub invariant-loop-k : goal.invariant-loop-k
+invariant-loop-k l = AtArgument l.fn.path l.fn.left.stmt l.fn.right.stmt l.fn.left.args.now l.fn.right.args.now l.k l.made

@@ -1,0 +1,5 @@
+use Rattle.ac_paths.proofs.StmtSteps.{AtStmt}
+use Rattle.ac_paths.proofs.going.add_cases.Given as goal
+
+abbrev pub invariant-loop-u : goal.invariant-loop-u
+invariant-loop-u l = AtStmt l.fn.params l.fn.m l.fn.path l.fn.side l.fn.cell l.fn.m.stmts l.fn.out l.out l.u

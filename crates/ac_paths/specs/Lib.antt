@@ -1,0 +1,12 @@
+pub mod Coordinates
+pub mod Places
+pub mod Columns
+pub mod Standing
+pub mod Going
+pub mod Killing
+pub mod Executions
+pub mod OnPaths
+pub mod Formed
+pub mod Made
+pub mod Adding
+pub mod Calls

@@ -1,0 +1,186 @@
+//! Forms and rows of a model among the columns of a path.
+ghost use Rattle.std.specs.Prelude.{◌≡◌, ℕ, pos, negsuc, map, IfOk, [], ◌+◌, Option, Some, option_map, option_and_then, ◌++◌, OnOk};
+ghost use Rattle.std.specs.List.{range_with_len};
+ghost use Rattle.ac_cert.specs.Rules.{combination};
+ghost use Rattle.ac_forms.specs.Rows.{HaveModuli};
+ghost use Rattle.ac_paths.specs.Made.{HaveIf};
+ghost use Rattle.ac_paths.specs.Columns.{moved, moved_row, moved_rows, difference, equal_forms, appended, all_of, base, columns_of};
+
+use crate::path::Seat;
+use ac_forms::{Form, FormStop, Row};
+use ac_items::Items;
+use std::alloc::{AllocError, Global};
+
+/// `left` times a form plus `right` times another, where the numbers stay in `i128`.
+#[tactic(auto, using(ac_cert::proofs::Fitting::combination_some, ac_cert::proofs::Fitting::combination_none, ac_integers::proofs::Bits::again_128))]
+fn combination(
+    alloc: Global,
+    left: i128,
+    form: &Form,
+    right: i128,
+    other: &Form,
+) -> Result<Option<Form>, AllocError>
+    ensures { IfOk result (λ made. made ≡ combination left form.now right other.now) }
+{
+    match form.combine(alloc, left, other, right) {
+        Ok(form) => Ok(Some(form)),
+        Err(FormStop::Wide) => Ok(None),
+        Err(FormStop::Memory(want)) => Err(want),
+    }
+}
+
+/// The form whose column `i` is the `i`-th of these columns, where the numbers stay in `i128`.
+#[tactic(auto, using(ac_integers::proofs::Bits::again_128, crate::proofs::MovingSteps::moved_end))]
+pub fn moved(alloc: Global, columns: &[usize], form: &Form) -> Result<Option<Form>, AllocError>
+    ensures { IfOk result (λ made. made ≡ moved columns.now form.now) }
+{
+    let coefs = form.coefs();
+    let mut sum = Form::constant(alloc, 0, form.konst())?;
+    for i in 0..columns.len() {
+        if i >= coefs.len() {
+            return Ok(Some(sum));
+        }
+        let count = columns[i].checked_add(1).ok_or(AllocError)?;
+        let column = Form::column(alloc, count, columns[i])?;
+        match combination(alloc, 1, &sum, coefs[i], &column)? {
+            Some(next) => sum = next,
+            None => return Ok(None),
+        }
+    }
+    Ok(Some(sum))
+}
+
+/// The row whose column `i` is the `i`-th of these columns.
+#[tactic(auto, using(ac_integers::proofs::Bits::again_128))]
+pub fn moved_row(alloc: Global, columns: &[usize], row: &Row) -> Result<Option<Row>, AllocError>
+    ensures { IfOk result (λ made. made ≡ moved_row columns.now row.now) }
+{
+    match row {
+        Row::Eq(form) => Ok(moved(alloc, columns, form)?.map(Row::Eq)),
+        Row::Div(modulus, form) => match moved(alloc, columns, form)? {
+            Some(form) => Ok(Some(Row::Div(*modulus, form))),
+            None => Ok(None),
+        },
+        Row::Ge(form) => Ok(moved(alloc, columns, form)?.map(Row::Ge)),
+    }
+}
+
+/// The rows whose column `i` is the `i`-th of these columns.
+#[tactic(auto, using(crate::proofs::Moduli::moduli_result))]
+pub fn moved_rows(
+    alloc: Global,
+    columns: &[usize],
+    rows: &[Row],
+) -> Result<Option<Items<Row>>, AllocError>
+    requires { HaveModuli rows.now }
+    ensures value { IfOk result (λ made. made ≡ moved_rows columns.now rows.now) }
+    ensures moduli { IfOk result (λ made. HaveIf made) }
+{
+    rows_moved(alloc, columns, rows)
+}
+
+/// The same rows.
+pub fn rows_moved(
+    alloc: Global,
+    columns: &[usize],
+    rows: &[Row],
+) -> Result<Option<Items<Row>>, AllocError>
+    ensures { IfOk result (λ made. made ≡ moved_rows columns.now rows.now) }
+{
+    let mut made = Items::new(alloc);
+    for row in rows {
+        match moved_row(alloc, columns, row)? {
+            Some(row) => made.push(row)?,
+            None => return Ok(None),
+        }
+    }
+    Ok(Some(made))
+}
+
+/// One form over these columns less another over those, where the numbers stay in `i128`.
+#[tactic(auto, using(ac_integers::proofs::Bits::again_128))]
+fn difference(
+    alloc: Global,
+    columns: &[usize],
+    form: &Form,
+    others: &[usize],
+    other: &Form,
+) -> Result<Option<Form>, AllocError>
+    ensures { IfOk result (λ made. made ≡ difference columns.now form.now others.now other.now) }
+{
+    let Some(first) = moved(alloc, columns, form)? else {
+        return Ok(None);
+    };
+    let Some(second) = moved(alloc, others, other)? else {
+        return Ok(None);
+    };
+    combination(alloc, 1, &first, -1, &second)
+}
+
+/// One equality for each dimension; none where there are not as many forms on both sides.
+#[tactic(auto, using(crate::proofs::EqualSteps::equal_steps))]
+pub fn equal_forms(
+    alloc: Global,
+    columns: &[usize],
+    forms: &[Form],
+    others: &[usize],
+    other_forms: &[Form],
+) -> Result<Option<Items<Row>>, AllocError>
+    ensures { IfOk result (λ made. made ≡ equal_forms columns.now forms.now others.now other_forms.now) }
+{
+    if forms.len() != other_forms.len() {
+        return Ok(None);
+    }
+    let mut made = Items::new(alloc);
+    for i in 0..forms.len() {
+        match difference(alloc, columns, &forms[i], others, &other_forms[i])? {
+            Some(form) => made.push(Row::Eq(form))?,
+            None => return Ok(None),
+        }
+    }
+    Ok(Some(made))
+}
+
+/// The column so many behind another.
+pub fn column_after(first: usize, k: usize) -> Result<usize, AllocError>
+    ensures { IfOk result (λ column. column ≡ first + k) }
+{
+    first.checked_add(k).ok_or(AllocError)
+}
+
+/// Adds so many columns from one on.
+#[tactic(auto, using(crate::proofs::EqualSteps::range_steps))]
+fn push_range(list: &mut Items<usize>, first: usize, count: usize) -> Result<(), AllocError>
+    ensures { OnOk result (list.new ≡ list.old ++ range_with_len first count) }
+{
+    for k in 0..count {
+        list.push(column_after(first, k)?)?;
+    }
+    Ok(())
+}
+
+/// The columns of the parameters and of a position's coordinates.
+pub fn columns_at(alloc: Global, params: usize, seat: &Seat) -> Result<Items<usize>, AllocError>
+    ensures { IfOk result (λ list. list ≡ base params ++ columns_of seat.now) }
+{
+    let mut list = Items::new(alloc);
+    push_range(&mut list, 0, params)?;
+    push_range(&mut list, seat.first, seat.width)?;
+    Ok(list)
+}
+
+/// The columns of the parameters and of the coordinates of two positions.
+pub fn columns_of_both(
+    alloc: Global,
+    params: usize,
+    first: &Seat,
+    second: &Seat,
+) -> Result<Items<usize>, AllocError>
+    ensures { IfOk result (λ list. list ≡ base params ++ (columns_of first.now ++ columns_of second.now)) }
+{
+    let mut list = Items::new(alloc);
+    push_range(&mut list, 0, params)?;
+    push_range(&mut list, first.first, first.width)?;
+    push_range(&mut list, second.first, second.width)?;
+    Ok(list)
+}

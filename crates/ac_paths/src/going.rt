@@ -1,0 +1,437 @@
+//! The steps of a pair of positions.
+ghost use Rattle.std.specs.Prelude.{◌≡◌, ℕ, ◌+◌, ◌<◌, ◌++◌, [], ◌∷◌, map, IfOk, Option, Some, None, List, slice_get, length};
+ghost use Rattle.std.specs.List.{flat_map};
+ghost use Rattle.ac_poly.specs.declared.types.StmtModel.{StmtModel};
+ghost use Rattle.ac_paths.specs.Coordinates.{width};
+ghost use Rattle.ac_paths.specs.Columns.{base, columns_of, moved_rows, equal_forms, appended};
+ghost use Rattle.ac_paths.specs.Going.{seat_of, gone_to, root, case_rows, case_path, cases_of, cases_from, initial_path, read_branches, extended, cases_at, by_keep, branches};
+ghost use Rattle.ac_paths.specs.Calls.{pairing};
+ghost use Rattle.ac_paths.specs.Places.{initial_of};
+ghost use Rattle.ac_paths.specs.Adding.{Adds};
+
+use crate::calls::branches_of_calls;
+use crate::columns::{column_after, columns_at, columns_of_both, equal_forms, rows_moved};
+use crate::path::{Assumed, Path, Programs, Seat, Side};
+use crate::places::{CellForms, cell_read, levels_to};
+use ac_forms::{Conj, Form, Row};
+use ac_items::Items;
+use ac_poly::types::{Model, StmtModel};
+use ac_syntax::tree::{Order, Position};
+use std::alloc::{AllocError, Global};
+
+/// The seat of a side.
+fn seat_of(path: &Path, side: Side) -> Seat
+    ensures { result ≡ seat_of path.now side }
+{
+    match side {
+        Side::Left => path.left,
+        Side::Right => path.right,
+    }
+}
+
+/// One list of rows behind the other.
+fn join(first: Items<Row>, second: Items<Row>) -> Result<Items<Row>, AllocError>
+    ensures { IfOk result (λ made. made ≡ first ++ second) }
+{
+    let mut rows = first.into_vec();
+    let mut more = second.into_vec();
+    rows.append(&mut more)?;
+    Ok(Items::from(rows))
+}
+
+/// Both lists, one behind the other, where both were made.
+fn appended(
+    first: Option<Items<Row>>,
+    second: Option<Items<Row>>,
+) -> Result<Option<Items<Row>>, AllocError>
+    ensures { IfOk result (λ made. made ≡ appended first second) }
+{
+    match first {
+        None => Ok(None),
+        Some(first) => match second {
+            None => Ok(None),
+            Some(second) => Ok(Some(join(first, second)?)),
+        },
+    }
+}
+
+/// Rows over the parameters and the coordinates of a position.
+fn moved_at(
+    alloc: Global,
+    params: usize,
+    seat: &Seat,
+    rows: &[Row],
+) -> Result<Option<Items<Row>>, AllocError>
+    ensures { IfOk result (λ made. made ≡ moved_rows (base params ++ columns_of seat.now) rows.now) }
+{
+    let columns = columns_at(alloc, params, seat)?;
+    rows_moved(alloc, columns.as_slice(), rows)
+}
+
+/// Rows over the parameters and the coordinates of two positions.
+fn moved_at_both(
+    alloc: Global,
+    params: usize,
+    first: &Seat,
+    second: &Seat,
+    rows: &[Row],
+) -> Result<Option<Items<Row>>, AllocError>
+    ensures { IfOk result (λ made. made ≡ moved_rows (base params ++ (columns_of first.now ++ columns_of second.now)) rows.now) }
+{
+    let columns = columns_of_both(alloc, params, first, second)?;
+    rows_moved(alloc, columns.as_slice(), rows)
+}
+
+/// The equalities of forms over the coordinates of two positions.
+fn equal_at(
+    alloc: Global,
+    params: usize,
+    first: &Seat,
+    forms: &[Form],
+    second: &Seat,
+    others: &[Form],
+) -> Result<Option<Items<Row>>, AllocError>
+    ensures { IfOk result (λ made. made ≡ equal_forms (base params ++ columns_of first.now) forms.now (base params ++ columns_of second.now) others.now) }
+{
+    let columns = columns_at(alloc, params, first)?;
+    let other_columns = columns_at(alloc, params, second)?;
+    equal_forms(
+        alloc,
+        columns.as_slice(),
+        forms,
+        other_columns.as_slice(),
+        others,
+    )
+}
+
+/// The rows of a case: the source lies in a piece of its assignment, writes the cell, and stands before the reader by a
+/// level.
+fn case_rows(
+    alloc: Global,
+    params: usize,
+    reader: &Seat,
+    cell: &CellForms,
+    source: &Seat,
+    stmt: &StmtModel,
+    piece: &[Row],
+    level: &[Row],
+) -> Result<Option<Items<Row>>, AllocError>
+    ensures { IfOk result (λ rows. rows ≡ case_rows params reader.now cell.now source.now stmt.now piece.now level.now) }
+{
+    let pieces = moved_at(alloc, params, source, piece)?;
+    let cells = equal_at(
+        alloc,
+        params,
+        reader,
+        cell.subs.as_slice(),
+        source,
+        stmt.subs.as_slice(),
+    )?;
+    let levels = moved_at_both(alloc, params, source, reader, level)?;
+    appended(pieces, appended(cells, levels)?)
+}
+
+/// The root of an assignment, with its coordinates in the columns from one on.
+fn root(first: usize, u: usize, stmt: &StmtModel) -> Seat
+    ensures { result ≡ root first u stmt.now }
+{
+    Seat {
+        position: Position::Node { stmt: u, node: 0 },
+        first,
+        width: stmt.loops.len(),
+    }
+}
+
+/// Further columns and rows.
+fn extended(alloc: Global, conj: &Conj, more: usize, rows: Items<Row>) -> Result<Conj, AllocError>
+    ensures { IfOk result (λ made. made ≡ extended conj.now more rows) }
+{
+    let columns = column_after(conj.columns, more)?;
+    let conj = conj.copy(alloc)?;
+    Ok(Conj {
+        columns,
+        rows: join(conj.rows, rows)?,
+    })
+}
+
+/// The path behind a step of one position.
+fn gone_to(path: &Path, side: Side, conj: Conj, seat: Seat, last: Option<Assumed>) -> Path
+    ensures { result ≡ gone_to path.now side conj seat last }
+{
+    match side {
+        Side::Left => Path {
+            conj,
+            left: seat,
+            right: path.right,
+            gone: true,
+            last,
+        },
+        Side::Right => Path {
+            conj,
+            left: path.left,
+            right: seat,
+            gone: true,
+            last,
+        },
+    }
+}
+
+/// The path behind a case.
+fn case_path(
+    alloc: Global,
+    params: usize,
+    path: &Path,
+    side: Side,
+    cell: &CellForms,
+    u: usize,
+    stmt: &StmtModel,
+    piece: &[Row],
+    level: &[Row],
+) -> Result<Option<Path>, AllocError>
+    ensures { IfOk result (λ made. made ≡ case_path params path.now side cell.now u stmt.now piece.now level.now) }
+{
+    let source = root(path.conj.columns, u, stmt);
+    let reader = seat_of(path, side);
+    let Some(rows) = case_rows(alloc, params, &reader, cell, &source, stmt, piece, level)? else {
+        return Ok(None);
+    };
+    let conj = extended(alloc, &path.conj, source.width, rows)?;
+    let last = Assumed {
+        side,
+        reader,
+        source: Some(source),
+    };
+    Ok(Some(gone_to(path, side, conj, source, Some(last))))
+}
+
+/// Adds the cases of a piece, one for each level.
+#[tactic(auto, using(crate::proofs::AddSteps::level_steps))]
+fn add_levels(
+    alloc: Global,
+    params: usize,
+    path: &Path,
+    side: Side,
+    cell: &CellForms,
+    u: usize,
+    stmt: &StmtModel,
+    piece: &[Row],
+    levels: &[Items<Row>],
+    out: &mut Items<Path>,
+) -> Result<bool, AllocError>
+    ensures { Adds (map (case_path params path.now side cell.now u stmt.now piece.now) levels.now) out.old out.new result }
+{
+    for level in levels {
+        match case_path(
+            alloc,
+            params,
+            path,
+            side,
+            cell,
+            u,
+            stmt,
+            piece,
+            level.as_slice(),
+        )? {
+            Some(path) => out.push(path)?,
+            None => return Ok(false),
+        }
+    }
+    Ok(true)
+}
+
+/// Adds the cases of an assignment, one for each piece and level.
+#[tactic(auto, using(crate::proofs::AddSteps::piece_steps))]
+fn add_pieces(
+    alloc: Global,
+    params: usize,
+    path: &Path,
+    side: Side,
+    cell: &CellForms,
+    u: usize,
+    stmt: &StmtModel,
+    levels: &[Items<Row>],
+    out: &mut Items<Path>,
+) -> Result<bool, AllocError>
+    ensures { Adds (flat_map (λ piece. map (case_path params path.now side cell.now u stmt.now piece) levels.now) stmt.now.pieces) out.old out.new result }
+{
+    for piece in stmt.pieces.as_slice() {
+        if !add_levels(
+            alloc,
+            params,
+            path,
+            side,
+            cell,
+            u,
+            stmt,
+            piece.as_slice(),
+            levels,
+            out,
+        )? {
+            return Ok(false);
+        }
+    }
+    Ok(true)
+}
+
+/// The cases of an assignment, if it writes the array.
+#[tactic(auto, using(crate::proofs::StmtSteps::one_steps))]
+fn add_stmt(
+    alloc: Global,
+    params: usize,
+    m: &Model,
+    path: &Path,
+    side: Side,
+    cell: &CellForms,
+    u: usize,
+    stmt: &StmtModel,
+    out: &mut Items<Path>,
+) -> Result<bool, AllocError>
+    requires place { u < length m.now.stmts }
+    requires stmt { slice_get m.now.stmts u ≡ Some stmt.now }
+    ensures { Adds (cases_at params m.now path.now side cell.now u stmt.now) out.old out.new result }
+{
+    if stmt.array != cell.array {
+        return Ok(true);
+    }
+    let reader = seat_of(path, side);
+    let levels = levels_to(alloc, m, u, &reader.position)?;
+    add_pieces(
+        alloc,
+        params,
+        path,
+        side,
+        cell,
+        u,
+        stmt,
+        levels.as_slice(),
+        out,
+    )
+}
+
+/// The cases of all assignments.
+fn add_cases(
+    alloc: Global,
+    params: usize,
+    m: &Model,
+    path: &Path,
+    side: Side,
+    cell: &CellForms,
+    out: &mut Items<Path>,
+) -> Result<bool, AllocError>
+    ensures { Adds (cases_from params m.now path.now side cell.now 0 m.now.stmts) out.old out.new result }
+{
+    let stmts = m.stmts.as_slice();
+    for u in 0..stmts.len() {
+        if !add_stmt(alloc, params, m, path, side, cell, u, &stmts[u], out)? {
+            return Ok(false);
+        }
+    }
+    Ok(true)
+}
+
+/// The path to the initial contents.
+fn initial_path(alloc: Global, path: &Path, side: Side) -> Result<Path, AllocError>
+    ensures { IfOk result (λ made. made ≡ initial_path path.now side) }
+{
+    let reader = seat_of(path, side);
+    let position = initial_of(&reader.position);
+    let seat = Seat {
+        position,
+        first: reader.first,
+        width: reader.width,
+    };
+    let last = Assumed {
+        side,
+        reader,
+        source: None,
+    };
+    let conj = path.conj.copy(alloc)?;
+    Ok(gone_to(path, side, conj, seat, Some(last)))
+}
+
+/// The position of the initial contents of what is read.
+fn initial_of(position: &Position) -> Position
+    ensures { result ≡ initial_of position.now }
+{
+    match position {
+        Position::Output(o) => Position::InitialOutput(*o),
+        Position::Node { stmt, node } => Position::InitialNode {
+            stmt: *stmt,
+            node: *node,
+        },
+        Position::InitialOutput(o) => Position::InitialOutput(*o),
+        Position::InitialNode { stmt, node } => Position::InitialNode {
+            stmt: *stmt,
+            node: *node,
+        },
+    }
+}
+
+/// The cases of a read or an output: one for each source, then the initial contents.
+#[tactic(auto, using(crate::proofs::StmtSteps::branch_steps))]
+pub fn read_branches(
+    alloc: Global,
+    params: usize,
+    m: &Model,
+    path: &Path,
+    side: Side,
+    cell: &CellForms,
+) -> Result<Option<Items<Path>>, AllocError>
+    ensures { IfOk result (λ made. made ≡ read_branches params m.now path.now side cell.now) }
+{
+    let mut out = Items::new(alloc);
+    if !add_cases(alloc, params, m, path, side, cell, &mut out)? {
+        return Ok(None);
+    }
+    out.push(initial_path(alloc, path, side)?)?;
+    Ok(Some(out))
+}
+
+/// The cases of a read or an output, which go by `Keep` alone.
+fn reads(
+    alloc: Global,
+    params: usize,
+    m: &Model,
+    order: Order,
+    path: &Path,
+    side: Side,
+    cell: &CellForms,
+) -> Result<Option<Items<Path>>, AllocError>
+    ensures { IfOk result (λ made. made ≡ by_keep order (read_branches params m.now path.now side cell.now)) }
+{
+    match order {
+        Order::Keep => read_branches(alloc, params, m, path, side, cell),
+        Order::Swap => Ok(None),
+    }
+}
+
+/// The paths behind a step of the pair of positions, in order; none where there is no such step. A read or an output on the
+/// left goes first, else one on the right: one path for each assignment of its array, piece and level, then one for the
+/// initial contents. Two calls of one symbol go to their arguments: to those of one number each by `Keep`, and crossed by
+/// `Swap`, which asks for a declared symbol of two arguments. There is none either where a number of the rows leaves
+/// `i128`.
+pub fn branches(
+    alloc: Global,
+    programs: &Programs,
+    order: Order,
+    path: &Path,
+) -> Result<Option<Items<Path>>, AllocError>
+    ensures { IfOk result (λ made. made ≡ branches (pairing programs.now) order path.now) }
+{
+    let params = programs.left.params;
+    match cell_read(alloc, programs.left, &path.left.position)? {
+        Some(cell) => reads(alloc, params, programs.left, order, path, Side::Left, &cell),
+        None => match cell_read(alloc, programs.right, &path.right.position)? {
+            Some(cell) => reads(
+                alloc,
+                params,
+                programs.right,
+                order,
+                path,
+                Side::Right,
+                &cell,
+            ),
+            None => branches_of_calls(alloc, programs, order, path),
+        },
+    }
+}

@@ -1,0 +1,11 @@
+//! Paths of a pair of programs: rows over the parameters and coordinates, two positions with the columns of their
+//! coordinates, and the steps of the pair as branches.
+#![tactic(auto)]
+
+mod calls;
+pub mod columns;
+pub mod going;
+pub mod laws;
+pub mod path;
+pub mod places;
+pub mod standing;
