@@ -22,9 +22,10 @@ use Rattle.ac_syntax.specs.declared.tree.Stmt.{Stmt, Row_of-Stmt, end_of-Stmt, m
 use Rattle.ac_syntax.specs.declared.tree.Stmt.TheVariants.{For', If', Assign}
 use Rattle.ac_syntax.specs.declared.tree.Value.{Value, Row_of-Value, end_of-Value, more_of-Value}
 use Rattle.ac_syntax.specs.declared.tree.Value.TheVariants.{Number, Access, Call'}
+use Rattle.ac_poly.specs.Columns.{AreOver}
 use Rattle.ac_poly.specs.Forms.{lowered, row_by, rows_of}
 use Rattle.ac_poly.specs.Lower.{in_loop, loop_rows, where_holds, where_fails, outermost}
-use Rattle.ac_poly.specs.Model.{model_of, extents_of, kind_of, is_input, AreOver, NodeIsOver, StmtIsOver, HasColumns, HasKinds}
+use Rattle.ac_poly.specs.Model.{model_of, extents_of, kind_of, is_input, NodeIsOver, StmtIsOver, HasColumns, HasKinds}
 use Rattle.ac_poly.specs.Nodes.{nodes, nodes_in}
 use Rattle.ac_poly.specs.Pieces.{negations, with_each, failing}
 use Rattle.ac_poly.specs.declared.scope.Scope.{Scope}

@@ -1,5 +1,5 @@
 -- The steps of the count of common loops.
-use Rattle.std.proofs.Common.{◌≡◌, ℕ, suc, ◌+◌, ◌<◌, ◌≤◌, List, [], ◌∷◌, length, drop, get_or, refl, ap, ◌∙◌, arith, ◌==◌, true, false}
+use Rattle.std.proofs.Common.{◌≡◌, ℕ, suc, ◌+◌, ◌<◌, ◌≤◌, List, [], ◌∷◌, length, drop, get_or, refl, ap, ◌∙◌, arith, ◌==◌, Bool, true, false, cond}
 use Rattle.std.proofs.lemmas.List.{drop_more, drop_all}
 use Rattle.std.proofs.lemmas.Bool.Decides.{nat_tests}
 use Rattle.ac_syntax.specs.Loops.{common}
@@ -47,3 +47,13 @@ shared_end_apart a b k h l m n =
     apart x y xs ys n = rw (other_number x y n) refl
 
 pub ruleset common_steps = (shared_start, shared_more, shared_end_left, shared_end_right, shared_end_apart)
+
+-- as many as each has
+pub common_within : (ls ms : List ℕ) → (common ls ms ≤ length ls) × (common ls ms ≤ length ms)
+common_within [] ms = (omega arith, omega arith)
+common_within (l ∷ ls) [] = (omega arith, omega arith)
+common_within (l ∷ ls) (m ∷ ms) = by (l == m) (common_within ls ms)
+  where
+    by : (b : Bool) → (common ls ms ≤ length ls) × (common ls ms ≤ length ms) → (cond b (suc (common ls ms)) 0 ≤ suc (length ls)) × (cond b (suc (common ls ms)) 0 ≤ suc (length ms))
+    by true h = let a = h.0 in let b = h.1 in (omega arith, omega arith)
+    by false h = (omega arith, omega arith)

@@ -1,7 +1,7 @@
 -- What the loop over the dimensions keeps.
 use Rattle.std.proofs.Common.{◌≡◌, ℕ, ◌+◌, ◌<◌, ◌≤◌, List, [], ◌∷◌, ◌++◌, length, drop, get_or, refl, sym, ap, ◌∙◌, arith, append_assoc, append-nil, pos, negsuc}
 use Rattle.std.proofs.lemmas.List.{drop_more, drop_all}
-use Rattle.ac_forms.specs.Affine.{Affine, combined, CanAddTimes}
+use Rattle.ac_forms.specs.Affine.{Affine, combined, FormFits}
 use Rattle.ac_forms.specs.declared.row.Row.{Row}
 use Rattle.ac_forms.specs.declared.row.Row.TheVariants.{Eq}
 use Rattle.ac_poly.specs.Before.{equalities, CanEquate}
@@ -21,7 +21,7 @@ both_more fs gs i f g e l a b =
     (drop_more fs i f l ∙ ap (λ x. x ∷ drop (i + 1) fs) (sym a), drop_more gs i g k ∙ ap (λ x. x ∷ drop (i + 1) gs) (sym b))
 
 pub equated_step : (fs gs : List Affine) (i : ℕ) (made new : List Row) (f g form : Affine) → Equated fs gs i made → length fs ≡ length gs → i < length fs → f ≡ get_or fs i f → g ≡ get_or gs i g
-    → CanAddTimes f (negsuc 0) g × (form ≡ combined (pos 1) f (negsuc 0) g) → new ≡ made ++ Eq form ∷ [] → Equated fs gs (i + 1) new
+    → FormFits (combined (pos 1) f (negsuc 0) g) × (form ≡ combined (pos 1) f (negsuc 0) g) → new ≡ made ++ Eq form ∷ [] → Equated fs gs (i + 1) new
 equated_step fs gs i made new f g form h e l a b m n =
     let d = both_more fs gs i f g e l a b in
     record {
@@ -31,7 +31,7 @@ equated_step fs gs i made new f g form h e l a b m n =
     }
 
 pub equated_fits : (fs gs : List Affine) (i : ℕ) (made : List Row) (f g : Affine) → Equated fs gs i made → length fs ≡ length gs → i < length fs → f ≡ get_or fs i f → g ≡ get_or gs i g
-    → CanEquate fs gs → CanAddTimes f (negsuc 0) g
+    → CanEquate fs gs → FormFits (combined (pos 1) f (negsuc 0) g)
 equated_fits fs gs i made f g h e l a b c = let d = both_more fs gs i f g e l a b in (rw (d.0, d.1) at (h.onward c)).0
 
 pub equated_end : (fs gs : List Affine) (i : ℕ) (made : List Row) → Equated fs gs i made → length fs ≡ length gs → length fs ≤ i → CanEquate fs gs × (made ≡ equalities fs gs)

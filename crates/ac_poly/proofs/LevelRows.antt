@@ -1,15 +1,17 @@
 -- The rows of the levels hold where the order of entries does, and no two of them together.
-use Rattle.std.proofs.Common.{◌≡◌, ◌↔◌, inl, inr, ℕ, zero, suc, ◌+◌, ◌<◌, ◌≤◌, List, [], ◌∷◌, ◌++◌, length, Bool, true, false, cond, refl, sym, ap, ◌∙◌, arith, ℤ, pos, negsuc, ◌+ℤ◌, ◌*ℤ◌, ◌≤ℤ◌, append_assoc, length-append}
+use Rattle.std.proofs.Common.{◌≡◌, ◌↔◌, inl, inr, ℕ, zero, suc, ◌+◌, ◌<◌, ◌≤◌, List, [], ◌∷◌, ◌++◌, length, get_or, Bool, true, false, cond, refl, sym, ◌∙◌, arith, ℤ, pos, negsuc, ◌+ℤ◌, ◌*ℤ◌, ◌≤ℤ◌}
+use Rattle.std.specs.List.{AllByRecursion}
 use Rattle.std.proofs.lemmas.Int.{ints}
 use Rattle.ac_forms.specs.Affine.{value_at}
-use Rattle.ac_forms.specs.Rows.{Meets, Holds}
+use Rattle.ac_forms.specs.Rows.{Meets, Holds, AreRowsOver}
 use Rattle.ac_forms.specs.declared.row.Row.{Row}
 use Rattle.ac_forms.specs.declared.row.Row.TheVariants.{Ge, Eq}
-use Rattle.ac_integers.specs.Dot.{dot}
 use Rattle.ac_syntax.specs.Before.{Before}
-use Rattle.ac_poly.specs.Before.{difference, levels_from, LevelsAreApart}
+use Rattle.ac_syntax.specs.Loops.{common}
+use Rattle.ac_poly.specs.Before.{difference, levels_from, numbers, LevelsAreApart, LevelsHaveColumns, LevelsMove}
 use Rattle.ac_poly.specs.Pieces.{Somewhere, AtMostOne}
-use Rattle.ac_poly.proofs.Differences.{value-difference}
+use Rattle.ac_poly.proofs.Commons.{common_within}
+use Rattle.ac_poly.proofs.Differences.{value-difference, difference-within}
 use Rattle.ac_poly.proofs.Rows.{meets_append}
 
 one_row : (q : List Row) (r : Row) (p : List ℤ) → Meets (q ++ r ∷ []) p ↔ (Meets q p × Holds r p)
@@ -19,70 +21,131 @@ at_text : (text : Bool) (T : Type 0) (done : List Row) (p : List ℤ) → (text 
 at_text true T done p h = ((λ s. elim s [ inl m ↦ (m, h.0 refl) | inr n ↦ absurd n ]), (λ m. inl m.0))
 at_text false T done p h = ((λ s. absurd s), (λ m. absurd (let k : false ≡ true = h.1 m.1 in cc)))
 
-moved : (q ws x0 xs : List ℤ) (w x : ℤ) → q ++ ((w ∷ ws) ++ (x0 ++ x ∷ xs)) ≡ (q ++ w ∷ []) ++ (ws ++ ((x0 ++ x ∷ []) ++ xs))
-moved q ws x0 xs w x =
-    sym (append_assoc q (w ∷ []) (ws ++ ((x0 ++ x ∷ []) ++ xs)) ∙ ap (λ r. q ++ (w ∷ (ws ++ r))) (append_assoc x0 (x ∷ []) xs))
-
-at_counter : (q ws x0 xs : List ℤ) (w x : ℤ) → q ++ ((w ∷ ws) ++ (x0 ++ x ∷ xs)) ≡ (((q ++ w ∷ []) ++ (ws ++ x0)) ++ x ∷ []) ++ xs
-at_counter q ws x0 xs w x =
-    ap (λ r. q ++ (w ∷ r)) (sym (append_assoc ws x0 (x ∷ xs)))
-    ∙ sym (append_assoc q (w ∷ []) ((ws ++ x0) ++ x ∷ xs))
-    ∙ sym (append_assoc (q ++ w ∷ []) (ws ++ x0) (x ∷ xs))
-    ∙ sym (append_assoc ((q ++ w ∷ []) ++ (ws ++ x0)) (x ∷ []) xs)
-
-pub levels_hold : (c s u : ℕ) (q ws x0 xs : List ℤ) (j apart : ℕ) (text : Bool) (done : List Row)
-    → length q ≡ j → c ≤ length ws → c ≤ length xs → length ws + length x0 ≡ apart → (text ≡ true) ↔ (s < u)
-    → Somewhere (levels_from c j apart text done) (q ++ (ws ++ (x0 ++ xs))) ↔ (Meets done (q ++ (ws ++ (x0 ++ xs))) × Before c s u ws xs)
-levels_hold zero s u q ws x0 xs j apart text done e a b d h = at_text text (s < u) done (q ++ (ws ++ (x0 ++ xs))) h
-levels_hold (suc c) s u q [] x0 xs j apart text done e a b d h = absurd (omega arith)
-levels_hold (suc c) s u q (w ∷ ws) x0 [] j apart text done e a b d h = absurd (omega arith)
-levels_hold (suc c) s u q (w ∷ ws) x0 (x ∷ xs) j apart text done e a b d h =
-    by (levels_hold c s u (q ++ w ∷ []) ws (x0 ++ x ∷ []) xs (j + 1) apart text (done ++ Eq (difference j apart (pos 0)) ∷ [])
-    (omega (arith, length-append q (w ∷ []))) (omega arith) (omega arith) (omega (arith, length-append x0 (x ∷ []))) h)
+pub levels_hold : (c s u : ℕ) (p : List ℤ) (i j : ℕ) (ws xs : List ℤ) (text : Bool) (done : List Row)
+    → c ≤ length ws → c ≤ length xs → numbers i (length ws) p ≡ ws → numbers j (length xs) p ≡ xs → (text ≡ true) ↔ (s < u)
+    → Somewhere (levels_from c i j text done) p ↔ (Meets done p × Before c s u ws xs)
+levels_hold zero s u p i j ws xs text done a b v w h = at_text text (s < u) done p h
+levels_hold (suc c) s u p i j [] xs text done a b v w h = absurd (omega arith)
+levels_hold (suc c) s u p i j (x ∷ ws) [] text done a b v w h = absurd (omega arith)
+levels_hold (suc c) s u p i j (x ∷ ws) (y ∷ xs) text done a b v w h =
+    by (levels_hold c s u p (i + 1) (j + 1) ws xs text (done ++ Eq (difference i j (pos 0)) ∷ []) (omega arith) (omega arith) rest_first rest_second h)
   where
-    val : (k : ℤ) → value_at (difference j apart k) (q ++ ((w ∷ ws) ++ (x0 ++ x ∷ xs))) ≡ x +ℤ (negsuc 0 *ℤ w) +ℤ k
-    val k = ap (value_at (difference j apart k)) (at_counter q ws x0 xs w x) ∙ value-difference j apart q (ws ++ x0) xs w x k e (omega (arith, length-append ws x0))
+    rest_first : numbers (i + 1) (length ws) p ≡ ws
+    rest_first = cc
 
-    by : Somewhere (levels_from c (j + 1) apart text (done ++ Eq (difference j apart (pos 0)) ∷ [])) ((q ++ w ∷ []) ++ (ws ++ ((x0 ++ x ∷ []) ++ xs)))
-        ↔ (Meets (done ++ Eq (difference j apart (pos 0)) ∷ []) ((q ++ w ∷ []) ++ (ws ++ ((x0 ++ x ∷ []) ++ xs))) × Before c s u ws xs)
-        → Somewhere (levels_from (suc c) j apart text done) (q ++ ((w ∷ ws) ++ (x0 ++ x ∷ xs))) ↔ (Meets done (q ++ ((w ∷ ws) ++ (x0 ++ x ∷ xs))) × Before (suc c) s u (w ∷ ws) (x ∷ xs))
+    rest_second : numbers (j + 1) (length xs) p ≡ xs
+    rest_second = cc
+
+    first : get_or p i (pos 0) ≡ x
+    first = cc
+
+    second : get_or p j (pos 0) ≡ y
+    second = cc
+
+    val : (k : ℤ) → value_at (difference i j k) p ≡ y +ℤ (negsuc 0 *ℤ x) +ℤ k
+    val k = value-difference i j k p ∙ (λ t. second t +ℤ (negsuc 0 *ℤ first t) +ℤ k)
+
+    by : Somewhere (levels_from c (i + 1) (j + 1) text (done ++ Eq (difference i j (pos 0)) ∷ [])) p ↔ (Meets (done ++ Eq (difference i j (pos 0)) ∷ []) p × Before c s u ws xs)
+        → Somewhere (levels_from (suc c) i j text done) p ↔ (Meets done p × Before (suc c) s u (x ∷ ws) (y ∷ xs))
     by again =
-        let g = one_row done (Ge (difference j apart (negsuc 0))) (q ++ ((w ∷ ws) ++ (x0 ++ x ∷ xs))) in
-        let f = one_row done (Eq (difference j apart (pos 0))) (q ++ ((w ∷ ws) ++ (x0 ++ x ∷ xs))) in
-        let again2 = rw (sym (moved q ws x0 xs w x)) at again in
+        let g = one_row done (Ge (difference i j (negsuc 0))) p in
+        let f = one_row done (Eq (difference i j (pos 0))) p in
         let v1 = val (negsuc 0) in
         let v0 = val (pos 0) in (
           (λ s. elim s [
-            | inl c ↦ (let i = g.0 c in (i.0, inl (let p : pos 0 ≤ℤ value_at (difference j apart (negsuc 0)) (q ++ ((w ∷ ws) ++ (x0 ++ x ∷ xs))) = i.1 in omega (arith, ints, v1))))
-            | inr c ↦ (let i = again2.0 c in let k = f.0 i.0 in (k.0, inr ((let p : value_at (difference j apart (pos 0)) (q ++ ((w ∷ ws) ++ (x0 ++ x ∷ xs))) ≡ pos 0 = k.1 in omega (arith, ints, v0)), i.1)))
+            | inl m ↦ (let n = g.0 m in (n.0, inl (let z : pos 0 ≤ℤ value_at (difference i j (negsuc 0)) p = n.1 in omega (arith, ints, v1))))
+            | inr m ↦ (let n = again.0 m in let k = f.0 n.0 in (k.0, inr ((let z : value_at (difference i j (pos 0)) p ≡ pos 0 = k.1 in omega (arith, ints, v0)), n.1)))
           ]),
           (λ s. elim s.1 [
             | inl lt ↦ inl (g.1 (s.0, omega (arith, ints, v1)))
-            | inr r ↦ inr (again2.1 (f.1 (s.0, (let p : w ≡ x = r.0 in omega (arith, ints, v0))), r.1))
+            | inr r ↦ inr (again.1 (f.1 (s.0, (let z : x ≡ y = r.0 in omega (arith, ints, v0))), r.1))
           ]),
         )
 
 -- what is done holds in each level
-done_holds : (c j apart : ℕ) (text : Bool) (done : List Row) (p : List ℤ) → Somewhere (levels_from c j apart text done) p → Meets done p
-done_holds zero j apart true done p (inl m) = m
-done_holds zero j apart true done p (inr n) = absurd n
-done_holds zero j apart false done p s = absurd s
-done_holds (suc c) j apart text done p (inl m) = ((one_row done (Ge (difference j apart (negsuc 0))) p).0 m).0
-done_holds (suc c) j apart text done p (inr s) = ((one_row done (Eq (difference j apart (pos 0))) p).0 (done_holds c (j + 1) apart text _ p s)).0
+done_holds : (c i j : ℕ) (text : Bool) (done : List Row) (p : List ℤ) → Somewhere (levels_from c i j text done) p → Meets done p
+done_holds zero i j true done p (inl m) = m
+done_holds zero i j true done p (inr n) = absurd n
+done_holds zero i j false done p s = absurd s
+done_holds (suc c) i j text done p (inl m) = ((one_row done (Ge (difference i j (negsuc 0))) p).0 m).0
+done_holds (suc c) i j text done p (inr s) = ((one_row done (Eq (difference i j (pos 0))) p).0 (done_holds c (i + 1) (j + 1) text _ p s)).0
 
-not_both : (v : ℤ) → v +ℤ pos 0 ≡ pos 0 → pos 0 ≤ℤ (v +ℤ negsuc 0) → ⊥
-not_both v e l = omega (arith, ints)
+not_both : (d a b : ℤ) → a ≡ d +ℤ negsuc 0 → b ≡ d +ℤ pos 0 → b ≡ pos 0 → pos 0 ≤ℤ a → ⊥
+not_both d a b e f z l = omega (arith, ints, e, f, z, l)
 
-at_most_one : (c j apart : ℕ) (text : Bool) (done : List Row) (p : List ℤ) → AtMostOne (levels_from c j apart text done) p
-at_most_one zero j apart true done p = ((λ m s. absurd s), tt)
-at_most_one zero j apart false done p = tt
-at_most_one (suc c) j apart text done p = (
+at_most_one : (c i j : ℕ) (text : Bool) (done : List Row) (p : List ℤ) → AtMostOne (levels_from c i j text done) p
+at_most_one zero i j true done p = ((λ m s. absurd s), tt)
+at_most_one zero i j false done p = tt
+at_most_one (suc c) i j text done p = (
   (λ m s.
-      let a = ((one_row done (Ge (difference j apart (negsuc 0))) p).0 m).1 in
-      let b = ((one_row done (Eq (difference j apart (pos 0))) p).0 (done_holds c (j + 1) apart text _ p s)).1 in
-      not_both (dot (difference j apart (pos 0)).coefs p) b a),
-  at_most_one c (j + 1) apart text (done ++ Eq (difference j apart (pos 0)) ∷ []) p,
+      let a = ((one_row done (Ge (difference i j (negsuc 0))) p).0 m).1 in
+      let b = ((one_row done (Eq (difference i j (pos 0))) p).0 (done_holds c (i + 1) (j + 1) text _ p s)).1 in
+      not_both (get_or p j (pos 0) +ℤ (negsuc 0 *ℤ get_or p i (pos 0))) (value_at (difference i j (negsuc 0)) p) (value_at (difference i j (pos 0)) p)
+      (value-difference i j (negsuc 0) p) (value-difference i j (pos 0) p) b a),
+  at_most_one c (i + 1) (j + 1) text (done ++ Eq (difference i j (pos 0)) ∷ []) p,
 )
 
 pub levels_are_apart : LevelsAreApart
-levels_are_apart n ls ms text p = at_most_one _ n (length ls) text [] p
+levels_are_apart i j ls ms text p = at_most_one _ i j text [] p
+
+-- the columns of the rows
+more_over : (n : ℕ) (rows : List Row) (r : Row) → AreRowsOver n rows → AreRowsOver n (r ∷ []) → AreRowsOver n (rows ++ r ∷ [])
+more_over n [] r h k = k
+more_over n (x ∷ rows) r h k = (h.0, more_over n rows r h.1 k)
+
+from_over : (c i j n : ℕ) (text : Bool) (done : List Row) → i + c ≤ n → j + c ≤ n → AreRowsOver n done → AllByRecursion (AreRowsOver n) (levels_from c i j text done)
+from_over zero i j n true done a b h = (h, tt)
+from_over zero i j n false done a b h = tt
+from_over (suc c) i j n text done a b h =
+    let w : (k : ℤ) → length (difference i j k).coefs ≤ n = λ k. difference-within i j n k (omega arith) (omega arith) in (
+      more_over n done (Ge (difference i j (negsuc 0))) h ((w (negsuc 0), tt), tt),
+      from_over c (i + 1) (j + 1) n text (done ++ Eq (difference i j (pos 0)) ∷ []) (omega arith) (omega arith) (more_over n done (Eq (difference i j (pos 0))) h ((w (pos 0), tt), tt)),
+    )
+
+pub levels_have_columns : LevelsHaveColumns
+levels_have_columns i j n ls ms text a b =
+    let c = common_within ls ms in
+    let l = c.0 in
+    let m = c.1 in
+    from_over (common ls ms) i j n text [] (omega (arith, l)) (omega (arith, m)) tt
+
+-- levels at other columns hold where the counters are the same
+same_row : (i j k l : ℕ) (c : ℤ) (p q : List ℤ) → get_or p i (pos 0) ≡ get_or q k (pos 0) → get_or p j (pos 0) ≡ get_or q l (pos 0) → value_at (difference i j c) p ≡ value_at (difference k l c) q
+same_row i j k l c p q a b = value-difference i j c p ∙ (λ t. b t +ℤ (negsuc 0 *ℤ a t) +ℤ c) ∙ sym (value-difference k l c q)
+
+texts : (text : Bool) (done next : List Row) (p q : List ℤ) → Meets done p ↔ Meets next q → Somewhere (cond text (done ∷ []) []) p ↔ Somewhere (cond text (next ∷ []) []) q
+texts true done next p q h = ((λ s. elim s [ inl m ↦ inl (h.0 m) | inr n ↦ absurd n ]), (λ s. elim s [ inl m ↦ inl (h.1 m) | inr n ↦ absurd n ]))
+texts false done next p q h = ((λ s. absurd s), (λ s. absurd s))
+
+move_from : (c a b i j k l : ℕ) (text : Bool) (done next : List Row) (p q : List ℤ) → c ≤ a → c ≤ b → numbers i a p ≡ numbers k a q → numbers j b p ≡ numbers l b q → Meets done p ↔ Meets next q
+    → Somewhere (levels_from c i j text done) p ↔ Somewhere (levels_from c k l text next) q
+move_from zero a b i j k l text done next p q x y v w h = texts text done next p q h
+move_from (suc c) zero b i j k l text done next p q x y v w h = absurd (omega arith)
+move_from (suc c) (suc a) zero i j k l text done next p q x y v w h = absurd (omega arith)
+move_from (suc c) (suc a) (suc b) i j k l text done next p q x y v w h =
+    let first : get_or p i (pos 0) ≡ get_or q k (pos 0) = cc in
+    let second : get_or p j (pos 0) ≡ get_or q l (pos 0) = cc in
+    let e : value_at (difference i j (pos 0)) p ≡ value_at (difference k l (pos 0)) q = same_row i j k l (pos 0) p q first second in
+    let g : value_at (difference i j (negsuc 0)) p ≡ value_at (difference k l (negsuc 0)) q = same_row i j k l (negsuc 0) p q first second in
+    let ep = one_row done (Eq (difference i j (pos 0))) p in
+    let eq = one_row next (Eq (difference k l (pos 0))) q in
+    let gp = one_row done (Ge (difference i j (negsuc 0))) p in
+    let gq = one_row next (Ge (difference k l (negsuc 0))) q in
+    let v1 : numbers (i + 1) a p ≡ numbers (k + 1) a q = cc in
+    let w1 : numbers (j + 1) b p ≡ numbers (l + 1) b q = cc in
+    let again = move_from c a b (i + 1) (j + 1) (k + 1) (l + 1) text (done ++ Eq (difference i j (pos 0)) ∷ []) (next ++ Eq (difference k l (pos 0)) ∷ []) p q (omega arith) (omega arith) v1 w1
+    ((λ m. let n = ep.0 m in eq.1 (h.0 n.0, sym e ∙ n.1)), (λ m. let n = eq.0 m in ep.1 (h.1 n.0, e ∙ n.1))) in (
+      (λ s. elim s [
+        | inl m ↦ inl (let n = gp.0 m in gq.1 (h.0 n.0, (let z : pos 0 ≤ℤ value_at (difference i j (negsuc 0)) p = n.1 in omega (arith, ints, g))))
+        | inr t ↦ inr (again.0 t)
+      ]),
+      (λ s. elim s [
+        | inl m ↦ inl (let n = gq.0 m in gp.1 (h.1 n.0, (let z : pos 0 ≤ℤ value_at (difference k l (negsuc 0)) q = n.1 in omega (arith, ints, g))))
+        | inr t ↦ inr (again.1 t)
+      ]),
+    )
+
+pub levels_move : LevelsMove
+levels_move i j k l ls ms text p q v w =
+    let c = common_within ls ms in
+    move_from (common ls ms) (length ls) (length ms) i j k l text [] [] p q c.0 c.1 v w ((λ h. h), (λ h. h))

@@ -8,6 +8,7 @@ pub mod Bodies
 pub mod NodeForms
 pub mod Targets
 pub mod Differences
+pub mod Blocks
 pub mod LevelRows
 pub mod Orders
 pub mod Commons
@@ -27,3 +28,9 @@ pub mod Models
 pub mod PiecesApart
 pub mod Columns
 pub mod Dimensions
+pub mod Placing
+pub mod Elements
+pub mod Subtracting
+pub mod Bounding
+pub mod Cutting
+pub mod Coordinating

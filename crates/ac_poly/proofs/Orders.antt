@@ -1,19 +1,24 @@
 -- The levels of two assignments are the order of their entries.
-use Rattle.std.proofs.Common.{◌≡◌, ◌↔◌, inl, inr, ℕ, suc, ◌+◌, ◌<◌, ◌≤◌, List, [], ◌∷◌, ◌++◌, length, Bool, true, false, cond, ◌==◌, refl, sym, ap, ◌∙◌, arith, subst, append_assoc, append-nil}
+use Rattle.std.proofs.Common.{◌≡◌, ◌↔◌, inl, inr, ℕ, suc, ◌+◌, ◌<◌, ◌≤◌, List, [], ◌∷◌, ◌++◌, length, Bool, true, false, cond, refl, sym, ap, ◌∙◌, arith, subst, append_assoc, append-nil, ℤ}
 use Rattle.std.specs.Prelude.{nat_lt, slice_get, Some}
 use Rattle.std.proofs.lemmas.Bool.Decides.{nat_tests}
 use Rattle.ac_syntax.specs.Before.{Before}
 use Rattle.ac_syntax.specs.Index.{point}
 use Rattle.ac_syntax.specs.Loops.{loops, loops_in, loops_all, loops_around, common, loop_count, loop_count_in}
-use Rattle.ac_syntax.specs.Trace.{assignments, assignments_in}
+use Rattle.ac_syntax.specs.Ready.{ReadyAll}
+use Rattle.ac_syntax.specs.Source.{Writer, Stands}
+use Rattle.ac_syntax.specs.Trace.{assignments, assignments_in, trace_of}
 use Rattle.ac_syntax.specs.declared.tree.Stmt.{Stmt, Row_of-Stmt, end_of-Stmt, more_of-Stmt}
 use Rattle.ac_syntax.specs.declared.tree.Stmt.TheVariants.{For', If', Assign}
 use Rattle.ac_syntax.proofs.LastWriters.{is_before, stands_before, stands_contains}
-use Rattle.ac_poly.specs.Before.{LevelsAreTheOrder}
+use Rattle.ac_poly.specs.Before.{levels, numbers, LevelsAreTheOrder}
 use Rattle.ac_poly.specs.Lower.{in_loop, where_holds, where_fails, lowered_body, outermost}
+use Rattle.ac_poly.specs.Pieces.{Somewhere}
 use Rattle.ac_poly.specs.declared.scope.Scope.{Scope}
 use Rattle.ac_poly.specs.declared.types.StmtModel.{StmtModel}
 use Rattle.ac_poly.proofs.Bodies.{is_lowered, lowered_after}
+use Rattle.ac_poly.proofs.Blocks.{numbers_behind, numbers_last}
+use Rattle.ac_poly.proofs.Commons.{common_within}
 use Rattle.ac_poly.proofs.LevelRows.{levels_hold}
 use Rattle.ac_poly.proofs.Points.{lowered_range, lowered_range_in}
 use Rattle.ac_poly.proofs.Relation.{IsLowered, IsLoweredIn, IsLoweredAll}
@@ -71,20 +76,11 @@ loops_are_all (s ∷ ss) first loop sc k l (inr i) =
 pub loops_at : (body : List Stmt) (n k : ℕ) (l : StmtModel) → slice_get (lowered_body n body) k ≡ Some l → l.loops ≡ loops_around body k
 loops_at body n k l at = loops_are_all body 0 0 (outermost n) k l (is_lowered body n k l at)
 
-pub common_within : (ls ms : List ℕ) → (common ls ms ≤ length ls) × (common ls ms ≤ length ms)
-common_within [] ms = (omega arith, omega arith)
-common_within (l ∷ ls) [] = (omega arith, omega arith)
-common_within (l ∷ ls) (m ∷ ms) = by (l == m) (common_within ls ms)
-  where
-    by : (b : Bool) → (common ls ms ≤ length ls) × (common ls ms ≤ length ms) → (cond b (suc (common ls ms)) 0 ≤ suc (length ls)) × (cond b (suc (common ls ms)) 0 ≤ suc (length ms))
-    by true h = let a = h.0 in let b = h.1 in (omega arith, omega arith)
-    by false h = (omega arith, omega arith)
-
 text : (a b : ℕ) → (nat_lt a b ≡ true) ↔ (a < b)
 text a b = ((λ h. grind (arith, nat_tests, h)), (λ h. grind (arith, nat_tests)))
 
 pub levels_are_the_order : LevelsAreTheOrder
-levels_are_the_order body ps w u l m r at bt a b =
+levels_are_the_order body ps p i j w u l m r at bt a b vw vu =
     let tw = told_at body ps w.entry l r at (stands_contains a) in
     let tu = told_at body ps u.entry m r bt (stands_contains b) in
     let lw = loops_at body (length ps) w.entry.stmt l at in
@@ -95,9 +91,23 @@ levels_are_the_order body ps w u l m r at bt a b =
     let k2 = cw.1 in
     let n1 = tw.counters in
     let n2 = tu.counters in
-    let h = levels_hold (common l.loops m.loops) w.entry.stmt u.entry.stmt ps w.entry.counters [] u.entry.counters (length ps) (length l.loops) (nat_lt w.entry.stmt u.entry.stmt) []
-    refl (omega arith) (omega arith) (omega arith) (text w.entry.stmt u.entry.stmt) in
+    let h = levels_hold (common l.loops m.loops) w.entry.stmt u.entry.stmt p i j w.entry.counters u.entry.counters (nat_lt w.entry.stmt u.entry.stmt) []
+    (omega arith) (omega arith) (ap (λ n. numbers i n p) n1 ∙ vw) (ap (λ n. numbers j n p) n2 ∙ vu) (text w.entry.stmt u.entry.stmt) in
     let B : ℕ → Type 0 = λ c. Before c w.entry.stmt u.entry.stmt w.entry.counters u.entry.counters in (
       (λ lt. h.1 (tt, subst B (sym c) (is_before body (point ps []) w u a b lt))),
       (λ s. stands_before body (point ps []) w u a b (subst B c (h.0 s).1)),
     )
+
+-- behind the parameters the counters of both
+pub counters_behind : (body : List Stmt) (ps : List ℤ) (w u : Writer) (l m : StmtModel) → ReadyAll (length ps) 0 body
+    → slice_get (lowered_body (length ps) body) w.entry.stmt ≡ Some l → slice_get (lowered_body (length ps) body) u.entry.stmt ≡ Some m
+    → Stands (trace_of body ps) w → Stands (trace_of body ps) u
+    → (length w.earlier < length u.earlier)
+    ↔ Somewhere (levels (length ps) (length ps + length l.loops) l.loops m.loops (nat_lt w.entry.stmt u.entry.stmt)) (ps ++ (w.entry.counters ++ u.entry.counters))
+counters_behind body ps w u l m r at bt a b =
+    let n1 = (told_at body ps w.entry l r at (stands_contains a)).counters in
+    let n2 = (told_at body ps u.entry m r bt (stands_contains b)).counters in
+    let v = numbers_behind ps w.entry.counters u.entry.counters (length ps) (length l.loops) refl n1 in
+    let x : numbers (length ps + length l.loops) (length m.loops) (ps ++ (w.entry.counters ++ u.entry.counters)) ≡ u.entry.counters =
+    numbers_last ps w.entry.counters u.entry.counters (length ps + length l.loops) (length m.loops) (omega (arith, n1)) n2 in
+    levels_are_the_order body ps (ps ++ (w.entry.counters ++ u.entry.counters)) (length ps) (length ps + length l.loops) w u l m r at bt a b v x

@@ -1,6 +1,6 @@
 -- The model of a program is what it should be.
 use Rattle.std.proofs.Common.{◌≡◌, ◌↔◌, ◌<◌, ℕ, List, [], ◌∷◌, ◌++◌, length, map, refl, sym, ap, ◌∙◌, subst, ℤ, append-nil, true, IfOk, Result, Ok, Err}
-use Rattle.std.specs.Prelude.{slice_get, Some, nat_lt}
+use Rattle.std.specs.Prelude.{slice_get, Some}
 use Rattle.std.specs.List.{AllByRecursion}
 use Rattle.ac_forms.specs.Rows.{Meets}
 use Rattle.ac_syntax.specs.Index.{point, index_value, holds}
@@ -8,7 +8,7 @@ use Rattle.ac_syntax.specs.Ready.{FitParts, AllFit, ReadyAll, ReadyProgram}
 use Rattle.ac_syntax.specs.declared.tree.Array.{Array}
 use Rattle.ac_syntax.specs.declared.tree.Cond.{Cond}
 use Rattle.ac_syntax.specs.declared.tree.Program.{Program}
-use Rattle.ac_poly.specs.Before.{levels}
+use Rattle.ac_poly.specs.Coordinates.{levels_before}
 use Rattle.ac_poly.specs.Pieces.{Somewhere}
 use Rattle.ac_poly.specs.Forms.{rows_of}
 use Rattle.ac_poly.specs.Laws.{values_at}
@@ -19,7 +19,7 @@ use Rattle.ac_poly.specs.declared.types.LowerFault.{LowerFault}
 use Rattle.ac_poly.specs.declared.types.Model.{Model}
 use Rattle.ac_poly.specs.declared.types.StmtModel.{StmtModel}
 use Rattle.ac_poly.proofs.Bodies.{points_are_instances}
-use Rattle.ac_poly.proofs.Orders.{levels_are_the_order}
+use Rattle.ac_poly.proofs.Orders.{counters_behind}
 use Rattle.ac_poly.proofs.Rows.{meets_rows}
 use Rattle.ac_poly.proofs.Targets.{targets_are_cells, nodes_are_values}
 use Rattle.ac_poly.proofs.Values.{all_values}
@@ -42,8 +42,8 @@ has_nodes p context r params e stmt l at c = nodes_are_values p.body params e st
 
 pub has_order : (p : Program) (context : Cond) → ReadyProgram p → HasOrder p (model_of p context)
 has_order p context r params w u first second l a b s t =
-    subst (λ n. (length w.earlier < length u.earlier) ↔ Somewhere (levels n first.loops second.loops (nat_lt w.entry.stmt u.entry.stmt)) (params ++ (w.entry.counters ++ u.entry.counters))) l
-    (levels_are_the_order p.body params w u first second (ready p params r l) (at_params p params w.entry.stmt first l a) (at_params p params u.entry.stmt second l b) s t)
+    subst (λ n. (length w.earlier < length u.earlier) ↔ Somewhere (levels_before n w.entry.stmt first u.entry.stmt second) (params ++ (w.entry.counters ++ u.entry.counters))) l
+    (counters_behind p.body params w u first second (ready p params r l) (at_params p params w.entry.stmt first l a) (at_params p params u.entry.stmt second l b) s t)
 
 pub has_context : (p : Program) (context : Cond) → FitParts (length p.params) 0 context.parts → HasContext context (model_of p context)
 has_context p context f params l =

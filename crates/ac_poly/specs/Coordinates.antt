@@ -1,8 +1,10 @@
 -- What names an instance of an assignment: its coordinates, which stand behind the parameters. They are its counters, and
 -- only this file says so.
-use Rattle.std.specs.Prelude.{ℕ, ◌≡◌, List, length, ℤ}
+use Rattle.std.specs.Prelude.{ℕ, ◌+◌, ◌≡◌, List, length, ℤ, nat_lt}
 use Rattle.std.specs.List.{Contains}
+use Rattle.ac_forms.specs.declared.row.Row.{Row}
 use Rattle.ac_syntax.specs.Trace.{Entry}
+use Rattle.ac_poly.specs.Before.{levels}
 use Rattle.ac_poly.specs.declared.types.Model.{Model}
 use Rattle.ac_poly.specs.declared.types.StmtModel.{StmtModel}
 
@@ -17,3 +19,12 @@ coordinates m params e = e.counters
 -- an entry of the assignment with a number, with these coordinates
 abbrev pub HasInstance : Model → List ℤ → List Entry → ℕ → List ℤ → Type 0
 HasInstance m params es number at = (e : Entry) × Contains es e × (e.stmt ≡ number) × (coordinates m params e ≡ at)
+
+-- the levels by which an instance of the assignment s, with its coordinates from column i on, stands before one of the
+-- assignment u, with its from column j on
+abbrev pub levels_between : ℕ → StmtModel → ℕ → ℕ → StmtModel → ℕ → List (List Row)
+levels_between s first i u second j = levels i j first.loops second.loops (nat_lt s u)
+
+-- the same behind so many parameters: first the coordinates of the first, then those of the second
+abbrev pub levels_before : ℕ → ℕ → StmtModel → ℕ → StmtModel → List (List Row)
+levels_before params s first u second = levels_between s first params u second (params + width first)

@@ -3,6 +3,7 @@ pub mod Pieces
 pub mod Nodes
 pub mod Lower
 pub mod Coordinates
+pub mod Columns
 pub mod Model
 pub mod Numbers
 pub mod Faults

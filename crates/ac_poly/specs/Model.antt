@@ -1,12 +1,12 @@
 -- The model of a whole program, and what its parts say of the program.
-use Rattle.std.specs.Prelude.{ℕ, ◌≡◌, ◌↔◌, ◌<◌, ◌≤◌, ◌+◌, ◌++◌, List, [], length, map, ℤ, Option, Some, None, slice_get, nat_lt, Bool, true, false}
+use Rattle.std.specs.Prelude.{ℕ, ◌≡◌, ◌↔◌, ◌<◌, ◌≤◌, ◌+◌, ◌++◌, List, [], length, map, ℤ, Option, Some, None, slice_get, Bool, true, false}
 use Rattle.std.specs.List.{Contains, AllByRecursion}
 use Rattle.ac_forms.specs.Affine.{Affine}
 use Rattle.ac_forms.specs.Rows.{Meets, AreRowsOver}
 use Rattle.ac_syntax.specs.Algebra.{target}
 use Rattle.ac_syntax.specs.Index.{point, index_value, holds}
 use Rattle.ac_syntax.specs.Nodes.{size, node_of}
-use Rattle.ac_syntax.specs.Outputs.{input_at, is_input_kind}
+use Rattle.ac_syntax.specs.Outputs.{input_at, is_input_kind, InExtents, extents_at}
 use Rattle.ac_syntax.specs.Source.{Writer, Stands}
 use Rattle.ac_syntax.specs.Trace.{Entry, trace_of}
 use Rattle.ac_syntax.specs.declared.tree.Array.{Array}
@@ -14,8 +14,8 @@ use Rattle.ac_syntax.specs.declared.tree.Cond.{Cond}
 use Rattle.ac_syntax.specs.declared.tree.Kind.{Kind}
 use Rattle.ac_syntax.specs.declared.tree.Program.{Program}
 use Rattle.ac_syntax.specs.declared.tree.Value.{Value}
-use Rattle.ac_poly.specs.Before.{levels}
-use Rattle.ac_poly.specs.Coordinates.{width, coordinates, HasInstance}
+use Rattle.ac_poly.specs.Columns.{AreOver, element_rows}
+use Rattle.ac_poly.specs.Coordinates.{width, coordinates, HasInstance, levels_before}
 use Rattle.ac_poly.specs.Forms.{lowered, rows_of}
 use Rattle.ac_poly.specs.Laws.{values_at, cell_of, Shows}
 use Rattle.ac_poly.specs.Lower.{lowered_body}
@@ -77,7 +77,7 @@ HasOrder p m =
     (params : List ℤ) (w u : Writer) (first second : StmtModel) → length params ≡ m.params → slice_get m.stmts w.entry.stmt ≡ Some first → slice_get m.stmts u.entry.stmt ≡ Some second
     → Stands (trace_of p.body params) w → Stands (trace_of p.body params) u
     → (length w.earlier < length u.earlier)
-    ↔ Somewhere (levels m.params first.loops second.loops (nat_lt w.entry.stmt u.entry.stmt)) (params ++ (coordinates m params w.entry ++ coordinates m params u.entry))
+    ↔ Somewhere (levels_before m.params w.entry.stmt first u.entry.stmt second) (params ++ (coordinates m params w.entry ++ coordinates m params u.entry))
 
 -- the context's rows hold exactly where the context does
 abbrev pub HasContext : Cond → Model → Type 0
@@ -86,6 +86,12 @@ HasContext context m = (params : List ℤ) → length params ≡ m.params → Me
 -- the forms of the extents have the values of the extents
 abbrev pub HasExtents : Program → Model → Type 0
 HasExtents p m = (params : List ℤ) → length params ≡ m.params → map (values_at params) m.extents ≡ map (λ a. map (index_value (point params [])) a.extents) p.arrays
+
+-- coordinates, one for each extent of an array, meet the rows of its elements exactly where they name an element
+abbrev pub HasElements : Program → Model → Type 0
+HasElements p m =
+    (params at : List ℤ) (array : ℕ) (extents : List Affine) → length params ≡ m.params → slice_get m.extents array ≡ Some extents
+    → ((length at ≡ length extents) × Meets (element_rows m.params extents) (params ++ at)) ↔ InExtents (point params []) (extents_at p.arrays array) at
 
 -- whether an array is an input; one that isn't there is none
 abbrev pub is_input : Option Kind → Bool
@@ -96,10 +102,7 @@ is_input (Some kind) = is_input_kind kind
 abbrev pub HasKinds : Program → Model → Type 0
 HasKinds p m = (array : ℕ) → is_input (slice_get m.kinds array) ≡ input_at p.arrays array
 
--- no form has a coefficient past that many columns
-abbrev pub AreOver : ℕ → List Affine → Type 0
-AreOver columns = AllByRecursion (λ f. length f.coefs ≤ columns)
-
+-- the forms of a node have no coefficient past that many columns
 abbrev pub NodeIsOver : ℕ → NodeModel → Type 0
 NodeIsOver columns (Number f) = length f.coefs ≤ columns
 NodeIsOver columns (Read array subs) = AreOver columns subs

@@ -1,6 +1,7 @@
 //! What a lowered program means, in words: each function here does nothing, and its contract is a fact about all programs.
 ghost use Rattle.ac_poly.specs.Laws.{PointsAreInstances, TargetsAreCells, NodesAreValues};
-ghost use Rattle.ac_poly.specs.Before.{LevelsAreTheOrder, LevelsAreApart, EqualitiesAreEqualValues};
+ghost use Rattle.ac_poly.specs.Columns.{PlacedFormsHaveValues, PlacedRowsHold, PlacedRowsHaveColumns, ElementRowsHold};
+ghost use Rattle.ac_poly.specs.Before.{LevelsAreTheOrder, LevelsAreApart, LevelsHaveColumns, LevelsMove, EqualitiesAreEqualValues};
 
 /// The points of an assignment's pieces are exactly its instances: at each valuation of the parameters, a list of
 /// counters lies in some piece exactly where the trace has an entry of the assignment with these counters.
@@ -16,13 +17,28 @@ pub fn values_of_forms()
 {}
 
 /// At two entries of a trace one of the levels of their assignments holds exactly where the first stands before the
-/// second. No two levels hold at one point.
+/// second, whatever columns their counters stand in. No two levels hold at one point, and their rows have no other columns.
 pub fn order_by_levels()
     ensures order { LevelsAreTheOrder }
     ensures apart { LevelsAreApart }
+    ensures columns { LevelsHaveColumns }
+    ensures elsewhere { LevelsMove }
 {}
 
 /// The equalities of two lists of forms hold at a point exactly where all their values are equal there.
 pub fn equal_cells()
     ensures { EqualitiesAreEqualValues }
+{}
+
+/// Forms and rows whose coordinates stand from some column on have the values, and hold, that they have and do at the
+/// parameters and these coordinates. They have no other columns.
+pub fn placed_rows_and_forms()
+    ensures values { PlacedFormsHaveValues }
+    ensures rows { PlacedRowsHold }
+    ensures columns { PlacedRowsHaveColumns }
+{}
+
+/// The rows of the elements of an array hold exactly where each coordinate lies from 0 to below its extent.
+pub fn elements_of_arrays()
+    ensures { ElementRowsHold }
 {}

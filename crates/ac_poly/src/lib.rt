@@ -2,7 +2,9 @@
 //! loops around it are exactly its instances, and its index expressions become affine forms over the same columns.
 #![tactic(auto)]
 
+mod cells;
 mod copy;
+mod embed;
 mod enter;
 mod first_fault;
 mod forms;
@@ -15,5 +17,7 @@ pub mod scope;
 pub mod types;
 mod walk;
 
-pub use order::{before, same_cell};
+pub use cells::element_rows;
+pub use embed::{coordinate_forms, placed_forms, placed_rows};
+pub use order::{before, before_at, same_cell, width};
 pub use program::lower;

@@ -1,50 +1,81 @@
-ghost use Rattle.std.specs.Prelude.{◌≡◌, ◌<◌, ◌≤◌, ◌+◌, ◌++◌, ◌∷◌, [], length, IfOk, ℤ, pos, negsuc, nat_lt, slice_get, Some};
+//! The order of instances, and the equality of the cells that they read and write, as rows.
+ghost use Rattle.std.specs.Prelude.{◌≡◌, ◌<◌, length, replicate, set, pos, negsuc, IfOk, slice_get, Some};
 ghost use Rattle.ac_forms.specs.Stops.{MadeWhere};
 ghost use Rattle.ac_syntax.specs.Loops.{common};
-ghost use Rattle.ac_poly.specs.Before.{difference, levels, levels_from, equalities, CanEquate};
+ghost use Rattle.ac_poly.specs.Before.{difference, levels, equalities, CanEquate};
+ghost use Rattle.ac_poly.specs.Coordinates.{width, levels_before, levels_between};
 ghost use Rattle.ac_poly.specs.declared.types.StmtModel.{StmtModel};
 
+use crate::cells::less;
 use crate::copy::with_row;
-use crate::types::Model;
+use crate::types::{Model, StmtModel};
 use ac_forms::{Form, FormStop, Row};
 use ac_items::Items;
 use std::alloc::{AllocError, Global};
 
 /// The levels by which an instance of the assignment `s` stands before one of the assignment `u`: rows over the
-/// parameters, the counters of `s` and the counters of `u`. There is one level for each loop around both, in which the
+/// parameters, the coordinates of `s` and the coordinates of `u`. There is one level for each loop around both, in which the
 /// counters of the loops before it agree and its own rises; where `s` stands before `u` in the text, there is a last one in
 /// which the counters of all loops around both agree. At a pair of instances a level holds exactly where the first stands
 /// before the second in the trace, and no two levels hold together.
 pub fn before(alloc: Global, m: &Model, s: usize, u: usize) -> Result<Items<Items<Row>>, AllocError>
     requires first { s < length m.now.stmts }
     requires second { u < length m.now.stmts }
-    ensures { IfOk result (λ made. (first second : StmtModel) → slice_get m.now.stmts s ≡ Some first → slice_get m.now.stmts u ≡ Some second → made ≡ levels m.now.params first.loops second.loops (nat_lt s u)) }
+    ensures { IfOk result (λ made. (first second : StmtModel) → slice_get m.now.stmts s ≡ Some first → slice_get m.now.stmts u ≡ Some second → made ≡ levels_before m.now.params s first u second) }
+{
+    let own = width(&m.stmts.as_slice()[s]);
+    let behind = m.params.checked_add(own).ok_or(AllocError)?;
+    before_at(alloc, m, s, m.params, u, behind)
+}
+
+/// The same levels where the coordinates of `s` stand from column `i` on and those of `u` from column `j` on.
+pub fn before_at(
+    alloc: Global,
+    m: &Model,
+    s: usize,
+    i: usize,
+    u: usize,
+    j: usize,
+) -> Result<Items<Items<Row>>, AllocError>
+    requires first { s < length m.now.stmts }
+    requires second { u < length m.now.stmts }
+    ensures { IfOk result (λ made. (first second : StmtModel) → slice_get m.now.stmts s ≡ Some first → slice_get m.now.stmts u ≡ Some second → made ≡ levels_between s first i u second j) }
 {
     let stmts = m.stmts.as_slice();
     let first = stmts[s].loops.as_slice();
     let second = stmts[u].loops.as_slice();
-    levels_of(alloc, m.params, first, second, s < u)
+    levels_of(alloc, i, j, first, second, s < u)
 }
 
-/// The levels of an assignment in the loops `first` and one in the loops `second`, over that many parameters.
+/// How many coordinates an instance of an assignment has.
+pub fn width(stmt: &StmtModel) -> usize
+    ensures { result ≡ width stmt.now }
+{
+    stmt.loops.len()
+}
+
+/// The levels of an assignment in the loops `first`, with its counters from column `i` on, and one in the loops `second`,
+/// with its counters from column `j` on.
 #[tactic(auto, using(crate::proofs::LevelSteps::level_steps))]
 fn levels_of(
     alloc: Global,
-    params: usize,
+    i: usize,
+    j: usize,
     first: &[usize],
     second: &[usize],
     text: bool,
 ) -> Result<Items<Items<Row>>, AllocError>
-    ensures { IfOk result (λ made. made ≡ levels params first.now second.now text) }
+    ensures { IfOk result (λ made. made ≡ levels i j first.now second.now text) }
 {
     let count = common(first, second);
     let mut made = Items::new(alloc);
     let mut done = Items::new(alloc);
     for k in 0..count {
-        let column = params.checked_add(k).ok_or(AllocError)?;
-        let rising = difference(alloc, column, first.len(), -1)?;
+        let own = i.checked_add(k).ok_or(AllocError)?;
+        let other = j.checked_add(k).ok_or(AllocError)?;
+        let rising = difference(alloc, own, other, -1)?;
         made.push(with_row(alloc, done.as_slice(), Row::Ge(rising))?)?;
-        done.push(Row::Eq(difference(alloc, column, first.len(), 0)?))?;
+        done.push(Row::Eq(difference(alloc, own, other, 0)?))?;
     }
     if text {
         made.push(done)?;
@@ -52,15 +83,32 @@ fn levels_of(
     Ok(made)
 }
 
-/// The column that stands `apart` columns behind the column `j`, less the column `j`, plus `k`.
-fn difference(alloc: Global, j: usize, apart: usize, k: i128) -> Result<Form, AllocError>
-    requires { 1 ≤ apart }
-    ensures { IfOk result (λ form. form ≡ difference j apart k) }
+/// The column `j` less the column `i`, plus `k`.
+#[tactic(auto, using(crate::proofs::Differences::difference_steps))]
+fn difference(alloc: Global, i: usize, j: usize, k: i128) -> Result<Form, AllocError>
+    ensures { IfOk result (λ form. form ≡ difference i j k) }
 {
-    let second = j.checked_add(apart).ok_or(AllocError)?;
-    let form = Form::constant(alloc, j, k)?;
-    let form = form.with_column(alloc, j, -1)?;
-    form.with_column(alloc, second, 1)
+    let past_i = i.checked_add(1).ok_or(AllocError)?;
+    let past_j = j.checked_add(1).ok_or(AllocError)?;
+    if i == j {
+        Form::constant(alloc, past_i, k)
+    } else if i < j {
+        units(alloc, past_j, i, j, k)
+    } else {
+        units(alloc, past_i, i, j, k)
+    }
+}
+
+/// The form over so many columns with -1 at column `i`, 1 at column `j` and the constant `k`.
+fn units(alloc: Global, columns: usize, i: usize, j: usize, k: i128) -> Result<Form, AllocError>
+    requires first { i < columns }
+    requires second { j < columns }
+    ensures { IfOk result (λ form. form ≡ record { konst = k; coefs = set (set (replicate columns (pos 0)) i (negsuc 0)) j (pos 1) }) }
+{
+    let mut coefs = vec![in alloc; 0i128; columns]?;
+    coefs[i] = -1;
+    coefs[j] = 1;
+    Form::from_parts(alloc, k, coefs.as_slice())
 }
 
 /// How many loops stand around both of two assignments: the common beginning of the numbers of their loops.
@@ -76,8 +124,7 @@ fn common(first: &[usize], second: &[usize]) -> usize
 }
 
 /// The equalities, one for each dimension, that hold exactly where two cells of one array are one: each subscript of `a`
-/// less that of `b` is 0. `Wide` exactly where a product with -1 or a sum, dimension by dimension, column by column and the
-/// constant last, leaves `i128`.
+/// less that of `b` is 0. `Wide` exactly where a difference of two coefficients or constants leaves `i128`.
 #[tactic(auto, using(crate::proofs::Equating::equating))]
 pub fn same_cell(alloc: Global, a: &[Form], b: &[Form]) -> Result<Items<Row>, FormStop>
     requires { length a.now ≡ length b.now }
@@ -85,7 +132,7 @@ pub fn same_cell(alloc: Global, a: &[Form], b: &[Form]) -> Result<Items<Row>, Fo
 {
     let mut rows = Items::new(alloc);
     for i in 0..a.len() {
-        rows.push(Row::Eq(a[i].add_times(alloc, -1, &b[i])?))?;
+        rows.push(Row::Eq(less(alloc, &a[i], &b[i])?))?;
     }
     Ok(rows)
 }

@@ -4,7 +4,7 @@ ghost use Rattle.ac_syntax.specs.Dimensions.{HasDimensions};
 ghost use Rattle.ac_syntax.specs.Ready.{ReadyProgram, FitParts};
 ghost use Rattle.ac_poly.specs.Faults.{Answers, IsFineAll, IsFirstAll};
 ghost use Rattle.ac_poly.specs.Lower.{outermost};
-ghost use Rattle.ac_poly.specs.Model.{extents_of, kind_of, model_of, HasModels, HasInstances, PiecesAreApart, HasCells, HasNodes, HasOrder, HasContext, HasExtents, HasKinds, HasColumns, CellsHaveDimensions};
+ghost use Rattle.ac_poly.specs.Model.{extents_of, kind_of, model_of, HasModels, HasInstances, PiecesAreApart, HasCells, HasNodes, HasOrder, HasContext, HasExtents, HasElements, HasKinds, HasColumns, CellsHaveDimensions};
 
 use crate::enter::outermost;
 use crate::forms::{all_alone, rows_alone};
@@ -34,6 +34,7 @@ pub fn lower(alloc: Global, p: &Program, context: &Cond) -> Result<Model, LowerF
     ensures order { IfOk result (HasOrder p.now) }
     ensures context { IfOk result (HasContext context.now) }
     ensures extents { IfOk result (HasExtents p.now) }
+    ensures elements { IfOk result (HasElements p.now) }
     ensures kinds { IfOk result (HasKinds p.now) }
     ensures columns { IfOk result (HasColumns p.now) }
     ensures dimensions { HasDimensions p.now → IfOk result CellsHaveDimensions }

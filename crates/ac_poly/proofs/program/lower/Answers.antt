@@ -1,5 +1,6 @@
 use Rattle.ac_poly.proofs.Columns.{has_columns, has_kinds}
 use Rattle.ac_poly.proofs.Dimensions.{cells_have_dimensions}
+use Rattle.ac_poly.proofs.Elements.{has_elements}
 use Rattle.ac_poly.proofs.Models.{has_models}
 use Rattle.ac_poly.proofs.PiecesApart.{pieces_are_apart}
 use Rattle.ac_poly.proofs.Whole.{if_made, has_instances, has_cells, has_nodes, has_order, has_context, has_extents}
@@ -37,3 +38,6 @@ returns-clause-columns c = if_made c.lowered_program.result _ _ _ _ c.lowered_pr
 
 pub returns-clause-dimensions : goal.returns-clause-dimensions
 returns-clause-dimensions c h = if_made c.lowered_program.result _ _ _ _ c.lowered_program.ensures (cells_have_dimensions c.args.p.now c.args.context.now h)
+
+pub returns-clause-elements : goal.returns-clause-elements
+returns-clause-elements c = if_made c.lowered_program.result _ _ _ _ c.lowered_program.ensures (has_elements c.args.p.now c.args.context.now c.requires.program)

@@ -1,0 +1,71 @@
+-- Forms and rows of instances among further columns: the parameters stand first, and the coordinates of each instance from
+-- a column of its own on.
+use Rattle.std.specs.Prelude.{ℕ, ◌+◌, ◌-◌, ◌≤◌, ◌≡◌, ◌↔◌, ◌++◌, ◌≤ℤ◌, ◌<ℤ◌, ℤ, pos, negsuc, List, [], ◌∷◌, length, map, take, drop, replicate}
+use Rattle.std.specs.List.{AllByRecursion, range_with_len}
+use Rattle.ac_forms.specs.Affine.{Affine, FormFits, column_form, combined, shifted}
+use Rattle.ac_forms.specs.Fits.{Fits}
+use Rattle.ac_forms.specs.Rows.{Meets, AreRowsOver}
+use Rattle.ac_forms.specs.declared.row.Row.{Row}
+use Rattle.ac_forms.specs.declared.row.Row.TheVariants.{Eq, Div, Ge}
+use Rattle.ac_poly.specs.Before.{numbers}
+use Rattle.ac_poly.specs.Laws.{values_at}
+
+-- a form over n parameters and the coordinates of an instance, with the coordinates from column `first` on
+abbrev pub placed : ℕ → ℕ → Affine → Affine
+placed n first f = record { konst = f.konst; coefs = take n f.coefs ++ (replicate (first - n) (pos 0) ++ drop n f.coefs) }
+
+abbrev pub placed_row : ℕ → ℕ → Row → Row
+placed_row n first (Eq f) = Eq (placed n first f)
+placed_row n first (Div m f) = Div m (placed n first f)
+placed_row n first (Ge f) = Ge (placed n first f)
+
+-- no form has a coefficient past that many columns
+abbrev pub AreOver : ℕ → List Affine → Type 0
+AreOver columns = AllByRecursion (λ f. length f.coefs ≤ columns)
+
+-- what a point has for the parameters and for so many coordinates
+abbrev pub own_point : ℕ → ℕ → ℕ → List ℤ → List ℤ
+own_point n first count p = numbers 0 n p ++ numbers first count p
+
+-- forms have there the values that they have at the parameters and the coordinates
+abbrev pub PlacedFormsHaveValues : Type 0
+PlacedFormsHaveValues =
+    (n first count : ℕ) (fs : List Affine) (p : List ℤ) → n ≤ first → AreOver (n + count) fs → values_at p (map (placed n first) fs) ≡ values_at (own_point n first count p) fs
+
+-- so do rows hold
+abbrev pub PlacedRowsHold : Type 0
+PlacedRowsHold =
+    (n first count : ℕ) (rows : List Row) (p : List ℤ) → n ≤ first → AreRowsOver (n + count) rows → Meets (map (placed_row n first) rows) p ↔ Meets rows (own_point n first count p)
+
+-- and they have no columns but the parameters and the coordinates
+abbrev pub PlacedRowsHaveColumns : Type 0
+PlacedRowsHaveColumns =
+    (n first count columns : ℕ) (rows : List Row) → n ≤ first → first + count ≤ columns → AreRowsOver (n + count) rows → AreRowsOver columns (map (placed_row n first) rows)
+
+-- the forms of so many coordinates, from column k on
+abbrev pub coordinate_forms : ℕ → ℕ → List Affine
+coordinate_forms k count = map (λ j. column_form (j + 1) j) (range_with_len k count)
+
+-- an extent less the coordinate in column k, less 1
+abbrev pub room : ℕ → Affine → Affine
+room k e = shifted (combined (pos 1) e (negsuc 0) (column_form (k + 1) k)) (negsuc 0)
+
+-- the elements of an array with these extents: each coordinate, from column k on, is at least 0 and less than its extent
+abbrev pub element_rows : ℕ → List Affine → List Row
+element_rows k [] = []
+element_rows k (e ∷ es) = Ge (column_form (k + 1) k) ∷ (Ge (room k e) ∷ element_rows (k + 1) es)
+
+-- they are made in `i128`: an extent less its coordinate, and that less 1
+abbrev pub CanBound : ℕ → List Affine → Type 0
+CanBound k [] = Unit {0}
+CanBound k (e ∷ es) = (FormFits (combined (pos 1) e (negsuc 0) (column_form (k + 1) k)) × Fits ((room k e).konst)) × CanBound (k + 1) es
+
+-- the numbers lie from 0 to below these
+abbrev pub AreBelow : List ℤ → List ℤ → Type 0
+AreBelow [] ys = Unit {0}
+AreBelow (x ∷ xs) [] = Unit {0}
+AreBelow (x ∷ xs) (y ∷ ys) = (pos 0 ≤ℤ x) × (x <ℤ y) × AreBelow xs ys
+
+-- the rows of elements hold exactly where the coordinates lie from 0 to below the extents
+abbrev pub ElementRowsHold : Type 0
+ElementRowsHold = (k : ℕ) (extents : List Affine) (p : List ℤ) → Meets (element_rows k extents) p ↔ AreBelow (numbers k (length extents) p) (values_at p extents)
