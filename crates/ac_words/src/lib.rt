@@ -5,6 +5,7 @@
 
 mod command;
 mod given;
+mod laws;
 mod numbers;
 mod parts;
 #[cfg(test)]
@@ -12,3 +13,4 @@ mod tests;
 
 pub use command::{Command, command_of};
 pub use given::valuation;
+pub use laws::words_are_determined;
