@@ -1,17 +1,37 @@
 -- From exact readers at each room to what is answered.
 use Rattle.std.specs.Prelude.{Result, Ok, Err, false}
-use Rattle.std.proofs.Common.{◌≡◌, ℕ, zero, suc, ◌+◌, List, [], ◌∷◌, ◌++◌, refl, sym, ◌∙◌, ap, subst, arith}
+use Rattle.std.proofs.Common.{◌≡◌, ℕ, zero, suc, ◌+◌, List, [], ◌∷◌, ◌++◌, length, length-append, refl, sym, ◌∙◌, ap, subst, arith}
 use Rattle.std.specs.Prelude.{◌⊎◌}
 use Rattle.ac_lex.specs.Lexemes.{Lexeme}
 use Rattle.ac_grammar.specs.declared.cursor.Stop.{Stop}
 use Rattle.ac_grammar.specs.declared.cursor.Stop.TheVariants.{Syntax, Nesting, Memory}
 use Rattle.ac_grammar.specs.declared.terminal.Terminal.TheVariants.{End}
 use Rattle.ac_grammar.specs.Reading.{Why, syntax, nesting, found, stopped, Reader, peek, front, Reads}
-use Rattle.ac_grammar.specs.Found.{Rel, Goes, CanGoOn}
+use Rattle.ac_grammar.specs.Found.{Rel, Goes, CanGoOn, Begins, begins_whole, begins_to_keyword}
 use Rattle.ac_grammar.specs.Answers.{AtAnyDepth, IsAnswer, IsOnly, FindsAll}
-use Rattle.ac_grammar.proofs.Exact.{Exact, Some_of, nowhere, some_goes_on}
+use Rattle.ac_grammar.proofs.Exact.{Exact, Some_of, nowhere, some_goes_on, Live, no_token, going, at_keyword, Begun}
 use Rattle.ac_grammar.proofs.Deeper.{Agree, Deeper}
 use Rattle.std.proofs.Common.{inl, inr}
+
+-- what stands before one list is the same where the whole is
+same_front : (pre other bad : List Lexeme) → pre ++ bad ≡ other ++ bad → pre ≡ other
+same_front [] [] bad e = refl
+same_front [] (t ∷ other) bad e = absurd (let longer : length bad ≡ suc (length (other ++ bad)) = ap length e in omega (arith, longer, length-append other bad))
+same_front (t ∷ pre) [] bad e = absurd (let longer : suc (length (pre ++ bad)) ≡ length bad = ap length e in omega (arith, longer, length-append pre bad))
+same_front (t ∷ pre) (u ∷ other) bad e =
+    let head : t ≡ u = cc in
+    let tail : pre ++ bad ≡ other ++ bad = cc in
+    let rest : pre ≡ other = same_front pre other bad tail in
+    λ i. head i ∷ rest i
+
+-- what stands before the fault begins something within the room
+begins_of : {A : Type 0} (R : Rel A) → Some_of R → (pre : List Lexeme) → Live R pre → Begins R pre
+begins_of R some _ no_token = begins_whole (some.0, some.1, some.2)
+begins_of R some pre (going on) = begins_whole on
+begins_of R some _ (at_keyword pre k is before) = begins_to_keyword pre k is (some_goes_on R some pre before)
+
+alive_at : {A : Type 0} (R : Rel A) → Some_of R → (w : Why) (old new pre : List Lexeme) → old ≡ pre ++ new → Begun R w old new → Begins R pre
+alive_at R some w old new pre cut b = subst (λ l. Begins R l) (same_front b.pre pre new (sym b.cut ∙ cut)) (begins_of R some b.pre b.live)
 
 module _ {A : Type 0} (p : ℕ → Reader A) (R : ℕ → Rel A) (goes : Goes A) (exact : (room : ℕ) → Exact (p room) (R room) (R (suc room)) nowhere goes)
     (deeper : (room : ℕ) → Deeper (p room) (p (suc room))) (some : (room : ℕ) → Some_of (R room)) where
@@ -47,6 +67,7 @@ module _ {A : Type 0} (p : ℕ → Reader A) (R : ℕ → Rel A) (goes : Goes A)
       record {
         before = s.pre;
         cut = s.cut;
+        alive = alive_at (R room) (some room) syntax old new s.pre s.cut ((exact room).alive old new syntax refl h);
         first = record {
           viable = viable_at room s.pre s.viable;
           dead = λ other used left a same is end cut.
@@ -60,6 +81,8 @@ module _ {A : Type 0} (p : ℕ → Reader A) (R : ℕ → Rel A) (goes : Goes A)
       record {
         before = s.pre;
         cut = s.cut;
+        alive = alive_at (R room) (some room) nesting old new s.pre s.cut ((exact room).alive old new nesting refl h);
+        opens = ((exact room).alive old new nesting refl h).marks refl;
         first = record {
           viable = viable_at room s.pre s.viable;
           dead = λ other used left a same is end cut. dead_at room nesting s.pre other used left a (s.only other same) is end cut;

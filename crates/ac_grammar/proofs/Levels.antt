@@ -10,11 +10,11 @@ use Rattle.ac_grammar.specs.declared.tree.Expr.TheVariants as tree
 use Rattle.ac_grammar.specs.Terminals.{terminal, is_name}
 use Rattle.ac_grammar.specs.Words.{place_of, word_of, numeral_of}
 use Rattle.ac_grammar.specs.Reading.{syntax, nesting, Got, found, stopped, Reader, and_then, ◌>>=◌, pure, refuse, peek, front, rest, is, expect, ending, name}
-use Rattle.ac_grammar.specs.Found.{Rel, Goes}
+use Rattle.ac_grammar.specs.Found.{Rel, Goes, opens_construct}
 use Rattle.ac_grammar.specs.Expressions.{add_item, opens, expr_of, list, arguments, within, subscripts, named, group, primary_by, any_primary, primary, negated, unary_in, below, unary, expr}
 use Rattle.ac_grammar.proofs.Exact.{Exact, Some_of, none, nowhere, both}
 use Rattle.ac_grammar.proofs.Many.{no_more, one_more, many_exact}
-use Rattle.ac_grammar.proofs.Parts.{is_true, IsNothing, IsPure, nothing, ending_exact, refuse_exact, pass, IsToken, token, token_heads, token_exact, limit_exact, choose, IsEither, one, other, choose_exact, closing, IsHeld, IsMap, some_held, some_map, ended_exact, same_exact, from_anywhere, pure_empty}
+use Rattle.ac_grammar.proofs.Parts.{is_true, IsNothing, IsPure, nothing, ending_exact, refuse_exact, pass, IsToken, token, token_heads, token_exact, limit_exact, choose, IsEither, one, other, choose_exact, closing, IsHeld, IsMap, some_held, some_map, ended_exact, same_exact, from_anywhere, pure_empty, marks_of}
 use Rattle.ac_grammar.proofs.Relations.{Opening, at_limit, around, IsExprOf, IsCallEnd, IsCall, IsSubscript, IsGroup, IsNegative, IsSubscripts, IsNamed, IsPrimaryIn, IsUnaryIn, IsUnaryAt, IsExprAt, openings_at}
 use Rattle.ac_grammar.proofs.Productions.{Inner, on_unary, on_expr, begins, Heads, a_number, a_close, a_close_bracket, an_open_bracket, some_expr, expr_exact, subscript_exact, group_exact, negative_exact, call_end, call_exact}
 
@@ -31,7 +31,7 @@ SomeEach R = (V : Rel Expr) → Some_of V → (t : Lexeme) → Some_of (R V t)
 
 -- what opens at some room, and with one construct more around
 pub record Level (b : Option (Reader Expr)) (O W : Opening) : Type 1 where
-  pub opens_exact : (test : Terminal → Bool) (f : Reader Expr → Lexeme → Reader Expr) (R : Rel Expr → Lexeme → Rel Expr) (g : Goes Expr) → test t.End ≡ false → Each f R g → SomeEach R
+  pub opens_exact : (test : Terminal → Bool) (f : Reader Expr → Lexeme → Reader Expr) (R : Rel Expr → Lexeme → Rel Expr) (g : Goes Expr) → test t.End ≡ false → ((k : Terminal) → test k ≡ true → opens_construct k ≡ true) → Each f R g → SomeEach R
       → Exact (opening b f) (O test R) (W test R) (λ k. not (test k)) g
   pub opens_heads : (test : Terminal → Bool) (R : Rel Expr → Lexeme → Rel Expr) (ts left : List Lexeme) (a : Expr) → O test R ts a → test (peek (ts ++ left)) ≡ true
   pub some : (test : Terminal → Bool) (R : Rel Expr → Lexeme → Rel Expr) (t : Lexeme) → test (terminal t) ≡ true → SomeEach R → Some_of (W test R)
@@ -39,7 +39,7 @@ pub record Level (b : Option (Reader Expr)) (O W : Opening) : Type 1 where
 limit_level : (V : Rel Expr) → Some_of V → Level None at_limit (around V)
 unfolding opening
 limit_level V some = record {
-  opens_exact = λ test f R g last each some_each. limit_exact test (R V) g last (some_each V some);
+  opens_exact = λ test f R g last marks each some_each. limit_exact test (R V) g last marks (some_each V some);
   opens_heads = λ test R ts left a r. elim r [ ];
   some = λ test R t is some_each. (let s = some_each V some t in (t ∷ s.0, s.1, token is s.2));
 }
@@ -47,7 +47,7 @@ limit_level V some = record {
 inner_level : (u : Reader Expr) (U V : Rel Expr) → Inner u U V → Level (Some u) (around U) (around V)
 unfolding opening
 inner_level u U V inner = record {
-  opens_exact = λ test f R g last each some_each. token_exact test (f u) (R U) (R V) g last (each u U V inner) (some_each V inner.some);
+  opens_exact = λ test f R g last marks each some_each. token_exact test (f u) (R U) (R V) g last (each u U V inner) (some_each V inner.some) (some_each U inner.here);
   opens_heads = λ test R ts left a r. token_heads ts left a r;
   some = λ test R t is some_each. (let s = some_each V inner.some t in (t ∷ s.0, s.1, token is s.2));
 }
@@ -223,7 +223,7 @@ module _ (b : Option (Reader Expr)) (O W : Opening) (level : Level b O W) where
 
   subscript_reader : Exact (within b expr_of t.CloseBracket) (O (is t.OpenBracket) IsSubscript) (W (is t.OpenBracket) IsSubscript) (λ k. not (is t.OpenBracket k)) none
   subscript_reader = same_exact (within b expr_of t.CloseBracket) (subscript_is b)
-      (level.opens_exact (is t.OpenBracket) (λ u _. expr_of u >>= closing t.CloseBracket) IsSubscript none end_of_bracket (λ u U V inner _. subscript_exact u U V inner) some_subscript)
+      (level.opens_exact (is t.OpenBracket) (λ u _. expr_of u >>= closing t.CloseBracket) IsSubscript none end_of_bracket (marks_of t.OpenBracket refl) (λ u U V inner _. subscript_exact u U V inner) some_subscript)
 
   pub subscripts_exact : Exact (subscripts b) (IsSubscripts O) (IsSubscripts W) nowhere (λ subs k. is t.OpenBracket k || false)
   unfolding subscripts
@@ -244,19 +244,22 @@ module _ (b : Option (Reader Expr)) (O W : Opening) (level : Level b O W) where
   unfolding is
   named_exact n = choose_exact (is t.Open) (call_opening b (word_of n)) (access_reader b (word_of n))
       (O (is t.Open) (IsCall (word_of n))) (W (is t.Open) (IsCall (word_of n))) (IsMap (tree.Access (word_of n)) (IsSubscripts O)) (IsMap (tree.Access (word_of n)) (IsSubscripts W)) on_unary
-      (level.opens_exact (is t.Open) (λ u _. call_end u >>= (λ args. ending opens (tree.Call (word_of n) args))) (IsCall (word_of n)) on_unary refl (λ u U V inner o. call_exact u U V inner (word_of n) o) (some_call (word_of n)))
+      (level.opens_exact (is t.Open) (λ u _. call_end u >>= (λ args. ending opens (tree.Call (word_of n) args))) (IsCall (word_of n)) on_unary refl (marks_of t.Open refl) (λ u U V inner o. call_exact u U V inner (word_of n) o) (some_call (word_of n)))
       (from_anywhere (ended_exact (subscripts b) (IsSubscripts O) (IsSubscripts W) (tree.Access (word_of n)) nowhere (λ subs k. is t.OpenBracket k || false) opens subscripts_exact (λ a k e. open_not_bracket k e)))
       (level.opens_heads (is t.Open) (IsCall (word_of n))) (access_apart n)
 
   some_named : (n : Lexeme) → Some_of (IsNamed W n)
   some_named n = ([] ++ [], tree.Access (word_of n) [], other (both no_more nothing))
 
+  named_here : (n : Lexeme) → Some_of (IsNamed O n)
+  named_here n = ([] ++ [], tree.Access (word_of n) [], other (both no_more nothing))
+
   abbrev NameRel : Opening → Rel Expr
   NameRel O = IsEither (IsToken is_name (IsNamed O)) IsNothing
 
   name_exact : Exact (name_reader b) (NameRel O) (NameRel W) nowhere on_unary
   name_exact = choose_exact is_name (pass (λ n. named_reader b (word_of n))) refuse (IsToken is_name (IsNamed O)) (IsToken is_name (IsNamed W)) IsNothing IsNothing on_unary
-      (token_exact is_name (λ n. named_reader b (word_of n)) (IsNamed O) (IsNamed W) on_unary refl named_exact some_named)
+      (token_exact is_name (λ n. named_reader b (word_of n)) (IsNamed O) (IsNamed W) on_unary refl named_exact some_named named_here)
       (refuse_exact IsNothing is_name on_unary) token_heads (λ ts left a r end. elim r [ ])
 
   name_heads : (ts left : List Lexeme) (a : Expr) → NameRel O ts a → Apart (peek (ts ++ left))
@@ -269,7 +272,7 @@ module _ (b : Option (Reader Expr)) (O W : Opening) (level : Level b O W) where
   group_or_name_exact : Exact (group_or_name b) (GroupRel O) (GroupRel W) nowhere on_unary
   unfolding is
   group_or_name_exact = choose_exact (is t.Open) (group_opening b) (name_reader b) (O (is t.Open) IsGroup) (W (is t.Open) IsGroup) (NameRel O) (NameRel W) on_unary
-      (level.opens_exact (is t.Open) (λ u o. (expr_of u >>= closing t.Close) >>= (λ a. ending opens (tree.Group a (place_of o)))) IsGroup on_unary refl (λ u U V inner o. group_exact u U V inner o) some_group)
+      (level.opens_exact (is t.Open) (λ u o. (expr_of u >>= closing t.Close) >>= (λ a. ending opens (tree.Group a (place_of o)))) IsGroup on_unary refl (marks_of t.Open refl) (λ u U V inner o. group_exact u U V inner o) some_group)
       (from_anywhere name_exact) (level.opens_heads (is t.Open) IsGroup) (λ ts left a r end. (name_heads ts left a r).paren)
 
   group_heads : (that : Terminal) → is that t.Open ≡ false → ((k : Terminal) → Apart k → is that k ≡ false) → (ts left : List Lexeme) (a : Expr) → GroupRel O ts a → is that (peek (ts ++ left)) ≡ false
@@ -284,7 +287,7 @@ module _ (b : Option (Reader Expr)) (O W : Opening) (level : Level b O W) where
   decimal_exact = choose_exact (is t.Decimal) decimal_reader (group_or_name b)
       (IsToken (is t.Decimal) (λ token. IsPure (tree.Decimal (word_of token)))) (IsToken (is t.Decimal) (λ token. IsPure (tree.Decimal (word_of token)))) (GroupRel O) (GroupRel W) on_unary
       (token_exact (is t.Decimal) (λ token. ending opens (tree.Decimal (word_of token))) (λ token. IsPure (tree.Decimal (word_of token))) (λ token. IsPure (tree.Decimal (word_of token))) on_unary refl
-      (λ token. ending_exact (tree.Decimal (word_of token)) nowhere opens) (λ token. ([], tree.Decimal (word_of token), nothing)))
+      (λ token. ending_exact (tree.Decimal (word_of token)) nowhere opens) (λ token. ([], tree.Decimal (word_of token), nothing)) (λ token. ([], tree.Decimal (word_of token), nothing)))
       (from_anywhere group_or_name_exact) token_heads (λ ts left a r end. group_heads t.Decimal refl (λ k apart. apart.decimal) ts left a r)
 
   decimal_heads : (that : Terminal) → is that t.Decimal ≡ false → is that t.Open ≡ false → ((k : Terminal) → Apart k → is that k ≡ false)
@@ -297,7 +300,7 @@ module _ (b : Option (Reader Expr)) (O W : Opening) (level : Level b O W) where
   primary_exact = choose_exact (is t.Number) number_reader (choose (is t.Decimal) decimal_reader (group_or_name b))
       (IsToken (is t.Number) (λ token. IsPure (tree.Number (numeral_of token)))) (IsToken (is t.Number) (λ token. IsPure (tree.Number (numeral_of token)))) (DecimalRel O) (DecimalRel W) on_unary
       (token_exact (is t.Number) (λ token. ending opens (tree.Number (numeral_of token))) (λ token. IsPure (tree.Number (numeral_of token))) (λ token. IsPure (tree.Number (numeral_of token))) on_unary refl
-      (λ token. ending_exact (tree.Number (numeral_of token)) nowhere opens) (λ token. ([], tree.Number (numeral_of token), nothing)))
+      (λ token. ending_exact (tree.Number (numeral_of token)) nowhere opens) (λ token. ([], tree.Number (numeral_of token), nothing)) (λ token. ([], tree.Number (numeral_of token), nothing)))
       (from_anywhere decimal_exact) token_heads (λ ts left a r end. decimal_heads t.Number refl refl (λ k apart. apart.number) ts left a r)
 
   primary_not_minus : (ts left : List Lexeme) (a : Expr) → IsPrimaryIn O ts a → is t.Minus (peek (ts ++ left)) ≡ false
@@ -309,7 +312,7 @@ module _ (b : Option (Reader Expr)) (O W : Opening) (level : Level b O W) where
   unfolding is
   unary_exact = same_exact (unary_in b) (unary_is b)
       (choose_exact (is t.Minus) (negative_opening b) (primary_reader b) (O (is t.Minus) IsNegative) (W (is t.Minus) IsNegative) (IsPrimaryIn O) (IsPrimaryIn W) on_unary
-      (level.opens_exact (is t.Minus) (λ u sign. u >>= (λ a. pure (tree.Negative a (place_of sign)))) IsNegative on_unary refl (λ u U V inner sign. negative_exact u U V inner sign) some_negative)
+      (level.opens_exact (is t.Minus) (λ u sign. u >>= (λ a. pure (tree.Negative a (place_of sign)))) IsNegative on_unary refl (marks_of t.Minus refl) (λ u U V inner sign. negative_exact u U V inner sign) some_negative)
       (from_anywhere primary_exact) (level.opens_heads (is t.Minus) IsNegative) (λ ts left a r end. primary_not_minus ts left a r))
 
   begins_at : (this : Terminal) (ts left : List Lexeme) → is this (peek (ts ++ left)) ≡ true → begins this ≡ true → begins (peek (ts ++ left)) ≡ true
@@ -334,11 +337,13 @@ unfolding IsUnaryAt unary below
 unaries zero = let level = limit_level (IsUnaryAt zero) (some_unary zero) in record {
   exact = unary_exact None at_limit (around (IsUnaryAt zero)) level;
   some = some_unary (suc zero);
+  here = some_unary zero;
   heads = unary_heads None at_limit (around (IsUnaryAt zero)) level;
 }
 unaries (suc room) = let level = inner_level (unary room) (IsUnaryAt room) (IsUnaryAt (suc room)) (unaries room) in record {
   exact = unary_exact (Some (unary room)) (around (IsUnaryAt room)) (around (IsUnaryAt (suc room))) level;
   some = some_unary (suc (suc room));
+  here = some_unary (suc room);
   heads = unary_heads (Some (unary room)) (around (IsUnaryAt room)) (around (IsUnaryAt (suc room))) level;
 }
 

@@ -33,3 +33,4 @@ pub mod StatementPragmas
 pub mod StatementFiles
 pub mod StatementDeeper
 pub mod StatementAnswers
+pub mod OneFault

@@ -7,7 +7,7 @@ use Rattle.ac_grammar.specs.declared.terminal.Terminal.{Terminal}
 use Rattle.ac_grammar.specs.declared.terminal.Terminal.TheVariants.{End}
 use Rattle.ac_grammar.specs.Reading.{Why, nesting, Got, found, stopped, Reader, and_then, peek, front, many_from, many}
 use Rattle.ac_grammar.specs.Found.{Rel, Goes, Read, CanGoOn}
-use Rattle.ac_grammar.proofs.Exact.{Exact, Some_of, peek_same, some_goes_on}
+use Rattle.ac_grammar.proofs.Exact.{Exact, Some_of, peek_same, some_goes_on, Begun, live_behind, begun_same}
 
 -- { item }: each item is joined to what stood before it
 pub data IsMany {X B : Type 0} (join : X → B → X) (Item : Rel B) : X → List Lexeme → X → Type 0 where
@@ -175,6 +175,40 @@ module _ {X B : Type 0} (begins : Terminal → Bool) (join : X → B → X) (ite
   reads_halts zero x ts bad w fits e = cc
   reads_halts (suc n) x ts bad w fits e = halts_next n (reads_halts n) x w ts bad fits (begins (peek ts)) refl e
 
+  item_goes_on : (x : X) (pre : List Lexeme) → CanGoOn Item pre → CanGoOn (IsMany join Item x) pre
+  item_goes_on x pre on = (on.0, join x on.1, subst (λ l. IsMany join Item x l (join x on.1)) (append-nil (pre ++ on.0)) (one_more on.2 no_more))
+
+  items_go_on : (x : X) (b : B) (used pre : List Lexeme) → Item used b → CanGoOn (IsMany join Item (join x b)) pre → CanGoOn (IsMany join Item x) (used ++ pre)
+  items_go_on x b used pre is on = (on.0, on.1, subst (λ l. IsMany join Item x l on.1) (sym (append_assoc used pre on.0)) (one_more is on.2))
+
+  abbrev Living : ℕ → Type 0
+  Living n = (x : X) (ts bad : List Lexeme) (w : Why) → length ts ≤ n → reads n x ts ≡ stopped w bad → Begun (IsMany join Item x) w ts bad
+
+  alive_item : (n : ℕ) → Living n → (x : X) (w : Why) (ts bad : List Lexeme) → length ts ≤ suc n → begins (peek ts) ≡ true
+      → (r : Got B) → item ts ≡ r → and_then r (λ b. reads n (join x b)) ≡ stopped w bad → Begun (IsMany join Item x) w ts bad
+  alive_item n ih x w ts bad fits begin (stopped v bad') got e = begun_same Item (IsMany join Item x) (item_goes_on x) w ts bad (one.alive ts bad w (starting _ begin) (got ∙ cc))
+  alive_item n ih x w ts bad fits begin (found b mid) got e =
+      let a = one.sound ts mid b (starting _ begin) got in
+      let takes : 0 < length a.used = takes a.used b a.is in
+      let short : length mid ≤ n = omega (arith, length-append a.used mid, ap length a.cut) in
+      let c = ih (join x b) mid bad w short e in
+      record {
+        pre = a.used ++ c.pre;
+        cut = a.cut ∙ ap (λ l. a.used ++ l) c.cut ∙ sym (append_assoc a.used c.pre bad);
+        live = live_behind (IsMany join Item (join x b)) (IsMany join Item x) a.used (λ pre on. items_go_on x b a.used pre a.is on) (items_go_on x b a.used [] a.is ([], join x b, no_more)) c.pre c.live;
+        marks = c.marks;
+      }
+
+  alive_next : (n : ℕ) → Living n → (x : X) (w : Why) (ts bad : List Lexeme) → length ts ≤ suc n
+      → (v : Bool) → begins (peek ts) ≡ v → reads (suc n) x ts ≡ stopped w bad → Begun (IsMany join Item x) w ts bad
+  alive_next n ih x w ts bad fits false is e = let at : found x ts ≡ stopped w bad = sym (end_at (suc n) x ts is) ∙ e in cc (at)
+  alive_next n ih x w ts bad fits true is e = alive_item n ih x w ts bad fits is (item ts) refl (sym (turn_at n x ts is) ∙ e)
+
+  reads_alive : (n : ℕ) → Living n
+  unfolding many_from
+  reads_alive zero x ts bad w fits e = cc
+  reads_alive (suc n) x ts bad w fits e = alive_next n (reads_alive n) x w ts bad fits (begins (peek ts)) refl e
+
   pub many_up : {x : X} (ts : List Lexeme) (y : X) → IsMany join Item x ts y → IsMany join V x ts y
   many_up _ _ no_more = no_more
   many_up _ _ (one_more i more) = one_more (one.up _ _ i) (many_up _ _ more)
@@ -187,4 +221,5 @@ module _ {X B : Type 0} (begins : Terminal → Bool) (join : X → B → X) (ite
     stops = λ ts bad w start e. (let h = reads_halts (length ts) x ts bad w (omega arith) e in
         record { pre = h.pre; cut = h.cut; viable = inr h.viable; only = λ other same. h.only other (length (h.pre ++ other)) (omega arith) same; deeper = h.deeper });
     up = many_up;
+    alive = λ ts bad w start e. reads_alive (length ts) x ts bad w (omega arith) e;
   }

@@ -19,8 +19,8 @@ use Rattle.ac_grammar.specs.Reading.{Why, syntax, nesting, Got, found, stopped, 
 use Rattle.ac_grammar.specs.Found.{Rel, Goes, Read, CanGoOn, Stops}
 use Rattle.ac_grammar.specs.Expressions.{opens, goes_on, product, sum, expr_of, within}
 use Rattle.ac_grammar.specs.Conditions.{and_of, compared, compared_by, behind, required, parts}
-use Rattle.ac_grammar.proofs.Exact.{Exact, Some_of, none, nowhere, IsThen, both, then_exact}
-use Rattle.ac_grammar.proofs.Parts.{IsNothing, IsPure, nothing, pure_exact, ending_exact, pass, token_exact, limit_exact, choose, one, other, choose_from, IsNot, aside, not_exact, closing, IsHeld, IsMap, some_held, held_exact, map_exact, same_exact, goes_exact}
+use Rattle.ac_grammar.proofs.Exact.{Exact, Some_of, none, nowhere, IsThen, both, then_exact, going, Begun, begun_same}
+use Rattle.ac_grammar.proofs.Parts.{IsNothing, IsPure, nothing, pure_exact, ending_exact, pass, token_exact, limit_exact, choose, one, other, choose_from, IsNot, aside, not_exact, closing, IsHeld, IsMap, some_held, held_exact, map_exact, same_exact, goes_exact, marks_of}
 use Rattle.ac_grammar.proofs.Repeats.{has, IsLinked, linked, linked_at, pairing, linking, linked_exact}
 use Rattle.ac_grammar.proofs.Relations.{IsProduct, IsSum, IsExprOf}
 use Rattle.ac_grammar.proofs.Productions.{Inner, on_expr, on_term, a_close, some_expr, some_sum, some_product, product_exact, factors_next, sum_exact, terms_next, expr_exact, expr_heads}
@@ -92,7 +92,7 @@ module _ (u : Reader Expr) (U V : Rel Expr) (inner : Inner u U V) where
       by_next (Some o) = by_item o (expr_of u (rest ts))
 
   linked_relation : Exact (linking relation_of (expr_of u)) (IsLinked relation_of (IsExprOf U)) (IsLinked relation_of (IsExprOf V)) (λ k. not (has (relation_of k))) (λ a. on_expr)
-  linked_relation = linked_exact relation_of (expr_of u) (IsExprOf U) (IsExprOf V) (λ _. on_expr) (expr_exact u U V inner) (some_expr V inner.some) refl
+  linked_relation = linked_exact relation_of (expr_of u) (IsExprOf U) (IsExprOf V) (λ _. on_expr) (expr_exact u U V inner) (some_expr V inner.some) (some_expr U inner.here) refl
 
   compared_exact : (left : Expr) → Exact (compared u left) (IsCompared U left) (IsCompared V left) on_expr on_part
   compared_exact left = same_exact (compared u left) (compared_is left)
@@ -117,6 +117,9 @@ module _ (u : Reader Expr) (U V : Rel Expr) (inner : Inner u U V) where
   some_compared : (left : Expr) → Some_of (IsCompared V left)
   some_compared left = ([], Expression left, other nothing)
 
+  compared_here : (left : Expr) → Some_of (IsCompared U left)
+  compared_here left = ([], Expression left, other nothing)
+
   -- ---- behind a parenthesis
 
   abbrev group_reader : Place → Expr → Reader Expr
@@ -126,18 +129,22 @@ module _ (u : Reader Expr) (U V : Rel Expr) (inner : Inner u U V) where
   grouped_exact place e = then_exact (ending opens (Group e place) >>= product u) (sum u)
       (IsThen (IsPure (Group e place)) (IsProduct U)) (IsThen (IsPure (Group e place)) (IsProduct V)) (IsSum U) (IsSum V) nowhere (λ _. on_term) (λ _. on_expr)
       (then_exact (ending opens (Group e place)) (product u) (IsPure (Group e place)) (IsPure (Group e place)) (IsProduct U) (IsProduct V) nowhere (λ _. opens) (λ _. on_term)
-      (ending_exact (Group e place) nowhere opens) (product_exact u U V inner) (some_product V) (factors_next u U V inner))
-      (sum_exact u U V inner) (some_sum V) (terms_next u U V inner)
+      (ending_exact (Group e place) nowhere opens) (product_exact u U V inner) (some_product V) (some_product U) (factors_next u U V inner))
+      (sum_exact u U V inner) (some_sum V) (some_sum U) (terms_next u U V inner)
 
   behind_exact : (place : Place) (m : Mixed) → Exact (behind u place m) (IsBehind U place m) (IsBehind V place m) nowhere on_part
   unfolding behind
   behind_exact place (Expression e) = then_exact (group_reader place e) (compared u)
       (IsThen (IsThen (IsPure (Group e place)) (IsProduct U)) (IsSum U)) (IsThen (IsThen (IsPure (Group e place)) (IsProduct V)) (IsSum V)) (IsCompared U) (IsCompared V) nowhere (λ _. on_expr) on_part
-      (grouped_exact place e) compared_exact some_compared compared_next
+      (grouped_exact place e) compared_exact some_compared compared_here compared_next
   behind_exact place (Condition parts) = goes_exact on_part (λ ts a is k. goes a is k) (ending_exact (Condition parts) nowhere goes_on)
     where
       goes : {ts : List Lexeme} (a : Mixed) → IsPure (Condition parts) ts a → (k : Terminal) → on_part a k ≡ goes_on k
       goes _ nothing k = sym (same_goes k)
+
+  behind_here : (place : Place) (m : Mixed) → Some_of (IsBehind U place m)
+  behind_here place (Expression e) = let p = some_product U (Group e place) in let s = some_sum U p.1 in ((p.0 ++ s.0) ++ [], Expression s.1, both (both (both nothing p.2) s.2) (other nothing))
+  behind_here place (Condition parts) = ([], Condition parts, nothing)
 
   some_behind : (place : Place) (m : Mixed) → Some_of (IsBehind V place m)
   some_behind place (Expression e) = let p = some_product V (Group e place) in let s = some_sum V p.1 in ((p.0 ++ s.0) ++ [], Expression s.1, both (both (both nothing p.2) s.2) (other nothing))
@@ -151,7 +158,7 @@ module _ (u : Reader Expr) (U V : Rel Expr) (inner : Inner u U V) where
   pub plain_exact : Exact (expr_of u >>= compared u) (IsThen (IsNot (is t.Open) (IsExprOf U)) (IsCompared U)) (IsThen (IsNot (is t.Open) (IsExprOf V)) (IsCompared V)) (is t.Open) on_part
   unfolding is
   plain_exact = then_exact (expr_of u) (compared u) (IsNot (is t.Open) (IsExprOf U)) (IsNot (is t.Open) (IsExprOf V)) (IsCompared U) (IsCompared V) (is t.Open) (λ _. on_expr) on_part
-      (not_exact (is t.Open) (expr_of u) (IsExprOf U) (IsExprOf V) (λ _. on_expr) refl (expr_exact u U V inner) expr_some) compared_exact some_compared compared_next
+      (not_exact (is t.Open) (expr_of u) (IsExprOf U) (IsExprOf V) (λ _. on_expr) refl (expr_exact u U V inner) expr_some) compared_exact some_compared compared_here compared_next
 
   pub plain_heads : (ts left : List Lexeme) (a : Mixed) → IsThen (IsNot (is t.Open) (IsExprOf U)) (IsCompared U) ts a → is t.Open (peek (ts ++ left)) ≡ false
   plain_heads _ left a (both (aside off r) s) = off
@@ -177,24 +184,31 @@ some_paren M u U V inner some left =
     let s = some_behind u U V inner (place_of left) held.1 in
     (held.0 ++ s.0, s.1, both held.2 s.2)
 
-pub inner_paren : (m : Reader Mixed) (M N : Rel Mixed) (u : Reader Expr) (U V : Rel Expr) → Inner u U V → Exact m M N nowhere on_mixed → Some_of N
+paren_here : (M : Rel Mixed) (u : Reader Expr) (U V : Rel Expr) → Inner u U V → Some_of M → (left : Lexeme) → Some_of (IsThen (IsHeld M t.Close) (IsBehind U (place_of left)))
+paren_here M u U V inner some left =
+    let held = some_held M t.Close a_close some in
+    let s = behind_here u U V inner (place_of left) held.1 in
+    (held.0 ++ s.0, s.1, both held.2 s.2)
+
+pub inner_paren : (m : Reader Mixed) (M N : Rel Mixed) (u : Reader Expr) (U V : Rel Expr) → Inner u U V → Exact m M N nowhere on_mixed → Some_of N → Some_of M
     → Exact (paren_reader (Some m) u) (IsParen M U) (IsParen N V) (λ k. not (is t.Open k)) on_part
 unfolding paren_reader is
-inner_paren m M N u U V inner x some = token_exact (is t.Open) (λ left. (m >>= closing t.Close) >>= behind u (place_of left))
+inner_paren m M N u U V inner x some here = token_exact (is t.Open) (λ left. (m >>= closing t.Close) >>= behind u (place_of left))
     (λ left. IsThen (IsHeld M t.Close) (IsBehind U (place_of left))) (λ left. IsThen (IsHeld N t.Close) (IsBehind V (place_of left))) on_part refl
     (λ left. then_exact (m >>= closing t.Close) (behind u (place_of left)) (IsHeld M t.Close) (IsHeld N t.Close) (IsBehind U (place_of left)) (IsBehind V (place_of left)) nowhere none on_part
-    (held_exact m M N nowhere on_mixed t.Close a_close x refl on_mixed_off) (behind_exact u U V inner (place_of left)) (some_behind u U V inner (place_of left)) (λ a ts left b r end. refl))
-    (some_paren N u U V inner some)
+    (held_exact m M N nowhere on_mixed t.Close a_close x refl on_mixed_off) (behind_exact u U V inner (place_of left)) (some_behind u U V inner (place_of left)) (behind_here u U V inner (place_of left)) (λ a ts left b r end. refl))
+    (some_paren N u U V inner some) (paren_here M u U V inner here)
 
 pub limit_paren : (N : Rel Mixed) (u : Reader Expr) (U V : Rel Expr) → Inner u U V → Some_of N → Exact (paren_reader None u) IsNothing (IsParen N V) (λ k. not (is t.Open k)) on_part
 unfolding paren_reader is
-limit_paren N u U V inner some = limit_exact (is t.Open) (λ left. IsThen (IsHeld N t.Close) (IsBehind V (place_of left))) on_part refl (some_paren N u U V inner some)
+limit_paren N u U V inner some = limit_exact (is t.Open) (λ left. IsThen (IsHeld N t.Close) (IsBehind V (place_of left))) on_part refl (marks_of t.Open refl) (some_paren N u U V inner some)
 
 -- ---- a part, and a whole condition
 
 -- what a condition wants is exact where each expression goes on with a comparison
 module _ (p : Reader Mixed) (R V : Rel Mixed) (g : Goes Mixed) (h : Terminal → Bool) (x : Exact p R V nowhere g) (same : (parts : List Part) (k : Terminal) → g (Condition parts) k ≡ h k)
-    (extend : (ts : List Lexeme) (e : Expr) → V ts (Expression e) → CanGoOn (IsConditionOf V) ts) where
+    (extend : (ts : List Lexeme) (e : Expr) → V ts (Expression e) → CanGoOn (IsConditionOf V) ts)
+    (extend_here : (ts : List Lexeme) (e : Expr) → R ts (Expression e) → CanGoOn (IsConditionOf R) ts) where
   wanted_goes_on : (pre : List Lexeme) → CanGoOn V pre → CanGoOn (IsConditionOf V) pre
   wanted_goes_on pre on = by_value on.1 on.2
     where
@@ -235,10 +249,26 @@ module _ (p : Reader Mixed) (R V : Rel Mixed) (g : Goes Mixed) (h : Terminal →
         deeper = λ deep. wanted_goes_on (c.pre ++ front bad ∷ []) (c.deeper deep);
       }
 
+  wanted_here : (pre : List Lexeme) → CanGoOn R pre → CanGoOn (IsConditionOf R) pre
+  wanted_here pre on = by_value on.1 on.2
+    where
+      by_value : (m : Mixed) → R (pre ++ on.0) m → CanGoOn (IsConditionOf R) pre
+      by_value (Condition parts) r = (on.0, parts, r)
+      by_value (Expression e) r = let c = extend_here (pre ++ on.0) e r in (on.0 ++ c.0, c.1, subst (λ l. R l (Condition c.1)) (append_assoc pre on.0 c.0) c.2)
+
+  wanted_alive : (ts bad : List Lexeme) (w : Why) (r : Got Mixed) → p ts ≡ r → and_then r required ≡ stopped w bad → Begun (IsConditionOf R) w ts bad
+  wanted_alive ts bad w (found (Condition all) mid) got e = cc (e)
+  wanted_alive ts bad w (found (Expression f) mid) got e =
+      let c = x.sound ts mid (Expression f) refl got in
+      let at : mid ≡ bad = cc (e) in let cause : syntax ≡ w = cc (e) in
+      record { pre = c.used; cut = c.cut ∙ ap (λ l. c.used ++ l) at; live = going (extend_here c.used f c.is); marks = λ deep. cc (deep, cause) }
+  wanted_alive ts bad w (stopped w' bad') got e = begun_same R (IsConditionOf R) wanted_here w ts bad (x.alive ts bad w refl (got ∙ cc (e)))
+
   pub wanted_exact : Exact (p >>= required) (IsConditionOf R) (IsConditionOf V) nowhere (λ _. h)
   wanted_exact = record {
     sound = λ ts left parts start e. wanted_sound ts left parts (p ts) refl e;
     complete = wanted_complete;
     stops = λ ts bad w start e. wanted_stops ts bad w (p ts) refl e;
     up = λ ts parts r. x.up ts (Condition parts) r;
+    alive = λ ts bad w start e. wanted_alive ts bad w (p ts) refl e;
   }

@@ -118,7 +118,9 @@ module _ (b : Option (Reader Mixed)) (u : Reader Expr) (U V : Rel Expr) (inner :
     (paren : Exact (paren_reader b u) O W (λ k. not (is t.Open k)) on_part)
     (heads : (ts left : List Lexeme) (a : Mixed) → O ts a → is t.Open (peek (ts ++ left)) ≡ true)
     (extend : (ts : List Lexeme) (e : Expr) → IsMixedPartIn W V ts (Expression e) → CanGoOn (IsConditionOf (IsMixedPartIn W V)) ts)
-    (some : Some_of (IsConditionOf (IsMixedPartIn W V))) where
+    (some : Some_of (IsConditionOf (IsMixedPartIn W V)))
+    (extend_here : (ts : List Lexeme) (e : Expr) → IsMixedPartIn O U ts (Expression e) → CanGoOn (IsConditionOf (IsMixedPartIn O U)) ts)
+    (here : Some_of (IsConditionOf (IsMixedPartIn O U))) where
   abbrev P : Rel Mixed
   P = IsMixedPartIn O U
 
@@ -141,7 +143,7 @@ module _ (b : Option (Reader Mixed)) (u : Reader Expr) (U V : Rel Expr) (inner :
 
   part_exact : Exact (part b u) (IsConditionOf P) (IsConditionOf Q) nowhere (λ _. on_expr)
   unfolding part
-  part_exact = wanted_exact (mixed_part b u) P Q on_part on_expr mixed_part_exact (λ parts k. refl) extend
+  part_exact = wanted_exact (mixed_part b u) P Q on_part on_expr mixed_part_exact (λ parts k. refl) extend extend_here
 
   abbrev on_parts : Terminal → Bool
   on_parts k = has (and_of k) || on_expr k
@@ -149,7 +151,7 @@ module _ (b : Option (Reader Mixed)) (u : Reader Expr) (U V : Rel Expr) (inner :
   more_exact : (m : Mixed) → Exact (more_parts b u m) (IsMore P m) (IsMore Q m) (on_part m) on_mixed
   unfolding parts
   more_exact (Condition first) = map_exact (parts b u first) (IsParts P first) (IsParts Q first) Condition on_expr (λ _. on_parts) on_mixed
-      (repeat_exact and_of join_parts (part b u) (IsConditionOf P) (IsConditionOf Q) (λ _. on_expr) (λ _. on_expr) part_exact some refl an_and.0 tt (ap and_of an_and.1) (λ x o b k. refl) (λ b. and_apart) first)
+      (repeat_exact and_of join_parts (part b u) (IsConditionOf P) (IsConditionOf Q) (λ _. on_expr) (λ _. on_expr) part_exact some here refl an_and.0 tt (ap and_of an_and.1) (λ x o b k. refl) (λ b. and_apart) first)
       (λ a k. refl)
   more_exact (Expression e) = pure_exact (Expression e) on_mixed
 
@@ -157,27 +159,31 @@ module _ (b : Option (Reader Mixed)) (u : Reader Expr) (U V : Rel Expr) (inner :
   some_more (Condition first) = ([] ++ [], Condition first, both no_more nothing)
   some_more (Expression e) = ([], Expression e, nothing)
 
+  more_here : (m : Mixed) → Some_of (IsMore P m)
+  more_here (Condition first) = ([] ++ [], Condition first, both no_more nothing)
+  more_here (Expression e) = ([], Expression e, nothing)
+
   more_next : (m : Mixed) (ts left : List Lexeme) (a : Mixed) → IsMore P m ts a → on_mixed a (peek left) ≡ false → on_part m (peek (ts ++ left)) ≡ false
   more_next (Condition first) _ left a (both {ts = ts} {us = us} {a = all} r p) end =
       ap (λ l. on_expr (peek l)) (append_assoc ts us left ∙ ap (λ l. ts ++ (l ++ left)) (pure_empty us p))
-      ∙ repeat_next and_of join_parts (part b u) (IsConditionOf P) (IsConditionOf Q) (λ _. on_expr) (λ _. on_expr) part_exact some refl an_and.0 tt (ap and_of an_and.1) (λ x o b k. refl) (λ b. and_apart)
+      ∙ repeat_next and_of join_parts (part b u) (IsConditionOf P) (IsConditionOf Q) (λ _. on_expr) (λ _. on_expr) part_exact some here refl an_and.0 tt (ap and_of an_and.1) (λ x o b k. refl) (λ b. and_apart)
       ts left r (ap (λ m. on_mixed m (peek left)) (pure_is us p) ∙ end) on_expr (λ k e. e) and_apart
   more_next (Expression e) _ left _ nothing end = end
 
   mixed_in_exact : Exact (mixed_in b u) (IsMixedIn P) (IsMixedIn Q) nowhere on_mixed
   unfolding mixed_in
-  mixed_in_exact = then_exact (mixed_part b u) (more_parts b u) P Q (IsMore P) (IsMore Q) nowhere on_part on_mixed mixed_part_exact more_exact some_more more_next
+  mixed_in_exact = then_exact (mixed_part b u) (more_parts b u) P Q (IsMore P) (IsMore Q) nowhere on_part on_mixed mixed_part_exact more_exact some_more more_here more_next
 
 -- ---- at each room
 
 pub mixed_exact : (room : ℕ) → Exact (mixed room) (IsMixedAt room) (IsMixedAt (suc room)) nowhere on_mixed
 unfolding paren_at mixed_below
 mixed_exact zero = mixed_in_exact None (unary zero) (IsUnaryAt zero) (IsUnaryAt (suc zero)) (unaries zero) IsNothing (paren_at (suc zero))
-    (limit_paren (IsMixedAt zero) (unary zero) (IsUnaryAt zero) (IsUnaryAt (suc zero)) (unaries zero) (some_mixed zero)) (λ ts left a r. elim r [ ]) (part_goes_on (suc zero)) (some_part (suc zero))
+    (limit_paren (IsMixedAt zero) (unary zero) (IsUnaryAt zero) (IsUnaryAt (suc zero)) (unaries zero) (some_mixed zero)) (λ ts left a r. elim r [ ]) (part_goes_on (suc zero)) (some_part (suc zero)) (part_goes_on zero) (some_part zero)
 mixed_exact (suc room) = mixed_in_exact (Some (mixed room)) (unary (suc room)) (IsUnaryAt (suc room)) (IsUnaryAt (suc (suc room))) (unaries (suc room)) (paren_at (suc room)) (paren_at (suc (suc room)))
-    (inner_paren (mixed room) (IsMixedAt room) (IsMixedAt (suc room)) (unary (suc room)) (IsUnaryAt (suc room)) (IsUnaryAt (suc (suc room))) (unaries (suc room)) (mixed_exact room) (some_mixed (suc room)))
-    token_heads (part_goes_on (suc (suc room))) (some_part (suc (suc room)))
+    (inner_paren (mixed room) (IsMixedAt room) (IsMixedAt (suc room)) (unary (suc room)) (IsUnaryAt (suc room)) (IsUnaryAt (suc (suc room))) (unaries (suc room)) (mixed_exact room) (some_mixed (suc room)) (some_mixed room))
+    token_heads (part_goes_on (suc (suc room))) (some_part (suc (suc room))) (part_goes_on (suc room)) (some_part (suc room))
 
 pub conditions_exact : (room : ℕ) → Exact (spec.cond room) (IsConditionOf (IsMixedAt room)) (IsConditionOf (IsMixedAt (suc room))) nowhere (λ _ k. has (and_of k) || on_expr k)
 unfolding spec.cond
-conditions_exact room = wanted_exact (mixed room) (IsMixedAt room) (IsMixedAt (suc room)) on_mixed (λ k. has (and_of k) || on_expr k) (mixed_exact room) (λ parts k. refl) (mixed_goes_on (suc room))
+conditions_exact room = wanted_exact (mixed room) (IsMixedAt room) (IsMixedAt (suc room)) on_mixed (λ k. has (and_of k) || on_expr k) (mixed_exact room) (λ parts k. refl) (mixed_goes_on (suc room)) (mixed_goes_on room)

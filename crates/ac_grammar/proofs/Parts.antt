@@ -1,6 +1,6 @@
 -- The other parts of a grammar: a token, a choice by the next terminal, what opens at the limit, an end, a refusal.
 use Rattle.std.specs.Prelude.{Bool, true, false, cond, not, ◌⊎◌}
-use Rattle.std.proofs.Common.{◌≡◌, List, [], ◌∷◌, ◌++◌, refl, sym, ◌∙◌, ap, subst, inl, inr}
+use Rattle.std.proofs.Common.{◌≡◌, List, [], ◌∷◌, ◌++◌, refl, sym, ◌∙◌, ap, subst, inl, inr, append_assoc}
 use denote.Enum.Bare.{same_true, true_same}
 use Rattle.ac_lex.specs.Lexemes.{Lexeme}
 use Rattle.ac_grammar.specs.contracts.terminal.Terminal.{the_type}
@@ -8,8 +8,8 @@ use Rattle.ac_grammar.specs.declared.terminal.Terminal.{Terminal}
 use Rattle.ac_grammar.specs.declared.terminal.Terminal.TheVariants.{End, PragmaEnd}
 use Rattle.ac_grammar.specs.Terminals.{terminal}
 use Rattle.ac_grammar.specs.Reading.{Why, syntax, nesting, Got, found, stopped, Reader, and_then, ◌>>=◌, ◌>>◌, pure, peek, front, rest, take, is, expect, refuse, ending}
-use Rattle.ac_grammar.specs.Found.{Rel, Goes, Read, CanGoOn, Stops}
-use Rattle.ac_grammar.proofs.Exact.{Exact, Some_of, peek_same, some_goes_on, then_exact, none, nowhere, IsThen, both}
+use Rattle.ac_grammar.specs.Found.{Rel, Goes, Read, CanGoOn, Stops, awaits_parenthesis, opens_construct}
+use Rattle.ac_grammar.proofs.Exact.{Exact, Some_of, peek_same, some_goes_on, then_exact, none, nowhere, IsThen, both, Live, no_token, going, at_keyword, Begun, live_behind, begun_same, begun_none}
 
 pub is_true : (this other : Terminal) → is this other ≡ true → other ≡ this
 unfolding is
@@ -39,6 +39,7 @@ pure_exact a g = record {
   complete = λ ts left b r end. pure_complete ts left b r;
   stops = λ ts bad w start e. cc;
   up = λ ts b r. r;
+  alive = λ ts bad w start e. cc;
 }
   where
     pure_complete : (ts left : List Lexeme) (b : _) → IsPure a ts b → found a (ts ++ left) ≡ found b left
@@ -68,6 +69,10 @@ module _ {A : Type 0} (a : A) (s g : Terminal → Bool) where
         deeper = λ deep. cc (deep, cause);
       }
 
+  end_alive : (ts bad : List Lexeme) (w : Why) (v : Bool) → cond v (stopped syntax ts) (found a ts) ≡ stopped w bad → Begun (IsPure a) w ts bad
+  end_alive ts bad w false e = cc
+  end_alive ts bad w true e = let cause : syntax ≡ w = cc in begun_none (IsPure a) w ts bad (cc) (λ deep. cc (deep, cause))
+
   pub ending_exact : Exact (ending g a) (IsPure a) (IsPure a) s (λ _. g)
   unfolding ending
   ending_exact = record {
@@ -75,6 +80,7 @@ module _ {A : Type 0} (a : A) (s g : Terminal → Bool) where
     complete = end_complete;
     stops = λ ts bad w start e. end_stops ts bad w (g (peek ts)) refl e;
     up = λ ts b r. r;
+    alive = λ ts bad w start e. end_alive ts bad w (g (peek ts)) e;
   }
 
 pub refuse_exact : {A : Type 0} (V : Rel A) (s : Terminal → Bool) (g : Goes A) → Exact refuse IsNothing V s g
@@ -84,6 +90,7 @@ refuse_exact V s g = record {
   stops = λ ts bad w start e. (let same : ts ≡ bad = cc in let cause : syntax ≡ w = cc in
       record { pre = []; cut = same; viable = inl refl; only = λ other is. ap (λ v. stopped v other) cause; deeper = λ deep. cc (deep, cause) });
   up = λ ts a r. elim r [ ];
+  alive = λ ts bad w start e. (let cause : syntax ≡ w = cc in begun_none IsNothing w ts bad (cc) (λ deep. cc (deep, cause)));
 }
 
 -- ---- a token, and what follows it
@@ -103,6 +110,9 @@ not_not false e = cc
 
 module _ {A : Type 0} (test : Terminal → Bool) (f : Lexeme → Reader A) (R V : Lexeme → Rel A) (g : Goes A)
     (last : test End ≡ false) (one : (t : Lexeme) → Exact (f t) (R t) (V t) nowhere g) (some : (t : Lexeme) → Some_of (V t)) where
+  abbrev pub Alive_behind : Type 0
+  Alive_behind = (t : Lexeme) (ts bad : List Lexeme) (w : Why) → test (terminal t) ≡ true → f t ts ≡ stopped w bad → Begun (IsToken test R) w (t ∷ ts) bad
+
   token_goes_on : (t : Lexeme) (pre : List Lexeme) → test (terminal t) ≡ true → CanGoOn (V t) pre → CanGoOn (IsToken test V) (t ∷ pre)
   token_goes_on t pre is on = (on.0, on.1, token is on.2)
 
@@ -130,23 +140,53 @@ module _ {A : Type 0} (test : Terminal → Bool) (f : Lexeme → Reader A) (R V 
   token_up : (ts : List Lexeme) (a : A) → IsToken test R ts a → IsToken test V ts a
   token_up _ _ (token is r) = token is ((one _).up _ _ r)
 
-  pub token_exact : Exact (pass f) (IsToken test R) (IsToken test V) (λ k. not (test k)) g
-  token_exact = record {
+  token_alive : Alive_behind → (ts bad : List Lexeme) (w : Why) → test (peek ts) ≡ true → f (front ts) (rest ts) ≡ stopped w bad → Begun (IsToken test R) w ts bad
+  token_alive alive [] bad w is e = cc (is, last)
+  token_alive alive (t ∷ ts) bad w is e = alive t ts bad w is e
+
+  pub token_exact_by : Alive_behind → Exact (pass f) (IsToken test R) (IsToken test V) (λ k. not (test k)) g
+  token_exact_by alive = record {
     sound = λ ts left a start e. token_sound ts left a (not_not _ start) e;
     complete = token_complete;
     stops = λ ts bad w start e. token_stops ts bad w (not_not _ start) e;
     up = token_up;
+    alive = λ ts bad w start e. token_alive alive ts bad w (not_not _ start) e;
   }
 
+  token_live : ((t : Lexeme) → Some_of (R t)) → Alive_behind
+  token_live here t ts bad w is e =
+      let c = (one t).alive ts bad w refl e in
+      let n = here t in
+      record {
+        pre = t ∷ c.pre;
+        cut = ap (λ l. t ∷ l) c.cut;
+        live = live_behind (R t) (IsToken test R) (t ∷ []) (λ pre on. (on.0, on.1, token is on.2)) (n.0, n.1, token is n.2) c.pre c.live;
+        marks = c.marks;
+      }
+
+  pub token_exact : ((t : Lexeme) → Some_of (R t)) → Exact (pass f) (IsToken test R) (IsToken test V) (λ k. not (test k)) g
+  token_exact here = token_exact_by (token_live here)
+
+-- a keyword behind which reading stops at once, since nothing may open
+pub keyword_alive : {A : Type 0} (test : Terminal → Bool) → ((k : Terminal) → test k ≡ true → awaits_parenthesis k ≡ true) → (t : Lexeme) (w : Why) (ts bad : List Lexeme) → test (terminal t) ≡ true → ts ≡ bad
+    → (w ≡ nesting → opens_construct (peek bad) ≡ true) → Begun (IsToken {A = A} test (λ _. IsNothing)) w (t ∷ ts) bad
+keyword_alive test keyword t w ts bad is same marks =
+    record { pre = t ∷ []; cut = ap (λ l. t ∷ l) same; live = at_keyword [] t (keyword (terminal t) is) (inl refl); marks = marks }
+
+-- where one terminal opens a construct
+pub marks_of : (this : Terminal) → opens_construct this ≡ true → (k : Terminal) → is this k ≡ true → opens_construct k ≡ true
+marks_of this opens k e = ap opens_construct (is_true this k e) ∙ opens
+
 -- at the limit of nesting a token that opens something is none
-pub limit_exact : {A : Type 0} (test : Terminal → Bool) (V : Lexeme → Rel A) (g : Goes A) → test End ≡ false → ((t : Lexeme) → Some_of (V t))
+pub limit_exact : {A : Type 0} (test : Terminal → Bool) (V : Lexeme → Rel A) (g : Goes A) → test End ≡ false → ((k : Terminal) → test k ≡ true → opens_construct k ≡ true) → ((t : Lexeme) → Some_of (V t))
     → Exact (λ ts. stopped nesting ts) IsNothing (IsToken test V) (λ k. not (test k)) g
-limit_exact {A = A} test V g last some = record {
+limit_exact {A = A} test V g last marks some = record {
   sound = λ ts left a start e. cc;
   complete = λ ts left a r end. elim r [ ];
   stops = λ ts bad w start e. (let same : ts ≡ bad = cc in let cause : nesting ≡ w = cc in
       record { pre = []; cut = same; viable = inl refl; only = λ other is. ap (λ v. stopped v other) cause; deeper = λ deep. goes_on bad (ap (λ l. test (peek l)) (sym same) ∙ not_not _ start) });
   up = λ ts a r. elim r [ ];
+  alive = λ ts bad w start e. (let same : ts ≡ bad = cc in begun_none IsNothing w ts bad same (λ deep. marks (peek bad) (ap (λ l. test (peek l)) (sym same) ∙ not_not _ start)));
 }
   where
     goes_on : (bad : List Lexeme) → test (peek bad) ≡ true → CanGoOn (IsToken test V) (front bad ∷ [])
@@ -202,12 +242,17 @@ module _ {A : Type 0} (test s s' s'' : Terminal → Bool) (p q : Reader A) (P PV
   choose_up _ _ (one r) = one (first.up _ _ r)
   choose_up _ _ (other r) = other (second.up _ _ r)
 
+  choose_alive : (ts bad : List Lexeme) (w : Why) → s (peek ts) ≡ false → (v : Bool) → test (peek ts) ≡ v → cond v (p ts) (q ts) ≡ stopped w bad → Begun (IsEither P Q) w ts bad
+  choose_alive ts bad w start true is e = begun_same P (IsEither P Q) (λ pre on. (on.0, on.1, one on.2)) w ts bad (first.alive ts bad w (if_so _ start is) e)
+  choose_alive ts bad w start false is e = begun_same Q (IsEither P Q) (λ pre on. (on.0, on.1, other on.2)) w ts bad (second.alive ts bad w (if_not _ start is) e)
+
   pub choose_from : Exact (choose test p q) (IsEither P Q) (IsEither PV QV) s g
   choose_from = record {
     sound = λ ts left a start e. choose_sound ts left a start (test (peek ts)) refl e;
     complete = choose_complete;
     stops = λ ts bad w start e. choose_stops ts bad w start (test (peek ts)) refl e;
     up = choose_up;
+    alive = λ ts bad w start e. choose_alive ts bad w start (test (peek ts)) refl e;
   }
 
 pub choose_exact : {A : Type 0} (test : Terminal → Bool) (p q : Reader A) (P PV Q QV : Rel A) (g : Goes A)
@@ -248,6 +293,23 @@ module _ {A : Type 0} (test : Terminal → Bool) (p : Reader A) (R V : Rel A) (g
   not_up : (ts : List Lexeme) (a : A) → IsNot test R ts a → IsNot test V ts a
   not_up _ _ (aside off r) = aside off (x.up _ _ r)
 
+  going_aside : (ts bad pre : List Lexeme) → test (peek ts) ≡ false → ts ≡ pre ++ bad → CanGoOn R pre → (pre ≡ []) ⊎ CanGoOn (IsNot test R) pre
+  going_aside ts bad [] off cut on = inl refl
+  going_aside ts bad (t ∷ pre) off cut on = inr (on.0, on.1, aside (ap (λ l. test (peek l)) (sym cut) ∙ off) on.2)
+
+  live_aside : (ts bad pre : List Lexeme) → test (peek ts) ≡ false → ts ≡ pre ++ bad → Live R pre → Live (IsNot test R) pre
+  live_aside ts bad _ off cut no_token = no_token
+  live_aside ts bad pre off cut (going on) = by (going_aside ts bad pre off cut on)
+    where
+      by : (pre ≡ []) ⊎ CanGoOn (IsNot test R) pre → Live (IsNot test R) pre
+      by (inl e) = subst (λ l. Live (IsNot test R) l) (sym e) no_token
+      by (inr c) = going c
+  live_aside ts bad _ off cut (at_keyword pre k is before) = at_keyword pre k is (by before)
+    where
+      by : (pre ≡ []) ⊎ CanGoOn R pre → (pre ≡ []) ⊎ CanGoOn (IsNot test R) pre
+      by (inl e) = inl e
+      by (inr c) = going_aside ts (k ∷ bad) pre off (cut ∙ append_assoc pre (k ∷ []) bad) c
+
   pub not_exact : Exact p (IsNot test R) (IsNot test V) test g
   not_exact = record {
     sound = λ ts left a off e. (let c = x.sound ts left a refl e in record { used = c.used; cut = c.cut; is = not_sound ts left a off c.used c.cut c.is; ends = c.ends });
@@ -255,6 +317,7 @@ module _ {A : Type 0} (test : Terminal → Bool) (p : Reader A) (R V : Rel A) (g
     stops = λ ts bad w off e. (let c = x.stops ts bad w refl e in
         record { pre = c.pre; cut = c.cut; viable = not_viable ts bad c.pre off c.cut c.viable; only = c.only; deeper = λ deep. not_deeper ts bad c.pre off c.cut (c.deeper deep) });
     up = not_up;
+    alive = λ ts bad w off e. (let c = x.alive ts bad w refl e in record { pre = c.pre; cut = c.cut; live = live_aside ts bad c.pre off c.cut c.live; marks = c.marks });
   }
 
 -- ---- the closing token, with the value of what it closes
@@ -302,12 +365,18 @@ module _ {A : Type 0} (close : Terminal) (a : A) (real : is close End ≡ false)
         deeper = λ deep. cc (deep, cause);
       }
 
+  close_alive : (ts bad : List Lexeme) (w : Why) (v : Bool) → close_at v ts ≡ stopped w bad → Begun (IsClosed close a) w ts bad
+  unfolding close_at
+  close_alive ts bad w true e = cc
+  close_alive ts bad w false e = let cause : syntax ≡ w = cc in begun_none (IsClosed close a) w ts bad (cc) (λ deep. cc (deep, cause))
+
   pub closing_exact : Exact (closing close a) (IsClosed close a) (IsClosed close a) s none
   closing_exact = record {
     sound = λ ts left b start e. close_sound ts left b (is close (peek ts)) refl (sym (closing_at ts) ∙ e);
     complete = λ ts left b r end. close_complete ts left b r;
     stops = λ ts bad w start e. close_stops ts bad w (is close (peek ts)) refl (sym (closing_at ts) ∙ e);
     up = λ ts b r. r;
+    alive = λ ts bad w start e. close_alive ts bad w (is close (peek ts)) (sym (closing_at ts) ∙ e);
   }
 
 -- ---- what stands before its closing token, and a value made of what was read
@@ -331,13 +400,13 @@ some_held V last t some = (some.0 ++ t.0 ∷ [], some.1, both some.2 (closed t.1
 pub held_exact : {A : Type 0} (p : Reader A) (R V : Rel A) (s : Terminal → Bool) (g : Goes A) (close : Terminal) → Spelled close → Exact p R V s g → is close End ≡ false
     → ((a : A) → g a close ≡ false) → Exact (p >>= closing close) (IsHeld R close) (IsHeld V close) s none
 held_exact p R V s g close t x real off = then_exact p (closing close) R V (λ a. IsClosed close a) (λ a. IsClosed close a) s g none
-    x (λ a. closing_exact close a real (g a)) (λ a. (t.0 ∷ [], a, closed t.1)) (λ a ts left b r end. closed_apart close (g a) (off a) ts left r)
+    x (λ a. closing_exact close a real (g a)) (λ a. (t.0 ∷ [], a, closed t.1)) (λ a. (t.0 ∷ [], a, closed t.1)) (λ a ts left b r end. closed_apart close (g a) (off a) ts left r)
 
 -- the value, and the terminals that may not follow
 pub map_exact : {A B : Type 0} (p : Reader A) (R V : Rel A) (f : A → B) (s : Terminal → Bool) (g : Goes A) (h : Goes B) → Exact p R V s g
     → ((a : A) (k : Terminal) → h (f a) k ≡ g a k) → Exact (p >>= (λ a. pure (f a))) (IsMap f R) (IsMap f V) s h
 map_exact p R V f s g h x same = then_exact p (λ a. pure (f a)) R V (λ a. IsPure (f a)) (λ a. IsPure (f a)) s g h x
-    (λ a. starting a (pure_exact (f a) h)) (λ a. ([], f a, nothing)) (λ a ts left b r end. before a ts left b r end)
+    (λ a. starting a (pure_exact (f a) h)) (λ a. ([], f a, nothing)) (λ a. ([], f a, nothing)) (λ a ts left b r end. before a ts left b r end)
   where
     starting : (a : _) → Exact (pure (f a)) (IsPure (f a)) (IsPure (f a)) (h (f a)) h → Exact (pure (f a)) (IsPure (f a)) (IsPure (f a)) (g a) h
     starting a y = record {
@@ -345,6 +414,7 @@ map_exact p R V f s g h x same = then_exact p (λ a. pure (f a)) R V (λ a. IsPu
       complete = y.complete;
       stops = λ ts bad w start e. y.stops ts bad w (same a (peek ts) ∙ start) e;
       up = y.up;
+      alive = λ ts bad w start e. y.alive ts bad w (same a (peek ts) ∙ start) e;
     }
 
     before : (a : _) (ts left : List Lexeme) (b : _) → IsPure (f a) ts b → h b (peek left) ≡ false → g a (peek (ts ++ left)) ≡ false
@@ -357,7 +427,7 @@ some_map V f some = (some.0 ++ [], f some.1, both some.2 nothing)
 pub ended_exact : {A B : Type 0} (p : Reader A) (R V : Rel A) (f : A → B) (s : Terminal → Bool) (g : Goes A) (h : Terminal → Bool) → Exact p R V s g
     → ((a : A) (k : Terminal) → h k ≡ false → g a k ≡ false) → Exact (p >>= (λ a. ending h (f a))) (IsMap f R) (IsMap f V) s (λ _. h)
 ended_exact p R V f s g h x wider = then_exact p (λ a. ending h (f a)) R V (λ a. IsPure (f a)) (λ a. IsPure (f a)) s g (λ _. h) x
-    (λ a. ending_exact (f a) (g a) h) (λ a. ([], f a, nothing)) (λ a ts left b r end. before a ts left b r end)
+    (λ a. ending_exact (f a) (g a) h) (λ a. ([], f a, nothing)) (λ a. ([], f a, nothing)) (λ a ts left b r end. before a ts left b r end)
   where
     before : (a : _) (ts left : List Lexeme) (b : _) → IsPure (f a) ts b → h (peek left) ≡ false → g a (peek (ts ++ left)) ≡ false
     before a _ left _ nothing end = wider a (peek left) end
@@ -371,10 +441,11 @@ same_exact q same x = record {
   stops = λ ts bad w start e. (let c = x.stops ts bad w start (sym (same ts) ∙ e) in
       record { pre = c.pre; cut = c.cut; viable = c.viable; only = λ other is. same (c.pre ++ other) ∙ c.only other is; deeper = c.deeper });
   up = x.up;
+  alive = λ ts bad w start e. x.alive ts bad w start (sym (same ts) ∙ e);
 }
 
 pub from_anywhere : {A : Type 0} {p : Reader A} {R V : Rel A} {s : Terminal → Bool} {g : Goes A} → Exact p R V nowhere g → Exact p R V s g
-from_anywhere x = record { sound = λ ts left a start e. x.sound ts left a refl e; complete = x.complete; stops = λ ts bad w start e. x.stops ts bad w refl e; up = x.up }
+from_anywhere x = record { sound = λ ts left a start e. x.sound ts left a refl e; complete = x.complete; stops = λ ts bad w start e. x.stops ts bad w refl e; up = x.up; alive = λ ts bad w start e. x.alive ts bad w refl e }
 
 -- the terminals that go on, said in another way
 pub goes_exact : {A : Type 0} {p : Reader A} {R V : Rel A} {s : Terminal → Bool} {g : Goes A} (h : Goes A) → ((ts : List Lexeme) (a : A) → R ts a → (k : Terminal) → h a k ≡ g a k) → Exact p R V s g → Exact p R V s h
@@ -383,12 +454,13 @@ goes_exact h same x = record {
   complete = λ ts left a r end. x.complete ts left a r (sym (same ts a r (peek left)) ∙ end);
   stops = x.stops;
   up = x.up;
+  alive = x.alive;
 }
 
 -- relations that have the same
 pub equal_exact : {A : Type 0} {p : Reader A} {R V : Rel A} {s : Terminal → Bool} {g : Goes A} (S W : Rel A)
     → ((ts : List Lexeme) (a : A) → R ts a → S ts a) → ((ts : List Lexeme) (a : A) → S ts a → R ts a) → ((ts : List Lexeme) (a : A) → V ts a → W ts a) → Exact p R V s g → Exact p S W s g
-equal_exact S W to from wider x = record {
+equal_exact {R = R} S W to from wider x = record {
   sound = λ ts left a start e. (let c = x.sound ts left a start e in record { used = c.used; cut = c.cut; is = to _ _ c.is; ends = c.ends });
   complete = λ ts left a r end. x.complete ts left a (from _ _ r) end;
   stops = λ ts bad w start e. (let c = x.stops ts bad w start e in
@@ -400,4 +472,5 @@ equal_exact S W to from wider x = record {
         deeper = λ deep. (let on = c.deeper deep in (on.0, on.1, wider _ _ on.2));
       });
   up = λ ts a r. wider _ _ (x.up _ _ (from _ _ r));
+  alive = λ ts bad w start e. begun_same R S (λ pre on. (on.0, on.1, to _ _ on.2)) w ts bad (x.alive ts bad w start e);
 }

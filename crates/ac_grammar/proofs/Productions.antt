@@ -109,6 +109,7 @@ then_heads h _ left b (both {ts} {us} {a} r t) = ap (λ l. begins (peek l)) (app
 pub record Inner (u : Reader Expr) (U V : Rel Expr) : Type 0 where
   pub exact : Exact u U V nowhere on_unary
   pub some : Some_of V
+  pub here : Some_of U
   pub heads : Heads U
 
 abbrev pub some_product : (V : Rel Expr) (first : Expr) → Some_of (IsProduct V first)
@@ -134,30 +135,30 @@ module _ (u : Reader Expr) (U V : Rel Expr) (inner : Inner u U V) where
   pub factors_next : (first : Expr) (ts left : List Lexeme) (e : Expr) → IsProduct U first ts e → on_term (peek left) ≡ false → opens (peek (ts ++ left)) ≡ false
   factors_next first _ left e (both {ts} {us} r nothing) end =
       ap (λ l. opens (peek l)) (append_assoc ts [] left) ∙
-      repeat_next star_of link u U V on_unary (λ _. opens) inner.exact inner.some refl a_star.0 Multiply (ap star_of a_star.1) (λ x o b k. refl) (λ b. star_apart) ts left r end opens (λ k e. e) star_apart
+      repeat_next star_of link u U V on_unary (λ _. opens) inner.exact inner.some inner.here refl a_star.0 Multiply (ap star_of a_star.1) (λ x o b k. refl) (λ b. star_apart) ts left r end opens (λ k e. e) star_apart
 
   pub product_exact : (first : Expr) → Exact (product u first) (IsProduct U first) (IsProduct V first) opens (λ _. on_term)
   unfolding product factors
   product_exact first = map_exact (repeat star_of link u (start first)) (IsFactors U first) (IsFactors V first) chain opens (λ _. on_term) (λ _. on_term)
-      (repeat_exact star_of link u U V on_unary (λ _. opens) inner.exact inner.some refl a_star.0 Multiply (ap star_of a_star.1) (λ x o b k. refl) (λ b. star_apart) (start first)) (λ a k. refl)
+      (repeat_exact star_of link u U V on_unary (λ _. opens) inner.exact inner.some inner.here refl a_star.0 Multiply (ap star_of a_star.1) (λ x o b k. refl) (λ b. star_apart) (start first)) (λ a k. refl)
 
   pub term_exact : Exact (term_of u) (IsTermOf U) (IsTermOf V) nowhere (λ _. on_term)
   unfolding term_of
-  term_exact = then_exact u (product u) U V (IsProduct U) (IsProduct V) nowhere on_unary (λ _. on_term) inner.exact product_exact (some_product V) factors_next
+  term_exact = then_exact u (product u) U V (IsProduct U) (IsProduct V) nowhere on_unary (λ _. on_term) inner.exact product_exact (some_product V) (some_product U) factors_next
 
   pub terms_next : (first : Expr) (ts left : List Lexeme) (e : Expr) → IsSum U first ts e → on_expr (peek left) ≡ false → on_term (peek (ts ++ left)) ≡ false
   terms_next first _ left e (both {ts} {us} r nothing) end =
       ap (λ l. on_term (peek l)) (append_assoc ts [] left) ∙
-      repeat_next sign_of link (term_of u) (IsTermOf U) (IsTermOf V) (λ _. on_term) (λ _. on_term) term_exact (some_term V inner.some) refl a_plus.0 Add (ap sign_of a_plus.1) (λ x o b k. refl) (λ b. sign_apart) ts left r end on_term (λ k e. e) sign_apart
+      repeat_next sign_of link (term_of u) (IsTermOf U) (IsTermOf V) (λ _. on_term) (λ _. on_term) term_exact (some_term V inner.some) (some_term U inner.here) refl a_plus.0 Add (ap sign_of a_plus.1) (λ x o b k. refl) (λ b. sign_apart) ts left r end on_term (λ k e. e) sign_apart
 
   pub sum_exact : (first : Expr) → Exact (sum u first) (IsSum U first) (IsSum V first) on_term (λ _. on_expr)
   unfolding sum terms
   sum_exact first = map_exact (repeat sign_of link (term_of u) (start first)) (IsTerms U first) (IsTerms V first) chain on_term (λ _. on_expr) (λ _. on_expr)
-      (repeat_exact sign_of link (term_of u) (IsTermOf U) (IsTermOf V) (λ _. on_term) (λ _. on_term) term_exact (some_term V inner.some) refl a_plus.0 Add (ap sign_of a_plus.1) (λ x o b k. refl) (λ b. sign_apart) (start first)) (λ a k. refl)
+      (repeat_exact sign_of link (term_of u) (IsTermOf U) (IsTermOf V) (λ _. on_term) (λ _. on_term) term_exact (some_term V inner.some) (some_term U inner.here) refl a_plus.0 Add (ap sign_of a_plus.1) (λ x o b k. refl) (λ b. sign_apart) (start first)) (λ a k. refl)
 
   pub expr_exact : Exact (expr_of u) (IsExprOf U) (IsExprOf V) nowhere (λ _. on_expr)
   unfolding expr_of
-  expr_exact = then_exact (term_of u) (sum u) (IsTermOf U) (IsTermOf V) (IsSum U) (IsSum V) nowhere (λ _. on_term) (λ _. on_expr) term_exact sum_exact (some_sum V) terms_next
+  expr_exact = then_exact (term_of u) (sum u) (IsTermOf U) (IsTermOf V) (IsSum U) (IsSum V) nowhere (λ _. on_term) (λ _. on_expr) term_exact sum_exact (some_sum V) (some_sum U) terms_next
 
   pub expr_heads : Heads (IsExprOf U)
   expr_heads = then_heads (then_heads inner.heads)
@@ -166,9 +167,9 @@ module _ (u : Reader Expr) (U V : Rel Expr) (inner : Inner u U V) where
   unfolding list
   list_exact = then_exact (expr_of u) (λ a. repeat comma_of list_item (expr_of u) (a ∷ [])) (IsExprOf U) (IsExprOf V)
       (λ a. IsRepeat comma_of list_item (IsExprOf U) (a ∷ [])) (λ a. IsRepeat comma_of list_item (IsExprOf V) (a ∷ [])) nowhere (λ _. on_expr) (λ _. on_list) expr_exact
-      (λ a. repeat_exact comma_of list_item (expr_of u) (IsExprOf U) (IsExprOf V) (λ _. on_expr) (λ _. on_expr) expr_exact (some_expr V inner.some) refl a_comma.0 tt (ap comma_of a_comma.1) (λ x o b k. refl) (λ b. comma_apart) (a ∷ []))
-      (λ a. ([], a ∷ [], no_more))
-      (λ a ts left b r end. repeat_next comma_of list_item (expr_of u) (IsExprOf U) (IsExprOf V) (λ _. on_expr) (λ _. on_expr) expr_exact (some_expr V inner.some) refl a_comma.0 tt (ap comma_of a_comma.1) (λ x o b k. refl) (λ b. comma_apart) ts left r end on_expr (λ k e. e) comma_apart)
+      (λ a. repeat_exact comma_of list_item (expr_of u) (IsExprOf U) (IsExprOf V) (λ _. on_expr) (λ _. on_expr) expr_exact (some_expr V inner.some) (some_expr U inner.here) refl a_comma.0 tt (ap comma_of a_comma.1) (λ x o b k. refl) (λ b. comma_apart) (a ∷ []))
+      (λ a. ([], a ∷ [], no_more)) (λ a. ([], a ∷ [], no_more))
+      (λ a ts left b r end. repeat_next comma_of list_item (expr_of u) (IsExprOf U) (IsExprOf V) (λ _. on_expr) (λ _. on_expr) expr_exact (some_expr V inner.some) (some_expr U inner.here) refl a_comma.0 tt (ap comma_of a_comma.1) (λ x o b k. refl) (λ b. comma_apart) ts left r end on_expr (λ k e. e) comma_apart)
 
   -- ---- what stands behind the token that opens a construct
 
@@ -188,7 +189,7 @@ module _ (u : Reader Expr) (U V : Rel Expr) (inner : Inner u U V) where
   unfolding is
   call_end_exact = choose_exact (is t.Close) (pass (λ _. pure [])) (list (expr_of u) >>= closing t.Close)
       (IsToken (is t.Close) (λ _. IsPure [])) (IsToken (is t.Close) (λ _. IsPure [])) (IsHeld (IsList (IsExprOf U)) t.Close) (IsHeld (IsList (IsExprOf V)) t.Close) none
-      (token_exact (is t.Close) (λ _. pure []) (λ _. IsPure []) (λ _. IsPure []) none refl (λ _. pure_exact [] none) (λ _. ([], [], nothing)))
+      (token_exact (is t.Close) (λ _. pure []) (λ _. IsPure []) (λ _. IsPure []) none refl (λ _. pure_exact [] none) (λ _. ([], [], nothing)) (λ _. ([], [], nothing)))
       (from_anywhere (held_exact (list (expr_of u)) (IsList (IsExprOf U)) (IsList (IsExprOf V)) nowhere (λ _. on_list) t.Close a_close list_exact refl (λ a. refl)))
       token_heads (λ ts left all r end. begins_not_close _ (then_heads (then_heads expr_heads) ts left all r))
 

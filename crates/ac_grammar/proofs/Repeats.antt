@@ -7,7 +7,7 @@ use Rattle.ac_grammar.specs.declared.terminal.Terminal.TheVariants.{End}
 use Rattle.ac_grammar.specs.Terminals.{terminal}
 use Rattle.ac_grammar.specs.Reading.{Why, syntax, Got, found, stopped, Reader, and_then, pure, peek, front, rest, operator, operator_at, turn, repeat_from, repeat, many_from, many}
 use Rattle.ac_grammar.specs.Found.{Rel, Goes, Read, CanGoOn, Stops}
-use Rattle.ac_grammar.proofs.Exact.{Exact, Some_of, some_goes_on}
+use Rattle.ac_grammar.proofs.Exact.{Exact, Some_of, some_goes_on, Begun, live_behind}
 use Rattle.ac_grammar.proofs.Many.{IsMany, many_exact, many_next}
 use Rattle.ac_grammar.proofs.Parts.{same_exact}
 
@@ -55,7 +55,7 @@ as_many {X = X} {O = O} {B = B} what join item (suc n) x ts = by_next (what (pee
     by_next (Some o) ih = by_item o (item (rest ts)) ih
 
 module _ {O B : Type 0} (what : Terminal → Option O) (item : Reader B) (Item V : Rel B) (g : B → Terminal → Bool)
-    (one : Exact item Item V (λ _. false) g) (some : Some_of V) (last : what End ≡ None) where
+    (one : Exact item Item V (λ _. false) g) (some : Some_of V) (here : Some_of Item) (last : what End ≡ None) where
   abbrev begins : Terminal → Bool
   begins k = has (what k)
 
@@ -102,6 +102,23 @@ module _ {O B : Type 0} (what : Terminal → Option O) (item : Reader B) (Item V
   linked_up : (ts : List Lexeme) (a : O × B) → IsLinked what Item ts a → IsLinked what V ts a
   linked_up _ _ (linked is i) = linked is (one.up _ _ i)
 
+  linked_alive : (ts bad : List Lexeme) (w : Why) (v : Option O) → has v ≡ true → what (peek ts) ≡ v → linked_at item v ts ≡ stopped w bad → Begun (IsLinked what Item) w ts bad
+  unfolding linked_at
+  linked_alive ts bad w None begin is e = cc (begin)
+  linked_alive [] bad w (Some o) begin is e = cc (is, last)
+  linked_alive (t ∷ us) bad w (Some o) begin is e = by_item (item us) refl e
+    where
+      by_item : (r : Got B) → item us ≡ r → and_then r (pairing o) ≡ stopped w bad → Begun (IsLinked what Item) w (t ∷ us) bad
+      by_item (found b mid) got e = cc (e)
+      by_item (stopped w' bad') got e =
+          let c = one.alive us bad w refl (got ∙ cc (e)) in
+          record {
+            pre = t ∷ c.pre;
+            cut = ap (λ l. t ∷ l) c.cut;
+            live = live_behind Item (IsLinked what Item) (t ∷ []) (λ pre on. (on.0, (o, on.1), linked is on.2)) (here.0, (o, here.1), linked is here.2) c.pre c.live;
+            marks = c.marks;
+          }
+
   begun : (v : Bool) → not v ≡ false → v ≡ true
   begun true e = refl
   begun false e = cc
@@ -112,13 +129,14 @@ module _ {O B : Type 0} (what : Terminal → Option O) (item : Reader B) (Item V
     complete = linked_complete;
     stops = λ ts bad w start e. linked_stops ts bad w (what (peek ts)) (begun _ start) refl e;
     up = linked_up;
+    alive = λ ts bad w start e. linked_alive ts bad w (what (peek ts)) (begun _ start) refl e;
   }
 
   pub linked_heads : (ts left : List Lexeme) (a : O × B) → IsLinked what Item ts a → begins (peek (ts ++ left)) ≡ true
   linked_heads _ left _ (linked is i) = ap has is
 
 module _ {X O B : Type 0} (what : Terminal → Option O) (join : X → O → B → X) (item : Reader B) (Item V : Rel B) (g : B → Terminal → Bool) (after : Goes X)
-    (one : Exact item Item V (λ _. false) g) (some : Some_of V) (last : what End ≡ None) (operator : Lexeme) (o : O) (is : what (terminal operator) ≡ Some o)
+    (one : Exact item Item V (λ _. false) g) (some : Some_of V) (here : Some_of Item) (last : what End ≡ None) (operator : Lexeme) (o : O) (is : what (terminal operator) ≡ Some o)
     (joined : (x : X) (o : O) (b : B) (k : Terminal) → after (join x o b) k ≡ g b k)
     (apart : (b : B) (k : Terminal) → has (what k) ≡ true → g b k ≡ false) where
   abbrev pub repeat_goes : Goes X
@@ -128,12 +146,12 @@ module _ {X O B : Type 0} (what : Terminal → Option O) (join : X → O → B �
   unfolding repeat many
   repeat_exact x = same_exact (repeat what join item x) (λ ts. as_many what join item (length ts) x ts)
       (many_exact (λ k. has (what k)) (join_linked join) (linking what item) (IsLinked what Item) (IsLinked what V) (λ a. g a.1) after
-      (linked_exact what item Item V g one some last) (operator ∷ some.0, (o, some.1), linked is some.2) (ap has last)
-      (linked_heads what item Item V g one some last) (λ x a k. joined x a.0 a.1 k) (λ a k. apart a.1 k) x)
+      (linked_exact what item Item V g one some here last) (operator ∷ some.0, (o, some.1), linked is some.2) (ap has last)
+      (linked_heads what item Item V g one some here last) (λ x a k. joined x a.0 a.1 k) (λ a k. apart a.1 k) x)
 
   -- what follows something before a repetition
   pub repeat_next : {x y : X} (ts left : List Lexeme) → IsRepeat what join Item x ts y → repeat_goes y (peek left) ≡ false → (before : Terminal → Bool)
       → ((k : Terminal) → after x k ≡ false → before k ≡ false) → ((k : Terminal) → has (what k) ≡ true → before k ≡ false) → before (peek (ts ++ left)) ≡ false
   repeat_next ts left r end before same off = many_next (λ k. has (what k)) (join_linked join) (linking what item) (IsLinked what Item) (IsLinked what V) (λ a. g a.1) after
-      (linked_exact what item Item V g one some last) (operator ∷ some.0, (o, some.1), linked is some.2) (ap has last)
-      (linked_heads what item Item V g one some last) (λ x a k. joined x a.0 a.1 k) (λ a k. apart a.1 k) ts left r end before same off
+      (linked_exact what item Item V g one some here last) (operator ∷ some.0, (o, some.1), linked is some.2) (ap has last)
+      (linked_heads what item Item V g one some here last) (λ x a k. joined x a.0 a.1 k) (λ a k. apart a.1 k) ts left r end before same off

@@ -42,7 +42,7 @@ dead_from before bad other a dead same is = by_room is.0 is.1
     by_room (suc room) r = dead other (before ++ other) [] a same (room, r) (at_end a) (sym (append-nil (before ++ other)))
 
 pub file_answer : (room end : ℕ) (old new : List Lexeme) (r : Result File Stop) → Reads (λ a. a) (file (suc room) old) r new → IsFileAnswer (suc room) end old (told r (place_at end new))
-file_answer room end old new r h = by_result r (answer (λ room. file (suc room)) (λ room. IsFile (suc room)) on_file (λ room. file_exact (suc room)) (λ room. file_deeper (suc room)) some_file room old new r h)
+file_answer room end old new r h = by_result r (answer (λ room. file (suc room)) (λ room. IsFile (suc room)) on_file file_exact (λ room. file_deeper (suc room)) some_file room old new r h)
   where
     by_result : (r : Result File Stop) → IsAnswer (λ room. IsFile (suc room)) on_file room old r new → IsFileAnswer (suc room) end old (told r (place_at end new))
     by_result (Ok a) x = whole (suc room) old new a x
@@ -52,6 +52,7 @@ file_answer room end old new r h = by_result r (answer (λ room. file (suc room)
       cut = x.cut;
       at = refl;
       begins = any_file x.before x.first.viable;
+      alive = x.alive;
       dead = λ other a same is. dead_from x.before new other a x.first.dead same is;
     }
     by_result (Err Nesting) x = record {
@@ -59,14 +60,16 @@ file_answer room end old new r h = by_result r (answer (λ room. file (suc room)
       bad = new;
       cut = x.cut;
       at = refl;
+      opens = x.opens;
       begins = any_file (x.before ++ front new ∷ []) x.deeper;
+      alive = x.alive;
       dead = λ other a same is. x.first.dead other (x.before ++ other) [] a same is (at_end a) (sym (append-nil (x.before ++ other)));
     }
     by_result (Err (Memory fault)) x = tt
 
 pub file_only : (room end : ℕ) (old new : List Lexeme) (r : Result File Stop) → Reads (λ a. a) (file (suc room) old) r new → (a : File) → IsFile (suc room) old a → IsOnlyFile a (told r (place_at end new))
 file_only room end old new r h a is =
-    by_result r (finds (λ room. file (suc room)) (λ room. IsFile (suc room)) on_file (λ room. file_exact (suc room)) (λ room. file_deeper (suc room)) some_file room old new r h [] a
+    by_result r (finds (λ room. file (suc room)) (λ room. IsFile (suc room)) on_file file_exact (λ room. file_deeper (suc room)) some_file room old new r h [] a
     (record { used = old; cut = sym (append-nil old); is = is; ends = at_end a }))
   where
     by_result : (r : Result File Stop) → IsOnly a [] r new → IsOnlyFile a (told r (place_at end new))
@@ -75,14 +78,19 @@ file_only room end old new r h a is =
     by_result (Err Nesting) x = x
     by_result (Err (Memory fault)) x = tt
 
-lift : (more room : ℕ) (ts : List Lexeme) (a : File) → IsFile room ts a → IsFile (more + room) ts a
-lift zero room ts a r = let same : 0 + room ≡ room = omega arith in subst (λ d. IsFile d ts a) (sym same) r
-lift (suc more) room ts a r = let same : suc more + room ≡ suc (more + room) = omega arith in subst (λ d. IsFile d ts a) (sym same) ((file_exact (more + room)).up ts a (lift more room ts a r))
+lift : (more room : ℕ) (ts : List Lexeme) (a : File) → IsFile (suc room) ts a → IsFile (suc (more + room)) ts a
+lift zero room ts a r = let same : 0 + room ≡ room = omega arith in subst (λ d. IsFile (suc d) ts a) (sym same) r
+lift (suc more) room ts a r = let same : suc more + room ≡ suc (more + room) = omega arith in subst (λ d. IsFile (suc d) ts a) (sym same) ((file_exact (more + room)).up ts a (lift more room ts a r))
 
 -- tokens are one file at most, however deep
 pub one_file : (ts : List Lexeme) (a b : File) → IsAnyFile ts a → IsAnyFile ts b → a ≡ b
-one_file ts a b x y =
-    let flip : x.0 + y.0 ≡ y.0 + x.0 = omega arith in
-    let first : file (y.0 + x.0) (ts ++ []) ≡ found a [] = (file_exact (y.0 + x.0)).complete ts [] a (lift y.0 x.0 ts a x.1) (at_end a) in
-    let second : file (y.0 + x.0) (ts ++ []) ≡ found b [] = (file_exact (y.0 + x.0)).complete ts [] b (subst (λ d. IsFile d ts b) flip (lift x.0 y.0 ts b y.1)) (at_end b) in
-    let both : found a [] ≡ found b [] = sym first ∙ second in cc (both)
+one_file ts a b x y = by_rooms x.0 y.0 x.1 y.1
+  where
+    by_rooms : (m n : ℕ) → IsFile m ts a → IsFile n ts b → a ≡ b
+    by_rooms zero n x y = absurd (no_file ts a x)
+    by_rooms (suc m) zero x y = absurd (no_file ts b y)
+    by_rooms (suc m) (suc n) x y =
+        let flip : m + n ≡ n + m = omega arith in
+        let first : file (suc (n + m)) (ts ++ []) ≡ found a [] = (file_exact (n + m)).complete ts [] a (lift n m ts a x) (at_end a) in
+        let second : file (suc (n + m)) (ts ++ []) ≡ found b [] = (file_exact (n + m)).complete ts [] b (subst (λ d. IsFile (suc d) ts b) flip (lift m n ts b y)) (at_end b) in
+        let both : found a [] ≡ found b [] = sym first ∙ second in cc (both)

@@ -18,13 +18,13 @@ use Rattle.ac_grammar.specs.DeclarationsReading.{joined_by_comma, list, numbers,
 use Rattle.ac_grammar.specs.DeclarationsGrammar as g
 use Rattle.ac_grammar.specs.DeclarationsGrammar.{IsRun, no_item, an_item, IsNext, next_item, IsList, items, numbers_of, IsType, plain, constant, IsExtent, IsDeclared, declared, IsParameter, parameter, IsParameters, IsDeclaration, declaration, IsDeclarations}
 use Rattle.ac_grammar.proofs.Exact.{Exact, Some_of, none, nowhere, IsThen, both}
-use Rattle.ac_grammar.proofs.Parts.{is_true, true_is, IsNothing, IsPure, nothing, token, limit_exact, one, other, equal_exact}
+use Rattle.ac_grammar.proofs.Parts.{is_true, true_is, IsNothing, IsPure, nothing, token, limit_exact, one, other, equal_exact, marks_of}
 use Rattle.ac_grammar.proofs.Many.{IsMany, no_more, one_more}
 use Rattle.ac_grammar.proofs.Repeats.{has, linked, IsRepeat, repeat_exact, repeat_next}
 use Rattle.ac_grammar.proofs.ReadExpressions.{some_expr_at}
 use Rattle.ac_grammar.proofs.StatementGiven.{expr_piece}
 use Rattle.ac_grammar.proofs.StatementLexemes.{an_int, a_const, an_open_bracket, a_close_bracket, a_comma}
-use Rattle.ac_grammar.proofs.StatementPieces.{Piece, behind, value, passed, either, IsMarked, marked, before, valued_at, a_value, by_value, named, renamed, at_test}
+use Rattle.ac_grammar.proofs.StatementPieces.{Piece, Way, way, behind, value, passed, either, IsMarked, marked, before, valued_at, a_value, by_value, named, renamed, at_test}
 
 -- ---- repetitions as lists
 
@@ -77,20 +77,21 @@ comma_no_bracket _ e = cc
 a_comma_is : comma_of (terminal a_comma.0) ≡ Some tt
 a_comma_is = ap comma_of a_comma.1
 
-module _ {A : Type 0} (item : Reader A) (Item V : Rel A) (exact : Exact item Item V nowhere on_bracket) (some : Some_of V) where
+module _ {A : Type 0} (item : Reader A) (Item V : Rel A) (exact : Exact item Item V nowhere on_bracket) (some : Some_of V) (here : Some_of Item) where
   list_then : Exact (list item) (IsThen Item (λ first. IsRepeat comma_of joined_by_comma Item (first ∷ []))) (IsThen V (λ first. IsRepeat comma_of joined_by_comma V (first ∷ []))) nowhere on_list
   unfolding list
-  list_then = (behind (record { read = item; rel = Item; wide = V; exact = exact; some = some; begins = λ k. true; begun = λ ts left a r. refl })
+  list_then = (behind (record { read = item; rel = Item; wide = V; exact = exact; some = some; here = here; begins = λ k. true; begun = λ ts left a r. refl })
       (λ first. record {
         read = repeat comma_of joined_by_comma item (first ∷ []);
         rel = IsRepeat comma_of joined_by_comma Item (first ∷ []);
         wide = IsRepeat comma_of joined_by_comma V (first ∷ []);
-        exact = repeat_exact comma_of joined_by_comma item Item V on_bracket on_bracket exact some refl a_comma.0 tt a_comma_is (λ x o b k. refl) (λ b. comma_no_bracket) (first ∷ []);
+        exact = repeat_exact comma_of joined_by_comma item Item V on_bracket on_bracket exact some here refl a_comma.0 tt a_comma_is (λ x o b k. refl) (λ b. comma_no_bracket) (first ∷ []);
         some = ([], first ∷ [], no_more);
+        here = ([], first ∷ [], no_more);
         begins = λ k. true;
         begun = λ ts left a r. refl;
       })
-      (λ first ts left b r end. repeat_next comma_of joined_by_comma item Item V on_bracket on_bracket exact some refl a_comma.0 tt a_comma_is (λ x o b k. refl) (λ b. comma_no_bracket) ts left r end
+      (λ first ts left b r end. repeat_next comma_of joined_by_comma item Item V on_bracket on_bracket exact some here refl a_comma.0 tt a_comma_is (λ x o b k. refl) (λ b. comma_no_bracket) ts left r end
       (λ k. is t.OpenBracket k) (λ k e. e) comma_no_bracket)).exact
 
 to_list : {A : Type 0} (Item : Rel A) (ts : List Lexeme) (all : List A) → IsThen Item (λ first. IsRepeat comma_of joined_by_comma Item (first ∷ [])) ts all → IsList Item ts all
@@ -99,8 +100,8 @@ to_list Item _ all (both {ts = ts} {us = us} {a = first} i rest) = let r = to_ta
 of_list : {A : Type 0} (Item : Rel A) (ts : List Lexeme) (all : List A) → IsList Item ts all → IsThen Item (λ first. IsRepeat comma_of joined_by_comma Item (first ∷ [])) ts all
 of_list Item _ _ (items {first = first} i rest) = both i (of_tail Item (first ∷ []) rest)
 
-pub list_exact : {A : Type 0} (item : Reader A) (Item V : Rel A) → Exact item Item V nowhere on_bracket → Some_of V → Exact (list item) (IsList Item) (IsList V) nowhere on_list
-list_exact item Item V exact some = equal_exact (IsList Item) (IsList V) (to_list Item) (of_list Item) (to_list V) (list_then item Item V exact some)
+pub list_exact : {A : Type 0} (item : Reader A) (Item V : Rel A) → Exact item Item V nowhere on_bracket → Some_of V → Some_of Item → Exact (list item) (IsList Item) (IsList V) nowhere on_list
+list_exact item Item V exact some here = equal_exact (IsList Item) (IsList V) (to_list Item) (of_list Item) (to_list V) (list_then item Item V exact some here)
 
 -- ---- types
 
@@ -134,7 +135,7 @@ numbers_as ts = by_head (peek ts)
     by_head _ = refl
 
 abbrev any_type_piece : Piece Bool nowhere none
-any_type_piece = either (is t.Const) (passed (is t.Const) const_real (a_const.0, const_is) (λ _. named numbers numbers_piece numbers_as)) (named numbers numbers_piece numbers_as)
+any_type_piece = either (is t.Const) (way (passed (is t.Const) const_real (a_const.0, const_is) (λ _. named numbers numbers_piece numbers_as))) (named numbers numbers_piece numbers_as)
     (λ k e. e) (λ ts left a r end. numbers_no_const _ (numbers_piece.begun ts left a r))
 
 type_as : (ts : List Lexeme) → scalar ts ≡ any_type_piece.read ts
@@ -180,7 +181,7 @@ type_begun _ left a (plain {w = w} at) = numbers_begin (terminal w) (ap has at)
 type_begun _ left a (constant at w) = ap begins_type at
 
 abbrev pub type_piece : Piece Bool nowhere none
-type_piece = record { read = scalar; rel = IsType; wide = IsType; exact = type_exact; some = (an_int.0 ∷ [], true, plain int_is); begins = begins_type; begun = type_begun }
+type_piece = record { read = scalar; rel = IsType; wide = IsType; exact = type_exact; some = (an_int.0 ∷ [], true, plain int_is); here = (an_int.0 ∷ [], true, plain int_is); begins = begins_type; begun = type_begun }
 
 -- ---- extents
 
@@ -228,11 +229,11 @@ no_extent ts a r = elim r [ ]
 pub extent_exact : (room : ℕ) → Exact (extent room) (IsExtent room) (IsExtent (suc room)) (λ k. not (is t.OpenBracket k)) none
 unfolding extent
 extent_exact zero = equal_exact (IsExtent zero) (IsExtent (suc zero)) (λ ts a r. elim r [ ]) no_extent (to_extent zero)
-    (limit_exact (is t.OpenBracket) (λ bracket. IsThen (IsExpr zero) (λ size. IsMarked t.CloseBracket (λ _. IsPure (extent_of size bracket)))) none bracket_real some_inside)
+    (limit_exact (is t.OpenBracket) (λ bracket. IsThen (IsExpr zero) (λ size. IsMarked t.CloseBracket (λ _. IsPure (extent_of size bracket)))) none bracket_real (marks_of t.OpenBracket refl) some_inside)
 extent_exact (suc room) = (renamed (IsExtent (suc room)) (IsExtent (suc (suc room))) (extent_piece room) (to_extent room) (of_extent room) (wide_extent room)).exact
 
 pub extent_begun : (room : ℕ) (ts left : List Lexeme) (a : Extent) → IsExtent room ts a → is t.OpenBracket (peek (ts ++ left)) ≡ true
 extent_begun _ _ left _ (g.extent {o = o} c at size close) = true_is t.OpenBracket (terminal o) at
 
-abbrev pub one_extent_piece : ℕ → Piece Extent (λ k. not (is t.OpenBracket k)) none
+abbrev pub one_extent_piece : ℕ → Way Extent (λ k. not (is t.OpenBracket k)) none
 one_extent_piece room = at_test (is t.OpenBracket) (extent room) (IsExtent room) (IsExtent (suc room)) (extent_exact room) (some_extent room) (extent_begun room)

@@ -2,7 +2,7 @@
 use Rattle.std.specs.Prelude.{Bool, true, false, cond, not, ◌||◌, nat_eq, nat_lt, nat_le, ◌&&◌}
 use Rattle.std.specs.List.{list_all}
 use Rattle.std.specs.Cmp.Lexicographic.{pointwise}
-use Rattle.std.proofs.Common.{◌≡◌, ℕ, zero, suc, List, [], ◌∷◌, ◌++◌, length, refl, sym, ◌∙◌, ap, subst, append_assoc}
+use Rattle.std.proofs.Common.{◌≡◌, ℕ, suc, List, [], ◌∷◌, ◌++◌, length, refl, sym, ◌∙◌, ap, subst, append_assoc}
 use Rattle.std.proofs.lemmas.List.{append-nil}
 use Rattle.ac_lex.specs.Lexemes.{Lexeme}
 use Rattle.ac_lex.specs.declared.tokens.TokenKind.{TokenKind}
@@ -34,7 +34,7 @@ use Rattle.ac_grammar.specs.FileGrammar.{IsPragma, IsFunction, IsFile}
 use Rattle.ac_grammar.proofs.Exact.{Exact, Some_of, none, nowhere, both}
 use Rattle.ac_grammar.proofs.Parts.{true_is, IsPure, nothing, ending_exact, same_exact}
 use Rattle.ac_grammar.proofs.StatementLexemes.{a_void, an_open, a_close, an_open_brace, a_close_brace, named_token}
-use Rattle.ac_grammar.proofs.StatementPieces.{Piece, behind, next, apart, image, mapped, marked, expected, a_word, named, renamed, made, barred, opening_none, opening_some}
+use Rattle.ac_grammar.proofs.StatementPieces.{Piece, behind, next, apart, image, mapped, marked, expected, a_word, named, renamed, made, opening_some}
 use Rattle.ac_grammar.proofs.StatementProductions.{name_piece}
 use Rattle.ac_grammar.proofs.StatementLevels.{IsBraced, braced, braces, statements_exact, some_braced, braced_begun}
 use Rattle.ac_grammar.proofs.StatementLocals.{closed_parameters, IsClosedParameters, closed_parameters_of, parameters_exact, some_closed, declarations_exact, on_declarations}
@@ -73,12 +73,13 @@ braces_piece room = record {
   wide = IsBraced (suc room);
   exact = statements_exact room;
   some = some_braced (suc room);
+  here = some_braced room;
   begins = λ k. begins_statement k || is t.CloseBrace k;
   begun = braced_begun room;
 }
 
 abbrev declarations_piece : ℕ → Piece (List Declared) nowhere on_declarations
-declarations_piece room = made (declarations.declarations room) (IsDeclarations room) (IsDeclarations (suc room)) (declarations_exact room) ([], [], no_declaration)
+declarations_piece room = made (declarations.declarations room) (IsDeclarations room) (IsDeclarations (suc room)) (declarations_exact room) ([], [], no_declaration) ([], [], no_declaration)
 
 no_type : (k : Terminal) → (begins_statement k || is t.CloseBrace k) ≡ true → (begins_type k || false) ≡ false
 unfolding is
@@ -142,7 +143,7 @@ some_function_inside room word = (
 )
 
 abbrev parameters_piece : ℕ → Piece (List Declared) nowhere none
-parameters_piece room = made (closed_parameters room) (IsClosedParameters room) (IsClosedParameters (suc room)) (parameters_exact room) (some_closed (suc room))
+parameters_piece room = made (closed_parameters room) (IsClosedParameters room) (IsClosedParameters (suc room)) (parameters_exact room) (some_closed (suc room)) (some_closed room)
 
 braced_body_as : (room : ℕ) (ts : List Lexeme) → reading.body (suc room) ts ≡ (expected t.OpenBrace open_brace_real an_open_brace (λ _. body_piece room)).read ts
 unfolding reading.body
@@ -172,11 +173,7 @@ inside_exact room word = (renamed (IsFunctionInside room word) (IsFunctionInside
     (to_inside room word) (of_inside room word) (wide_inside room word)).exact
 
 abbrev function_inside_piece : ℕ → Word → Piece Function nowhere none
-function_inside_piece room word = made (function_inside (suc room) word room) (IsFunctionInside room word) (IsFunctionInside (suc room) word) (inside_exact room word) (some_function_inside (suc room) word)
-
-abbrev limit_piece : Piece Function nowhere none
-limit_piece = expected t.Void void_real a_void (λ _. next name_piece (λ word. named (opening t.Open zero >>= function_inside zero word)
-    (barred t.Open open_real an_open (λ _. IsFunctionInside zero word) (λ _. some_function_inside zero word)) (opening_none t.Open (function_inside zero word))))
+function_inside_piece room word = made (function_inside (suc room) word room) (IsFunctionInside room word) (IsFunctionInside (suc room) word) (inside_exact room word) (some_function_inside (suc room) word) (some_function_inside room word)
 
 abbrev more_piece : ℕ → Piece Function nowhere none
 more_piece room = expected t.Void void_real a_void (λ _. next name_piece (λ word. named (opening t.Open (suc room) >>= function_inside (suc room) word)
@@ -191,26 +188,12 @@ wide_function room _ _ (marked at (both (a_word n) (marked o (function_rest c b 
 of_function : (room : ℕ) (ts : List Lexeme) (a : Function) → IsFunction (suc room) ts a → (more_piece room).rel ts a
 of_function room _ _ (g.function c b d at n o p close brace x y end) = marked at (both (a_word n) (marked o (function_rest c b d p close brace x y end)))
 
-to_limit : (ts : List Lexeme) (a : Function) → limit_piece.rel ts a → IsFunction zero ts a
-to_limit _ a (marked at (both n r)) = elim r [ ]
-
-of_limit : (ts : List Lexeme) (a : Function) → IsFunction zero ts a → limit_piece.rel ts a
-of_limit ts a r = elim r [ ]
-
-wide_limit : (ts : List Lexeme) (a : Function) → limit_piece.wide ts a → IsFunction (suc zero) ts a
-wide_limit _ _ (marked at (both (a_word n) (marked o (function_rest c b d p close brace x y end)))) = g.function c b d at n o p close brace x y end
-
-function_as : (ts : List Lexeme) → reading.function zero ts ≡ limit_piece.read ts
-unfolding reading.function
-function_as ts = refl
-
 more_as : (room : ℕ) (ts : List Lexeme) → reading.function (suc room) ts ≡ (more_piece room).read ts
 unfolding reading.function
 more_as room ts = refl
 
-function_exact : (room : ℕ) → Exact (reading.function room) (IsFunction room) (IsFunction (suc room)) nowhere none
-function_exact zero = (renamed (IsFunction zero) (IsFunction (suc zero)) (named (reading.function zero) limit_piece function_as) to_limit of_limit wide_limit).exact
-function_exact (suc room) = (renamed (IsFunction (suc room)) (IsFunction (suc (suc room))) (named (reading.function (suc room)) (more_piece room) (more_as room)) (to_function room) (of_function room) (wide_function room)).exact
+function_exact : (room : ℕ) → Exact (reading.function (suc room)) (IsFunction (suc room)) (IsFunction (suc (suc room))) nowhere none
+function_exact room = (renamed (IsFunction (suc room)) (IsFunction (suc (suc room))) (named (reading.function (suc room)) (more_piece room) (more_as room)) (to_function room) (of_function room) (wide_function room)).exact
 
 some_function : (room : ℕ) → Some_of (IsFunction (suc room))
 some_function room = (
@@ -222,8 +205,18 @@ some_function room = (
 function_begun : (room : ℕ) (ts left : List Lexeme) (a : Function) → IsFunction room ts a → is t.Void (peek (ts ++ left)) ≡ true
 function_begun _ _ left _ (g.function {v = v} c b d at n o p close brace x y end) = true_is t.Void (terminal v) at
 
+-- a function, where a construct at least may open
 abbrev function_piece : ℕ → Piece Function nowhere none
-function_piece room = record { read = reading.function room; rel = IsFunction room; wide = IsFunction (suc room); exact = function_exact room; some = some_function room; begins = is t.Void; begun = function_begun room }
+function_piece room = record {
+  read = reading.function (suc room);
+  rel = IsFunction (suc room);
+  wide = IsFunction (suc (suc room));
+  exact = function_exact room;
+  some = some_function (suc room);
+  here = some_function room;
+  begins = is t.Void;
+  begun = function_begun (suc room);
+}
 
 -- ---- the end
 
@@ -279,6 +272,7 @@ end_piece s a = record {
   wide = IsPure a;
   exact = same_exact (expect t.End >> pure a) (end_as a) (ending_exact a s (on_file a));
   some = ([], a, nothing);
+  here = ([], a, nothing);
   begins = λ k. true;
   begun = λ ts left b r. refl;
 }
@@ -286,7 +280,7 @@ end_piece s a = record {
 -- ---- files
 
 abbrev pragmas_piece : ℕ → Piece (List Pragma) nowhere on_pragmas
-pragmas_piece room = made (pragmas room) (IsRun (IsPragma room)) (IsRun (IsPragma (suc room))) (pragmas_exact room) ([], [], no_item)
+pragmas_piece room = made (pragmas room) (IsRun (IsPragma room)) (IsRun (IsPragma (suc room))) (pragmas_exact room) ([], [], no_item) ([], [], no_item)
 
 end_no_start : (k : Terminal) → not (is t.End k) ≡ false → (is t.PragmaStart k || false) ≡ false
 unfolding is
@@ -303,29 +297,29 @@ end_follows a last _ left _ nothing end = end_no_start (peek left) end
 
 abbrev file_piece : ℕ → Piece File nowhere on_file
 file_piece room =
-    apart (pragmas_piece room) (λ before.
+    apart (pragmas_piece (suc room)) (λ before.
     next (function_piece room) (λ function.
-    behind (pragmas_piece room) (λ last. end_piece (on_pragmas last) (file_of before function last)) (λ last. end_follows (file_of before function last) last)))
+    behind (pragmas_piece (suc room)) (λ last. end_piece (on_pragmas last) (file_of before function last)) (λ last. end_follows (file_of before function last) last)))
     (λ before k e. void_no_start k e)
 
-to_file : (room : ℕ) (ts : List Lexeme) (a : File) → (file_piece room).rel ts a → IsFile room ts a
+to_file : (room : ℕ) (ts : List Lexeme) (a : File) → (file_piece room).rel ts a → IsFile (suc room) ts a
 to_file room _ _ (both {ts = bs} {a = before} b (both {ts = fs} {a = function} f (both {ts = ls} {a = last} l nothing))) =
-    subst (λ l. IsFile room (bs ++ (fs ++ l)) (file_of before function last)) (sym (append-nil ls)) (g.file b f l)
-
-wide_file : (room : ℕ) (ts : List Lexeme) (a : File) → (file_piece room).wide ts a → IsFile (suc room) ts a
-wide_file room _ _ (both {ts = bs} {a = before} b (both {ts = fs} {a = function} f (both {ts = ls} {a = last} l nothing))) =
     subst (λ l. IsFile (suc room) (bs ++ (fs ++ l)) (file_of before function last)) (sym (append-nil ls)) (g.file b f l)
 
-of_file : (room : ℕ) (ts : List Lexeme) (a : File) → IsFile room ts a → (file_piece room).rel ts a
+wide_file : (room : ℕ) (ts : List Lexeme) (a : File) → (file_piece room).wide ts a → IsFile (suc (suc room)) ts a
+wide_file room _ _ (both {ts = bs} {a = before} b (both {ts = fs} {a = function} f (both {ts = ls} {a = last} l nothing))) =
+    subst (λ l. IsFile (suc (suc room)) (bs ++ (fs ++ l)) (file_of before function last)) (sym (append-nil ls)) (g.file b f l)
+
+of_file : (room : ℕ) (ts : List Lexeme) (a : File) → IsFile (suc room) ts a → (file_piece room).rel ts a
 of_file room _ _ (g.file {bs = bs} {fs = fs} {ts = ls} {before = before} {behind = last} {function = function} b f l) =
     subst (λ l. (file_piece room).rel (bs ++ (fs ++ l)) (file_of before function last)) (append-nil ls) (both b (both f (both l nothing)))
 
-file_as : (room : ℕ) (ts : List Lexeme) → reading.file room ts ≡ (file_piece room).read ts
+file_as : (room : ℕ) (ts : List Lexeme) → reading.file (suc room) ts ≡ (file_piece room).read ts
 unfolding reading.file
 file_as room ts = refl
 
-pub file_exact : (room : ℕ) → Exact (reading.file room) (IsFile room) (IsFile (suc room)) nowhere on_file
-file_exact room = (renamed (IsFile room) (IsFile (suc room)) (named (reading.file room) (file_piece room) (file_as room)) (to_file room) (of_file room) (wide_file room)).exact
+pub file_exact : (room : ℕ) → Exact (reading.file (suc room)) (IsFile (suc room)) (IsFile (suc (suc room))) nowhere on_file
+file_exact room = (renamed (IsFile (suc room)) (IsFile (suc (suc room))) (named (reading.file (suc room)) (file_piece room) (file_as room)) (to_file room) (of_file room) (wide_file room)).exact
 
 pub some_file : (room : ℕ) → Some_of (IsFile (suc room))
-some_file room = let s = (file_piece room).some in (s.0, s.1, wide_file room s.0 s.1 s.2)
+some_file room = let s = (file_piece room).here in (s.0, s.1, to_file room s.0 s.1 s.2)

@@ -13,10 +13,10 @@ use Rattle.ac_grammar.proofs.ReadConditions.{read_cond, some_cond_at}
 use Rattle.ac_grammar.proofs.StatementPieces.{Piece, made}
 
 abbrev pub expr_piece : (room : ℕ) → Piece Expr nowhere (λ _. goes_on)
-expr_piece room = made (expr room) (IsExpr room) (IsExpr (suc room)) (read_expr room) (some_expr_at (suc room))
+expr_piece room = made (expr room) (IsExpr room) (IsExpr (suc room)) (read_expr room) (some_expr_at (suc room)) (some_expr_at room)
 
 abbrev pub subscripts_piece : (room : ℕ) → Piece (List Expr) nowhere (λ subs k. is t.OpenBracket k)
-subscripts_piece room = made (subscripts (below room)) (Subscripts room) (Subscripts (suc room)) (read_subscripts room) ([], [], no_subscript)
+subscripts_piece room = made (subscripts (below room)) (Subscripts room) (Subscripts (suc room)) (read_subscripts room) ([], [], no_subscript) ([], [], no_subscript)
 
 abbrev pub cond_piece : (room : ℕ) → Piece (List Part) nowhere (λ _. condition_goes_on)
-cond_piece room = made (cond room) (IsCond room) (IsCond (suc room)) (read_cond room) (some_cond_at (suc room))
+cond_piece room = made (cond room) (IsCond room) (IsCond (suc room)) (read_cond room) (some_cond_at (suc room)) (some_cond_at room)

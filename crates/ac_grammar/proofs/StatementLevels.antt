@@ -10,21 +10,21 @@ use Rattle.ac_grammar.specs.declared.tree.Part.{Part}
 use Rattle.ac_grammar.specs.declared.tree.Statement.{Statement}
 use Rattle.ac_grammar.specs.Terminals.{terminal, is_name}
 use Rattle.ac_grammar.specs.Reading.{Got, found, stopped, Reader, and_then, ◌>>=◌, ◌>>◌, pure, peek, rest, is, expect, many, many_from}
-use Rattle.ac_grammar.specs.Found.{Rel, Goes}
+use Rattle.ac_grammar.specs.Found.{Rel, Goes, awaits_parenthesis}
 use Rattle.ac_grammar.specs.Constructs.{opening}
 use Rattle.ac_grammar.specs.StatementsReading.{header, assignment, loop_of, branch_of, begins_statement, statements_of, block, statement_inside, statement}
 use Rattle.ac_grammar.specs.Grammar.{IsCond}
 use Rattle.ac_grammar.specs.StatementsGrammar as g
 use Rattle.ac_grammar.specs.StatementsGrammar.{IsHeader, IsStatement, IsStatements}
 use Rattle.ac_grammar.proofs.Exact.{Exact, Some_of, none, nowhere, IsThen, both}
-use Rattle.ac_grammar.proofs.Parts.{is_true, true_is, IsNothing, IsPure, nothing, pass, IsToken, token, IsEither, one, other, same_exact, pure_exact}
+use Rattle.ac_grammar.proofs.Parts.{is_true, true_is, IsNothing, IsPure, nothing, pass, IsToken, token, IsEither, one, other, same_exact, pure_exact, token_exact_by, keyword_alive}
 use Rattle.ac_grammar.proofs.Many.{IsMany, no_more, one_more, many_exact}
 use Rattle.ac_grammar.proofs.StatementLexemes.{an_open, a_close, an_open_brace, a_close_brace, a_semicolon, a_for, an_if, an_else}
-use Rattle.ac_grammar.proofs.StatementPieces.{Piece, behind, value, value_before, passed, either, either_or, IsImage, image, mapped, IsMarked, marked, expected, before, named, renamed, made, at_test, barred, opening_none, opening_some, anywhere, second_exact}
+use Rattle.ac_grammar.proofs.StatementPieces.{Piece, way, behind, value, value_before, passed, either, either_or, IsImage, image, mapped, IsMarked, marked, expected, before, named, renamed, made, at_test, barred_exact, barred_stops, opening_none, opening_some, anywhere, second_exact}
 use Rattle.ac_grammar.specs.Conditions.{condition_goes_on}
 use Rattle.ac_grammar.proofs.ReadConditions.{some_cond_at}
 use Rattle.ac_grammar.proofs.StatementGiven.{cond_piece}
-use Rattle.ac_grammar.proofs.StatementProductions.{header_piece, some_header, IsAssigned, assigned, assignment_exact, some_assignment, assignment_begun}
+use Rattle.ac_grammar.proofs.StatementProductions.{header_piece, some_header, IsAssigned, assigned, assignment_exact, some_assignment, assignment_begun, assignment_here}
 use Rattle.ac_grammar.proofs.StatementFlags.{Ending, ending, left_of, closed_by, on_ending, looped, branched, join_ending, loop_inside, otherwise_flagged, otherwise_flagged_by, branch_inside, flagged_by, flagged_in, flagged_inside, flagged, out, flagged_out, many_out}
 
 pub data IsEnding (room : ℕ) : List Lexeme → Ending → Type 0 where
@@ -127,7 +127,7 @@ abbrev Level : ℕ → Type 0
 Level room = Exact (flagged room) (IsEnding room) (IsEnding (suc room)) nowhere on_ending
 
 abbrev ending_piece : (room : ℕ) → Level room → Piece Ending nowhere on_ending
-ending_piece room level = record { read = flagged room; rel = IsEnding room; wide = IsEnding (suc room); exact = level; some = some_ending (suc room); begins = begins_statement; begun = ending_begins room }
+ending_piece room level = record { read = flagged room; rel = IsEnding room; wide = IsEnding (suc room); exact = level; some = some_ending (suc room); here = some_ending room; begins = begins_statement; begun = ending_begins room }
 
 looped_same : (keyword : Lexeme) (header : LoopHeader) (e : Ending) (k : Terminal) → on_ending (looped keyword header e) k ≡ on_ending e k
 looped_same keyword header (ending dangling body) k = refl
@@ -192,7 +192,7 @@ module _ (room : ℕ) (level : Level room) where
   -- ---- branches
 
   abbrev else_piece : Piece Ending nowhere on_ending
-  else_piece = either_or (is t.Else) (passed (is t.Else) else_real (an_else.0, else_is) (λ _. ending_piece room level)) (value_before on_ending (ending true [])) (λ k e. e) no_else
+  else_piece = either_or (is t.Else) (way (passed (is t.Else) else_real (an_else.0, else_is) (λ _. ending_piece room level))) (value_before on_ending (ending true [])) (λ k e. e) no_else
 
   otherwise_as : (ts : List Lexeme) → otherwise_flagged (flagged room) ts ≡ else_piece.read ts
   unfolding otherwise_flagged is
@@ -223,6 +223,10 @@ module _ (room : ℕ) (level : Level room) where
   some_otherwise (ending false all) = ([], ending true [], other nothing)
   some_otherwise (ending true all) = ([], ending true [], nothing)
 
+  otherwise_here : (taken : Ending) → Some_of (otherwise_rel taken)
+  otherwise_here (ending false all) = ([], ending true [], other nothing)
+  otherwise_here (ending true all) = ([], ending true [], nothing)
+
   abbrev otherwise_piece : (taken : Ending) → Piece Ending (on_ending taken) on_ending
   otherwise_piece taken = record {
     read = otherwise_flagged (flagged room);
@@ -230,6 +234,7 @@ module _ (room : ℕ) (level : Level room) where
     wide = otherwise_wide taken;
     exact = otherwise_exact taken;
     some = some_otherwise taken;
+    here = otherwise_here taken;
     begins = λ k. true;
     begun = λ ts left a r. refl;
   }
@@ -286,6 +291,7 @@ module _ (room : ℕ) (level : Level room) where
     exact = many_exact begins_statement join_ending (flagged room) (IsEnding room) (IsEnding (suc room)) on_ending on_ending (anywhere (λ k. not (begins_statement k)) level) (some_ending (suc room)) refl
         (ending_begins room) joined_same begins_no_else (ending false []);
     some = ([], ending false [], no_more);
+    here = ([], ending false [], no_more);
     begins = λ k. true;
     begun = λ ts left a r. refl;
   }
@@ -389,7 +395,7 @@ no_semicolon _ e = refl
 
 module _ (room : ℕ) (constructs : Constructs room) where
   abbrev assigned_piece : Piece (List Statement) nowhere none
-  assigned_piece = record { read = assignment room; rel = IsAssigned room; wide = IsAssigned (suc room); exact = assignment_exact room; some = some_assignment room; begins = is_name; begun = assignment_begun room }
+  assigned_piece = record { read = assignment room; rel = IsAssigned room; wide = IsAssigned (suc room); exact = assignment_exact room; some = some_assignment room; here = assignment_here room; begins = is_name; begun = assignment_begun room }
 
   abbrev assign_piece : Piece Ending nowhere on_ending
   assign_piece = mapped closed_by on_ending assigned_piece (λ a k. refl)
@@ -407,7 +413,7 @@ module _ (room : ℕ) (constructs : Constructs room) where
       by_for (λ k e. e) (λ ts left a r end. no_brace _ (by_for.begun ts left a r))
 
   abbrev any_piece : Piece Ending nowhere on_ending
-  any_piece = either (is t.Semicolon) (passed (is t.Semicolon) semicolon_real (a_semicolon.0, semicolon_is) (λ _. value_before on_ending (ending false [])))
+  any_piece = either (is t.Semicolon) (way (passed (is t.Semicolon) semicolon_real (a_semicolon.0, semicolon_is) (λ _. value_before on_ending (ending false []))))
       by_brace (λ k e. e) (λ ts left a r end. no_semicolon _ (by_brace.begun ts left a r))
 
   any_as : (ts : List Lexeme) → flagged room ts ≡ any_piece.read ts
@@ -458,26 +464,44 @@ then_then : {A B C : Type 0} (r : Got A) (f : A → Reader B) (h : B → Reader 
 then_then (found a ts) f h = refl
 then_then (stopped w ts) f h = refl
 
+for_waits : (k : Terminal) → is t.For k ≡ true → awaits_parenthesis k ≡ true
+unfolding is
+for_waits t.For e = refl
+for_waits _ e = cc
+
+if_waits : (k : Terminal) → is t.If k ≡ true → awaits_parenthesis k ≡ true
+unfolding is
+if_waits t.If e = refl
+if_waits _ e = cc
+
+-- a keyword and a parenthesis that may not open
+barred_behind : {A : Type 0} (test : Terminal → Bool) (f : Lexeme → ℕ → Reader A) (V : Lexeme → Rel A) (g : Goes A) → test t.End ≡ false → ((k : Terminal) → test k ≡ true → awaits_parenthesis k ≡ true)
+    → ((keyword : Lexeme) → Some_of (V keyword)) → Exact (pass (λ keyword. opening t.Open zero >>= f keyword)) (IsToken test (λ _. IsNothing)) (IsToken test (λ keyword. IsMarked t.Open (λ _. V keyword))) (λ k. not (test k)) g
+barred_behind {A = A} test f V g last waits some = token_exact_by test (λ keyword. opening t.Open zero >>= f keyword) (λ _. IsNothing) (λ keyword. IsMarked t.Open (λ _. V keyword)) g last inside
+    (λ keyword. (let s = some keyword in (an_open.0 ∷ s.0, s.1, marked an_open.1 s.2)))
+    (λ keyword ts bad w is e. keyword_alive test waits keyword w ts bad is (barred_stops t.Open ts bad w (sym (opening_none t.Open (f keyword) ts) ∙ e)) ((inside keyword).alive ts bad w refl e).marks)
+  where
+    inside : (keyword : Lexeme) → Exact (opening t.Open zero >>= f keyword) IsNothing (IsMarked t.Open (λ _. V keyword)) nowhere g
+    inside keyword = same_exact (opening t.Open zero >>= f keyword) (opening_none t.Open (f keyword)) (barred_exact t.Open (λ _. V keyword) g open_real refl (λ _. some keyword))
+
 no_constructs : Constructs zero
 unfolding IsBlock IsLoop IsBranch block
 no_constructs = record {
-  block = anywhere (λ k. not (is t.OpenBrace k)) (named (flagged_by zero (statement_inside zero) (flagged_inside zero) t.OpenBrace)
-      (barred t.OpenBrace brace_real an_open_brace (λ _. IsImage closed_by (IsBraced zero)) (λ _. (let s = some_braced zero in (s.0, closed_by s.1, image s.2))))
-      (λ ts. then_then (opening t.OpenBrace zero ts) (λ _. braces (statement_inside zero)) (λ all. pure (closed_by all)) ∙ opening_none t.OpenBrace (λ _. braces (statement_inside zero) >>= (λ all. pure (closed_by all))) ts)).exact;
-  loop = (passed (is t.For) for_real (a_for.0, for_is) (λ keyword. named (opening t.Open zero >>= loop_inside (flagged_inside zero) keyword)
-      (barred t.Open open_real an_open (λ _. IsLoopInside zero keyword) (λ _. some_loop_inside zero keyword)) (opening_none t.Open (loop_inside (flagged_inside zero) keyword)))).exact;
-  branch = (passed (is t.If) if_real (an_if.0, if_is) (λ keyword. named (opening t.Open zero >>= branch_inside (flagged_inside zero) keyword)
-      (barred t.Open open_real an_open (λ _. IsBranchInside zero keyword) (λ _. some_branch_inside zero keyword)) (opening_none t.Open (branch_inside (flagged_inside zero) keyword)))).exact;
+  block = anywhere (λ k. not (is t.OpenBrace k)) (same_exact (flagged_by zero (statement_inside zero) (flagged_inside zero) t.OpenBrace)
+      (λ ts. then_then (opening t.OpenBrace zero ts) (λ _. braces (statement_inside zero)) (λ all. pure (closed_by all)) ∙ opening_none t.OpenBrace (λ _. braces (statement_inside zero) >>= (λ all. pure (closed_by all))) ts)
+      (barred_exact t.OpenBrace (λ _. IsImage closed_by (IsBraced zero)) on_ending brace_real refl (λ _. (let s = some_braced zero in (s.0, closed_by s.1, image s.2)))));
+  loop = barred_behind (is t.For) (λ keyword. loop_inside (flagged_inside zero) keyword) (IsLoopInside zero) on_ending for_real for_waits (some_loop_inside zero);
+  branch = barred_behind (is t.If) (λ keyword. branch_inside (flagged_inside zero) keyword) (IsBranchInside zero) on_ending if_real if_waits (some_branch_inside zero);
 }
 
 abbrev loop_inside_piece : (room : ℕ) → Level room → Lexeme → Piece Ending nowhere on_ending
-loop_inside_piece room level keyword = made (loop_inside (flagged room) keyword room) (IsLoopInside room keyword) (IsLoopInside (suc room) keyword) (loop_inside_exact room level keyword) (some_loop_inside (suc room) keyword)
+loop_inside_piece room level keyword = made (loop_inside (flagged room) keyword room) (IsLoopInside room keyword) (IsLoopInside (suc room) keyword) (loop_inside_exact room level keyword) (some_loop_inside (suc room) keyword) (some_loop_inside room keyword)
 
 abbrev branch_inside_piece : (room : ℕ) → Level room → Lexeme → Piece Ending nowhere on_ending
-branch_inside_piece room level keyword = made (branch_inside (flagged room) keyword room) (IsBranchInside room keyword) (IsBranchInside (suc room) keyword) (branch_inside_exact room level keyword) (some_branch_inside (suc room) keyword)
+branch_inside_piece room level keyword = made (branch_inside (flagged room) keyword room) (IsBranchInside room keyword) (IsBranchInside (suc room) keyword) (branch_inside_exact room level keyword) (some_branch_inside (suc room) keyword) (some_branch_inside room keyword)
 
 abbrev braces_piece : (room : ℕ) → Level room → Piece (List Statement) nowhere none
-braces_piece room level = made (braces (statement room)) (IsBraced room) (IsBraced (suc room)) (braced_exact room level) (some_braced (suc room))
+braces_piece room level = made (braces (statement room)) (IsBraced room) (IsBraced (suc room)) (braced_exact room level) (some_braced (suc room)) (some_braced room)
 
 more_constructs : (room : ℕ) → Level room → Constructs (suc room)
 unfolding IsBlock IsLoop IsBranch block statement_inside statement flagged_inside flagged

@@ -19,7 +19,7 @@ use Rattle.ac_grammar.proofs.Exact.{Exact, Some_of, none, nowhere, both}
 use Rattle.ac_grammar.proofs.Parts.{is_true, true_is, nothing, token, one, other}
 use Rattle.ac_grammar.proofs.Many.{IsMany, no_more, one_more}
 use Rattle.ac_grammar.proofs.StatementLexemes.{a_close, a_semicolon, a_void, named_token}
-use Rattle.ac_grammar.proofs.StatementPieces.{Piece, at_any, next, value, passed, either, image, mapped, marked, expected, before, a_word, named, renamed, made, repeated}
+use Rattle.ac_grammar.proofs.StatementPieces.{Piece, way, at_any, next, value, passed, either, image, mapped, marked, expected, before, a_word, named, renamed, made, repeated}
 use Rattle.ac_grammar.proofs.StatementProductions.{name_piece}
 use Rattle.ac_grammar.proofs.StatementDeclarations.{run_to, run_of, on_bracket, on_list, list_exact, type_piece, one_extent_piece, bracket_real}
 
@@ -65,7 +65,7 @@ some_declared : (room : ℕ) (whole : Bool) → Some_of (IsDeclared whole room)
 some_declared room whole = (named_token.0 ∷ [], declared_as whole named_token.0 [], declared named_token.1 no_item)
 
 abbrev declared_piece : ℕ → Bool → Piece Declared nowhere on_bracket
-declared_piece room whole = made (reading.declared room whole) (IsDeclared whole room) (IsDeclared whole (suc room)) (declared_exact room whole) (some_declared (suc room) whole)
+declared_piece room whole = made (reading.declared room whole) (IsDeclared whole room) (IsDeclared whole (suc room)) (declared_exact room whole) (some_declared (suc room) whole) (some_declared room whole)
 
 -- ---- parameters
 
@@ -104,8 +104,9 @@ parameter_list_piece room = record {
   read = list (reading.parameter room);
   rel = IsList (IsParameter room);
   wide = IsList (IsParameter (suc room));
-  exact = list_exact (reading.parameter room) (IsParameter room) (IsParameter (suc room)) (parameter_piece room).exact (parameter_piece room).some;
+  exact = list_exact (reading.parameter room) (IsParameter room) (IsParameter (suc room)) (parameter_piece room).exact (parameter_piece room).some (parameter_piece room).here;
   some = some_parameters (suc room);
+  here = some_parameters room;
   begins = begins_type;
   begun = list_begun (IsParameter room) begins_type (parameter_begun room);
 }
@@ -149,11 +150,11 @@ abbrev listed_piece : ℕ → Piece (List Declared) nowhere none
 listed_piece room = before (parameter_list_piece room) t.Close close_real a_close close_ends (λ all. value all)
 
 abbrev by_void : ℕ → Piece (List Declared) nowhere none
-by_void room = either (is t.Void) (passed (is t.Void) void_real (a_void.0, void_is) (λ _. expected t.Close close_real a_close (λ _. value []))) (listed_piece room)
+by_void room = either (is t.Void) (way (passed (is t.Void) void_real (a_void.0, void_is) (λ _. expected t.Close close_real a_close (λ _. value [])))) (listed_piece room)
     (λ k e. e) (λ ts left a r end. type_no_void _ ((listed_piece room).begun ts left a r))
 
 abbrev any_parameters_piece : ℕ → Piece (List Declared) nowhere none
-any_parameters_piece room = either (is t.Close) (passed (is t.Close) close_real (a_close.0, close_is) (λ _. value [])) (by_void room)
+any_parameters_piece room = either (is t.Close) (way (passed (is t.Close) close_real (a_close.0, close_is) (λ _. value []))) (by_void room)
     (λ k e. e) (λ ts left a r end. no_close _ ((by_void room).begun ts left a r))
 
 closed_as : (room : ℕ) (ts : List Lexeme) → closed_parameters room ts ≡ (any_parameters_piece room).read ts
@@ -202,7 +203,7 @@ some_declared_list room whole = let d = some_declared room whole in (d.0 ++ [], 
 
 abbrev declared_list_piece : ℕ → Bool → Piece (List Declared) nowhere on_list
 declared_list_piece room whole = made (list (reading.declared room whole)) (IsList (IsDeclared whole room)) (IsList (IsDeclared whole (suc room)))
-    (list_exact (reading.declared room whole) (IsDeclared whole room) (IsDeclared whole (suc room)) (declared_exact room whole) (some_declared (suc room) whole)) (some_declared_list (suc room) whole)
+    (list_exact (reading.declared room whole) (IsDeclared whole room) (IsDeclared whole (suc room)) (declared_exact room whole) (some_declared (suc room) whole) (some_declared room whole)) (some_declared_list (suc room) whole) (some_declared_list room whole)
 
 abbrev any_declaration_piece : ℕ → Piece (List Declared) nowhere none
 any_declaration_piece room = next type_piece (λ whole. before (declared_list_piece room whole) t.Semicolon semicolon_real a_semicolon semicolon_ends (λ all. value all))
@@ -247,5 +248,5 @@ declarations_as room ts = refl
 
 pub declarations_exact : (room : ℕ) → Exact (reading.declarations room) (IsDeclarations room) (IsDeclarations (suc room)) nowhere on_declarations
 declarations_exact room = (renamed (IsDeclarations room) (IsDeclarations (suc room))
-    (named (reading.declarations room) (repeated begins_type ◌++◌ (at_any (λ k. not (begins_type k)) (declaration_piece room)) refl (λ k e. e) []) (declarations_as room))
+    (named (reading.declarations room) (repeated begins_type ◌++◌ (way (at_any (λ k. not (begins_type k)) (declaration_piece room))) refl (λ k e. e) []) (declarations_as room))
     (to_declarations room) (of_declarations room) (to_declarations (suc room))).exact

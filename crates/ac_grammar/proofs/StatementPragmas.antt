@@ -22,7 +22,7 @@ use Rattle.ac_grammar.proofs.Exact.{Exact, none, nowhere, both}
 use Rattle.ac_grammar.proofs.Parts.{is_true, true_is, nothing, token, one, other}
 use Rattle.ac_grammar.proofs.StatementGiven.{cond_piece}
 use Rattle.ac_grammar.proofs.StatementLexemes.{named_token, a_context, a_commutative, an_output, a_pragma_start, a_pragma_end}
-use Rattle.ac_grammar.proofs.StatementPieces.{Piece, at_any, value, passed, either, marked, expected, before, IsWorded, a_word, a_worded, named, renamed, repeated}
+use Rattle.ac_grammar.proofs.StatementPieces.{Piece, way, at_any, value, passed, either, marked, expected, before, IsWorded, a_word, a_worded, named, renamed, repeated}
 use Rattle.ac_grammar.proofs.StatementProductions.{name_piece}
 use Rattle.ac_grammar.proofs.StatementDeclarations.{run_to, run_of}
 
@@ -66,10 +66,10 @@ unfolding symbols
 symbols_as ts = refl
 
 abbrev names_piece : Piece (List Word) nowhere (λ all k. is_name k || none all k)
-names_piece = renamed (IsRun IsWord) (IsRun IsWord) (named names (repeated is_name one_more (at_any (λ k. not (is_name k)) word_piece) refl (λ k e. e) []) names_as) (run_to IsWord) (run_of IsWord) (run_to IsWord)
+names_piece = renamed (IsRun IsWord) (IsRun IsWord) (named names (repeated is_name one_more (way (at_any (λ k. not (is_name k)) word_piece)) refl (λ k e. e) []) names_as) (run_to IsWord) (run_of IsWord) (run_to IsWord)
 
 abbrev symbols_piece : Piece (List Word) nowhere (λ all k. is_symbol k || none all k)
-symbols_piece = renamed (IsRun IsSymbol) (IsRun IsSymbol) (named symbols (repeated is_symbol one_more (at_any (λ k. not (is_symbol k)) symbol_piece) refl (λ k e. e) []) symbols_as) (run_to IsSymbol) (run_of IsSymbol) (run_to IsSymbol)
+symbols_piece = renamed (IsRun IsSymbol) (IsRun IsSymbol) (named symbols (repeated is_symbol one_more (way (at_any (λ k. not (is_symbol k)) symbol_piece)) refl (λ k e. e) []) symbols_as) (run_to IsSymbol) (run_of IsSymbol) (run_to IsSymbol)
 
 -- ---- lines
 
@@ -129,11 +129,11 @@ abbrev by_output : Piece Pragma nowhere none
 by_output = expected t.Output output_real an_output (λ _. output_piece)
 
 abbrev by_commutative : Piece Pragma nowhere none
-by_commutative = either (is t.Commutative) (passed (is t.Commutative) commutative_real (a_commutative.0, commutative_is) (λ _. commutative_piece)) by_output
+by_commutative = either (is t.Commutative) (way (passed (is t.Commutative) commutative_real (a_commutative.0, commutative_is) (λ _. commutative_piece))) by_output
     (λ k e. e) (λ ts left a r end. output_no_commutative _ (by_output.begun ts left a r))
 
 abbrev by_context : ℕ → Piece Pragma nowhere none
-by_context room = either (is t.Context) (passed (is t.Context) context_real (a_context.0, context_is) (λ _. context_piece room)) by_commutative
+by_context room = either (is t.Context) (way (passed (is t.Context) context_real (a_context.0, context_is) (λ _. context_piece room))) by_commutative
     (λ k e. e) (λ ts left a r end. no_context _ (by_commutative.begun ts left a r))
 
 ending_line : Pragma → Reader Pragma
@@ -191,4 +191,4 @@ on_pragmas all k = is t.PragmaStart k || none all k
 
 pub pragmas_exact : (room : ℕ) → Exact (reading.pragmas room) (IsRun (IsPragma room)) (IsRun (IsPragma (suc room))) nowhere on_pragmas
 pragmas_exact room = (renamed (IsRun (IsPragma room)) (IsRun (IsPragma (suc room)))
-    (named (reading.pragmas room) (repeated (is t.PragmaStart) one_more (line_piece room) start_real (λ k e. e) []) (lines_as room)) (run_to (IsPragma room)) (run_of (IsPragma room)) (run_to (IsPragma (suc room)))).exact
+    (named (reading.pragmas room) (repeated (is t.PragmaStart) one_more (way (line_piece room)) start_real (λ k e. e) []) (lines_as room)) (run_to (IsPragma room)) (run_of (IsPragma room)) (run_to (IsPragma (suc room)))).exact

@@ -26,7 +26,7 @@ use Rattle.ac_grammar.proofs.ReadExpressions.{some_expr_at}
 use Rattle.ac_grammar.proofs.ReadConditions.{some_cond_at}
 use Rattle.ac_grammar.proofs.StatementGiven.{expr_piece, subscripts_piece, cond_piece}
 use Rattle.ac_grammar.proofs.StatementLexemes.{a_number, a_semicolon, an_int, becomes_mark, plus_becomes, a_plus, plus_plus, named_token}
-use Rattle.ac_grammar.proofs.StatementPieces.{Piece, at_any, next, apart, value, passed, value_before, either, either_or, image, mapped, marked, expected, before, a_word, a_worded, valued_at, a_value, by_value, named, renamed, made}
+use Rattle.ac_grammar.proofs.StatementPieces.{Piece, way, at_any, next, apart, value, passed, value_before, either, either_or, image, mapped, marked, expected, before, a_word, a_worded, valued_at, a_value, by_value, named, renamed, made}
 
 -- a mark is not the end
 pub not_end : (k : Terminal) → is k t.End ≡ true → k ≡ t.End
@@ -112,11 +112,11 @@ sign_behind_piece target = by_value unit_of refl false plus_plus.0 unit_is (λ d
 
 abbrev step_behind_piece : Word → Piece Step nowhere none
 step_behind_piece target =
-    either has_unit (at_any (λ k. not (has_unit k)) (sign_behind_piece target))
-    (either has_change (at_any (λ k. not (has_change k)) (changed_piece target)) (set_piece target) (λ k e. e)
+    either has_unit (way (at_any (λ k. not (has_unit k)) (sign_behind_piece target)))
+    (either has_change (way (at_any (λ k. not (has_change k)) (changed_piece target))) (set_piece target) (λ k e. e)
     (λ ts left a r end. becomes_no_change _ ((set_piece target).begun ts left a r)))
     (λ k e. e)
-    (λ ts left a r end. change_no_unit _ ((either has_change (at_any (λ k. not (has_change k)) (changed_piece target)) (set_piece target) (λ k e. e)
+    (λ ts left a r end. change_no_unit _ ((either has_change (way (at_any (λ k. not (has_change k)) (changed_piece target))) (set_piece target) (λ k e. e)
     (λ ts left a r end. becomes_no_change _ ((set_piece target).begun ts left a r))).begun ts left a r))
 
 moved_same : (target : Word) (r : Got Word) → and_then r (moved target) ≡ and_then r (λ source. moved target source)
@@ -150,7 +150,7 @@ abbrev named_step_piece : Piece Step nowhere none
 named_step_piece = next name_piece (λ target. named (step_behind target) (step_behind_piece target) (step_behind_as target))
 
 abbrev any_step_piece : Piece Step nowhere none
-any_step_piece = either has_unit (at_any (λ k. not (has_unit k)) sign_before_piece) named_step_piece (λ k e. e) (λ ts left a r end. name_no_unit _ (named_step_piece.begun ts left a r))
+any_step_piece = either has_unit (way (at_any (λ k. not (has_unit k)) sign_before_piece)) named_step_piece (λ k e. e) (λ ts left a r end. name_no_unit _ (named_step_piece.begun ts left a r))
 
 step_as : (ts : List Lexeme) → step ts ≡ any_step_piece.read ts
 unfolding step
@@ -181,7 +181,7 @@ pub some_step : Some_of IsStep
 some_step = (named_token.0 ∷ plus_plus.0 ∷ [], unit_step (word_of named_token.0) false plus_plus.0, sign_behind named_token.1 unit_is)
 
 abbrev pub step_piece : Piece Step nowhere none
-step_piece = made step IsStep IsStep step_exact some_step
+step_piece = made step IsStep IsStep step_exact some_step some_step
 
 -- ---- assignments
 
@@ -248,6 +248,9 @@ assignment_exact room = (renamed (IsAssigned room) (IsAssigned (suc room)) (name
 pub some_assignment : (room : ℕ) → Some_of (IsAssigned (suc room))
 some_assignment room = let s = (assignment_piece room).some in (s.0, s.1, wide_assignment room s.0 s.1 s.2)
 
+pub assignment_here : (room : ℕ) → Some_of (IsAssigned room)
+assignment_here room = let s = (assignment_piece room).here in (s.0, s.1, to_assignment room s.0 s.1 s.2)
+
 pub assignment_begun : (room : ℕ) (ts left : List Lexeme) (a : List Statement) → IsAssigned room ts a → is_name (peek (ts ++ left)) ≡ true
 assignment_begun room _ left _ (assigned (assignment m c n subs at value end)) = n
 
@@ -263,7 +266,7 @@ untyped_ends : (ts left : List Lexeme) (a : Bool) → IsPure false ts a → on_t
 untyped_ends _ left _ nothing end = end
 
 abbrev any_typed_piece : Piece Bool nowhere on_typed
-any_typed_piece = either_or is_whole (passed is_whole refl (an_int.0, int_is) (λ _. value_before on_typed true)) (value_before on_typed false) (λ k e. e) untyped_ends
+any_typed_piece = either_or is_whole (way (passed is_whole refl (an_int.0, int_is) (λ _. value_before on_typed true))) (value_before on_typed false) (λ k e. e) untyped_ends
 
 typed_as : (ts : List Lexeme) → reading.typed ts ≡ any_typed_piece.read ts
 unfolding reading.typed
@@ -328,4 +331,4 @@ some_header room =
     )
 
 abbrev pub header_piece : ℕ → Piece LoopHeader nowhere none
-header_piece room = made (reading.header room) (IsHeader room) (IsHeader (suc room)) (header_exact room) (some_header (suc room))
+header_piece room = made (reading.header room) (IsHeader room) (IsHeader (suc room)) (header_exact room) (some_header (suc room)) (some_header room)

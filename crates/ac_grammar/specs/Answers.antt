@@ -1,10 +1,10 @@
 -- What is answered of tokens that begin with something of the grammar, and of those that do not.
-use Rattle.std.specs.Prelude.{◌≡◌, ℕ, false, List, [], ◌∷◌, ◌++◌, Result, Ok, Err}
+use Rattle.std.specs.Prelude.{◌≡◌, ℕ, true, false, List, [], ◌∷◌, ◌++◌, Result, Ok, Err}
 use Rattle.ac_lex.specs.Lexemes.{Lexeme}
 use Rattle.ac_grammar.specs.declared.cursor.Stop.{Stop}
 use Rattle.ac_grammar.specs.declared.cursor.Stop.TheVariants.{Syntax, Nesting, Memory}
 use Rattle.ac_grammar.specs.Reading.{peek, front}
-use Rattle.ac_grammar.specs.Found.{Rel, Goes, Read, CanGoOn}
+use Rattle.ac_grammar.specs.Found.{Rel, Goes, Read, CanGoOn, Begins, opens_construct}
 
 -- with room for however many constructs
 abbrev pub AtAnyDepth : {A : Type 0} → (ℕ → Rel A) → Rel A
@@ -16,23 +16,26 @@ pub record IsFirstFault {A : Type 0} (R V : Rel A) (goes : Goes A) (before bad :
   pub viable : CanGoOn V before
   pub dead : (other used left : List Lexeme) (a : A) → peek other ≡ peek bad → R used a → goes a (peek left) ≡ false → before ++ other ≡ used ++ left → ⊥
 
--- at any depth
-pub record HasSyntaxFault {A : Type 0} (R : ℕ → Rel A) (goes : Goes A) (old bad : List Lexeme) : Type 0 where
+-- at any depth; what stands before the fault keeps within the room
+pub record HasSyntaxFault {A : Type 0} (R : ℕ → Rel A) (goes : Goes A) (room : ℕ) (old bad : List Lexeme) : Type 0 where
   pub before : List Lexeme
   pub cut : old ≡ before ++ bad
+  pub alive : Begins (R room) before
   pub first : IsFirstFault (AtAnyDepth R) (AtAnyDepth R) goes before bad
 
--- at this room, while deeper ones go on with the token
+-- at this room, at a mark that opens a construct, while deeper ones go on with it
 pub record HasNestingFault {A : Type 0} (R : ℕ → Rel A) (goes : Goes A) (room : ℕ) (old bad : List Lexeme) : Type 0 where
   pub before : List Lexeme
   pub cut : old ≡ before ++ bad
+  pub alive : Begins (R room) before
+  pub opens : opens_construct (peek bad) ≡ true
   pub first : IsFirstFault (R room) (AtAnyDepth R) goes before bad
   pub deeper : CanGoOn (AtAnyDepth R) (before ++ front bad ∷ [])
 
 -- what reading at this room answers, and the tokens that are then left
 abbrev pub IsAnswer : {A : Type 0} → (ℕ → Rel A) → Goes A → ℕ → List Lexeme → Result A Stop → List Lexeme → Type 0
 IsAnswer R goes room old (Ok a) new = Read (R room) goes old new a
-IsAnswer R goes room old (Err Syntax) new = HasSyntaxFault R goes old new
+IsAnswer R goes room old (Err Syntax) new = HasSyntaxFault R goes room old new
 IsAnswer R goes room old (Err Nesting) new = HasNestingFault R goes room old new
 IsAnswer R goes room old (Err (Memory fault)) new = Unit {0}
 

@@ -1,5 +1,5 @@
 -- What is answered of the tokens of a file: its tree, or the first token with which no file goes on.
-use Rattle.std.specs.Prelude.{◌≡◌, ℕ, List, [], ◌∷◌, ◌++◌, Result, Ok, Err}
+use Rattle.std.specs.Prelude.{◌≡◌, ℕ, true, List, [], ◌∷◌, ◌++◌, Result, Ok, Err}
 use Rattle.ac_syntax.specs.declared.tree.Place.{Place}
 use Rattle.ac_lex.specs.Lexemes.{Lexeme}
 use Rattle.ac_grammar.specs.declared.tree.File.{File}
@@ -9,7 +9,7 @@ use Rattle.ac_grammar.specs.declared.file.GrammarFault.{GrammarFault}
 use Rattle.ac_grammar.specs.declared.file.GrammarFault.TheVariants.{Syntax, Nesting, Memory}
 use Rattle.ac_grammar.specs.Words.{place_of}
 use Rattle.ac_grammar.specs.Reading.{peek, front}
-use Rattle.ac_grammar.specs.Found.{CanGoOn}
+use Rattle.ac_grammar.specs.Found.{CanGoOn, Begins, opens_construct}
 use Rattle.ac_grammar.specs.Answers.{AtAnyDepth}
 use Rattle.ac_grammar.specs.FileGrammar.{IsFile}
 
@@ -22,29 +22,33 @@ place_at end (t ∷ ts) = place_of t
 abbrev pub IsAnyFile : List Lexeme → File → Type 0
 IsAnyFile = AtAnyDepth IsFile
 
--- The tokens before this place begin some file, and no file at all has a token of the same terminal at this place.
-pub record HasSyntaxFault (end : ℕ) (tokens : List Lexeme) (place : Place) : Type 0 where
+-- The tokens before this place begin some file, also one in which at most so many constructs nest, and no file at all has a token of
+-- the same terminal at this place.
+pub record HasSyntaxFault (room end : ℕ) (tokens : List Lexeme) (place : Place) : Type 0 where
   pub before : List Lexeme
   pub bad : List Lexeme
   pub cut : tokens ≡ before ++ bad
   pub at : place ≡ place_at end bad
   pub begins : CanGoOn IsAnyFile before
+  pub alive : Begins (IsFile room) before
   pub dead : (other : List Lexeme) (file : File) → peek other ≡ peek bad → IsAnyFile (before ++ other) file → ⊥
 
--- The tokens through the one at this place begin some file, and no file in which at most so many constructs nest has a token of
--- the same terminal there.
+-- The tokens through the one at this place, a mark that opens a construct, begin some file; those before it begin one in which at most
+-- so many constructs nest, and no such file has a token of the same terminal there.
 pub record HasNestingFault (room end : ℕ) (tokens : List Lexeme) (place : Place) : Type 0 where
   pub before : List Lexeme
   pub bad : List Lexeme
   pub cut : tokens ≡ before ++ bad
   pub at : place ≡ place_at end bad
+  pub opens : opens_construct (peek bad) ≡ true
   pub begins : CanGoOn IsAnyFile (before ++ front bad ∷ [])
+  pub alive : Begins (IsFile room) before
   pub dead : (other : List Lexeme) (file : File) → peek other ≡ peek bad → IsFile room (before ++ other) file → ⊥
 
 -- what is answered
 abbrev pub IsFileAnswer : ℕ → ℕ → List Lexeme → Result File GrammarFault → Type 0
 IsFileAnswer room end tokens (Ok file) = IsFile room tokens file
-IsFileAnswer room end tokens (Err (Syntax place)) = HasSyntaxFault end tokens place
+IsFileAnswer room end tokens (Err (Syntax place)) = HasSyntaxFault room end tokens place
 IsFileAnswer room end tokens (Err (Nesting place)) = HasNestingFault room end tokens place
 IsFileAnswer room end tokens (Err (Memory fault)) = Unit {0}
 

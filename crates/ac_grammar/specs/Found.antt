@@ -1,7 +1,9 @@
 -- What a reader has found, and where it stops.
-use Rattle.std.specs.Prelude.{◌≡◌, Bool, false, List, [], ◌∷◌, ◌++◌, ◌⊎◌}
+use Rattle.std.specs.Prelude.{◌≡◌, Bool, true, false, List, [], ◌∷◌, ◌++◌, ◌⊎◌}
 use Rattle.ac_lex.specs.Lexemes.{Lexeme}
 use Rattle.ac_grammar.specs.declared.terminal.Terminal.{Terminal}
+use Rattle.ac_grammar.specs.declared.terminal.Terminal.TheVariants.{For, If, Open, OpenBracket, OpenBrace, Minus}
+use Rattle.ac_grammar.specs.Terminals.{terminal}
 use Rattle.ac_grammar.specs.Reading.{Why, nesting, Reader, stopped, peek, front}
 
 -- which tokens are such a thing, with this value
@@ -31,3 +33,23 @@ pub record Stops {A : Type 0} (p : Reader A) (R : Rel A) (why : Why) (ts bad : L
   pub viable : (pre ≡ []) ⊎ CanGoOn R pre
   pub only : (other : List Lexeme) → peek other ≡ peek bad → p (pre ++ other) ≡ stopped why other
   pub deeper : why ≡ nesting → CanGoOn R (pre ++ front bad ∷ [])
+
+-- the marks that open a construct
+abbrev pub opens_construct : Terminal → Bool
+opens_construct Open = true
+opens_construct OpenBracket = true
+opens_construct OpenBrace = true
+opens_construct Minus = true
+opens_construct _ = false
+
+-- the keywords behind which a parenthesis opens
+abbrev pub awaits_parenthesis : Terminal → Bool
+awaits_parenthesis For = true
+awaits_parenthesis If = true
+awaits_parenthesis _ = false
+
+-- Tokens begin something of the relation, but for such a keyword at their end: where no construct more may open, its parenthesis
+-- may not.
+pub data Begins {A : Type 0} (R : Rel A) : List Lexeme → Type 0 where
+  begins_whole : {pre : List Lexeme} → CanGoOn R pre → Begins R pre
+  begins_to_keyword : (pre : List Lexeme) (k : Lexeme) → awaits_parenthesis (terminal k) ≡ true → CanGoOn R pre → Begins R (pre ++ k ∷ [])

@@ -4,6 +4,8 @@ use Rattle.std.specs.Prelude.{Result, Ok, Err, IfErr}
 use Rattle.std.specs.Result.{IsErrAnd}
 use Rattle.std.proofs.lemmas.Option.{none-some}
 use Rattle.std.specs.declared.alloc.AllocError.{AllocError}
+use Rattle.ac_syntax.specs.Ready.{ReadyProgram}
+use Rattle.ac_syntax.specs.Small.{IsSmallProgram}
 use Rattle.ac_syntax.specs.declared.tree.Place.{Place}
 use Rattle.ac_syntax.specs.declared.tree.Program.{Program}
 use Rattle.ac_lex.specs.Lexemes.{Lexeme}
@@ -22,10 +24,13 @@ use Rattle.ac_grammar.proofs.StatementAnswers.{one_file}
 use Rattle.ac_rules.specs.declared.fault.RuleFault.{RuleFault}
 use Rattle.ac_rules.specs.declared.fault.RuleFault.TheVariants as rules
 use Rattle.ac_rules.specs.Files.{file_broken, program_of, IsAnswer}
+use Rattle.ac_rules.proofs.ReadyPrograms.{ready_program}
+use Rattle.ac_rules.proofs.SmallPrograms.{small_program}
 use Rattle.ac_parse.specs.declared.faults.SourceFault.{SourceFault}
 use Rattle.ac_parse.specs.Program.{IsShort, IsText, IsProgramOf}
 use Rattle.ac_parse.specs.Answers.{HasSourceFault, no_tokens, no_file, too_deep, breaks_a_rule, no_memory, IsOnlyProgram}
-use Rattle.ac_parse.specs.Laws.{HasOneProgram}
+use Rattle.ac_parse.specs.Laws.{HasOneProgram, ProgramsAreReady, ProgramsAreSmall}
+use Rattle.ac_parse.proofs.Conditions.{file_conditions}
 use Rattle.ac_parse.specs.Stages.{of_lexer, of_grammar, of_rules, IsTokensAnswer, has_program, is_no_file, is_too_deep, breaks, lacks_memory}
 
 -- what holds of a converted fault
@@ -59,7 +64,7 @@ grammar_only p file (grammar.Syntax place) h = h
 grammar_only p file (grammar.Nesting place) h = h
 grammar_only p file (grammar.Memory e) h = tt
 
-none_is_some : {A : Type 0} {o : Option A} {a : A} → o ≡ None → o ≡ Some a → ⊥
+pub none_is_some : {A : Type 0} {o : Option A} {a : A} → o ≡ None → o ≡ Some a → ⊥
 none_is_some p q = none-some _ (sym p ∙ q)
 
 pub rules_only : (p : Program) (file : File) (f : RuleFault) → file_broken file ≡ None → IsAnswer file (Err f) → IsOnlyProgram p (Err (of_rules f))
@@ -105,3 +110,10 @@ one_program bytes p q h k =
     let is : IsFile 128 k.text.tokens h.file = text_tokens bytes k.text.tokens p h k.text.cut in
     let same : h.file ≡ k.file = one_file k.text.tokens h.file k.file (128, is) (128, k.text.grammar) in
     h.is ∙ ap program_of same ∙ sym k.is
+
+-- what holds of the program of a file holds of the program of its text
+pub ready : ProgramsAreReady
+ready bytes program h = subst ReadyProgram (sym h.is) (ready_program h.file h.rules (file_conditions h.text.grammar))
+
+pub small : ProgramsAreSmall
+small bytes program h = subst IsSmallProgram (sym h.is) (small_program h.file h.rules)

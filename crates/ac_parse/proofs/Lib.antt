@@ -1,3 +1,4 @@
 pub mod Assigning
 pub mod Composing
 pub mod Conditions
+pub mod OneSourceFault

@@ -1,5 +1,5 @@
 -- What `parse` answers of a text that has no program.
-use Rattle.std.specs.Prelude.{◌≡◌, ◌<◌, ℕ, List, length, Some, Result, Ok, Err}
+use Rattle.std.specs.Prelude.{◌≡◌, ◌<◌, ℕ, Bool, true, false, List, length, Some, Result, Ok, Err}
 use Rattle.std.specs.declared.alloc.AllocError.{AllocError}
 use Rattle.ac_syntax.specs.declared.tree.Place.{Place}
 use Rattle.ac_syntax.specs.declared.tree.Program.{Program}
@@ -40,12 +40,17 @@ rule_fault (rule.Limit which) place = Limit which place
 pub data HasSourceFault (bytes : List ℕ) : SourceFault → Type 0 where
   too_long : 65536 < length bytes → HasSourceFault bytes (Limit which.File (record { at = 0 }))
   no_tokens : (why : Why) (place : Place) → IsShort bytes → IsFault bytes why place.at → HasSourceFault bytes (Lex (lex_fault why place))
-  no_file : (tokens : List Lexeme) (place : Place) → IsShort bytes → AreTokens bytes tokens → HasSyntaxFault (length bytes) tokens place
+  no_file : (tokens : List Lexeme) (place : Place) → IsShort bytes → AreTokens bytes tokens → HasSyntaxFault 128 (length bytes) tokens place
       → HasSourceFault bytes (Syntax place)
   too_deep : (tokens : List Lexeme) (place : Place) → IsShort bytes → AreTokens bytes tokens → HasNestingFault 128 (length bytes) tokens place
       → HasSourceFault bytes (Limit which.Nesting place)
   breaks_a_rule : (file : File) (first : Broken) → IsText bytes file → file_broken file ≡ Some first → HasSourceFault bytes (rule_fault first.rule first.place)
   no_memory : (error : AllocError) → HasSourceFault bytes (Memory error)
+
+-- want of memory, which says nothing of the text
+abbrev pub is_memory : SourceFault → Bool
+is_memory (Memory error) = true
+is_memory _ = false
 
 -- this program, unless memory fails
 abbrev pub IsOnlyProgram : Program → Result Program SourceFault → Type 0

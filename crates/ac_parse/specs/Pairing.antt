@@ -1,6 +1,7 @@
 -- When two programs are a pair, and which.
-use Rattle.std.specs.Prelude.{◌≡◌, ◌≢◌, ◌≤◌, ◌+◌, ◌-◌, ◌^◌, ℕ, ℤ, min, Bool, false, ◌&&◌, ◌||◌, ◌==◌, nat_lt, is_none, if◌then◌else◌, List, [], ◌∷◌, ◌++◌, map, filter, length, take, slice_get, Option, None, Some, option_map}
+use Rattle.std.specs.Prelude.{◌≡◌, ◌≢◌, ◌≤◌, ◌+◌, ◌-◌, ◌^◌, ℕ, ℤ, pos, min, Bool, false, ◌&&◌, ◌||◌, ◌==◌, nat_lt, is_none, if◌then◌else◌, List, [], ◌∷◌, ◌++◌, map, filter, length, take, slice_get, Option, None, Some, option_map}
 use Rattle.std.specs.List.{list_any}
+use Rattle.std.specs.Ordering.{int_eq}
 use Rattle.ac_syntax.specs.declared.tree.IndexExpr.{IndexExpr}
 use Rattle.ac_syntax.specs.declared.tree.Array.{Array}
 use Rattle.ac_syntax.specs.declared.tree.Slot.{Slot}
@@ -12,13 +13,24 @@ use Rattle.ac_parse.specs.declared.faults.PairFault.{PairFault}
 use Rattle.ac_parse.specs.declared.faults.PairFault.TheVariants.{Signature, NoOutput, Memory}
 use Rattle.ac_parse.specs.Assigned.{assigns}
 
--- the constant and the coefficients of an extent, wherever it stands in its text
+-- a coefficient, and those behind it if one of them is not 0
+abbrev pub with_later : ℤ → List ℤ → List ℤ
+with_later z [] = if int_eq z (pos 0) then [] else z ∷ []
+with_later z (y ∷ ys) = z ∷ y ∷ ys
+
+-- coefficients up to the last one that is not 0
+abbrev pub significant : List ℤ → List ℤ
+significant [] = []
+significant (z ∷ zs) = with_later z (significant zs)
+
+-- an extent as a form: its constant and its coefficients, wherever it stands in its text, and whatever parameters follow those
+-- that it names
 pub record Extent : Type 0 where
   pub constant : ℤ
   pub params : List ℤ
 
 abbrev pub extent_of : IndexExpr → Extent
-extent_of e = record { constant = e.konst; params = e.params }
+extent_of e = record { constant = e.konst; params = significant e.params }
 
 -- an array without where it stands in its text: its name and its extents
 pub record Shape : Type 0 where

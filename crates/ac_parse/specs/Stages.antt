@@ -44,7 +44,7 @@ of_rules (rules.Memory error) = Memory error
 -- what is answered of tokens: the program of their file, or the fault of the grammar or of the rules
 pub data IsTokensAnswer (end : ℕ) (tokens : List Lexeme) : Result Program SourceFault → Type 0 where
   has_program : (file : File) → IsFile 128 tokens file → file_broken file ≡ None → IsTokensAnswer end tokens (Ok (program_of file))
-  is_no_file : (place : Place) → HasSyntaxFault end tokens place → IsTokensAnswer end tokens (Err (Syntax place))
+  is_no_file : (place : Place) → HasSyntaxFault 128 end tokens place → IsTokensAnswer end tokens (Err (Syntax place))
   is_too_deep : (place : Place) → HasNestingFault 128 end tokens place → IsTokensAnswer end tokens (Err (Limit which.Nesting place))
   breaks : (file : File) (first : Broken) → IsFile 128 tokens file → file_broken file ≡ Some first → IsTokensAnswer end tokens (Err (rule_fault first.rule first.place))
   lacks_memory : (error : AllocError) → IsTokensAnswer end tokens (Err (Memory error))

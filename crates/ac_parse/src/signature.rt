@@ -1,7 +1,7 @@
 // Where the parameter lists of two programs differ.
-ghost use Rattle.std.specs.Prelude.{◌≡◌, ◌↔◌, ◌≤◌, ◌+◌, length, map, IfNone, IfSome, IsTrue, option_map};
+ghost use Rattle.std.specs.Prelude.{◌≡◌, ◌↔◌, ◌≤◌, ◌+◌, [], length, map, IfNone, IfSome, IsTrue, option_map};
 ghost use Rattle.std.specs.Option.{option_copied};
-ghost use Rattle.ac_parse.specs.Pairing.{extent_of, shape_of, parameter_at, signature, IsFirstDifference};
+ghost use Rattle.ac_parse.specs.Pairing.{significant, extent_of, shape_of, parameter_at, signature, IsFirstDifference};
 
 use ac_syntax::name::Name;
 use ac_syntax::tree::{Array, IndexExpr, Program, Slot};
@@ -12,16 +12,31 @@ fn same_name(a: &Name, b: &Name) -> bool
     a == b
 }
 
-fn same_numbers(a: &[i64], b: &[i64]) -> bool
-    ensures { IsTrue result ↔ (a.now ≡ b.now) }
+/// Whether all coefficients are 0.
+fn are_zero(a: &[i64]) -> bool
+    ensures { IsTrue result ↔ (significant a.now ≡ []) }
 {
-    a == b
+    match a {
+        [] => true,
+        [x, xs @ ..] => *x == 0 && are_zero(xs),
+    }
+}
+
+/// Whether two lists of coefficients are those of one form; a missing one is 0.
+fn same_coefficients(a: &[i64], b: &[i64]) -> bool
+    ensures { IsTrue result ↔ (significant a.now ≡ significant b.now) }
+{
+    match (a, b) {
+        ([], _) => are_zero(b),
+        (_, []) => are_zero(a),
+        ([x, xs @ ..], [y, ys @ ..]) => *x == *y && same_coefficients(xs, ys),
+    }
 }
 
 fn same_extent(a: &IndexExpr, b: &IndexExpr) -> bool
     ensures { IsTrue result ↔ (extent_of a.now ≡ extent_of b.now) }
 {
-    a.konst == b.konst && same_numbers(a.params.as_slice(), b.params.as_slice())
+    a.konst == b.konst && same_coefficients(a.params.as_slice(), b.params.as_slice())
 }
 
 fn same_extents(a: &[IndexExpr], b: &[IndexExpr]) -> bool

@@ -37,6 +37,8 @@ impl<R: HostFiles> Files for DiskFiles<R> {
 
     ghost write_faults = { λ files. files.write_faults };
 
+    ghost read_makes = { λ before name after. Unit {0} };
+
     fn read(&mut self, alloc: Global, name: &[u8], limit: u64) -> Result<Vec<u8>, ReadStop> {
         let outcome = read_file(&self.rt, alloc, name, limit);
         if let Err(ReadStop::Failed) = &outcome {

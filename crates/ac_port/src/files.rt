@@ -1,5 +1,5 @@
 // Files by name, as the program sees them.
-ghost use Rattle.std.specs.Prelude.{◌≡◌, ◌≤◌, ℕ, length, Option, option_map, IfOk, OnOk, IfSome, IsErrOf, alloc_error};
+ghost use Rattle.std.specs.Prelude.{◌≡◌, ◌≤◌, ℕ, List, length, Option, option_map, IfOk, OnOk, IfSome, IsErrOf, alloc_error};
 ghost use Rattle.std.specs.FinMap as map;
 ghost use Rattle.ac_port.specs.Contents.{Contents, IsTooBig, IsSameBut};
 ghost use Rattle.ac_port.specs.Counts.{Rose};
@@ -55,6 +55,9 @@ pub trait Files {
     /// How often a write has failed. It ends at 2^64 - 1.
     ghost write_faults: { Self → ℕ };
 
+    /// What a read of this name may make of the files; an implementation need not tell more than that it may be anything.
+    ghost read_makes: { Self → List ℕ → Self → Type 0 };
+
     /// The bytes of the named file, if they are at most `limit`. Where contents are told and there is
     /// neither a fault nor want of memory, `TooBig` comes exactly where there are more.
     fn read(&mut self, alloc: Global, name: &[u8], limit: u64) -> Result<Vec<u8>, ReadStop>
@@ -62,6 +65,8 @@ pub trait Files {
         ensures within { IfOk result (λ bytes. length bytes.items ≤ limit) }
         ensures too_big { IsErrOf result ReadStop.TooBig → IfSome (contents self.old) (λ files. IsTooBig files name.now limit) }
         ensures failed { IsErrOf result ReadStop.Failed → Rose (read_faults self.old) (read_faults self.new) }
+        ensures quiet { ¬ (IsErrOf result ReadStop.Failed) → read_faults self.new ≡ read_faults self.old }
+        ensures makes { read_makes self.old name.now self.new }
         ensures same { contents self.new ≡ contents self.old }
         ensures no_fewer { read_faults self.old ≤ read_faults self.new }
         ensures same_writes { write_faults self.new ≡ write_faults self.old };

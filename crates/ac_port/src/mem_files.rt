@@ -104,6 +104,8 @@ impl Files for MemFiles {
 
     ghost write_faults = { λ files. files.writes.faults };
 
+    ghost read_makes = { λ before name after. after ≡ record before { reads = after_call (read_fails before name) before.reads } };
+
     /// Fails exactly at a listed read and at a name that is not there.
     fn read(&mut self, alloc: Global, name: &[u8], limit: u64) -> Result<Vec<u8>, ReadStop>
         ensures exact { IsErrOf result ReadStop.Failed ↔ IsTrue (read_fails self.old name.now) }
@@ -112,6 +114,8 @@ impl Files for MemFiles {
         ensures within { IfOk result (λ bytes. length bytes.items ≤ limit) }
         ensures too_big { IsErrOf result ReadStop.TooBig → IsTooBig self.old.contents name.now limit }
         ensures failed { IsErrOf result ReadStop.Failed → Rose self.old.reads.faults self.new.reads.faults }
+        ensures quiet { ¬ (IsErrOf result ReadStop.Failed) → self.new.reads.faults ≡ self.old.reads.faults }
+        ensures makes { self.new ≡ record self.old { reads = after_call (read_fails self.old name.now) self.old.reads } }
         ensures same { self.new.contents ≡ self.old.contents }
         ensures no_fewer { self.old.reads.faults ≤ self.new.reads.faults }
         ensures same_writes { self.new.writes.faults ≡ self.old.writes.faults }

@@ -3,3 +3,4 @@ mod Reading
 mod Numerals
 mod Forms
 mod Lists
+pub mod Determined

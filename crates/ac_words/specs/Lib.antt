@@ -2,3 +2,4 @@ pub mod Numbers
 pub mod Commands
 pub mod Entries
 pub mod Valuations
+pub mod Laws

@@ -5,8 +5,10 @@
 
 mod command;
 mod given;
+mod laws;
 mod numbers;
 mod parts;
 
 pub use command::{Command, command_of};
 pub use given::valuation;
+pub use laws::words_are_determined;
