@@ -33,7 +33,7 @@ all_same pair (p ∷ os) (Equal ∷ vs) h none o (suc k, within, is) = all_same 
 done_prove : (a b : List ℕ) (pair : Pair) (r : Report) → PairReports a b pair r → r.status ≡ status.Done → IsTheSame pair
 done_prove a b pair r (first_not_straight h) done = absurd cc
 done_prove a b pair r (second_not_straight h k) done = absurd cc
-done_prove a b pair r (compared vs h) done = all_same pair pair.outputs vs h (none_different vs done)
+done_prove a b pair r (compared vs s t h) done = all_same pair pair.outputs vs h (none_different vs done)
 
 -- what is true of each pair of which Done is reported is true of the pair that two files hold
 module _ (files : Option Contents) (a b : List ℕ) (Is : Pair → Type 0) where
@@ -43,20 +43,20 @@ module _ (files : Option Contents) (a b : List ℕ) (Is : Pair → Type 0) where
   of_sources first second OfPair good h k r (paired pair u are lowered p) d =
       record { first = first; second = second; holds_first = h; holds_second = k; pair = pair; are = are; is = good pair u p d }
 
-  of_files : (faulty : Type 0) (OfPair : List ℕ → List ℕ → Pair → Report → Type 0) → ((first second : List ℕ) (pair : Pair) (r : Report) → OfPair first second pair r → r.status ≡ status.Done → Is pair)
-      → (r : Report) → FileReports files faulty a b OfPair r → r.status ≡ status.Done → HoldAPair files a b Is
-  of_files faulty OfPair good r (first_unread h) done = absurd cc
-  of_files faulty OfPair good r (first_too_long h) done = absurd cc
-  of_files faulty OfPair good r (second_unread x h k) done = absurd cc
-  of_files faulty OfPair good r (second_too_long x h k) done = absurd cc
-  of_files faulty OfPair good r (sources first second s h k m) done = of_sources first second (OfPair first second) (good first second) h k s m done
+  of_files : (first_fails second_fails : Type 0) (OfPair : List ℕ → List ℕ → Pair → Report → Type 0) → ((first second : List ℕ) (pair : Pair) (r : Report) → OfPair first second pair r → r.status ≡ status.Done → Is pair)
+      → (r : Report) → FileReports files first_fails second_fails a b OfPair r → r.status ≡ status.Done → HoldAPair files a b Is
+  of_files first_fails second_fails OfPair good r (first_unread h) done = absurd cc
+  of_files first_fails second_fails OfPair good r (first_too_long h) done = absurd cc
+  of_files first_fails second_fails OfPair good r (second_unread x h k) done = absurd cc
+  of_files first_fails second_fails OfPair good r (second_too_long x h k) done = absurd cc
+  of_files first_fails second_fails OfPair good r (sources first second s h k m) done = of_sources first second (OfPair first second) (good first second) h k s m done
 
-pub done : (words : List (List ℕ)) (files : Option Contents) (faulty : Type 0) (r : Report) → Reports words files faulty r → DoneMeansTheSame words files r.status
-done words files faulty r (no_form h) = λ d. absurd cc
-done words files faulty r (of_prove a b s is h) = λ d.
-    (prove a b, is, of_files files a b IsTheSame faulty (λ first second. PairReports a b) (λ first second pair u p e. done_prove a b pair u p e) s h d)
-done words files faulty r (of_instance a b at limit s is h) = λ d.
-    (instance_of a b at limit, is, of_files files a b (λ pair. IsTheSameAt pair at) faulty (λ first second pair. InstanceReports a b first second pair at limit) (λ first second pair u p e. done_instance a b first second pair at limit u p e) s h d)
+pub done : (words : List (List ℕ)) (files : Option Contents) (first_fails : List ℕ → Type 0) (second_fails : List ℕ → List ℕ → Type 0) (r : Report) → Reports words files first_fails second_fails r → DoneMeansTheSame words files r.status
+done words files first_fails second_fails r (no_form h) = λ d. absurd cc
+done words files first_fails second_fails r (of_prove a b s is h) = λ d.
+    (prove a b, is, of_files files a b IsTheSame (first_fails a) (second_fails a b) (λ first second. PairReports a b) (λ first second pair u p e. done_prove a b pair u p e) s h d)
+done words files first_fails second_fails r (of_instance a b at limit s is h) = λ d.
+    (instance_of a b at limit, is, of_files files a b (λ pair. IsTheSameAt pair at) (first_fails a) (second_fails a b) (λ first second pair. InstanceReports a b first second pair at limit) (λ first second pair u p e. done_instance a b first second pair at limit u p e) s h d)
 
 -- a put that ends in the report's status, or in another that is not Done
 pub put_done : (words : List (List ℕ)) (files : Option Contents) (failed : Type 0) (before now : Option (List ℕ)) (r : Report) (s : Status) → Puts r failed before now s → DoneMeansTheSame words files r.status → DoneMeansTheSame words files s

@@ -23,7 +23,7 @@ use Rattle.ac_instance.specs.declared.halt.Outcome.{Outcome}
 use Rattle.ac_instance.specs.declared.halt.Outcome.TheVariants.{Equal, Different}
 use Rattle.ac_words.specs.Valuations.{IsValuationWord, given_to}
 use Rattle.ac_top.specs.Reports.{Report, report as a_report}
-use Rattle.ac_top.specs.Runs.{IsGiven, is_different, status_of, RunReports, outside, too_large, range, ran, InstanceReports, not_a_valuation, at_valuation, IsTheSameAt, IsReadyPair, HaltReports, of_side}
+use Rattle.ac_top.specs.Runs.{IsGiven, is_different, status_of, RunReports, outside, too_large, range, ran, InstanceReports, not_a_valuation, at_valuation, IsTheSameAt, EqualIsSame, IsReadyPair, HaltReports, of_side}
 use Rattle.ac_top.specs.Texts.{name_at, outcome_line, outcome_lines, outside_context_line, too_large_line, range_line}
 use Rattle.ac_top.specs.declared.status.Status.TheVariants as status
 
@@ -141,12 +141,20 @@ all_agree looked (p ∷ os) (Different e ∷ rs) h none o at = absurd cc
 all_agree looked (p ∷ os) (Equal ∷ rs) h none o (zero, within, is) = subst (λ q. (e : List ℤ) → (looked q).At e → (looked q).Agrees e) is h.0
 all_agree looked (p ∷ os) (Equal ∷ rs) h none o (suc k, within, is) = all_agree looked os rs h.1 none o (k, omega (arith, within), is)
 
+-- an output whose outcome is equal is the same at the valuation
+pub equal_is_same : (pair : Pair) (params : List ℤ) (os : List ℕ) (rs : List Outcome) → AreOutcomes (compared pair params) os rs → EqualIsSame pair params os rs
+equal_is_same pair params [] rs h = tt
+equal_is_same pair params (o ∷ os) [] h = tt
+equal_is_same pair params (o ∷ os) (Equal ∷ rs) h =
+    (λ e k. same_from_terms (input_at pair.left.arrays) (swaps_of pair.commutative) pair.left.body pair.right.body params (element o e) (h.0 e k), equal_is_same pair params os rs h.1)
+equal_is_same pair params (o ∷ os) (Different d ∷ rs) h = equal_is_same pair params os rs h.1
+
 -- where the outcomes of a run are all equal, each output is the same at its valuation
 done_run : (a b first second : List ℕ) (pair : Pair) (at : Option (List ℕ)) (params : List ℤ) (limit : ℕ) (r : Report) → IsGiven pair at params → RunReports a b first second pair params limit r → r.status ≡ status.Done → IsTheSameAt pair at
 done_run a b first second pair at params limit r given (outside d) done = absurd cc
 done_run a b first second pair at params limit r given (too_large d) done = absurd cc
 done_run a b first second pair at params limit r given (range side place value d) done = absurd cc
-done_run a b first second pair at params limit r given (ran events rs d all) done =
+done_run a b first second pair at params limit r given (ran events rs d all same) done =
     let terms = all_agree (compared pair params) pair.outputs rs all (none_different rs done) in
     record {
       params = params;

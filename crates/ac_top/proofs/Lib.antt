@@ -11,5 +11,4 @@ pub mod Limits
 pub mod Lines
 pub mod Lowerings
 pub mod Pairs
-pub mod Rising
 pub mod Verdicts

@@ -29,7 +29,7 @@ use Rattle.ac_top.specs.declared.verdict.Verdict.{Verdict}
 pub data PairReports (a b : List ℕ) (pair : Pair) : Report → Type 0 where
   first_not_straight : is_straight_program pair.left ≡ false → PairReports a b pair (report status.Refused (later_line a))
   second_not_straight : is_straight_program pair.left ≡ true → is_straight_program pair.right ≡ false → PairReports a b pair (report status.Refused (later_line b))
-  compared : (verdicts : List Verdict) → AreVerdicts pair pair.outputs verdicts
+  compared : (verdicts : List Verdict) → is_straight_program pair.left ≡ true → is_straight_program pair.right ≡ true → AreVerdicts pair pair.outputs verdicts
       → PairReports a b pair (report (status_of verdicts) (verdict_lines pair.left.arrays pair.outputs verdicts))
 
 -- a text has a fault, of which this is said
@@ -86,20 +86,21 @@ pub record Holds (files : Option Contents) (name bytes : List ℕ) : Type 0 wher
   pub told : IfSome files (λ contents. get contents name ≡ Some bytes)
   pub short : length bytes ≤ 65536
 
--- of two named files: why one has no bytes to read, or what is reported of the bytes of both; `faulty` says that a read failed in this run
-pub data FileReports (files : Option Contents) (faulty : Type 0) (a b : List ℕ) (OfPair : List ℕ → List ℕ → Pair → Report → Type 0) : Report → Type 0 where
-  first_unread : faulty → FileReports files faulty a b OfPair (report status.ReadFault (read_fault_line a))
-  first_too_long : IfSome files (λ contents. IsTooBig contents a 65536) → FileReports files faulty a b OfPair (report status.Refused (too_long_line a))
-  second_unread : (first : List ℕ) → Holds files a first → faulty → FileReports files faulty a b OfPair (report status.ReadFault (read_fault_line b))
-  second_too_long : (first : List ℕ) → Holds files a first → IfSome files (λ contents. IsTooBig contents b 65536) → FileReports files faulty a b OfPair (report status.Refused (too_long_line b))
-  sources : (first second : List ℕ) (r : Report) → Holds files a first → Holds files b second → SourceReports a b first second (OfPair first second) r → FileReports files faulty a b OfPair r
+-- of two named files: why one has no bytes to read, or what is reported of the bytes of both; `first_fails` says that the read of
+-- the first failed in this run, and `second_fails` that the read of the second did
+pub data FileReports (files : Option Contents) (first_fails second_fails : Type 0) (a b : List ℕ) (OfPair : List ℕ → List ℕ → Pair → Report → Type 0) : Report → Type 0 where
+  first_unread : first_fails → FileReports files first_fails second_fails a b OfPair (report status.ReadFault (read_fault_line a))
+  first_too_long : IfSome files (λ contents. IsTooBig contents a 65536) → FileReports files first_fails second_fails a b OfPair (report status.Refused (too_long_line a))
+  second_unread : (first : List ℕ) → Holds files a first → second_fails → FileReports files first_fails second_fails a b OfPair (report status.ReadFault (read_fault_line b))
+  second_too_long : (first : List ℕ) → Holds files a first → IfSome files (λ contents. IsTooBig contents b 65536) → FileReports files first_fails second_fails a b OfPair (report status.Refused (too_long_line b))
+  sources : (first second : List ℕ) (r : Report) → Holds files a first → Holds files b second → SourceReports a b first second (OfPair first second) r → FileReports files first_fails second_fails a b OfPair r
 
--- what is reported of the words
-pub data Reports (words : List (List ℕ)) (files : Option Contents) (faulty : Type 0) : Report → Type 0 where
-  no_form : ¬ (HasForm words) → Reports words files faulty (report status.Usage usage_line)
-  of_prove : (a b : List ℕ) (r : Report) → IsCommand words (prove a b) → FileReports files faulty a b (λ first second. PairReports a b) r → Reports words files faulty r
+-- what is reported of the words; `first_fails` and `second_fails` say of names that in this run the read of the first, or of the second, failed
+pub data Reports (words : List (List ℕ)) (files : Option Contents) (first_fails : List ℕ → Type 0) (second_fails : List ℕ → List ℕ → Type 0) : Report → Type 0 where
+  no_form : ¬ (HasForm words) → Reports words files first_fails second_fails (report status.Usage usage_line)
+  of_prove : (a b : List ℕ) (r : Report) → IsCommand words (prove a b) → FileReports files (first_fails a) (second_fails a b) a b (λ first second. PairReports a b) r → Reports words files first_fails second_fails r
   of_instance : (a b : List ℕ) (at : Option (List ℕ)) (limit : ℕ) (r : Report) → IsCommand words (instance_of a b at limit)
-      → FileReports files faulty a b (λ first second pair. InstanceReports a b first second pair at limit) r → Reports words files faulty r
+      → FileReports files (first_fails a) (second_fails a b) a b (λ first second pair. InstanceReports a b first second pair at limit) r → Reports words files first_fails second_fails r
 
 -- what becomes of a report: its text is put whole, or a put failed in this run, or memory ran out and nothing is put
 pub data Puts (r : Report) (failed : Type 0) (before now : Option (List ℕ)) : Status → Type 0 where
@@ -108,9 +109,9 @@ pub data Puts (r : Report) (failed : Type 0) (before now : Option (List ℕ)) : 
   nothing : now ≡ before → Puts r failed before now status.Memory
 
 -- how a run ends: with the report of its words, or for want of memory, with nothing put
-pub data Ends (words : List (List ℕ)) (files : Option Contents) (faulty failed : Type 0) (before now : Option (List ℕ)) : Status → Type 0 where
-  reported : (r : Report) (s : Status) → Reports words files faulty r → Puts r failed before now s → Ends words files faulty failed before now s
-  no_memory : now ≡ before → Ends words files faulty failed before now status.Memory
+pub data Ends (words : List (List ℕ)) (files : Option Contents) (first_fails : List ℕ → Type 0) (second_fails : List ℕ → List ℕ → Type 0) (failed : Type 0) (before now : Option (List ℕ)) : Status → Type 0 where
+  reported : (r : Report) (s : Status) → Reports words files first_fails second_fails r → Puts r failed before now s → Ends words files first_fails second_fails failed before now s
+  no_memory : now ≡ before → Ends words files first_fails second_fails failed before now status.Memory
 
 -- the files hold texts, these have programs, and the programs are a pair of which this holds
 pub record HoldAPair (files : Option Contents) (a b : List ℕ) (Is : Pair → Type 0) : Type 0 where

@@ -3,6 +3,7 @@ pub mod Codes
 pub mod Kept
 pub mod Least
 pub mod Places
+pub mod Reads
 pub mod Reports
 pub mod Runs
 pub mod Stages

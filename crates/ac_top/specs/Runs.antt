@@ -1,5 +1,5 @@
 -- What `instance` reports of a pair: the runs of both programs at one valuation.
-use Rattle.std.specs.Prelude.{◌≡◌, ℕ, ℤ, List, [], Bool, true, false, if◌then◌else◌, Option, Some, None, Result, Ok, Err, length}
+use Rattle.std.specs.Prelude.{◌≡◌, ℕ, ℤ, List, [], ◌∷◌, Bool, true, false, if◌then◌else◌, Option, Some, None, Result, Ok, Err, length}
 use Rattle.std.specs.List.{list_any, Contains}
 use Rattle.ac_syntax.specs.Outputs.{IsValuation, IsElement, SameAt, SameTermsAt}
 use Rattle.ac_syntax.specs.Ready.{ReadyProgram}
@@ -40,13 +40,20 @@ abbrev pub of_side : Side → List ℕ → List ℕ → List ℕ
 of_side Left left right = left
 of_side Right left right = right
 
+-- each output whose outcome is equal is the same at the valuation
+abbrev pub EqualIsSame : Pair → List ℤ → List ℕ → List Outcome → Type 0
+EqualIsSame pair params [] rs = Unit {0}
+EqualIsSame pair params (o ∷ os) [] = Unit {0}
+EqualIsSame pair params (o ∷ os) (Equal ∷ rs) = ((e : List ℤ) → IsElement pair params o e → SameAt pair params o e) × EqualIsSame pair params os rs
+EqualIsSame pair params (o ∷ os) (Different d ∷ rs) = EqualIsSame pair params os rs
+
 -- what is reported of the runs at a valuation, by what is due there
 pub data RunReports (a b first second : List ℕ) (pair : Pair) (params : List ℤ) (limit : ℕ) : Report → Type 0 where
   outside : due pair params limit ≡ Err OutsideContext → RunReports a b first second pair params limit (report status.Refused outside_context_line)
   too_large : due pair params limit ≡ Err (TooLarge limit) → RunReports a b first second pair params limit (report status.Halted (too_large_line limit))
   range : (side : Side) (place : Place) (value : ℤ) → due pair params limit ≡ Err (Range side place value)
       → RunReports a b first second pair params limit (report status.Halted (range_line (of_side side a b) (of_side side first second) place.at value))
-  ran : (events : ℕ) (outcomes : List Outcome) → due pair params limit ≡ Ok events → AreOutcomes (compared pair params) pair.outputs outcomes
+  ran : (events : ℕ) (outcomes : List Outcome) → due pair params limit ≡ Ok events → AreOutcomes (compared pair params) pair.outputs outcomes → EqualIsSame pair params pair.outputs outcomes
       → RunReports a b first second pair params limit (report (status_of outcomes) (outcome_lines pair.left.arrays pair.outputs outcomes))
 
 -- of a pair: that the word is no valuation, or what is reported at the valuation that it gives

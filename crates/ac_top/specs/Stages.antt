@@ -34,11 +34,11 @@ use Rattle.ac_top.specs.declared.sources.Parsed.TheVariants as parsed
 abbrev pub written : Written → Report
 written r = a_report r.status r.text.items
 
--- what a read gave
-abbrev pub IsSource : Option Contents → Type 0 → List ℕ → Source → Type 0
-IsSource files faulty name (Bytes bytes) = Holds files name bytes.items
-IsSource files faulty name Unread = faulty
-IsSource files faulty name TooLong = IfSome files (λ contents. IsTooBig contents name 65536)
+-- what a read gave; `quiet` says that no read failed in it, and `faulty` that one did
+abbrev pub IsSource : Option Contents → (quiet faulty : Type 0) → List ℕ → Source → Type 0
+IsSource files quiet faulty name (Bytes bytes) = Holds files name bytes.items × quiet
+IsSource files quiet faulty name Unread = faulty
+IsSource files quiet faulty name TooLong = IfSome files (λ contents. IsTooBig contents name 65536)
 
 -- what is known of a program that was read
 pub record IsRead (program : Program) : Type 0 where

@@ -2,6 +2,7 @@ ghost use Rattle.std.specs.Prelude.{◌≡◌, ◌≤◌, IfOk};
 ghost use Rattle.ac_port.specs.Counts.{Rose};
 ghost use Rattle.ac_words.specs.Commands.{spelled};
 ghost use Rattle.ac_top.specs.Answers.{Reports, Puts, Ends, DoneMeansTheSame};
+ghost use Rattle.ac_top.specs.Reads.{FirstFails, SecondFails};
 ghost use Rattle.ac_top.specs.Stages.{written};
 
 use crate::report::{Report, report_files};
@@ -14,7 +15,7 @@ use std::alloc::{AllocError, Global};
 
 /// What is reported of the words.
 fn report<F: Files>(alloc: Global, words: &[Vec<u8>], files: &mut F) -> Result<Report, AllocError>
-    ensures report { IfOk result (λ r. Reports (spelled words.now) (F.contents files.old) (Rose (F.read_faults files.old) (F.read_faults files.new)) (written r)) }
+    ensures report { IfOk result (λ r. Reports (spelled words.now) (F.contents files.old) (FirstFails F.read_makes F.read_faults files.old files.new) (SecondFails F.read_makes F.read_faults files.old files.new) (written r)) }
     ensures same { F.contents files.new ≡ F.contents files.old }
     ensures same_writes { F.write_faults files.new ≡ F.write_faults files.old }
 {
@@ -54,7 +55,8 @@ fn put<S: Sink>(out: &mut S, report: &Report) -> Status
 /// `instance A B [--at N=5,M=3] [--limit n]` runs both at one valuation; any other words are a faulty command line. Each
 /// output of the pair has a line, `X equal` or `X different, element [e]..`.
 ///
-/// A read fault and a write fault are answered only where the files' or the sink's count of faults rose in this call.
+/// A read fault of a file is answered only where the files' count of faults rose in the read of that file, and a write fault only
+/// where the sink's count rose in this call.
 /// No file changes. After want of memory nothing is put.
 pub fn run<F: Files, S: Sink>(
     alloc: Global,
@@ -63,7 +65,7 @@ pub fn run<F: Files, S: Sink>(
     out: &mut S,
 ) -> Status
     // What is answered, and what is put.
-    ensures answer { Ends (spelled words.now) (F.contents files.old) (Rose (F.read_faults files.old) (F.read_faults files.new)) (Rose (S.faults out.old) (S.faults out.new)) (S.sent out.old) (S.sent out.new) result }
+    ensures answer { Ends (spelled words.now) (F.contents files.old) (FirstFails F.read_makes F.read_faults files.old files.new) (SecondFails F.read_makes F.read_faults files.old files.new) (Rose (S.faults out.old) (S.faults out.new)) (S.sent out.old) (S.sent out.new) result }
 
     // What is reported equal is equal.
     ensures headline { DoneMeansTheSame (spelled words.now) (F.contents files.old) result }

@@ -4,6 +4,7 @@ ghost use Rattle.std.specs.List.{list_all};
 ghost use Rattle.ac_syntax.specs.Outputs.{input_at};
 ghost use Rattle.ac_top.specs.Verdicts.{IsJoined};
 ghost use Rattle.ac_top.specs.Answers.{ArePaired, PairReports, SourceReports, FileReports};
+ghost use Rattle.ac_top.specs.Reads.{FirstFails, SecondFails};
 ghost use Rattle.ac_top.specs.Reports.{report as a_report};
 ghost use Rattle.ac_top.specs.Stages.{IsReadPair, IsSource, IsWithin, TaskReports, written, verdicts_report};
 
@@ -59,9 +60,9 @@ fn unread(text: Vec<u8>) -> Report
 
 /// Reads a source file.
 fn read_source<F: Files>(alloc: Global, files: &mut F, name: &[u8]) -> Result<Source, AllocError>
-    ensures source { IfOk result (IsSource (F.contents files.old) (Rose (F.read_faults files.old) (F.read_faults files.new)) name.now) }
+    ensures source { IfOk result (IsSource (F.contents files.old) (F.read_faults files.new ≡ F.read_faults files.old) (Rose (F.read_faults files.old) (F.read_faults files.new)) name.now) }
     ensures same { F.contents files.new ≡ F.contents files.old }
-    ensures no_fewer { F.read_faults files.old ≤ F.read_faults files.new }
+    ensures makes { F.read_makes files.old name.now files.new }
     ensures same_writes { F.write_faults files.new ≡ F.write_faults files.old }
 {
     match files.read(alloc, name, MAX_SOURCE) {
@@ -160,7 +161,7 @@ pub fn report_files<F: Files>(
     task: &Task<'_>,
 ) -> Result<Report, AllocError>
     requires within { IsWithin task.now }
-    ensures report { IfOk result (λ r. FileReports (F.contents files.old) (Rose (F.read_faults files.old) (F.read_faults files.new)) a.now b.now (TaskReports task.now a.now b.now) (written r)) }
+    ensures report { IfOk result (λ r. FileReports (F.contents files.old) (FirstFails F.read_makes F.read_faults files.old files.new a.now) (SecondFails F.read_makes F.read_faults files.old files.new a.now b.now) a.now b.now (TaskReports task.now a.now b.now) (written r)) }
     ensures same { F.contents files.new ≡ F.contents files.old }
     ensures same_writes { F.write_faults files.new ≡ F.write_faults files.old }
 {

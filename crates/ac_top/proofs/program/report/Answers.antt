@@ -1,10 +1,10 @@
 use Rattle.std.proofs.Common.{◌≡◌, IfOk, sym, ap, subst, ◌∙◌}
 use Rattle.std.specs.Prelude.{option_map}
 use Rattle.std.proofs.lemmas.Result.{IfOk-weaker}
-use Rattle.ac_port.specs.Counts.{Rose}
 use Rattle.ac_words.specs.Commands.{spelled, asked_by, IsCommand}
 use Rattle.ac_words.specs.declared.command.Command.TheVariants.{Instance}
 use Rattle.ac_top.specs.Answers.{Reports, no_form, of_prove, of_instance}
+use Rattle.ac_top.specs.Reads.{FirstFails, SecondFails}
 use Rattle.ac_top.specs.Reports.{report as a_report}
 use Rattle.ac_top.specs.Stages.{written}
 use Rattle.ac_top.specs.declared.status.Status.TheVariants as status
@@ -33,4 +33,4 @@ returns-in-Some-Instance-clause-report g c =
 pub returns-in_ok-usage_line-in-None-clause-report : goal.returns-in_ok-usage_line-in-None-clause-report
 returns-in_ok-usage_line-in-None-clause-report g c =
     let files = g.F.Files.contents c.args.files.now in
-    subst (λ t. Reports (spelled c.args.words.now) files (Rose (g.F.Files.read_faults c.args.files.now) (g.F.Files.read_faults c.args.files.now)) (a_report status.Usage t)) (sym c.in_ok-usage_line-in-None.ensures) (no_form c.in-None.ensures)
+    subst (λ t. Reports (spelled c.args.words.now) files (FirstFails g.F.Files.read_makes g.F.Files.read_faults c.args.files.now c.args.files.now) (SecondFails g.F.Files.read_makes g.F.Files.read_faults c.args.files.now c.args.files.now) (a_report status.Usage t)) (sym c.in_ok-usage_line-in-None.ensures) (no_form c.in-None.ensures)

@@ -1,21 +1,25 @@
-use Rattle.std.proofs.Common.{IfOk, IfSome, List, ℕ, Option, sym, ap, subst, ◌∙◌}
+use Rattle.std.proofs.Common.{◌≡◌, IfOk, IfSome, List, ℕ, Option, sym, ap, subst, ◌∙◌}
 use Rattle.std.proofs.lemmas.Result.{IfOk-weaker}
 use Rattle.ac_port.specs.Contents.{Contents, IsTooBig}
 use Rattle.ac_port.specs.Counts.{Rose}
 use Rattle.ac_top.specs.Reports.{report as a_report}
 use Rattle.ac_top.specs.Answers.{SourceReports, FileReports, Holds, first_unread, first_too_long, second_unread, second_too_long, sources}
 use Rattle.ac_top.specs.declared.status.Status.TheVariants as status
-use Rattle.ac_top.proofs.Rising.{rose_later}
+use Rattle.ac_top.specs.Reads.{FirstFails, SecondFails}
 use Rattle.ac_top.specs.Stages.{written, IsSource, TaskReports}
 use Rattle.ac_top.proofs.report.report_files.Goals as goal
 
 pub returns-clause-report : goal.returns-clause-report
 returns-clause-report g c =
     let files : Option Contents = g.F.Files.contents c.args.files.now in
-    let first : Holds files c.args.a.now c.in-Bytes.bytes.items = subst (IsSource files (Rose (g.F.Files.read_faults c.args.files.now) (g.F.Files.read_faults c.read_source.new.files)) c.args.a.now) c.in-Bytes.is c.in_ok-bytes.ensures.source in
-    let second : Holds files c.args.b.now c.in-Bytes-2.bytes.items =
-    subst (λ f. Holds f c.args.b.now c.in-Bytes-2.bytes.items) c.read_source.ensures.same
-    (subst (IsSource (g.F.Files.contents c.read_source.new.files) (Rose (g.F.Files.read_faults c.read_source.new.files) (g.F.Files.read_faults c.read_source-2.new.files)) c.args.b.now) c.in-Bytes-2.is c.in_ok-bytes-2.ensures.source) in
+    let begun = g.F.Files.read_faults c.args.files.now in
+    let between = g.F.Files.read_faults c.read_source.new.files in
+    let ended = g.F.Files.read_faults c.read_source-2.new.files in
+    let one : Holds files c.args.a.now c.in-Bytes.bytes.items × (between ≡ begun) = subst (IsSource files (between ≡ begun) (Rose begun between) c.args.a.now) c.in-Bytes.is c.in_ok-bytes.ensures.source in
+    let two : Holds (g.F.Files.contents c.read_source.new.files) c.args.b.now c.in-Bytes-2.bytes.items × (ended ≡ between) =
+    subst (IsSource (g.F.Files.contents c.read_source.new.files) (ended ≡ between) (Rose between ended) c.args.b.now) c.in-Bytes-2.is c.in_ok-bytes-2.ensures.source in
+    let first = one.0 in
+    let second : Holds files c.args.b.now c.in-Bytes-2.bytes.items = subst (λ f. Holds f c.args.b.now c.in-Bytes-2.bytes.items) c.read_source.ensures.same two.0 in
     let Of = TaskReports c.args.task.now c.args.a.now c.args.b.now in
     IfOk-weaker c.report_sources.result _ _
     (λ r found. sources c.in-Bytes.bytes.items c.in-Bytes-2.bytes.items (written r) first second
@@ -26,16 +30,23 @@ returns-clause-report g c =
 pub returns-in-Unread-clause-report : goal.returns-in-Unread-clause-report
 returns-in-Unread-clause-report g c =
     let files = g.F.Files.contents c.args.files.now in
-    let rose = Rose (g.F.Files.read_faults c.args.files.now) (g.F.Files.read_faults c.read_source.new.files) in
-    let said : rose = subst (IsSource files rose c.args.a.now) c.in-Unread.is c.in_ok-bytes.ensures.source in
-    subst (FileReports files rose c.args.a.now c.args.b.now (TaskReports c.args.task.now c.args.a.now c.args.b.now)) (sym (c.unread.ensures ∙ ap (a_report status.ReadFault) c.in_ok-read_fault_line-in-Unread.ensures)) (first_unread said)
+    let begun = g.F.Files.read_faults c.args.files.now in
+    let between = g.F.Files.read_faults c.read_source.new.files in
+    let rose : Rose begun between = subst (IsSource files (between ≡ begun) (Rose begun between) c.args.a.now) c.in-Unread.is c.in_ok-bytes.ensures.source in
+    let Fails = FirstFails g.F.Files.read_makes g.F.Files.read_faults c.args.files.now c.read_source.new.files c.args.a.now in
+    let Also = SecondFails g.F.Files.read_makes g.F.Files.read_faults c.args.files.now c.read_source.new.files c.args.a.now c.args.b.now in
+    let fails : Fails = record { read = c.read_source.ensures.makes; rose = rose } in
+    subst (FileReports files Fails Also c.args.a.now c.args.b.now (TaskReports c.args.task.now c.args.a.now c.args.b.now)) (sym (c.unread.ensures ∙ ap (a_report status.ReadFault) c.in_ok-read_fault_line-in-Unread.ensures)) (first_unread fails)
 
 pub returns-in-TooLong-clause-report : goal.returns-in-TooLong-clause-report
 returns-in-TooLong-clause-report g c =
     let files = g.F.Files.contents c.args.files.now in
-    let rose = Rose (g.F.Files.read_faults c.args.files.now) (g.F.Files.read_faults c.read_source.new.files) in
-    let said = subst (IsSource files rose c.args.a.now) c.in-TooLong.is c.in_ok-bytes.ensures.source in
-    subst (FileReports files rose c.args.a.now c.args.b.now (TaskReports c.args.task.now c.args.a.now c.args.b.now)) (sym (c.refused.ensures ∙ ap (a_report status.Refused) c.in_ok-too_long_line-in-TooLong.ensures)) (first_too_long said)
+    let begun = g.F.Files.read_faults c.args.files.now in
+    let between = g.F.Files.read_faults c.read_source.new.files in
+    let said = subst (IsSource files (between ≡ begun) (Rose begun between) c.args.a.now) c.in-TooLong.is c.in_ok-bytes.ensures.source in
+    let Fails = FirstFails g.F.Files.read_makes g.F.Files.read_faults c.args.files.now c.read_source.new.files c.args.a.now in
+    let Also = SecondFails g.F.Files.read_makes g.F.Files.read_faults c.args.files.now c.read_source.new.files c.args.a.now c.args.b.now in
+    subst (FileReports files Fails Also c.args.a.now c.args.b.now (TaskReports c.args.task.now c.args.a.now c.args.b.now)) (sym (c.refused.ensures ∙ ap (a_report status.Refused) c.in_ok-too_long_line-in-TooLong.ensures)) (first_too_long said)
 
 pub returns-in-Unread-2-clause-report : goal.returns-in-Unread-2-clause-report
 returns-in-Unread-2-clause-report g c =
@@ -43,10 +54,12 @@ returns-in-Unread-2-clause-report g c =
     let begun = g.F.Files.read_faults c.args.files.now in
     let between = g.F.Files.read_faults c.read_source.new.files in
     let ended = g.F.Files.read_faults c.read_source-2.new.files in
-    let first : Holds files c.args.a.now c.in-Bytes.bytes.items = subst (IsSource files (Rose begun between) c.args.a.now) c.in-Bytes.is c.in_ok-bytes.ensures.source in
-    let said : Rose between ended = subst (IsSource (g.F.Files.contents c.read_source.new.files) (Rose between ended) c.args.b.now) c.in-Unread-2.is c.in_ok-bytes-2.ensures.source in
-    let rose : Rose begun ended = rose_later begun between ended c.read_source.ensures.no_fewer said in
-    subst (FileReports files (Rose begun ended) c.args.a.now c.args.b.now (TaskReports c.args.task.now c.args.a.now c.args.b.now)) (sym (c.unread-in-Unread-2.ensures ∙ ap (a_report status.ReadFault) c.in_ok-read_fault_line-in-Unread-2.ensures)) (second_unread c.in-Bytes.bytes.items first rose)
+    let one : Holds files c.args.a.now c.in-Bytes.bytes.items × (between ≡ begun) = subst (IsSource files (between ≡ begun) (Rose begun between) c.args.a.now) c.in-Bytes.is c.in_ok-bytes.ensures.source in
+    let rose : Rose between ended = subst (IsSource (g.F.Files.contents c.read_source.new.files) (ended ≡ between) (Rose between ended) c.args.b.now) c.in-Unread-2.is c.in_ok-bytes-2.ensures.source in
+    let Fails = FirstFails g.F.Files.read_makes g.F.Files.read_faults c.args.files.now c.read_source-2.new.files c.args.a.now in
+    let Also = SecondFails g.F.Files.read_makes g.F.Files.read_faults c.args.files.now c.read_source-2.new.files c.args.a.now c.args.b.now in
+    let also : Also = record { between = c.read_source.new.files; first_read = c.read_source.ensures.makes; quiet = one.1; second_read = c.read_source-2.ensures.makes; rose = rose } in
+    subst (FileReports files Fails Also c.args.a.now c.args.b.now (TaskReports c.args.task.now c.args.a.now c.args.b.now)) (sym (c.unread-in-Unread-2.ensures ∙ ap (a_report status.ReadFault) c.in_ok-read_fault_line-in-Unread-2.ensures)) (second_unread c.in-Bytes.bytes.items one.0 also)
 
 pub returns-in-TooLong-2-clause-report : goal.returns-in-TooLong-2-clause-report
 returns-in-TooLong-2-clause-report g c =
@@ -54,7 +67,9 @@ returns-in-TooLong-2-clause-report g c =
     let begun = g.F.Files.read_faults c.args.files.now in
     let between = g.F.Files.read_faults c.read_source.new.files in
     let ended = g.F.Files.read_faults c.read_source-2.new.files in
-    let first : Holds files c.args.a.now c.in-Bytes.bytes.items = subst (IsSource files (Rose begun between) c.args.a.now) c.in-Bytes.is c.in_ok-bytes.ensures.source in
-    let told = subst (IsSource (g.F.Files.contents c.read_source.new.files) (Rose between ended) c.args.b.now) c.in-TooLong-2.is c.in_ok-bytes-2.ensures.source in
+    let one : Holds files c.args.a.now c.in-Bytes.bytes.items × (between ≡ begun) = subst (IsSource files (between ≡ begun) (Rose begun between) c.args.a.now) c.in-Bytes.is c.in_ok-bytes.ensures.source in
+    let told = subst (IsSource (g.F.Files.contents c.read_source.new.files) (ended ≡ between) (Rose between ended) c.args.b.now) c.in-TooLong-2.is c.in_ok-bytes-2.ensures.source in
     let said = subst (λ f. IfSome f (λ contents. IsTooBig contents c.args.b.now 65536)) c.read_source.ensures.same told in
-    subst (FileReports files (Rose begun ended) c.args.a.now c.args.b.now (TaskReports c.args.task.now c.args.a.now c.args.b.now)) (sym (c.refused-in-TooLong-2.ensures ∙ ap (a_report status.Refused) c.in_ok-too_long_line-in-TooLong-2.ensures)) (second_too_long c.in-Bytes.bytes.items first said)
+    let Fails = FirstFails g.F.Files.read_makes g.F.Files.read_faults c.args.files.now c.read_source-2.new.files c.args.a.now in
+    let Also = SecondFails g.F.Files.read_makes g.F.Files.read_faults c.args.files.now c.read_source-2.new.files c.args.a.now c.args.b.now in
+    subst (FileReports files Fails Also c.args.a.now c.args.b.now (TaskReports c.args.task.now c.args.a.now c.args.b.now)) (sym (c.refused-in-TooLong-2.ensures ∙ ap (a_report status.Refused) c.in_ok-too_long_line-in-TooLong-2.ensures)) (second_too_long c.in-Bytes.bytes.items one.0 said)

@@ -31,5 +31,5 @@ returns-in-Verdicts c =
     let pair = c.args.pair.now in
     let said = subst (IsAnswer pair) c.in-Verdicts.is c.in_ok-prove.ensures in
     IfOk-weaker c.report_verdicts.result _ _
-    (λ r is. subst (PairReports c.args.a.now c.args.b.now pair) (sym (is ∙ ap (verdicts_report pair) c.as_slice.ensures)) (compared c.in-Verdicts.verdicts said.2))
+    (λ r is. subst (PairReports c.args.a.now c.args.b.now pair) (sym (is ∙ ap (verdicts_report pair) c.as_slice.ensures)) (compared c.in-Verdicts.verdicts said.0 said.1 said.2))
     c.report_verdicts.ensures

@@ -6,7 +6,7 @@ use Rattle.ac_top.specs.Reports.{report as a_report}
 use Rattle.ac_top.specs.Runs.{status_of, RunReports, ran}
 use Rattle.ac_top.specs.Stages.{written}
 use Rattle.ac_top.specs.Texts.{outcome_lines}
-use Rattle.ac_top.proofs.Instances.{as_many_outcomes, of_halt}
+use Rattle.ac_top.proofs.Instances.{as_many_outcomes, equal_is_same, of_halt}
 use Rattle.ac_top.proofs.runs.report_runs.Goals as goal
 
 pub report_outcomes-requires : goal.report_outcomes-requires
@@ -26,7 +26,7 @@ returns-in-Ok c =
     let said = subst (IsAnswer pair v c.args.limit) c.in-Ok.is (c.instance.ensures.answer c.requires.ready) in
     let Reports = RunReports c.args.left.now.name.now c.args.right.now.name.now c.args.left.now.bytes.now c.args.right.now.bytes.now pair v c.args.limit in
     IfOk-weaker c.report_outcomes.result _ _
-    (λ r is. subst Reports (sym (is ∙ ap (λ rs. a_report (status_of rs) (outcome_lines pair.left.arrays pair.outputs rs)) c.as_slice.ensures)) (ran c.in-Ok.ran.events c.in-Ok.ran.outcomes said.0 said.1))
+    (λ r is. subst Reports (sym (is ∙ ap (λ rs. a_report (status_of rs) (outcome_lines pair.left.arrays pair.outputs rs)) c.as_slice.ensures)) (ran c.in-Ok.ran.events c.in-Ok.ran.outcomes said.0 said.1 (equal_is_same pair v pair.outputs c.in-Ok.ran.outcomes said.1)))
     c.report_outcomes.ensures
 
 pub returns-in-Err : goal.returns-in-Err
