@@ -1,11 +1,11 @@
 -- Renamings as values that may be missing, and renamings to columns of which none stands twice.
-use Rattle.std.proofs.Common.{lit<, ◌≡◌, ◌↔◌, ℕ, zero, suc, ◌<◌, ℤ, pos, ◌+ℤ◌, List, [], ◌∷◌, length, map, get_or, Bool, true, false, ◌&&◌, cond, Option, Some, None, refl, sym, ap, ◌∙◌, subst, arith}
+use Rattle.std.proofs.Common.{◌≡◌, ◌↔◌, ℕ, zero, suc, ℤ, pos, ◌+ℤ◌, List, [], ◌∷◌, map, get_or, Bool, true, false, cond, Option, Some, None, refl, ap, ◌∙◌, arith}
 use Rattle.std.specs.Prelude.{option_map, option_and_then}
 use Rattle.std.proofs.lemmas.Int.{ints}
 use Rattle.ac_forms.specs.Affine.{Affine, value_at}
-use Rattle.ac_forms.specs.Fits.{Fits, AllFit, fits}
+use Rattle.ac_forms.specs.Fits.{AllFit, fits}
 use Rattle.ac_forms.specs.Renaming.{add_at, renamed_coefs, renamed, with_form, renamed_row, picked, AreColumns, IsApartFrom, AreDistinct, SumsFit, sums_fit, renaming, row_renaming, rows_renaming}
-use Rattle.ac_forms.specs.Rows.{form_of, Holds, Meets, HasModulus, HaveModuli, AreRowsOver}
+use Rattle.ac_forms.specs.Rows.{form_of, Holds, Meets, HaveModuli, AreRowsOver}
 use Rattle.ac_forms.specs.declared.row.Row.{Row}
 use Rattle.ac_forms.proofs.Renamings.{value-renamed, holds-renamed, meets-renamed, rows-over}
 use Rattle.ac_forms.proofs.Twins.{fits-is, and-is}

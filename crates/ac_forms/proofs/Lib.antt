@@ -21,3 +21,5 @@ pub mod Renamings
 pub mod Standings
 pub mod Trimmed
 pub mod Distinct
+pub mod Again
+pub mod InPieces

@@ -1,16 +1,16 @@
 -- The values of forms and rows among other columns.
-use Rattle.std.proofs.Common.{lit<, ◌≡◌, ◌↔◌, ℕ, zero, suc, ◌+◌, ◌-◌, ◌<◌, ◌≤◌, ℤ, pos, ◌+ℤ◌, ◌*ℤ◌, ◌≤ℤ◌, List, [], ◌∷◌, ◌++◌, map, length, replicate, get_or, set, drop, Bool, true, false, ◌&&◌, cond, Option, Some, None, refl, sym, ap, ◌∙◌, subst, arith, ◌⊎◌, inl, inr, append_assoc, append-nil, Result, Ok, Err}
+use Rattle.std.proofs.Common.{◌≡◌, ◌↔◌, ℕ, zero, suc, ◌+◌, ◌-◌, ◌<◌, ◌≤◌, ℤ, pos, ◌+ℤ◌, ◌*ℤ◌, ◌≤ℤ◌, List, [], ◌∷◌, ◌++◌, map, length, replicate, get_or, set, drop, refl, sym, ap, ◌∙◌, subst, arith, ◌⊎◌, inl, inr, append_assoc, append-nil, Result, Ok, Err}
 use Rattle.std.specs.Prelude.{IfOk}
 use Rattle.std.proofs.lemmas.Int.{ints}
 use Rattle.std.proofs.lemmas.List.{drop_more, drop_all}
 use Rattle.ac_integers.specs.Dot.{dot}
 use Rattle.ac_integers.specs.Multiple.{IsMultiple}
 use Rattle.ac_integers.proofs.Dot.{dot-nil}
-use Rattle.ac_integers.proofs.Products.{mul-add_ℤ, add-mul_ℤ}
+use Rattle.ac_integers.proofs.Products.{add-mul_ℤ}
 use Rattle.ac_forms.specs.Affine.{Affine, value_at}
-use Rattle.ac_forms.specs.Fits.{Fits, fits}
+use Rattle.ac_forms.specs.Fits.{Fits}
 use Rattle.ac_forms.specs.Rows.{form_of, Holds, Meets, HasModulus, HaveModuli, IsRowOver, AreRowsOver}
-use Rattle.ac_forms.specs.Renaming.{add_at, renamed_coefs, renamed, with_form, renamed_row, picked, AreColumns, SumsFit, CanRename, CanRenameAll}
+use Rattle.ac_forms.specs.Renaming.{add_at, renamed_coefs, renamed, renamed_row, picked, AreColumns, SumsFit, CanRename, CanRenameAll}
 use Rattle.ac_forms.specs.Stops.{MadeIff, MadeWhere}
 use Rattle.ac_forms.specs.declared.stop.FormStop.{FormStop}
 use Rattle.ac_forms.specs.declared.stop.FormStop.TheVariants.{Wide, Memory}

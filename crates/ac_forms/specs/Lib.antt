@@ -12,3 +12,4 @@ pub mod Tests
 pub mod Renaming
 pub mod Standing
 pub mod Columns
+pub mod Pieces

@@ -1,16 +1,19 @@
 //! What the definitions of rows say, in words: each function here changes nothing, and its contract is a fact about all
 //! forms, rows or points.
-ghost use Rattle.std.specs.Prelude.{◌≡◌, ◌↔◌, ◌≤◌, ◌<◌, ℕ, ℤ, List, ◌++◌, Option, Some, None, true, false, slice_get};
+ghost use Rattle.std.specs.Prelude.{◌≡◌, ◌↔◌, ◌≤◌, ◌<◌, ℕ, ℤ, List, ◌++◌, ◌⊎◌, Option, Some, None, true, false, slice_get};
 ghost use Rattle.ac_forms.specs.Affine.{Affine, value_at};
 ghost use Rattle.ac_forms.specs.Columns.{is_present, IsTrimmed, AreTrimmed};
 ghost use Rattle.ac_forms.specs.NormalForm.{normal_form, is_absurd};
 ghost use Rattle.ac_forms.specs.NormalRows.{normal_row, NormalFits};
+ghost use Rattle.ac_forms.specs.Pieces.{IsInSome, IsInNone};
 ghost use Rattle.ac_forms.specs.Renaming.{AreColumns, AreDistinct, CanRename, picked, renaming, row_renaming, rows_renaming, sums_fit};
 ghost use Rattle.ac_forms.specs.Rows.{Holds, Meets, HasModulus, HaveModuli, IsRowOver, AreRowsOver, form_of};
 ghost use Rattle.ac_forms.specs.Standing.{stands, all_stand};
+ghost use Rattle.ac_forms.specs.Traces.{IsOneOf, HasAbsurd, HasClash};
 ghost use Rattle.ac_forms.specs.declared.row.Row.{Row};
 ghost use Rattle.ac_forms.specs.declared.normal.NormalRow.TheVariants.{Kept};
 
+use crate::conj::Conj;
 use crate::form::Form;
 use crate::row::Row;
 
@@ -20,6 +23,14 @@ pub fn normal_rows_are_trimmed(rows: &[Row])
     ensures normal { AreTrimmed (normal_form rows.now) }
     ensures kept { (r s : Row) → normal_row r ≡ Kept s → IsTrimmed s }
     ensures short { (first n : ℕ) → AreRowsOver n rows.now → AreTrimmed rows.now → ((j : ℕ) → first ≤ j → j < n → is_present j rows.now ≡ false) → AreRowsOver first rows.now }
+{}
+
+/// The normal form of a row is its own normal form, made in `i128` where the row's is. So is each row of a normal form, but where a row is absurd, or two
+/// equalities clash.
+pub fn normal_rows_are_normal(rows: &[Row])
+    ensures kept { (r s : Row) → HasModulus r → normal_row r ≡ Kept s → normal_row s ≡ Kept s }
+    ensures fits { (r s : Row) → NormalFits r → normal_row r ≡ Kept s → NormalFits s }
+    ensures each { (r : Row) → HaveModuli rows.now → IsOneOf r (normal_form rows.now) → HasAbsurd rows.now ⊎ HasClash rows.now ⊎ (normal_row r ≡ Kept r) }
 {}
 
 /// A form among other columns, of which none stands twice, is never wide.
@@ -47,4 +58,12 @@ pub fn rows_that_stand(rows: &[Row])
     ensures more { (more : List Row) (r : Row) → stands rows.now r ≡ true → stands (rows.now ++ more) r ≡ true }
     ensures all_more { (more rs : List Row) → all_stand rows.now rs ≡ true → all_stand (rows.now ++ more) rs ≡ true }
     ensures there { (i : ℕ) (r : Row) → slice_get rows.now i ≡ Some r → NormalFits r → is_absurd (normal_row r) ≡ false → stands rows.now r ≡ true }
+{}
+
+/// A point is in one of the pieces of two lists where it is in one of the first or in one of the second; it is in one of
+/// the pieces where it is in the piece at some place; and where it is in none, it is not in one.
+pub fn points_of_pieces(conj: &Conj)
+    ensures append { (xs ys : List (List Row)) (p : List ℤ) → IsInSome Meets (xs ++ ys) p ↔ (IsInSome Meets xs p ⊎ IsInSome Meets ys p) }
+    ensures there { (xs : List (List Row)) (i : ℕ) (p : List ℤ) → slice_get xs i ≡ Some conj.now.rows → Meets conj.now.rows p → IsInSome Meets xs p }
+    ensures none { (xs : List (List Row)) (p : List ℤ) → IsInNone Meets xs p → IsInSome Meets xs p → ⊥ }
 {}

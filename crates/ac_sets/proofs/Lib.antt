@@ -1,8 +1,6 @@
 pub mod Sums
 pub mod Searches
 pub mod Commons
-pub mod Opposites
-pub mod Divided
 pub mod Branches
 pub mod Outsides
 pub mod Standing

@@ -21,7 +21,8 @@ use Rattle.ac_cert.proofs.Truths.{true-nat_le}
 use Rattle.ac_sets.specs.Differences.{further, outside}
 use Rattle.ac_sets.specs.Ends.{is_among, stands, is_standing, conj_of, part_refusal}
 use Rattle.ac_sets.specs.Moves.{moved_coefs, moved_form, moved_row}
-use Rattle.ac_sets.specs.Paths.{with_floor, behind, piece_count, SidesStand, EndsStand}
+use Rattle.ac_cert.specs.Branches.{with_floor, behind}
+use Rattle.ac_sets.specs.Paths.{piece_count, SidesStand, EndsStand}
 use Rattle.ac_sets.specs.declared.parts.Part.{Part}
 use Rattle.ac_sets.specs.declared.parts.Part.TheVariants.{Piece, Inside}
 use Rattle.ac_sets.specs.declared.parts.Parts.{Parts}

@@ -1,9 +1,7 @@
-use Rattle.std.proofs.Common.{subst}
-use Rattle.ac_forms.specs.Affine.{Affine}
-use Rattle.ac_sets.proofs.Branches.{Splits, ge-leads}
+use Rattle.std.proofs.Common.{arith}
+use Rattle.ac_cert.specs.Branches.{under}
 use Rattle.ac_sets.proofs.trees.inequality_tree.Goals as goal
 
 pub returns : goal.returns
-returns c = λ columns count short.
-    let outer = subst (λ (g : Affine). Splits g c.args.onward c.at_piece-below.result c.in_ok-tree.tree) c.in_ok-copy.ensures c.in_ok-tree.ensures.accepted in
-    ge-leads c.args.form.now columns count c.args.piece c.args.onward c.at_piece-below.result c.in_ok-tree.tree short c.requires c.at_piece-below.ensures outer
+returns c = λ columns count short refusal d e l stand on.
+    c.in_ok-tree.ensures refusal d (omega (arith, short, e)) (c.at_piece-below.ensures refusal (under d c.args.form.now) stand) on
