@@ -26,7 +26,8 @@ use Rattle.ac_cert.specs.Faults.{first_fault_of}
 use Rattle.ac_cert.specs.declared.types.Rule.TheVariants as rule
 use Rattle.ac_cert.proofs.Keeping.{map-some, if-some, Meets-append}
 use Rattle.ac_cert.proofs.Soundness.{first-none}
-use Rattle.ac_paths.specs.Columns.{pick, columns_of, equal_forms}
+use Rattle.ac_forms.specs.Renaming.{picked}
+use Rattle.ac_paths.specs.Columns.{columns_of, equal_forms}
 use Rattle.ac_claims.specs.Ending.{same_position}
 use Rattle.ac_paths.specs.Executions.{Execution, At, elements, execution}
 use Rattle.ac_paths.specs.Going.{Pairing}
@@ -34,12 +35,12 @@ use Rattle.ac_paths.specs.Places.{element_forms, extent_rows}
 use Rattle.ac_claims.specs.PlanFaults.{fault_unless}
 use Rattle.ac_claims.specs.ProofFaults.{Domain, domain, is_output_array, some_output, is_point, claims_fault, claim_lines, left_seat, right_seat, start_columns, piece_rows, output_rows, all_stand_among, asks_by, asks_no_more, output_stands, outputs_fault, due_from, trees_fault, IsValidProof}
 use Rattle.ac_claims.specs.Soundness.{ArePaired, pairing_of, ClaimsHaveModuli, ValidProofsNameSameOutputs}
-use Rattle.ac_paths.specs.Standing.{all_stand}
+use Rattle.ac_forms.specs.Standing.{all_stand}
 use Rattle.ac_claims.specs.declared.types.Claim.{Claim}
 use Rattle.ac_claims.specs.declared.types.Proof.{Proof}
 use Rattle.ac_claims.proofs.Central.{Valid, claims_hold}
 use Rattle.ac_paths.proofs.Moving.{equal-values, equal-within, appended-parts, meets-both, made-both}
-use Rattle.ac_paths.proofs.Standings.{all_hold}
+use Rattle.ac_forms.proofs.Standings.{all-hold}
 use Rattle.ac_claims.proofs.Claimed.{Setting, runs_of, Claimed}
 use Rattle.ac_paths.proofs.OnPaths.{seat_columns}
 use Rattle.ac_paths.proofs.Heres.{element_values}
@@ -137,7 +138,7 @@ element_meets g c s e hm dl dr ml mr =
     let u = map-some (piece_rows g.on.pairing c a b s.left_piece s.right_piece) (λ rows. g.on.pairing.left.context ++ rows) t.1 t.3 in
     let kl = seat_columns (left_seat g.on.pairing c a) cols (omega arith) in
     let kr = seat_columns (right_seat g.on.pairing c a b) cols (omega arith) in
-    let same : values_at (pick ks p) (element_forms 0 a.width) ≡ values_at (pick ls p) (element_forms 0 b.width) =
+    let same : values_at (picked ks p) (element_forms 0 a.width) ≡ values_at (picked ls p) (element_forms 0 b.width) =
     ap (λ z. values_at z (element_forms 0 a.width)) sp.left ∙ element_values [] e 0 a.width refl dl.long ∙ sym (ap (λ z. values_at z (element_forms 0 b.width)) sp.right ∙ element_values [] e 0 b.width refl dr.long) in
     let m1 = (equal-values ks (element_forms 0 a.width) ls (element_forms 0 b.width) t.0 p t.2).1 same in
     let lp : length g.on.params ≡ g.on.pairing.params = sym g.on.count in
@@ -149,7 +150,7 @@ element_meets g c s e hm dl dr ml mr =
     let is : s.given ≡ t.0 ++ (g.on.pairing.left.context ++ u.0) = t.4 ∙ ap (λ (z : List Row). t.0 ++ z) u.2 in
     let meets : Meets s.given p = subst (λ (z : List Row). Meets z p) (sym is) (meets-both t.0 (g.on.pairing.left.context ++ u.0) p m1 (meets-both g.on.pairing.left.context u.0 p m2 m3)) in
     let made : AreRowsOver cols s.given = subst (λ (z : List Row). AreRowsOver cols z) (sym is) (made-both cols t.0 (g.on.pairing.left.context ++ u.0) w1 (made-both cols g.on.pairing.left.context u.0 w2 w3)) in
-    all_hold s.given c.rows p s.stand (moduli_of cols s.given made) hm meets
+    all-hold s.given c.rows p s.stand (moduli_of cols s.given made) hm meets
 
 -- equal extents have the same elements
 in_extents : (params : List ℤ) (es fs : List IndexExpr) (at : List ℤ) → map (index_value (point params [])) fs ≡ map (index_value (point params [])) es → InExtents (point params []) es at → InExtents (point params []) fs at

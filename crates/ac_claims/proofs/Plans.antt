@@ -32,7 +32,8 @@ use Rattle.ac_cert.proofs.Soundness.{first-none, no-refusal}
 use Rattle.ac_cert.proofs.StepRules.{step-keeps, sides-keep, class-over, class-some}
 use Rattle.ac_cert.proofs.Truths.{and-true, le-true}
 use Rattle.ac_poly.specs.Model.{is_input}
-use Rattle.ac_paths.specs.Columns.{pick, base, columns_of, moved_rows, equal_forms}
+use Rattle.ac_forms.specs.Renaming.{picked, rows_renaming}
+use Rattle.ac_paths.specs.Columns.{base, columns_of, equal_forms}
 use Rattle.ac_claims.specs.Ending.{same_position, is_hit, equal_numbers, is_number, equal_cells, is_initial}
 use Rattle.ac_paths.specs.Executions.{At}
 use Rattle.ac_paths.specs.Going.{at_rows, branches, branches_by, branches_of_calls, read_branches, by_keep}
@@ -53,11 +54,11 @@ use Rattle.ac_claims.specs.declared.types.PlanNext.TheVariants.{Absurd, Killed, 
 use Rattle.ac_claims.proofs.Claimed.{Setting, runs_of, Claimed, Good, EachGood, left_good, right_good, calls_good, at_spots}
 use Rattle.ac_claims.proofs.Covered.{Covered, hit, numbers, one_input}
 use Rattle.ac_paths.proofs.Moving.{InColumns, rows-value, rows-within, equal-values, equal-within}
-use Rattle.ac_paths.proofs.Standings.{all_hold}
+use Rattle.ac_forms.proofs.Standings.{all-hold}
 use Rattle.ac_paths.proofs.OnPaths.{moduli_in, InPath, OnPath, in_more, on_more, on_rows, in-append, seat_columns, base_columns}
 use Rattle.ac_paths.proofs.Heres.{cell_with, number_at_spot, initial_here}
 use Rattle.ac_paths.proofs.Branches.{In}
-use Rattle.ac_paths.proofs.ReadSteps.{picked, picked_two}
+use Rattle.ac_paths.proofs.ReadSteps.{picks_one, picks_two}
 use Rattle.ac_paths.proofs.InBranches.{in_branches}
 use Rattle.ac_paths.proofs.CallSteps.{calls_in}
 use Rattle.ac_paths.proofs.Kills.{killed_empty}
@@ -128,7 +129,7 @@ none_if false o x e = absurd cc
 -- the rows that are to stand hold at each point
 stand_hold : (g : Setting) (h : Path) (o : Option (List Row)) → IsWellMade h.conj → made_and_stand h.conj.rows o ≡ true → (rows : List Row) × (o ≡ Some rows) × (HaveModuli rows → (p : List ℤ) → IsPoint h.conj p → Meets rows p)
 stand_hold g h None w e = absurd cc
-stand_hold g h (Some rows) w e = (rows, refl, λ k p at. all_hold h.conj.rows rows p e (moduli_of h.conj.columns h.conj.rows w) k at.meets)
+stand_hold g h (Some rows) w e = (rows, refl, λ k p at. all-hold h.conj.rows rows p e (moduli_of h.conj.columns h.conj.rows w) k at.meets)
 
 pub position_is : (P Q : Position) → same_position P Q ≡ true → P ≡ Q
 position_is (Output o) (Output p) e = ap Output (eqb-true o p e)
@@ -167,15 +168,15 @@ hit_good g h c i e = by (slice_get g.claims c) refl e
     by None q e = absurd cc
     by (Some d) q e = λ p s t a.
         let ks = base g.on.pairing.params ++ (columns_of h.left ++ columns_of h.right) in
-        let b = both_of h.gone (same_position h.left.position d.left && (same_position h.right.position d.right && made_and_stand h.conj.rows (moved_rows ks d.rows))) e in
-        let l = both_of (same_position h.left.position d.left) (same_position h.right.position d.right && made_and_stand h.conj.rows (moved_rows ks d.rows)) b.1 in
-        let r = both_of (same_position h.right.position d.right) (made_and_stand h.conj.rows (moved_rows ks d.rows)) l.1 in
-        let st = stand_hold g h (moved_rows ks d.rows) i.made r.1 in
+        let b = both_of h.gone (same_position h.left.position d.left && (same_position h.right.position d.right && made_and_stand h.conj.rows (rows_renaming ks d.rows))) e in
+        let l = both_of (same_position h.left.position d.left) (same_position h.right.position d.right && made_and_stand h.conj.rows (rows_renaming ks d.rows)) b.1 in
+        let r = both_of (same_position h.right.position d.right) (made_and_stand h.conj.rows (rows_renaming ks d.rows)) l.1 in
+        let st = stand_hold g h (rows_renaming ks d.rows) i.made r.1 in
         let within = rows-within ks d.rows st.0 h.conj.columns (both_columns g h i) (g.moduli c d q) st.1 in
         let m = st.2 (moduli_of h.conj.columns st.0 within) p a.point in
-        let x = pick (columns_of h.left) p in
-        let y = pick (columns_of h.right) p in
-        let on : Meets d.rows (g.on.params ++ (x ++ y)) = subst (Meets d.rows) (picked_two g.on.pairing.params g.on.params h.left h.right p x y a.starts refl refl) ((rows-value ks d.rows st.0 p st.1).0 m) in
+        let x = picked (columns_of h.left) p in
+        let y = picked (columns_of h.right) p in
+        let on : Meets d.rows (g.on.params ++ (x ++ y)) = subst (Meets d.rows) (picks_two g.on.pairing.params g.on.params h.left h.right p x y a.starts refl refl) ((rows-value ks d.rows st.0 p st.1).0 m) in
         let pl = position_is h.left.position d.left l.0 in
         let pr = position_is h.right.position d.right r.0 in
         subst (λ z. Covered (runs_of g) (Claimed g) z s t) (sym b.0)
@@ -197,11 +198,11 @@ number_good g h i e = by (number_at g.on.pairing.left h.left.position) (number_a
         let within = equal-within ks (f ∷ []) ls (f' ∷ []) st.0 h.conj.columns (left_columns g h i) (right_columns g h i) st.1 in
         let m = st.2 (moduli_of h.conj.columns st.0 within) p a.point in
         let v = (equal-values ks (f ∷ []) ls (f' ∷ []) st.0 p st.1).0 m in
-        let w : value_at f (pick ks p) ≡ value_at f' (pick ls p) = head_same _ _ v in
-        let x = number_at_spot g.on.pairing.left g.on.params g.on.left g.on.describes_left h.left.position (pick (columns_of h.left) p) f s q a.left in
-        let y = number_at_spot g.on.pairing.right g.on.params g.on.right g.on.describes_right h.right.position (pick (columns_of h.right) p) f' t q' a.right in
-        let bx = picked g.on.pairing.params g.on.params h.left p _ a.starts refl in
-        let by' = picked g.on.pairing.params g.on.params h.right p _ a.starts refl in
+        let w : value_at f (picked ks p) ≡ value_at f' (picked ls p) = head_same _ _ v in
+        let x = number_at_spot g.on.pairing.left g.on.params g.on.left g.on.describes_left h.left.position (picked (columns_of h.left) p) f s q a.left in
+        let y = number_at_spot g.on.pairing.right g.on.params g.on.right g.on.describes_right h.right.position (picked (columns_of h.right) p) f' t q' a.right in
+        let bx = picks_one g.on.pairing.params g.on.params h.left p _ a.starts refl in
+        let by' = picks_one g.on.pairing.params g.on.params h.right p _ a.starts refl in
         let same : index_value x.writer.entry.point x.form ≡ index_value y.writer.entry.point y.form = sym x.value ∙ ap (value_at f) (sym bx) ∙ w ∙ ap (value_at f') by' ∙ y.value in
         at_spots g h.gone s t _ _ x.is y.is (numbers h.gone x.writer y.writer x.form y.form same)
 
@@ -224,14 +225,14 @@ initial_good g h i e = by (initial_cell g.on.pairing.left h.left.position) (init
         let within = equal-within ks c.subs ls d.subs st.0 h.conj.columns (left_columns g h i) (right_columns g h i) st.1 in
         let m = st.2 (moduli_of h.conj.columns st.0 within) p a.point in
         let v = (equal-values ks c.subs ls d.subs st.0 p st.1).0 m in
-        let bx = picked g.on.pairing.params g.on.params h.left p _ a.starts refl in
-        let by' = picked g.on.pairing.params g.on.params h.right p _ a.starts refl in
-        let x = initial_here g.on.pairing.left g.on.params g.on.left g.on.describes_left h.left.position (pick (columns_of h.left) p) c s q a.left in
-        let y = initial_here g.on.pairing.right g.on.params g.on.right g.on.describes_right h.right.position (pick (columns_of h.right) p) d t q' a.right in
+        let bx = picks_one g.on.pairing.params g.on.params h.left p _ a.starts refl in
+        let by' = picks_one g.on.pairing.params g.on.params h.right p _ a.starts refl in
+        let x = initial_here g.on.pairing.left g.on.params g.on.left g.on.describes_left h.left.position (picked (columns_of h.left) p) c s q a.left in
+        let y = initial_here g.on.pairing.right g.on.params g.on.right g.on.describes_right h.right.position (picked (columns_of h.right) p) d t q' a.right in
         let ar : c.array ≡ d.array = eqb-true c.array d.array r.0 in
-        let vals : values_at (g.on.params ++ pick (columns_of h.left) p) c.subs ≡ values_at (g.on.params ++ pick (columns_of h.right) p) d.subs = ap (λ z. values_at z c.subs) (sym bx) ∙ v ∙ ap (λ z. values_at z d.subs) by' in
-        let same : cell_with g.on.params c (pick (columns_of h.left) p) ≡ cell_with g.on.params d (pick (columns_of h.right) p) = λ j. record { array = ar j; at = vals j } in
-        at_spots g h.gone s t _ _ x (y ∙ ap AtStart (sym same)) (one_input h.gone (cell_with g.on.params c (pick (columns_of h.left) p)) (g.on.inputs c.array r.1))
+        let vals : values_at (g.on.params ++ picked (columns_of h.left) p) c.subs ≡ values_at (g.on.params ++ picked (columns_of h.right) p) d.subs = ap (λ z. values_at z c.subs) (sym bx) ∙ v ∙ ap (λ z. values_at z d.subs) by' in
+        let same : cell_with g.on.params c (picked (columns_of h.left) p) ≡ cell_with g.on.params d (picked (columns_of h.right) p) = λ j. record { array = ar j; at = vals j } in
+        at_spots g h.gone s t _ _ x (y ∙ ap AtStart (sym same)) (one_input h.gone (cell_with g.on.params c (picked (columns_of h.left) p)) (g.on.inputs c.array r.1))
 
 step_none : (o : Option Conj) (k : ℕ) (r : Rule) (go : Conj → Fault) → step_fault o r k go ≡ None → (x : Conj) × (o ≡ Some x) × (go x ≡ None)
 step_none None k r go e = absurd cc

@@ -15,7 +15,8 @@ use Rattle.ac_cert.specs.declared.types.Rule.{Rule}
 use Rattle.ac_cert.specs.declared.types.Rule.TheVariants as rule
 use Rattle.ac_cert.proofs.Keeping.{bind-some, map-some, some-is, if-some, Meets-append}
 use Rattle.ac_cert.proofs.Soundness.{first-none}
-use Rattle.ac_paths.specs.Columns.{pick, base, columns_of, moved_rows}
+use Rattle.ac_forms.specs.Renaming.{picked, rows_renaming}
+use Rattle.ac_paths.specs.Columns.{base, columns_of}
 use Rattle.ac_paths.specs.Coordinates.{width}
 use Rattle.ac_paths.specs.Executions.{Execution, InstanceAt, At, Describes}
 use Rattle.ac_paths.specs.Going.{Pairing}
@@ -31,7 +32,7 @@ use Rattle.ac_paths.proofs.Moving.{InColumns, rows-value, rows-within, appended-
 use Rattle.ac_claims.proofs.Claimed.{Setting, runs_of, Claimed, Good}
 use Rattle.ac_paths.proofs.OnPaths.{InPath, OnPath, in-append, seat_columns, base_columns, pick_more, pick_new, range_in}
 use Rattle.ac_paths.proofs.Branches.{In, in_left, in_right, in_map, in_flat_map, somewhere_in}
-use Rattle.ac_paths.proofs.ReadSteps.{picked}
+use Rattle.ac_paths.proofs.ReadSteps.{picks_one}
 use Rattle.ac_paths.proofs.InBranches.{in_get, made-wide}
 use Rattle.ac_claims.proofs.Plans.{plan_good, none_if}
 
@@ -190,9 +191,9 @@ domain_moduli m params x d (InitialNode s k) a q e n = let b = bind-some (initia
 -- the columns of the beginning of a plan
 pub record StartPoint (g : Setting) (c : Claim) (a b : Domain) (x y : List ℤ) : Type 0 where
   pub long : length (g.on.params ++ (x ++ y)) ≡ start_columns g.on.pairing a b
-  pub starts : pick (base g.on.pairing.params) (g.on.params ++ (x ++ y)) ≡ g.on.params
-  pub left : pick (columns_of (left_seat g.on.pairing c a)) (g.on.params ++ (x ++ y)) ≡ x
-  pub right : pick (columns_of (right_seat g.on.pairing c a b)) (g.on.params ++ (x ++ y)) ≡ y
+  pub starts : picked (base g.on.pairing.params) (g.on.params ++ (x ++ y)) ≡ g.on.params
+  pub left : picked (columns_of (left_seat g.on.pairing c a)) (g.on.params ++ (x ++ y)) ≡ x
+  pub right : picked (columns_of (right_seat g.on.pairing c a b)) (g.on.params ++ (x ++ y)) ≡ y
 
 pub start_point : (g : Setting) (c : Claim) (a b : Domain) (x y : List ℤ) → length x ≡ a.width → length y ≡ b.width → StartPoint g c a b x y
 start_point g c a b x y lx ly =
@@ -204,11 +205,11 @@ start_point g c a b x y lx ly =
     record {
       long = length-append g.on.params (x ++ y) ∙ (λ i. lp i + (length-append x y ∙ (λ j. lx j + ly j)) i);
       starts = pick_new0 g.on.params (x ++ y) n lp;
-      left = ap (pick (columns_of (left_seat g.on.pairing c a))) (sym again) ∙ pick_more (columns_of (left_seat g.on.pairing c a)) (g.on.params ++ x) y (n + a.width) lpx ks ∙ pick_new g.on.params x n a.width lp lx;
-      right = ap (pick (columns_of (right_seat g.on.pairing c a b))) (sym again) ∙ pick_new (g.on.params ++ x) y (n + a.width) b.width lpx ly;
+      left = ap (picked (columns_of (left_seat g.on.pairing c a))) (sym again) ∙ pick_more (columns_of (left_seat g.on.pairing c a)) (g.on.params ++ x) y (n + a.width) lpx ks ∙ pick_new g.on.params x n a.width lp lx;
+      right = ap (picked (columns_of (right_seat g.on.pairing c a b))) (sym again) ∙ pick_new (g.on.params ++ x) y (n + a.width) b.width lpx ly;
     }
   where
-    pick_new0 : (params rest : List ℤ) (n : ℕ) → length params ≡ n → pick (base n) (params ++ rest) ≡ params
+    pick_new0 : (params rest : List ℤ) (n : ℕ) → length params ≡ n → picked (base n) (params ++ rest) ≡ params
     pick_new0 params rest n l = pick_more (base n) params rest n l (base_columns n n (omega arith)) ∙ pick_new [] params 0 n refl l
 
 -- the rows of two pieces at such a point
@@ -218,10 +219,10 @@ pieces_meet g c a b l r rows x y e s ml mr =
     let p = g.on.params ++ (x ++ y) in
     let ks = base n ++ columns_of (left_seat g.on.pairing c a) in
     let ls = base n ++ columns_of (right_seat g.on.pairing c a b) in
-    let t = appended-parts (moved_rows ks l) (moved_rows ls r) rows e in
+    let t = appended-parts (rows_renaming ks l) (rows_renaming ls r) rows e in
     subst (λ (z : List Row). Meets z p) (sym t.4) (meets-both t.0 t.1 p
-    ((rows-value ks l t.0 p t.2).1 (subst (Meets l) (sym (picked n g.on.params (left_seat g.on.pairing c a) p x s.starts s.left)) ml))
-    ((rows-value ls r t.1 p t.3).1 (subst (Meets r) (sym (picked n g.on.params (right_seat g.on.pairing c a b) p y s.starts s.right)) mr)))
+    ((rows-value ks l t.0 p t.2).1 (subst (Meets l) (sym (picks_one n g.on.params (left_seat g.on.pairing c a) p x s.starts s.left)) ml))
+    ((rows-value ls r t.1 p t.3).1 (subst (Meets r) (sym (picks_one n g.on.params (right_seat g.on.pairing c a b) p y s.starts s.right)) mr)))
 
 pub pieces_made : (g : Setting) (c : Claim) (a b : Domain) (l r rows : List Row) → piece_rows g.on.pairing c a b l r ≡ Some rows → HaveModuli l → HaveModuli r → AreRowsOver (start_columns g.on.pairing a b) rows
 pieces_made g c a b l r rows e hl hr =
@@ -229,7 +230,7 @@ pieces_made g c a b l r rows e hl hr =
     let cols = start_columns g.on.pairing a b in
     let ks = base n ++ columns_of (left_seat g.on.pairing c a) in
     let ls = base n ++ columns_of (right_seat g.on.pairing c a b) in
-    let t = appended-parts (moved_rows ks l) (moved_rows ls r) rows e in
+    let t = appended-parts (rows_renaming ks l) (rows_renaming ls r) rows e in
     let kb = base_columns n cols (omega arith) in
     let kl = in-append (base n) (columns_of (left_seat g.on.pairing c a)) cols kb (seat_columns (left_seat g.on.pairing c a) cols (omega arith)) in
     let kr = in-append (base n) (columns_of (right_seat g.on.pairing c a b)) cols kb (seat_columns (right_seat g.on.pairing c a b) cols (omega arith)) in

@@ -5,7 +5,8 @@ use Rattle.ac_forms.specs.declared.row.Row.{Row}
 use Rattle.ac_syntax.specs.declared.tree.Position.{Position}
 use Rattle.ac_syntax.specs.declared.tree.Position.TheVariants.{Output, Node, InitialOutput, InitialNode}
 use Rattle.ac_poly.specs.Model.{is_input}
-use Rattle.ac_paths.specs.Columns.{base, columns_of, equal_forms, moved_rows}
+use Rattle.ac_forms.specs.Renaming.{rows_renaming}
+use Rattle.ac_paths.specs.Columns.{base, columns_of, equal_forms}
 use Rattle.ac_paths.specs.Going.{Pairing}
 use Rattle.ac_paths.specs.Places.{number_at, initial_cell}
 use Rattle.ac_paths.specs.declared.places.CellForms.{CellForms}
@@ -25,7 +26,7 @@ abbrev pub hits : ℕ → Path → Option Claim → Bool
 hits params h None = false
 hits params h (Some c) =
     h.gone && (same_position h.left.position c.left && (same_position h.right.position c.right
-    && made_and_stand h.conj.rows (moved_rows (base params ++ (columns_of h.left ++ columns_of h.right)) c.rows)))
+    && made_and_stand h.conj.rows (rows_renaming (base params ++ (columns_of h.left ++ columns_of h.right)) c.rows)))
 
 abbrev pub is_hit : Pairing → Path → Option Claim → Bool
 is_hit g = hits g.params

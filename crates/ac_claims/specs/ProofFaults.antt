@@ -15,13 +15,14 @@ use Rattle.ac_poly.specs.declared.types.Model.{Model}
 use Rattle.ac_poly.specs.declared.types.StmtModel.{StmtModel}
 use Rattle.ac_cert.specs.Faults.{Fault, first_fault_of}
 use Rattle.ac_cert.specs.declared.types.Rule.TheVariants as rule
-use Rattle.ac_paths.specs.Columns.{base, columns_of, moved_rows, appended, equal_forms}
+use Rattle.ac_forms.specs.Renaming.{rows_renaming}
+use Rattle.ac_paths.specs.Columns.{base, columns_of, appended, equal_forms}
 use Rattle.ac_paths.specs.Coordinates.{width}
 use Rattle.ac_claims.specs.Ending.{same_position}
 use Rattle.ac_paths.specs.Going.{Pairing}
 use Rattle.ac_paths.specs.Places.{extent_rows, initial_cell, element_forms}
 use Rattle.ac_claims.specs.PlanFaults.{fault_unless, plan_fault, plan_lines}
-use Rattle.ac_paths.specs.Standing.{all_stand}
+use Rattle.ac_forms.specs.Standing.{all_stand}
 use Rattle.ac_paths.specs.declared.path.Path.{Path}
 use Rattle.ac_paths.specs.declared.path.Seat.{Seat}
 use Rattle.ac_claims.specs.declared.types.Claim.{Claim}
@@ -103,7 +104,7 @@ start_columns g a b = g.params + (a.width + b.width)
 
 -- the rows of two pieces, over the columns of both positions
 abbrev pub piece_rows : Pairing → Claim → Domain → Domain → List Row → List Row → Option (List Row)
-piece_rows g c a b left right = appended (moved_rows (base g.params ++ columns_of (left_seat g c a)) left) (moved_rows (base g.params ++ columns_of (right_seat g c a b)) right)
+piece_rows g c a b left right = appended (rows_renaming (base g.params ++ columns_of (left_seat g c a)) left) (rows_renaming (base g.params ++ columns_of (right_seat g c a b)) right)
 
 -- the path of a claim's plan: the claim's rows, the context, and a piece of each position
 abbrev pub start : Pairing → Claim → Domain → Domain → List Row → List Row → Option Path

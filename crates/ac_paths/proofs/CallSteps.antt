@@ -27,7 +27,8 @@ use Rattle.ac_poly.specs.declared.types.NodeModel.{NodeModel}
 use Rattle.ac_poly.specs.declared.types.NodeModel.TheVariants.{Number as Constant, Read, Call as Applied}
 use Rattle.ac_cert.proofs.Keeping.{bind-some, some-is, if-some, map-some}
 use Rattle.ac_forms.proofs.Joining.{both_of}
-use Rattle.ac_paths.specs.Columns.{pick, columns_of}
+use Rattle.ac_forms.specs.Renaming.{picked}
+use Rattle.ac_paths.specs.Columns.{columns_of}
 use Rattle.ac_paths.specs.Executions.{Execution, InstanceAt, At, Describes}
 use Rattle.ac_paths.specs.Going.{argument_path, kept, swapped, same_symbol, call_branches}
 use Rattle.ac_paths.specs.Places.{CallAt, call_of, call_at, node_at}
@@ -101,7 +102,7 @@ symbol_is f k h =
     let n : f.name ≡ k.name = (slice_eq-Decides Decides-eqb f.name k.name _ refl).0 b.1 in
     λ i. record { name = n i; arity = a i }
 
-argument_behind : (g : Compared) (h : Path) (hs : List Path) (p : List ℤ) (s t s' t' : Spot) (P Q : Position) → OnPath g h p s t → At g.left P (pick (columns_of h.left) p) s' → At g.right Q (pick (columns_of h.right) p) t' → In (argument_path h P Q) hs → Behind g hs p s' t'
+argument_behind : (g : Compared) (h : Path) (hs : List Path) (p : List ℤ) (s t s' t' : Spot) (P Q : Position) → OnPath g h p s t → At g.left P (picked (columns_of h.left) p) s' → At g.right Q (picked (columns_of h.right) p) t' → In (argument_path h P Q) hs → Behind g hs p s' t'
 argument_behind g h hs p s t s' t' P Q a l r n = record {
   path = argument_path h P Q;
   among = n;
@@ -123,7 +124,7 @@ BothBehind g hs p w u (v ∷ v' ∷ []) (z ∷ z' ∷ []) = Behind g hs p (AtNod
 BothBehind g hs p w u vs us = ⊥
 
 kept_behind : (g : Compared) (h : Path) (p : List ℤ) (s t : Spot) → OnPath g h p s t → (all : List Path) (Ps Qs : List Position) (hs : List Path) → kept h Ps Qs ≡ Some hs → ((k : Path) → In k hs → In k all)
-    → (w u : Writer) (vs us : List Value) → Each g.left (pick (columns_of h.left) p) w Ps vs → Each g.right (pick (columns_of h.right) p) u Qs us → EachBehind g all p w u vs us
+    → (w u : Writer) (vs us : List Value) → Each g.left (picked (columns_of h.left) p) w Ps vs → Each g.right (picked (columns_of h.right) p) u Qs us → EachBehind g all p w u vs us
 kept_behind g h p s t a all [] [] hs e n w u [] [] x y = tt
 kept_behind g h p s t a all [] [] hs e n w u [] (v ∷ us) x y = absurd y
 kept_behind g h p s t a all [] [] hs e n w u (v ∷ vs) us x y = absurd x
@@ -138,7 +139,7 @@ kept_behind g h p s t a all (P ∷ Ps) (Q ∷ Qs) hs e n w u (v ∷ vs) (v' ∷ 
     )
 
 swapped_behind : (g : Compared) (h : Path) (p : List ℤ) (s t : Spot) → OnPath g h p s t → (Ps Qs : List Position) (hs : List Path) → swapped h Ps Qs ≡ Some hs
-    → (w u : Writer) (vs us : List Value) → Each g.left (pick (columns_of h.left) p) w Ps vs → Each g.right (pick (columns_of h.right) p) u Qs us → BothBehind g hs p w u vs us
+    → (w u : Writer) (vs us : List Value) → Each g.left (picked (columns_of h.left) p) w Ps vs → Each g.right (picked (columns_of h.right) p) u Qs us → BothBehind g hs p w u vs us
 swapped_behind g h p s t a (P ∷ P' ∷ []) (Q ∷ Q' ∷ []) hs e w u (v ∷ v' ∷ []) (z ∷ z' ∷ []) x y =
     let is : hs ≡ argument_path h P Q' ∷ argument_path h P' Q ∷ [] = cc in (
       argument_behind g h hs p s t (AtNode w v) (AtNode u z') P Q' a x.0 y.1.0 (subst (In (argument_path h P Q')) (sym is) (inl refl)),
@@ -178,8 +179,8 @@ pub record CallsBehind (order : Order) (g : Compared) (hs : List Path) (p : List
 pub calls_step : (g : Compared) (order : Order) (h : Path) (c d : CallAt) (hs : List Path) → call_at g.pairing.left h.left.position ≡ Some c → call_at g.pairing.right h.right.position ≡ Some d → call_branches g.pairing order h c d ≡ Some hs
     → (p : List ℤ) (s t : Spot) → OnPath g h p s t → CallsBehind order g hs p s t
 calls_step g Keep h c d hs ec ed e p s t a =
-    let x = call_here g.pairing.left g.params g.left g.describes_left h.left.position (pick (columns_of h.left) p) c s ec a.left in
-    let y = call_here g.pairing.right g.params g.right g.describes_right h.right.position (pick (columns_of h.right) p) d t ed a.right in
+    let x = call_here g.pairing.left g.params g.left g.describes_left h.left.position (picked (columns_of h.left) p) c s ec a.left in
+    let y = call_here g.pairing.right g.params g.right g.describes_right h.right.position (picked (columns_of h.right) p) d t ed a.right in
     let k = if-some (same_symbol c.symbol d.symbol) (kept h c.args d.args) hs e in
     let f : c.symbol ≡ d.symbol = symbol_is c.symbol d.symbol k.0 in
     record {
@@ -195,8 +196,8 @@ calls_step g Keep h c d hs ec ed e p s t a =
       behind = kept_behind g h p s t a hs c.args d.args hs k.1 (λ z i. i) x.writer y.writer x.args y.args x.each y.each;
     }
 calls_step g Swap h c d hs ec ed e p s t a =
-    let x = call_here g.pairing.left g.params g.left g.describes_left h.left.position (pick (columns_of h.left) p) c s ec a.left in
-    let y = call_here g.pairing.right g.params g.right g.describes_right h.right.position (pick (columns_of h.right) p) d t ed a.right in
+    let x = call_here g.pairing.left g.params g.left g.describes_left h.left.position (picked (columns_of h.left) p) c s ec a.left in
+    let y = call_here g.pairing.right g.params g.right g.describes_right h.right.position (picked (columns_of h.right) p) d t ed a.right in
     let k = if-some (same_symbol c.symbol d.symbol && g.pairing.swaps c.symbol) (swapped h c.args d.args) hs e in
     let b = both_of (same_symbol c.symbol d.symbol) (g.pairing.swaps c.symbol) k.0 in
     let f : c.symbol ≡ d.symbol = symbol_is c.symbol d.symbol b.0 in

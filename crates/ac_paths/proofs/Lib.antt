@@ -1,5 +1,4 @@
 pub mod Moving
-pub mod Standings
 pub mod OnPaths
 pub mod Heres
 pub mod Branches
@@ -10,9 +9,9 @@ pub mod Kills
 pub mod LevelModuli
 pub mod Described
 pub mod Moduli
-pub mod MovingSteps
 pub mod EqualSteps
 pub mod PlaceSteps
 pub mod AddSteps
 pub mod StmtSteps
 pub mod CallLoops
+pub mod KillSteps

@@ -8,7 +8,8 @@ use Rattle.ac_syntax.specs.Trace.{Entry}
 use Rattle.ac_syntax.specs.Algebra.{Cell}
 use Rattle.ac_syntax.specs.Spot.{Spot}
 use Rattle.ac_cert.specs.Points.{IsPoint, Extends}
-use Rattle.ac_paths.specs.Columns.{pick, base, columns_of}
+use Rattle.ac_forms.specs.Renaming.{picked}
+use Rattle.ac_paths.specs.Columns.{base, columns_of}
 use Rattle.ac_paths.specs.Executions.{Execution, InstanceAt, At, Describes}
 pub use Rattle.ac_paths.specs.OnPaths.{Compared, execution_of, AtSeat, ReaderAt, SourceAt, LastAt, OnPath}
 pub use Rattle.ac_paths.specs.Formed.{SeatIn, SourceIn, LastIn, IsFormed, HasModuli}
@@ -55,11 +56,11 @@ base_columns params n h = range_in 0 params n (omega (arith, h))
 two : {A : Type 0} {x y : A} {xs ys : List A} → x ≡ y → xs ≡ ys → x ∷ xs ≡ y ∷ ys
 two p q = λ i. p i ∷ q i
 
-pub pick_more : (ks : List ℕ) (p q : List ℤ) (n : ℕ) → length p ≡ n → InColumns ks n → pick ks (p ++ q) ≡ pick ks p
+pub pick_more : (ks : List ℕ) (p q : List ℤ) (n : ℕ) → length p ≡ n → InColumns ks n → picked ks (p ++ q) ≡ picked ks p
 pick_more [] p q n e h = refl
 pick_more (k ∷ ks) p q n e h = let l : k < n = h.0 in two (get_or_append_left p q (pos 0) k (omega arith)) (pick_more ks p q n e h.1)
 
-pub pick_new : (p x : List ℤ) (n d : ℕ) → length p ≡ n → length x ≡ d → pick (range_with_len n d) (p ++ x) ≡ x
+pub pick_new : (p x : List ℤ) (n d : ℕ) → length p ≡ n → length x ≡ d → picked (range_with_len n d) (p ++ x) ≡ x
 pick_new p [] n zero e f = refl
 pick_new p [] n (suc d) e f = absurd (omega arith)
 pick_new p (y ∷ x) n zero e f = absurd (omega arith)
@@ -67,8 +68,8 @@ pick_new p (y ∷ x) n (suc d) e f =
     let z : n - n ≡ 0 = omega arith in
     let a : get_or (p ++ y ∷ x) n (pos 0) ≡ y = get_or-append_right p (y ∷ x) n n (pos 0) e (omega arith) ∙ rw z refl in
     let l : length (p ++ y ∷ []) ≡ n + 1 = length-append p (y ∷ []) ∙ omega arith in
-    let b : pick (range_with_len (n + 1) d) ((p ++ y ∷ []) ++ x) ≡ x = pick_new (p ++ y ∷ []) x (n + 1) d l (omega arith) in
-    two a (ap (pick (range_with_len (n + 1) d)) (sym (append_assoc p (y ∷ []) x)) ∙ b)
+    let b : picked (range_with_len (n + 1) d) ((p ++ y ∷ []) ++ x) ≡ x = pick_new (p ++ y ∷ []) x (n + 1) d l (omega arith) in
+    two a (ap (picked (range_with_len (n + 1) d)) (sym (append_assoc p (y ∷ []) x)) ∙ b)
 
 -- further columns
 pub at_more : (x : Execution) (seat : Seat) (p q : List ℤ) (s : Spot) (n : ℕ) → length p ≡ n → SeatIn seat n → AtSeat x seat p s → AtSeat x seat (p ++ q) s
@@ -93,7 +94,7 @@ pub last_in_more : (o : Option Assumed) (n m : ℕ) → n ≤ m → LastIn o n �
 last_in_more None n m h i = tt
 last_in_more (Some a) n m h i = (omega (arith, h, i.0), source_in_more a.source n m h i.1)
 
-pub starts_more : (params : ℕ) (given p q : List ℤ) (n : ℕ) → length p ≡ n → params ≤ n → pick (base params) p ≡ given → pick (base params) (p ++ q) ≡ given
+pub starts_more : (params : ℕ) (given p q : List ℤ) (n : ℕ) → length p ≡ n → params ≤ n → picked (base params) p ≡ given → picked (base params) (p ++ q) ≡ given
 starts_more params given p q n l i h = pick_more (base params) p q n l (base_columns params n i) ∙ h
 
 -- a path with further rows, over as many columns or more
@@ -111,7 +112,7 @@ on_more g h d p q s t a b e at =
     let len = b.point.long in
     record {
       point = at;
-      starts = ap (pick (base g.pairing.params)) e.1 ∙ starts_more g.pairing.params g.params p e.0 h.conj.columns len a.base_in b.starts;
+      starts = ap (picked (base g.pairing.params)) e.1 ∙ starts_more g.pairing.params g.params p e.0 h.conj.columns len a.base_in b.starts;
       left = subst (λ (z : List ℤ). AtSeat g.left h.left z s) (sym e.1) (at_more g.left h.left p e.0 s h.conj.columns len a.left_in b.left);
       right = subst (λ (z : List ℤ). AtSeat g.right h.right z t) (sym e.1) (at_more g.right h.right p e.0 t h.conj.columns len a.right_in b.right);
       last = subst (λ (z : List ℤ). LastAt g h.last z) (sym e.1) (last_more g h.last p e.0 h.conj.columns len a.last_in b.last);

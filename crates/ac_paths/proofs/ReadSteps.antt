@@ -14,7 +14,8 @@ use Rattle.ac_poly.specs.Laws.{values_at, cell_of}
 use Rattle.ac_poly.specs.declared.types.StmtModel.{StmtModel}
 use Rattle.ac_cert.specs.Points.{IsPoint}
 use Rattle.ac_cert.proofs.Keeping.{map-some, Meets-append}
-use Rattle.ac_paths.specs.Columns.{pick, base, columns_of, moved_rows, equal_forms, appended}
+use Rattle.ac_forms.specs.Renaming.{picked, rows_renaming}
+use Rattle.ac_paths.specs.Columns.{base, columns_of, equal_forms, appended}
 use Rattle.ac_paths.specs.Coordinates.{width}
 use Rattle.ac_paths.specs.Executions.{Execution, At}
 use Rattle.ac_paths.specs.Going.{case_path, case_rows, cases_of, cases_from, read_branches, initial_path, gone_to, extended, root, model_of, seat_of}
@@ -39,16 +40,16 @@ pub record CaseParts (params : ℕ) (reader : Seat) (cell : CellForms) (source :
   pub first : List Row
   pub second : List Row
   pub third : List Row
-  pub pieces : moved_rows (base params ++ columns_of source) piece ≡ Some first
+  pub pieces : rows_renaming (base params ++ columns_of source) piece ≡ Some first
   pub cells : equal_forms (base params ++ columns_of reader) cell.subs (base params ++ columns_of source) stmt.subs ≡ Some second
-  pub levels : moved_rows (base params ++ (columns_of source ++ columns_of reader)) level ≡ Some third
+  pub levels : rows_renaming (base params ++ (columns_of source ++ columns_of reader)) level ≡ Some third
   pub are : rows ≡ first ++ (second ++ third)
 
 pub case_parts : (params : ℕ) (reader : Seat) (cell : CellForms) (source : Seat) (stmt : StmtModel) (piece level rows : List Row) → case_rows params reader cell source stmt piece level ≡ Some rows → CaseParts params reader cell source stmt piece level rows
 case_parts params reader cell source stmt piece level rows e =
-    let a = appended-parts (moved_rows (base params ++ columns_of source) piece)
-    (appended (equal_forms (base params ++ columns_of reader) cell.subs (base params ++ columns_of source) stmt.subs) (moved_rows (base params ++ (columns_of source ++ columns_of reader)) level)) rows e in
-    let b = appended-parts (equal_forms (base params ++ columns_of reader) cell.subs (base params ++ columns_of source) stmt.subs) (moved_rows (base params ++ (columns_of source ++ columns_of reader)) level) a.1 a.3 in
+    let a = appended-parts (rows_renaming (base params ++ columns_of source) piece)
+    (appended (equal_forms (base params ++ columns_of reader) cell.subs (base params ++ columns_of source) stmt.subs) (rows_renaming (base params ++ (columns_of source ++ columns_of reader)) level)) rows e in
+    let b = appended-parts (equal_forms (base params ++ columns_of reader) cell.subs (base params ++ columns_of source) stmt.subs) (rows_renaming (base params ++ (columns_of source ++ columns_of reader)) level) a.1 a.3 in
     record { first = a.0; second = b.0; third = b.1; pieces = a.2; cells = b.2; levels = b.3; are = a.4 ∙ ap (λ (ys : List Row). a.0 ++ ys) b.4 }
 
 -- they are well made over the path's columns and the new ones
@@ -66,20 +67,20 @@ case_made params reader cell source stmt piece level rows n b r s hp hl c =
     (rows-within (base params ++ (columns_of source ++ columns_of reader)) level c.third n sr hl c.levels)))
 
 -- what columns hold at a point: the parameters and coordinates
-pub picked : (params : ℕ) (given : List ℤ) (seat : Seat) (q at : List ℤ) → pick (base params) q ≡ given → pick (columns_of seat) q ≡ at → pick (base params ++ columns_of seat) q ≡ given ++ at
-picked params given seat q at b s = pick-append (base params) (columns_of seat) q ∙ (λ i. b i ++ s i)
+pub picks_one : (params : ℕ) (given : List ℤ) (seat : Seat) (q at : List ℤ) → picked (base params) q ≡ given → picked (columns_of seat) q ≡ at → picked (base params ++ columns_of seat) q ≡ given ++ at
+picks_one params given seat q at b s = pick-append (base params) (columns_of seat) q ∙ (λ i. b i ++ s i)
 
-pub picked_two : (params : ℕ) (given : List ℤ) (first second : Seat) (q x y : List ℤ) → pick (base params) q ≡ given → pick (columns_of first) q ≡ x → pick (columns_of second) q ≡ y
-    → pick (base params ++ (columns_of first ++ columns_of second)) q ≡ given ++ (x ++ y)
-picked_two params given first second q x y b s t = pick-append (base params) (columns_of first ++ columns_of second) q ∙ (λ i. b i ++ (pick-append (columns_of first) (columns_of second) q ∙ (λ j. s j ++ t j)) i)
+pub picks_two : (params : ℕ) (given : List ℤ) (first second : Seat) (q x y : List ℤ) → picked (base params) q ≡ given → picked (columns_of first) q ≡ x → picked (columns_of second) q ≡ y
+    → picked (base params ++ (columns_of first ++ columns_of second)) q ≡ given ++ (x ++ y)
+picks_two params given first second q x y b s t = pick-append (base params) (columns_of first ++ columns_of second) q ∙ (λ i. b i ++ (pick-append (columns_of first) (columns_of second) q ∙ (λ j. s j ++ t j)) i)
 
 pub case_meets : (params : ℕ) (given : List ℤ) (reader : Seat) (cell : CellForms) (source : Seat) (stmt : StmtModel) (piece level rows : List Row) (q x z : List ℤ) → CaseParts params reader cell source stmt piece level rows
-    → pick (base params) q ≡ given → pick (columns_of reader) q ≡ x → pick (columns_of source) q ≡ z
+    → picked (base params) q ≡ given → picked (columns_of reader) q ≡ x → picked (columns_of source) q ≡ z
     → Meets piece (given ++ z) → values_at (given ++ x) cell.subs ≡ values_at (given ++ z) stmt.subs → Meets level (given ++ (z ++ x)) → Meets rows q
 case_meets params given reader cell source stmt piece level rows q x z c b r s hp hc hl =
-    let bs = picked params given source q z b s in
-    let br = picked params given reader q x b r in
-    let sr = picked_two params given source reader q z x b s r in
+    let bs = picks_one params given source q z b s in
+    let br = picks_one params given reader q x b r in
+    let sr = picks_two params given source reader q z x b s r in
     rw c.are (meets-both c.first (c.second ++ c.third) q ((rows-value (base params ++ columns_of source) piece c.first q c.pieces).1 (subst (Meets piece) (sym bs) hp))
     (meets-both c.second c.third q
     ((equal-values (base params ++ columns_of reader) cell.subs (base params ++ columns_of source) stmt.subs c.second q c.cells).1 (ap (λ y. values_at y cell.subs) br ∙ hc ∙ ap (λ y. values_at y stmt.subs) (sym bs)))
@@ -102,14 +103,14 @@ unfolding At
 at_root x w stmt at s e c = (w, record { stands = s; stmt = e; coords = c }, w.entry.value, node_root w.entry.value, refl)
 
 pub source_case : (g : Compared) (h : Path) (side : Side) (cell : CellForms) (hs : List Path) (p : List ℤ) (r : ReaderAt (execution_of g side) (seat_of h side) p) (w : Writer)
-    → g.pairing.params ≤ h.conj.columns → SeatIn (seat_of h side) h.conj.columns → IsWellMade h.conj → IsPoint h.conj p → pick (base g.pairing.params) p ≡ g.params
+    → g.pairing.params ≤ h.conj.columns → SeatIn (seat_of h side) h.conj.columns → IsWellMade h.conj → IsPoint h.conj p → picked (base g.pairing.params) p ≡ g.params
     → cell_read (model_of g.pairing side) (seat_of h side).position ≡ Some cell → read_branches g.pairing.params (model_of g.pairing side) h side cell ≡ Some hs → source r.cell r.before ≡ Some w → SourceCase g h side p w hs
 source_case g h side cell hs p r w bi ri made point starts e br src =
     let x = execution_of g side in
     let m = model_of g.pairing side in
     let d = describes_of g side in
     let reader = seat_of h side in
-    let at = pick (columns_of reader) p in
+    let at = picked (columns_of reader) p in
     let z = x.coords w.entry in
     let u = w.entry.stmt in
     let before = (source_stands r.cell r.before w src).0 in
@@ -133,9 +134,9 @@ source_case g h side cell hs p r w bi ri made point starts e br src =
     let made_rows = map-some (case_rows g.pairing.params reader cell source stmt pieces.0 level.0)
     (λ rows. gone_to h side (extended h.conj (width stmt) rows) source (Some (record { side = side; reader = reader; source = Some source }))) all.0 all.1 in
     let parts = case_parts g.pairing.params reader cell source stmt pieces.0 level.0 made_rows.0 made_rows.1 in
-    let starts' : pick (base g.pairing.params) (p ++ z) ≡ g.params = starts_more g.pairing.params g.params p z n lp bi starts in
-    let zs : pick (columns_of source) (p ++ z) ≡ z = pick_new p z n (width stmt) lp lz in
-    let xs : pick (columns_of reader) (p ++ z) ≡ at = pick_more (columns_of reader) p z n lp (seat_columns reader n ri) in
+    let starts' : picked (base g.pairing.params) (p ++ z) ≡ g.params = starts_more g.pairing.params g.params p z n lp bi starts in
+    let zs : picked (columns_of source) (p ++ z) ≡ z = pick_new p z n (width stmt) lp lz in
+    let xs : picked (columns_of reader) (p ++ z) ≡ at = pick_more (columns_of reader) p z n lp (seat_columns reader n ri) in
     let rows_meet = case_meets g.pairing.params g.params reader cell source stmt pieces.0 level.0 made_rows.0 (p ++ z) at z parts starts' xs zs pieces.2 (ap (λ (c : Cell). c.at) same) level.2 in
     record {
       conj = extended h.conj (width stmt) made_rows.0;
@@ -147,7 +148,7 @@ source_case g h side cell hs p r w bi ri made point starts e br src =
         long = length-append p z ∙ (λ i. lp i + lz i);
         meets = meets-both h.conj.rows made_rows.0 (p ++ z) (Meets-append h.conj.rows n p z (omega (arith, lp)) made point.meets) rows_meet;
       };
-      at = at_root x w u (pick (columns_of source) (p ++ z)) st refl (sym zs);
+      at = at_root x w u (picked (columns_of source) (p ++ z)) st refl (sym zs);
       assumed = (reader_more x reader p z n lp ri r, (w, src, record { stands = st; stmt = refl; coords = sym zs }));
     }
 
@@ -205,7 +206,7 @@ pub record RightRead (g : Compared) (hs : List Path) (p : List ℤ) (s t : Spot)
 pub left_read : (g : Compared) (h : Path) (cell : CellForms) (hs : List Path) → InPath g h → cell_read g.pairing.left h.left.position ≡ Some cell → read_branches g.pairing.params g.pairing.left h Left cell ≡ Some hs
     → (p : List ℤ) (s t : Spot) → OnPath g h p s t → LeftRead g hs p s t
 left_read g h cell hs i e br p s t a =
-    let at = pick (columns_of h.left) p in
+    let at = picked (columns_of h.left) p in
     let rd = reading g.pairing.left g.params g.left g.describes_left h.left.position at cell s e a.left in
     let r : ReaderAt g.left h.left p = record { spot = s; cell = rd.read; before = rd.before; here = a.left; reads = rd.reads } in
     record {
@@ -228,7 +229,7 @@ left_read g h cell hs i e br p s t a =
 pub right_read : (g : Compared) (h : Path) (cell : CellForms) (hs : List Path) → InPath g h → cell_read g.pairing.right h.right.position ≡ Some cell → read_branches g.pairing.params g.pairing.right h Right cell ≡ Some hs
     → (p : List ℤ) (s t : Spot) → OnPath g h p s t → RightRead g hs p s t
 right_read g h cell hs i e br p s t a =
-    let at = pick (columns_of h.right) p in
+    let at = picked (columns_of h.right) p in
     let rd = reading g.pairing.right g.params g.right g.describes_right h.right.position at cell t e a.right in
     let r : ReaderAt g.right h.right p = record { spot = t; cell = rd.read; before = rd.before; here = a.right; reads = rd.reads } in
     record {

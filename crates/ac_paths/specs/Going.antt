@@ -11,7 +11,8 @@ use Rattle.ac_syntax.specs.declared.tree.Position.TheVariants.{Node}
 use Rattle.ac_syntax.specs.declared.tree.Symbol.{Symbol}
 use Rattle.ac_poly.specs.declared.types.Model.{Model}
 use Rattle.ac_poly.specs.declared.types.StmtModel.{StmtModel}
-use Rattle.ac_paths.specs.Columns.{base, columns_of, moved_rows, equal_forms, appended, all_of}
+use Rattle.ac_forms.specs.Renaming.{rows_renaming}
+use Rattle.ac_paths.specs.Columns.{base, columns_of, equal_forms, appended, all_of}
 use Rattle.ac_paths.specs.Coordinates.{width}
 use Rattle.ac_paths.specs.Places.{CellForms, CallAt, cell_read, call_at, initial_of, levels_to}
 use Rattle.ac_paths.specs.declared.path.Assumed.{Assumed}
@@ -51,9 +52,9 @@ root first u stmt = record { position = Node u 0; first = first; width = width s
 -- the rows of a case: the source lies in a piece of its assignment, writes the cell, and stands before the reader by a level
 abbrev pub case_rows : ℕ → Seat → CellForms → Seat → StmtModel → List Row → List Row → Option (List Row)
 case_rows params reader cell source stmt piece level =
-    appended (moved_rows (base params ++ columns_of source) piece)
+    appended (rows_renaming (base params ++ columns_of source) piece)
     (appended (equal_forms (base params ++ columns_of reader) cell.subs (base params ++ columns_of source) stmt.subs)
-    (moved_rows (base params ++ (columns_of source ++ columns_of reader)) level))
+    (rows_renaming (base params ++ (columns_of source ++ columns_of reader)) level))
 
 -- further columns and rows
 abbrev pub extended : Conj → ℕ → List Row → Conj

@@ -13,7 +13,8 @@ use Rattle.ac_cert.specs.ChoiceFits.{after_choice}
 use Rattle.ac_cert.specs.Choices.{column_of, is_legal}
 use Rattle.ac_cert.specs.declared.choose.Choice.{Choice}
 use Rattle.ac_cert.specs.declared.choose.Choice.TheVariants as choice
-use Rattle.ac_paths.specs.Columns.{base, columns_of, moved_rows, appended}
+use Rattle.ac_forms.specs.Renaming.{rows_renaming}
+use Rattle.ac_paths.specs.Columns.{base, columns_of, appended}
 use Rattle.ac_paths.specs.Coordinates.{width, levels_before}
 use Rattle.ac_paths.specs.Going.{Pairing, model_of, root, case_rows}
 use Rattle.ac_paths.specs.Places.{cell_read, levels_to}
@@ -22,14 +23,14 @@ use Rattle.ac_paths.specs.declared.path.Assumed.{Assumed}
 use Rattle.ac_paths.specs.declared.path.Seat.{Seat}
 
 -- the assignment of a root
+abbrev pub assignment_of : Position → ℕ
+assignment_of (Output o) = 0
+assignment_of (Node s k) = s
+assignment_of (InitialOutput o) = 0
+assignment_of (InitialNode s k) = s
+
 abbrev pub assignment_at : Seat → ℕ
-assignment_at seat = by seat.position
-  where
-    by : Position → ℕ
-    by (Output o) = 0
-    by (Node s k) = s
-    by (InitialOutput o) = 0
-    by (InitialNode s k) = 0
+assignment_at seat = assignment_of seat.position
 
 -- the rows by which a copy stands after the assumed source: by a level, or none are asked where the initial contents are assumed
 abbrev pub after_rows : Pairing → Model → Option Seat → Option ℕ → ℕ → Seat → StmtModel → Option (List Row)
@@ -37,7 +38,7 @@ after_rows g m None None u copy stmt = Some []
 after_rows g m None (Some level) u copy stmt = None
 after_rows g m (Some source) None u copy stmt = None
 after_rows g m (Some source) (Some level) u copy stmt =
-    option_and_then (λ (from : StmtModel). option_and_then (λ rows. moved_rows (base g.params ++ (columns_of source ++ columns_of copy)) rows) (slice_get (levels_before g.params (assignment_at source) from u stmt) level)) (slice_get m.stmts (assignment_at source))
+    option_and_then (λ (from : StmtModel). option_and_then (λ rows. rows_renaming (base g.params ++ (columns_of source ++ columns_of copy)) rows) (slice_get (levels_before g.params (assignment_at source) from u stmt) level)) (slice_get m.stmts (assignment_at source))
 
 -- the rows of a copy of the assignment u, whose coordinates stand in the columns from `columns` on
 abbrev pub copy_rows : Pairing → Assumed → ℕ → ℕ → ℕ → Option ℕ → ℕ → StmtModel → Option (List Row)
@@ -112,4 +113,4 @@ ends_before columns (r ∷ rs) = nat_le (length (form_of r).coefs) columns && en
 
 -- what is left of a copy has none of its columns, and stands among the rows of the path
 abbrev pub is_killed : ℕ → List Row → Assumed → Conj → Bool
-is_killed params rows a left = ends_before (case_width params a) left.rows && made_and_stand rows (moved_rows (case_columns params a) left.rows)
+is_killed params rows a left = ends_before (case_width params a) left.rows && made_and_stand rows (rows_renaming (case_columns params a) left.rows)

@@ -6,7 +6,8 @@ use Rattle.ac_syntax.specs.Spot.{Spot, Reads}
 use Rattle.ac_syntax.specs.Trace.{Entry}
 use Rattle.ac_poly.specs.Model.{is_input}
 use Rattle.ac_cert.specs.Points.{IsPoint}
-use Rattle.ac_paths.specs.Columns.{pick, base, columns_of}
+use Rattle.ac_forms.specs.Renaming.{picked}
+use Rattle.ac_paths.specs.Columns.{base, columns_of}
 use Rattle.ac_paths.specs.Executions.{Execution, InstanceAt, At, Describes}
 use Rattle.ac_paths.specs.Going.{Pairing}
 use Rattle.ac_paths.specs.Killing.{assignment_at}
@@ -34,7 +35,7 @@ execution_of g Right = g.right
 
 -- the spot of a seat at a point
 abbrev pub AtSeat : Execution → Seat → List ℤ → Spot → Type 0
-AtSeat x seat p s = At x seat.position (pick (columns_of seat) p) s
+AtSeat x seat p s = At x seat.position (picked (columns_of seat) p) s
 
 -- a read or an output, and what it reads
 pub record ReaderAt (x : Execution) (seat : Seat) (p : List ℤ) : Type 0 where
@@ -47,7 +48,7 @@ pub record ReaderAt (x : Execution) (seat : Seat) (p : List ℤ) : Type 0 where
 -- its source is the one that is assumed
 abbrev pub SourceAt : Execution → Option Seat → List ℤ → Cell → List Entry → Type 0
 SourceAt x None p cell before = source cell before ≡ None
-SourceAt x (Some seat) p cell before = (w : Writer) × (source cell before ≡ Some w) × InstanceAt x (assignment_at seat) (pick (columns_of seat) p) w
+SourceAt x (Some seat) p cell before = (w : Writer) × (source cell before ≡ Some w) × InstanceAt x (assignment_at seat) (picked (columns_of seat) p) w
 
 abbrev pub LastAt : Compared → Option Assumed → List ℤ → Type 0
 LastAt g None p = Unit {0}
@@ -56,7 +57,7 @@ LastAt g (Some a) p = (r : ReaderAt (execution_of g a.side) a.reader p) × Sourc
 -- a point of a path: its rows hold, its first columns are the parameters, its positions stand at two spots, and what was assumed last is so
 pub record OnPath (g : Compared) (h : Path) (p : List ℤ) (s t : Spot) : Type 0 where
   pub point : IsPoint h.conj p
-  pub starts : pick (base g.pairing.params) p ≡ g.params
+  pub starts : picked (base g.pairing.params) p ≡ g.params
   pub left : AtSeat g.left h.left p s
   pub right : AtSeat g.right h.right p t
   pub last : LastAt g h.last p

@@ -4,10 +4,11 @@ ghost use Rattle.std.specs.List.{range_with_len};
 ghost use Rattle.ac_cert.specs.Rules.{combination};
 ghost use Rattle.ac_forms.specs.Rows.{HaveModuli};
 ghost use Rattle.ac_paths.specs.Made.{HaveIf};
-ghost use Rattle.ac_paths.specs.Columns.{moved, moved_row, moved_rows, difference, equal_forms, appended, all_of, base, columns_of};
+ghost use Rattle.ac_forms.specs.Renaming.{renaming, rows_renaming};
+ghost use Rattle.ac_paths.specs.Columns.{difference, equal_forms, base, columns_of};
 
 use crate::path::Seat;
-use ac_forms::{Form, FormStop, Row};
+use ac_forms::{Form, FormStop, Row, renamed_rows};
 use ac_items::Items;
 use std::alloc::{AllocError, Global};
 
@@ -30,71 +31,45 @@ fn combination(
 }
 
 /// The form whose column `i` is the `i`-th of these columns, where the numbers stay in `i128`.
-#[tactic(auto, using(ac_integers::proofs::Bits::again_128, crate::proofs::MovingSteps::moved_end))]
-pub fn moved(alloc: Global, columns: &[usize], form: &Form) -> Result<Option<Form>, AllocError>
-    ensures { IfOk result (λ made. made ≡ moved columns.now form.now) }
+#[tactic(auto, using(crate::proofs::Moduli::form_steps))]
+fn renamed(alloc: Global, columns: &[usize], form: &Form) -> Result<Option<Form>, AllocError>
+    ensures { IfOk result (λ made. made ≡ renaming columns.now form.now) }
 {
-    let coefs = form.coefs();
-    let mut sum = Form::constant(alloc, 0, form.konst())?;
-    for i in 0..columns.len() {
-        if i >= coefs.len() {
-            return Ok(Some(sum));
-        }
-        let count = columns[i].checked_add(1).ok_or(AllocError)?;
-        let column = Form::column(alloc, count, columns[i])?;
-        match combination(alloc, 1, &sum, coefs[i], &column)? {
-            Some(next) => sum = next,
-            None => return Ok(None),
-        }
-    }
-    Ok(Some(sum))
-}
-
-/// The row whose column `i` is the `i`-th of these columns.
-#[tactic(auto, using(ac_integers::proofs::Bits::again_128))]
-pub fn moved_row(alloc: Global, columns: &[usize], row: &Row) -> Result<Option<Row>, AllocError>
-    ensures { IfOk result (λ made. made ≡ moved_row columns.now row.now) }
-{
-    match row {
-        Row::Eq(form) => Ok(moved(alloc, columns, form)?.map(Row::Eq)),
-        Row::Div(modulus, form) => match moved(alloc, columns, form)? {
-            Some(form) => Ok(Some(Row::Div(*modulus, form))),
-            None => Ok(None),
-        },
-        Row::Ge(form) => Ok(moved(alloc, columns, form)?.map(Row::Ge)),
+    match form.renamed(alloc, columns) {
+        Ok(form) => Ok(Some(form)),
+        Err(FormStop::Wide) => Ok(None),
+        Err(FormStop::Memory(want)) => Err(want),
     }
 }
 
-/// The rows whose column `i` is the `i`-th of these columns.
-#[tactic(auto, using(crate::proofs::Moduli::moduli_result))]
+/// The rows whose column `i` is the `i`-th of these columns; none where a number leaves `i128`, which needs a column that
+/// stands twice.
 pub fn moved_rows(
     alloc: Global,
     columns: &[usize],
     rows: &[Row],
 ) -> Result<Option<Items<Row>>, AllocError>
     requires { HaveModuli rows.now }
-    ensures value { IfOk result (λ made. made ≡ moved_rows columns.now rows.now) }
+    ensures value { IfOk result (λ made. made ≡ rows_renaming columns.now rows.now) }
     ensures moduli { IfOk result (λ made. HaveIf made) }
 {
     rows_moved(alloc, columns, rows)
 }
 
 /// The same rows.
-pub fn rows_moved(
+#[tactic(auto, using(crate::proofs::Moduli::rename_steps))]
+pub(crate) fn rows_moved(
     alloc: Global,
     columns: &[usize],
     rows: &[Row],
 ) -> Result<Option<Items<Row>>, AllocError>
-    ensures { IfOk result (λ made. made ≡ moved_rows columns.now rows.now) }
+    ensures { IfOk result (λ made. made ≡ rows_renaming columns.now rows.now) }
 {
-    let mut made = Items::new(alloc);
-    for row in rows {
-        match moved_row(alloc, columns, row)? {
-            Some(row) => made.push(row)?,
-            None => return Ok(None),
-        }
+    match renamed_rows(alloc, rows, columns) {
+        Ok(made) => Ok(Some(made)),
+        Err(FormStop::Wide) => Ok(None),
+        Err(FormStop::Memory(want)) => Err(want),
     }
-    Ok(Some(made))
 }
 
 /// One form over these columns less another over those, where the numbers stay in `i128`.
@@ -108,10 +83,10 @@ fn difference(
 ) -> Result<Option<Form>, AllocError>
     ensures { IfOk result (λ made. made ≡ difference columns.now form.now others.now other.now) }
 {
-    let Some(first) = moved(alloc, columns, form)? else {
+    let Some(first) = renamed(alloc, columns, form)? else {
         return Ok(None);
     };
-    let Some(second) = moved(alloc, others, other)? else {
+    let Some(second) = renamed(alloc, others, other)? else {
         return Ok(None);
     };
     combination(alloc, 1, &first, -1, &second)
@@ -150,7 +125,11 @@ pub fn column_after(first: usize, k: usize) -> Result<usize, AllocError>
 
 /// Adds so many columns from one on.
 #[tactic(auto, using(crate::proofs::EqualSteps::range_steps))]
-fn push_range(list: &mut Items<usize>, first: usize, count: usize) -> Result<(), AllocError>
+pub(crate) fn push_range(
+    list: &mut Items<usize>,
+    first: usize,
+    count: usize,
+) -> Result<(), AllocError>
     ensures { OnOk result (list.new ≡ list.old ++ range_with_len first count) }
 {
     for k in 0..count {

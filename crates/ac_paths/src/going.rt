@@ -3,7 +3,8 @@ ghost use Rattle.std.specs.Prelude.{◌≡◌, ℕ, ◌+◌, ◌<◌, ◌++◌, 
 ghost use Rattle.std.specs.List.{flat_map};
 ghost use Rattle.ac_poly.specs.declared.types.StmtModel.{StmtModel};
 ghost use Rattle.ac_paths.specs.Coordinates.{width};
-ghost use Rattle.ac_paths.specs.Columns.{base, columns_of, moved_rows, equal_forms, appended};
+ghost use Rattle.ac_forms.specs.Renaming.{rows_renaming};
+ghost use Rattle.ac_paths.specs.Columns.{base, columns_of, equal_forms, appended};
 ghost use Rattle.ac_paths.specs.Going.{seat_of, gone_to, root, case_rows, case_path, cases_of, cases_from, initial_path, read_branches, extended, cases_at, by_keep, branches};
 ghost use Rattle.ac_paths.specs.Calls.{pairing};
 ghost use Rattle.ac_paths.specs.Places.{initial_of};
@@ -62,7 +63,7 @@ fn moved_at(
     seat: &Seat,
     rows: &[Row],
 ) -> Result<Option<Items<Row>>, AllocError>
-    ensures { IfOk result (λ made. made ≡ moved_rows (base params ++ columns_of seat.now) rows.now) }
+    ensures { IfOk result (λ made. made ≡ rows_renaming (base params ++ columns_of seat.now) rows.now) }
 {
     let columns = columns_at(alloc, params, seat)?;
     rows_moved(alloc, columns.as_slice(), rows)
@@ -76,7 +77,7 @@ fn moved_at_both(
     second: &Seat,
     rows: &[Row],
 ) -> Result<Option<Items<Row>>, AllocError>
-    ensures { IfOk result (λ made. made ≡ moved_rows (base params ++ (columns_of first.now ++ columns_of second.now)) rows.now) }
+    ensures { IfOk result (λ made. made ≡ rows_renaming (base params ++ (columns_of first.now ++ columns_of second.now)) rows.now) }
 {
     let columns = columns_of_both(alloc, params, first, second)?;
     rows_moved(alloc, columns.as_slice(), rows)

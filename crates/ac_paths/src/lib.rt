@@ -5,6 +5,7 @@
 mod calls;
 pub mod columns;
 pub mod going;
+pub mod killing;
 pub mod laws;
 pub mod path;
 pub mod places;
