@@ -16,7 +16,8 @@ use Rattle.ac_syntax.specs.declared.tree.IndexExpr.{IndexExpr}
 use Rattle.ac_syntax.proofs.LastWriters.{stands_contains}
 use Rattle.ac_syntax.proofs.Places.{contains_stands}
 use Rattle.ac_poly.specs.Laws.{values_at}
-use Rattle.ac_poly.specs.Model.{model_of, AreOver}
+use Rattle.ac_poly.specs.Columns.{AreOver}
+use Rattle.ac_poly.specs.Model.{model_of}
 use Rattle.ac_poly.proofs.Columns.{has_columns}
 use Rattle.ac_poly.proofs.Models.{has_models}
 use Rattle.ac_poly.proofs.Whole.{has_instances, has_cells, has_nodes, has_order, has_extents}
