@@ -1,0 +1,4 @@
+pub mod Same
+pub mod Looks
+pub mod Searches
+pub mod Numbering

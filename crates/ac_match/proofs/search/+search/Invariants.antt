@@ -1,0 +1,4 @@
+use Rattle.ac_match.proofs.search.+search.Given as goal
+
+abbrev pub decreases-search : goal.decreases-search
+decreases-search l = l.left
