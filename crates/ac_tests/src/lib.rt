@@ -5,3 +5,5 @@
 
 #[cfg(test)]
 mod disk;
+#[cfg(test)]
+mod items;
