@@ -25,12 +25,3 @@ pub use ends::Absurd;
 pub use make::{absurd_tree, behind_steps, end_tree, residue_tree, split_tree};
 pub use steps::{apply, apply_onto, residue, split};
 pub use types::{EndStop, Next, Rule, Tree, TreeFault};
-
-#[cfg(test)]
-mod choice_tests;
-#[cfg(test)]
-mod samples;
-#[cfg(test)]
-mod tests;
-#[cfg(test)]
-mod tree_tests;

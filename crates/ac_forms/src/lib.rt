@@ -16,6 +16,3 @@ pub use form::{Form, coefficient};
 pub use normal::NormalRow;
 pub use row::Row;
 pub use stop::{FormStop, Wide};
-
-#[cfg(test)]
-mod tests;
