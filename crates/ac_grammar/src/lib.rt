@@ -9,12 +9,8 @@ pub mod conditions;
 mod constructs;
 pub mod cursor;
 mod declarations;
-#[cfg(test)]
-mod expression_tests;
 pub mod expressions;
 mod file;
-#[cfg(test)]
-mod file_tests;
 mod laws;
 pub mod links;
 mod pragmas;

@@ -13,8 +13,6 @@ mod halt;
 mod machine;
 mod run;
 mod state;
-#[cfg(test)]
-mod tests;
 
 pub use both::instance;
 pub use halt::{Halt, Outcome, Ran, Side};

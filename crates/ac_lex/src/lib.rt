@@ -15,6 +15,3 @@ pub mod tokens;
 pub use laws::tokens_are_determined;
 pub use lexer::lex;
 pub use tokens::{LexFault, Token, TokenKind};
-
-#[cfg(test)]
-mod tests;

@@ -17,8 +17,3 @@ pub use faults::{PairFault, SourceFault};
 pub use laws::programs_are_determined;
 pub use pairing::pair;
 pub use parsing::parse;
-
-#[cfg(test)]
-mod round_trip_tests;
-#[cfg(test)]
-mod tests;

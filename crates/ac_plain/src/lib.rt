@@ -7,5 +7,3 @@
 
 pub mod slow;
 pub mod slow_terms;
-#[cfg(test)]
-mod tests;

@@ -23,4 +23,3 @@ pub mod Seeking
 pub mod Lost
 pub mod Walks
 pub mod Whole
-pub mod Readiness

@@ -7,21 +7,11 @@ mod enter;
 mod first_fault;
 mod forms;
 pub mod laws;
-#[cfg(test)]
-mod lower_tests;
 mod nodes;
 mod order;
 mod pieces;
 mod program;
-#[cfg(test)]
-mod programs;
-#[cfg(test)]
-mod ready;
 pub mod scope;
-#[cfg(test)]
-mod tables;
-#[cfg(test)]
-mod tests;
 pub mod types;
 mod walk;
 

@@ -14,8 +14,6 @@ pub mod laws;
 mod measure;
 mod scope;
 mod statement;
-#[cfg(test)]
-mod tests;
 mod value;
 
 pub use file::apply;

@@ -12,10 +12,6 @@ pub mod laws;
 pub mod make;
 pub mod name;
 mod print;
-#[cfg(test)]
-mod print_tests;
-#[cfg(test)]
-mod tests;
 pub mod tree;
 
 pub use print::print_program;

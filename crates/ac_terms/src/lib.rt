@@ -14,6 +14,3 @@ mod terms;
 
 pub use node::{Leaf, TermId};
 pub use terms::Terms;
-
-#[cfg(test)]
-mod tests;

@@ -7,8 +7,6 @@ mod command;
 mod given;
 mod numbers;
 mod parts;
-#[cfg(test)]
-mod tests;
 
 pub use command::{Command, command_of};
 pub use given::valuation;

@@ -1,0 +1,106 @@
+//! Calls on whole files of the grammar, and on the rules.
+ghost use Rattle.std.specs.Prelude.{◌<◌, ◌^◌, length};
+
+use crate::arguments::text;
+use crate::statements::show_file;
+use ac_case_text::{CaseStop, Words};
+use ac_grammar::tree::File;
+use ac_grammar::{GrammarFault, read};
+use ac_lex::lex;
+use ac_rules::apply;
+use ac_rules::fault::RuleFault;
+use std::alloc::Global;
+use std::fmt::Write;
+
+/// Answers
+///
+/// - `file "TEXT"`: the tree of a text, or the place of the first token with which no file goes on. Each name, number, bracket
+///   and keyword has its place; a step stands as what is added to or taken from which name.
+/// - `nest COUNT "FRONT" "OPEN" "INSIDE" "CLOSE" "BACK"`: whether a text is a file that opens so many constructs, or its fault.
+/// - `rules "TEXT"`: of how many parameters a file is a program, or the rule that it breaks.
+pub(crate) fn answer(
+    alloc: Global,
+    call: &[u8],
+    words: &mut Words<'_>,
+    out: &mut String,
+) -> Result<bool, CaseStop> {
+    match call {
+        b"file" => show_text(alloc, words, out)?,
+        b"nest" => show_nest(alloc, words, out)?,
+        b"rules" => show_rules(alloc, words, out)?,
+        _ => return Ok(false),
+    }
+    Ok(true)
+}
+
+fn file_of(alloc: Global, text: &[u8]) -> Result<Result<File, GrammarFault>, CaseStop>
+    requires { length text.now < 2 ^ 32 }
+{
+    let Ok(tokens) = lex(alloc, text) else {
+        return Err(CaseStop::Malformed("a text of tokens"));
+    };
+    Ok(read(alloc, &tokens, text.len() as u32))
+}
+
+fn show_fault(out: &mut String, fault: GrammarFault) -> Result<(), CaseStop> {
+    match fault {
+        GrammarFault::Syntax(place) => write!(out, "syntax at {}", place.at)?,
+        GrammarFault::Nesting(place) => write!(out, "nesting at {}", place.at)?,
+        GrammarFault::Memory(error) => return Err(CaseStop::Memory(error)),
+    }
+    Ok(())
+}
+
+fn show_text(alloc: Global, words: &mut Words<'_>, out: &mut String) -> Result<(), CaseStop> {
+    let text = text(alloc, words)?;
+    match file_of(alloc, &text)? {
+        Ok(file) => Ok(show_file(out, &file)?),
+        Err(fault) => show_fault(out, fault),
+    }
+}
+
+/// A text, so often in a row.
+pub(crate) fn push_often(
+    text: &mut Vec<u8>,
+    item: &[u8],
+    count: usize,
+) -> Result<(), CaseStop> {
+    for _ in 0..count {
+        text.extend_from_slice(item)?;
+    }
+    Ok(())
+}
+
+fn nested(alloc: Global, words: &mut Words<'_>) -> Result<Vec<u8>, CaseStop> {
+    let count = words.size()?;
+    let mut text = words.quoted(alloc)?;
+    push_often(&mut text, &words.quoted(alloc)?, count)?;
+    text.extend_from_slice(&words.quoted(alloc)?)?;
+    push_often(&mut text, &words.quoted(alloc)?, count)?;
+    text.extend_from_slice(&words.quoted(alloc)?)?;
+    Ok(text)
+}
+
+fn show_nest(alloc: Global, words: &mut Words<'_>, out: &mut String) -> Result<(), CaseStop> {
+    let text = nested(alloc, words)?;
+    if text.len() >= 1_000_000 {
+        return Err(CaseStop::Malformed("a short text"));
+    }
+    match file_of(alloc, &text)? {
+        Ok(_) => Ok(out.push_str("a file")?),
+        Err(fault) => show_fault(out, fault),
+    }
+}
+
+fn show_rules(alloc: Global, words: &mut Words<'_>, out: &mut String) -> Result<(), CaseStop> {
+    let text = text(alloc, words)?;
+    let Ok(file) = file_of(alloc, &text)? else {
+        return Err(CaseStop::Malformed("the text of a file"));
+    };
+    match apply(alloc, &file) {
+        Ok(program) => write!(out, "a program of {} parameters", program.params.len())?,
+        Err(RuleFault::Memory(error)) => return Err(CaseStop::Memory(error)),
+        Err(fault) => write!(out, "{fault}")?,
+    }
+    Ok(())
+}

@@ -1,0 +1,93 @@
+//! Calls on the words of a command line.
+use crate::arguments::{names, push_bytes};
+use ac_case_text::{CaseStop, Words};
+use ac_words::{Command, command_of, valuation};
+use std::alloc::{AllocError, Global};
+use std::fmt::Write;
+
+/// Answers
+///
+/// - `valuation [NAMES] "WORD"`: the values that a word gives the parameters of these names, in their order.
+/// - `command "WORD" ..`: what the words of a command line ask for.
+pub(crate) fn answer(
+    alloc: Global,
+    call: &[u8],
+    words: &mut Words<'_>,
+    out: &mut String,
+) -> Result<bool, CaseStop> {
+    match call {
+        b"valuation" => show_valuation(alloc, words, out)?,
+        b"command" => show_command(alloc, words, out)?,
+        _ => return Ok(false),
+    }
+    Ok(true)
+}
+
+fn show_valuation(alloc: Global, words: &mut Words<'_>, out: &mut String) -> Result<(), CaseStop> {
+    let params = names(alloc, words)?;
+    let word = words.quoted(alloc)?;
+    match valuation(alloc, &params, &word)? {
+        None => out.push_str("refused")?,
+        Some(values) => {
+            out.push_str("values")?;
+            for value in &values {
+                write!(out, " {value}")?;
+            }
+        }
+    }
+    Ok(())
+}
+
+fn all_quoted(alloc: Global, words: &mut Words<'_>) -> Result<Vec<Vec<u8>>, CaseStop> {
+    let mut texts = Vec::new(alloc);
+    for _ in 0..u64::MAX {
+        if words.is_done() {
+            return Ok(texts);
+        }
+        texts.push(words.quoted(alloc)?)?;
+    }
+    Ok(texts)
+}
+
+fn show_files(out: &mut String, left: &[u8], right: &[u8]) -> Result<(), AllocError> {
+    push_bytes(out, left)?;
+    out.push_str(" and ")?;
+    push_bytes(out, right)
+}
+
+fn show_at(out: &mut String, at: Option<&[u8]>) -> Result<(), AllocError> {
+    match at {
+        None => out.push_str(" nowhere")?,
+        Some(word) => {
+            out.push_str(" at '")?;
+            push_bytes(out, word)?;
+            out.push('\'')?;
+        }
+    }
+    Ok(())
+}
+
+fn show_command(alloc: Global, words: &mut Words<'_>, out: &mut String) -> Result<(), CaseStop> {
+    let texts = all_quoted(alloc, words)?;
+    match command_of(&texts) {
+        None => out.push_str("no form")?,
+        Some(Command::Prove { left, right }) => {
+            out.push_str("prove ")?;
+            show_files(out, left, right)?;
+        }
+        Some(
+            Command::Instance {
+                left,
+                right,
+                at,
+                limit,
+            },
+        ) => {
+            out.push_str("instance of ")?;
+            show_files(out, left, right)?;
+            show_at(out, at)?;
+            write!(out, ", limit {limit}")?;
+        }
+    }
+    Ok(())
+}
