@@ -30,12 +30,3 @@ pub use path::{cut_back, row_of_class, rows_of_sides, with_row};
 pub use row_branches::{at_divisibility, at_equality, at_inequality};
 pub use steps::{apply, apply_onto, residue, split};
 pub use types::{EndStop, Next, Rule, Tree, TreeFault};
-
-#[cfg(test)]
-mod choice_tests;
-#[cfg(test)]
-mod samples;
-#[cfg(test)]
-mod tests;
-#[cfg(test)]
-mod tree_tests;

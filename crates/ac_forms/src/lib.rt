@@ -25,6 +25,3 @@ pub use rename::renamed_rows;
 pub use row::Row;
 pub use standing::{all_stand, is_among, kept_rows, stands, stands_among};
 pub use stop::{FormStop, Wide};
-
-#[cfg(test)]
-mod tests;

@@ -80,6 +80,3 @@ pub fn cut_rule(coefs: &[i128], constant: i128, divisor: i128)
     requires divides { DividesEach (unsigned_abs divisor) coefs.now }
     ensures { (point : List ℤ) → (pos 0 ≤ℤ (dot coefs.now point +ℤ constant)) ↔ (pos 0 ≤ℤ (dot (floored divisor coefs.now) point +ℤ int_div_euclid constant divisor)) }
 {}
-
-#[cfg(test)]
-mod tests;

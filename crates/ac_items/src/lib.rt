@@ -7,6 +7,3 @@
 pub mod items;
 
 pub use items::Items;
-
-#[cfg(test)]
-mod tests;

@@ -20,14 +20,3 @@ pub use pieces::{Stop, eliminate};
 pub use ranking::are_columns;
 pub use scan::are_absurd;
 pub use sweeping::Piece;
-
-#[cfg(test)]
-mod decision_tests;
-#[cfg(test)]
-mod listing_tests;
-#[cfg(test)]
-mod pieces_tests;
-#[cfg(test)]
-mod questions;
-#[cfg(test)]
-mod questions_tests;

@@ -9,7 +9,7 @@ use ac_grammar::{GrammarFault, read};
 use ac_lex::lex;
 use ac_rules::apply;
 use ac_rules::fault::RuleFault;
-use std::alloc::Global;
+use std::alloc::{AllocError, Global};
 use std::fmt::Write;
 
 /// Answers
@@ -59,14 +59,35 @@ fn show_text(alloc: Global, words: &mut Words<'_>, out: &mut String) -> Result<(
     }
 }
 
-/// A text, so often in a row.
-pub(crate) fn push_often(
-    text: &mut Vec<u8>,
-    item: &[u8],
-    count: usize,
-) -> Result<(), CaseStop> {
+/// Adds bytes, so often.
+fn push_often(text: &mut Vec<u8>, item: &[u8], count: usize) -> Result<(), AllocError> {
     for _ in 0..count {
         text.extend_from_slice(item)?;
+    }
+    Ok(())
+}
+
+/// Adds the next quoted text, so often.
+pub(crate) fn push_quoted_often(
+    alloc: Global,
+    words: &mut Words<'_>,
+    count: usize,
+    text: &mut Vec<u8>,
+) -> Result<(), CaseStop> {
+    let item = words.quoted(alloc)?;
+    Ok(push_often(text, &item, count)?)
+}
+
+/// Adds the next four quoted texts, the first and the third of them so often.
+fn push_nest(
+    alloc: Global,
+    words: &mut Words<'_>,
+    count: usize,
+    text: &mut Vec<u8>,
+) -> Result<(), CaseStop> {
+    for number in 0..4usize {
+        let often = if number % 2 == 0 { count } else { 1 };
+        push_quoted_often(alloc, words, often, text)?;
     }
     Ok(())
 }
@@ -74,10 +95,7 @@ pub(crate) fn push_often(
 fn nested(alloc: Global, words: &mut Words<'_>) -> Result<Vec<u8>, CaseStop> {
     let count = words.size()?;
     let mut text = words.quoted(alloc)?;
-    push_often(&mut text, &words.quoted(alloc)?, count)?;
-    text.extend_from_slice(&words.quoted(alloc)?)?;
-    push_often(&mut text, &words.quoted(alloc)?, count)?;
-    text.extend_from_slice(&words.quoted(alloc)?)?;
+    push_nest(alloc, words, count, &mut text)?;
     Ok(text)
 }
 

@@ -1,6 +1,6 @@
 //! Calls that read source texts, and pairs of them.
 use crate::arguments::{program, push_bytes};
-use crate::files::push_often;
+use crate::files::push_quoted_often;
 use ac_case_text::{CaseStop, Words};
 use ac_parse::{PairFault, SourceFault, pair, parse};
 use ac_syntax::tree::{Pair, Program, Stmt, Value};
@@ -10,7 +10,7 @@ use std::fmt::Write;
 /// Answers
 ///
 /// - `parse "TEXT"`: whether a text is a program, or its fault.
-/// - `parse_repeated "FRONT" "ITEM" COUNT "BACK"`: the same of the text with so many items between its front and its back.
+/// - `parse_repeated "FRONT" COUNT "ITEM" "BACK"`: the same of the text with so many items between its front and its back.
 /// - `shape "TEXT"`: how many arrays, parameters and statements a program has, and what its first statement assigns.
 /// - `outputs "LEFT" "RIGHT"`: the outputs of a pair of programs, or why they are none.
 /// - `joined "LEFT" "RIGHT"`: how many comparisons and commutative names a pair has.
@@ -48,9 +48,9 @@ fn show_parsed(alloc: Global, text: &[u8], out: &mut String) -> Result<(), CaseS
 
 fn repeated(alloc: Global, words: &mut Words<'_>) -> Result<Vec<u8>, CaseStop> {
     let mut text = words.quoted(alloc)?;
-    let item = words.quoted(alloc)?;
-    push_often(&mut text, &item, words.size()?)?;
-    text.extend_from_slice(&words.quoted(alloc)?)?;
+    let count = words.size()?;
+    push_quoted_often(alloc, words, count, &mut text)?;
+    push_quoted_often(alloc, words, 1, &mut text)?;
     Ok(text)
 }
 

@@ -26,10 +26,3 @@ pub use differences::{Difference, subtract};
 pub use parts::{Part, Parts};
 pub use texts::set_text;
 pub use unions::{Union, intersect};
-
-#[cfg(test)]
-mod samples;
-#[cfg(test)]
-mod set_tests;
-#[cfg(test)]
-mod text_tests;

@@ -36,10 +36,3 @@ mod start;
 pub use certificate::certify;
 pub use path::Trail;
 pub use refutation::Refutation;
-
-#[cfg(test)]
-mod equality_tests;
-#[cfg(test)]
-mod normal_form_tests;
-#[cfg(test)]
-mod tests;
