@@ -96,7 +96,8 @@ fn box_agrees(
 }
 
 fn has_value(form: &Form, point: &[i128], value: i64) -> bool {
-    form.columns() <= point.len() && matches!(form.eval(point), Ok(found) if found == i128::from(value))
+    form.columns() <= point.len()
+        && matches!(form.eval(point), Ok(found) if found == i128::from(value))
 }
 
 /// Whether the only subscript has the value that was executed.
@@ -111,7 +112,11 @@ fn is_cell(subs: &[Form], point: &[i128], at: &[i64]) -> bool {
 fn are_nodes(nodes: &[NodeModel], point: &[i128], at: &[i64]) -> bool {
     match (nodes, at) {
         (
-            [NodeModel::Call { args, .. }, NodeModel::Read { array, subs }, NodeModel::Number(form)],
+            [
+                NodeModel::Call { args, .. },
+                NodeModel::Read { array, subs },
+                NodeModel::Number(form),
+            ],
             [value],
         ) => {
             args.as_slice() == [1, 2].as_slice()
@@ -129,7 +134,9 @@ fn assignment<'a>(
     execution: &Execution,
 ) -> Result<&'a StmtModel, CaseStop> {
     let number = usize::try_from(execution.stmt).unwrap_or(usize::MAX);
-    stmts.get(number).ok_or(CaseStop::Malformed("an assignment"))
+    stmts
+        .get(number)
+        .ok_or(CaseStop::Malformed("an assignment"))
 }
 
 /// Whether each execution lies in a piece of its assignment, where the forms have its values.

@@ -12,10 +12,7 @@ pub fn answer(
     words: &mut Words<'_>,
     out: &mut String,
 ) -> Result<bool, CaseStop> {
-    Ok(
-        answer_on_texts(alloc, call, words, out)?
-            || answer_on_programs(alloc, call, words, out)?,
-    )
+    Ok(answer_on_texts(alloc, call, words, out)? || answer_on_programs(alloc, call, words, out)?)
 }
 
 /// The calls on texts and what is made of them.

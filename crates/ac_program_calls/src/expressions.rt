@@ -34,11 +34,7 @@ pub(crate) fn answer(
     Ok(true)
 }
 
-fn show_expression(
-    alloc: Global,
-    words: &mut Words<'_>,
-    out: &mut String,
-) -> Result<(), CaseStop> {
+fn show_expression(alloc: Global, words: &mut Words<'_>, out: &mut String) -> Result<(), CaseStop> {
     let room = words.size()?;
     let text = text(alloc, words)?;
     let Ok(tokens) = lex(alloc, &text) else {

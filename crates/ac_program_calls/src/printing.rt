@@ -114,7 +114,10 @@ fn show_first(alloc: Global, program: &Program, out: &mut String) -> Result<(), 
 }
 
 fn show_assignments(program: &Program, out: &mut String) -> Result<(), CaseStop> {
-    show_number(out, count::assignments_in(program.body.as_slice()).map(i128::from))?;
+    show_number(
+        out,
+        count::assignments_in(program.body.as_slice()).map(i128::from),
+    )?;
     Ok(())
 }
 

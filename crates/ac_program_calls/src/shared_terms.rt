@@ -129,6 +129,5 @@ fn show_doubled(alloc: Global, words: &mut Words<'_>, out: &mut String) -> Resul
     let start = term(alloc, words, &mut table, 20)?;
     let left = doubled(alloc, name, count, &mut table, start)?;
     let right = doubled(alloc, name, count, &mut table, start)?;
-    show_one(out, table.same(left, right))
-        .map_err(CaseStop::from)
+    show_one(out, table.same(left, right)).map_err(CaseStop::from)
 }

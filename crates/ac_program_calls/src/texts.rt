@@ -69,11 +69,7 @@ fn is_bad(alloc: Global, byte: u8) -> bool {
     lex(alloc, &[b' ', byte]).err() == Some(LexFault::BadByte(Place { at: 1 }))
 }
 
-fn count_bad_bytes(
-    alloc: Global,
-    words: &mut Words<'_>,
-    out: &mut String,
-) -> Result<(), CaseStop> {
+fn count_bad_bytes(alloc: Global, words: &mut Words<'_>, out: &mut String) -> Result<(), CaseStop> {
     tokens_are_determined();
     let first = words.size()?;
     let last = words.size()?;

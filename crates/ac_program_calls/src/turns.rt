@@ -79,6 +79,9 @@ fn show_guarded(alloc: Global, words: &mut Words<'_>, out: &mut String) -> Resul
     let params = smalls(alloc, words)?;
     out.push_str(found(slow::trace(alloc, &body, &params), "a trace")?)?;
     out.push_str(", ")?;
-    out.push_str(found(slow_terms::term_of(alloc, &body, &params, 0, &[0]), "a term")?)?;
+    out.push_str(found(
+        slow_terms::term_of(alloc, &body, &params, 0, &[0]),
+        "a term",
+    )?)?;
     Ok(())
 }
