@@ -27,12 +27,8 @@ use Rattle.ac_paths.specs.Going.{Pairing, cases_of, cases_from, model_of}
 use Rattle.ac_paths.specs.Places.{CellForms, levels_to, levels_at}
 use Rattle.ac_paths.specs.declared.path.Path.{Path}
 use Rattle.ac_paths.specs.declared.path.Side.{Side}
+pub use Rattle.ac_paths.specs.Pairs.{In}
 use Rattle.ac_paths.proofs.Moving.{all-cons}
-
--- an element of a list
-abbrev pub In : {A : Type 0} → A → List A → Type 0
-In x [] = ⊥
-In x (y ∷ ys) = (x ≡ y) ⊎ In x ys
 
 pub in_left : {A : Type 0} (x : A) (xs ys : List A) → In x xs → In x (xs ++ ys)
 in_left x [] ys h = absurd h

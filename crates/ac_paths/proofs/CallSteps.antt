@@ -95,7 +95,7 @@ call_here m params x d (Node k j) at call s e (w, i, v, n, is) =
 call_here m params x d (InitialOutput o) at call s e h = absurd cc
 call_here m params x d (InitialNode k j) at call s e h = absurd cc
 
-symbol_is : (f k : Symbol) → same_symbol f k ≡ true → f ≡ k
+pub symbol_is : (f k : Symbol) → same_symbol f k ≡ true → f ≡ k
 symbol_is f k h =
     let b = both_of (nat_eq f.arity k.arity) (pointwise nat_eq f.name k.name) h in
     let a : f.arity ≡ k.arity = (Decides-eqb f.arity k.arity).0 b.0 in

@@ -14,6 +14,7 @@ use Rattle.ac_syntax.specs.Trace.{Entry, trace_of}
 use Rattle.ac_syntax.specs.declared.tree.Array.{Array}
 use Rattle.ac_syntax.specs.declared.tree.IndexExpr.{IndexExpr}
 use Rattle.ac_syntax.proofs.LastWriters.{stands_contains}
+use Rattle.ac_syntax.proofs.Order.{one_entry}
 use Rattle.ac_syntax.proofs.Places.{contains_stands}
 use Rattle.ac_poly.specs.Laws.{values_at}
 use Rattle.ac_poly.specs.Columns.{AreOver}
@@ -94,6 +95,7 @@ models_describe p context params r f l =
           let e = (has_instances p context r params at number stmt l is lc).0 some in
           let w = contains_stands (trace_of p.body params) e.0 e.1 in
           (w.0, record { stands = w.1; stmt = ap (λ (x : Entry). x.stmt) w.2 ∙ e.2; coords = ap (coordinates m params) w.2 ∙ e.3 });
+      once = λ w u a b i j. one_entry p.body (point params []) w u a b i j;
       cell = λ w stmt s is. has_cells p context r params w.entry stmt l is (stands_contains s);
       node = λ w stmt s is number v n. (has_nodes p context r params w.entry stmt l is (stands_contains s)).1 number v n;
       order = λ w u first second sw su iw iu.

@@ -162,7 +162,7 @@ reads_node es s c before (an_access u array' subs' place') w array subs place i 
     let b : subs' ≡ subs = cc in
     λ z. cell_at (j z) (a z) (b z)
 
-same_read : (es : List Entry) (s : Spot) (c : Cell) (before : List Entry) (d : Cell) (later : List Entry) → Reads es s c before → Reads es s d later → d ≡ c
+pub same_read : (es : List Entry) (s : Spot) (c : Cell) (before : List Entry) (d : Cell) (later : List Entry) → Reads es s c before → Reads es s d later → d ≡ c
 same_read es s c before d later (an_output e) r = reads_end es s d later r e refl
 same_read es s c before d later (an_access w array subs place) r = reads_node es s d later r w array subs place refl
 

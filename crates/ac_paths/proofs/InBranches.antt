@@ -28,11 +28,11 @@ first : {A : Type 0} (x : A) (p : Option A) (y : A) (os : List (Option A)) (ys :
 first x p y os ys (inl i) q f = inl (ap Some i ∙ sym q)
 first x p y os ys (inr k) q f = inr (f k)
 
-all_among : {A : Type 0} (x : A) (os : List (Option A)) (xs : List A) → all_of os ≡ Some xs → In x xs → In (Some x) os
+pub all_among : {A : Type 0} (x : A) (os : List (Option A)) (xs : List A) → all_of os ≡ Some xs → In x xs → In (Some x) os
 all_among x [] xs e h = let i : [] ≡ xs = cc in absurd (subst (In x) (sym i) h)
 all_among x (p ∷ os) xs e h = let b = all-cons p os xs e in first x p b.0 os b.1 (subst (In x) b.4 h) b.2 (λ k. all_among x os b.1 b.3 k)
 
-in_either : {A : Type 0} (x : A) (xs ys : List A) → In x (xs ++ ys) → In x xs ⊎ In x ys
+pub in_either : {A : Type 0} (x : A) (xs ys : List A) → In x (xs ++ ys) → In x xs ⊎ In x ys
 in_either x [] ys h = inr h
 in_either x (y ∷ xs) ys (inl e) = inl (inl e)
 in_either x (y ∷ xs) ys (inr h) = elim (in_either x xs ys h) as (λ k. In x (y ∷ xs) ⊎ In x ys) [ inl k ↦ inl (inr k) | inr k ↦ inr k ]
@@ -56,7 +56,7 @@ in_get x (y ∷ xs) (inl e) = (0, ap Some (sym e))
 in_get x (y ∷ xs) (inr h) = let r = in_get x xs h in (suc r.0, r.1)
 
 -- what a case is of
-record CaseOf (g : Pairing) (h : Path) (side : Side) (cell : CellForms) (first : ℕ) (stmts : List StmtModel) (o : Option Path) : Type 0 where
+pub record CaseOf (g : Pairing) (h : Path) (side : Side) (cell : CellForms) (first : ℕ) (stmts : List StmtModel) (o : Option Path) : Type 0 where
   pub j : ℕ
   pub stmt : StmtModel
   pub is : slice_get stmts j ≡ Some stmt
@@ -70,7 +70,7 @@ in_cond : {A : Type 0} (b : Bool) (x : A) (xs : List A) → In x (cond b xs []) 
 in_cond true x xs h = h
 in_cond false x xs h = absurd h
 
-case_of : (g : Pairing) (h : Path) (side : Side) (cell : CellForms) (first : ℕ) (stmts : List StmtModel) (o : Option Path) → In o (cases_from g.params (model_of g side) h side cell first stmts) → CaseOf g h side cell first stmts o
+pub case_of : (g : Pairing) (h : Path) (side : Side) (cell : CellForms) (first : ℕ) (stmts : List StmtModel) (o : Option Path) → In o (cases_from g.params (model_of g side) h side cell first stmts) → CaseOf g h side cell first stmts o
 case_of g h side cell first [] o k = absurd k
 case_of g h side cell first (s ∷ stmts) o k = by (in_either o (cond (nat_eq s.array cell.array) (cases_of g.params (model_of g side) h side cell first s) []) (cases_from g.params (model_of g side) h side cell (suc first) stmts) k) (λ n. case_of g h side cell (suc first) stmts o n)
   where

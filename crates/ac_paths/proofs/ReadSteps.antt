@@ -96,6 +96,8 @@ pub record SourceCase (g : Compared) (h : Path) (side : Side) (p : List ℤ) (w 
   pub point : IsPoint conj (p ++ more)
   pub at : AtSeat (execution_of g side) seat (p ++ more) (AtNode w w.entry.value)
   pub assumed : LastAt g last (p ++ more)
+  pub position_is : seat.position ≡ Node w.entry.stmt 0
+  pub coords_are : picked (columns_of seat) (p ++ more) ≡ (execution_of g side).coords w.entry
 
 -- the root of an assignment at its entry
 pub at_root : (x : Execution) (w : Writer) (stmt : ℕ) (at : List ℤ) → Stands x.trace w → w.entry.stmt ≡ stmt → x.coords w.entry ≡ at → At x (Node stmt 0) at (AtNode w w.entry.value)
@@ -150,6 +152,8 @@ source_case g h side cell hs p r w bi ri made point starts e br src =
       };
       at = at_root x w u (picked (columns_of source) (p ++ z)) st refl (sym zs);
       assumed = (reader_more x reader p z n lp ri r, (w, src, record { stands = st; stmt = refl; coords = sym zs }));
+      position_is = refl;
+      coords_are = zs;
     }
 
 -- a path behind a step, at the point of its seat
@@ -174,7 +178,7 @@ on_right g h p s t i a c seat last more t' point at assumed = record {
 }
 
 -- the branch of the initial contents
-initial_among : (g : Compared) (h : Path) (side : Side) (cell : CellForms) (hs : List Path) → read_branches g.pairing.params (model_of g.pairing side) h side cell ≡ Some hs → In (initial_path h side) hs
+pub initial_among : (g : Compared) (h : Path) (side : Side) (cell : CellForms) (hs : List Path) → read_branches g.pairing.params (model_of g.pairing side) h side cell ≡ Some hs → In (initial_path h side) hs
 initial_among g h side cell hs br =
     let m = model_of g.pairing side in
     let os = cases_from g.pairing.params (model_of g.pairing side) h side cell 0 m.stmts in

@@ -42,6 +42,7 @@ pub record Describes (m : Model) (params : List ℤ) (x : Execution) : Type 0 wh
   pub entry : (w : Writer) → Stands x.trace w → ModelOf m x w
   pub piece : (w : Writer) (stmt : StmtModel) → Stands x.trace w → slice_get m.stmts w.entry.stmt ≡ Some stmt → Somewhere stmt.pieces (params ++ x.coords w.entry)
   pub instance : (number : ℕ) (stmt : StmtModel) (at : List ℤ) → slice_get m.stmts number ≡ Some stmt → length at ≡ width stmt → Somewhere stmt.pieces (params ++ at) → (w : Writer) × InstanceAt x number at w
+  pub once : (w u : Writer) → Stands x.trace w → Stands x.trace u → w.entry.stmt ≡ u.entry.stmt → x.coords w.entry ≡ x.coords u.entry → w ≡ u
   pub cell : (w : Writer) (stmt : StmtModel) → Stands x.trace w → slice_get m.stmts w.entry.stmt ≡ Some stmt → target w.entry ≡ cell_of stmt (params ++ x.coords w.entry)
   pub node : (w : Writer) (stmt : StmtModel) → Stands x.trace w → slice_get m.stmts w.entry.stmt ≡ Some stmt
       → (number : ℕ) (v : Value) → node_of w.entry.value number ≡ Some v → Shows (params ++ x.coords w.entry) w.entry.point v number (slice_get stmt.nodes number)

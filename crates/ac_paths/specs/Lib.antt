@@ -6,7 +6,9 @@ pub mod Going
 pub mod Killing
 pub mod Executions
 pub mod OnPaths
+pub mod Pairs
 pub mod Formed
+pub mod StepLaws
 pub mod Made
 pub mod Adding
 pub mod Calls
