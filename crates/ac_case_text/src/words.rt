@@ -59,6 +59,11 @@ impl<'a> Words<'a> {
         self.take(run(self.rest, Kind::Word))
     }
 
+    /// The next word, as text.
+    pub fn name(&mut self) -> &'a str {
+        str::from_utf8(self.word()).unwrap_or("")
+    }
+
     /// The next digits.
     fn digits(&mut self) -> &'a [u8] {
         self.take(run(self.rest, Kind::Digit))

@@ -6,6 +6,7 @@ use Rattle.ac_cert.specs.declared.types.Rule.TheVariants as rule
 abbrev pub name_of : Rule → List ℕ
 name_of rule.Text = codes "text"
 name_of rule.Point = codes "point"
+name_of rule.Coords = codes "coords"
 name_of rule.Claim = codes "claim"
 name_of rule.Output = codes "output"
 name_of rule.Tree = codes "tree"

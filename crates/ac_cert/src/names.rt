@@ -12,6 +12,7 @@ impl Rule {
         match self {
             Rule::Text => "text",
             Rule::Point => "point",
+            Rule::Coords => "coords",
             Rule::Claim => "claim",
             Rule::Output => "output",
             Rule::Tree => "tree",

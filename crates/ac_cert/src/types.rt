@@ -9,6 +9,8 @@ pub enum Rule {
     Text,
     /// The point at which the context holds.
     Point,
+    /// The shapes of the programs at the head of a proof.
+    Coords,
     /// A claim.
     Claim,
     /// The claim of an output.

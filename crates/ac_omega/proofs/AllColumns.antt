@@ -8,7 +8,8 @@ use Rattle.ac_cert.specs.Bounds.{has_column, is_one_sided}
 use Rattle.ac_omega.specs.declared.ranking.Rule.{Rule}
 use Rattle.ac_omega.specs.declared.ranking.Rule.TheVariants as rule
 use Rattle.ac_omega.specs.Columns.{is_present, better, precedes, least_from, or_else, by_equality, by_rule, passes, key, size_key, next_column}
-use Rattle.ac_omega.specs.Searching.{AreBelow, Settle, columns_to}
+use Rattle.ac_forms.specs.declared.conj.Conj.{Conj}
+use Rattle.ac_omega.specs.Searching.{Settle, columns_to}
 use Rattle.ac_omega.proofs.Emptied.{no-columns}
 
 -- P holds of each of these columns
@@ -122,6 +123,10 @@ next-none vars rows e =
     let c = or-none (by_rule rule.OneSided vars rows) _ b.1 in
     let d = or-none (by_rule rule.UnitPairs vars rows) _ c.1 in
     none-has vars rows (none-fail (key rule.OneSided rows) (passes rule.OneSided rows) vars c.0) (none-fail (key rule.TwoSided rows) (passes rule.TwoSided rows) vars d.1)
+
+-- each column that is next is below that many
+abbrev pub AreBelow : ℕ → List ℕ → Type 0
+AreBelow n vars = (c : Conj) (z : ℕ) → next_column vars c.rows ≡ Some z → z < n
 
 pub all-below : (n : ℕ) (vars : List ℕ) → vars ≡ columns_to n → AreBelow n vars
 all-below n vars v = λ c z e. next-in (λ y. y < n) vars c.rows z (rw v (every-to (λ y. y < n) n (λ y l. l))) e

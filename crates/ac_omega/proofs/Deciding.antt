@@ -1,13 +1,14 @@
 -- A question's walk, and what it decides.
-use Rattle.std.proofs.Common.{◌≡◌, inl, ℕ, ◌+◌, ℤ, List, Some, None, Err, Bool, true, false, cond, refl, ◌∙◌, ap, sym, subst}
+use Rattle.std.proofs.Common.{◌≡◌, inl, ℕ, ◌+◌, ℤ, List, Option, Some, None, Err, Bool, true, false, cond, refl, ◌∙◌, ap, sym, subst}
+use Rattle.std.specs.Prelude.{IfSome}
 use Rattle.ac_forms.specs.NormalForm.{normal_conj, RowsFit}
 use Rattle.ac_forms.specs.Rows.{IsWellMade, Meets}
 use Rattle.ac_forms.specs.Tests.{rows_fit}
 use Rattle.ac_forms.specs.declared.conj.Conj.{Conj}
 use Rattle.ac_forms.proofs.Twins.{rows_fit-is}
 use Rattle.ac_cert.specs.Points.{IsPoint}
-use Rattle.ac_omega.specs.declared.sweeping.Halt.{Halt}
-use Rattle.ac_omega.specs.declared.sweeping.Halt.TheVariants as halt
+use Rattle.ac_omega.specs.declared.halt.Halt.{Halt}
+use Rattle.ac_omega.specs.declared.halt.Halt.TheVariants as halt
 use Rattle.ac_omega.specs.Decisions.{Decides, walk_of}
 use Rattle.ac_omega.specs.Elimination.{eliminating}
 use Rattle.ac_omega.specs.Maxima.{Maxima, nothing_met, with_rows}
@@ -44,8 +45,12 @@ pub point-back : (q d : Conj) (p : List ℤ) → d ≡ normal_conj q → (Meets 
 point-back q d p e m h = record { long = h.long ∙ ap (λ x. x.columns) e; meets = m h.meets }
 
 -- the refutation of the normal form is one of the question
-pub refutation-of : (q d : Conj) (r : Refutation) → RowsFit q.rows → d ≡ normal_conj q → IsRefuted d r → IsRefutationOf q r
+refutation-of : (q d : Conj) (r : Refutation) → RowsFit q.rows → d ≡ normal_conj q → IsRefuted d r → IsRefutationOf q r
 refutation-of q d r f e h = record { fits = (rows_fit-is q.rows).1 f; normal = h.conj ∙ e; refutes = h.refutes }
+
+pub refutations-of : (q d : Conj) (r : Option Refutation) → RowsFit q.rows → d ≡ normal_conj q → IfSome r (λ x. IsRefuted d x) → IfSome r (λ x. IsRefutationOf q x)
+refutations-of q d None f e h = tt
+refutations-of q d (Some r) f e h = refutation-of q d r f e h
 
 -- the question's own numbers are met first
 pub question-bound : (q : Conj) (m s : Maxima) → m ≡ with_rows q.rows nothing_met → HaveRisen m s → Bounds s q.rows

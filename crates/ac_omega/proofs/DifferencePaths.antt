@@ -11,7 +11,7 @@ use Rattle.ac_trails.specs.Tries.{Tries, tries_for}
 use Rattle.ac_omega.specs.Columns.{next_column}
 use Rattle.ac_omega.specs.Elimination.{eliminating, look_at}
 use Rattle.ac_omega.specs.Maxima.{Maxima, with_rows, with_choice}
-use Rattle.ac_omega.specs.Searching.{AreBelow}
+use Rattle.ac_omega.proofs.AllColumns.{AreBelow}
 use Rattle.ac_omega.specs.Walk.{Walked, Gone, Spent, Absurd, behind, entered, tries, looked, walk}
 use Rattle.ac_omega.proofs.Rows.{column-rows}
 use Rattle.ac_omega.proofs.DifferenceNormals.{rows-fit}
@@ -36,7 +36,7 @@ pub record Stage (top n m : ℕ) (vars : List ℕ) (b : ℕ) (c : Conj) : Type 0
   pub one : 1 ≤ b
   pub grows : grown m b ≤ top
 
-stage-rows : (top n m : ℕ) (vars : List ℕ) (b : ℕ) (c : Conj) → Stage top n m vars b c → length c.rows ≤ level m
+pub stage-rows : (top n m : ℕ) (vars : List ℕ) (b : ℕ) (c : Conj) → Stage top n m vars b c → length c.rows ≤ level m
 unfolding level
 stage-rows top n m vars b c h = omega (arith, h.standing.few, squares (length vars) m h.short)
 
@@ -69,7 +69,7 @@ walk-stage top budget n m cols vars b c (suc f) k s frame h small l open-case =
     (looked-comes top budget n m cols vars b c f k s frame h small (λ z e. open-case f z refl e) (are_absurd c.rows) (next_column cols c.rows) refl)
 
 -- what the choice leaves
-after-one : (h : Choice) (c : Conj) → choice_fits h c.rows ≡ true → rows_fit (left_by h c.rows) ≡ true → after_choice h c ≡ Some (normal_conj (raw h c))
+pub after-one : (h : Choice) (c : Conj) → choice_fits h c.rows ≡ true → rows_fit (left_by h c.rows) ≡ true → after_choice h c ≡ Some (normal_conj (raw h c))
 unfolding after_choice
 after-one h c e f = rw (e, f) refl
 
@@ -107,7 +107,7 @@ choice-comes top budget n m cols vars b c f z k s frame h e o w =
     subst (λ (hs : Tries). Comes top budget n (suc m) k (tries (eliminating cols) (going cols f budget) c hs (k + length c.rows) s)) (sym o.tries) y2
 
 -- one column fewer
-next-stage : (top n m : ℕ) (cols vars : List ℕ) (b : ℕ) (c : Conj) (z : ℕ) → Stage top n (suc m) vars b c → next_column cols c.rows ≡ Some z → (o : OneChoice vars b z c.rows) → Stage top n m (leave z vars) (b + b) (normal_conj (raw o.one c))
+pub next-stage : (top n m : ℕ) (cols vars : List ℕ) (b : ℕ) (c : Conj) (z : ℕ) → Stage top n (suc m) vars b c → next_column cols c.rows ≡ Some z → (o : OneChoice vars b z c.rows) → Stage top n m (leave z vars) (b + b) (normal_conj (raw o.one c))
 unfolding grown
 next-stage top n m cols vars b c z h e o = record {
   short = omega (arith, leave-less z vars (next-left vars cols b z c.rows h.standing.rows e), h.short);
@@ -118,10 +118,10 @@ next-stage top n m cols vars b c z h e o = record {
   grows = h.grows;
 }
 
-none-left : (top n : ℕ) (cols vars : List ℕ) (b : ℕ) (c : Conj) (z : ℕ) → Stage top n zero vars b c → next_column cols c.rows ≡ Some z → ⊥
+pub none-left : (top n : ℕ) (cols vars : List ℕ) (b : ℕ) (c : Conj) (z : ℕ) → Stage top n zero vars b c → next_column cols c.rows ≡ Some z → ⊥
 none-left top n cols vars b c z h e = omega (arith, leave-less z vars (next-left vars cols b z c.rows h.standing.rows e), h.short)
 
-double-fits : (top n m : ℕ) (vars : List ℕ) (b : ℕ) (c : Conj) → Stage top n (suc m) vars b c → 121 * top < 2 ^ 127 → b + b < 2 ^ 127
+pub double-fits : (top n m : ℕ) (vars : List ℕ) (b : ℕ) (c : Conj) → Stage top n (suc m) vars b c → 121 * top < 2 ^ 127 → b + b < 2 ^ 127
 unfolding grown
 double-fits top n m vars b c h room = omega (arith, grown-least m (b + b), h.grows)
 

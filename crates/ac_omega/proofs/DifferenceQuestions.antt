@@ -25,11 +25,11 @@ use Rattle.ac_omega.proofs.DifferenceWalks.{cost, grown, grown-least, normal-sta
 use Rattle.ac_omega.proofs.DifferencePaths.{Frame, Stage, times-room, walk-comes}
 
 -- the columns below n
-below : ℕ → List ℕ
+pub below : ℕ → List ℕ
 below zero = []
 below (suc n) = n ∷ below n
 
-length-below : (n : ℕ) → length (below n) ≡ n
+pub length-below : (n : ℕ) → length (below n) ≡ n
 unfolding below
 length-below zero = refl
 length-below (suc n) = ap suc (length-below n)
@@ -57,7 +57,7 @@ question-over n b f d l = record {
   small = d.1;
 }
 
-question-raw : (n b : ℕ) (rs : List Row) → AreRowsOver n rs → AreDifferences b rs → Each (IsRaw (below n) b) rs
+pub question-raw : (n b : ℕ) (rs : List Row) → AreRowsOver n rs → AreDifferences b rs → Each (IsRaw (below n) b) rs
 question-raw n b [] w d = tt
 question-raw n b (Eq f ∷ rs) w d = (question-over n b f d.0 w.0.0, question-raw n b rs w.1 d.1)
 question-raw n b (Div m f ∷ rs) w d = absurd d.0
@@ -76,13 +76,13 @@ question-tests n b v (Div m f ∷ rs) p w d h room = absurd d.0
 question-tests n b v (Ge f ∷ rs) p w d h room = (can-evaluate (below n) b v f p (question-over n b f d.0 w.0.0) h room, λ _. question-tests n b v rs p w.1 d.1 h room)
 
 -- the greatest constants
-grown-upto : (m n b : ℕ) → m ≤ n → grown m b ≤ grown n b
+pub grown-upto : (m n b : ℕ) → m ≤ n → grown m b ≤ grown n b
 unfolding grown
 grown-upto zero n b l = grown-least n b
 grown-upto (suc m) zero b l = absurd (omega arith)
 grown-upto (suc m) (suc n) b l = grown-upto m n (b + b) (omega arith)
 
-grown-sixty : grown 60 (2 ^ 48) ≡ 2 ^ 108
+pub grown-sixty : grown 60 (2 ^ 48) ≡ 2 ^ 108
 unfolding grown
 grown-sixty = refl
 
@@ -113,7 +113,7 @@ question-comes budget q made l d = by (rows_fit q.rows) (rows-fit (below q.colum
     by false e = absurd cc
 
 -- the clauses
-cube-is : (n : ℕ) → 2 * (n + 1) ^ 3 ≡ cost n
+pub cube-is : (n : ℕ) → 2 * (n + 1) ^ 3 ≡ cost n
 unfolding cost
 cube-is n = rw (add-one n) (ap (λ (x : ℕ). 2 * x) (third (suc n)))
   where

@@ -1,8 +1,6 @@
 -- The one choice for the next column of rows of differences.
-use Rattle.std.proofs.Common.{◌≡◌, ◌⊎◌, inl, inr, ℕ, suc, ◌+◌, ◌<◌, ◌^◌, ◌==◌, cond, Bool, true, false, ◌||◌, ℤ, pos, negsuc, List, [], ◌∷◌, ◌++◌, length, set, slice_get, Option, Some, None, arith, refl, ap, sym, subst}
+use Rattle.std.proofs.Common.{◌≡◌, ◌⊎◌, inl, inr, ℕ, suc, ◌+◌, ◌<◌, ◌^◌, cond, Bool, true, false, ◌||◌, ℤ, pos, negsuc, List, [], ◌∷◌, ◌++◌, length, set, slice_get, Option, Some, None, arith, refl, ap, sym, subst}
 use Rattle.std.specs.Int.{int_max}
-use Rattle.std.specs.List.{filter}
-use borrow.Author.Tests.{eqb-true}
 use Rattle.ac_forms.specs.Affine.{Affine, coef}
 use Rattle.ac_forms.specs.declared.row.Row.{Row}
 use Rattle.ac_forms.specs.declared.row.Row.TheVariants.{Eq, Div, Ge}
@@ -13,11 +11,8 @@ use Rattle.ac_cert.specs.Bounds.{has_column, is_low, lows, highs, frees, is_none
 use Rattle.ac_cert.specs.Choices.{is_equality_of, by_equality, shadows, left_by, lifted, solved}
 use Rattle.ac_cert.specs.ChoiceFits.{choice_fits, equality_fits, sizes_fit, shadows_fit, lift_fits, solved_fits}
 use Rattle.ac_trails.specs.Tries.{Tries, first_equality, has_divisibility, tries_for, last_splinter_fits, splinters_from, count_to, splinters}
-use Rattle.ac_omega.specs.Columns.{least_by}
 use Rattle.ac_omega.specs.Maxima.{Maxima, with_choice}
-use Rattle.ac_omega.specs.Projection.{is_among}
 use Rattle.ac_omega.proofs.Legal.{equality-found}
-use Rattle.ac_omega.proofs.Nexts.{least-among}
 use Rattle.ac_omega.proofs.DifferenceForms.{unit-at}
 use Rattle.ac_omega.proofs.DifferenceRows.{IsRow, IsRaw, Each}
 use Rattle.ac_omega.proofs.DifferenceNormals.{both-true}
@@ -137,19 +132,3 @@ one-choice vars b z rows room h = by (first_equality z 0 rows) refl (is_one_side
     by (Some i) e t f = by-equal vars b z i rows room h e
     by None e true f = by-drop vars b z rows h e f
     by None e false f = by-shadow vars b z rows room h e f
-
--- The next column is in some row.
-among-filter : (test : ℕ → Bool) (z : ℕ) (zs : List ℕ) → is_among z (filter test zs) ≡ true → test z ≡ true
-among-filter test z [] e = absurd cc
-among-filter test z (x ∷ xs) e = by (test x) refl (among-filter test z xs) e
-  where
-    at : (u : Bool) → (z == x) ≡ u → test x ≡ true → (is_among z (filter test xs) ≡ true → test z ≡ true) → (u || is_among z (filter test xs)) ≡ true → test z ≡ true
-    at true s f i e = let q = eqb-true z x s in rw q f
-    at false s f i e = i e
-
-    by : (t : Bool) → test x ≡ t → (is_among z (filter test xs) ≡ true → test z ≡ true) → is_among z (cond t (x ∷ filter test xs) (filter test xs)) ≡ true → test z ≡ true
-    by true f i e = at (z == x) refl f i e
-    by false f i e = i e
-
-pub least-passes : (rank : ℕ → Option ℤ) (test : ℕ → Bool) (zs : List ℕ) (z : ℕ) → least_by rank (filter test zs) ≡ Some z → test z ≡ true
-least-passes rank test zs z e = among-filter test z zs (least-among rank (filter test zs) z e)

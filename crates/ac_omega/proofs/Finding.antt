@@ -1,12 +1,11 @@
 -- A search that finds no point shows that there is none, and what a stop hands back.
-use Rattle.std.proofs.Common.{◌≡◌, ℕ, zero, suc, ◌+◌, ◌<◌, ◌≤◌, ℤ, List, [], ◌∷◌, ◌++◌, Some, None, Bool, true, false, cond, refl, subst, arith}
+use Rattle.std.proofs.Common.{◌≡◌, ℕ, ◌+◌, ℤ, List, Some, None, Bool, true, false, cond, refl, subst}
 use Rattle.ac_forms.specs.NormalForm.{normal_conj}
 use Rattle.ac_forms.specs.Rows.{IsWellMade}
 use Rattle.ac_forms.specs.Tests.{rows_fit}
 use Rattle.ac_forms.specs.declared.conj.Conj.{Conj}
 use Rattle.ac_forms.proofs.Joining.{form_keeps}
 use Rattle.ac_cert.specs.Points.{IsPoint}
-use Rattle.ac_omega.specs.Columns.{AreColumns}
 use Rattle.ac_omega.specs.Decisions.{walk_of}
 use Rattle.ac_omega.specs.Elimination.{elimination, eliminating}
 use Rattle.ac_omega.specs.Maxima.{Maxima, nothing_met, with_rows}
@@ -14,14 +13,6 @@ use Rattle.ac_omega.specs.Searching.{columns_to}
 use Rattle.ac_omega.specs.Walk as def
 use Rattle.ac_cert.proofs.LeftMade.{conj_made}
 use Rattle.ac_omega.proofs.Projecting.{gone-empty}
-
-one-more : (n : ℕ) (xs : List ℕ) (y : ℕ) → AreColumns n xs → y < n → AreColumns n (xs ++ y ∷ [])
-one-more n [] y h l = (l, tt)
-one-more n (x ∷ xs) y h l = (h.0, one-more n xs y h.1 l)
-
-columns-below : (n m : ℕ) → m ≤ n → AreColumns n (columns_to m)
-columns-below n zero l = tt
-columns-below n (suc m) l = one-more n (columns_to m) m (columns-below n m (omega arith)) (omega arith)
 
 same-method : (vars : List ℕ) → eliminating vars ≡ elimination vars
 unfolding elimination
@@ -37,4 +28,4 @@ pub gone-none : (b : ℕ) (q : Conj) (k : ℕ) (s : Maxima) → IsWellMade q →
 gone-none b q k s made e p at =
     let vars = columns_to q.columns in
     let w = subst (λ m. def.walk m (b + 1) b (normal_conj q) 0 (with_rows q.rows nothing_met) ≡ def.Gone k s) (same-method vars) (from-normal (rows_fit q.rows) b q k s e) in
-    gone-empty vars b (normal_conj q) 0 (conj_made q made) (columns-below q.columns q.columns (omega arith)) (b + 1) k (with_rows q.rows nothing_met) s w p at.long ((form_keeps q.columns q.rows p made).1 at.meets)
+    gone-empty vars b (normal_conj q) 0 (conj_made q made) (b + 1) k (with_rows q.rows nothing_met) s w p at.long ((form_keeps q.columns q.rows p made).1 at.meets)

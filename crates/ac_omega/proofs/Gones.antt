@@ -8,7 +8,7 @@ use Rattle.ac_cert.specs.Bounds.{is_one_sided}
 use Rattle.ac_cert.specs.Choices.{are_absurd}
 use Rattle.ac_cert.specs.declared.choose.Choice.{Choice}
 use Rattle.ac_omega.specs.declared.ranking.Rule.TheVariants as rule
-use Rattle.ac_omega.specs.declared.sweeping.Piece.{Piece}
+use Rattle.ac_omega.specs.declared.piece.Piece.{Piece}
 use Rattle.ac_omega.specs.Answers.{parts}
 use Rattle.ac_omega.specs.Columns.{is_present, precedes, least_from, or_else, by_equality, by_rule, passes, key, next_column}
 use Rattle.ac_omega.specs.Elimination.{elimination, look, look_at}

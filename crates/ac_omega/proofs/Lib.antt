@@ -11,14 +11,14 @@ pub mod Pairs
 pub mod Leasts
 pub mod ColumnTests
 pub mod Rows
-pub mod Stepping
-pub mod Parting
 pub mod Nexts
+pub mod Present
 pub mod Gones
 pub mod Projecting
 pub mod Endings
 pub mod Advances
 pub mod Searches
+pub mod Visiting
 pub mod Bounding
 pub mod Refuting
 pub mod Emptied
@@ -40,3 +40,5 @@ pub mod DifferenceWalks
 pub mod DifferencePaths
 pub mod DifferenceQuestions
 pub mod DifferenceStops
+pub mod Replays
+pub mod DifferenceSweeps

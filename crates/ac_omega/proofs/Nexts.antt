@@ -1,4 +1,4 @@
--- The next column is one of the columns, and its choices are legal.
+-- The next column is one of the columns, and its choices are of it.
 use Rattle.std.proofs.Common.{◌≡◌, inl, inr, ℕ, ◌<◌, Bool, true, false, cond, ◌||◌, ◌==◌, eq-eqb, ℤ, List, [], ◌∷◌, Option, Some, None, refl, subst}
 use Rattle.std.proofs.lemmas.Bool.{lt-ltb}
 use Rattle.std.specs.List.{filter}
@@ -10,8 +10,7 @@ use Rattle.ac_forms.specs.declared.row.Row.TheVariants.{Eq, Div, Ge}
 use Rattle.ac_cert.specs.Bounds.{has_column}
 use Rattle.ac_cert.specs.Choices.{are_absurd}
 use Rattle.ac_cert.specs.declared.choose.Choice.{Choice}
-use Rattle.ac_omega.specs.Answers.{AreLegal}
-use Rattle.ac_omega.specs.Columns.{AreColumns, better, precedes, least_from, or_else, by_equality, by_rule, passes, key, size_key, next_column}
+use Rattle.ac_omega.specs.Columns.{better, precedes, least_from, or_else, by_equality, by_rule, passes, key, size_key, next_column}
 use Rattle.ac_omega.specs.declared.ranking.Rule.{Rule}
 use Rattle.ac_omega.specs.declared.ranking.Rule.TheVariants as rule
 use Rattle.ac_omega.specs.Projection.{is_among}
@@ -73,13 +72,6 @@ next-in P vars rows z a e =
     (or-in P z (by_rule rule.OneSided vars rows) _ (rule-in P rule.OneSided vars rows z a)
     (or-in P z (by_rule rule.UnitPairs vars rows) _ (rule-in P rule.UnitPairs vars rows z a) (rule-in P rule.TwoSided vars rows z a)))) e
 
-each-below : (n : ℕ) (vars : List ℕ) → AreColumns n vars → Each (λ z. z < n) vars
-each-below n [] a = tt
-each-below n (z ∷ zs) a = (a.0, each-below n zs a.1)
-
-pub next-below : (n : ℕ) (vars : List ℕ) (rows : List Row) (z : ℕ) → AreColumns n vars → next_column vars rows ≡ Some z → z < n
-next-below n vars rows z a e = next-in (λ y. y < n) vars rows z (each-below n vars a) e
-
 each-more : (y : ℕ) (zs vars : List ℕ) → Each (λ z. is_among z vars ≡ true) zs → Each (λ z. is_among z (y ∷ vars) ≡ true) zs
 each-more y [] vars a = tt
 each-more y (z ∷ zs) vars a = (rw a.0 (elim (z == y) as (λ t. (t || true) ≡ true) [ true ↦ refl | false ↦ refl ]), each-more y zs vars a.1)
@@ -101,8 +93,3 @@ allowed-each z rows (None ∷ hs) h a (inl s) = absurd cc
 allowed-each z rows (None ∷ hs) h a (inr i) = allowed-each z rows hs h a i
 allowed-each z rows (Some x ∷ hs) h a (inl s) = let e : x ≡ h = cc in subst (Allowed z rows) e a.0
 allowed-each z rows (Some x ∷ hs) h a (inr i) = allowed-each z rows hs h a.1 i
-
-pub tries-legal : (z : ℕ) (c : Conj) → IsWellMade c → z < c.columns → are_absurd c.rows ≡ false → AreLegal (tries_for z c.rows) c
-tries-legal z c made below e = λ h i.
-    let a = allowed-each z c.rows (tries_for z c.rows) h (all-allowed z c.rows (moduli_of c.columns c.rows made)) i in
-    rw (e, a.column, lt-ltb z c.columns below, a.allowed) refl

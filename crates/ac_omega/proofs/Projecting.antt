@@ -20,9 +20,9 @@ use Rattle.ac_cert.specs.declared.choose.Choice.{Choice}
 use Rattle.ac_cert.proofs.LeftMade.{conj_made, raw_made}
 use Rattle.ac_cert.proofs.Lifting.{lifts, lifted_at}
 use Rattle.ac_cert.proofs.OneColumn.{has-not}
-use Rattle.ac_omega.specs.declared.sweeping.Piece.{Piece}
+use Rattle.ac_omega.specs.declared.piece.Piece.{Piece}
 use Rattle.ac_omega.specs.Answers.{parts}
-use Rattle.ac_omega.specs.Columns.{AreColumns, is_present, next_column}
+use Rattle.ac_omega.specs.Columns.{is_present, next_column}
 use Rattle.ac_omega.specs.Elimination.{elimination}
 use Rattle.ac_omega.specs.Projection.{is_among, DiffersIn, HoldsFor, SomeHolds, HaveNone}
 use Rattle.ac_omega.specs.Sweep.{Projects, InSome, Pieces, sweep}
@@ -33,9 +33,10 @@ use Rattle.ac_omega.proofs.Walks.{walk-gone}
 use Rattle.ac_omega.proofs.Complete.{listed-complete}
 use Rattle.ac_omega.proofs.Gones.{IsOpen, look-done, look-absurd, look-open, next-none, none-at}
 use Rattle.ac_omega.proofs.Legal.{all-allowed}
+use Rattle.ac_omega.proofs.Legal as legal
 use Rattle.ac_forms.proofs.Passes.{moduli_of}
-use Rattle.ac_omega.proofs.Nexts.{next-below, next-among, tries-legal, allowed-each}
-use Rattle.ac_omega.proofs.Stepping.{left-columns}
+use Rattle.ac_omega.proofs.Nexts.{next-among, allowed-each}
+use Rattle.ac_omega.proofs.Present.{next-within}
 use Rattle.ac_omega.proofs.Sweeps.{sweep-exact}
 
 -- a dot product, where the points agree but at coefficients that are 0
@@ -130,7 +131,7 @@ set-differs vars p q z v a d = record {
     apart j e s = let f : is_among z vars ≡ false = rw (← s) e in cc
 
 -- what a choice leaves, in normal form
-left-is : (h : Choice) (c d : Conj) → after_choice h c ≡ Some d → d ≡ normal_conj (raw h c)
+pub left-is : (h : Choice) (c d : Conj) → after_choice h c ≡ Some d → d ≡ normal_conj (raw h c)
 unfolding after_choice
 left-is h c d e = by (choice_fits h c.rows && rows_fit (left_by h c.rows)) e
   where
@@ -138,16 +139,18 @@ left-is h c d e = by (choice_fits h c.rows && rows_fit (left_by h c.rows)) e
     by true e = let s : normal_conj (raw h c) ≡ d = cc in sym s
     by false e = absurd cc
 
+left-columns : (h : Choice) (c d : Conj) → after_choice h c ≡ Some d → d.columns ≡ c.columns
+left-columns h c d e = ap (λ (x : Conj). x.columns) (left-is h c d e)
+
 left-keeps : (h : Choice) (c d : Conj) (p : List ℤ) → is_legal h c ≡ true → IsWellMade c → after_choice h c ≡ Some d → Meets d.rows p ↔ Meets (left_by h c.rows) p
 left-keeps h c d p legal made e =
     let P : List Row → Type 0 = λ rows. Meets rows p ↔ Meets (left_by h c.rows) p in
     subst P (ap (λ (x : Conj). x.rows) (sym (left-is h c d e))) (form_keeps c.columns (left_by h c.rows) p (raw_made h c legal made))
 
 -- what the walk keeps of its conjunctions, and what a point says of them
-pub record IsGood (vars : List ℕ) (n : ℕ) (c : Conj) : Type 0 where
+pub record IsGood (n : ℕ) (c : Conj) : Type 0 where
   pub made : IsWellMade c
   pub columns : c.columns ≡ n
-  pub vars_below : AreColumns n vars
 
 abbrev pub MeetsAt : ℕ → Conj → List ℤ → Type 0
 MeetsAt n c p = (length p ≡ n) × Meets c.rows p
@@ -155,26 +158,25 @@ MeetsAt n c p = (length p ≡ n) × Meets c.rows p
 abbrev pub HasAt : List ℕ → ℕ → Conj → List ℤ → Type 0
 HasAt vars n c p = (length p ≡ n) × HoldsFor vars c.rows p
 
-column-below : (vars : List ℕ) (n : ℕ) (c : Conj) (z : ℕ) → IsGood vars n c → next_column vars c.rows ≡ Some z → z < c.columns
-column-below vars n c z g e = rw g.columns (next-below n vars c.rows z g.vars_below e)
+column-below : (vars : List ℕ) (n : ℕ) (c : Conj) (z : ℕ) → IsGood n c → next_column vars c.rows ≡ Some z → z < c.columns
+column-below vars n c z g e = next-within vars c z g.made e
 
-tried-legal : (vars : List ℕ) (n : ℕ) (c : Conj) (hs : List (Option Choice)) (h : Choice) → IsGood vars n c → IsOpen vars c hs → IsTried h hs → is_legal h c ≡ true
+pub tried-legal : (vars : List ℕ) (n : ℕ) (c : Conj) (hs : List (Option Choice)) (h : Choice) → IsGood n c → IsOpen vars c hs → IsTried h hs → is_legal h c ≡ true
 tried-legal vars n c hs h g o i =
-    tries-legal o.column c g.made (column-below vars n c o.column g o.next) o.not_absurd h (let P : Tries → Type 0 = λ xs. IsTried h xs in subst P o.tries i)
+    legal.tried-legal o.column c h g.made (column-below vars n c o.column g o.next) o.not_absurd (let P : Tries → Type 0 = λ xs. IsTried h xs in subst P o.tries i)
 
-tried-column : (vars : List ℕ) (n : ℕ) (c : Conj) (hs : List (Option Choice)) (h : Choice) → IsGood vars n c → (o : IsOpen vars c hs) → IsTried h hs → column_of h ≡ o.column
+pub tried-column : (vars : List ℕ) (n : ℕ) (c : Conj) (hs : List (Option Choice)) (h : Choice) → IsGood n c → (o : IsOpen vars c hs) → IsTried h hs → column_of h ≡ o.column
 tried-column vars n c hs h g o i =
     (allowed-each o.column c.rows (tries_for o.column c.rows) h (all-allowed o.column c.rows (moduli_of c.columns c.rows g.made)) (let P : Tries → Type 0 = λ xs. IsTried h xs in subst P o.tries i)).column
 
-good-left : (vars : List ℕ) (n : ℕ) (c d : Conj) (hs : List (Option Choice)) (h : Choice) → IsGood vars n c → IsOpen vars c hs → IsTried h hs → after_choice h c ≡ Some d → IsGood vars n d
+good-left : (vars : List ℕ) (n : ℕ) (c d : Conj) (hs : List (Option Choice)) (h : Choice) → IsGood n c → IsOpen vars c hs → IsTried h hs → after_choice h c ≡ Some d → IsGood n d
 good-left vars n c d hs h g o i e = record {
   made = let P : Conj → Type 0 = λ x. IsWellMade x in subst P (sym (left-is h c d e)) (conj_made (raw h c) (raw_made h c (tried-legal vars n c hs h g o i) g.made));
   columns = left-columns h c d e ∙ g.columns;
-  vars_below = g.vars_below;
 }
 
 -- a point of what a choice leaves, but for the columns, is one of the conjunction
-back-at : (vars : List ℕ) (n : ℕ) (c d : Conj) (hs : List (Option Choice)) (h : Choice) (p : List ℤ) → IsGood vars n c → IsOpen vars c hs → IsTried h hs → after_choice h c ≡ Some d → HasAt vars n d p → HasAt vars n c p
+back-at : (vars : List ℕ) (n : ℕ) (c d : Conj) (hs : List (Option Choice)) (h : Choice) (p : List ℤ) → IsGood n c → IsOpen vars c hs → IsTried h hs → after_choice h c ≡ Some d → HasAt vars n d p → HasAt vars n c p
 back-at vars n c d hs h p g o i e x =
     let legal = tried-legal vars n c hs h g o i in
     let q = x.1.at in
@@ -186,7 +188,7 @@ back-at vars n c d hs h p g o i e x =
     (x.0, record { at = lifted h c.rows q; differs = subst P (sym at.1) (set-differs vars p q (column_of h) at.0 among x.1.differs); meets = on.meets })
 
 -- a point of the conjunction, but for the columns, is one of what some choice leaves
-on-at : (vars : List ℕ) (n : ℕ) (c : Conj) (hs : List (Option Choice)) (p : List ℤ) → IsGood vars n c → IsOpen vars c hs → IsWhole hs → HasAt vars n c p → (h : Choice) × IsTried h hs × ((d : Conj) → after_choice h c ≡ Some d → HasAt vars n d p)
+on-at : (vars : List ℕ) (n : ℕ) (c : Conj) (hs : List (Option Choice)) (p : List ℤ) → IsGood n c → IsOpen vars c hs → IsWhole hs → HasAt vars n c p → (h : Choice) × IsTried h hs × ((d : Conj) → after_choice h c ≡ Some d → HasAt vars n d p)
 on-at vars n c hs p g o w x =
     let P : Tries → Type 0 = λ xs. IsWhole xs in
     let all = whole-all (tries_for o.column c.rows) (subst P o.tries w) in
@@ -210,7 +212,7 @@ on-at vars n c hs p g o w x =
       ),
     )
 
-pub projects : (vars : List ℕ) (n : ℕ) → Projects (elimination vars) (IsGood vars n) (MeetsAt n) (HasAt vars n)
+pub projects : (vars : List ℕ) (n : ℕ) → Projects (elimination vars) (IsGood n) (MeetsAt n) (HasAt vars n)
 unfolding elimination
 projects vars n = record {
   done = λ c q p g e. ((λ x. (x.0, gone-meets vars c.rows p (next-none vars c.rows (look-done vars c q e)) x.1)), (λ x. (x.0, itself vars c.rows p x.1)));
@@ -238,14 +240,14 @@ normal-holds vars c p made = (
 )
 
 -- the pieces of the walk from the question's normal form are its projection
-pub pieces-project : (vars : List ℕ) (b k : ℕ) (c : Conj) (ps : List Piece) (p : List ℤ) → IsWellMade c → AreColumns c.columns vars → sweep (elimination vars) (b + 1) b [] (normal_conj c) 0 ≡ Pieces (parts ps) k → length p ≡ c.columns
+pub pieces-project : (vars : List ℕ) (b k : ℕ) (c : Conj) (ps : List Piece) (p : List ℤ) → IsWellMade c → sweep (elimination vars) (b + 1) b [] (normal_conj c) 0 ≡ Pieces (parts ps) k → length p ≡ c.columns
     → HoldsFor vars c.rows p ↔ SomeHolds ps p
-pieces-project vars b k c ps p made below e l =
-    let g : IsGood vars c.columns (normal_conj c) = record { made = conj_made c made; columns = refl; vars_below = below } in
-    let x = sweep-exact (elimination vars) (IsGood vars c.columns) (MeetsAt c.columns) (HasAt vars c.columns) (projects vars c.columns) (b + 1) b [] (normal_conj c) 0 k (parts ps) p e g in
+pieces-project vars b k c ps p made e l =
+    let g : IsGood c.columns (normal_conj c) = record { made = conj_made c made; columns = refl } in
+    let x = sweep-exact (elimination vars) (IsGood c.columns) (MeetsAt c.columns) (HasAt vars c.columns) (projects vars c.columns) (b + 1) b [] (normal_conj c) 0 k (parts ps) p e g in
     ((λ h. some-in c.columns ps p (x.0 (l, (normal-holds vars c p made).0 h))), (λ h. (normal-holds vars c p made).1 (x.1 (in-some c.columns ps p l h)).1))
 
-pub covers : (vars : List ℕ) (n : ℕ) → Covers (elimination vars) (IsGood vars n) (HasAt vars n)
+pub covers : (vars : List ℕ) (n : ℕ) → Covers (elimination vars) (IsGood n) (HasAt vars n)
 unfolding elimination
 covers vars n = record {
   absurd_row = λ c p g e x. absurd-meets c.rows x.1.at (look-absurd vars c e) x.1.meets;
@@ -254,6 +256,6 @@ covers vars n = record {
 }
 
 -- a walk that finds no point: there is none
-pub gone-empty : (vars : List ℕ) (b : ℕ) (c : Conj) (k : ℕ) → IsWellMade c → AreColumns c.columns vars → (n j : ℕ) (s t : Maxima) → walk (elimination vars) n b c k s ≡ Gone j t → (p : List ℤ) → length p ≡ c.columns → Meets c.rows p → ⊥
-gone-empty vars b c k made below n j s t e p l m =
-    walk-gone (elimination vars) (IsGood vars c.columns) (HasAt vars c.columns) (covers vars c.columns) n b c k s j t p e (record { made = made; columns = refl; vars_below = below }) (l, itself vars c.rows p m)
+pub gone-empty : (vars : List ℕ) (b : ℕ) (c : Conj) (k : ℕ) → IsWellMade c → (n j : ℕ) (s t : Maxima) → walk (elimination vars) n b c k s ≡ Gone j t → (p : List ℤ) → length p ≡ c.columns → Meets c.rows p → ⊥
+gone-empty vars b c k made n j s t e p l m =
+    walk-gone (elimination vars) (IsGood c.columns) (HasAt vars c.columns) (covers vars c.columns) n b c k s j t p e (record { made = made; columns = refl }) (l, itself vars c.rows p m)

@@ -1,6 +1,6 @@
 -- A refutation as a search makes it, at lists of choices and of what refutes behind each.
-use Rattle.std.proofs.Common.{◌≡◌, ℕ, List, [], ◌∷◌, ◌++◌, Option, Some, Result, Ok, Err, true, rules, refl, sym}
-use Rattle.std.specs.Prelude.{IfOk}
+use Rattle.std.proofs.Common.{◌≡◌, ℕ, List, [], ◌∷◌, ◌++◌, Option, Some, None, Result, Ok, Err, true, rules, refl, sym, subst}
+use Rattle.std.specs.Prelude.{IfOk, IfSome, IsSome}
 use Rattle.std.specs.List.{AllByRecursion}
 use Rattle.ac_forms.specs.Rows.{IsWellMade}
 use Rattle.ac_forms.specs.declared.conj.Conj.{Conj}
@@ -8,12 +8,14 @@ use Rattle.ac_forms.specs.declared.row.Row.{Row}
 use Rattle.ac_cert.specs.Choices.{are_absurd}
 use Rattle.ac_cert.specs.declared.choose.Choice.{Choice}
 use Rattle.ac_omega.specs.Maxima.{Maxima}
-use Rattle.ac_omega.specs.Searching.{IfGone, IsRefuted, IsRefutedBehind}
+use Rattle.ac_omega.specs.Searching.{IfGone, IsRefuted, IsRefutedBehind, WantsRefutation, wanted, with_choice_behind, with_refutation}
 use Rattle.ac_omega.specs.Within.{Bounds, HaveRisen, IsWithin, AreAllWithin}
+use Rattle.ac_omega.specs.declared.search.Aim.{Aim}
+use Rattle.ac_omega.specs.declared.search.Aim.TheVariants.{ForPoint, ForRefutation, ForPieces}
 use Rattle.ac_omega.specs.declared.search.Walked.{Walked}
 use Rattle.ac_omega.specs.declared.search.Walked.TheVariants as done
-use Rattle.ac_omega.specs.declared.sweeping.Halt.{Halt}
-use Rattle.ac_omega.proofs.Bounding.{risen-on}
+use Rattle.ac_omega.specs.declared.halt.Halt.{Halt}
+use Rattle.ac_omega.proofs.Bounding.{risen-on, all-more, moduli-more}
 use Rattle.ac_omega.proofs.Gathering.{gathered_all}
 use Rattle.ac_trails.specs.Refutations.{Refutes, RefuteEach, AreChoicesOf, AreModuliWithin}
 use Rattle.ac_trails.specs.Tries.{Tries, tries_for, all_of, gathered}
@@ -73,13 +75,45 @@ absurd-within s c b = b
 pub first-tried : (z : ℕ) (rows seen : List Row) (left : Tries) (hs : List Choice) → seen ≡ rows → left ≡ tries_for z seen → hs ≡ [] → all_of (tries_for z rows) ≡ gathered hs left
 first-tried z rows seen left hs e l n = rw (l, e, n) (sym (gathered_all (tries_for z rows)))
 
-pub next-tried : (hs gs : List Choice) (h : Choice) (all : Option (List Choice)) (left rest : Tries) → all ≡ gathered hs left → left ≡ Some h ∷ rest → gs ≡ hs ++ h ∷ [] → all ≡ gathered gs rest
-next-tried hs gs h all left rest a l g = rw g (rw l at a)
+pub next-tried : (aim : Aim) (hs gs : List Choice) (h : Choice) (r : Option Refutation) (all : Option (List Choice)) (left rest : Tries) → (WantsRefutation aim → all ≡ gathered hs left) → left ≡ Some h ∷ rest → gs ≡ with_choice_behind hs h r → (WantsRefutation aim → IsSome r)
+    → WantsRefutation aim → all ≡ gathered gs rest
+next-tried aim hs gs h None all left rest a l g told w = let f = told w in absurd cc
+next-tried aim hs gs h (Some r) all left rest a l g told w = rw g (rw l at (a w))
 
 pub last-tried : (hs : List Choice) (all : Option (List Choice)) (left : Tries) → all ≡ gathered hs left → left ≡ [] → all ≡ Some hs
 last-tried hs all left a l = rw l at a
+
+-- one more of each, where there is one
+pub refuted-more : (hs : List Choice) (c : Conj) (rs : List Refutation) (h : Choice) (r : Option Refutation) → AreRefutedBehind hs c rs → IfSome r (λ x. IsRefutedBehind h c x) → AreRefutedBehind (with_choice_behind hs h r) c (with_refutation rs r)
+refuted-more hs c rs h None a b = a
+refuted-more hs c rs h (Some r) a b = one-behind-more hs c rs h r a b
+
+pub within-more : (s : Maxima) (rs : List Refutation) (r : Option Refutation) → AllByRecursion (IsWithin s) rs → IfSome r (λ x. IsWithin s x) → AllByRecursion (IsWithin s) (with_refutation rs r)
+within-more s rs None a b = a
+within-more s rs (Some r) a b = all-more s rs r a b
+
+pub moduli-kept : (n : ℕ) (hs : List Choice) (h : Choice) (r : Option Refutation) → AreModuliWithin n hs → AreModuliWithin n (h ∷ []) → AreModuliWithin n (with_choice_behind hs h r)
+moduli-kept n hs h None a b = a
+moduli-kept n hs h (Some r) a b = moduli-more n hs h a b
+
+-- the refutation, where it is wanted
+pub told-wanted : (aim : Aim) (r : Refutation) → WantsRefutation aim → IsSome (wanted aim r)
+told-wanted ForPoint r w = absurd w
+told-wanted ForRefutation r w = refl
+told-wanted ForPieces r w = absurd w
+
+pub if-wanted : (aim : Aim) (r : Refutation) (P : Refutation → Type 0) → (WantsRefutation aim → P r) → IfSome (wanted aim r) (λ x. P x)
+if-wanted ForPoint r P h = tt
+if-wanted ForRefutation r P h = h tt
+if-wanted ForPieces r P h = tt
 
 pub risen-behind : (r : Result Walked Halt) (a b : Maxima) → HaveRisen a b → IfOk r (λ w. IfGone w (λ s r. HaveRisen b s)) → IfOk r (λ w. IfGone w (λ s r. HaveRisen a s))
 risen-behind (Ok (done.Gone k s r)) a b h w = risen-on a b s h w
 risen-behind (Ok (done.Found p)) a b h w = tt
 risen-behind (Err e) a b h w = tt
+
+-- what is kept at a leaf changes no maxima
+pub leaf-risen : (r : Result Walked Halt) (aim : Aim) (a b : Maxima) → HaveRisen a b → IfOk r (λ w. IfGone w (λ s x. (aim ≡ ForPieces) × (s ≡ b))) → IfOk r (λ w. IfGone w (λ s x. HaveRisen a s))
+leaf-risen (Ok (done.Gone k s x)) aim a b h w = subst (λ (m : Maxima). HaveRisen a m) (sym w.1) h
+leaf-risen (Ok (done.Found p)) aim a b h w = tt
+leaf-risen (Err e) aim a b h w = tt

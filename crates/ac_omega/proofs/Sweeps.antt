@@ -17,7 +17,7 @@ in-either At [] ys p h = inr h
 in-either At (x ∷ xs) ys p (inl h) = inl (inl h)
 in-either At (x ∷ xs) ys p (inr h) = elim (in-either At xs ys p h) [ inl a ↦ inl (inr a) | inr b ↦ inr b ]
 
-onward-parts : {C H : Type 0} (w : Swept C H) (rest : ℕ → Swept C H) (zs : List (List H × C)) (j : ℕ) → onward w rest ≡ Pieces zs j → (xs : List (List H × C)) × (i : ℕ) × (ys : List (List H × C)) × (w ≡ Pieces xs i) × (rest i ≡ Pieces ys j) × (zs ≡ xs ++ ys)
+pub onward-parts : {C H : Type 0} (w : Swept C H) (rest : ℕ → Swept C H) (zs : List (List H × C)) (j : ℕ) → onward w rest ≡ Pieces zs j → (xs : List (List H × C)) × (i : ℕ) × (ys : List (List H × C)) × (w ≡ Pieces xs i) × (rest i ≡ Pieces ys j) × (zs ≡ xs ++ ys)
 onward-parts {C = C} {H = H} (Pieces xs i) rest zs j e = by (rest i) refl e
   where
     by : (r : Swept C H) → rest i ≡ r → joined xs r ≡ Pieces zs j → (us : List (List H × C)) × (l : ℕ) × (ys : List (List H × C)) × (Pieces xs i ≡ Pieces us l) × (rest l ≡ Pieces ys j) × (zs ≡ us ++ ys)
@@ -27,7 +27,7 @@ onward-parts {C = C} {H = H} (Pieces xs i) rest zs j e = by (rest i) refl e
 onward-parts (Spent i) rest zs j e = absurd cc
 onward-parts Wide rest zs j e = absurd cc
 
-into-parts : {C H : Type 0} (o : Option C) (go : C → Swept C H) (zs : List (List H × C)) (j : ℕ) → into o go ≡ Pieces zs j → (d : C) × (o ≡ Some d) × (go d ≡ Pieces zs j)
+pub into-parts : {C H : Type 0} (o : Option C) (go : C → Swept C H) (zs : List (List H × C)) (j : ℕ) → into o go ≡ Pieces zs j → (d : C) × (o ≡ Some d) × (go d ≡ Pieces zs j)
 into-parts None go zs j e = absurd cc
 into-parts (Some d) go zs j e = (d, refl, e)
 
@@ -82,7 +82,7 @@ swept-exact m Good At Has law go path c k j (Open hs) zs p ex is e g = (
   (λ i. let r = sweeps-from m Good At Has go path c hs k j zs p ex e (λ x d i st. law.good c hs x d g is i st) i in law.back c hs r.0 r.1 p g is r.2 r.3 r.4),
 )
 
-if-pieces : {C H : Type 0} (t : Bool) (i : ℕ) (w : Swept C H) (zs : List (List H × C)) (j : ℕ) → cond t (Spent i) w ≡ Pieces zs j → w ≡ Pieces zs j
+pub if-pieces : {C H : Type 0} (t : Bool) (i : ℕ) (w : Swept C H) (zs : List (List H × C)) (j : ℕ) → cond t (Spent i) w ≡ Pieces zs j → w ≡ Pieces zs j
 if-pieces true i w zs j e = absurd cc
 if-pieces false i w zs j e = e
 

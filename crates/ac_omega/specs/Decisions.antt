@@ -10,8 +10,8 @@ use Rattle.ac_omega.specs.declared.decision.Decision.{Decision}
 use Rattle.ac_omega.specs.declared.decision.Decision.TheVariants as decision
 use Rattle.ac_omega.specs.declared.search.Walked.{Walked}
 use Rattle.ac_omega.specs.declared.search.Walked.TheVariants as done
-use Rattle.ac_omega.specs.declared.sweeping.Halt.{Halt}
-use Rattle.ac_omega.specs.declared.sweeping.Halt.TheVariants as halt
+use Rattle.ac_omega.specs.declared.halt.Halt.{Halt}
+use Rattle.ac_omega.specs.declared.halt.Halt.TheVariants as halt
 use Rattle.ac_omega.specs.declared.pieces.Stop.{Stop}
 use Rattle.ac_omega.specs.declared.pieces.Stop.TheVariants as stop
 use Rattle.ac_omega.specs.Elimination.{eliminating, normal_of}

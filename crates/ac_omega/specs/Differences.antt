@@ -1,10 +1,12 @@
 -- Rows of differences: `s - t + c >= 0` and `s - t + c = 0`, where s and t are each a column or 0, and c is a number.
 use Rattle.std.specs.Prelude.{◌≡◌, ℕ, ◌+◌, ◌*◌, ◌^◌, ◌<◌, ◌≤◌, nat_eq, cond, ℤ, pos, ◌-ℤ◌, unsigned_abs, List, [], ◌∷◌, Option, Some, None}
+use Rattle.std.specs.List.{AllByRecursion}
 use Rattle.ac_forms.specs.Affine.{Affine, coef}
 use Rattle.ac_forms.specs.declared.row.Row.{Row}
 use Rattle.ac_forms.specs.declared.row.Row.TheVariants.{Eq, Div, Ge}
 use Rattle.ac_omega.specs.declared.pieces.Stop.{Stop}
 use Rattle.ac_omega.specs.declared.pieces.Stop.TheVariants as stop
+use Rattle.ac_omega.specs.declared.piece.Piece.{Piece}
 
 -- 1 in the column, 0 in each other one; 0 in all of them without a column
 abbrev pub one_in : Option ℕ → ℕ → ℤ
@@ -30,6 +32,10 @@ IsDifferenceRow b (Ge f) = IsDifferenceWithin b f
 abbrev pub AreDifferences : ℕ → List Row → Type 0
 AreDifferences b [] = Unit {0}
 AreDifferences b (r ∷ rs) = IsDifferenceRow b r × AreDifferences b rs
+
+-- the rows of each piece are of such a form
+abbrev pub AreAllDifferences : ℕ → List Piece → Type 0
+AreAllDifferences b pieces = AllByRecursion (λ piece. AreDifferences b piece.rest.rows) pieces
 
 -- what stops a question over n columns: want of memory, or a budget of less than 2 (n + 1)^3
 abbrev pub StopsBelow : ℕ → ℕ → Stop → Type 0

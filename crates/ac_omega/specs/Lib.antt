@@ -10,5 +10,7 @@ pub mod Projection
 pub mod Cursors
 pub mod Within
 pub mod Searching
+pub mod Visits
 pub mod Decisions
 pub mod Differences
+pub mod Replays

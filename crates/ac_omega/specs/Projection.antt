@@ -2,7 +2,7 @@
 use Rattle.std.specs.Prelude.{◌≡◌, ◌⊎◌, ℕ, Bool, false, ◌||◌, ◌==◌, ℤ, pos, List, [], ◌∷◌, length, slice_index_or}
 use Rattle.ac_forms.specs.Rows.{Meets}
 use Rattle.ac_forms.specs.declared.row.Row.{Row}
-use Rattle.ac_omega.specs.declared.sweeping.Piece.{Piece}
+use Rattle.ac_omega.specs.declared.piece.Piece.{Piece}
 use Rattle.ac_omega.specs.Columns.{is_present}
 
 abbrev pub is_among : ℕ → List ℕ → Bool

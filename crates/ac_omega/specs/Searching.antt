@@ -1,25 +1,51 @@
 -- What an answer of a search says of the walk. Want of memory may come at any time.
-use Rattle.std.specs.Prelude.{◌≡◌, ℕ, zero, suc, ◌∷◌, ◌++◌, ◌+◌, ◌-◌, ◌<◌, ◌≤◌, ◌^◌, min, false, cond, ℤ, List, [], Option, Some, None, Result, Ok, Err}
+use Rattle.std.specs.Prelude.{◌≡◌, ℕ, zero, suc, ◌∷◌, ◌++◌, ◌<◌, ◌≤◌, ◌^◌, ◌-◌, min, true, false, cond, ℤ, List, [], Option, Some, None, Result, Ok, Err}
 use Rattle.ac_forms.specs.NormalForm.{normal_form}
 use Rattle.ac_forms.specs.Rows.{IsWellMade}
 use Rattle.ac_forms.specs.declared.conj.Conj.{Conj}
 use Rattle.ac_forms.specs.declared.row.Row.{Row}
-use Rattle.ac_cert.specs.Choices.{are_absurd, lifted}
+use Rattle.ac_cert.specs.Choices.{are_absurd, is_legal, lifted}
 use Rattle.ac_cert.specs.ChoiceFits.{after_choice, lift_fits}
 use Rattle.ac_cert.specs.declared.choose.Choice.{Choice}
-use Rattle.ac_omega.specs.declared.sweeping.Halt.{Halt}
-use Rattle.ac_omega.specs.declared.sweeping.Halt.TheVariants as halt
+use Rattle.ac_omega.specs.declared.halt.Halt.{Halt}
+use Rattle.ac_omega.specs.declared.halt.Halt.TheVariants as halt
+use Rattle.ac_omega.specs.declared.search.Aim.{Aim}
+use Rattle.ac_omega.specs.declared.search.Aim.TheVariants.{ForPoint, ForRefutation, ForPieces}
 use Rattle.ac_omega.specs.declared.search.Walked.{Walked}
 use Rattle.ac_omega.specs.declared.search.Walked.TheVariants as done
-pub use Rattle.ac_omega.specs.Answers.{Leaves, AreLegal}
 use Rattle.ac_omega.specs.Columns.{next_column}
-use Rattle.ac_omega.specs.Elimination.{eliminating}
 use Rattle.ac_omega.specs.Maxima.{Maxima}
 use Rattle.ac_trails.specs.Refutations.{conj_of, Refutes}
 use Rattle.ac_trails.specs.Tries.{Tries}
 use Rattle.ac_trails.specs.declared.refutation.Refutation.{Refutation}
 use Rattle.ac_omega.specs.Walk as def
 use Rattle.ac_omega.specs.Walk.{IsTried}
+
+-- the walk is for a point, with a refutation or without
+abbrev pub WantsPoint : Aim → Type 0
+WantsPoint ForPoint = Unit {0}
+WantsPoint ForRefutation = Unit {0}
+WantsPoint ForPieces = ⊥
+
+abbrev pub WantsRefutation : Aim → Type 0
+WantsRefutation ForPoint = ⊥
+WantsRefutation ForRefutation = Unit {0}
+WantsRefutation ForPieces = ⊥
+
+-- the refutation, where the walk is for one
+abbrev pub wanted : Aim → Refutation → Option Refutation
+wanted ForPoint r = None
+wanted ForRefutation r = Some r
+wanted ForPieces r = None
+
+-- one choice more, and one refutation more, where there is one
+abbrev pub with_choice_behind : List Choice → Choice → Option Refutation → List Choice
+with_choice_behind hs h None = hs
+with_choice_behind hs h (Some r) = hs ++ h ∷ []
+
+abbrev pub with_refutation : List Refutation → Option Refutation → List Refutation
+with_refutation rs None = rs
+with_refutation rs (Some r) = rs ++ r ∷ []
 
 -- the answer is the walk's; it stops where the walk does, at the first cost above the budget or at 2^64 - 1
 abbrev pub Searches : Result Walked Halt → def.Walked Maxima → Type 0
@@ -29,13 +55,16 @@ Searches (Err halt.Wide) w = w ≡ def.Wide
 Searches (Err (halt.Spent c)) w = (j : ℕ) × (w ≡ def.Spent j) × (c ≡ min j (2 ^ 64 - 1))
 Searches (Err (halt.Memory e)) w = Unit {0}
 
--- the walk of some choices, where at most n conjunctions stand on one path behind them
-abbrev pub tried : List ℕ → ℕ → ℕ → Conj → Tries → ℕ → Maxima → def.Walked Maxima
-tried vars n budget c hs k s = def.tries (eliminating vars) (λ d j t. def.walk (eliminating vars) n budget d j t) c hs k s
+-- what a choice leaves; too wide exactly where there is none
+abbrev pub Leaves : Result Conj Halt → Option Conj → Type 0
+Leaves (Ok c) made = made ≡ Some c
+Leaves (Err halt.Wide) made = made ≡ None
+Leaves (Err (halt.Spent c)) made = ⊥
+Leaves (Err (halt.Memory e)) made = Unit {0}
 
--- the answer is that of the walk of some choices, whatever bound on the path exceeds what is left of the budget
-abbrev pub Tried : Result Walked Halt → List ℕ → ℕ → Conj → Tries → ℕ → Maxima → Type 0
-Tried result vars budget c hs k s = (n : ℕ) → budget < n + k → Searches result (tried vars n budget c hs k s)
+-- each of the choices is legal
+abbrev pub AreLegal : Tries → Conj → Type 0
+AreLegal hs c = (h : Choice) → IsTried h hs → is_legal h c ≡ true
 
 -- the point that a point of what a choice leaves goes back to, where its numbers stay in `i128`
 abbrev pub lifted_to : Choice → Conj → List ℤ → Option (List ℤ)
@@ -45,7 +74,7 @@ abbrev pub IfFound : Walked → (List ℤ → Type 0) → Type 0
 IfFound (done.Gone k s r) P = Unit {0}
 IfFound (done.Found p) P = P p.items
 
-abbrev pub IfGone : Walked → (Maxima → Refutation → Type 0) → Type 0
+abbrev pub IfGone : Walked → (Maxima → Option Refutation → Type 0) → Type 0
 IfGone (done.Gone k s r) P = P s r
 IfGone (done.Found p) P = Unit {0}
 
@@ -68,13 +97,13 @@ pub record IsRefutedBehind (h : Choice) (c : Conj) (r : Refutation) : Type 0 whe
 abbrev pub IsNormal : Conj → Type 0
 IsNormal c = (rows : List Row) × (c.rows ≡ normal_form rows)
 
--- each column that is next is below that many
-abbrev pub AreBelow : ℕ → List ℕ → Type 0
-AreBelow n vars = (c : Conj) (z : ℕ) → next_column vars c.rows ≡ Some z → z < n
-
 -- a conjunction in normal form over that many columns, of which none is next, has no row or is absurd
 abbrev pub Settle : ℕ → List ℕ → Type 0
 Settle n vars = (c : Conj) → IsWellMade c → IsNormal c → c.columns ≡ n → are_absurd c.rows ≡ false → next_column vars c.rows ≡ None → c.rows ≡ []
+
+-- the same, asked where the walk is for a point
+abbrev pub SettleFor : Aim → ℕ → List ℕ → Type 0
+SettleFor aim n vars = WantsPoint aim → Settle n vars
 
 -- all columns below that many, in order
 abbrev pub columns_to : ℕ → List ℕ

@@ -1,21 +1,22 @@
-ghost use Rattle.std.specs.Prelude.{◌≡◌, ◌+◌, ◌^◌, ◌≤◌, ℤ, List, [], IfOk, IfErr, MatchResult};
+ghost use Rattle.std.specs.Prelude.{◌≡◌, ◌+◌, ◌^◌, ◌≤◌, ℤ, List, [], IfOk, IfErr, IfSome, IsSome, MatchResult};
 ghost use Rattle.ac_omega.specs.Differences.{AreDifferences, StopsBelow};
 ghost use Rattle.ac_forms.specs.Rows.{IsWellMade, CanTest};
 ghost use Rattle.ac_cert.specs.Accepted.{Accepts, absurd_refusals};
 ghost use Rattle.ac_cert.specs.Points.{IsPoint};
 ghost use Rattle.ac_omega.specs.Elimination.{eliminating};
-ghost use Rattle.ac_omega.specs.Searching.{Searches, IfFound, IfGone, IsRefuted, IsNormal, columns_to};
+ghost use Rattle.ac_omega.specs.Searching.{Searches, IfFound, IfGone, IsRefuted, IsNormal, WantsPoint, WantsRefutation, columns_to};
 ghost use Rattle.ac_omega.specs.Decisions.{Decides, Finds, Settles, Certifies, IfEmpty, IfPoint, IfCertified, IfMet, walk_of};
 ghost use Rattle.ac_omega.specs.Walk.{walk};
 ghost use Rattle.ac_omega.specs.Within.{Bounds, HaveRisen, IsWithin};
 ghost use Rattle.ac_trails.specs.Refutations.{IsRefutationOf};
 
 use crate::extent::{Maxima, are_large, with_rows};
+use crate::halt::Halt;
 use crate::pieces::{Stop, handed_back};
-use crate::search::{Walked, search};
-use crate::sweeping::Halt;
+use crate::search::{Aim, Walked, search};
 use ac_cert::{Absurd, Tree};
 use ac_forms::{Conj, FormStop};
+use ac_items::Items;
 use ac_trails::{Refutation, certify};
 use std::alloc::{AllocError, Global};
 
@@ -49,22 +50,31 @@ fn all_columns(alloc: Global, columns: usize) -> Result<Vec<usize>, AllocError>
 }
 
 /// The search from a conjunction in normal form on, over all its columns.
-pub(crate) fn search_all(
-    alloc: Global,
-    conj: Conj,
-    budget: u64,
-    met: Maxima,
-) -> Result<Walked, Halt>
+fn search_all(alloc: Global, aim: Aim, conj: Conj, budget: u64, met: Maxima) -> Result<Walked, Halt>
+    requires aim { WantsPoint aim }
     requires made { IsWellMade conj }
     requires normal { IsNormal conj }
     ensures exact { Searches result (walk (eliminating (columns_to conj.columns)) (budget + 1) budget conj 0 met) }
     ensures point { IfOk result (λ w. IfFound w (λ p. IsPoint conj p)) }
-    ensures refuted { IfOk result (λ w. IfGone w (λ s r. IsRefuted conj r)) }
-    ensures within { IfOk result (λ w. IfGone w (λ s r. IsWithin s r)) }
+    ensures told { IfOk result (λ w. IfGone w (λ s r. WantsRefutation aim → IsSome r)) }
+    ensures refuted { IfOk result (λ w. IfGone w (λ s r. IfSome r (λ x. IsRefuted conj x))) }
+    ensures within { IfOk result (λ w. IfGone w (λ s r. IfSome r (λ x. IsWithin s x))) }
     ensures risen { IfOk result (λ w. IfGone w (λ s r. HaveRisen met s)) }
 {
     let vars = all_columns(alloc, conj.columns)?;
-    search(alloc, &vars, conj, budget, 0, met)
+    let mut path = Items::new(alloc);
+    let mut pieces = Items::new(alloc);
+    search(
+        alloc,
+        aim,
+        &vars,
+        conj,
+        budget,
+        0,
+        met,
+        &mut path,
+        &mut pieces,
+    )
 }
 
 /// Whether the rows of a question, in order, can be evaluated in `i128` at one of its points; `Wide` exactly where not.
@@ -84,12 +94,14 @@ fn test(conj: &Conj, point: &[i128]) -> Result<(), Halt>
 ///
 /// `Wide` exactly where a number leaves `i128` first, also with a budget of 0 for the question's own normal form; `Spent`
 /// exactly where the running cost exceeds the budget first, with that cost.
-fn walked(alloc: Global, conj: &Conj, budget: u64) -> Result<Walked, Halt>
-    requires { IsWellMade conj.now }
+fn walked(alloc: Global, aim: Aim, conj: &Conj, budget: u64) -> Result<Walked, Halt>
+    requires aim { WantsPoint aim }
+    requires made { IsWellMade conj.now }
     ensures exact { Decides result conj.now (walk_of budget conj.now) }
     ensures point { IfOk result (λ w. IfFound w (λ p. IsPoint conj.now p)) }
-    ensures refuted { IfOk result (λ w. IfGone w (λ s r. IsRefutationOf conj.now r)) }
-    ensures within { IfOk result (λ w. IfGone w (λ s r. IsWithin s r)) }
+    ensures told { IfOk result (λ w. IfGone w (λ s r. WantsRefutation aim → IsSome r)) }
+    ensures refuted { IfOk result (λ w. IfGone w (λ s r. IfSome r (λ x. IsRefutationOf conj.now x))) }
+    ensures within { IfOk result (λ w. IfGone w (λ s r. IfSome r (λ x. IsWithin s x))) }
     ensures bound { IfOk result (λ w. IfGone w (λ s r. Bounds s conj.now.rows)) }
 {
     let normal = match conj.normalise(alloc) {
@@ -102,7 +114,7 @@ fn walked(alloc: Global, conj: &Conj, budget: u64) -> Result<Walked, Halt>
         number: 0,
     };
     let met = with_rows(conj.rows.as_slice(), none);
-    match search_all(alloc, normal, budget, met) {
+    match search_all(alloc, aim, normal, budget, met) {
         Ok(
             Walked::Gone {
                 cost,
@@ -130,13 +142,17 @@ fn walked(alloc: Global, conj: &Conj, budget: u64) -> Result<Walked, Halt>
 /// conjunction that it reaches. `Overflow` exactly where a number leaves `i128` first, also with a budget of 0 for the
 /// question's own normal form, or where the question's rows, in order, cannot be evaluated in `i128` at the point; `Spent`
 /// exactly where the running cost exceeds the budget first, with that cost.
+///
+/// A question of differences over n columns, at most 60, with numbers of at most 2^48 by absolute value, is always answered
+/// within a budget of 2 (n + 1)^3.
 pub fn find_point(alloc: Global, conj: &Conj, budget: u64) -> Result<Decided, Stop>
     requires { IsWellMade conj.now }
     ensures exact { Finds result conj.now (walk_of budget conj.now) }
     ensures point { IfOk result (λ d. IfPoint d (λ p. IsPoint conj.now p)) }
     ensures empty { IfOk result (λ d. IfEmpty d ((p : List ℤ) → IsPoint conj.now p → ⊥)) }
+    ensures differences { conj.now.columns ≤ 60 → AreDifferences (2 ^ 48) conj.now.rows → IfErr result (StopsBelow conj.now.columns budget) }
 {
-    match walked(alloc, conj, budget) {
+    match walked(alloc, Aim::ForPoint, conj, budget) {
         Ok(Walked::Gone { maxima, .. }) => Ok(Decided::Empty(maxima)),
         Ok(Walked::Found(point)) => Ok(Decided::Point(point)),
         Err(halt) => Err(handed_back(alloc, halt, conj)),
@@ -172,16 +188,19 @@ fn settled(alloc: Global, conj: &Conj, budget: u64) -> Result<Decision, Stop>
     ensures accepted { IfOk result (λ d. IfCertified d (λ tree. Accepts tree absurd_refusals conj.now)) }
     ensures empty { IfOk result (λ d. IfCertified d (λ tree. (p : List ℤ) → IsPoint conj.now p → ⊥)) }
 {
-    match walked(alloc, conj, budget) {
+    match walked(alloc, Aim::ForRefutation, conj, budget) {
         Ok(
             Walked::Gone {
                 maxima,
                 refutation,
                 ..
             },
-        ) => match certificate(alloc, conj, &maxima, &refutation) {
-            Ok(tree) => Ok(Decision::Empty(tree)),
-            Err(halt) => Err(handed_back(alloc, halt, conj)),
+        ) => match refutation {
+            None => unreachable!(),
+            Some(refutation) => match certificate(alloc, conj, &maxima, &refutation) {
+                Ok(tree) => Ok(Decision::Empty(tree)),
+                Err(halt) => Err(handed_back(alloc, halt, conj)),
+            },
         },
         Ok(Walked::Found(point)) => Ok(Decision::Point(point)),
         Err(halt) => Err(handed_back(alloc, halt, conj)),

@@ -4,7 +4,7 @@ ghost use Rattle.std.specs.Prelude.{◌≡◌, ◌<◌, ◌≤◌, ◌+◌, ℕ,
 ghost use Rattle.ac_forms.specs.Rows.{IsWellMade, Meets};
 ghost use Rattle.ac_forms.specs.declared.row.Row.{Row};
 ghost use Rattle.ac_cert.specs.Choices.{are_absurd};
-ghost use Rattle.ac_omega.specs.Columns.{AreColumns, is_present, least_by, next_column, precedes};
+ghost use Rattle.ac_omega.specs.Columns.{is_present, least_by, next_column, precedes};
 ghost use Rattle.ac_omega.specs.Searching.{IsNormal};
 ghost use Rattle.ac_omega.specs.Elimination.{elimination};
 ghost use Rattle.ac_omega.specs.Maxima.{Maxima};
@@ -21,8 +21,7 @@ pub fn walk_is_one(vars: &[usize], conj: &Conj, budget: u64, cost: u64)
 
 /// Where a walk finds no point, no integer point meets the conjunction, and its cost is within the budget.
 pub fn walk_without_a_point(vars: &[usize], conj: &Conj, budget: u64, cost: u64)
-    requires made { IsWellMade conj.now }
-    requires columns { AreColumns conj.now.columns vars.now }
+    requires { IsWellMade conj.now }
     ensures empty { (n k : ℕ) (s t : Maxima) → walk (elimination vars.now) n budget conj.now cost s ≡ Gone k t → (p : List ℤ) → length p ≡ conj.now.columns → Meets conj.now.rows p → ⊥ }
     ensures cost { (n k : ℕ) (s t : Maxima) → walk (elimination vars.now) n budget conj.now cost s ≡ Gone k t → (cost ≤ k) × (k ≤ budget) }
 {}

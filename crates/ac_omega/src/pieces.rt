@@ -1,11 +1,15 @@
-ghost use Rattle.std.specs.Prelude.{◌≡◌, ℕ, ℤ, List, length, IfOk, ◌↔◌};
+ghost use Rattle.std.specs.Prelude.{◌≡◌, ◌≤◌, ◌*◌, ◌^◌, ℕ, ℤ, List, length, IfOk, IfErr, ◌↔◌};
 ghost use Rattle.ac_forms.specs.Rows.{IsWellMade};
 ghost use Rattle.ac_omega.specs.Answers.{Eliminates, HandsBack};
-ghost use Rattle.ac_omega.specs.Columns.{AreColumns};
+ghost use Rattle.ac_omega.specs.Differences.{AreDifferences, AreAllDifferences, StopsBelow};
 ghost use Rattle.ac_omega.specs.Elimination.{pieces_of};
 ghost use Rattle.ac_omega.specs.Projection.{HoldsFor, SomeHolds, AllGone};
+ghost use Rattle.ac_omega.specs.Replays.{AreReached, HaveAllFrom, AreOver};
 
-use crate::sweeping::{Halt, Piece, sweep};
+use crate::extent::Maxima;
+use crate::halt::Halt;
+use crate::piece::Piece;
+use crate::search::{Aim, search};
 use ac_forms::{Conj, FormStop};
 use ac_items::Items;
 use std::alloc::{AllocError, Global};
@@ -45,14 +49,35 @@ impl From<AllocError> for Stop {
 /// number of rows of each conjunction that it reaches. `Overflow` exactly where a number leaves `i128` first, also with a
 /// budget of 0 for the question's own normal form; `Spent` exactly where the running cost exceeds the budget first, with
 /// that cost.
+///
+/// A piece's choices are legal and name only the columns; taken one after the other from the question's normal form on, they
+/// leave the piece's rows, which have none of the columns. Where the columns are all those from some column on, the pieces
+/// are over the columns before it.
+///
+/// A question of differences over n columns, at most 60, with numbers of at most 2^48 by absolute value, is always answered
+/// within a budget of 2 (n + 1)^3; with numbers of at most b, the pieces are rows of differences with numbers of at most
+/// 2^c b, where c is the number of the columns.
 pub fn eliminate(
     alloc: Global,
     conj: &Conj,
     vars: &[usize],
     budget: u64,
 ) -> Result<Items<Piece>, Stop>
-    requires made { IsWellMade conj.now }
-    requires columns { AreColumns conj.now.columns vars.now }
+    requires { IsWellMade conj.now }
+    ensures exact { Eliminates result conj.now (pieces_of vars.now budget conj.now) }
+    ensures gone { IfOk result (λ pieces. AllGone vars.now pieces) }
+    ensures projection { IfOk result (λ pieces. (p : List ℤ) → length p ≡ conj.now.columns → HoldsFor vars.now conj.now.rows p ↔ SomeHolds pieces p) }
+    ensures reached { IfOk result (λ pieces. AreReached vars.now conj.now pieces) }
+    ensures over { (n : ℕ) → HaveAllFrom n conj.now.columns vars.now → IfOk result (λ pieces. AreOver n pieces) }
+    ensures differences { conj.now.columns ≤ 60 → AreDifferences (2 ^ 48) conj.now.rows → IfErr result (StopsBelow conj.now.columns budget) }
+    ensures difference_pieces { (b : ℕ) → conj.now.columns ≤ 60 → 1 ≤ b → b ≤ 2 ^ 48 → AreDifferences b conj.now.rows → IfOk result (λ pieces. AreAllDifferences (2 ^ length vars.now * b) pieces) }
+{
+    eliminated(alloc, conj, vars, budget)
+}
+
+/// The pieces of a question.
+fn eliminated(alloc: Global, conj: &Conj, vars: &[usize], budget: u64) -> Result<Items<Piece>, Stop>
+    requires { IsWellMade conj.now }
     ensures exact { Eliminates result conj.now (pieces_of vars.now budget conj.now) }
     ensures gone { IfOk result (λ pieces. AllGone vars.now pieces) }
     ensures projection { IfOk result (λ pieces. (p : List ℤ) → length p ≡ conj.now.columns → HoldsFor vars.now conj.now.rows p ↔ SomeHolds pieces p) }
@@ -62,10 +87,23 @@ pub fn eliminate(
         Err(FormStop::Wide) => return Err(handed_back(alloc, Halt::Wide, conj)),
         Err(FormStop::Memory(want)) => return Err(Stop::Memory(want)),
     };
-    let choices = Items::new(alloc);
-    let first = Piece { choices, rest };
+    let none = Maxima {
+        factor: 0,
+        number: 0,
+    };
+    let mut path = Items::new(alloc);
     let mut pieces = Items::new(alloc);
-    match sweep(alloc, vars, first, budget, 0, &mut pieces) {
+    match search(
+        alloc,
+        Aim::ForPieces,
+        vars,
+        rest,
+        budget,
+        0,
+        none,
+        &mut path,
+        &mut pieces,
+    ) {
         Ok(_) => Ok(pieces),
         Err(halt) => Err(handed_back(alloc, halt, conj)),
     }

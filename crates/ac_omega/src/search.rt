@@ -1,11 +1,12 @@
-ghost use Rattle.std.specs.Prelude.{◌≡◌, ◌<◌, ◌≤◌, ◌+◌, ℕ, ℤ, pos, List, [], ◌∷◌, Some, Option, IfOk, true, false, length, replicate};
+ghost use Rattle.std.specs.Prelude.{◌≡◌, ◌<◌, ◌≤◌, ◌+◌, ◌++◌, ℕ, ℤ, pos, List, [], ◌∷◌, Some, None, Option, IfOk, OnOk, IfSome, IsSome, true, false, length, replicate};
 ghost use Rattle.ac_forms.specs.Rows.{IsWellMade, Meets};
 ghost use Rattle.ac_forms.specs.declared.conj.Conj.{Conj};
 ghost use Rattle.ac_cert.specs.Choices.{are_absurd, is_legal, left_by};
 ghost use Rattle.ac_cert.specs.ChoiceFits.{after_choice};
 ghost use Rattle.ac_cert.specs.Points.{IsPoint};
-ghost use Rattle.ac_omega.specs.Elimination.{eliminating};
-ghost use Rattle.ac_omega.specs.Searching.{Searches, Tried, lifted_to, Leaves, IfFound, IfGone, IsRefuted, IsRefutedBehind, HasGrown, AreLegal, IsNormal, AreBelow, Settle};
+ghost use Rattle.ac_omega.specs.Searching.{lifted_to, Leaves, IfFound, IfGone, IsRefuted, IsRefutedBehind, HasGrown, AreLegal, IsNormal, SettleFor, WantsPoint, WantsRefutation, wanted, with_choice_behind, with_refutation};
+ghost use Rattle.ac_omega.specs.declared.piece.Piece.{Piece};
+ghost use Rattle.ac_omega.specs.Visits.{Visits, Tried, visiting, seen, at_leaf};
 ghost use Rattle.ac_trails.specs.Tries.{tries_for};
 ghost use Rattle.ac_omega.specs.Walk.{walk, lifted};
 ghost use Rattle.ac_omega.specs.Within.{Bounds, HaveRisen, IsWithin};
@@ -13,29 +14,70 @@ ghost use Rattle.ac_trails.specs.Refutations.{AreModuliWithin};
 
 use crate::cursor::{Next, advance, first};
 use crate::extent::{Maxima, with_choice, with_rows};
+use crate::halt::Halt;
+use crate::piece::Piece;
 use crate::ranking::next_column;
 use crate::scan::are_absurd;
-use crate::sweeping::Halt;
 use ac_cert::{Choice, StepStop};
 use ac_forms::{Conj, FormStop, Row};
 use ac_items::Items;
 use ac_trails::Refutation;
 use std::alloc::{AllocError, Global};
 
-/// What a search comes to.
+/// What a walk is for.
+#[derive(Clone, Copy, Debug)]
+pub(crate) enum Aim {
+    /// A point: it ends at the first conjunction from which nothing is left to eliminate.
+    ForPoint,
+    /// The same, with a refutation where there is no point.
+    ForRefutation,
+    /// All conjunctions from which nothing is left to eliminate.
+    ForPieces,
+}
+
+/// What a walk comes to.
 #[derive(Debug, Drop)]
 pub(crate) enum Walked {
-    /// There is no point.
+    /// It has gone through all choices.
     Gone {
         /// The running cost.
         cost: u64,
         /// The greatest numbers that were met.
         maxima: Maxima,
-        /// Why there is none.
-        refutation: Refutation,
+        /// Why there is no point, where the walk is for that.
+        refutation: Option<Refutation>,
     },
     /// A point.
     Found(Vec<i128>),
+}
+
+/// The refutation, where the walk is for one.
+fn wanted(aim: Aim, refutation: Refutation) -> Option<Refutation>
+    ensures { result ≡ wanted aim refutation }
+{
+    match aim {
+        Aim::ForRefutation => Some(refutation),
+        Aim::ForPoint | Aim::ForPieces => None,
+    }
+}
+
+/// Adds a choice and the refutation of what it leaves, where there is one.
+fn keep(
+    choices: &mut Items<Choice>,
+    below: &mut Items<Refutation>,
+    choice: Choice,
+    refutation: Option<Refutation>,
+) -> Result<(), AllocError>
+    ensures choices { OnOk result (choices.new ≡ with_choice_behind choices.old choice refutation) }
+    ensures below { OnOk result (below.new ≡ with_refutation below.old refutation) }
+{
+    match refutation {
+        Some(refutation) => {
+            choices.push(choice)?;
+            below.push(refutation)
+        }
+        None => Ok(()),
+    }
 }
 
 /// That many zeros.
@@ -71,8 +113,9 @@ fn lifted(alloc: Global, conj: &Conj, choice: &Choice, point: &[i128]) -> Result
     requires legal { is_legal choice.now conj.now ≡ true }
     requires columns { length point.now ≡ conj.now.columns }
     requires meets { Meets (left_by choice.now conj.now.rows) point.now }
-    ensures exact { Searches result (lifted (lifted_to choice.now conj.now point.now)) }
+    ensures exact { (ps : List Piece) → Visits result ps (lifted (lifted_to choice.now conj.now point.now)) }
     ensures point { IfOk result (λ w. IfFound w (λ p. IsPoint conj.now p)) }
+    ensures found { IfOk result (λ w. IfGone w (λ s r. ⊥)) }
 {
     match ac_cert::lift(alloc, conj, choice, point) {
         Ok(back) => Ok(Walked::Found(back)),
@@ -81,26 +124,64 @@ fn lifted(alloc: Global, conj: &Conj, choice: &Choice, point: &[i128]) -> Result
     }
 }
 
-/// The search from a conjunction in normal form on: depth first, over the choices for the next of the columns.
+/// What is done at a conjunction from which nothing is left to eliminate, to which a path of choices led.
+fn at_leaf(
+    alloc: Global,
+    aim: Aim,
+    conj: Conj,
+    cost: u64,
+    met: Maxima,
+    path: &Items<Choice>,
+    pieces: &mut Items<Piece>,
+) -> Result<Walked, Halt>
+    ensures exact { Visits result pieces.new (at_leaf aim path.now conj cost met pieces.old) }
+    ensures point { IfOk result (λ w. IfFound w (λ p. WantsPoint aim × (p ≡ replicate conj.columns (pos 0)))) }
+    ensures gone { IfOk result (λ w. IfGone w (λ s r. (aim ≡ Aim.ForPieces) × (s ≡ met))) }
+    ensures grown { IfOk result (λ w. HasGrown cost cost w) }
+    ensures none { IfOk result (λ w. IfGone w (λ s r. r ≡ None)) }
+{
+    match aim {
+        Aim::ForPoint | Aim::ForRefutation => Ok(Walked::Found(zeros(alloc, conj.columns)?)),
+        Aim::ForPieces => {
+            let choices = Items::from_slice(alloc, path.as_slice())?;
+            pieces.push(Piece {
+                choices,
+                rest: conj,
+            })?;
+            Ok(Walked::Gone {
+                cost,
+                maxima: met,
+                refutation: None,
+            })
+        }
+    }
+}
+
+/// The walk from a conjunction in normal form on, to which a path of choices led: depth first, over the choices for the next
+/// of the columns. Pieces are added at the end.
 #[cycle(searches)]
 pub(crate) fn search(
     alloc: Global,
+    aim: Aim,
     vars: &[usize],
     conj: Conj,
     budget: u64,
     cost: u64,
     met: Maxima,
+    path: &mut Items<Choice>,
+    pieces: &mut Items<Piece>,
 ) -> Result<Walked, Halt>
     requires cost { cost ≤ budget }
     requires made { IsWellMade conj }
     requires normal { IsNormal conj }
-    requires columns { AreBelow conj.columns vars.now }
-    requires settle { Settle conj.columns vars.now }
-    ensures exact { (n : ℕ) → budget < n + cost → Searches result (walk (eliminating vars.now) n budget conj cost met) }
+    requires settle { SettleFor aim conj.columns vars.now }
+    ensures exact { (n : ℕ) → budget < n + cost → Visits result pieces.new (walk (visiting aim vars.now) n budget (path.old, conj) cost (seen met pieces.old)) }
     ensures point { IfOk result (λ w. IfFound w (λ p. IsPoint conj p)) }
     ensures grown { IfOk result (λ w. HasGrown cost budget w) }
-    ensures refuted { IfOk result (λ w. IfGone w (λ s r. IsRefuted conj r)) }
-    ensures within { IfOk result (λ w. IfGone w (λ s r. IsWithin s r)) }
+    ensures same_path { IfOk result (λ w. IfGone w (λ s r. path.new ≡ path.old)) }
+    ensures told { IfOk result (λ w. IfGone w (λ s r. WantsRefutation aim → IsSome r)) }
+    ensures refuted { IfOk result (λ w. IfGone w (λ s r. IfSome r (λ x. IsRefuted conj x))) }
+    ensures within { IfOk result (λ w. IfGone w (λ s r. IfSome r (λ x. IsWithin s x))) }
     ensures risen { IfOk result (λ w. IfGone w (λ s r. HaveRisen met s)) }
 {
     let count = conj.rows.len() as u64;
@@ -113,39 +194,43 @@ pub(crate) fn search(
         return Ok(Walked::Gone {
             cost: spent,
             maxima: all,
-            refutation: Refutation::Absurd(conj),
+            refutation: wanted(aim, Refutation::Absurd(conj)),
         });
     }
     match next_column(vars, conj.rows.as_slice()) {
-        Some(z) => by_column(alloc, vars, conj, z, budget, spent, all),
-        None => Ok(Walked::Found(zeros(alloc, conj.columns)?)),
+        Some(z) => by_column(alloc, aim, vars, conj, z, budget, spent, all, path, pieces),
+        None => at_leaf(alloc, aim, conj, spent, all, path, pieces),
     }
 }
 
-/// The search behind the choices for a column, one after the other.
+/// The walk behind the choices for a column, one after the other.
 #[cycle(searches)]
 fn by_column(
     alloc: Global,
+    aim: Aim,
     vars: &[usize],
     conj: Conj,
     z: usize,
     budget: u64,
     cost: u64,
     met: Maxima,
+    path: &mut Items<Choice>,
+    pieces: &mut Items<Piece>,
 ) -> Result<Walked, Halt>
     requires cost { cost ≤ budget }
     requires made { IsWellMade conj }
-    requires columns { AreBelow conj.columns vars.now }
-    requires settle { Settle conj.columns vars.now }
+    requires settle { SettleFor aim conj.columns vars.now }
     requires possible { are_absurd conj.rows ≡ false }
     requires column { z < conj.columns }
     requires within { Bounds met conj.rows }
     requires legal { AreLegal (tries_for z conj.rows) conj }
-    ensures exact { Tried result vars.now budget conj (tries_for z conj.rows) cost met }
+    ensures exact { Tried result pieces.new aim vars.now budget path.old conj (tries_for z conj.rows) cost (seen met pieces.old) }
     ensures point { IfOk result (λ w. IfFound w (λ p. IsPoint conj p)) }
     ensures grown { IfOk result (λ w. HasGrown cost budget w) }
-    ensures refuted { IfOk result (λ w. IfGone w (λ s r. IsRefuted conj r)) }
-    ensures within { IfOk result (λ w. IfGone w (λ s r. IsWithin s r)) }
+    ensures same_path { IfOk result (λ w. IfGone w (λ s r. path.new ≡ path.old)) }
+    ensures told { IfOk result (λ w. IfGone w (λ s r. WantsRefutation aim → IsSome r)) }
+    ensures refuted { IfOk result (λ w. IfGone w (λ s r. IfSome r (λ x. IsRefuted conj x))) }
+    ensures within { IfOk result (λ w. IfGone w (λ s r. IfSome r (λ x. IsWithin s x))) }
     ensures risen { IfOk result (λ w. IfGone w (λ s r. HaveRisen met s)) }
 {
     let rows = conj.rows.as_slice();
@@ -159,7 +244,9 @@ fn by_column(
             Next::End => break,
             Next::Wide => return Err(Halt::Wide),
             Next::Try(choice, next) => {
-                match by_choice(alloc, vars, &conj, &choice, budget, spent, all) {
+                match by_choice(
+                    alloc, aim, vars, &conj, &choice, budget, spent, all, path, pieces,
+                ) {
                     Ok(
                         Walked::Gone {
                             cost,
@@ -167,8 +254,7 @@ fn by_column(
                             refutation,
                         },
                     ) => {
-                        choices.push(choice)?;
-                        below.push(refutation)?;
+                        keep(&mut choices, &mut below, choice, refutation)?;
                         spent = cost;
                         all = maxima;
                         cursor = next;
@@ -182,35 +268,42 @@ fn by_column(
     Ok(Walked::Gone {
         cost: spent,
         maxima: all,
-        refutation: Refutation::Open {
-            conj,
-            choices,
-            below,
-        },
+        refutation: wanted(
+            aim,
+            Refutation::Open {
+                conj,
+                choices,
+                below,
+            },
+        ),
     })
 }
 
-/// The search behind one choice.
+/// The walk behind one choice.
 #[cycle(searches)]
 fn by_choice(
     alloc: Global,
+    aim: Aim,
     vars: &[usize],
     conj: &Conj,
     choice: &Choice,
     budget: u64,
     cost: u64,
     met: Maxima,
+    path: &mut Items<Choice>,
+    pieces: &mut Items<Piece>,
 ) -> Result<Walked, Halt>
     requires cost { cost ≤ budget }
     requires made { IsWellMade conj.now }
-    requires columns { AreBelow conj.now.columns vars.now }
-    requires settle { Settle conj.now.columns vars.now }
+    requires settle { SettleFor aim conj.now.columns vars.now }
     requires legal { is_legal choice.now conj.now ≡ true }
-    ensures exact { Tried result vars.now budget conj.now (Some choice.now ∷ []) cost met }
+    ensures exact { Tried result pieces.new aim vars.now budget path.old conj.now (Some choice.now ∷ []) cost (seen met pieces.old) }
     ensures point { IfOk result (λ w. IfFound w (λ p. IsPoint conj.now p)) }
     ensures grown { IfOk result (λ w. HasGrown cost budget w) }
-    ensures refuted { IfOk result (λ w. IfGone w (λ s r. IsRefutedBehind choice.now conj.now r)) }
-    ensures within { IfOk result (λ w. IfGone w (λ s r. IsWithin s r)) }
+    ensures same_path { IfOk result (λ w. IfGone w (λ s r. path.new ≡ path.old)) }
+    ensures told { IfOk result (λ w. IfGone w (λ s r. WantsRefutation aim → IsSome r)) }
+    ensures refuted { IfOk result (λ w. IfGone w (λ s r. IfSome r (λ x. IsRefutedBehind choice.now conj.now x))) }
+    ensures within { IfOk result (λ w. IfGone w (λ s r. IfSome r (λ x. IsWithin s x))) }
     ensures moduli { IfOk result (λ w. IfGone w (λ s r. AreModuliWithin s.factor (choice.now ∷ []))) }
     ensures risen { IfOk result (λ w. IfGone w (λ s r. HaveRisen met s)) }
 {
@@ -218,18 +311,32 @@ fn by_choice(
         Ok(rest) => rest,
         Err(stop) => return Err(stop),
     };
-    match search(alloc, vars, rest, budget, cost, with_choice(choice, met)) {
+    path.push(*choice)?;
+    match search(
+        alloc,
+        aim,
+        vars,
+        rest,
+        budget,
+        cost,
+        with_choice(choice, met),
+        path,
+        pieces,
+    ) {
         Ok(
             Walked::Gone {
                 cost,
                 maxima,
                 refutation,
             },
-        ) => Ok(Walked::Gone {
-            cost,
-            maxima,
-            refutation,
-        }),
+        ) => {
+            let _last = path.pop();
+            Ok(Walked::Gone {
+                cost,
+                maxima,
+                refutation,
+            })
+        }
         Ok(Walked::Found(point)) => lifted(alloc, conj, choice, &point),
         Err(stop) => Err(stop),
     }

@@ -10,62 +10,102 @@ use std::alloc::Global;
 pub(crate) fn answer(
     alloc: Global,
     given: &Conj,
-    call: &[u8],
+    call: &str,
     words: &mut Words<'_>,
     out: &mut String,
 ) -> Result<bool, CaseStop> {
-    match call {
-        b"choose" => choose(alloc, &conj_of(alloc, given, words)?, words, out)?,
-        b"lift" => lift(alloc, &conj_of(alloc, given, words)?, words, out)?,
+    let answered = match call {
+        "choose" => choose(alloc, given, words, out),
+        "lift" => lift(alloc, given, words, out),
         _ => return Ok(false),
-    }
+    };
+    answered?;
     Ok(true)
 }
 
 /// The next choice.
 fn choice(words: &mut Words<'_>) -> Result<Choice, CaseStop> {
-    match words.word() {
-        b"drop" => Ok(Choice::Drop(column(words)?)),
-        b"equal" => Ok(Choice::Equal(column(words)?, place(words)?)),
-        b"residue" => Ok(Choice::Residue(column(words)?, words.number()?, words.number()?)),
-        b"shadow" => Ok(Choice::Shadow(column(words)?)),
-        b"splinter" => Ok(Choice::Splinter(column(words)?, place(words)?, words.number()?)),
+    let name = words.name();
+    let column = column(words)?;
+    match name {
+        "drop" => Ok(Choice::Drop(column)),
+        "equal" => Ok(Choice::Equal(column, place(words)?)),
+        "residue" => residue(column, words),
+        "shadow" => Ok(Choice::Shadow(column)),
+        "splinter" => splinter(column, words),
         _ => Err(CaseStop::Malformed("a choice")),
     }
 }
 
+fn residue(column: usize, words: &mut Words<'_>) -> Result<Choice, CaseStop> {
+    let modulus = words.number()?;
+    Ok(Choice::Residue(column, modulus, words.number()?))
+}
+
+fn splinter(column: usize, words: &mut Words<'_>) -> Result<Choice, CaseStop> {
+    let row = place(words)?;
+    Ok(Choice::Splinter(column, row, words.number()?))
+}
+
 fn choose(
     alloc: Global,
-    conj: &Conj,
+    given: &Conj,
     words: &mut Words<'_>,
     out: &mut String,
 ) -> Result<(), CaseStop> {
+    let conj = conj_of(alloc, given, words)?;
     let choice = choice(words)?;
+    show_next(alloc, &conj, &choice, out)
+}
+
+/// Adds what a choice leaves.
+fn show_next(
+    alloc: Global,
+    conj: &Conj,
+    choice: &Choice,
+    out: &mut String,
+) -> Result<(), CaseStop> {
     if !conj.is_well_made() {
         return Err(NOT_WELL_MADE);
     }
-    match ac_cert::step(alloc, conj, &choice) {
-        Ok(next) => push_conj(out, &next)?,
-        Err(StepStop::Illegal) => out.push_str("illegal")?,
-        Err(StepStop::Wide) => out.push_str("wide")?,
-        Err(StepStop::Memory(want)) => return Err(CaseStop::Memory(want)),
+    match ac_cert::step(alloc, conj, choice) {
+        Ok(next) => Ok(push_conj(out, &next)?),
+        Err(stop) => push_stop(out, stop),
+    }
+}
+
+fn push_stop(out: &mut String, stop: StepStop) -> Result<(), CaseStop> {
+    match stop {
+        StepStop::Illegal => out.push_str("illegal")?,
+        StepStop::Wide => out.push_str("wide")?,
+        StepStop::Memory(want) => return Err(CaseStop::Memory(want)),
     }
     Ok(())
 }
 
 fn lift(
     alloc: Global,
-    conj: &Conj,
+    given: &Conj,
     words: &mut Words<'_>,
     out: &mut String,
 ) -> Result<(), CaseStop> {
+    let conj = conj_of(alloc, given, words)?;
     let choice = choice(words)?;
-    let point = point(alloc, words)?;
-    match back(alloc, conj, &choice, point.as_slice())? {
-        Some(point) => push_point(out, point.as_slice())?,
-        None => out.push_str("wide")?,
+    show_lifted(alloc, &conj, &choice, point(alloc, words)?.as_slice(), out)
+}
+
+/// Adds the point that a point goes back to.
+fn show_lifted(
+    alloc: Global,
+    conj: &Conj,
+    choice: &Choice,
+    point: &[i128],
+    out: &mut String,
+) -> Result<(), CaseStop> {
+    match back(alloc, conj, choice, point)? {
+        Some(point) => Ok(push_point(out, point.as_slice())?),
+        None => Ok(out.push_str("wide")?),
     }
-    Ok(())
 }
 
 /// The point that a point of what a choice leaves goes back to, none where a number is too wide.

@@ -6,27 +6,25 @@ use crate::shown::{push_conj, push_row, push_truth};
 use crate::written::{NOT_WELL_MADE, bracketed_row, conj_of, point, unless_wide};
 use ac_case_text::{CaseStop, Words};
 use ac_forms::{Conj, Form, NormalRow, Row};
-use std::alloc::Global;
+use std::alloc::{AllocError, Global};
 use std::fmt::Write;
 
 pub(crate) fn answer(
     alloc: Global,
     given: &Conj,
-    call: &[u8],
+    call: &str,
     words: &mut Words<'_>,
     out: &mut String,
 ) -> Result<bool, CaseStop> {
-    match call {
-        b"normalise" => normalise(alloc, &conj_of(alloc, given, words)?, out)?,
-        b"normalise_row" => normalise_row(alloc, words, out)?,
-        b"negate" => negate(alloc, words, out)?,
-        b"compare_rows" => compare_rows(alloc, words, out)?,
-        b"copy" => {
-            let conj = conj_of(alloc, given, words)?;
-            push_truth(out, conj.copy(alloc)? == conj)?;
-        }
+    let answered = match call {
+        "normalise" => normalise(alloc, given, words, out),
+        "normalise_row" => normalise_row(alloc, words, out),
+        "negate" => negate(alloc, words, out),
+        "compare_rows" => compare_rows(alloc, words, out),
+        "copy" => copy(alloc, given, words, out),
         _ => return Ok(false),
-    }
+    };
+    answered?;
     Ok(true)
 }
 
@@ -34,16 +32,30 @@ fn ends_in_zero(form: &Form) -> bool {
     form.coefs().last().copied() == Some(0)
 }
 
-/// Adds the normal form of a conjunction, and that a form ends in a coefficient 0 where one does.
-fn normalise(alloc: Global, conj: &Conj, out: &mut String) -> Result<(), CaseStop> {
+fn normalise(
+    alloc: Global,
+    given: &Conj,
+    words: &mut Words<'_>,
+    out: &mut String,
+) -> Result<(), CaseStop> {
+    let conj = conj_of(alloc, given, words)?;
+    show_normal(alloc, &conj, out)
+}
+
+/// Adds the normal form of a conjunction.
+fn show_normal(alloc: Global, conj: &Conj, out: &mut String) -> Result<(), CaseStop> {
     if !conj.is_well_made() {
         return Err(NOT_WELL_MADE);
     }
-    let Some(normal) = unless_wide(conj.normalise(alloc))? else {
-        out.push_str("wide")?;
-        return Ok(());
-    };
-    push_conj(out, &normal)?;
+    match unless_wide(conj.normalise(alloc))? {
+        Some(normal) => Ok(push_normal(out, &normal)?),
+        None => Ok(out.push_str("wide")?),
+    }
+}
+
+/// Adds a normal form, and that a form ends in a coefficient 0 where one does.
+fn push_normal(out: &mut String, normal: &Conj) -> Result<(), AllocError> {
+    push_conj(out, normal)?;
     for row in normal.rows.as_slice() {
         if ends_in_zero(row.form()) {
             out.push_str(", with a coefficient 0 at an end")?;
@@ -52,17 +64,39 @@ fn normalise(alloc: Global, conj: &Conj, out: &mut String) -> Result<(), CaseSto
     Ok(())
 }
 
+fn copy(
+    alloc: Global,
+    given: &Conj,
+    words: &mut Words<'_>,
+    out: &mut String,
+) -> Result<(), CaseStop> {
+    let conj = conj_of(alloc, given, words)?;
+    let copy = conj.copy(alloc)?;
+    Ok(push_truth(out, copy == conj)?)
+}
+
 fn normalise_row(alloc: Global, words: &mut Words<'_>, out: &mut String) -> Result<(), CaseStop> {
     let columns = words.size()?;
     let row = bracketed_row(alloc, columns, words)?;
+    show_normal_row(alloc, &row, out)
+}
+
+/// Adds the normal form of a row.
+fn show_normal_row(alloc: Global, row: &Row, out: &mut String) -> Result<(), CaseStop> {
     if !row.has_modulus() {
         return Err(NOT_WELL_MADE);
     }
     match unless_wide(row.normalise(alloc))? {
-        Some(NormalRow::Dropped) => out.push_str("dropped")?,
-        Some(NormalRow::Absurd) => out.push_str("absurd")?,
-        Some(NormalRow::Kept(normal)) => push_row(out, &normal)?,
-        None => out.push_str("wide")?,
+        Some(normal) => Ok(push_normal_row(out, &normal)?),
+        None => Ok(out.push_str("wide")?),
+    }
+}
+
+fn push_normal_row(out: &mut String, normal: &NormalRow) -> Result<(), AllocError> {
+    match normal {
+        NormalRow::Dropped => out.push_str("dropped")?,
+        NormalRow::Absurd => out.push_str("absurd")?,
+        NormalRow::Kept(row) => push_row(out, row)?,
     }
     Ok(())
 }
@@ -85,17 +119,36 @@ fn is_in_some(pieces: &[Conj], point: &[i128]) -> Result<bool, CaseStop> {
 fn negate(alloc: Global, words: &mut Words<'_>, out: &mut String) -> Result<(), CaseStop> {
     let columns = words.size()?;
     let row = bracketed_row(alloc, columns, words)?;
+    negate_row(alloc, columns, &row, words, out)
+}
+
+fn negate_row(
+    alloc: Global,
+    columns: usize,
+    row: &Row,
+    words: &mut Words<'_>,
+    out: &mut String,
+) -> Result<(), CaseStop> {
     if !row.is_over(columns) {
         return Err(NOT_WELL_MADE);
     }
-    let Some(pieces) = unless_wide(row.negate(alloc, columns))? else {
-        out.push_str("wide")?;
-        return Ok(());
-    };
-    let count = pieces.len();
-    write!(out, "{count}")?;
+    match unless_wide(row.negate(alloc, columns))? {
+        Some(pieces) => show_negation(alloc, row, pieces.as_slice(), words, out),
+        None => Ok(out.push_str("wide")?),
+    }
+}
+
+/// Adds how many pieces there are, and what is asked of them.
+fn show_negation(
+    alloc: Global,
+    row: &Row,
+    pieces: &[Conj],
+    words: &mut Words<'_>,
+    out: &mut String,
+) -> Result<(), CaseStop> {
+    write!(out, "{}", pieces.len())?;
     if words.accept("at") {
-        compare_with(alloc, &row, pieces.as_slice(), words, out)?;
+        compare_with(alloc, row, pieces, words, out)?;
     }
     Ok(())
 }
@@ -111,16 +164,30 @@ fn compare_with(
     let here = point(alloc, words)?;
     words.expect("with")?;
     let further = point(alloc, words)?;
-    if !row.is_over(here.len()) {
+    show_both(row, here.as_slice(), pieces, further.as_slice(), out)
+}
+
+fn show_both(
+    row: &Row,
+    here: &[i128],
+    pieces: &[Conj],
+    further: &[i128],
+    out: &mut String,
+) -> Result<(), CaseStop> {
+    show_row_at(row, here, out)?;
+    out.push_str(", its negation ")?;
+    Ok(push_truth(out, is_in_some(pieces, further)?)?)
+}
+
+fn show_row_at(row: &Row, point: &[i128], out: &mut String) -> Result<(), CaseStop> {
+    if !row.is_over(point.len()) {
         return Err(NOT_WELL_MADE);
     }
     out.push_str(", the row ")?;
-    match row.holds_at(here.as_slice()) {
+    match row.holds_at(point) {
         Ok(holds) => push_truth(out, holds)?,
         Err(_) => out.push_str("wide")?,
     }
-    out.push_str(", its negation ")?;
-    push_truth(out, is_in_some(pieces, further.as_slice())?)?;
     Ok(())
 }
 
@@ -129,7 +196,11 @@ fn compare_rows(alloc: Global, words: &mut Words<'_>, out: &mut String) -> Resul
     let columns = words.size()?;
     let first = bracketed_row(alloc, columns, words)?;
     let second = bracketed_row(alloc, columns, words)?;
-    let order = first.copy(alloc)?.cmp(&second.copy(alloc)?);
-    out.push_str(order_name(order))?;
-    Ok(())
+    show_order(alloc, &first, &second, out)
+}
+
+fn show_order(alloc: Global, first: &Row, second: &Row, out: &mut String) -> Result<(), CaseStop> {
+    let copy = first.copy(alloc)?;
+    let order = copy.cmp(&second.copy(alloc)?);
+    Ok(out.push_str(order_name(order))?)
 }

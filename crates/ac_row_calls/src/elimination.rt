@@ -8,72 +8,99 @@ use ac_case_text::{CaseStop, Words};
 use ac_forms::Conj;
 use ac_items::Items;
 use ac_omega::{Decided, Decision, Piece, Stop, are_absurd, are_columns};
-use std::alloc::Global;
+use std::alloc::{AllocError, Global};
 use std::fmt::Write;
 
 pub(crate) fn answer(
     alloc: Global,
     given: &Conj,
-    call: &[u8],
+    call: &str,
     words: &mut Words<'_>,
     out: &mut String,
 ) -> Result<bool, CaseStop> {
-    match call {
-        b"are_absurd" => {
-            let conj = conj_of(alloc, given, words)?;
-            push_truth(out, are_absurd(conj.rows.as_slice()))?;
-        }
-        b"choices" => choices(alloc, &conj_of(alloc, given, words)?, words, out)?,
-        b"eliminate" => eliminate(alloc, given, words, out)?,
-        b"first_choice" => first_choice(alloc, given, words, out)?,
-        b"find_point" => find_point(alloc, words.budget()?, &conj_of(alloc, given, words)?, out)?,
-        b"decide" => decide(alloc, words.budget()?, &conj_of(alloc, given, words)?, out)?,
-        b"cost" => cost(alloc, words.budget()?, &conj_of(alloc, given, words)?, out)?,
+    let answered = match call {
+        "are_absurd" => absurd(alloc, given, words, out),
+        "choices" => choices(alloc, given, words, out),
+        "eliminate" => eliminate(alloc, given, words, out),
+        "first_choice" => first_choice(alloc, given, words, out),
+        "find_point" => find_point(alloc, given, words, out),
+        "decide" => decide_case(alloc, given, words, out),
+        "cost" => cost(alloc, given, words, out),
         _ => return Ok(false),
-    }
+    };
+    answered?;
     Ok(true)
+}
+
+fn absurd(
+    alloc: Global,
+    given: &Conj,
+    words: &mut Words<'_>,
+    out: &mut String,
+) -> Result<(), CaseStop> {
+    let conj = conj_of(alloc, given, words)?;
+    Ok(push_truth(out, are_absurd(conj.rows.as_slice()))?)
 }
 
 fn choices(
     alloc: Global,
-    conj: &Conj,
+    given: &Conj,
     words: &mut Words<'_>,
     out: &mut String,
 ) -> Result<(), CaseStop> {
+    let conj = conj_of(alloc, given, words)?;
     let column = column(words)?;
+    show_choices(alloc, &conj, column, out)
+}
+
+/// Adds the choices for a column.
+fn show_choices(
+    alloc: Global,
+    conj: &Conj,
+    column: usize,
+    out: &mut String,
+) -> Result<(), CaseStop> {
     if column >= conj.columns || !conj.is_well_made() || are_absurd(conj.rows.as_slice()) {
         return Err(NOT_WELL_MADE);
     }
     match unless_wide(ac_omega::choices(alloc, conj, column))? {
-        Some(found) => push_choices(out, found.as_slice())?,
-        None => out.push_str("wide")?,
+        Some(found) => Ok(push_choices(out, found.as_slice())?),
+        None => Ok(out.push_str("wide")?),
     }
-    Ok(())
+}
+
+/// What becomes of columns.
+fn eliminated(
+    alloc: Global,
+    budget: u64,
+    conj: &Conj,
+    columns: &[usize],
+) -> Result<Result<Items<Piece>, Stop>, CaseStop> {
+    if !conj.is_well_made() || !are_columns(columns, conj.columns) {
+        return Err(NOT_WELL_MADE);
+    }
+    Ok(ac_omega::eliminate(alloc, conj, columns, budget))
 }
 
 /// What becomes of the columns of a case.
-fn eliminated(
+fn eliminated_case(
     alloc: Global,
     given: &Conj,
     words: &mut Words<'_>,
 ) -> Result<Result<Items<Piece>, Stop>, CaseStop> {
     let budget = words.budget()?;
     let conj = conj_of(alloc, given, words)?;
-    let columns = columns(alloc, words)?;
-    if !conj.is_well_made() || !are_columns(columns.as_slice(), conj.columns) {
-        return Err(NOT_WELL_MADE);
-    }
-    Ok(ac_omega::eliminate(alloc, &conj, columns.as_slice(), budget))
+    eliminated(alloc, budget, &conj, columns(alloc, words)?.as_slice())
 }
 
-fn push_stop(out: &mut String, stop: Stop) -> Result<(), CaseStop> {
+fn push_stop(out: &mut String, stop: &Stop) -> Result<(), CaseStop> {
     match stop {
         Stop::Overflow(question) => {
             out.push_str("overflow at ")?;
-            push_conj(out, &question)?;
+            push_conj(out, question)?;
         }
         Stop::Spent { cost, .. } => write!(out, "spent at {cost}")?,
-        Stop::Memory(want) => return Err(CaseStop::Memory(want)),
+        Stop::Memory(want) => return Err(CaseStop::Memory(*want)),
     }
     Ok(())
 }
@@ -84,19 +111,26 @@ fn eliminate(
     words: &mut Words<'_>,
     out: &mut String,
 ) -> Result<(), CaseStop> {
-    let pieces = match eliminated(alloc, given, words)? {
-        Ok(pieces) => pieces,
-        Err(stop) => return push_stop(out, stop),
-    };
-    for (at, piece) in pieces.as_slice().iter().enumerate() {
+    match eliminated_case(alloc, given, words)? {
+        Ok(pieces) => Ok(push_pieces(out, pieces.as_slice())?),
+        Err(stop) => push_stop(out, &stop),
+    }
+}
+
+fn push_pieces(out: &mut String, pieces: &[Piece]) -> Result<(), AllocError> {
+    for (at, piece) in pieces.iter().enumerate() {
         if at > 0 {
             out.push_str("; ")?;
         }
-        push_choices(out, piece.choices.as_slice())?;
-        out.push_str(" leaves ")?;
-        push_conj(out, &piece.rest)?;
+        push_piece(out, piece)?;
     }
     Ok(())
+}
+
+fn push_piece(out: &mut String, piece: &Piece) -> Result<(), AllocError> {
+    push_choices(out, piece.choices.as_slice())?;
+    out.push_str(" leaves ")?;
+    push_conj(out, &piece.rest)
 }
 
 fn first_choice(
@@ -105,30 +139,49 @@ fn first_choice(
     words: &mut Words<'_>,
     out: &mut String,
 ) -> Result<(), CaseStop> {
-    let pieces = match eliminated(alloc, given, words)? {
-        Ok(pieces) => pieces,
-        Err(stop) => return push_stop(out, stop),
-    };
-    if let Some(piece) = pieces.get(0) {
-        if let Some(choice) = piece.choices.get(0) {
-            push_choice(out, choice)?;
-            return Ok(());
-        }
+    match eliminated_case(alloc, given, words)? {
+        Ok(pieces) => Ok(push_first(out, pieces.as_slice())?),
+        Err(stop) => push_stop(out, &stop),
     }
-    out.push_str("none")?;
-    Ok(())
 }
 
-fn find_point(alloc: Global, budget: u64, conj: &Conj, out: &mut String) -> Result<(), CaseStop> {
+/// Adds the first choice of the first piece.
+fn push_first(out: &mut String, pieces: &[Piece]) -> Result<(), AllocError> {
+    if let Some(piece) = pieces.first() {
+        if let Some(choice) = piece.choices.get(0) {
+            return push_choice(out, choice);
+        }
+    }
+    Ok(out.push_str("none")?)
+}
+
+fn find_point(
+    alloc: Global,
+    given: &Conj,
+    words: &mut Words<'_>,
+    out: &mut String,
+) -> Result<(), CaseStop> {
+    let budget = words.budget()?;
+    let conj = conj_of(alloc, given, words)?;
+    show_point(alloc, budget, &conj, out)
+}
+
+/// Adds a point of the question, or that it has none.
+fn show_point(alloc: Global, budget: u64, conj: &Conj, out: &mut String) -> Result<(), CaseStop> {
     if !conj.is_well_made() {
         return Err(NOT_WELL_MADE);
     }
     match ac_omega::find_point(alloc, conj, budget) {
-        Ok(Decided::Empty(_)) => out.push_str("empty")?,
-        Ok(Decided::Point(point)) => push_point(out, point.as_slice())?,
-        Err(stop) => push_stop(out, stop)?,
+        Ok(decided) => Ok(push_decided(out, &decided)?),
+        Err(stop) => push_stop(out, &stop),
     }
-    Ok(())
+}
+
+fn push_decided(out: &mut String, decided: &Decided) -> Result<(), AllocError> {
+    match decided {
+        Decided::Empty(_) => Ok(out.push_str("empty")?),
+        Decided::Point(point) => push_point(out, point.as_slice()),
+    }
 }
 
 /// Adds a point of the question, or that it has none and what the check of trees says of the certificate.
@@ -137,17 +190,48 @@ fn decide(alloc: Global, budget: u64, conj: &Conj, out: &mut String) -> Result<(
         return Err(NOT_WELL_MADE);
     }
     match ac_omega::decide(alloc, conj, budget) {
-        Ok(Decision::Empty(tree)) => {
-            out.push_str("empty, its tree ")?;
-            check(alloc, conj, &tree, out)?;
-        }
-        Ok(Decision::Point(point)) => push_point(out, point.as_slice())?,
-        Err(stop) => push_stop(out, stop)?,
+        Ok(decision) => show_decision(alloc, conj, &decision, out),
+        Err(stop) => push_stop(out, &stop),
     }
-    Ok(())
 }
 
-fn cost(alloc: Global, cost: u64, conj: &Conj, out: &mut String) -> Result<(), CaseStop> {
+fn show_decision(
+    alloc: Global,
+    conj: &Conj,
+    decision: &Decision,
+    out: &mut String,
+) -> Result<(), CaseStop> {
+    match decision {
+        Decision::Empty(tree) => {
+            out.push_str("empty, its tree ")?;
+            check(alloc, conj, tree, out)
+        }
+        Decision::Point(point) => Ok(push_point(out, point.as_slice())?),
+    }
+}
+
+fn decide_case(
+    alloc: Global,
+    given: &Conj,
+    words: &mut Words<'_>,
+    out: &mut String,
+) -> Result<(), CaseStop> {
+    let budget = words.budget()?;
+    decide(alloc, budget, &conj_of(alloc, given, words)?, out)
+}
+
+fn cost(
+    alloc: Global,
+    given: &Conj,
+    words: &mut Words<'_>,
+    out: &mut String,
+) -> Result<(), CaseStop> {
+    let cost = words.budget()?;
+    show_cost(alloc, cost, &conj_of(alloc, given, words)?, out)
+}
+
+/// Adds what is decided with a budget, and with one less.
+fn show_cost(alloc: Global, cost: u64, conj: &Conj, out: &mut String) -> Result<(), CaseStop> {
     decide(alloc, cost, conj, out)?;
     if cost > 0 {
         let less = cost - 1;

@@ -10,54 +10,95 @@ use std::cmp::Ordering;
 
 pub(crate) fn answer(
     alloc: Global,
-    call: &[u8],
+    call: &str,
     words: &mut Words<'_>,
     out: &mut String,
 ) -> Result<bool, CaseStop> {
-    let Some(name) = call.strip_prefix(b"form") else {
+    let Some(name) = call.strip_prefix("form") else {
         return Ok(false);
     };
-    match name {
-        b"_compare" => compare(alloc, words, out)?,
-        b"_coefs" => push_point(out, bracketed_form(alloc, 0, words)?.coefs())?,
-        _ => match made(alloc, name, words)? {
-            Some(form) => show(alloc, &form, words, out)?,
-            None => out.push_str("wide")?,
-        },
-    }
+    let answered = match name {
+        "_compare" => compare(alloc, words, out),
+        "_coefs" => show_coefs(alloc, words, out),
+        _ => show_made(alloc, name, words, out),
+    };
+    answered?;
     Ok(true)
 }
 
-/// What a call makes, none where a number is too wide.
-fn made(alloc: Global, name: &[u8], words: &mut Words<'_>) -> Result<Option<Form>, CaseStop> {
-    match name {
-        b"" => Ok(Some(bracketed_form(alloc, 0, words)?)),
-        b"_constant" => Ok(Some(Form::constant(alloc, words.size()?, words.number()?)?)),
-        b"_column" => column(alloc, words),
-        b"_combine" => combine(alloc, words),
-        b"_with_column" => with_column(alloc, words),
-        _ => changed(alloc, name, words),
+fn show_coefs(alloc: Global, words: &mut Words<'_>, out: &mut String) -> Result<(), CaseStop> {
+    let form = bracketed_form(alloc, 0, words)?;
+    Ok(push_point(out, form.coefs())?)
+}
+
+fn show_made(
+    alloc: Global,
+    name: &str,
+    words: &mut Words<'_>,
+    out: &mut String,
+) -> Result<(), CaseStop> {
+    match made(alloc, name, words)? {
+        Some(form) => show(alloc, &form, words, out),
+        None => Ok(out.push_str("wide")?),
     }
 }
 
-/// What a call makes of a form that stands in front.
-fn changed(alloc: Global, name: &[u8], words: &mut Words<'_>) -> Result<Option<Form>, CaseStop> {
-    let form = bracketed_form(alloc, 0, words)?;
+/// What a call makes, none where a number is too wide.
+fn made(alloc: Global, name: &str, words: &mut Words<'_>) -> Result<Option<Form>, CaseStop> {
     match name {
-        b"_add" => {
-            let other = bracketed_form(alloc, 0, words)?;
-            unless_wide(form.add(alloc, &other))
-        }
-        b"_scale" => unless_wide(form.scale(alloc, words.number()?)),
-        b"_opposite" => unless_wide(form.opposite(alloc)),
-        b"_shift" => unless_wide(form.shift(alloc, words.number()?)),
-        b"_add_times" => {
-            let factor = words.number()?;
-            let other = bracketed_form(alloc, 0, words)?;
-            unless_wide(form.add_times(alloc, factor, &other))
-        }
+        "" => Ok(Some(bracketed_form(alloc, 0, words)?)),
+        "_constant" => constant(alloc, words),
+        "_column" => column(alloc, words),
+        "_combine" => combine(alloc, words),
+        _ => changed(alloc, name, &bracketed_form(alloc, 0, words)?, words),
+    }
+}
+
+/// What a call makes of the form that stands in front.
+fn changed(
+    alloc: Global,
+    name: &str,
+    form: &Form,
+    words: &mut Words<'_>,
+) -> Result<Option<Form>, CaseStop> {
+    match name {
+        "_add" => add(alloc, form, words),
+        "_scale" => scale(alloc, form, words),
+        "_opposite" => unless_wide(form.opposite(alloc)),
+        "_shift" => shift(alloc, form, words),
+        "_add_times" => add_times(alloc, form, words),
+        "_with_column" => with_column(alloc, form, words),
         _ => Err(CaseStop::Malformed("a call on forms")),
     }
+}
+
+fn add(alloc: Global, form: &Form, words: &mut Words<'_>) -> Result<Option<Form>, CaseStop> {
+    let other = bracketed_form(alloc, 0, words)?;
+    unless_wide(form.add(alloc, &other))
+}
+
+fn scale(alloc: Global, form: &Form, words: &mut Words<'_>) -> Result<Option<Form>, CaseStop> {
+    unless_wide(form.scale(alloc, words.number()?))
+}
+
+fn shift(alloc: Global, form: &Form, words: &mut Words<'_>) -> Result<Option<Form>, CaseStop> {
+    unless_wide(form.shift(alloc, words.number()?))
+}
+
+/// The next number and the form behind it.
+fn multiple(alloc: Global, words: &mut Words<'_>) -> Result<(i128, Form), CaseStop> {
+    let factor = words.number()?;
+    Ok((factor, bracketed_form(alloc, 0, words)?))
+}
+
+fn add_times(alloc: Global, form: &Form, words: &mut Words<'_>) -> Result<Option<Form>, CaseStop> {
+    let (factor, other) = multiple(alloc, words)?;
+    unless_wide(form.add_times(alloc, factor, &other))
+}
+
+fn constant(alloc: Global, words: &mut Words<'_>) -> Result<Option<Form>, CaseStop> {
+    let columns = words.size()?;
+    Ok(Some(Form::constant(alloc, columns, words.number()?)?))
 }
 
 fn column(alloc: Global, words: &mut Words<'_>) -> Result<Option<Form>, CaseStop> {
@@ -70,15 +111,16 @@ fn column(alloc: Global, words: &mut Words<'_>) -> Result<Option<Form>, CaseStop
 }
 
 fn combine(alloc: Global, words: &mut Words<'_>) -> Result<Option<Form>, CaseStop> {
-    let left = words.number()?;
-    let form = bracketed_form(alloc, 0, words)?;
-    let right = words.number()?;
-    let other = bracketed_form(alloc, 0, words)?;
+    let (left, form) = multiple(alloc, words)?;
+    let (right, other) = multiple(alloc, words)?;
     unless_wide(form.combine(alloc, left, &other, right))
 }
 
-fn with_column(alloc: Global, words: &mut Words<'_>) -> Result<Option<Form>, CaseStop> {
-    let form = bracketed_form(alloc, 0, words)?;
+fn with_column(
+    alloc: Global,
+    form: &Form,
+    words: &mut Words<'_>,
+) -> Result<Option<Form>, CaseStop> {
     let columns = words.size()?;
     let coef = words.number()?;
     if form.columns() > columns {
@@ -95,15 +137,19 @@ fn show(
     out: &mut String,
 ) -> Result<(), CaseStop> {
     push_form(out, form)?;
-    if !words.accept("at") {
-        return Ok(());
+    if words.accept("at") {
+        show_value(form, point(alloc, words)?.as_slice(), out)?;
     }
-    let point = point(alloc, words)?;
+    Ok(())
+}
+
+/// Adds the value of a form at a point.
+fn show_value(form: &Form, point: &[i128], out: &mut String) -> Result<(), CaseStop> {
     if form.columns() > point.len() {
         return Err(CaseStop::Malformed("a number for each column"));
     }
     out.push_str(", there ")?;
-    match form.eval(point.as_slice()) {
+    match form.eval(point) {
         Ok(value) => push_number(out, value)?,
         Err(_) => out.push_str("wide")?,
     }
@@ -114,9 +160,18 @@ fn show(
 fn compare(alloc: Global, words: &mut Words<'_>, out: &mut String) -> Result<(), CaseStop> {
     let first = bracketed_form(alloc, 0, words)?;
     let second = bracketed_form(alloc, 0, words)?;
-    let order = first.copy(alloc)?.cmp(&second.copy(alloc)?);
-    out.push_str(order_name(order))?;
-    Ok(())
+    show_order(alloc, &first, &second, out)
+}
+
+fn show_order(
+    alloc: Global,
+    first: &Form,
+    second: &Form,
+    out: &mut String,
+) -> Result<(), CaseStop> {
+    let copy = first.copy(alloc)?;
+    let order = copy.cmp(&second.copy(alloc)?);
+    Ok(out.push_str(order_name(order))?)
 }
 
 pub(crate) fn order_name(order: Ordering) -> &'static str {

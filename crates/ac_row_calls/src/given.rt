@@ -25,26 +25,65 @@ impl RowCalls {
     pub fn answer(
         &mut self,
         alloc: Global,
-        call: &[u8],
+        call: &str,
         words: &mut Words<'_>,
         out: &mut String,
     ) -> Result<bool, CaseStop> {
-        if call == b"given".as_slice() {
+        if call == "given" {
             self.given = conj_of(alloc, &self.given, words)?;
             push_conj(out, &self.given)?;
             return Ok(true);
         }
         let given = &self.given;
         Ok(
-            integers::answer(alloc, call, words, out)?
-                || forms::answer(alloc, call, words, out)?
-                || conjs::answer(alloc, given, call, words, out)?
-                || trees::answer(alloc, given, call, words, out)?
-                || choices::answer(alloc, given, call, words, out)?
-                || elimination::answer(alloc, given, call, words, out)?
-                || trails::answer(alloc, given, call, words, out)?
-                || difference::answer(alloc, given, call, words, out)?
-                || unions::answer(alloc, given, call, words, out)?,
+            answer_on_rows(alloc, given, call, words, out)?
+                || answer_on_certificates(alloc, given, call, words, out)?
+                || answer_on_questions(alloc, given, call, words, out)?,
         )
     }
+}
+
+/// The calls on integers, forms and conjunctions.
+fn answer_on_rows(
+    alloc: Global,
+    given: &Conj,
+    call: &str,
+    words: &mut Words<'_>,
+    out: &mut String,
+) -> Result<bool, CaseStop> {
+    Ok(
+        integers::answer(alloc, call, words, out)?
+            || forms::answer(alloc, call, words, out)?
+            || conjs::answer(alloc, given, call, words, out)?,
+    )
+}
+
+/// The calls on steps, trees and choices.
+fn answer_on_certificates(
+    alloc: Global,
+    given: &Conj,
+    call: &str,
+    words: &mut Words<'_>,
+    out: &mut String,
+) -> Result<bool, CaseStop> {
+    Ok(
+        trees::answer(alloc, given, call, words, out)?
+            || choices::answer(alloc, given, call, words, out)?
+            || trails::answer(alloc, given, call, words, out)?,
+    )
+}
+
+/// The calls on questions, differences and unions.
+fn answer_on_questions(
+    alloc: Global,
+    given: &Conj,
+    call: &str,
+    words: &mut Words<'_>,
+    out: &mut String,
+) -> Result<bool, CaseStop> {
+    Ok(
+        elimination::answer(alloc, given, call, words, out)?
+            || difference::answer(alloc, given, call, words, out)?
+            || unions::answer(alloc, given, call, words, out)?,
+    )
 }

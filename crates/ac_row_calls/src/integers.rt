@@ -7,25 +7,32 @@ use std::fmt::Write;
 
 pub(crate) fn answer(
     alloc: Global,
-    call: &[u8],
+    call: &str,
     words: &mut Words<'_>,
     out: &mut String,
 ) -> Result<bool, CaseStop> {
-    match call {
-        b"gcd" => gcd(words, out)?,
-        b"content" => {
-            let content = ac_integers::content(point(alloc, words)?.as_slice());
-            write!(out, "{content}")?;
-        }
-        b"is_multiple" => {
-            let is_multiple = ac_integers::is_multiple(words.number()?, words.number()?);
-            push_truth(out, is_multiple)?;
-        }
-        b"floor_quotient" => floor_quotient(words, out)?,
-        b"floor_remainder" => floor_remainder(words, out)?,
+    let answered = match call {
+        "gcd" => gcd(words, out),
+        "content" => content(alloc, words, out),
+        "is_multiple" => is_multiple(words, out),
+        "floor_quotient" => floor_quotient(words, out),
+        "floor_remainder" => floor_remainder(words, out),
         _ => return Ok(false),
-    }
+    };
+    answered?;
     Ok(true)
+}
+
+fn content(alloc: Global, words: &mut Words<'_>, out: &mut String) -> Result<(), CaseStop> {
+    let content = ac_integers::content(point(alloc, words)?.as_slice());
+    write!(out, "{content}")?;
+    Ok(())
+}
+
+fn is_multiple(words: &mut Words<'_>, out: &mut String) -> Result<(), CaseStop> {
+    let number = words.number()?;
+    let divisor = words.number()?;
+    Ok(push_truth(out, ac_integers::is_multiple(number, divisor))?)
 }
 
 fn gcd(words: &mut Words<'_>, out: &mut String) -> Result<(), CaseStop> {

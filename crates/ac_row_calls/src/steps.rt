@@ -40,30 +40,50 @@ fn modulo(alloc: Global, columns: usize, words: &mut Words<'_>) -> Result<Step, 
     Ok(Step::DivMod(row, divisor, modulus, form))
 }
 
-/// The step with a name, none where no step has it.
+/// The step of a row and a number.
+fn of_a_row(name: &str, words: &mut Words<'_>) -> Result<Step, CaseStop> {
+    let row = place(words)?;
+    let number = words.number()?;
+    match name {
+        "cut" => Ok(Step::Cut(row, number)),
+        "divscale" => Ok(Step::DivScale(row, number)),
+        _ => Ok(Step::DivEq(row, number)),
+    }
+}
+
+fn floor(alloc: Global, columns: usize, words: &mut Words<'_>) -> Result<Step, CaseStop> {
+    let divisor = words.number()?;
+    Ok(Step::Floor(divisor, bracketed_form(alloc, columns, words)?))
+}
+
+fn cut_of_equality(words: &mut Words<'_>) -> Result<Step, CaseStop> {
+    let first = place(words)?;
+    Ok(Step::EqCut(first, place(words)?))
+}
+
+/// The rest of the step with a name.
 fn named(
     alloc: Global,
-    name: &[u8],
+    name: &str,
     columns: usize,
     words: &mut Words<'_>,
-) -> Result<Option<Step>, CaseStop> {
-    Ok(Some(match name {
-        b"add" => sum(alloc, words)?,
-        b"cut" => Step::Cut(place(words)?, words.number()?),
-        b"divscale" => Step::DivScale(place(words)?, words.number()?),
-        b"divadd" => combination(words)?,
-        b"divmod" => modulo(alloc, columns, words)?,
-        b"diveq" => Step::DivEq(place(words)?, words.number()?),
-        b"quot" => Step::Quot(place(words)?),
-        b"floor" => Step::Floor(words.number()?, bracketed_form(alloc, columns, words)?),
-        b"eqcut" => Step::EqCut(place(words)?, place(words)?),
-        _ => return Ok(None),
-    }))
+) -> Result<Step, CaseStop> {
+    match name {
+        "add" => sum(alloc, words),
+        "cut" | "divscale" | "diveq" => of_a_row(name, words),
+        "divadd" => combination(words),
+        "divmod" => modulo(alloc, columns, words),
+        "quot" => Ok(Step::Quot(place(words)?)),
+        "floor" => floor(alloc, columns, words),
+        "eqcut" => cut_of_equality(words),
+        _ => Err(CaseStop::Malformed("a step")),
+    }
 }
 
 /// The next step.
 pub(crate) fn step(alloc: Global, columns: usize, words: &mut Words<'_>) -> Result<Step, CaseStop> {
-    named(alloc, words.word(), columns, words)?.ok_or(CaseStop::Malformed("a step"))
+    let name = words.name();
+    named(alloc, name, columns, words)
 }
 
 /// The next steps, with `;` between them.
@@ -82,19 +102,24 @@ pub(crate) fn steps(
     Ok(steps)
 }
 
+/// Whether a name is of what comes behind the steps of a tree.
+fn is_end(name: &str) -> bool {
+    name == "absurd" || name == "split" || name == "residue"
+}
+
 /// The next steps with `;` behind each, and the name of what comes behind them.
 fn steps_before<'a>(
     alloc: Global,
     columns: usize,
     words: &mut Words<'a>,
-) -> Result<(Items<Step>, &'a [u8]), CaseStop> {
+) -> Result<(Items<Step>, &'a str), CaseStop> {
     let mut steps = Items::new(alloc);
     for _ in 0..u64::MAX {
-        let name = words.word();
-        match named(alloc, name, columns, words)? {
-            Some(step) => steps.push(step)?,
-            None => return Ok((steps, name)),
+        let name = words.name();
+        if is_end(name) {
+            return Ok((steps, name));
         }
+        steps.push(named(alloc, name, columns, words)?)?;
         words.expect(";")?;
     }
     Err(CaseStop::Malformed("the end of a tree"))
@@ -104,7 +129,7 @@ fn steps_before<'a>(
 fn child(alloc: Global, columns: usize, words: &mut Words<'_>) -> Result<Tree<Absurd>, CaseStop> {
     words.expect("{")?;
     let (steps, name) = steps_before(alloc, columns, words)?;
-    if name != b"absurd".as_slice() {
+    if name != "absurd" {
         return Err(CaseStop::Malformed("an end"));
     }
     let tree = behind_steps(steps, absurd_tree(alloc, place(words)?))?;
@@ -140,9 +165,9 @@ pub(crate) fn tree(
 ) -> Result<Tree<Absurd>, CaseStop> {
     let (steps, name) = steps_before(alloc, columns, words)?;
     let end = match name {
-        b"absurd" => absurd_tree(alloc, place(words)?),
-        b"split" => split(alloc, columns, words)?,
-        b"residue" => residue(alloc, columns, words)?,
+        "absurd" => absurd_tree(alloc, place(words)?),
+        "split" => split(alloc, columns, words)?,
+        "residue" => residue(alloc, columns, words)?,
         _ => return Err(CaseStop::Malformed("an end")),
     };
     Ok(behind_steps(steps, end)?)

@@ -6,37 +6,50 @@
 use crate::trees::check;
 use crate::written::{bracketed_form, conj_of};
 use ac_case_text::{CaseStop, Words};
-use ac_cert::{absurd_tree, behind_steps};
+use ac_cert::{Absurd, Tree, absurd_tree, behind_steps};
 use ac_forms::Conj;
 use ac_trails::Trail;
-use std::alloc::Global;
+use std::alloc::{AllocError, Global};
 
 pub(crate) fn answer(
     alloc: Global,
     given: &Conj,
-    call: &[u8],
+    call: &str,
     words: &mut Words<'_>,
     out: &mut String,
 ) -> Result<bool, CaseStop> {
-    if call != b"trail".as_slice() {
+    if call != "trail" {
         return Ok(false);
     }
     let conj = conj_of(alloc, given, words)?;
-    let mut trail = Trail::start(alloc, conj.columns, conj.rows.len())?;
-    let mut places = Vec::new(alloc);
-    for _ in 0..u64::MAX {
-        let name = words.word();
-        if name == b"absurd".as_slice() {
-            break;
-        }
-        let place = called(alloc, name, &mut trail, places.as_slice(), words)?;
-        places.push(place)?;
-        words.expect(";")?;
-    }
-    let row = place(places.as_slice(), words)?;
-    let tree = behind_steps(trail.steps, absurd_tree(alloc, row))?;
+    let tree = built(alloc, &conj, words)?;
     check(alloc, &conj, &tree, out)?;
     Ok(true)
+}
+
+/// The certificate that the next calls build.
+fn built(alloc: Global, conj: &Conj, words: &mut Words<'_>) -> Result<Tree<Absurd>, CaseStop> {
+    let mut trail = Trail::start(alloc, conj.columns, conj.rows.len())?;
+    let row = called_up_to_absurd(alloc, &mut trail, words)?;
+    Ok(behind_steps(trail.steps, absurd_tree(alloc, row))?)
+}
+
+/// Makes the next calls, and gives the place behind `absurd`.
+fn called_up_to_absurd(
+    alloc: Global,
+    trail: &mut Trail,
+    words: &mut Words<'_>,
+) -> Result<usize, CaseStop> {
+    let mut places = Vec::new(alloc);
+    for _ in 0..u64::MAX {
+        let name = words.name();
+        if name == "absurd" {
+            break;
+        }
+        places.push(called(alloc, name, trail, places.as_slice(), words)?)?;
+        words.expect(";")?;
+    }
+    place(places.as_slice(), words)
 }
 
 /// The next place.
@@ -55,25 +68,63 @@ fn place(places: &[usize], words: &mut Words<'_>) -> Result<usize, CaseStop> {
 /// What a call answers.
 fn called(
     alloc: Global,
-    name: &[u8],
+    name: &str,
     trail: &mut Trail,
     places: &[usize],
     words: &mut Words<'_>,
 ) -> Result<usize, CaseStop> {
     let row = place(places, words)?;
     match name {
-        b"bound" => Ok(trail.bound_of_equality(alloc, row, words.number()?)?),
-        b"cut" => Ok(trail.cut(row, words.number()?)?),
-        b"scale" => Ok(trail.scale(row, words.number()?)?),
-        b"divide_zero" => Ok(trail.divide_zero(row, words.number()?)?),
-        b"raise" => Ok(trail.raise(alloc, row, words.number()?)?),
-        b"quotient" => Ok(trail.quotient(row)?),
-        b"inequality" => Ok(trail.show_inequality(row, &bracketed_form(alloc, 2, words)?)?),
-        b"reduce" => reduce(alloc, trail, row, words),
-        b"join" => Ok(trail.join(row, place(places, words)?)?),
-        b"clash" => Ok(trail.show_clash(alloc, row, place(places, words)?)?),
+        "bound" | "cut" | "scale" | "divide_zero" | "raise" => {
+            Ok(of_a_number(alloc, name, trail, row, words.number()?)?)
+        }
+        "quotient" => Ok(trail.quotient(row)?),
+        "inequality" => inequality(alloc, trail, row, words),
+        "reduce" => reduce(alloc, trail, row, words),
+        "join" | "clash" => Ok(of_a_row(alloc, name, trail, row, place(places, words)?)?),
         _ => of_two(alloc, name, trail, row, places, words),
     }
+}
+
+/// What a call of a row and a number answers.
+fn of_a_number(
+    alloc: Global,
+    name: &str,
+    trail: &mut Trail,
+    row: usize,
+    number: i128,
+) -> Result<usize, AllocError> {
+    match name {
+        "bound" => trail.bound_of_equality(alloc, row, number),
+        "cut" => trail.cut(row, number),
+        "scale" => trail.scale(row, number),
+        "divide_zero" => trail.divide_zero(row, number),
+        _ => trail.raise(alloc, row, number),
+    }
+}
+
+/// What a call of two rows answers.
+fn of_a_row(
+    alloc: Global,
+    name: &str,
+    trail: &mut Trail,
+    row: usize,
+    other: usize,
+) -> Result<usize, AllocError> {
+    match name {
+        "join" => trail.join(row, other),
+        _ => trail.show_clash(alloc, row, other),
+    }
+}
+
+fn inequality(
+    alloc: Global,
+    trail: &mut Trail,
+    row: usize,
+    words: &mut Words<'_>,
+) -> Result<usize, CaseStop> {
+    let form = bracketed_form(alloc, 2, words)?;
+    Ok(trail.show_inequality(row, &form)?)
 }
 
 fn reduce(
@@ -91,7 +142,7 @@ fn reduce(
 /// What a call of two rows with factors answers.
 fn of_two(
     alloc: Global,
-    name: &[u8],
+    name: &str,
     trail: &mut Trail,
     row: usize,
     places: &[usize],
@@ -101,10 +152,10 @@ fn of_two(
     let other = place(places, words)?;
     let right = words.number()?;
     match name {
-        b"add" => Ok(trail.add_two(alloc, row, left, other, right)?),
-        b"combine" => Ok(trail.add_divisibilities(row, left, other, right)?),
-        b"bounds" => Ok(trail.add_bounds(alloc, row, left, other, right, words.number()?)?),
-        b"replace" => {
+        "add" => Ok(trail.add_two(alloc, row, left, other, right)?),
+        "combine" => Ok(trail.add_divisibilities(row, left, other, right)?),
+        "bounds" => Ok(trail.add_bounds(alloc, row, left, other, right, words.number()?)?),
+        "replace" => {
             let modulus = words.number()?;
             Ok(trail.show_replaced_divisibility(row, left, other, right, modulus)?)
         }

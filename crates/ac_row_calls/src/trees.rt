@@ -4,33 +4,31 @@ use crate::shown::{push_conj, push_row};
 use crate::steps::{step, steps, tree};
 use crate::written::{NOT_WELL_MADE, bracketed_form, conj_of};
 use ac_case_text::{CaseStop, Words};
+use ac_cert::types::Step;
 use ac_cert::{Absurd, EndStop, Rule, Tree, TreeFault, check_tree};
-use ac_forms::Conj;
+use ac_forms::{Conj, Form};
 use std::alloc::{AllocError, Global};
 use std::fmt::Write;
 
 pub(crate) fn answer(
     alloc: Global,
     given: &Conj,
-    call: &[u8],
+    call: &str,
     words: &mut Words<'_>,
     out: &mut String,
 ) -> Result<bool, CaseStop> {
-    match call {
-        b"apply" => apply(alloc, &conj_of(alloc, given, words)?, words, out)?,
-        b"apply_onto" => apply_onto(alloc, conj_of(alloc, given, words)?, words, out)?,
-        b"check" => {
-            let conj = conj_of(alloc, given, words)?;
-            let tree = tree(alloc, conj.columns, words)?;
-            check(alloc, &conj, &tree, out)?;
-        }
-        b"walk" => walk(alloc, given, words, out)?,
-        b"split" => split(alloc, &conj_of(alloc, given, words)?, words, out)?,
-        b"residue" => residue(alloc, &conj_of(alloc, given, words)?, words, out)?,
-        b"rule_names" => names(out)?,
-        b"rules_printed" => printed(out)?,
+    let answered = match call {
+        "apply" => apply(alloc, given, words, out),
+        "apply_onto" => apply_onto(alloc, given, words, out),
+        "check" => check_case(alloc, given, words, out),
+        "walk" => walk(alloc, given, words, out),
+        "split" => split(alloc, given, words, out),
+        "residue" => residue(alloc, given, words, out),
+        "rule_names" => names(out),
+        "rules_printed" => printed(out),
         _ => return Ok(false),
-    }
+    };
+    answered?;
     Ok(true)
 }
 
@@ -51,42 +49,69 @@ fn push_refused(out: &mut String, rule: Rule) -> Result<(), AllocError> {
 /// Adds the last row that a step made, and how many columns there are, or the rule that refused the step.
 fn push_step(out: &mut String, made: Result<Conj, EndStop>) -> Result<(), CaseStop> {
     match unless_refused(made)? {
-        Ok(conj) => {
-            if let Some(row) = conj.rows.as_slice().last() {
-                push_row(out, row)?;
-            }
-            let columns = conj.columns;
-            write!(out, ", {columns} columns")?;
-        }
-        Err(rule) => push_refused(out, rule)?,
+        Ok(conj) => Ok(push_last(out, &conj)?),
+        Err(rule) => Ok(push_refused(out, rule)?),
     }
+}
+
+fn push_last(out: &mut String, conj: &Conj) -> Result<(), AllocError> {
+    if let Some(row) = conj.rows.as_slice().last() {
+        push_row(out, row)?;
+    }
+    write!(out, ", {} columns", conj.columns)?;
     Ok(())
 }
 
 fn apply(
     alloc: Global,
-    conj: &Conj,
+    given: &Conj,
     words: &mut Words<'_>,
     out: &mut String,
 ) -> Result<(), CaseStop> {
+    let conj = conj_of(alloc, given, words)?;
     let step = step(alloc, conj.columns, words)?;
+    show_applied(alloc, &conj, &step, out)
+}
+
+fn show_applied(alloc: Global, conj: &Conj, step: &Step, out: &mut String) -> Result<(), CaseStop> {
     if !conj.is_well_made() {
         return Err(NOT_WELL_MADE);
     }
-    push_step(out, ac_cert::apply(alloc, conj, &step))
+    push_step(out, ac_cert::apply(alloc, conj, step))
 }
 
 fn apply_onto(
     alloc: Global,
-    conj: Conj,
+    given: &Conj,
     words: &mut Words<'_>,
     out: &mut String,
 ) -> Result<(), CaseStop> {
+    let conj = conj_of(alloc, given, words)?;
     let step = step(alloc, conj.columns, words)?;
+    show_applied_onto(alloc, conj, &step, out)
+}
+
+fn show_applied_onto(
+    alloc: Global,
+    conj: Conj,
+    step: &Step,
+    out: &mut String,
+) -> Result<(), CaseStop> {
     if !conj.is_well_made() {
         return Err(NOT_WELL_MADE);
     }
-    push_step(out, ac_cert::apply_onto(alloc, conj, &step))
+    push_step(out, ac_cert::apply_onto(alloc, conj, step))
+}
+
+fn check_case(
+    alloc: Global,
+    given: &Conj,
+    words: &mut Words<'_>,
+    out: &mut String,
+) -> Result<(), CaseStop> {
+    let conj = conj_of(alloc, given, words)?;
+    let tree = tree(alloc, conj.columns, words)?;
+    check(alloc, &conj, &tree, out)
 }
 
 /// Adds whether a tree is accepted, or the first node that fails and its rule.
@@ -99,10 +124,24 @@ pub(crate) fn check(
     if !conj.is_well_made() {
         return Err(NOT_WELL_MADE);
     }
-    match check_tree(alloc, conj, tree, &()) {
-        Ok(()) => out.push_str("accepted")?,
-        Err(TreeFault::Refused { node, rule }) => write!(out, "refused at {node} by {rule}")?,
-        Err(TreeFault::Memory(want)) => return Err(CaseStop::Memory(want)),
+    push_checked(out, check_tree(alloc, conj, tree, &()))
+}
+
+/// Adds what the check of a tree says.
+pub(crate) fn push_checked(
+    out: &mut String,
+    checked: Result<(), TreeFault>,
+) -> Result<(), CaseStop> {
+    match checked {
+        Ok(()) => Ok(out.push_str("accepted")?),
+        Err(fault) => push_fault(out, fault),
+    }
+}
+
+fn push_fault(out: &mut String, fault: TreeFault) -> Result<(), CaseStop> {
+    match fault {
+        TreeFault::Refused { node, rule } => write!(out, "refused at {node} by {rule}")?,
+        TreeFault::Memory(want) => return Err(CaseStop::Memory(want)),
     }
     Ok(())
 }
@@ -116,66 +155,96 @@ fn walk(
     let node = words.budget()?;
     let conj = conj_of(alloc, given, words)?;
     let steps = steps(alloc, conj.columns, words)?;
+    walk_from(alloc, node, conj, steps.as_slice(), out)
+}
+
+/// Adds the node behind steps and what holds there, or the first step that fails.
+fn walk_from(
+    alloc: Global,
+    node: u64,
+    conj: Conj,
+    steps: &[Step],
+    out: &mut String,
+) -> Result<(), CaseStop> {
     if !conj.is_well_made() {
         return Err(NOT_WELL_MADE);
     }
-    match ac_cert::walk(alloc, conj, steps.as_slice(), node) {
-        Ok((behind, number)) => {
-            write!(out, "node {number}, ")?;
-            push_conj(out, &behind)?;
-        }
-        Err(TreeFault::Refused { node, rule }) => write!(out, "refused at {node} by {rule}")?,
-        Err(TreeFault::Memory(want)) => return Err(CaseStop::Memory(want)),
+    match ac_cert::walk(alloc, conj, steps, node) {
+        Ok((behind, number)) => Ok(push_node(out, number, &behind)?),
+        Err(fault) => push_fault(out, fault),
     }
-    Ok(())
+}
+
+fn push_node(out: &mut String, number: u64, behind: &Conj) -> Result<(), AllocError> {
+    write!(out, "node {number}, ")?;
+    push_conj(out, behind)
 }
 
 fn split(
     alloc: Global,
-    conj: &Conj,
+    given: &Conj,
     words: &mut Words<'_>,
     out: &mut String,
 ) -> Result<(), CaseStop> {
+    let conj = conj_of(alloc, given, words)?;
     let form = bracketed_form(alloc, conj.columns, words)?;
+    show_split(alloc, &conj, &form, out)
+}
+
+/// Adds both sides of a form.
+fn show_split(alloc: Global, conj: &Conj, form: &Form, out: &mut String) -> Result<(), CaseStop> {
     if !conj.is_well_made() {
         return Err(NOT_WELL_MADE);
     }
-    match unless_refused(ac_cert::split(alloc, conj, &form))? {
-        Ok((low, high)) => {
-            push_conj(out, &low)?;
-            out.push_str(" and ")?;
-            push_conj(out, &high)?;
-        }
-        Err(rule) => push_refused(out, rule)?,
+    match unless_refused(ac_cert::split(alloc, conj, form))? {
+        Ok((low, high)) => Ok(push_halves(out, &low, &high)?),
+        Err(rule) => Ok(push_refused(out, rule)?),
     }
-    Ok(())
+}
+
+fn push_halves(out: &mut String, low: &Conj, high: &Conj) -> Result<(), AllocError> {
+    push_conj(out, low)?;
+    out.push_str(" and ")?;
+    push_conj(out, high)
 }
 
 fn residue(
     alloc: Global,
-    conj: &Conj,
+    given: &Conj,
     words: &mut Words<'_>,
     out: &mut String,
 ) -> Result<(), CaseStop> {
+    let conj = conj_of(alloc, given, words)?;
     let modulus = words.number()?;
     let form = bracketed_form(alloc, conj.columns, words)?;
-    let rest = words.number()?;
+    show_class(alloc, &conj, modulus, &form, words.number()?, out)
+}
+
+/// Adds what is left where a form has a remainder.
+fn show_class(
+    alloc: Global,
+    conj: &Conj,
+    modulus: i128,
+    form: &Form,
+    rest: i128,
+    out: &mut String,
+) -> Result<(), CaseStop> {
     if !conj.is_well_made() {
         return Err(NOT_WELL_MADE);
     }
     if rest < 0 || (modulus >= 1 && rest >= modulus) {
         return Err(CaseStop::Malformed("a remainder"));
     }
-    match unless_refused(ac_cert::residue(alloc, conj, modulus, &form, rest))? {
-        Ok(class) => push_conj(out, &class)?,
-        Err(rule) => push_refused(out, rule)?,
+    match unless_refused(ac_cert::residue(alloc, conj, modulus, form, rest))? {
+        Ok(class) => Ok(push_conj(out, &class)?),
+        Err(rule) => Ok(push_refused(out, rule)?),
     }
-    Ok(())
 }
 
-const RULES: [Rule; 23] = [
+const RULES: [Rule; 24] = [
     Rule::Text,
     Rule::Point,
+    Rule::Coords,
     Rule::Claim,
     Rule::Output,
     Rule::Tree,
@@ -199,7 +268,7 @@ const RULES: [Rule; 23] = [
     Rule::End,
 ];
 
-fn names(out: &mut String) -> Result<(), AllocError> {
+fn names(out: &mut String) -> Result<(), CaseStop> {
     for (at, rule) in RULES.iter().enumerate() {
         if at > 0 {
             out.push_str(" ")?;
@@ -209,7 +278,7 @@ fn names(out: &mut String) -> Result<(), AllocError> {
     Ok(())
 }
 
-fn printed(out: &mut String) -> Result<(), AllocError> {
+fn printed(out: &mut String) -> Result<(), CaseStop> {
     for (at, rule) in RULES.iter().enumerate() {
         if at > 0 {
             out.push_str(" ")?;

@@ -7,35 +7,62 @@ use ac_forms::Conj;
 use ac_items::Items;
 use ac_sets::Union;
 use ac_syntax::name::Name;
-use std::alloc::Global;
+use std::alloc::{AllocError, Global};
 use std::fmt::Write;
 
 pub(crate) fn answer(
     alloc: Global,
     given: &Conj,
-    call: &[u8],
+    call: &str,
     words: &mut Words<'_>,
     out: &mut String,
 ) -> Result<bool, CaseStop> {
-    match call {
-        b"contains" => {
-            let union = union_of(alloc, given, words)?;
-            contains(&union, point(alloc, words)?.as_slice(), out)?;
-        }
-        b"intersect" => {
-            let both = common(alloc, given, words)?;
-            let visible = both.visible;
-            let count = both.pieces.len();
-            write!(out, "{visible} visible columns, {count} pieces")?;
-        }
-        b"intersect_contains" => {
-            let both = common(alloc, given, words)?;
-            contains(&both, point(alloc, words)?.as_slice(), out)?;
-        }
-        b"set_text" => text(alloc, &union_of(alloc, given, words)?, words, out)?,
+    let answered = match call {
+        "contains" => contains_case(alloc, given, words, out),
+        "intersect" => intersect(alloc, given, words, out),
+        "intersect_contains" => intersect_contains(alloc, given, words, out),
+        "set_text" => text_case(alloc, given, words, out),
         _ => return Ok(false),
-    }
+    };
+    answered?;
     Ok(true)
+}
+
+fn contains_case(
+    alloc: Global,
+    given: &Conj,
+    words: &mut Words<'_>,
+    out: &mut String,
+) -> Result<(), CaseStop> {
+    let union = union_of(alloc, given, words)?;
+    contains(&union, point(alloc, words)?.as_slice(), out)
+}
+
+fn intersect(
+    alloc: Global,
+    given: &Conj,
+    words: &mut Words<'_>,
+    out: &mut String,
+) -> Result<(), CaseStop> {
+    let both = common(alloc, given, words)?;
+    Ok(push_size(out, &both)?)
+}
+
+fn push_size(out: &mut String, union: &Union) -> Result<(), AllocError> {
+    let visible = union.visible;
+    let count = union.pieces.len();
+    write!(out, "{visible} visible columns, {count} pieces")?;
+    Ok(())
+}
+
+fn intersect_contains(
+    alloc: Global,
+    given: &Conj,
+    words: &mut Words<'_>,
+    out: &mut String,
+) -> Result<(), CaseStop> {
+    let both = common(alloc, given, words)?;
+    contains(&both, point(alloc, words)?.as_slice(), out)
 }
 
 /// The next union.
@@ -67,10 +94,14 @@ fn contains(union: &Union, point: &[i128], out: &mut String) -> Result<(), CaseS
 fn common(alloc: Global, given: &Conj, words: &mut Words<'_>) -> Result<Union, CaseStop> {
     let first = union_of(alloc, given, words)?;
     let second = union_of(alloc, given, words)?;
+    intersection(alloc, &first, &second)
+}
+
+fn intersection(alloc: Global, first: &Union, second: &Union) -> Result<Union, CaseStop> {
     if !first.is_well_made() || !second.is_well_made() || first.visible != second.visible {
         return Err(CaseStop::Malformed("unions over the same columns"));
     }
-    Ok(ac_sets::intersect(alloc, &first, &second)?)
+    Ok(ac_sets::intersect(alloc, first, second)?)
 }
 
 /// The next names, so many.
@@ -83,17 +114,26 @@ fn names(alloc: Global, count: usize, words: &mut Words<'_>) -> Result<Vec<Name>
     Ok(names)
 }
 
-fn text(
+fn text_case(
     alloc: Global,
-    union: &Union,
+    given: &Conj,
     words: &mut Words<'_>,
     out: &mut String,
 ) -> Result<(), CaseStop> {
+    let union = union_of(alloc, given, words)?;
     let names = names(alloc, union.visible, words)?;
+    show_text(alloc, &union, names.as_slice(), out)
+}
+
+fn show_text(
+    alloc: Global,
+    union: &Union,
+    names: &[Name],
+    out: &mut String,
+) -> Result<(), CaseStop> {
     if names.len() != union.visible {
         return Err(CaseStop::Malformed("a name for each column"));
     }
-    let text = ac_sets::set_text(alloc, union, names.as_slice())?;
-    push_quoted(out, text.as_slice())?;
-    Ok(())
+    let text = ac_sets::set_text(alloc, union, names)?;
+    Ok(push_quoted(out, text.as_slice())?)
 }

@@ -5,19 +5,19 @@ use ac_items::Items;
 use std::alloc::Global;
 
 /// The column with a name.
-fn column_named(name: &[u8]) -> Option<usize> {
+fn column_named(name: &str) -> Option<usize> {
     match name {
-        b"x" => Some(0),
-        b"y" => Some(1),
-        b"z" => Some(2),
-        b"w" => Some(3),
+        "x" => Some(0),
+        "y" => Some(1),
+        "z" => Some(2),
+        "w" => Some(3),
         _ => None,
     }
 }
 
 /// The next column.
 pub(crate) fn column(words: &mut Words<'_>) -> Result<usize, CaseStop> {
-    column_named(words.word()).ok_or(CaseStop::Malformed("a column"))
+    column_named(words.name()).ok_or(CaseStop::Malformed("a column"))
 }
 
 /// The next place of a row.
@@ -132,19 +132,25 @@ pub(crate) fn bracketed_row(
     Ok(row)
 }
 
-/// The rows up to the closing bracket.
-fn rows(alloc: Global, columns: usize, words: &mut Words<'_>) -> Result<Items<Row>, CaseStop> {
+/// The next rows, with commas between them.
+fn some_rows(alloc: Global, columns: usize, words: &mut Words<'_>) -> Result<Items<Row>, CaseStop> {
     let mut rows = Items::new(alloc);
-    words.expect("[")?;
-    if words.accept("]") {
-        return Ok(rows);
-    }
     for _ in 0..u64::MAX {
         rows.push(row(alloc, columns, words)?)?;
         if !words.accept(",") {
             break;
         }
     }
+    Ok(rows)
+}
+
+/// The next rows, in square brackets.
+fn rows(alloc: Global, columns: usize, words: &mut Words<'_>) -> Result<Items<Row>, CaseStop> {
+    words.expect("[")?;
+    if words.accept("]") {
+        return Ok(Items::new(alloc));
+    }
+    let rows = some_rows(alloc, columns, words)?;
     words.expect("]")?;
     Ok(rows)
 }
@@ -163,30 +169,42 @@ pub(crate) fn conj_of(
     Ok(Conj { columns, rows })
 }
 
-/// The numbers of the next point.
-pub(crate) fn point(alloc: Global, words: &mut Words<'_>) -> Result<Vec<i128>, CaseStop> {
+/// The next coordinates, with commas between them.
+fn coordinates(alloc: Global, words: &mut Words<'_>) -> Result<Vec<i128>, CaseStop> {
     let mut numbers = Vec::new(alloc);
-    words.expect("(")?;
     for _ in 0..u64::MAX {
         numbers.push(words.number()?)?;
         if !words.accept(",") {
             break;
         }
     }
+    Ok(numbers)
+}
+
+/// The numbers of the next point.
+pub(crate) fn point(alloc: Global, words: &mut Words<'_>) -> Result<Vec<i128>, CaseStop> {
+    words.expect("(")?;
+    let numbers = coordinates(alloc, words)?;
     words.expect(")")?;
     Ok(numbers)
 }
 
-/// The next columns, in square brackets.
-pub(crate) fn columns(alloc: Global, words: &mut Words<'_>) -> Result<Vec<usize>, CaseStop> {
+/// The next columns, with commas between them.
+fn named_columns(alloc: Global, words: &mut Words<'_>) -> Result<Vec<usize>, CaseStop> {
     let mut columns = Vec::new(alloc);
-    words.expect("[")?;
     for _ in 0..u64::MAX {
         columns.push(column(words)?)?;
         if !words.accept(",") {
             break;
         }
     }
+    Ok(columns)
+}
+
+/// The next columns, in square brackets.
+pub(crate) fn columns(alloc: Global, words: &mut Words<'_>) -> Result<Vec<usize>, CaseStop> {
+    words.expect("[")?;
+    let columns = named_columns(alloc, words)?;
     words.expect("]")?;
     Ok(columns)
 }

@@ -1,12 +1,12 @@
 use Rattle.std.proofs.Common.{◌∙◌, inl}
-use Rattle.ac_omega.proofs.Deciding.{normal-made, normal-wide, walk-is, err-decides, refutation-of, question-bound}
+use Rattle.ac_omega.proofs.Deciding.{normal-made, normal-wide, walk-is, err-decides, refutations-of, question-bound}
 use Rattle.ac_omega.proofs.decision.walked.Goals as goal
 
 pub returns-in-Err-Wide-clause-exact : goal.returns-in-Err-Wide-clause-exact
 returns-in-Err-Wide-clause-exact c = inl (normal-wide c.args.budget c.args.conj.now (rw c.in-Err-Wide.field-0-is at c.in-Err-Wide.ensures.exact))
 
 pub search_all-requires-clause-made : goal.search_all-requires-clause-made
-search_all-requires-clause-made c = normal-made c.args.conj.now c.in-Ok.normal c.requires c.in-Ok.ensures.exact.1
+search_all-requires-clause-made c = normal-made c.args.conj.now c.in-Ok.normal c.requires.made c.in-Ok.ensures.exact.1
 
 pub returns-in-Ok-Gone-clause-exact : goal.returns-in-Ok-Gone-clause-exact
 returns-in-Ok-Gone-clause-exact c =
@@ -15,7 +15,7 @@ returns-in-Ok-Gone-clause-exact c =
 
 pub returns-in-Ok-Gone-clause-refuted : goal.returns-in-Ok-Gone-clause-refuted
 returns-in-Ok-Gone-clause-refuted c =
-    refutation-of c.args.conj.now c.in-Ok.normal c.in-Ok-Gone.refutation c.in-Ok.ensures.exact.0 c.in-Ok.ensures.exact.1 (rw c.in-Ok-Gone.field-0-is at c.in-Ok-Gone.ensures.refuted)
+    refutations-of c.args.conj.now c.in-Ok.normal c.in-Ok-Gone.refutation c.in-Ok.ensures.exact.0 c.in-Ok.ensures.exact.1 (rw c.in-Ok-Gone.field-0-is at c.in-Ok-Gone.ensures.refuted)
 
 pub returns-in-Ok-Gone-clause-bound : goal.returns-in-Ok-Gone-clause-bound
 returns-in-Ok-Gone-clause-bound c =

@@ -1,7 +1,8 @@
 use Rattle.std.proofs.Common.{◌≡◌, ℕ, ◌<◌, ◌≤◌, ◌-◌, ◌*◌, ◌+◌, length}
 use Rattle.std.specs.List.{AllByRecursion}
 use Rattle.ac_omega.specs.Cursors.{tries_left, IsSound}
-use Rattle.ac_omega.specs.Searching.{tried, AreLegal}
+use Rattle.ac_omega.specs.Searching.{AreLegal, WantsRefutation}
+use Rattle.ac_omega.specs.Visits.{seen, tried}
 use Rattle.ac_omega.specs.Within.{HaveRisen, IsWithin}
 use Rattle.ac_trails.specs.Refutations.{AreModuliWithin}
 use Rattle.ac_trails.specs.Tries.{tries_for, all_of, gathered}
@@ -23,8 +24,10 @@ invariant-by_column-choices l = record {
   high : l.spent ≤ l.budget;
   sound : IsSound l.z l.rows l.cursor;
   legal : AreLegal (tries_left l.z l.rows l.cursor) l.fn.conj;
-  so_far : (n : ℕ) → l.budget < n + l.cost → tried l.vars n l.budget l.fn.conj (tries_for l.z l.fn.conj.rows) l.cost l.fn.met ≡ tried l.vars n l.budget l.fn.conj (tries_left l.z l.rows l.cursor) l.spent l.all;
-  tried : all_of (tries_for l.z l.fn.conj.rows) ≡ gathered l.choices (tries_left l.z l.rows l.cursor);
+  same_path : l.path ≡ l.initial.path;
+  so_far : (n : ℕ) → l.budget < n + l.cost → tried l.aim l.vars n l.budget l.initial.path l.fn.conj (tries_for l.z l.fn.conj.rows) l.cost (seen l.fn.met l.initial.pieces)
+      ≡ tried l.aim l.vars n l.budget l.initial.path l.fn.conj (tries_left l.z l.rows l.cursor) l.spent (seen l.all l.pieces);
+  tried : WantsRefutation l.aim → all_of (tries_for l.z l.fn.conj.rows) ≡ gathered l.choices (tries_left l.z l.rows l.cursor);
   refuted : AreRefutedBehind l.choices l.fn.conj l.below;
   within : AllByRecursion (IsWithin l.all) l.below;
   moduli : AreModuliWithin l.all.factor l.choices;

@@ -1,0 +1,12 @@
+use ac_cert::Choice;
+use ac_forms::Conj;
+use ac_items::Items;
+
+/// A conjunction from which nothing is left to eliminate, with the choices that led to it.
+#[derive(Debug, Drop)]
+pub struct Piece {
+    /// The choices, the first one first.
+    pub choices: Items<Choice>,
+    /// What they leave.
+    pub rest: Conj,
+}
