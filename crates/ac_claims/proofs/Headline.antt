@@ -2,7 +2,6 @@
 use Rattle.std.proofs.Common.{◌≡◌, ℕ, zero, suc, ◌+◌, ◌&&◌, ℤ, List, [], ◌∷◌, ◌++◌, map, length, true, Option, Some, None, refl, sym, ap, ◌∙◌, subst, arith, inl, inr}
 use Rattle.std.specs.Prelude.{slice_get, nat_eq, option_map, ◌<ℤ◌}
 use Rattle.std.specs.List.{AllByRecursion, list_any}
-use Rattle.ac_forms.specs.Affine.{Affine}
 use Rattle.ac_forms.specs.Rows.{Meets, HaveModuli, AreRowsOver}
 use Rattle.ac_forms.specs.declared.row.Row.{Row}
 use Rattle.ac_forms.proofs.Joining.{both_of}
@@ -24,16 +23,16 @@ use Rattle.ac_poly.proofs.Whole.{has_context}
 use Rattle.ac_poly.specs.declared.types.Model.{Model}
 use Rattle.ac_cert.specs.Faults.{first_fault_of}
 use Rattle.ac_cert.specs.declared.types.Rule.TheVariants as rule
-use Rattle.ac_cert.proofs.Keeping.{map-some, if-some, Meets-append}
+use Rattle.ac_cert.proofs.Keeping.{map-some, Meets-append}
 use Rattle.ac_cert.proofs.Soundness.{first-none}
 use Rattle.ac_forms.specs.Renaming.{picked}
 use Rattle.ac_paths.specs.Columns.{columns_of, equal_forms}
 use Rattle.ac_claims.specs.Ending.{same_position}
 use Rattle.ac_paths.specs.Executions.{Execution, At, elements, execution}
 use Rattle.ac_paths.specs.Going.{Pairing}
-use Rattle.ac_paths.specs.Places.{element_forms, extent_rows}
+use Rattle.ac_paths.specs.Places.{element_forms}
 use Rattle.ac_claims.specs.PlanFaults.{fault_unless}
-use Rattle.ac_claims.specs.ProofFaults.{Domain, domain, is_output_array, some_output, is_point, claims_fault, claim_lines, left_seat, right_seat, start_columns, piece_rows, output_rows, all_stand_among, asks_by, asks_no_more, output_stands, outputs_fault, due_from, trees_fault, IsValidProof}
+use Rattle.ac_claims.specs.ProofFaults.{Domain, domain, is_point, head_lines, heads_fault, claims_fault, claim_lines, left_seat, right_seat, start_columns, piece_rows, output_rows, all_stand_among, asks_by, asks_no_more, output_stands, outputs_fault, due_from, trees_fault, IsValidProof}
 use Rattle.ac_claims.specs.Soundness.{ArePaired, pairing_of, ClaimsHaveModuli, ValidProofsNameSameOutputs}
 use Rattle.ac_forms.specs.Standing.{all_stand}
 use Rattle.ac_claims.specs.declared.types.Claim.{Claim}
@@ -47,7 +46,7 @@ use Rattle.ac_paths.proofs.Heres.{element_values}
 use Rattle.ac_paths.proofs.Branches.{In}
 use Rattle.ac_paths.proofs.InBranches.{made-wide}
 use Rattle.ac_claims.proofs.Plans.{position_is, unless_none}
-use Rattle.ac_claims.proofs.Trees.{InDomain, domain_point, domain_moduli, start_point, pieces_meet, pieces_made, all_valid}
+use Rattle.ac_claims.proofs.Trees.{InDomain, output_parts, domain_point, domain_moduli, start_point, pieces_meet, pieces_made, all_valid}
 use Rattle.ac_paths.proofs.Described.{models_describe}
 
 moduli_at : (cs : List Claim) → AllByRecursion (λ (c : Claim). HaveModuli c.rows) cs → (i : ℕ) (c : Claim) → slice_get cs i ≡ Some c → HaveModuli c.rows
@@ -146,7 +145,7 @@ element_meets g c s e hm dl dr ml mr =
     let m3 = pieces_meet g c a b s.left_piece s.right_piece u.0 e e u.1 sp pl pr in
     let w1 = equal-within ks (element_forms 0 a.width) ls (element_forms 0 b.width) t.0 cols kl kr t.2 in
     let w2 = made-wide g.on.pairing.left.context g.on.pairing.params cols (omega arith) g.context_made in
-    let w3 = pieces_made g c a b s.left_piece s.right_piece u.0 u.1 ml mr in
+    let w3 = pieces_made g.on.pairing c a b s.left_piece s.right_piece u.0 u.1 ml mr in
     let is : s.given ≡ t.0 ++ (g.on.pairing.left.context ++ u.0) = t.4 ∙ ap (λ (z : List Row). t.0 ++ z) u.2 in
     let meets : Meets s.given p = subst (λ (z : List Row). Meets z p) (sym is) (meets-both t.0 (g.on.pairing.left.context ++ u.0) p m1 (meets-both g.on.pairing.left.context u.0 p m2 m3)) in
     let made : AreRowsOver cols s.given = subst (λ (z : List Row). AreRowsOver cols z) (sym is) (made-both cols t.0 (g.on.pairing.left.context ++ u.0) w1 (made-both cols g.on.pairing.left.context u.0 w2 w3)) in
@@ -177,8 +176,8 @@ stands_same pair proof t m valid o i c ic lo ro out s params v e inside =
     let g = setting pair proof t m params v in
     let dl : domain (left_of pair) (Output o) ≡ Some s.left = subst (λ (P : Position). domain (left_of pair) P ≡ Some s.left) lo s.left_is in
     let dr : domain (right_of pair) (Output o) ≡ Some s.right = subst (λ (P : Position). domain (right_of pair) P ≡ Some s.right) ro s.right_is in
-    let xl = map-some (slice_get (left_of pair).extents o) (λ (extents : List Affine). record { width = length extents; pieces = extent_rows (left_of pair).params extents ∷ [] }) s.left (if-some (is_output_array (left_of pair) o) (some_output (left_of pair) o) s.left dl).1 in
-    let xr = map-some (slice_get (right_of pair).extents o) (λ (extents : List Affine). record { width = length extents; pieces = extent_rows (right_of pair).params extents ∷ [] }) s.right (if-some (is_output_array (right_of pair) o) (some_output (right_of pair) o) s.right dr).1 in
+    let xl = output_parts (left_of pair) o s.left dl in
+    let xr = output_parts (right_of pair) o s.right dr in
     let in_left : elements pair.left (left_of pair) params o e = (xl.0, xl.1, inside) in
     let in_right : elements pair.right (right_of pair) params o e = (xr.0, xr.1, in_extents params (extents_at pair.left.arrays o) (extents_at pair.right.arrays o) e (t.extents o out params) inside) in
     let hl : At g.on.left (Output o) e (AtEnd (element o e)) = at_output g.on.left o e in_left in
@@ -219,12 +218,16 @@ outputs_same pair proof t m valid (o ∷ os) k e =
 with_models : (pair : Pair) (proof : Proof) → ArePaired pair → ClaimsHaveModuli proof → IsValidProof (pairing_of pair (left_of pair) (right_of pair)) pair.outputs proof → AllByRecursion (λ (o : ℕ × ℕ). SameOutput pair o.0) proof.outputs
 with_models pair proof t m e =
     let g = pairing_of pair (left_of pair) (right_of pair) in
-    let k = 4 + claim_lines proof.claims in
-    let a = first-none (fault_unless (is_point g.left proof.point) 2 rule.Point) (first_fault_of (claims_fault g proof.claims 4)
-    (first_fault_of (outputs_fault g pair.outputs proof.claims proof.outputs k) (trees_fault g proof.claims proof.trees.items (due_from g 0 proof.claims) (k + length proof.outputs)))) e in
-    let b = first-none (claims_fault g proof.claims 4) (first_fault_of (outputs_fault g pair.outputs proof.claims proof.outputs k) (trees_fault g proof.claims proof.trees.items (due_from g 0 proof.claims) (k + length proof.outputs))) a.1 in
-    let c = first-none (outputs_fault g pair.outputs proof.claims proof.outputs k) (trees_fault g proof.claims proof.trees.items (due_from g 0 proof.claims) (k + length proof.outputs)) b.1 in
-    outputs_same pair proof t m (λ params v. all_valid (setting pair proof t m params v) 4 (k + length proof.outputs) proof.trees.items b.0 c.1) proof.outputs k c.0
+    let first = 4 + head_lines proof.heads in
+    let k = first + claim_lines proof.claims in
+    let trees = trees_fault g proof.claims proof.trees.items (due_from g 0 proof.claims) (k + length proof.outputs) in
+    let outputs = outputs_fault g pair.outputs proof.claims proof.outputs k in
+    let claims = claims_fault g proof.claims first in
+    let a = first-none (fault_unless (is_point g.left proof.point) 2 rule.Point) (first_fault_of (heads_fault g proof.heads) (first_fault_of claims (first_fault_of outputs trees))) e in
+    let h = first-none (heads_fault g proof.heads) (first_fault_of claims (first_fault_of outputs trees)) a.1 in
+    let b = first-none claims (first_fault_of outputs trees) h.1 in
+    let c = first-none outputs trees b.1 in
+    outputs_same pair proof t m (λ params v. all_valid (setting pair proof t m params v) first (k + length proof.outputs) proof.trees.items b.0 c.1) proof.outputs k c.0
 
 -- THE theorem: a valid proof names only outputs that are the same
 pub valid_proofs_name_same_outputs : ValidProofsNameSameOutputs

@@ -9,7 +9,9 @@ use Rattle.ac_poly.specs.declared.types.Model.{Model}
 use Rattle.ac_cert.specs.Rules.{combination}
 use Rattle.ac_cert.specs.declared.types.Rule.TheVariants as rule
 use Rattle.ac_paths.specs.Going.{Pairing}
-use Rattle.ac_claims.specs.ProofMachine.{Line, Point, Claims, Claimed, Restricted, Named, Tree, Within, End, judged, unknown}
+use Rattle.ac_claims.specs.ProofMachine.{unknown}
+use Rattle.ac_claims.proofs.ProofFolding.{judged}
+use Rattle.ac_claims.specs.declared.item.Item.{Item}
 use Rattle.ac_claims.specs.declared.item.Item.TheVariants as item
 
 -- `void f(int N, int C[N]) { }`
@@ -20,25 +22,29 @@ abbrev against_itself : Pairing
 against_itself = record { params = 1; left = empty_body; right = empty_body; swaps = λ s. false }
 
 -- the lines with a constant in the claim's row, and with what stands in the tree
-abbrev lines : ℤ → List Line → List Line
+abbrev lines : ℤ → List Item → List Item
 lines k tree =
-    Point (pos 0 ∷ []) ∷ Claims 1 ∷ Claimed (Output 0) (Output 0) 1 ∷ Restricted (Eq (record { konst = k; coefs = pos 0 ∷ pos 1 ∷ negsuc 0 ∷ [] })) ∷ Named 0 0 ∷ Tree 0 0 0 ∷ tree
+    item.Point (pos 0 ∷ []) ∷ item.Claims 1 ∷ item.Claim (Output 0) (Output 0) 1 ∷ item.Row (Eq (record { konst = k; coefs = pos 0 ∷ pos 1 ∷ negsuc 0 ∷ [] })) ∷ item.Output 0 0 ∷ item.Tree 0 0 0 ∷ tree
 
-accepted : judged against_itself (0 ∷ []) (lines (pos 0) (Within (item.Go Keep 1) ∷ Within (item.Go Keep 1) ∷ Within item.Initial ∷ End ∷ [])) 2 unknown ≡ None
+accepted : judged against_itself (0 ∷ []) (lines (pos 0) (item.Go Keep 1 ∷ item.Go Keep 1 ∷ item.Initial ∷ item.End ∷ [])) 2 unknown ≡ None
 unfolding combination gcds.gcd gcds.gcd_within
 accepted = refl
 
 -- a claim that asks for more than equal elements
-other_output : judged against_itself (0 ∷ []) (lines (pos 1) (Within (item.Go Keep 1) ∷ Within (item.Go Keep 1) ∷ Within item.Initial ∷ End ∷ [])) 2 unknown ≡ Some (6, rule.Output)
+other_output : judged against_itself (0 ∷ []) (lines (pos 1) (item.Go Keep 1 ∷ item.Go Keep 1 ∷ item.Initial ∷ item.End ∷ [])) 2 unknown ≡ Some (6, rule.Output)
 unfolding combination gcds.gcd gcds.gcd_within
 other_output = refl
 
 -- a claim that hits itself before any step
-hit_at_once : judged against_itself (0 ∷ []) (lines (pos 0) (Within (item.Hit 0) ∷ End ∷ [])) 2 unknown ≡ Some (8, rule.Hit)
+hit_at_once : judged against_itself (0 ∷ []) (lines (pos 0) (item.Hit 0 ∷ item.End ∷ [])) 2 unknown ≡ Some (8, rule.Hit)
 unfolding combination gcds.gcd gcds.gcd_within
 hit_at_once = refl
 
 -- a tree is missing
-no_tree : judged against_itself (0 ∷ []) (Point (pos 0 ∷ []) ∷ Claims 1 ∷ Claimed (Output 0) (Output 0) 1 ∷ Restricted (Eq (record { konst = pos 0; coefs = pos 0 ∷ pos 1 ∷ negsuc 0 ∷ [] })) ∷ Named 0 0 ∷ End ∷ []) 2 unknown ≡ Some (7, rule.End)
+no_tree : judged against_itself (0 ∷ []) (item.Point (pos 0 ∷ []) ∷ item.Claims 1 ∷ item.Claim (Output 0) (Output 0) 1 ∷ item.Row (Eq (record { konst = pos 0; coefs = pos 0 ∷ pos 1 ∷ negsuc 0 ∷ [] })) ∷ item.Output 0 0 ∷ item.End ∷ []) 2 unknown ≡ Some (7, rule.End)
 unfolding combination gcds.gcd gcds.gcd_within
 no_tree = refl
+
+-- shapes of programs that have assignments
+other_heads : judged against_itself (0 ∷ []) (item.Point (pos 0 ∷ []) ∷ item.Left [] ∷ item.Right ((1, 0) ∷ []) ∷ []) 2 unknown ≡ Some (4, rule.Coords)
+other_heads = refl

@@ -22,7 +22,7 @@ use Rattle.ac_paths.specs.Executions.{Execution, InstanceAt, At, Describes}
 use Rattle.ac_paths.specs.Going.{Pairing}
 use Rattle.ac_paths.specs.Places.{extent_rows, initial_cell}
 use Rattle.ac_claims.specs.PlanFaults.{fault_unless, plan_fault, plan_lines}
-use Rattle.ac_claims.specs.ProofFaults.{Domain, domain, is_output_array, some_output, output_domain, node_domain, claim_rows_fault, claim_fault, claim_fault_at, claims_fault, left_seat, right_seat, start_columns, piece_rows, start, DuePlan, numbered, due_at, due_from, is_due, tree_fault_at, trees_fault}
+use Rattle.ac_claims.specs.ProofFaults.{Domain, domain, is_output_array, can_bound, bounded_rows, with_extents, some_output, output_domain, node_domain, claim_rows_fault, claim_fault, claim_fault_at, claims_fault, left_seat, right_seat, start_columns, piece_rows, start, DuePlan, numbered, due_at, due_from, is_due, tree_fault_at, trees_fault}
 use Rattle.ac_paths.specs.declared.path.Path.{Path}
 use Rattle.ac_claims.specs.declared.types.Claim.{Claim}
 use Rattle.ac_claims.specs.declared.types.ClaimTree.{ClaimTree}
@@ -127,9 +127,17 @@ pub record InDomain (params : List ℤ) (a : Domain) (at : List ℤ) : Type 0 wh
   pub among : In piece a.pieces
   pub meets : Meets piece (params ++ at)
 
+-- the parts of an output that is there
+pub output_parts : (m : Model) (o : ℕ) (a : Domain) → output_domain m o ≡ Some a → (extents : List Affine) × (slice_get m.extents o ≡ Some extents) × (a ≡ record { width = length extents; pieces = extent_rows m.params extents ∷ [] })
+output_parts m o a e =
+    let b = bind-some (slice_get m.extents o) (with_extents m) a (if-some (is_output_array m o) (some_output m o) a e).1 in
+    let c = map-some (bounded_rows m.params b.0) (λ rows. record { width = length b.0; pieces = rows ∷ [] }) a b.2 in
+    let d = if-some (can_bound m.params b.0) (Some (extent_rows m.params b.0)) c.0 c.1 in
+    (b.0, b.1, c.2 ∙ ap (λ (rows : List Row). record { width = length b.0; pieces = rows ∷ [] }) (sym (some-is (extent_rows m.params b.0) c.0 d.1)))
+
 output_point : (m : Model) (params : List ℤ) (x : Execution) → Describes m params x → (o : ℕ) (at : List ℤ) (a : Domain) → x.inside o at → output_domain m o ≡ Some a → InDomain params a at
 output_point m params x d o at a inside e =
-    let b = map-some (slice_get m.extents o) (λ (extents : List Affine). record { width = length extents; pieces = extent_rows m.params extents ∷ [] }) a (if-some (is_output_array m o) (some_output m o) a e).1 in
+    let b = output_parts m o a e in
     let f = d.elements o at inside in
     let same : f.extents ≡ b.0 = some-is f.extents b.0 (sym f.is ∙ b.1) in
     subst (λ (y : Domain). InDomain params y at) (sym b.2) (record {
@@ -168,25 +176,32 @@ extent_moduli k (e ∷ es) = (tt, (tt, extent_moduli (k + 1) es))
 
 output_moduli : (m : Model) (o : ℕ) (a : Domain) (q : List Row) → output_domain m o ≡ Some a → In q a.pieces → HaveModuli q
 output_moduli m o a q e n =
-    let b = map-some (slice_get m.extents o) (λ (extents : List Affine). record { width = length extents; pieces = extent_rows m.params extents ∷ [] }) a (if-some (is_output_array m o) (some_output m o) a e).1 in
+    let b = output_parts m o a e in
     by b.0 (subst (λ (y : Domain). In q y.pieces) b.2 n)
   where
     by : (es : List Affine) → In q (extent_rows m.params es ∷ []) → HaveModuli q
     by es (inl i) = subst HaveModuli (sym i) (extent_moduli m.params es)
     by es (inr i) = absurd i
 
-node_moduli : (m : Model) (params : List ℤ) (x : Execution) → Describes m params x → (s k : ℕ) (a : Domain) (q : List Row) → node_domain m s k ≡ Some a → In q a.pieces → HaveModuli q
-node_moduli m params x d s k a q e n =
+-- each modulus in the pieces of a model is at least 1
+abbrev pub PiecesModuli : Model → Type 0
+PiecesModuli m = (number : ℕ) (stmt : StmtModel) (k : ℕ) (rows : List Row) → slice_get m.stmts number ≡ Some stmt → slice_get stmt.pieces k ≡ Some rows → HaveModuli rows
+
+node_moduli : (m : Model) → PiecesModuli m → (s k : ℕ) (a : Domain) (q : List Row) → node_domain m s k ≡ Some a → In q a.pieces → HaveModuli q
+node_moduli m h s k a q e n =
     let b = bind-some (slice_get m.stmts s) (λ (stmt : StmtModel). option_map (λ node. record { width = width stmt; pieces = stmt.pieces }) (slice_get stmt.nodes k)) a e in
     let c = map-some (slice_get b.0.nodes k) (λ node. record { width = width b.0; pieces = b.0.pieces }) a b.2 in
     let r = in_get q b.0.pieces (subst (λ (y : Domain). In q y.pieces) c.2 n) in
-    d.pieces_moduli s b.0 r.0 q b.1 r.1
+    h s b.0 r.0 q b.1 r.1
+
+pub domain_rows : (m : Model) → PiecesModuli m → (P : Position) (a : Domain) (q : List Row) → domain m P ≡ Some a → In q a.pieces → HaveModuli q
+domain_rows m h (Output o) a q e n = output_moduli m o a q e n
+domain_rows m h (Node s k) a q e n = node_moduli m h s k a q e n
+domain_rows m h (InitialOutput o) a q e n = output_moduli m o a q e n
+domain_rows m h (InitialNode s k) a q e n = let b = bind-some (initial_cell m (InitialNode s k)) (λ cell. node_domain m s k) a e in node_moduli m h s k a q b.2 n
 
 pub domain_moduli : (m : Model) (params : List ℤ) (x : Execution) → Describes m params x → (P : Position) (a : Domain) (q : List Row) → domain m P ≡ Some a → In q a.pieces → HaveModuli q
-domain_moduli m params x d (Output o) a q e n = output_moduli m o a q e n
-domain_moduli m params x d (Node s k) a q e n = node_moduli m params x d s k a q e n
-domain_moduli m params x d (InitialOutput o) a q e n = output_moduli m o a q e n
-domain_moduli m params x d (InitialNode s k) a q e n = let b = bind-some (initial_cell m (InitialNode s k)) (λ cell. node_domain m s k) a e in node_moduli m params x d s k a q b.2 n
+domain_moduli m params x d = domain_rows m d.pieces_moduli
 
 -- the columns of the beginning of a plan
 pub record StartPoint (g : Setting) (c : Claim) (a b : Domain) (x y : List ℤ) : Type 0 where
@@ -224,16 +239,16 @@ pieces_meet g c a b l r rows x y e s ml mr =
     ((rows-value ks l t.0 p t.2).1 (subst (Meets l) (sym (picks_one n g.on.params (left_seat g.on.pairing c a) p x s.starts s.left)) ml))
     ((rows-value ls r t.1 p t.3).1 (subst (Meets r) (sym (picks_one n g.on.params (right_seat g.on.pairing c a b) p y s.starts s.right)) mr)))
 
-pub pieces_made : (g : Setting) (c : Claim) (a b : Domain) (l r rows : List Row) → piece_rows g.on.pairing c a b l r ≡ Some rows → HaveModuli l → HaveModuli r → AreRowsOver (start_columns g.on.pairing a b) rows
+pub pieces_made : (g : Pairing) (c : Claim) (a b : Domain) (l r rows : List Row) → piece_rows g c a b l r ≡ Some rows → HaveModuli l → HaveModuli r → AreRowsOver (start_columns g a b) rows
 pieces_made g c a b l r rows e hl hr =
-    let n = g.on.pairing.params in
-    let cols = start_columns g.on.pairing a b in
-    let ks = base n ++ columns_of (left_seat g.on.pairing c a) in
-    let ls = base n ++ columns_of (right_seat g.on.pairing c a b) in
+    let n = g.params in
+    let cols = start_columns g a b in
+    let ks = base n ++ columns_of (left_seat g c a) in
+    let ls = base n ++ columns_of (right_seat g c a b) in
     let t = appended-parts (rows_renaming ks l) (rows_renaming ls r) rows e in
     let kb = base_columns n cols (omega arith) in
-    let kl = in-append (base n) (columns_of (left_seat g.on.pairing c a)) cols kb (seat_columns (left_seat g.on.pairing c a) cols (omega arith)) in
-    let kr = in-append (base n) (columns_of (right_seat g.on.pairing c a b)) cols kb (seat_columns (right_seat g.on.pairing c a b) cols (omega arith)) in
+    let kl = in-append (base n) (columns_of (left_seat g c a)) cols kb (seat_columns (left_seat g c a) cols (omega arith)) in
+    let kr = in-append (base n) (columns_of (right_seat g c a b)) cols kb (seat_columns (right_seat g c a b) cols (omega arith)) in
     subst (λ (z : List Row). AreRowsOver cols z) (sym t.4) (made-both cols t.0 t.1 (rows-within ks l t.0 cols kl hl t.2) (rows-within ls r t.1 cols kr hr t.3))
 
 -- each pair that is claimed is covered
@@ -261,7 +276,7 @@ all_valid g k j ts ec et s t (i, c, ic, x, y, hx, hy, m) =
     let sp = start_point g c a b x y px.long py.long in
     let hl = domain_moduli g.on.pairing.left g.on.params g.on.left g.on.describes_left c.left a px.piece f.left_is px.among in
     let hr = domain_moduli g.on.pairing.right g.on.params g.on.right g.on.describes_right c.right b py.piece f.right_is py.among in
-    let made_rows = pieces_made g c a b px.piece py.piece rows st.1 hl hr in
+    let made_rows = pieces_made g.on.pairing c a b px.piece py.piece rows st.1 hl hr in
     let meet_rows = pieces_meet g c a b px.piece py.piece rows x y st.1 sp px.meets py.meets in
     let lp : length g.on.params ≡ g.on.pairing.params = sym g.on.count in
     let ctx = Meets-append g.on.pairing.left.context g.on.pairing.params g.on.params (x ++ y) (omega (arith, lp)) g.context_made g.context in

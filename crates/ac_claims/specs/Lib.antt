@@ -6,3 +6,13 @@ pub mod Machine
 pub mod Steppers
 pub mod Driving
 pub mod ProofMachine
+pub mod Domains
+pub mod Remaining
+pub mod Dues
+pub mod Ready
+pub mod Checking
+pub mod Starting
+pub mod Judging
+pub mod Entries
+pub mod Feeding
+pub mod Points

@@ -58,7 +58,7 @@ abbrev pub copied : Pairing → ℕ → ℕ → Option ℕ → ℕ → ℕ → �
 copied g stmt piece after before count k h None due = Refused k rule.Killed
 copied g stmt piece after before count k h (Some a) due = onto_some (copy_of g a stmt piece after before) k rule.Killed (λ c. settled g.params k count h a c due)
 
--- an item of a plan that is due at a path
+-- an item at a path where a plan is due; one that is none of a plan leaves what is due
 abbrev pub take_at : Pairing → List Claim → Item → ℕ → Path → List Due → Taken
 take_at g cs (item.Step s) k h due = onto_some (after_step s h.conj) k (rule_of s) (λ c. Onto (PlanAt (at_rows h c) ∷ due))
 take_at g cs (item.Split f) k h due = onto_some (both_sides f h.conj) k rule.Split (λ s. Onto (PlanAt (at_rows h s.0) ∷ PlanAt (at_rows h s.1) ∷ due))
@@ -69,7 +69,7 @@ take_at g cs (item.Hit c) k h due = onto_if (is_hit g h (slice_get cs c)) k rule
 take_at g cs item.Number k h due = onto_if (is_number g h) k rule.Number due
 take_at g cs item.Initial k h due = onto_if (is_initial g h) k rule.Initial due
 take_at g cs (item.Killed stmt piece after before count) k h due = copied g stmt piece after before count k h h.last due
-take_at g cs (item.Choice x) k h due = Onto (PlanAt h ∷ due)
+take_at g cs _ k h due = Onto (PlanAt h ∷ due)
 
 -- an item where a choice is due
 abbrev pub choose : ℕ → Item → ℕ → ℕ → ℕ → Path → Assumed → Conj → List Due → Taken

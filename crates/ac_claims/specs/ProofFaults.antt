@@ -1,15 +1,17 @@
 -- The first line of a proof that fails, and its rule. Line 1 names the format; each part of a proof is a line.
-use Rattle.std.specs.Prelude.{◌≡◌, ℕ, ◌+◌, ◌&&◌, Bool, true, false, ℤ, pos, List, [], ◌∷◌, ◌++◌, map, length, Option, Some, None, option_and_then, option_map, cond, nat_eq, nat_le, int_le, slice_get, unsigned_abs}
+use Rattle.std.specs.Prelude.{◌≡◌, ℕ, ◌+◌, ◌&&◌, Bool, true, false, ℤ, pos, negsuc, List, [], ◌∷◌, ◌++◌, map, length, Option, Some, None, option_and_then, option_map, cond, nat_eq, nat_le, int_le, slice_get, unsigned_abs}
 use Rattle.std.specs.List.{flat_map, list_any}
 use Rattle.std.specs.Ordering.{int_eq}
-use Rattle.ac_forms.specs.Affine.{Affine, value_at}
+use Rattle.ac_forms.specs.Affine.{Affine, value_at, combined, column_form}
+use Rattle.ac_forms.specs.Fits.{fits}
 use Rattle.ac_forms.specs.Rows.{form_of}
-use Rattle.ac_forms.specs.Tests.{can_evaluate}
+use Rattle.ac_forms.specs.Tests.{form_fits, can_evaluate}
 use Rattle.ac_forms.specs.declared.row.Row.{Row}
 use Rattle.ac_forms.specs.declared.row.Row.TheVariants.{Eq, Div, Ge}
 use Rattle.ac_integers.specs.Multiple.{divides}
 use Rattle.ac_syntax.specs.declared.tree.Position.{Position}
 use Rattle.ac_syntax.specs.declared.tree.Position.TheVariants.{Output, Node, InitialOutput, InitialNode}
+use Rattle.ac_poly.specs.Columns.{room}
 use Rattle.ac_poly.specs.Model.{is_input}
 use Rattle.ac_poly.specs.declared.types.Model.{Model}
 use Rattle.ac_poly.specs.declared.types.StmtModel.{StmtModel}
@@ -27,6 +29,7 @@ use Rattle.ac_paths.specs.declared.path.Path.{Path}
 use Rattle.ac_paths.specs.declared.path.Seat.{Seat}
 use Rattle.ac_claims.specs.declared.types.Claim.{Claim}
 use Rattle.ac_claims.specs.declared.types.ClaimTree.{ClaimTree}
+use Rattle.ac_claims.specs.declared.types.Heads.{Heads}
 use Rattle.ac_claims.specs.declared.types.Proof.{Proof}
 
 -- the pieces of a position and the number of its coordinates; none where the model has no such position
@@ -42,8 +45,21 @@ is_output_array m o = is_input (slice_get m.kinds o) && has_dimension (slice_get
     has_dimension None = false
     has_dimension (Some extents) = nat_le 1 (length extents)
 
+-- each extent less its coordinate, and that less 1, is made in `i128`; the coordinates stand from column k on
+abbrev pub can_bound : ℕ → List Affine → Bool
+can_bound k [] = true
+can_bound k (e ∷ es) = (form_fits (combined (pos 1) e (negsuc 0) (column_form (k + 1) k)) && fits ((room k e).konst)) && can_bound (k + 1) es
+
+-- the rows of the elements with these extents
+abbrev pub bounded_rows : ℕ → List Affine → Option (List Row)
+bounded_rows k extents = cond (can_bound k extents) (Some (extent_rows k extents)) None
+
+-- an output has one piece: each coordinate is at least 0 and less than its extent
+abbrev pub with_extents : Model → List Affine → Option Domain
+with_extents m extents = option_map (λ rows. record { width = length extents; pieces = rows ∷ [] }) (bounded_rows m.params extents)
+
 abbrev pub some_output : Model → ℕ → Option Domain
-some_output m o = option_map (λ (extents : List Affine). record { width = length extents; pieces = extent_rows m.params extents ∷ [] }) (slice_get m.extents o)
+some_output m o = option_and_then (with_extents m) (slice_get m.extents o)
 
 abbrev pub output_domain : Model → ℕ → Option Domain
 output_domain m o = cond (is_output_array m o) (some_output m o) None
@@ -70,6 +86,26 @@ rows_hold (r ∷ rs) p = can_evaluate (form_of r) p && (row_holds r p && rows_ho
 
 abbrev pub is_point : Model → List ℤ → Bool
 is_point m p = nat_eq (length p) m.params && rows_hold m.context p
+
+-- the number of counters of an assignment and, behind it, that of its quotients, of which it has none
+abbrev pub has_shape : ℕ × ℕ → StmtModel → Bool
+has_shape h stmt = nat_eq h.0 (length stmt.loops) && nat_eq h.1 0
+
+-- one shape for each assignment
+abbrev pub have_shapes : List (ℕ × ℕ) → List StmtModel → Bool
+have_shapes [] [] = true
+have_shapes [] (stmt ∷ stmts) = false
+have_shapes (h ∷ hs) [] = false
+have_shapes (h ∷ hs) (stmt ∷ stmts) = has_shape h stmt && have_shapes hs stmts
+
+abbrev pub head_lines : Option Heads → ℕ
+head_lines None = 0
+head_lines (Some h) = 2
+
+-- the shapes of both programs, where the proof states them, on the lines 3 and 4
+abbrev pub heads_fault : Pairing → Option Heads → Fault
+heads_fault g None = None
+heads_fault g (Some h) = first_fault_of (fault_unless (have_shapes h.left g.left.stmts) 3 rule.Coords) (fault_unless (have_shapes h.right g.right.stmts) 4 rule.Coords)
 
 -- the rows of a claim, each on its line, over so many columns
 abbrev pub claim_rows_fault : ℕ → List Row → ℕ → Fault
@@ -183,14 +219,17 @@ trees_fault g cs (t ∷ ts) [] k = Some (k, rule.Tree)
 trees_fault g cs (t ∷ ts) (d ∷ ds) k =
     cond (is_due t d) (first_fault_of (tree_fault_at g cs t d.path k) (trees_fault g cs ts ds (k + (1 + plan_lines t.tree)))) (Some (k, rule.Tree))
 
--- the first fault of a proof: its point on line 2, the number of its claims on line 3, and then the rest
+-- the first fault of a proof: its point on line 2, the shapes of the programs where it states them, a line for the number of
+-- its claims, and then the rest
 abbrev pub proof_fault : Pairing → List ℕ → Proof → Fault
 proof_fault g outputs p =
-    let k = 4 + claim_lines p.claims in
+    let first = 4 + head_lines p.heads in
+    let k = first + claim_lines p.claims in
     first_fault_of (fault_unless (is_point g.left p.point) 2 rule.Point)
-    (first_fault_of (claims_fault g p.claims 4)
+    (first_fault_of (heads_fault g p.heads)
+    (first_fault_of (claims_fault g p.claims first)
     (first_fault_of (outputs_fault g outputs p.claims p.outputs k)
-    (trees_fault g p.claims p.trees.items (due_from g 0 p.claims) (k + length p.outputs))))
+    (trees_fault g p.claims p.trees.items (due_from g 0 p.claims) (k + length p.outputs)))))
 
 -- a proof in which no line fails
 abbrev pub IsValidProof : Pairing → List ℕ → Proof → Type 0

@@ -1,8 +1,9 @@
-use ac_cert::Choice;
 use ac_cert::types::Step;
+use ac_cert::{Choice, Rule};
 use ac_forms::{Form, Row};
 use ac_items::Items;
 use ac_syntax::tree::{Order, Position};
+use std::alloc::AllocError;
 
 /// A statement that two positions have equal values wherever some rows hold, over the parameters, the coordinates of the
 /// left position and those of the right one.
@@ -76,15 +77,47 @@ pub struct ClaimTree {
     pub tree: Plan,
 }
 
+/// For which shapes of programs a proof was made: for each assignment of the left and of the right program its number of
+/// counters and of quotients.
+#[derive(Debug, Drop)]
+pub struct Heads {
+    /// Those of the left program.
+    pub left: Items<(u64, u64)>,
+    /// Those of the right program.
+    pub right: Items<(u64, u64)>,
+}
+
 /// A proof that outputs are the same.
 #[derive(Drop)]
 pub struct Proof {
     /// A valuation of the context.
     pub point: Items<i128>,
+    /// The shapes of the programs, where the proof states them.
+    pub heads: Option<Heads>,
     /// The claims.
     pub claims: Items<Claim>,
     /// The outputs that are the same, each with the claim that says so.
     pub outputs: Items<(usize, usize)>,
     /// A plan for each claim and each pair of pieces.
     pub trees: Vec<ClaimTree>,
+}
+
+/// Why a proof was not accepted.
+#[derive(Debug, Drop)]
+pub enum ProofFault {
+    /// The first line that fails, and its rule.
+    Refused { line: u64, rule: Rule },
+    /// There was no memory.
+    Memory(AllocError),
+}
+
+impl From<AllocError> for ProofFault {
+    ghost use Rattle.std.specs.Prelude.{◌≡◌};
+    ghost use Rattle.ac_claims.specs.declared.types.ProofFault.TheVariants.{Memory};
+
+    ghost from_gives = { λ want e. e ≡ Memory want };
+
+    fn from(want: AllocError) -> ProofFault {
+        ProofFault::Memory(want)
+    }
 }

@@ -1,10 +1,19 @@
 -- What the loops over the arguments of two calls keep.
-use Rattle.std.proofs.Common.{◌≡◌, ℕ, zero, suc, ◌+◌, ◌<◌, ◌≤◌, List, [], ◌∷◌, ◌++◌, map, drop, length, get_or, Option, Some, None, refl, sym, ap, ◌∙◌, arith, append_assoc, append-nil}
+use Rattle.std.proofs.Common.{◌≡◌, ℕ, zero, suc, ◌+◌, ◌<◌, ◌≤◌, List, [], ◌∷◌, ◌++◌, map, drop, length, get_or, Option, Some, None, true, refl, sym, ap, ◌∙◌, arith, append_assoc, append-nil}
 use Rattle.std.specs.Prelude.{option_map}
-use Rattle.std.proofs.lemmas.List.{drop_all}
+use Rattle.std.proofs.lemmas.List.{drop_all, map-append}
 use Rattle.ac_cert.proofs.Parts.{drop-at}
 use Rattle.ac_syntax.specs.declared.tree.Position.TheVariants.{Node}
-use Rattle.ac_paths.specs.Going.{argument_path, kept, swapped}
+use Rattle.ac_forms.specs.declared.conj.Conj.{Conj}
+use Rattle.ac_forms.specs.declared.row.Row.{Row}
+use Rattle.ac_syntax.specs.declared.tree.Position.{Position}
+use Rattle.ac_paths.specs.Branching.{onto}
+use Rattle.ac_paths.specs.Going.{argument_path, extended, gone_to, initial_path, kept, seat_of, swapped}
+use Rattle.ac_paths.specs.Places.{initial_of}
+use Rattle.ac_paths.specs.declared.path.Assumed.{Assumed}
+use Rattle.ac_paths.specs.declared.path.Branch.{Branch}
+use Rattle.ac_paths.specs.declared.path.Seat.{Seat}
+use Rattle.ac_paths.specs.declared.path.Side.{Side}
 use Rattle.ac_paths.specs.declared.path.Path.{Path}
 
 -- the paths so far, and the arguments that are left
@@ -37,6 +46,9 @@ argument_next h s t ks ls k out new x at lk same ex en =
     ∙ more_kept out (argument_path h (Node s a) (Node t b)) (kept h (map (Node s) (drop (k + 1) ks)) (map (Node t) (drop (k + 1) ls)))
     ∙ (λ i. option_map (λ rest. (out ++ sym ex i ∷ []) ++ rest) (kept h (map (Node s) (drop (k + 1) ks)) (map (Node t) (drop (k + 1) ls))))
     ∙ (λ i. option_map (λ rest. sym en i ++ rest) (kept h (map (Node s) (drop (k + 1) ks)) (map (Node t) (drop (k + 1) ls))))
+
+pub onto_push : (h : Path) (out new : List Branch) (b : Branch) → new ≡ out ++ b ∷ [] → map (onto h) new ≡ map (onto h) out ++ onto h b ∷ []
+onto_push h out new b e = ap (map (onto h)) e ∙ map-append (onto h) out (b ∷ [])
 
 pub argument_end : (h : Path) (s t : ℕ) (ks ls : List ℕ) (k : ℕ) (out : List Path) → AtArgument h s t ks ls k out → length ks ≤ k → length ks ≡ length ls → Some out ≡ kept h (map (Node s) ks) (map (Node t) ls)
 argument_end h s t ks ls k out at lk same =
@@ -78,3 +90,22 @@ not_two_right h s t (k ∷ k' ∷ []) (l ∷ l' ∷ []) n = absurd (n refl)
 not_two_right h s t (k ∷ k' ∷ []) (l ∷ l' ∷ l'' ∷ ls) n = refl
 
 pub ruleset swapped_steps = (two_swapped, not_two_left, not_two_right)
+
+-- nothing is added to the rows of a path by a step of two calls
+pub extended_none : (c : Conj) → extended c 0 [] ≡ c
+extended_none c = let e : c.columns + 0 ≡ c.columns = omega arith in λ i. record { columns = e i; rows = append-nil c.rows i }
+
+pub argument_added : (h : Path) (P Q : Position) (rows : List Row) → rows ≡ [] → record { conj = extended h.conj 0 rows; left = record { position = P; first = h.left.first; width = h.left.width }; right = record { position = Q; first = h.right.first; width = h.right.width }; gone = true; last = None } ≡ argument_path h P Q
+argument_added h P Q rows e =
+    ap (λ (c : Conj). record { conj = c; left = record { position = P; first = h.left.first; width = h.left.width }; right = record { position = Q; first = h.right.first; width = h.right.width }; gone = true; last = None }) (ap (extended h.conj 0) e ∙ extended_none h.conj)
+
+pub ruleset argument_steps = argument_added
+
+-- nor by that to the initial contents
+pub initial_made : (h : Path) (side : Side) (reader : Seat) (position : Position) (rows : List Row) (b : Path) → reader ≡ seat_of h side → position ≡ initial_of reader.position → rows ≡ []
+    → b ≡ gone_to h side (extended h.conj 0 rows) (record { position = position; first = reader.first; width = reader.width }) (Some (record { side = side; reader = reader; source = None })) → b ≡ initial_path h side
+initial_made h side reader position rows b r p e n =
+    let seat : Position → Seat = λ q. record { position = q; first = reader.first; width = reader.width } in
+    let last : Option Assumed = Some (record { side = side; reader = reader; source = None }) in
+    let by_reader : Seat → Path = λ x. gone_to h side h.conj (record { position = initial_of x.position; first = x.first; width = x.width }) (Some (record { side = side; reader = x; source = None })) in
+    n ∙ ap (λ (c : Conj). gone_to h side c (seat position) last) (ap (extended h.conj 0) e ∙ extended_none h.conj) ∙ ap (λ q. gone_to h side h.conj (seat q) last) p ∙ ap by_reader r

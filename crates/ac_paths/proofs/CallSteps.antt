@@ -30,7 +30,8 @@ use Rattle.ac_forms.proofs.Joining.{both_of}
 use Rattle.ac_forms.specs.Renaming.{picked}
 use Rattle.ac_paths.specs.Columns.{columns_of}
 use Rattle.ac_paths.specs.Executions.{Execution, InstanceAt, At, Describes}
-use Rattle.ac_paths.specs.Going.{argument_path, kept, swapped, same_symbol, call_branches}
+use Rattle.ac_paths.specs.Formed.{IsFormed}
+use Rattle.ac_paths.specs.Going.{Pairing, argument_path, kept, swapped, same_symbol, call_branches}
 use Rattle.ac_paths.specs.Places.{CallAt, call_of, call_at, node_at}
 use Rattle.ac_paths.specs.declared.path.Path.{Path}
 use Rattle.ac_paths.proofs.OnPaths.{Compared, InPath, OnPath}
@@ -215,33 +216,36 @@ calls_step g Swap h c d hs ec ed e p s t a =
     }
 
 -- and each branch is a path whose columns are there
-argument_in : (g : Compared) (h : Path) (P Q : Position) → InPath g h → InPath g (argument_path h P Q)
-argument_in g h P Q i = record { made = i.made; base_in = i.base_in; left_in = i.left_in; right_in = i.right_in; last_in = tt }
+argument_in : (params : ℕ) (h : Path) (P Q : Position) → IsFormed params h → IsFormed params (argument_path h P Q)
+argument_in params h P Q i = record { made = i.made; base_in = i.base_in; left_in = i.left_in; right_in = i.right_in; last_in = tt }
 
-kept_in : (g : Compared) (h : Path) → InPath g h → (Ps Qs : List Position) (hs : List Path) → kept h Ps Qs ≡ Some hs → (k : Path) → In k hs → InPath g k
-kept_in g h i [] [] hs e k n = let j : [] ≡ hs = cc in absurd (subst (In k) (sym j) n)
-kept_in g h i [] (Q ∷ Qs) hs e k n = absurd cc
-kept_in g h i (P ∷ Ps) [] hs e k n = absurd cc
-kept_in g h i (P ∷ Ps) (Q ∷ Qs) hs e k n =
+kept_in : (params : ℕ) (h : Path) → IsFormed params h → (Ps Qs : List Position) (hs : List Path) → kept h Ps Qs ≡ Some hs → (k : Path) → In k hs → IsFormed params k
+kept_in params h i [] [] hs e k n = let j : [] ≡ hs = cc in absurd (subst (In k) (sym j) n)
+kept_in params h i [] (Q ∷ Qs) hs e k n = absurd cc
+kept_in params h i (P ∷ Ps) [] hs e k n = absurd cc
+kept_in params h i (P ∷ Ps) (Q ∷ Qs) hs e k n =
     let b = map-some (kept h Ps Qs) (λ rest. argument_path h P Q ∷ rest) hs e in
-    elim (subst (In k) b.2 n) as (λ x. InPath g k) [ inl j ↦ subst (λ (y : Path). InPath g y) (sym j) (argument_in g h P Q i) | inr j ↦ kept_in g h i Ps Qs b.0 b.1 k j ]
+    elim (subst (In k) b.2 n) as (λ x. IsFormed params k) [ inl j ↦ subst (λ (y : Path). IsFormed params y) (sym j) (argument_in params h P Q i) | inr j ↦ kept_in params h i Ps Qs b.0 b.1 k j ]
 
-swapped_in : (g : Compared) (h : Path) → InPath g h → (Ps Qs : List Position) (hs : List Path) → swapped h Ps Qs ≡ Some hs → (k : Path) → In k hs → InPath g k
-swapped_in g h i (P ∷ P' ∷ []) (Q ∷ Q' ∷ []) hs e k n =
+swapped_in : (params : ℕ) (h : Path) → IsFormed params h → (Ps Qs : List Position) (hs : List Path) → swapped h Ps Qs ≡ Some hs → (k : Path) → In k hs → IsFormed params k
+swapped_in params h i (P ∷ P' ∷ []) (Q ∷ Q' ∷ []) hs e k n =
     let is : hs ≡ argument_path h P Q' ∷ argument_path h P' Q ∷ [] = cc in
     by (subst (In k) is n)
   where
-    by : In k (argument_path h P Q' ∷ argument_path h P' Q ∷ []) → InPath g k
-    by (inl j) = subst (λ (y : Path). InPath g y) (sym j) (argument_in g h P Q' i)
-    by (inr (inl j)) = subst (λ (y : Path). InPath g y) (sym j) (argument_in g h P' Q i)
+    by : In k (argument_path h P Q' ∷ argument_path h P' Q ∷ []) → IsFormed params k
+    by (inl j) = subst (λ (y : Path). IsFormed params y) (sym j) (argument_in params h P Q' i)
+    by (inr (inl j)) = subst (λ (y : Path). IsFormed params y) (sym j) (argument_in params h P' Q i)
     by (inr (inr j)) = absurd j
-swapped_in g h i [] Qs hs e k n = absurd cc
-swapped_in g h i (P ∷ []) Qs hs e k n = absurd cc
-swapped_in g h i (P ∷ P' ∷ P'' ∷ Ps) Qs hs e k n = absurd cc
-swapped_in g h i (P ∷ P' ∷ []) [] hs e k n = absurd cc
-swapped_in g h i (P ∷ P' ∷ []) (Q ∷ []) hs e k n = absurd cc
-swapped_in g h i (P ∷ P' ∷ []) (Q ∷ Q' ∷ Q'' ∷ Qs) hs e k n = absurd cc
+swapped_in params h i [] Qs hs e k n = absurd cc
+swapped_in params h i (P ∷ []) Qs hs e k n = absurd cc
+swapped_in params h i (P ∷ P' ∷ P'' ∷ Ps) Qs hs e k n = absurd cc
+swapped_in params h i (P ∷ P' ∷ []) [] hs e k n = absurd cc
+swapped_in params h i (P ∷ P' ∷ []) (Q ∷ []) hs e k n = absurd cc
+swapped_in params h i (P ∷ P' ∷ []) (Q ∷ Q' ∷ Q'' ∷ Qs) hs e k n = absurd cc
+
+pub calls_formed : (g : Pairing) (order : Order) (h : Path) (c d : CallAt) (hs : List Path) → IsFormed g.params h → call_branches g order h c d ≡ Some hs → (k : Path) → In k hs → IsFormed g.params k
+calls_formed g Keep h c d hs i e = kept_in g.params h i c.args d.args hs (if-some (same_symbol c.symbol d.symbol) (kept h c.args d.args) hs e).1
+calls_formed g Swap h c d hs i e = swapped_in g.params h i c.args d.args hs (if-some (same_symbol c.symbol d.symbol && g.swaps c.symbol) (swapped h c.args d.args) hs e).1
 
 pub calls_in : (g : Compared) (order : Order) (h : Path) (c d : CallAt) (hs : List Path) → InPath g h → call_branches g.pairing order h c d ≡ Some hs → (k : Path) → In k hs → InPath g k
-calls_in g Keep h c d hs i e = kept_in g h i c.args d.args hs (if-some (same_symbol c.symbol d.symbol) (kept h c.args d.args) hs e).1
-calls_in g Swap h c d hs i e = swapped_in g h i c.args d.args hs (if-some (same_symbol c.symbol d.symbol && g.pairing.swaps c.symbol) (swapped h c.args d.args) hs e).1
+calls_in g = calls_formed g.pairing

@@ -25,6 +25,7 @@ use Rattle.ac_poly.proofs.Whole.{has_instances, has_cells, has_nodes, has_order,
 use Rattle.ac_cert.proofs.Keeping.{some-is}
 use Rattle.ac_poly.specs.Pieces.{Somewhere}
 use Rattle.ac_paths.specs.Coordinates.{width, coordinates, levels_before}
+use Rattle.ac_paths.specs.StepLaws.{ModelsHaveModuli}
 use Rattle.ac_paths.specs.Executions.{ModelsDescribe}
 use Rattle.ac_paths.specs.Places.{extent_rows}
 use Rattle.ac_paths.proofs.Moving.{column-value}
@@ -113,4 +114,13 @@ models_describe p context params r f l =
           };
       pieces_moduli = λ number stmt k rows is at. moduli_of (m.params + width stmt) rows (piece_over (m.params + width stmt) stmt.pieces (cols.stmts number stmt is).pieces k rows at);
       levels_moduli = levels_moduli m.params;
+    }
+
+pub models_have_moduli : ModelsHaveModuli
+models_have_moduli p context r f =
+    let m = model_of p context in
+    let cols = has_columns p context r f in
+    record {
+      pieces = λ number stmt k rows is at. moduli_of (m.params + width stmt) rows (piece_over (m.params + width stmt) stmt.pieces (cols.stmts number stmt is).pieces k rows at);
+      levels = levels_moduli m.params;
     }

@@ -1,6 +1,5 @@
 -- What the code of copies rests on.
-use Rattle.std.proofs.Common.{◌≡◌, ℕ, zero, suc, ◌+◌, ◌<◌, ◌≤◌, ◌++◌, List, [], ◌∷◌, length, Bool, true, false, Option, Some, None, Result, Ok, Err, IfOk, refl, sym, ap, ◌∙◌, subst, arith}
-use Rattle.std.specs.Prelude.{slice_get, option_and_then, cond}
+use Rattle.std.proofs.Common.{◌≡◌, true, false, Some, None, refl}
 use Rattle.ac_forms.specs.declared.conj.Conj.{Conj}
 use Rattle.ac_cert.specs.ChoiceFits.{after_choice}
 use Rattle.ac_cert.specs.Choices.{is_legal}

@@ -42,6 +42,7 @@ use Rattle.ac_paths.specs.declared.path.Seat.{Seat}
 use Rattle.ac_paths.specs.declared.path.Side.{Side}
 use Rattle.ac_paths.proofs.Moving.{pick-append, rows-value, rows-within, equal-values, appended-parts, meets-parts, made-both}
 use Rattle.ac_forms.proofs.Standings.{all-hold}
+use Rattle.ac_paths.proofs.LevelModuli.{levels_moduli}
 use Rattle.ac_paths.proofs.Moduli.{rows_moduli}
 use Rattle.ac_paths.proofs.OnPaths.{moduli_in, Compared, execution_of, describes_of, SeatIn, SourceAt, LastAt, SourceIn, InPath, OnPath, range_in, in-append, seat_columns, base_columns, pick_more, pick_new}
 use Rattle.ac_paths.proofs.Heres.{cell_with, read_cell}
@@ -68,13 +69,13 @@ column_by z (choice.Shadow y) = refl
 column_by z (choice.Splinter y i k) = refl
 
 -- the parts of a choice that stands
-record ChosenAs (n : ℕ) (c d : Conj) : Type 0 where
+pub record ChosenAs (n : ℕ) (c d : Conj) : Type 0 where
   pub named : Choice
   pub legal : is_legal named c ≡ true
   pub after : after_choice named c ≡ Some d
   pub new : n ≤ column_of named
 
-chosen_as : (columns n : ℕ) (x : Choice) (c d : Conj) → chosen columns n x c ≡ Some d → ChosenAs n c d
+pub chosen_as : (columns n : ℕ) (x : Choice) (c d : Conj) → chosen columns n x c ≡ Some d → ChosenAs n c d
 chosen_as columns n x c d e =
     let y = by_column (n + (column_of x - columns)) x in
     let i = if-some (nat_le columns (column_of x)) (taken_legally y c) d e in
@@ -82,7 +83,7 @@ chosen_as columns n x c d e =
     let z = column_by (n + (column_of x - columns)) x in
     record { named = y; legal = b.0; after = b.1; new = omega (arith, z) }
 
-chosen_made : (n : ℕ) (c d : Conj) → ChosenAs n c d → IsWellMade c → IsWellMade d
+pub chosen_made : (n : ℕ) (c d : Conj) → ChosenAs n c d → IsWellMade c → IsWellMade d
 chosen_made n c d x w = subst (λ (y : Conj). IsWellMade y) (after_is x.named c d x.after) (conj_made (raw x.named c) (raw_made x.named c x.legal w))
 
 all_made : (columns n : ℕ) (xs : List Choice) (c left : Conj) → all_chosen columns n xs c ≡ Some left → IsWellMade c → IsWellMade left
@@ -150,21 +151,21 @@ after_says g side (Some seat) (Some level) u copy stmt rows q b e h =
     let l = bind-some (slice_get (levels_before g.pairing.params (assignment_at seat) f.0 u stmt) level) (λ rows. rows_renaming (base g.pairing.params ++ (columns_of seat ++ columns_of copy)) rows) rows f.2 in
     (f.0, level, l.0, f.1, l.1, subst (Meets l.0) (picks_two g.pairing.params g.params seat copy q _ _ b refl refl) ((rows-value (base g.pairing.params ++ (columns_of seat ++ columns_of copy)) l.0 rows q l.2).0 h))
 
-after_made : (g : Pairing) (m : Model) → HasModuli m → g.params ≡ m.params → (o : Option Seat) (after : Option ℕ) (u : ℕ) (copy : Seat) (stmt : StmtModel) (rows : List Row) (n : ℕ) → g.params ≤ n → SourceIn o n → SeatIn copy n
+after_made : (g : Pairing) (m : Model) (o : Option Seat) (after : Option ℕ) (u : ℕ) (copy : Seat) (stmt : StmtModel) (rows : List Row) (n : ℕ) → g.params ≤ n → SourceIn o n → SeatIn copy n
     → after_rows g m o after u copy stmt ≡ Some rows → AreRowsOver n rows
-after_made g m hm ev None None u copy stmt rows n b s c e = let i : [] ≡ rows = some-is [] rows e in rw (← i) tt
-after_made g m hm ev None (Some level) u copy stmt rows n b s c e = absurd cc
-after_made g m hm ev (Some seat) None u copy stmt rows n b s c e = absurd cc
-after_made g m hm ev (Some seat) (Some level) u copy stmt rows n b s c e =
+after_made g m None None u copy stmt rows n b s c e = let i : [] ≡ rows = some-is [] rows e in rw (← i) tt
+after_made g m None (Some level) u copy stmt rows n b s c e = absurd cc
+after_made g m (Some seat) None u copy stmt rows n b s c e = absurd cc
+after_made g m (Some seat) (Some level) u copy stmt rows n b s c e =
     let f = bind-some (slice_get m.stmts (assignment_at seat))
     (λ (from : StmtModel). option_and_then (λ rows. rows_renaming (base g.params ++ (columns_of seat ++ columns_of copy)) rows) (slice_get (levels_before g.params (assignment_at seat) from u stmt) level)) rows e in
     let l = bind-some (slice_get (levels_before g.params (assignment_at seat) f.0 u stmt) level) (λ rows. rows_renaming (base g.params ++ (columns_of seat ++ columns_of copy)) rows) rows f.2 in
-    let hl = hm.levels (assignment_at seat) f.0 u stmt level l.0 (ap (λ k. slice_get (levels_before k (assignment_at seat) f.0 u stmt) level) (sym ev) ∙ l.1) in
+    let hl = levels_moduli g.params (assignment_at seat) f.0 u stmt level l.0 l.1 in
     rows-within (base g.params ++ (columns_of seat ++ columns_of copy)) l.0 rows n
     (in-append (base g.params) (columns_of seat ++ columns_of copy) n (base_columns g.params n b) (in-append (columns_of seat) (columns_of copy) n (seat_columns seat n s) (seat_columns copy n c))) hl l.2
 
 -- the parts of a copy's rows
-record CopyRows (g : Pairing) (a : Assumed) (n : ℕ) (u piece : ℕ) (after : Option ℕ) (before : ℕ) (stmt : StmtModel) (rows : List Row) : Type 0 where
+pub record CopyRows (g : Pairing) (a : Assumed) (n : ℕ) (u piece : ℕ) (after : Option ℕ) (before : ℕ) (stmt : StmtModel) (rows : List Row) : Type 0 where
   pub cell : CellForms
   pub read : cell_read (model_of g a.side) a.reader.position ≡ Some cell
   pub array : stmt.array ≡ cell.array
@@ -178,7 +179,7 @@ record CopyRows (g : Pairing) (a : Assumed) (n : ℕ) (u piece : ℕ) (after : O
   pub later : after_rows g (model_of g a.side) a.source after u (root n u stmt) stmt ≡ Some second
   pub are : rows ≡ first ++ second
 
-copy_parts : (g : Pairing) (a : Assumed) (n u piece : ℕ) (after : Option ℕ) (before : ℕ) (stmt : StmtModel) (rows : List Row) → copy_rows g a n u piece after before stmt ≡ Some rows → CopyRows g a n u piece after before stmt rows
+pub copy_parts : (g : Pairing) (a : Assumed) (n u piece : ℕ) (after : Option ℕ) (before : ℕ) (stmt : StmtModel) (rows : List Row) → copy_rows g a n u piece after before stmt ≡ Some rows → CopyRows g a n u piece after before stmt rows
 copy_parts g a n u piece after before stmt rows e =
     let m = model_of g a.side in
     let copy = root n u stmt in
@@ -194,9 +195,9 @@ copy_parts g a n u piece after before stmt rows e =
     record { cell = cell; read = cl.1; array = eqb-true stmt.array cell.array ar.0; rows_of = pc.0; piece_is = pc.1; level = lv.0; level_is = lv.1; first = pa.0; case = pa.2; second = pa.1; later = pa.3; are = pa.4 }
 
 -- they are well made over the columns before the copy's and its own
-copy_over : (g : Pairing) (a : Assumed) (n u piece : ℕ) (after : Option ℕ) (before : ℕ) (stmt : StmtModel) (rows : List Row) → HasModuli (model_of g a.side) → g.params ≡ (model_of g a.side).params → slice_get (model_of g a.side).stmts u ≡ Some stmt
+pub copy_over : (g : Pairing) (a : Assumed) (n u piece : ℕ) (after : Option ℕ) (before : ℕ) (stmt : StmtModel) (rows : List Row) → HasModuli (model_of g a.side) → slice_get (model_of g a.side).stmts u ≡ Some stmt
     → g.params ≤ n + width stmt → SeatIn a.reader (n + width stmt) → SourceIn a.source (n + width stmt) → CopyRows g a n u piece after before stmt rows → AreRowsOver (n + width stmt) rows
-copy_over g a n u piece after before stmt rows hm ev is b ri si c =
+copy_over g a n u piece after before stmt rows hm is b ri si c =
     let m = model_of g a.side in
     let copy = root n u stmt in
     let cols = n + width stmt in
@@ -205,7 +206,7 @@ copy_over g a n u piece after before stmt rows hm ev is b ri si c =
     let hp = hm.pieces u stmt piece c.rows_of is c.piece_is in
     let hl = level_moduli m hm u stmt a.reader.position before c.level c.level_is in
     let made1 = case_made g.params a.reader c.cell copy stmt c.rows_of c.level c.first cols b ri ci hp hl parts in
-    let made2 = after_made g m hm ev a.source after u copy stmt c.second cols b si ci c.later in
+    let made2 = after_made g m a.source after u copy stmt c.second cols b si ci c.later in
     subst (λ (z : List Row). AreRowsOver cols z) (sym c.are) (made-both cols c.first c.second made1 made2)
 
 -- a block of columns
@@ -221,7 +222,7 @@ block : (b x r : List ℤ) (k w : ℕ) → length b ≡ k → length x ≡ w →
 block b x r k w lb lx = pick_more (range_with_len k w) (b ++ x) r (k + w) (length-append b x ∙ (λ i. lb i + lx i)) (range_in k w (k + w) (omega arith)) ∙ pick_new b x k w lb lx
 
 -- the assumed source over a case's own columns
-source_in_own : (k : ℕ) (o : Option Seat) (m : ℕ) → k + source_width o ≤ m → SourceIn (source_from k o) m
+pub source_in_own : (k : ℕ) (o : Option Seat) (m : ℕ) → k + source_width o ≤ m → SourceIn (source_from k o) m
 source_in_own k None m h = tt
 source_in_own k (Some seat) m h = h
 
@@ -282,7 +283,7 @@ killed_empty g h a u piece after before xs c left i il ec el ek p s t o =
     let last : LastAt g (Some a) p = subst (λ (y : Option Assumed). LastAt g y p) il o.last in
     let r = last.0 in
     let parts = case_parts ps own.reader cc'.cell copy stmt cc'.rows_of cc'.level cc'.first cc'.case in
-    let made = copy_over g.pairing own n u piece after before stmt ro.0 (moduli_in g a.side) (g.count ∙ sym d.count) st.1 (omega arith) (omega arith) (source_in_own (ps + a.reader.width) a.source cols (omega arith)) cc' in
+    let made = copy_over g.pairing own n u piece after before stmt ro.0 (moduli_in g a.side) st.1 (omega arith) (omega arith) (source_in_own (ps + a.reader.width) a.source cols (omega arith)) cc' in
     let raw_conj : Conj = record { columns = cols; rows = ro.0 } in
     let conj_is : normal_conj raw_conj ≡ c = some-is (normal_conj raw_conj) c fit.1 in
     let wc : IsWellMade c = subst (λ (y : Conj). IsWellMade y) conj_is (conj_made raw_conj made) in

@@ -16,3 +16,5 @@ pub mod AddSteps
 pub mod StmtSteps
 pub mod CallLoops
 pub mod KillSteps
+pub mod CopySteps
+pub mod Forming

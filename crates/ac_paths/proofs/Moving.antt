@@ -1,15 +1,13 @@
 -- The values of forms and rows among the columns of a path.
-use Rattle.std.proofs.Common.{◌≡◌, ℕ, zero, suc, ◌+◌, ◌-◌, ◌<◌, ◌≤◌, ℤ, pos, negsuc, ◌+ℤ◌, ◌-ℤ◌, ◌*ℤ◌, List, [], ◌∷◌, ◌++◌, map, length, replicate, get_or, Option, Some, refl, sym, ap, ◌∙◌, subst, arith, length-append}
+use Rattle.std.proofs.Common.{◌≡◌, ℕ, zero, suc, ◌+◌, ◌-◌, ◌≤◌, ℤ, pos, negsuc, ◌-ℤ◌, List, [], ◌∷◌, ◌++◌, length, replicate, get_or, Option, Some, refl, subst, arith}
 use Rattle.std.specs.Prelude.{option_and_then, option_map, ◌↔◌}
-use Rattle.std.specs.List.{AllByRecursion}
 use Rattle.std.proofs.lemmas.Int.{ints}
 use Rattle.std.proofs.lemmas.List.{map-append}
 use Rattle.ac_integers.specs.Dot.{dot}
-use Rattle.ac_integers.proofs.Dot.{dot-nil}
 use Rattle.ac_forms.specs.Affine.{Affine, value_at, column_form}
-use Rattle.ac_forms.specs.Rows.{Holds, Meets, HasModulus, HaveModuli, IsRowOver, AreRowsOver}
+use Rattle.ac_forms.specs.Rows.{Meets, HaveModuli, AreRowsOver}
 use Rattle.ac_forms.specs.declared.row.Row.{Row}
-use Rattle.ac_forms.specs.declared.row.Row.TheVariants.{Eq, Div, Ge}
+use Rattle.ac_forms.specs.declared.row.Row.TheVariants.{Eq}
 use Rattle.ac_poly.specs.Laws.{values_at}
 use Rattle.ac_cert.specs.Rules.{combination}
 use Rattle.ac_cert.proofs.Keeping.{bind-some, map-some, some-is, if-some, combination-value, combination-within}

@@ -98,14 +98,17 @@ pub starts_more : (params : ℕ) (given p q : List ℤ) (n : ℕ) → length p �
 starts_more params given p q n l i h = pick_more (base params) p q n l (base_columns params n i) ∙ h
 
 -- a path with further rows, over as many columns or more
-pub in_more : (g : Compared) (h : Path) (d : Conj) → InPath g h → IsWellMade d → h.conj.columns ≤ d.columns → InPath g (at_rows h d)
-in_more g h d a made l = record {
+pub formed_more : (params : ℕ) (h : Path) (d : Conj) → IsFormed params h → IsWellMade d → h.conj.columns ≤ d.columns → IsFormed params (at_rows h d)
+formed_more params h d a made l = record {
   made = made;
   base_in = (let i = a.base_in in omega (arith, l, i));
   left_in = (let i = a.left_in in omega (arith, l, i));
   right_in = (let i = a.right_in in omega (arith, l, i));
   last_in = last_in_more h.last h.conj.columns d.columns l a.last_in;
 }
+
+pub in_more : (g : Compared) (h : Path) (d : Conj) → InPath g h → IsWellMade d → h.conj.columns ≤ d.columns → InPath g (at_rows h d)
+in_more g = formed_more g.pairing.params
 
 pub on_more : (g : Compared) (h : Path) (d : Conj) (p q : List ℤ) (s t : Spot) → InPath g h → OnPath g h p s t → Extends p q → IsPoint d q → OnPath g (at_rows h d) q s t
 on_more g h d p q s t a b e at =

@@ -1,18 +1,15 @@
 -- The branches of a path are exactly the steps of its pairs.
-use Rattle.std.proofs.Common.{◌≡◌, ℕ, zero, suc, ◌+◌, ◌<◌, ◌≤◌, ◌&&◌, ◌⊎◌, inl, inr, ℤ, List, [], ◌∷◌, ◌++◌, map, length, Bool, true, false, cond, Option, Some, None, refl, sym, ap, ◌∙◌, subst, arith, append-nil}
+use Rattle.std.proofs.Common.{◌≡◌, ℕ, zero, suc, ◌+◌, ◌&&◌, ◌⊎◌, inl, inr, ℤ, List, [], ◌∷◌, ◌++◌, map, length, Option, Some, None, refl, sym, ap, ◌∙◌, subst, arith, append-nil}
 use Rattle.std.specs.Prelude.{slice_get, option_map, option_and_then}
-use Rattle.std.specs.List.{flat_map}
 use Rattle.ac_syntax.specs.Algebra.{Cell}
 use Rattle.ac_syntax.specs.Index.{Point}
 use Rattle.ac_syntax.specs.Nodes.{node_of}
 use Rattle.ac_syntax.specs.Source.{Writer, source}
-use Rattle.ac_syntax.specs.Spot.{Spot, AtEnd, AtNode, AtStart, Reads, an_output, an_access, cell_at, resolved}
+use Rattle.ac_syntax.specs.Spot.{Spot, AtNode, AtStart, Reads, an_output, an_access, cell_at, resolved}
 use Rattle.ac_syntax.specs.Trace.{Entry}
 use Rattle.ac_syntax.specs.Where.{element}
-use Rattle.ac_syntax.specs.declared.tree.IndexExpr.{IndexExpr}
 use Rattle.ac_syntax.specs.declared.tree.Order.{Order}
 use Rattle.ac_syntax.specs.declared.tree.Order.TheVariants.{Keep, Swap}
-use Rattle.ac_syntax.specs.declared.tree.Place.{Place}
 use Rattle.ac_syntax.specs.declared.tree.Position.{Position}
 use Rattle.ac_syntax.specs.declared.tree.Position.TheVariants.{Output, Node, InitialOutput, InitialNode}
 use Rattle.ac_syntax.specs.declared.tree.Symbol.{Symbol}
@@ -21,7 +18,6 @@ use Rattle.ac_syntax.specs.declared.tree.Value.TheVariants.{Number, Access, Call
 use Rattle.ac_forms.specs.Affine.{Affine}
 use Rattle.ac_forms.specs.Renaming.{picked}
 use Rattle.ac_forms.specs.declared.conj.Conj.{Conj}
-use Rattle.ac_forms.specs.declared.row.Row.{Row}
 use Rattle.ac_forms.proofs.Joining.{both_of}
 use Rattle.ac_poly.specs.Laws.{Shows}
 use Rattle.ac_poly.specs.Nodes.{roots}
@@ -35,8 +31,8 @@ use Rattle.ac_paths.specs.Columns.{base, columns_of}
 use Rattle.ac_paths.specs.Coordinates.{width}
 use Rattle.ac_paths.specs.Executions.{Execution, InstanceAt, At, Describes}
 use Rattle.ac_paths.specs.Killing.{assignment_of, assignment_at}
-use Rattle.ac_paths.specs.Going.{Pairing, model_of, seat_of, gone_to, root, extended, case_rows, case_path, cases_from, read_branches, initial_path, argument_path, kept, swapped, same_symbol, call_branches, branches, branches_by, branches_of_calls, by_keep}
-use Rattle.ac_paths.specs.Pairs.{Placed, IsAt, IsReader, IsResolved, ResolvesTo, IsCallOf, CallPlace, ArgumentPlace, ArgumentsMeet, LeftStep, RightStep, CallStep, StepsTo, StandsOn, In, StandsBehind}
+use Rattle.ac_paths.specs.Going.{Pairing, model_of, seat_of, gone_to, root, extended, case_rows, cases_from, read_branches, initial_path, argument_path, kept, swapped, same_symbol, call_branches, branches, branches_by, branches_of_calls, by_keep}
+use Rattle.ac_paths.specs.Pairs.{Placed, IsAt, IsReader, IsResolved, ResolvesTo, IsCallOf, CallPlace, ArgumentPlace, ArgumentsMeet, CallStep, StepsTo, StandsOn, In, StandsBehind}
 use Rattle.ac_paths.specs.StepLaws.{compared, BranchesAreSteps}
 use Rattle.ac_paths.specs.Places.{CallAt, cell_read, call_at, call_of, node_at, initial_of, read_of, element_forms}
 use Rattle.ac_paths.specs.declared.path.Assumed.{Assumed}
@@ -45,10 +41,10 @@ use Rattle.ac_paths.specs.declared.path.Seat.{Seat}
 use Rattle.ac_paths.specs.declared.path.Side.{Side}
 use Rattle.ac_paths.specs.declared.path.Side.TheVariants.{Left, Right}
 use Rattle.ac_paths.specs.declared.places.CellForms.{CellForms}
-use Rattle.ac_paths.proofs.OnPaths.{Compared, execution_of, describes_of, AtSeat, ReaderAt, SourceAt, LastAt, SeatIn, InPath, OnPath, at_more, pick_more, seat_columns}
+use Rattle.ac_paths.proofs.OnPaths.{Compared, execution_of, describes_of, AtSeat, ReaderAt, LastAt, SeatIn, InPath, OnPath, at_more, pick_more, seat_columns}
 use Rattle.ac_paths.proofs.Heres.{node_model, reading, same_read}
 use Rattle.ac_paths.proofs.ReadSteps.{at_root, source_case, initial_among, on_left, on_right}
-use Rattle.ac_paths.proofs.InBranches.{all_among, in_either, CaseOf, case_of}
+use Rattle.ac_paths.proofs.InBranches.{all_among, in_either, case_of}
 use Rattle.ac_paths.proofs.CallSteps.{symbol_is}
 
 -- a position names one spot at its coordinates

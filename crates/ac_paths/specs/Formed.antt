@@ -31,6 +31,11 @@ abbrev pub AllFormed : ℕ → List Path → Type 0
 AllFormed params [] = Unit {0}
 AllFormed params (h ∷ hs) = IsFormed params h × AllFormed params hs
 
+-- so are the paths, where there are any
+abbrev pub AreFormedIf : ℕ → Option (List Path) → Type 0
+AreFormedIf params None = Unit {0}
+AreFormedIf params (Some hs) = AllFormed params hs
+
 -- each modulus in a model's pieces and levels is at least 1
 pub record HasModuli (m : Model) : Type 0 where
   pub pieces : (number : ℕ) (stmt : StmtModel) (k : ℕ) (rows : List Row) → slice_get m.stmts number ≡ Some stmt → slice_get stmt.pieces k ≡ Some rows → HaveModuli rows

@@ -80,10 +80,14 @@ with_own_columns params a = record { side = a.side; reader = seat_from params a.
 abbrev pub normal_of : ℕ → List Row → Option Conj
 normal_of columns rows = cond (rows_fit rows) (Some (normal_conj (record { columns = columns; rows = rows }))) None
 
--- the rows of a copy in normal form, over the case's own columns and then the copy's
+-- the rows of a copy of an assignment in normal form, over the case's own columns and then the copy's
+abbrev pub copy_by : Pairing → Assumed → ℕ → ℕ → Option ℕ → ℕ → StmtModel → Option Conj
+copy_by g a u piece after before stmt =
+    option_and_then (normal_of (case_width g.params a + width stmt)) (copy_rows g (with_own_columns g.params a) (case_width g.params a) u piece after before stmt)
+
+-- the same, where the assignment is there
 abbrev pub copy_of : Pairing → Assumed → ℕ → ℕ → Option ℕ → ℕ → Option Conj
-copy_of g a u piece after before =
-    option_and_then (λ (stmt : StmtModel). option_and_then (normal_of (case_width g.params a + width stmt)) (copy_rows g (with_own_columns g.params a) (case_width g.params a) u piece after before stmt)) (slice_get (model_of g a.side).stmts u)
+copy_of g a u piece after before = option_and_then (copy_by g a u piece after before) (slice_get (model_of g a.side).stmts u)
 
 -- a choice by another column
 abbrev pub by_column : ℕ → Choice → Choice

@@ -12,3 +12,4 @@ pub mod StepLaws
 pub mod Made
 pub mod Adding
 pub mod Calls
+pub mod Branching

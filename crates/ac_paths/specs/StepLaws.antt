@@ -1,12 +1,14 @@
 -- The branches of a path are exactly the steps of the pairs that stand on it.
 use Rattle.std.specs.Prelude.{ℕ, ◌≡◌, ◌↔◌, List, ℤ, length, Bool, true, Some, slice_get}
+use Rattle.ac_syntax.specs.Ready.{ReadyProgram, FitParts}
+use Rattle.ac_syntax.specs.declared.tree.Cond.{Cond}
 use Rattle.ac_syntax.specs.declared.tree.Order.{Order}
 use Rattle.ac_syntax.specs.declared.tree.Program.{Program}
 use Rattle.ac_syntax.specs.declared.tree.Symbol.{Symbol}
-use Rattle.ac_poly.specs.Model.{is_input}
+use Rattle.ac_poly.specs.Model.{is_input, model_of}
 use Rattle.ac_poly.specs.declared.types.Model.{Model}
 use Rattle.ac_paths.specs.Executions.{Describes, execution}
-use Rattle.ac_paths.specs.Formed.{IsFormed}
+use Rattle.ac_paths.specs.Formed.{HasModuli, IsFormed}
 use Rattle.ac_paths.specs.Going.{Pairing, branches}
 use Rattle.ac_paths.specs.OnPaths.{Compared}
 use Rattle.ac_paths.specs.Pairs.{Placed, StepsTo, StandsOn, StandsBehind}
@@ -37,3 +39,7 @@ BranchesAreSteps =
     (inputs : (a : ℕ) → is_input (slice_get m.kinds a) ≡ true → input a ≡ true) (order : Order) (h : Path) (hs : List Path) → IsFormed m.params h → branches (pairing_of m n swaps) order h ≡ Some hs
     → (at : List ℤ) (a a' : Placed (execution p m params)) (b b' : Placed (execution q n params)) → StandsOn (compared p q m n params swaps input count left right inputs) h at a b
     → StepsTo (compared p q m n params swaps input count left right inputs) order a b a' b' ↔ StandsBehind (compared p q m n params swaps input count left right inputs) hs at a' b'
+
+-- each modulus in the pieces and levels of the model of a ready program is at least 1
+abbrev pub ModelsHaveModuli : Type 0
+ModelsHaveModuli = (p : Program) (context : Cond) → ReadyProgram p → FitParts (length p.params) 0 context.parts → HasModuli (model_of p context)

@@ -5,11 +5,12 @@ ghost use Rattle.std.specs.List.{list_any};
 ghost use Rattle.std.specs.Cmp.Lexicographic.{pointwise};
 ghost use Rattle.std.specs.Prelude.{nat_eq};
 ghost use Rattle.ac_syntax.specs.Outputs.{swaps_of};
+ghost use Rattle.ac_paths.specs.Branching.{onto, all_onto};
 ghost use Rattle.ac_paths.specs.Calls.{pairing, called};
 ghost use Rattle.ac_paths.specs.Going.{argument_path, kept, swapped, same_symbol, call_branches, branches_of_calls, by_keep, branches};
 ghost use Rattle.ac_paths.specs.Places.{call_at};
 
-use crate::path::{Path, Programs, Seat};
+use crate::path::{Branch, Path, Programs, Seat};
 use crate::places::{CallNode, call_at};
 use ac_items::Items;
 use ac_syntax::name::Name;
@@ -42,18 +43,14 @@ fn may_swap(names: &[Name], symbol: &Symbol) -> bool
     symbol.arity == 2 && has_name(names, symbol.name.as_bytes())
 }
 
-/// The path behind a step to two arguments.
-fn argument_path(
-    alloc: Global,
-    path: &Path,
-    left: Position,
-    right: Position,
-) -> Result<Path, AllocError>
-    ensures { IfOk result (λ made. made ≡ argument_path path.now left right) }
+/// What is added by a step to two arguments.
+#[tactic(auto, using(crate::proofs::CallLoops::argument_steps))]
+fn argument_branch(alloc: Global, path: &Path, left: Position, right: Position) -> Branch
+    ensures { onto path.now result ≡ argument_path path.now left right }
 {
-    let conj = path.conj.copy(alloc)?;
-    Ok(Path {
-        conj,
+    Branch {
+        columns: 0,
+        rows: Items::new(alloc),
         left: Seat {
             position: left,
             first: path.left.first,
@@ -64,9 +61,8 @@ fn argument_path(
             first: path.right.first,
             width: path.right.width,
         },
-        gone: true,
         last: None,
-    })
+    }
 }
 
 /// Each argument beside the one with its number; none where there are not as many on both sides.
@@ -76,15 +72,15 @@ fn kept(
     path: &Path,
     left: &CallNode,
     right: &CallNode,
-) -> Result<Option<Items<Path>>, AllocError>
-    ensures { IfOk result (λ made. made ≡ kept path.now (called left.now).args (called right.now).args) }
+) -> Result<Option<Items<Branch>>, AllocError>
+    ensures { IfOk result (λ made. all_onto path.now made ≡ kept path.now (called left.now).args (called right.now).args) }
 {
     if left.args.len() != right.args.len() {
         return Ok(None);
     }
     let mut made = Items::new(alloc);
     for k in 0..left.args.len() {
-        made.push(argument_at(alloc, path, left, k, right, k)?)?;
+        made.push(argument_at(alloc, path, left, k, right, k))?;
     }
     Ok(Some(made))
 }
@@ -96,18 +92,18 @@ fn swapped(
     path: &Path,
     left: &CallNode,
     right: &CallNode,
-) -> Result<Option<Items<Path>>, AllocError>
-    ensures { IfOk result (λ made. made ≡ swapped path.now (called left.now).args (called right.now).args) }
+) -> Result<Option<Items<Branch>>, AllocError>
+    ensures { IfOk result (λ made. all_onto path.now made ≡ swapped path.now (called left.now).args (called right.now).args) }
 {
     if left.args.len() != 2 || right.args.len() != 2 {
         return Ok(None);
     }
-    let first = argument_at(alloc, path, left, 0, right, 1)?;
-    let second = argument_at(alloc, path, left, 1, right, 0)?;
+    let first = argument_at(alloc, path, left, 0, right, 1);
+    let second = argument_at(alloc, path, left, 1, right, 0);
     both(alloc, first, second)
 }
 
-/// The path behind a step to two arguments, by their numbers.
+/// What is added by a step to two arguments, by their numbers.
 fn argument_at(
     alloc: Global,
     path: &Path,
@@ -115,10 +111,10 @@ fn argument_at(
     i: usize,
     right: &CallNode,
     k: usize,
-) -> Result<Path, AllocError>
+) -> Branch
     requires left { i < length left.now.args.now }
     requires right { k < length right.now.args.now }
-    ensures { IfOk result (λ made. made ≡ argument_path path.now (Node left.now.stmt (get_or left.now.args.now i 0)) (Node right.now.stmt (get_or right.now.args.now k 0))) }
+    ensures { onto path.now result ≡ argument_path path.now (Node left.now.stmt (get_or left.now.args.now i 0)) (Node right.now.stmt (get_or right.now.args.now k 0)) }
 {
     let first = Position::Node {
         stmt: left.stmt,
@@ -128,11 +124,11 @@ fn argument_at(
         stmt: right.stmt,
         node: right.args[k],
     };
-    argument_path(alloc, path, first, second)
+    argument_branch(alloc, path, first, second)
 }
 
-/// Two paths in order.
-fn both(alloc: Global, first: Path, second: Path) -> Result<Option<Items<Path>>, AllocError>
+/// Two branches in order.
+fn both(alloc: Global, first: Branch, second: Branch) -> Result<Option<Items<Branch>>, AllocError>
     ensures { IfOk result (λ made. made ≡ Some (first ∷ second ∷ [])) }
 {
     let mut made = Items::new(alloc);
@@ -142,15 +138,15 @@ fn both(alloc: Global, first: Path, second: Path) -> Result<Option<Items<Path>>,
 }
 
 /// The paths behind a step of two calls: their arguments in the order, where it is allowed.
-fn call_branches(
+fn call_steps(
     alloc: Global,
     programs: &Programs,
     order: Order,
     path: &Path,
     left: &CallNode,
     right: &CallNode,
-) -> Result<Option<Items<Path>>, AllocError>
-    ensures { IfOk result (λ made. made ≡ call_branches (pairing programs.now) order path.now (called left.now) (called right.now)) }
+) -> Result<Option<Items<Branch>>, AllocError>
+    ensures { IfOk result (λ made. all_onto path.now made ≡ call_branches (pairing programs.now) order path.now (called left.now) (called right.now)) }
 {
     if !same_symbol(left.symbol, right.symbol) {
         return Ok(None);
@@ -167,19 +163,19 @@ fn call_branches(
 }
 
 /// The same, where a call stands at both positions.
-pub(crate) fn branches_of_calls(
+pub(crate) fn steps_of_calls(
     alloc: Global,
     programs: &Programs,
     order: Order,
     path: &Path,
-) -> Result<Option<Items<Path>>, AllocError>
-    ensures { IfOk result (λ made. made ≡ branches_of_calls (pairing programs.now) order path.now (call_at programs.now.left.now path.now.left.position) (call_at programs.now.right.now path.now.right.position)) }
+) -> Result<Option<Items<Branch>>, AllocError>
+    ensures { IfOk result (λ made. all_onto path.now made ≡ branches_of_calls (pairing programs.now) order path.now (call_at programs.now.left.now path.now.left.position) (call_at programs.now.right.now path.now.right.position)) }
 {
     match call_at(programs.left, &path.left.position) {
         None => Ok(None),
         Some(left) => match call_at(programs.right, &path.right.position) {
             None => Ok(None),
-            Some(right) => call_branches(alloc, programs, order, path, &left, &right),
+            Some(right) => call_steps(alloc, programs, order, path, &left, &right),
         },
     }
 }

@@ -1,5 +1,5 @@
 //! Forms and rows of a model among the columns of a path.
-ghost use Rattle.std.specs.Prelude.{◌≡◌, ℕ, pos, negsuc, map, IfOk, [], ◌+◌, Option, Some, option_map, option_and_then, ◌++◌, OnOk};
+ghost use Rattle.std.specs.Prelude.{◌≡◌, ℕ, pos, negsuc, map, IfOk, [], ◌∷◌, ◌+◌, Option, Some, option_map, option_and_then, ◌++◌, OnOk};
 ghost use Rattle.std.specs.List.{range_with_len};
 ghost use Rattle.ac_cert.specs.Rules.{combination};
 ghost use Rattle.ac_forms.specs.Rows.{HaveModuli};
@@ -162,4 +162,87 @@ pub fn columns_of_both(
     push_range(&mut list, first.first, first.width)?;
     push_range(&mut list, second.first, second.width)?;
     Ok(list)
+}
+
+/// The equalities of forms, each over the parameters and the coordinates of its position: one for each dimension. None where
+/// there are not as many forms on both sides, or a number leaves `i128`.
+pub fn equal_at(
+    alloc: Global,
+    params: usize,
+    first: &Seat,
+    forms: &[Form],
+    second: &Seat,
+    others: &[Form],
+) -> Result<Option<Items<Row>>, AllocError>
+    ensures value { IfOk result (λ made. made ≡ equal_forms (base params ++ columns_of first.now) forms.now (base params ++ columns_of second.now) others.now) }
+    ensures moduli { IfOk result (λ made. HaveIf made) }
+{
+    forms_equal(alloc, params, first, forms, second, others)
+}
+
+/// The same equalities.
+pub(crate) fn forms_equal(
+    alloc: Global,
+    params: usize,
+    first: &Seat,
+    forms: &[Form],
+    second: &Seat,
+    others: &[Form],
+) -> Result<Option<Items<Row>>, AllocError>
+    ensures { IfOk result (λ made. made ≡ equal_forms (base params ++ columns_of first.now) forms.now (base params ++ columns_of second.now) others.now) }
+{
+    let columns = columns_at(alloc, params, first)?;
+    let other_columns = columns_at(alloc, params, second)?;
+    equal_forms(
+        alloc,
+        columns.as_slice(),
+        forms,
+        other_columns.as_slice(),
+        others,
+    )
+}
+
+/// The equality of two forms, each over the parameters and the coordinates of its position; none where a number leaves
+/// `i128`.
+pub fn equal_form_at(
+    alloc: Global,
+    params: usize,
+    first: &Seat,
+    form: &Form,
+    second: &Seat,
+    other: &Form,
+) -> Result<Option<Items<Row>>, AllocError>
+    ensures value { IfOk result (λ made. made ≡ equal_forms (base params ++ columns_of first.now) (form.now ∷ []) (base params ++ columns_of second.now) (other.now ∷ [])) }
+    ensures moduli { IfOk result (λ made. HaveIf made) }
+{
+    form_equal(alloc, params, first, form, second, other)
+}
+
+/// The same equality.
+fn form_equal(
+    alloc: Global,
+    params: usize,
+    first: &Seat,
+    form: &Form,
+    second: &Seat,
+    other: &Form,
+) -> Result<Option<Items<Row>>, AllocError>
+    ensures { IfOk result (λ made. made ≡ equal_forms (base params ++ columns_of first.now) (form.now ∷ []) (base params ++ columns_of second.now) (other.now ∷ [])) }
+{
+    let columns = columns_at(alloc, params, first)?;
+    let other_columns = columns_at(alloc, params, second)?;
+    match difference(
+        alloc,
+        columns.as_slice(),
+        form,
+        other_columns.as_slice(),
+        other,
+    )? {
+        Some(form) => {
+            let mut made = Items::new(alloc);
+            made.push(Row::Eq(form))?;
+            Ok(Some(made))
+        }
+        None => Ok(None),
+    }
 }

@@ -1,20 +1,22 @@
 //! The steps of a pair of positions.
-ghost use Rattle.std.specs.Prelude.{◌≡◌, ℕ, ◌+◌, ◌<◌, ◌++◌, [], ◌∷◌, map, IfOk, Option, Some, None, List, slice_get, length};
+ghost use Rattle.std.specs.Prelude.{◌≡◌, ℕ, ◌+◌, ◌<◌, ◌++◌, [], ◌∷◌, map, IfOk, Option, Some, None, List, slice_get, length, option_map};
 ghost use Rattle.std.specs.List.{flat_map};
 ghost use Rattle.ac_poly.specs.declared.types.StmtModel.{StmtModel};
 ghost use Rattle.ac_paths.specs.Coordinates.{width};
 ghost use Rattle.ac_forms.specs.Renaming.{rows_renaming};
 ghost use Rattle.ac_paths.specs.Columns.{base, columns_of, equal_forms, appended};
 ghost use Rattle.ac_paths.specs.Going.{seat_of, gone_to, root, case_rows, case_path, cases_of, cases_from, initial_path, read_branches, extended, cases_at, by_keep, branches};
+ghost use Rattle.ac_paths.specs.Branching.{onto, all_onto};
 ghost use Rattle.ac_paths.specs.Calls.{pairing};
 ghost use Rattle.ac_paths.specs.Places.{initial_of};
 ghost use Rattle.ac_paths.specs.Adding.{Adds};
+ghost use Rattle.ac_paths.specs.Formed.{HasModuli, IsFormed, AreFormedIf};
 
-use crate::calls::branches_of_calls;
-use crate::columns::{column_after, columns_at, columns_of_both, equal_forms, rows_moved};
-use crate::path::{Assumed, Path, Programs, Seat, Side};
+use crate::calls::steps_of_calls;
+use crate::columns::{column_after, columns_at, columns_of_both, forms_equal, rows_moved};
+use crate::path::{Assumed, Branch, Path, Programs, Seat, Side};
 use crate::places::{CellForms, cell_read, levels_to};
-use ac_forms::{Conj, Form, Row};
+use ac_forms::{Conj, Row};
 use ac_items::Items;
 use ac_poly::types::{Model, StmtModel};
 use ac_syntax::tree::{Order, Position};
@@ -31,7 +33,7 @@ fn seat_of(path: &Path, side: Side) -> Seat
 }
 
 /// One list of rows behind the other.
-fn join(first: Items<Row>, second: Items<Row>) -> Result<Items<Row>, AllocError>
+pub fn join(first: Items<Row>, second: Items<Row>) -> Result<Items<Row>, AllocError>
     ensures { IfOk result (λ made. made ≡ first ++ second) }
 {
     let mut rows = first.into_vec();
@@ -41,7 +43,7 @@ fn join(first: Items<Row>, second: Items<Row>) -> Result<Items<Row>, AllocError>
 }
 
 /// Both lists, one behind the other, where both were made.
-fn appended(
+pub fn appended(
     first: Option<Items<Row>>,
     second: Option<Items<Row>>,
 ) -> Result<Option<Items<Row>>, AllocError>
@@ -57,7 +59,7 @@ fn appended(
 }
 
 /// Rows over the parameters and the coordinates of a position.
-fn moved_at(
+pub fn moved_at(
     alloc: Global,
     params: usize,
     seat: &Seat,
@@ -70,7 +72,7 @@ fn moved_at(
 }
 
 /// Rows over the parameters and the coordinates of two positions.
-fn moved_at_both(
+pub(crate) fn moved_at_both(
     alloc: Global,
     params: usize,
     first: &Seat,
@@ -83,31 +85,9 @@ fn moved_at_both(
     rows_moved(alloc, columns.as_slice(), rows)
 }
 
-/// The equalities of forms over the coordinates of two positions.
-fn equal_at(
-    alloc: Global,
-    params: usize,
-    first: &Seat,
-    forms: &[Form],
-    second: &Seat,
-    others: &[Form],
-) -> Result<Option<Items<Row>>, AllocError>
-    ensures { IfOk result (λ made. made ≡ equal_forms (base params ++ columns_of first.now) forms.now (base params ++ columns_of second.now) others.now) }
-{
-    let columns = columns_at(alloc, params, first)?;
-    let other_columns = columns_at(alloc, params, second)?;
-    equal_forms(
-        alloc,
-        columns.as_slice(),
-        forms,
-        other_columns.as_slice(),
-        others,
-    )
-}
-
 /// The rows of a case: the source lies in a piece of its assignment, writes the cell, and stands before the reader by a
 /// level.
-fn case_rows(
+pub(crate) fn case_rows(
     alloc: Global,
     params: usize,
     reader: &Seat,
@@ -120,7 +100,7 @@ fn case_rows(
     ensures { IfOk result (λ rows. rows ≡ case_rows params reader.now cell.now source.now stmt.now piece.now level.now) }
 {
     let pieces = moved_at(alloc, params, source, piece)?;
-    let cells = equal_at(
+    let cells = forms_equal(
         alloc,
         params,
         reader,
@@ -133,7 +113,7 @@ fn case_rows(
 }
 
 /// The root of an assignment, with its coordinates in the columns from one on.
-fn root(first: usize, u: usize, stmt: &StmtModel) -> Seat
+pub(crate) fn root(first: usize, u: usize, stmt: &StmtModel) -> Seat
     ensures { result ≡ root first u stmt.now }
 {
     Seat {
@@ -143,42 +123,37 @@ fn root(first: usize, u: usize, stmt: &StmtModel) -> Seat
     }
 }
 
-/// Further columns and rows.
-fn extended(alloc: Global, conj: &Conj, more: usize, rows: Items<Row>) -> Result<Conj, AllocError>
-    ensures { IfOk result (λ made. made ≡ extended conj.now more rows) }
-{
-    let columns = column_after(conj.columns, more)?;
-    let conj = conj.copy(alloc)?;
-    Ok(Conj {
-        columns,
-        rows: join(conj.rows, rows)?,
-    })
-}
-
-/// The path behind a step of one position.
-fn gone_to(path: &Path, side: Side, conj: Conj, seat: Seat, last: Option<Assumed>) -> Path
-    ensures { result ≡ gone_to path.now side conj seat last }
+/// What is added by a step of one position.
+fn gone_to(
+    path: &Path,
+    side: Side,
+    columns: usize,
+    rows: Items<Row>,
+    seat: Seat,
+    last: Option<Assumed>,
+) -> Branch
+    ensures { onto path.now result ≡ gone_to path.now side (extended path.now.conj columns rows) seat last }
 {
     match side {
-        Side::Left => Path {
-            conj,
+        Side::Left => Branch {
+            columns,
+            rows,
             left: seat,
             right: path.right,
-            gone: true,
             last,
         },
-        Side::Right => Path {
-            conj,
+        Side::Right => Branch {
+            columns,
+            rows,
             left: path.left,
             right: seat,
-            gone: true,
             last,
         },
     }
 }
 
-/// The path behind a case.
-fn case_path(
+/// What is added by a case.
+fn case_branch(
     alloc: Global,
     params: usize,
     path: &Path,
@@ -188,21 +163,20 @@ fn case_path(
     stmt: &StmtModel,
     piece: &[Row],
     level: &[Row],
-) -> Result<Option<Path>, AllocError>
-    ensures { IfOk result (λ made. made ≡ case_path params path.now side cell.now u stmt.now piece.now level.now) }
+) -> Result<Option<Branch>, AllocError>
+    ensures { IfOk result (λ made. option_map (onto path.now) made ≡ case_path params path.now side cell.now u stmt.now piece.now level.now) }
 {
     let source = root(path.conj.columns, u, stmt);
     let reader = seat_of(path, side);
     let Some(rows) = case_rows(alloc, params, &reader, cell, &source, stmt, piece, level)? else {
         return Ok(None);
     };
-    let conj = extended(alloc, &path.conj, source.width, rows)?;
     let last = Assumed {
         side,
         reader,
         source: Some(source),
     };
-    Ok(Some(gone_to(path, side, conj, source, Some(last))))
+    Ok(Some(gone_to(path, side, source.width, rows, source, Some(last))))
 }
 
 /// Adds the cases of a piece, one for each level.
@@ -217,12 +191,12 @@ fn add_levels(
     stmt: &StmtModel,
     piece: &[Row],
     levels: &[Items<Row>],
-    out: &mut Items<Path>,
+    out: &mut Items<Branch>,
 ) -> Result<bool, AllocError>
-    ensures { Adds (map (case_path params path.now side cell.now u stmt.now piece.now) levels.now) out.old out.new result }
+    ensures { Adds (map (case_path params path.now side cell.now u stmt.now piece.now) levels.now) (map (onto path.now) out.old) (map (onto path.now) out.new) result }
 {
     for level in levels {
-        match case_path(
+        match case_branch(
             alloc,
             params,
             path,
@@ -233,7 +207,7 @@ fn add_levels(
             piece,
             level.as_slice(),
         )? {
-            Some(path) => out.push(path)?,
+            Some(branch) => out.push(branch)?,
             None => return Ok(false),
         }
     }
@@ -251,9 +225,9 @@ fn add_pieces(
     u: usize,
     stmt: &StmtModel,
     levels: &[Items<Row>],
-    out: &mut Items<Path>,
+    out: &mut Items<Branch>,
 ) -> Result<bool, AllocError>
-    ensures { Adds (flat_map (λ piece. map (case_path params path.now side cell.now u stmt.now piece) levels.now) stmt.now.pieces) out.old out.new result }
+    ensures { Adds (flat_map (λ piece. map (case_path params path.now side cell.now u stmt.now piece) levels.now) stmt.now.pieces) (map (onto path.now) out.old) (map (onto path.now) out.new) result }
 {
     for piece in stmt.pieces.as_slice() {
         if !add_levels(
@@ -285,11 +259,11 @@ fn add_stmt(
     cell: &CellForms,
     u: usize,
     stmt: &StmtModel,
-    out: &mut Items<Path>,
+    out: &mut Items<Branch>,
 ) -> Result<bool, AllocError>
     requires place { u < length m.now.stmts }
     requires stmt { slice_get m.now.stmts u ≡ Some stmt.now }
-    ensures { Adds (cases_at params m.now path.now side cell.now u stmt.now) out.old out.new result }
+    ensures { Adds (cases_at params m.now path.now side cell.now u stmt.now) (map (onto path.now) out.old) (map (onto path.now) out.new) result }
 {
     if stmt.array != cell.array {
         return Ok(true);
@@ -317,9 +291,9 @@ fn add_cases(
     path: &Path,
     side: Side,
     cell: &CellForms,
-    out: &mut Items<Path>,
+    out: &mut Items<Branch>,
 ) -> Result<bool, AllocError>
-    ensures { Adds (cases_from params m.now path.now side cell.now 0 m.now.stmts) out.old out.new result }
+    ensures { Adds (cases_from params m.now path.now side cell.now 0 m.now.stmts) (map (onto path.now) out.old) (map (onto path.now) out.new) result }
 {
     let stmts = m.stmts.as_slice();
     for u in 0..stmts.len() {
@@ -330,9 +304,9 @@ fn add_cases(
     Ok(true)
 }
 
-/// The path to the initial contents.
-fn initial_path(alloc: Global, path: &Path, side: Side) -> Result<Path, AllocError>
-    ensures { IfOk result (λ made. made ≡ initial_path path.now side) }
+/// What is added by the initial contents.
+fn initial_branch(alloc: Global, path: &Path, side: Side) -> Branch
+    ensures { onto path.now result ≡ initial_path path.now side }
 {
     let reader = seat_of(path, side);
     let position = initial_of(&reader.position);
@@ -346,8 +320,7 @@ fn initial_path(alloc: Global, path: &Path, side: Side) -> Result<Path, AllocErr
         reader,
         source: None,
     };
-    let conj = path.conj.copy(alloc)?;
-    Ok(gone_to(path, side, conj, seat, Some(last)))
+    gone_to(path, side, 0, Items::new(alloc), seat, Some(last))
 }
 
 /// The position of the initial contents of what is read.
@@ -370,21 +343,21 @@ fn initial_of(position: &Position) -> Position
 
 /// The cases of a read or an output: one for each source, then the initial contents.
 #[tactic(auto, using(crate::proofs::StmtSteps::branch_steps))]
-pub fn read_branches(
+fn read_steps(
     alloc: Global,
     params: usize,
     m: &Model,
     path: &Path,
     side: Side,
     cell: &CellForms,
-) -> Result<Option<Items<Path>>, AllocError>
-    ensures { IfOk result (λ made. made ≡ read_branches params m.now path.now side cell.now) }
+) -> Result<Option<Items<Branch>>, AllocError>
+    ensures { IfOk result (λ made. all_onto path.now made ≡ read_branches params m.now path.now side cell.now) }
 {
     let mut out = Items::new(alloc);
     if !add_cases(alloc, params, m, path, side, cell, &mut out)? {
         return Ok(None);
     }
-    out.push(initial_path(alloc, path, side)?)?;
+    out.push(initial_branch(alloc, path, side))?;
     Ok(Some(out))
 }
 
@@ -397,27 +370,23 @@ fn reads(
     path: &Path,
     side: Side,
     cell: &CellForms,
-) -> Result<Option<Items<Path>>, AllocError>
-    ensures { IfOk result (λ made. made ≡ by_keep order (read_branches params m.now path.now side cell.now)) }
+) -> Result<Option<Items<Branch>>, AllocError>
+    ensures { IfOk result (λ made. all_onto path.now made ≡ by_keep order (read_branches params m.now path.now side cell.now)) }
 {
     match order {
-        Order::Keep => read_branches(alloc, params, m, path, side, cell),
+        Order::Keep => read_steps(alloc, params, m, path, side, cell),
         Order::Swap => Ok(None),
     }
 }
 
-/// The paths behind a step of the pair of positions, in order; none where there is no such step. A read or an output on the
-/// left goes first, else one on the right: one path for each assignment of its array, piece and level, then one for the
-/// initial contents. Two calls of one symbol go to their arguments: to those of one number each by `Keep`, and crossed by
-/// `Swap`, which asks for a declared symbol of two arguments. There is none either where a number of the rows leaves
-/// `i128`.
-pub fn branches(
+/// The branches of a step.
+fn branches_by(
     alloc: Global,
     programs: &Programs,
     order: Order,
     path: &Path,
-) -> Result<Option<Items<Path>>, AllocError>
-    ensures { IfOk result (λ made. made ≡ branches (pairing programs.now) order path.now) }
+) -> Result<Option<Items<Branch>>, AllocError>
+    ensures { IfOk result (λ made. all_onto path.now made ≡ branches (pairing programs.now) order path.now) }
 {
     let params = programs.left.params;
     match cell_read(alloc, programs.left, &path.left.position)? {
@@ -432,7 +401,49 @@ pub fn branches(
                 Side::Right,
                 &cell,
             ),
-            None => branches_of_calls(alloc, programs, order, path),
+            None => steps_of_calls(alloc, programs, order, path),
         },
     }
+}
+
+/// What each branch of a step of the pair of positions adds to the path, in order; none where there is no such step. A read or
+/// an output on the left goes first, else one on the right: one branch for each assignment of its array, piece and level,
+/// then one for the initial contents. Two calls of one symbol go to their arguments: to those of one number each by `Keep`, and crossed
+/// by `Swap`, which asks for a declared symbol of two arguments. There is none either where a number of the rows leaves
+/// `i128`. No row of the path is copied or read.
+pub fn branches(
+    alloc: Global,
+    programs: &Programs,
+    order: Order,
+    path: &Path,
+) -> Result<Option<Items<Branch>>, AllocError>
+    ensures value { IfOk result (λ made. all_onto path.now made ≡ branches (pairing programs.now) order path.now) }
+    ensures formed { HasModuli programs.now.left.now → HasModuli programs.now.right.now → IsFormed programs.now.left.now.params path.now → IfOk result (λ made. AreFormedIf programs.now.left.now.params (all_onto path.now made)) }
+{
+    branches_by(alloc, programs, order, path)
+}
+
+/// The path behind a branch. No row is copied.
+pub fn onto(path: Path, branch: Branch) -> Result<Path, AllocError>
+    ensures { IfOk result (λ made. made ≡ onto path branch) }
+{
+    let Branch {
+        columns,
+        rows,
+        left,
+        right,
+        last,
+    } = branch;
+    let columns = column_after(path.conj.columns, columns)?;
+    let conj = Conj {
+        columns,
+        rows: join(path.conj.rows, rows)?,
+    };
+    Ok(Path {
+        conj,
+        left,
+        right,
+        gone: true,
+        last,
+    })
 }

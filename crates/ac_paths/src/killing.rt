@@ -2,6 +2,7 @@
 ghost use Rattle.std.specs.Prelude.{◌≡◌, ◌+◌, ◌++◌, IfOk, OnOk};
 ghost use Rattle.ac_cert.specs.Choices.{column_of};
 ghost use Rattle.ac_forms.specs.Rows.{HaveModuli, IsWellMade};
+ghost use Rattle.ac_paths.specs.Made.{IsMadeIf};
 ghost use Rattle.ac_paths.specs.Killing.{source_columns, case_columns, source_width, case_width, by_column, taken_legally, chosen, ends_before, is_killed};
 
 use crate::columns::{column_after, moved_rows, push_range};
@@ -97,6 +98,21 @@ fn taken_legally(alloc: Global, choice: &Choice, conj: &Conj) -> Result<Option<C
 /// What a choice of a copy leaves; none where it is illegal, names none of the copy's columns, or a number leaves `i128`.
 /// The copy's columns are named as if they stood behind those of the path, `columns`; they stand behind the case's own.
 pub fn chosen(
+    alloc: Global,
+    columns: usize,
+    own: usize,
+    choice: &Choice,
+    conj: &Conj,
+) -> Result<Option<Conj>, AllocError>
+    requires { IsWellMade conj.now }
+    ensures value { IfOk result (λ left. left ≡ chosen columns own choice.now conj.now) }
+    ensures made { IfOk result (λ left. IsMadeIf left) }
+{
+    left_by(alloc, columns, own, choice, conj)
+}
+
+/// The same.
+fn left_by(
     alloc: Global,
     columns: usize,
     own: usize,

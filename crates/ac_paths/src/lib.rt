@@ -4,6 +4,7 @@
 
 mod calls;
 pub mod columns;
+pub mod copies;
 pub mod going;
 pub mod killing;
 pub mod laws;

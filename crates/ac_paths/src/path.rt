@@ -1,7 +1,12 @@
-use ac_forms::Conj;
+ghost use Rattle.std.specs.Prelude.{◌≡◌, IfOk};
+ghost use Rattle.ac_paths.specs.Going.{at_rows};
+
+use ac_forms::{Conj, Row};
+use ac_items::Items;
 use ac_poly::types::Model;
 use ac_syntax::name::Name;
 use ac_syntax::tree::Position;
+use std::alloc::{AllocError, Global};
 
 /// The models of both programs of a pair, under its context, and the names that it declares commutative.
 #[derive(Clone, Copy)]
@@ -46,4 +51,51 @@ pub struct Path {
     pub right: Seat,
     pub gone: bool,
     pub last: Option<Assumed>,
+}
+
+/// What a branch of a step of the pair adds to a path: columns and rows behind those of the path; and what the positions are
+/// then, and what was assumed.
+#[derive(Debug, Drop)]
+pub struct Branch {
+    pub columns: usize,
+    pub rows: Items<Row>,
+    pub left: Seat,
+    pub right: Seat,
+    pub last: Option<Assumed>,
+}
+
+/// The numbers that name a copy.
+#[derive(Clone, Copy, Debug, PartialEq, Eq)]
+pub struct CopyNumbers {
+    /// Its assignment.
+    pub stmt: usize,
+    /// The piece of the assignment.
+    pub piece: usize,
+    /// The level by which it stands after the assumed source; none where the initial contents are assumed.
+    pub after: Option<usize>,
+    /// The level by which it stands before the reader.
+    pub before: usize,
+}
+
+impl Path {
+    /// The same path again.
+    pub fn copy(&self, alloc: Global) -> Result<Path, AllocError>
+        ensures { IfOk result (λ path. path ≡ self.now) }
+    {
+        let conj = self.conj.copy(alloc)?;
+        Ok(at_rows(self, conj))
+    }
+}
+
+/// The path at other rows.
+pub fn at_rows(path: &Path, conj: Conj) -> Path
+    ensures { result ≡ at_rows path.now conj }
+{
+    Path {
+        conj,
+        left: path.left,
+        right: path.right,
+        gone: path.gone,
+        last: path.last,
+    }
 }

@@ -1,0 +1,12 @@
+use Rattle.std.proofs.Common.{Bool, subst}
+use Rattle.ac_cert.specs.declared.types.Rule.TheVariants as rule
+use Rattle.ac_paths.proofs.Moduli.{conj_moduli}
+use Rattle.ac_claims.specs.Entries.{Settles, dues}
+use Rattle.ac_claims.specs.Machine.{onto_if}
+use Rattle.ac_claims.proofs.taking.take_number.Goals as goal
+
+pub is_number-requires : goal.is_number-requires
+is_number-requires c = conj_moduli c.args.path.now.conj c.requires
+
+pub returns : goal.returns
+returns c = λ claims due. subst (λ (b : Bool). Settles (onto_if b c.args.line rule.Number (dues due)) due c.ends_if.result) c.in_ok-is_number.ensures (c.ends_if.ensures due)

@@ -1,0 +1,185 @@
+//! What an item comes to where a plan is due at a path.
+ghost use Rattle.std.specs.Prelude.{◌≡◌, ℕ, List};
+ghost use Rattle.ac_forms.specs.Rows.{IsWellMade};
+ghost use Rattle.ac_paths.specs.Calls.{pairing};
+ghost use Rattle.ac_paths.specs.Formed.{HasModuli, IsFormed};
+ghost use Rattle.ac_paths.specs.Going.{Pairing};
+ghost use Rattle.ac_claims.specs.Dues.{RowsHaveModuli};
+ghost use Rattle.ac_claims.specs.Entries.{AreEntriesFormed, Settles, dues};
+ghost use Rattle.ac_claims.specs.Machine.{take_at};
+ghost use Rattle.ac_claims.specs.declared.entry.Entry.{Entry};
+ghost use Rattle.ac_claims.specs.declared.item.Item.TheVariants as item;
+ghost use Rattle.ac_claims.specs.declared.types.Claim.{Claim};
+
+use crate::cases::take_go;
+use crate::classes::take_residue;
+use crate::ending::{is_hit, is_initial, is_number};
+use crate::entry::{Entry, TakeStop};
+use crate::item::Item;
+use crate::kills::take_killed;
+use crate::parts::{at_line, ends_if, longer, push_plan};
+use crate::types::Claim;
+use ac_cert::types::Step;
+use ac_cert::{Absurd, End, Rule, apply_onto, rows_of_sides};
+use ac_forms::Form;
+use ac_items::Items;
+use ac_paths::path::{CopyNumbers, Path, Programs};
+use std::alloc::Global;
+
+/// A step.
+fn take_step(
+    alloc: Global,
+    step: &Step,
+    line: u64,
+    path: Path,
+    due: &mut Items<Entry>,
+) -> Result<(), TakeStop>
+    requires { IsWellMade path.conj }
+    ensures settles { (g : Pairing) (claims : List Claim) → Settles (take_at g claims (item.Step step.now) line path (dues due.old)) due.new result }
+    ensures formed { (params : ℕ) → IsFormed params path → AreEntriesFormed params due.old → AreEntriesFormed params due.new }
+{
+    let Path {
+        conj,
+        left,
+        right,
+        gone,
+        last,
+    } = path;
+    match apply_onto(alloc, conj, step) {
+        Ok(conj) => {
+            push_plan(
+                due,
+                Path {
+                    conj,
+                    left,
+                    right,
+                    gone,
+                    last,
+                },
+            )?;
+            Ok(())
+        }
+        Err(stop) => Err(at_line(stop, line)),
+    }
+}
+
+/// A branch by the sign of a form.
+fn take_split(
+    alloc: Global,
+    form: &Form,
+    line: u64,
+    path: Path,
+    due: &mut Items<Entry>,
+) -> Result<(), TakeStop>
+    requires { IsWellMade path.conj }
+    ensures settles { (g : Pairing) (claims : List Claim) → Settles (take_at g claims (item.Split form.now) line path (dues due.old)) due.new result }
+    ensures formed { (params : ℕ) → IsFormed params path → AreEntriesFormed params due.old → AreEntriesFormed params due.new }
+{
+    match rows_of_sides(alloc, form, path.conj.columns) {
+        Ok((low, high)) => {
+            let again = path.copy(alloc)?;
+            let first = longer(again, low)?;
+            let second = longer(path, high)?;
+            push_plan(due, second)?;
+            push_plan(due, first)?;
+            Ok(())
+        }
+        Err(stop) => Err(at_line(stop, line)),
+    }
+}
+
+/// An end at a row that no point meets.
+fn take_absurd(alloc: Global, row: usize, line: u64, path: &Path) -> Result<(), TakeStop>
+    requires { IsWellMade path.now.conj }
+    ensures { (g : Pairing) (claims : List Claim) (due : List Entry) → Settles (take_at g claims (item.Absurd row) line path.now (dues due)) due result }
+{
+    let end = Absurd { row };
+    match end.check(alloc, &(), &path.conj) {
+        Ok(()) => Ok(()),
+        Err(stop) => Err(at_line(stop, line)),
+    }
+}
+
+/// An end at a claim.
+fn take_hit(
+    alloc: Global,
+    programs: &Programs,
+    claims: &[Claim],
+    claim: usize,
+    line: u64,
+    path: &Path,
+) -> Result<(), TakeStop>
+    requires path { IsWellMade path.now.conj }
+    requires claims { RowsHaveModuli claims.now }
+    ensures { (due : List Entry) → Settles (take_at (pairing programs.now) claims.now (item.Hit claim) line path.now (dues due)) due result }
+{
+    ends_if(
+        is_hit(alloc, programs, claims, claim, path)?,
+        line,
+        Rule::Hit,
+    )
+}
+
+/// An end at two equal numbers.
+fn take_number(alloc: Global, programs: &Programs, line: u64, path: &Path) -> Result<(), TakeStop>
+    requires { IsWellMade path.now.conj }
+    ensures { (claims : List Claim) (due : List Entry) → Settles (take_at (pairing programs.now) claims item.Number line path.now (dues due)) due result }
+{
+    ends_if(is_number(alloc, programs, path)?, line, Rule::Number)
+}
+
+/// An end at one initial cell of an input.
+fn take_initial(alloc: Global, programs: &Programs, line: u64, path: &Path) -> Result<(), TakeStop>
+    requires { IsWellMade path.now.conj }
+    ensures { (claims : List Claim) (due : List Entry) → Settles (take_at (pairing programs.now) claims item.Initial line path.now (dues due)) due result }
+{
+    ends_if(is_initial(alloc, programs, path)?, line, Rule::Initial)
+}
+
+/// An item at a path where a plan is due; one that is none of a plan leaves what is due.
+pub(crate) fn taken(
+    alloc: Global,
+    programs: &Programs,
+    claims: &[Claim],
+    item: &Item,
+    line: u64,
+    path: Path,
+    due: &mut Items<Entry>,
+) -> Result<(), TakeStop>
+    requires left { HasModuli programs.now.left.now }
+    requires right { HasModuli programs.now.right.now }
+    requires claims { RowsHaveModuli claims.now }
+    requires path { IsFormed programs.now.left.now.params path }
+    ensures settles { Settles (take_at (pairing programs.now) claims.now item.now line path (dues due.old)) due.new result }
+    ensures formed { AreEntriesFormed programs.now.left.now.params due.old → AreEntriesFormed programs.now.left.now.params due.new }
+{
+    match item {
+        Item::Step(step) => take_step(alloc, step, line, path, due),
+        Item::Split(form) => take_split(alloc, form, line, path, due),
+        Item::Residue(modulus, form) => take_residue(alloc, modulus, form, line, path, due),
+        Item::Go { order, cases } => take_go(alloc, programs, *order, *cases, line, path, due),
+        Item::Absurd(row) => take_absurd(alloc, *row, line, &path),
+        Item::Hit(claim) => take_hit(alloc, programs, claims, *claim, line, &path),
+        Item::Number => take_number(alloc, programs, line, &path),
+        Item::Initial => take_initial(alloc, programs, line, &path),
+        Item::Killed {
+            stmt,
+            piece,
+            after,
+            before,
+            choices,
+        } => {
+            let numbers = CopyNumbers {
+                stmt: *stmt,
+                piece: *piece,
+                after: *after,
+                before: *before,
+            };
+            take_killed(alloc, programs, &numbers, *choices, line, path, due)
+        }
+        _ => {
+            push_plan(due, path)?;
+            Ok(())
+        }
+    }
+}
