@@ -1,0 +1,12 @@
+mod Counts
+mod Following
+mod Growing
+mod Taking
+mod Judging
+mod Coursing
+mod Streams
+mod Answering
+mod Verdicts
+mod Excluding
+pub mod Rebuilding
+pub mod Sound

@@ -1,0 +1,9 @@
+pub mod Outlines
+pub mod Laws
+pub mod Texts
+pub mod Lines
+pub mod TextLaws
+pub mod Sound
+pub mod Checks
+pub mod Courses
+pub mod CheckLaws

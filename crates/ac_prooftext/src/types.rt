@@ -1,0 +1,25 @@
+use ac_cert::types::Rule;
+use std::alloc::AllocError;
+
+/// What is told of a text.
+#[derive(Clone, Copy, Debug, PartialEq, Eq, Drop)]
+pub struct Nesting {
+    /// The greatest number of branches that are open on one path, over the lines before the fault. It stands still at the last `u64`.
+    pub deepest: u64,
+    /// The first line that is missing, malformed or may not stand where it does, from 1; none exactly for a spelling. It
+    /// stands still at the last `u64`.
+    pub fault: Option<u64>,
+}
+
+/// Why a stream of bytes is not accepted as a proof.
+#[derive(Debug, Drop)]
+pub enum CheckFault {
+    /// It has more than 67,108,864 bytes.
+    TooLong,
+    /// More than 10,000 branches are open on one path.
+    TooDeep,
+    /// The first line that fails, from 1, and the rule by which it does.
+    Refused { line: u64, rule: Rule },
+    /// There was no memory.
+    Memory(AllocError),
+}
