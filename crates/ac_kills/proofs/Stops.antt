@@ -1,0 +1,17 @@
+-- Why a case stops.
+use Rattle.std.proofs.Common.{◌≡◌, ◌⊎◌, inl, inr, ℕ, zero, suc, ◌+◌, ◌<◌, ◌≤◌, List, [], ◌∷◌, ◌++◌, append-nil, length, map, get_or, refl, sym, ap, ◌∙◌, subst, arith}
+use Rattle.std.specs.List.{Contains}
+use Rattle.std.proofs.lemmas.List.Elements.{Contains-append_left, Contains-append_right}
+use Rattle.ac_forms.specs.declared.conj.Conj.{Conj}
+use Rattle.ac_forms.specs.declared.row.Row.{Row}
+use Rattle.ac_kills.specs.Causes.{IsKillRow, IsFurther, Itself, OfNegation, AreFurther, IsCutCase, AreKillRows, AreCutCases, StopsOn, CutStops}
+use Rattle.ac_kills.specs.declared.cut.CutStop.{CutStop}
+use Rattle.ac_kills.proofs.Asked.{on_case}
+
+-- ---- stops
+
+pub itself-case : (kills : List (List Row)) (c : Conj) → IsCutCase c.rows kills c
+itself-case kills c = record { further = []; rows = sym (append-nil c.rows); each = tt }
+
+pub stops_start : (budget : ℕ) (case : Conj) (kills : List (List Row)) (e : CutStop) → StopsOn budget case e → CutStops budget case.rows kills e
+stops_start budget case kills e s = on_case budget case.rows kills case e (itself-case kills case) s

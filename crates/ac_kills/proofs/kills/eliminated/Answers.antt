@@ -1,0 +1,20 @@
+use Rattle.std.proofs.Common.{◌∙◌}
+use Rattle.ac_kills.proofs.Projections.{Answered, answered}
+use Rattle.ac_kills.proofs.kills.eliminated.Goals as goal
+
+all : (c : goal.After-drop-vars) → Answered c.args.first c.args.copy.now c.args.budget c.eliminate.result
+all c =
+    answered c.args.first c.args.copy.now c.args.budget c.deref.result.now c.eliminate.result (c.deref.ensures.value ∙ c.in-Ok.ensures) c.requires.first c.eliminate.ensures.exact c.eliminate.ensures.projection c.eliminate.ensures.reached
+    c.eliminate.ensures.over
+
+pub returns-clause-exact : goal.returns-clause-exact
+returns-clause-exact c = (all c).exact
+
+pub returns-clause-kills : goal.returns-clause-kills
+returns-clause-kills c = (all c).kills
+
+pub returns-clause-over : goal.returns-clause-over
+returns-clause-over c = (all c).over
+
+pub returns-clause-projection : goal.returns-clause-projection
+returns-clause-projection c = (all c).projection
