@@ -1,0 +1,16 @@
+pub mod CopyParts
+pub mod Sourcing
+pub mod WritingSteps
+pub mod CopySteps
+pub mod KillSteps
+pub mod CutSteps
+pub mod CaseSteps
+pub mod ReadSteps
+pub mod Leaving
+pub mod Exact
+pub mod Linking
+pub mod FlowSteps
+pub mod Overs
+pub mod OneCase
+pub mod FlowSources
+pub mod Replaying

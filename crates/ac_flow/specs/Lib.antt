@@ -1,0 +1,9 @@
+pub mod Writings
+pub mod Sources
+pub mod Cases
+pub mod Stopping
+pub mod Stops
+pub mod Readers
+pub mod Flows
+pub mod Contexts
+pub mod Replaying

@@ -1,0 +1,162 @@
+//! What is left of a case in each piece of its reader.
+ghost use Rattle.std.specs.Prelude.{◌≡◌, ◌++◌, ◌<◌, [], List, length, map, OnOk, IfOk, IfErr};
+ghost use Rattle.ac_forms.specs.Rows.{AreRowsOver};
+ghost use Rattle.ac_forms.specs.declared.row.Row.{Row};
+ghost use Rattle.ac_kills.specs.Causes.{CutStops, IfFull};
+ghost use Rattle.ac_kills.specs.Cuts.{AllHavePoints};
+ghost use Rattle.ac_kills.specs.Remaining.{AllKillsOf, AllOver, IsCut};
+ghost use Rattle.ac_flow.specs.Cases.{AreParts, ArePiecesOver, case_conj, remainder, conj_of_remainder};
+ghost use Rattle.ac_flow.specs.Stopping.{PieceStops};
+ghost use Rattle.ac_flow.specs.Stops.{plain, IfFilled, IsStopOf};
+
+use crate::stop::CaseStop;
+use crate::types::Remainder;
+use ac_forms::{Conj, Row};
+use ac_items::Items;
+use ac_kills::{CutStop, cut_case};
+use ac_omega::Piece;
+use ac_poly::types::Model;
+use std::alloc::{AllocError, Global};
+
+/// Adds copies of rows.
+pub(crate) fn push_rows(out: &mut Items<Row>, alloc: Global, rows: &[Row]) -> Result<(), AllocError>
+    ensures { OnOk result (out.new ≡ out.old ++ rows.now) }
+{
+    for row in rows {
+        out.push(row.copy(alloc)?)?;
+    }
+    Ok(())
+}
+
+/// The rows of a case in a piece of its reader: the context, the piece, and the rows of the source.
+fn case_conj(
+    alloc: Global,
+    m: &Model,
+    columns: usize,
+    rows: &[Row],
+    piece: &[Row],
+) -> Result<Conj, AllocError>
+    ensures { IfOk result (λ conj. conj ≡ case_conj m.now columns rows.now piece.now) }
+{
+    let mut all = Items::new(alloc);
+    push_rows(&mut all, alloc, m.context.as_slice())?;
+    push_rows(&mut all, alloc, piece)?;
+    push_rows(&mut all, alloc, rows)?;
+    Ok(Conj { columns, rows: all })
+}
+
+/// Adds what is left in a piece of the reader.
+fn push_remainders(
+    out: &mut Items<Remainder>,
+    reader: usize,
+    group: Items<Conj>,
+) -> Result<(), AllocError>
+    ensures { OnOk result (out.new ≡ out.old ++ map (remainder reader) group) }
+{
+    for conj in group.into_vec() {
+        out.push(Remainder { reader, conj })?;
+    }
+    Ok(())
+}
+
+/// What is left of a case in one piece of its reader.
+#[tactic(auto, using(crate::proofs::CutSteps::one_steps))]
+fn cut_piece(
+    alloc: Global,
+    m: &Model,
+    budget: u64,
+    room: usize,
+    columns: usize,
+    rows: &[Row],
+    kills: &[Items<Piece>],
+    piece: &[Row],
+    kept: &mut Items<Conj>,
+) -> Result<(), CutStop>
+    requires context { AreRowsOver columns m.now.context }
+    requires piece { AreRowsOver columns piece.now }
+    requires rows { AreRowsOver columns rows.now }
+    requires over { AllOver columns kills.now }
+    requires empty { kept.old ≡ [] }
+    ensures cut { OnOk result (IsCut (case_conj m.now columns rows.now piece.now) kills.now kept.new) }
+    ensures stops { (ks : List (List Row)) → AllKillsOf ks kills.now → IfErr result (CutStops budget (case_conj m.now columns rows.now piece.now).rows ks) }
+    ensures full { IfErr result (λ e. IfFull e (room < length kept.new)) }
+    ensures have { AllHavePoints kept.new }
+{
+    let conj = case_conj(alloc, m, columns, rows, piece)?;
+    cut_case(alloc, budget, room, &conj, kills, kept)
+}
+
+/// Adds the conjunctions of what is left.
+pub(crate) fn push_conjs(kept: &mut Items<Conj>, left: Items<Remainder>) -> Result<(), AllocError>
+    ensures { OnOk result (kept.new ≡ kept.old ++ map conj_of_remainder left) }
+{
+    for remainder in left.into_vec() {
+        let Remainder { conj, .. } = remainder;
+        kept.push(conj)?;
+    }
+    Ok(())
+}
+
+/// The stop of a cut, with what is left of the case before it.
+fn stopped(stop: CutStop, group: Items<Conj>, left: Items<Remainder>) -> CaseStop
+    ensures same { IsStopOf stop result }
+    ensures full { IfFilled result (λ kept. kept ≡ group ++ map conj_of_remainder left) }
+{
+    match stop {
+        CutStop::Overflow(question) => CaseStop::Overflow(question),
+        CutStop::Spent { question, cost } => CaseStop::Spent { question, cost },
+        CutStop::Memory(want) => CaseStop::Memory(want),
+        CutStop::Full => {
+            let mut kept = group;
+            match push_conjs(&mut kept, left) {
+                Ok(()) => CaseStop::Full(kept),
+                Err(want) => CaseStop::Memory(want),
+            }
+        }
+    }
+}
+
+/// What is left of a case in each piece of its reader.
+#[tactic(auto, using(crate::proofs::CutSteps::parts_steps))]
+pub(crate) fn cut_pieces(
+    alloc: Global,
+    m: &Model,
+    budget: u64,
+    room: usize,
+    columns: usize,
+    rows: &[Row],
+    kills: &[Items<Piece>],
+    pieces: &[Items<Row>],
+) -> Result<Items<Remainder>, CaseStop>
+    requires context { AreRowsOver columns m.now.context }
+    requires pieces { ArePiecesOver columns pieces.now }
+    requires rows { AreRowsOver columns rows.now }
+    requires over { AllOver columns kills.now }
+    ensures parts { IfOk result (AreParts m.now columns rows.now kills.now 0 pieces.now) }
+    ensures stops { (ks : List (List Row)) → AllKillsOf ks kills.now → IfErr result (λ e. PieceStops budget m.now columns rows.now pieces.now ks (plain e)) }
+    ensures full { IfErr result (λ e. IfFilled e (λ kept. (room < length kept) × AllHavePoints kept)) }
+{
+    let mut out = Items::new(alloc);
+    for d in 0..pieces.len() {
+        let left = room.saturating_sub(out.len());
+        let mut group = Items::new(alloc);
+        match cut_piece(
+            alloc,
+            m,
+            budget,
+            left,
+            columns,
+            rows,
+            kills,
+            pieces[d].as_slice(),
+            &mut group,
+        ) {
+            Ok(()) => match push_remainders(&mut out, d, group) {
+                Ok(()) => {}
+                Err(want) => return Err(CaseStop::Memory(want)),
+            },
+            Err(stop) => return Err(stopped(stop, group, out)),
+        }
+    }
+    Ok(out)
+}
