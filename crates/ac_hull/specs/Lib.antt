@@ -1,0 +1,12 @@
+pub mod Elimination
+pub mod Equalities
+pub mod Hulls
+pub mod Fitting
+pub mod Stops
+pub mod Templates
+pub mod Differences
+pub mod Claims
+pub mod Collected
+pub mod First
+pub mod Thresholds
+pub mod Inner
