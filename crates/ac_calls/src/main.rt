@@ -16,7 +16,7 @@ fn answer(
     words: &mut Words<'_>,
     out: &mut String,
 ) -> Result<bool, CaseStop> {
-    let call = words.word();
+    let call = words.name();
     Ok(calls.answer(alloc, call, words, out)? || ac_program_calls::answer(alloc, call, words, out)?)
 }
 

@@ -1,9 +1,11 @@
 // The real files.
 ghost use Rattle.std.specs.Prelude.{◌≡◌, ◌≤◌, length, None, IfOk};
+ghost use Rattle.ac_port.specs.Counts.{one_more};
 
-use crate::streams::{read_up_to, write_whole};
+use crate::streams::{fill, read_up_to, write_whole};
 use crate::{Files, ReadStop, WriteStop};
 use std::alloc::Global;
+use std::io::{Seek, SeekFrom};
 use std::rt::Files as HostFiles;
 use std::{fs, io};
 
@@ -28,6 +30,15 @@ impl<R: HostFiles> DiskFiles<R> {
             write_faults: 0,
         }
     }
+
+    /// One more read fault.
+    fn count_read_fault(&mut self)
+        ensures reads { self.new.read_faults ≡ one_more self.old.read_faults }
+        ensures no_fewer { self.old.read_faults ≤ self.new.read_faults }
+        ensures writes { self.new.write_faults ≡ self.old.write_faults }
+    {
+        self.read_faults = self.read_faults.saturating_add(1);
+    }
 }
 
 impl<R: HostFiles> Files for DiskFiles<R> {
@@ -42,7 +53,16 @@ impl<R: HostFiles> Files for DiskFiles<R> {
     fn read(&mut self, alloc: Global, name: &[u8], limit: u64) -> Result<Vec<u8>, ReadStop> {
         let outcome = read_file(&self.rt, alloc, name, limit);
         if let Err(ReadStop::Failed) = &outcome {
-            self.read_faults = self.read_faults.saturating_add(1);
+            self.count_read_fault();
+        }
+        outcome
+    }
+
+    fn part(&mut self, name: &[u8], from: u64, into: &mut [u8]) -> Result<usize, ReadStop> {
+        let outcome = read_part(&self.rt, name, from, into);
+        if outcome.is_err() {
+            self.count_read_fault();
+            return Err(ReadStop::Failed);
         }
         outcome
     }
@@ -67,6 +87,21 @@ fn read_file<R: HostFiles>(
     let path = str::from_utf8(name).map_err(|_| ReadStop::Failed)?;
     let mut file = fs::open(rt, path).map_err(|_| ReadStop::Failed)?;
     read_up_to(&mut file, alloc, limit)
+}
+
+fn read_part<R: HostFiles>(
+    rt: &R,
+    name: &[u8],
+    from: u64,
+    into: &mut [u8],
+) -> Result<usize, ReadStop>
+    ensures within { IfOk result (λ count. count ≤ length into.new) }
+{
+    let path = str::from_utf8(name).map_err(|_| ReadStop::Failed)?;
+    let mut file = fs::open(rt, path).map_err(|_| ReadStop::Failed)?;
+    file.seek(SeekFrom::Start(from))
+        .map_err(|_| ReadStop::Failed)?;
+    fill(&mut file, into)
 }
 
 fn write_file<R: HostFiles>(rt: &R, name: &[u8], bytes: &[u8]) -> io::Result<()> {

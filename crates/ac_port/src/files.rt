@@ -1,7 +1,7 @@
 // Files by name, as the program sees them.
-ghost use Rattle.std.specs.Prelude.{◌≡◌, ◌≤◌, ℕ, List, length, Option, option_map, IfOk, OnOk, IfSome, IsErrOf, alloc_error};
+ghost use Rattle.std.specs.Prelude.{◌≡◌, ◌≤◌, ℕ, List, length, Option, option_map, IfOk, OnOk, OnErr, IfSome, IsSomeAnd, IsErrOf, alloc_error};
 ghost use Rattle.std.specs.FinMap as map;
-ghost use Rattle.ac_port.specs.Contents.{Contents, IsTooBig, IsSameBut};
+ghost use Rattle.ac_port.specs.Contents.{Contents, IsTooBig, IsPart, IsSameBut};
 ghost use Rattle.ac_port.specs.Counts.{Rose};
 ghost use Rattle.ac_port.specs.declared.files.ReadStop.TheVariants as read_stop;
 ghost use Rattle.ac_port.specs.declared.files.WriteStop.TheVariants as write_stop;
@@ -66,6 +66,19 @@ pub trait Files {
         ensures too_big { IsErrOf result ReadStop.TooBig → IfSome (contents self.old) (λ files. IsTooBig files name.now limit) }
         ensures failed { IsErrOf result ReadStop.Failed → Rose (read_faults self.old) (read_faults self.new) }
         ensures quiet { ¬ (IsErrOf result ReadStop.Failed) → read_faults self.new ≡ read_faults self.old }
+        ensures makes { read_makes self.old name.now self.new }
+        ensures same { contents self.new ≡ contents self.old }
+        ensures no_fewer { read_faults self.old ≤ read_faults self.new }
+        ensures same_writes { write_faults self.new ≡ write_faults self.old };
+
+    /// Copies the named file's bytes from the place `from` on to the front of `into`, as many as fit and are left, and answers
+    /// their number. So 0 for an `into` that is not empty is the end of the file. After a refusal, which is always `Failed`,
+    /// `into` holds anything.
+    fn part(&mut self, name: &[u8], from: u64, into: &mut [u8]) -> Result<usize, ReadStop>
+        ensures bytes { IfOk result (λ count. IfSome (contents self.old) (λ files. IsSomeAnd (map.get files name.now) (λ bytes. IsPart bytes from into.old into.new count))) }
+        ensures within { IfOk result (λ count. count ≤ length into.new) }
+        ensures failed { OnErr result (IsErrOf result ReadStop.Failed × Rose (read_faults self.old) (read_faults self.new)) }
+        ensures quiet { OnOk result (read_faults self.new ≡ read_faults self.old) }
         ensures makes { read_makes self.old name.now self.new }
         ensures same { contents self.new ≡ contents self.old }
         ensures no_fewer { read_faults self.old ≤ read_faults self.new }

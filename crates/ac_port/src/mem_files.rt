@@ -1,8 +1,8 @@
 // Files in memory, for tests: a log of what was written, the newest first.
-ghost use Rattle.std.specs.Prelude.{◌≡◌, ◌≤◌, ◌++◌, ◌∷◌, ◌↔◌, [], length, Option, IfOk, OnOk, OnErr, IsErrOf, IsTrue};
+ghost use Rattle.std.specs.Prelude.{◌≡◌, ◌≤◌, ◌++◌, ◌∷◌, ◌↔◌, [], length, Option, IfOk, OnOk, OnErr, IsErrOf, IsTrue, IsSomeAnd};
 ghost use Rattle.std.specs.Option.{option_copied};
 ghost use Rattle.std.specs.FinMap as map;
-ghost use Rattle.ac_port.specs.Contents.{IsTooBig};
+ghost use Rattle.ac_port.specs.Contents.{IsTooBig, IsPart};
 ghost use Rattle.ac_port.specs.Counts.{Rose};
 ghost use Rattle.ac_port.specs.Calls.{is_listed, after_call};
 ghost use Rattle.ac_port.specs.Memory.{read_fails};
@@ -95,6 +95,13 @@ impl MemFiles {
         }
         None
     }
+
+    /// Whether the next read of this name fails.
+    fn next_read_fails(&self, name: &[u8]) -> bool
+        ensures { result ≡ read_fails self.now name.now }
+    {
+        self.reads.is_next_listed() || self.get(name).is_none()
+    }
 }
 
 impl Files for MemFiles {
@@ -120,7 +127,7 @@ impl Files for MemFiles {
         ensures no_fewer { self.old.reads.faults ≤ self.new.reads.faults }
         ensures same_writes { self.new.writes.faults ≡ self.old.writes.faults }
     {
-        let fails = self.reads.is_next_listed() || self.get(name).is_none();
+        let fails = self.next_read_fails(name);
         self.reads.count(fails);
         if fails {
             return Err(ReadStop::Failed);
@@ -129,6 +136,30 @@ impl Files for MemFiles {
             None => Err(ReadStop::Failed),
             Some(bytes) if bytes.len() as u64 > limit => Err(ReadStop::TooBig),
             Some(bytes) => Ok(bytes.to_vec(alloc)?),
+        }
+    }
+
+    /// Fails exactly at a listed read and at a name that is not there; parts are numbered with the reads.
+    fn part(&mut self, name: &[u8], from: u64, into: &mut [u8]) -> Result<usize, ReadStop>
+        ensures exact { IsErrOf result ReadStop.Failed ↔ IsTrue (read_fails self.old name.now) }
+        ensures counted { self.new ≡ record self.old { reads = after_call (read_fails self.old name.now) self.old.reads } }
+        ensures bytes { IfOk result (λ count. IsSomeAnd (map.get self.old.contents name.now) (λ bytes. IsPart bytes from into.old into.new count)) }
+        ensures within { IfOk result (λ count. count ≤ length into.new) }
+        ensures failed { OnErr result (IsErrOf result ReadStop.Failed × Rose self.old.reads.faults self.new.reads.faults) }
+        ensures quiet { OnOk result (self.new.reads.faults ≡ self.old.reads.faults) }
+        ensures makes { self.new ≡ record self.old { reads = after_call (read_fails self.old name.now) self.old.reads } }
+        ensures same { self.new.contents ≡ self.old.contents }
+        ensures no_fewer { self.old.reads.faults ≤ self.new.reads.faults }
+        ensures same_writes { self.new.writes.faults ≡ self.old.writes.faults }
+    {
+        let fails = self.next_read_fails(name);
+        self.reads.count(fails);
+        if fails {
+            return Err(ReadStop::Failed);
+        }
+        match self.get(name) {
+            None => Err(ReadStop::Failed),
+            Some(bytes) => Ok(copy_part(bytes, from, into)),
         }
     }
 
@@ -149,4 +180,16 @@ impl Files for MemFiles {
         }
         Ok(self.add(name, bytes)?)
     }
+}
+
+/// Copies bytes from a place on to the front of others, as many as fit and are left, and gives their number.
+fn copy_part(bytes: &[u8], from: u64, into: &mut [u8]) -> usize
+    ensures part { IsPart bytes.now from into.old into.new result }
+    ensures within { result ≤ length into.new }
+{
+    let start = bytes.len().min(from as usize);
+    let rest = &bytes[start..];
+    let count = rest.len().min(into.len());
+    into[..count].copy_from_slice(&rest[..count]);
+    count
 }

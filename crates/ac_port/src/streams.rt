@@ -34,6 +34,23 @@ pub fn read_up_to<R: Read>(reader: &mut R, alloc: Global, limit: u64) -> Result<
     Err(ReadStop::Failed)
 }
 
+/// Fills the bytes with what the reader still gives, and gives their number: fewer than there is room for only at its end.
+pub fn fill<R: Read>(reader: &mut R, into: &mut [u8]) -> Result<usize, ReadStop>
+    ensures within { IfOk result (λ count. count ≤ length into.new) }
+{
+    let mut count = 0;
+    while count < into.len() {
+        let Ok(more) = reader.read(&mut into[count..]) else {
+            return Err(ReadStop::Failed);
+        };
+        if more == 0 {
+            return Ok(count);
+        }
+        count += more;
+    }
+    Ok(count)
+}
+
 /// Writes all the bytes. An error leaves some front part of them written.
 pub fn write_whole<W: Write>(writer: &mut W, bytes: &[u8]) -> io::Result<()>
     ensures whole { OnOk result (Appends (W.contents writer.old) (W.contents writer.new) bytes.now) }

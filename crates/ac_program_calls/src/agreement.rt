@@ -1,40 +1,49 @@
 //! Lowered programs against their traces, as a plain program lists them.
 ghost use Rattle.ac_syntax.specs.Ready.{ReadyProgram};
 
+use crate::lowering::lowered;
 use crate::traces::in_range;
 use ac_case_text::CaseStop;
 use ac_forms::{Form, Row};
 use ac_items::Items;
 use ac_plain::slow::{self, Execution};
+use ac_poly::before;
 use ac_poly::types::{Model, NodeModel, StmtModel};
-use ac_poly::{before, lower};
 use ac_syntax::tree::Program;
-use std::alloc::Global;
+use std::alloc::{AllocError, Global};
 
 /// Counters from -1 on.
 const WIDTH: u64 = 10;
 
-fn point(alloc: Global, n: i64, first: &[i64], second: &[i64]) -> Result<Vec<i128>, CaseStop> {
+fn push_all(point: &mut Vec<i128>, numbers: &[i64]) -> Result<(), AllocError> {
+    for number in numbers {
+        point.push(i128::from(*number))?;
+    }
+    Ok(())
+}
+
+fn point(alloc: Global, n: i64, first: &[i64], second: &[i64]) -> Result<Vec<i128>, AllocError> {
     let mut point = Vec::new(alloc);
     point.push(i128::from(n))?;
-    for counter in first {
-        point.push(i128::from(*counter))?;
-    }
-    for counter in second {
-        point.push(i128::from(*counter))?;
-    }
+    push_all(&mut point, first)?;
+    push_all(&mut point, second)?;
     Ok(point)
+}
+
+fn holds(row: &Row, point: &[i128]) -> Result<bool, CaseStop> {
+    if !row.is_over(point.len()) {
+        return Err(CaseStop::Malformed("rows over the columns"));
+    }
+    match row.holds_at(point) {
+        Ok(holds) => Ok(holds),
+        Err(_) => Err(CaseStop::Malformed("rows of 128 bits")),
+    }
 }
 
 fn meets(rows: &[Row], point: &[i128]) -> Result<bool, CaseStop> {
     for row in rows {
-        if !row.is_over(point.len()) {
-            return Err(CaseStop::Malformed("rows over the columns"));
-        }
-        match row.holds_at(point) {
-            Ok(true) => {}
-            Ok(false) => return Ok(false),
-            Err(_) => return Err(CaseStop::Malformed("rows of 128 bits")),
+        if !holds(row, point)? {
+            return Ok(false);
         }
     }
     Ok(true)
@@ -80,19 +89,29 @@ fn box_agrees(
     stmt: &StmtModel,
 ) -> Result<bool, CaseStop> {
     let depth = stmt.loops.len();
-    let mut size = 1u64;
-    for _ in 0..depth {
-        size = size.saturating_mul(WIDTH);
-    }
-    for at in 0..size {
+    for at in 0..size(depth) {
         let counters = counters(alloc, depth, at)?;
-        let here = point(alloc, n, counters.as_slice(), &[])?;
         let listed = stands(executions, number, counters.as_slice());
-        if (met(stmt.pieces.as_slice(), here.as_slice())? > 0) != listed {
+        if is_met(alloc, n, stmt, counters.as_slice())? != listed {
             return Ok(false);
         }
     }
     Ok(true)
+}
+
+/// How many points a box of so many dimensions has.
+fn size(depth: usize) -> u64 {
+    let mut size = 1u64;
+    for _ in 0..depth {
+        size = size.saturating_mul(WIDTH);
+    }
+    size
+}
+
+/// Whether some piece of an assignment has the point of these counters.
+fn is_met(alloc: Global, n: i64, stmt: &StmtModel, counters: &[i64]) -> Result<bool, CaseStop> {
+    let here = point(alloc, n, counters, &[])?;
+    Ok(met(stmt.pieces.as_slice(), here.as_slice())? > 0)
 }
 
 fn has_value(form: &Form, point: &[i128], value: i64) -> bool {
@@ -149,14 +168,18 @@ fn executions_agree(
     for execution in executions {
         let stmt = assignment(stmts, execution)?;
         let here = point(alloc, n, execution.counters.as_slice(), &[])?;
-        let at = execution.at.as_slice();
-        let is_met = met(stmt.pieces.as_slice(), here.as_slice())? == 1;
-        let cell = is_cell(stmt.subs.as_slice(), here.as_slice(), at);
-        if !(is_met && cell && are_nodes(stmt.nodes.as_slice(), here.as_slice(), at)) {
+        if !execution_agrees(stmt, here.as_slice(), execution.at.as_slice())? {
             return Ok(false);
         }
     }
     Ok(true)
+}
+
+/// Whether a point lies in one piece of its assignment, where the forms have the value that was executed.
+fn execution_agrees(stmt: &StmtModel, here: &[i128], at: &[i64]) -> Result<bool, CaseStop> {
+    let is_met = met(stmt.pieces.as_slice(), here)? == 1;
+    let cell = is_cell(stmt.subs.as_slice(), here, at);
+    Ok(is_met && cell && are_nodes(stmt.nodes.as_slice(), here, at))
 }
 
 /// How many levels say that one execution comes before another.
@@ -173,13 +196,24 @@ fn levels_met(
         return Err(CaseStop::Malformed("an assignment"));
     }
     let levels = before(alloc, model, s, u)?;
+    count_met(alloc, n, levels.as_slice(), first, second)
+}
+
+/// How many of the levels hold of two executions.
+fn count_met(
+    alloc: Global,
+    n: i64,
+    levels: &[Items<Row>],
+    first: &Execution,
+    second: &Execution,
+) -> Result<usize, CaseStop> {
     let both = point(
         alloc,
         n,
         first.counters.as_slice(),
         second.counters.as_slice(),
     )?;
-    met(levels.as_slice(), both.as_slice())
+    met(levels, both.as_slice())
 }
 
 /// Whether the levels of two executions' assignments say which of them comes first.
@@ -221,15 +255,21 @@ fn boxes_agree(
 pub(crate) fn agrees(alloc: Global, p: &Program, n: i64) -> Result<bool, CaseStop>
     requires { ReadyProgram p.now }
 {
-    let Ok(model) = lower(alloc, p, &p.context) else {
-        return Err(CaseStop::Malformed("a program that is lowered"));
-    };
+    let model = lowered(alloc, p)?;
     let executions = in_range(slow::trace(alloc, p.body.as_slice(), &[n]))?;
-    let executions = executions.as_slice();
+    all_agree(alloc, n, executions.as_slice(), &model)
+}
+
+fn all_agree(
+    alloc: Global,
+    n: i64,
+    executions: &[Execution],
+    model: &Model,
+) -> Result<bool, CaseStop> {
     let stmts = model.stmts.as_slice();
     Ok(
         boxes_agree(alloc, n, executions, stmts)?
             && executions_agree(alloc, n, executions, stmts)?
-            && order_agrees(alloc, n, executions, &model)?,
+            && order_agrees(alloc, n, executions, model)?,
     )
 }

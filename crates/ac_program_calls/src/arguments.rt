@@ -2,6 +2,7 @@ ghost use Rattle.std.specs.Prelude.{◌≡◌, ◌<◌, ◌^◌, length, IfOk};
 ghost use Rattle.ac_syntax.specs.Ready.{ReadyProgram};
 
 use ac_case_text::{CaseStop, Words};
+use ac_lex::{Token, lex};
 use ac_parse::{SourceFault, parse};
 use ac_syntax::name::Name;
 use ac_syntax::tree::Program;
@@ -83,15 +84,38 @@ pub(crate) fn text(alloc: Global, words: &mut Words<'_>) -> Result<Vec<u8>, Case
     }
 }
 
+/// The tokens of a text.
+pub(crate) fn tokens<'a>(alloc: Global, text: &'a [u8]) -> Result<Vec<Token<'a>>, CaseStop>
+    requires { length text.now < 2 ^ 32 }
+{
+    match lex(alloc, text) {
+        Ok(tokens) => Ok(tokens),
+        Err(_) => Err(CaseStop::Malformed("a text of tokens")),
+    }
+}
+
 /// The program of the next quoted text.
 pub(crate) fn program(alloc: Global, words: &mut Words<'_>) -> Result<Program, CaseStop>
     ensures { IfOk result ReadyProgram }
 {
     let text = text(alloc, words)?;
-    match parse(alloc, &text) {
+    parsed(alloc, &text)
+}
+
+/// The program of a text, which is to be one.
+fn parsed(alloc: Global, text: &[u8]) -> Result<Program, CaseStop>
+    ensures { IfOk result ReadyProgram }
+{
+    match parse(alloc, text) {
         Ok(program) => Ok(program),
-        Err(SourceFault::Memory(error)) => Err(CaseStop::Memory(error)),
-        Err(_) => Err(CaseStop::Malformed("the text of a program")),
+        Err(fault) => Err(unparsed(fault)),
+    }
+}
+
+fn unparsed(fault: SourceFault) -> CaseStop {
+    match fault {
+        SourceFault::Memory(error) => CaseStop::Memory(error),
+        _ => CaseStop::Malformed("the text of a program"),
     }
 }
 

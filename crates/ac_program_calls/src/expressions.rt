@@ -1,12 +1,13 @@
 //! Calls on expressions and conditions of source trees.
-use crate::arguments::{push_bytes, text};
+use crate::arguments::{push_bytes, text, tokens};
 use ac_case_text::{CaseStop, Words};
 use ac_grammar::conditions::condition;
 use ac_grammar::cursor::{Cursor, Stop};
 use ac_grammar::expressions::expression;
-use ac_grammar::tree::{Expr, Operator, Part, Relation, Word};
+use ac_grammar::tree::{Expr, Numeral, Operator, Part, Relation, Word};
 use ac_items::Items;
-use ac_lex::lex;
+use ac_lex::Token;
+use ac_syntax::tree::Place;
 use std::alloc::{AllocError, Global};
 use std::fmt::Write;
 
@@ -22,50 +23,59 @@ pub(crate) const DEPTH: usize = 20;
 /// bar stands the place of the first token that is left.
 pub(crate) fn answer(
     alloc: Global,
-    call: &[u8],
+    call: &str,
     words: &mut Words<'_>,
     out: &mut String,
 ) -> Result<bool, CaseStop> {
-    match call {
-        b"expression" => show_expression(alloc, words, out)?,
-        b"condition" => show_condition(alloc, words, out)?,
+    let answered = match call {
+        "expression" => show_expression(alloc, words, out),
+        "condition" => show_condition(alloc, words, out),
         _ => return Ok(false),
-    }
+    };
+    answered?;
     Ok(true)
 }
 
 fn show_expression(alloc: Global, words: &mut Words<'_>, out: &mut String) -> Result<(), CaseStop> {
     let room = words.size()?;
     let text = text(alloc, words)?;
-    let Ok(tokens) = lex(alloc, &text) else {
-        return Err(CaseStop::Malformed("a text of tokens"));
-    };
-    let mut cursor = Cursor::new(&tokens);
-    match expression(alloc, &mut cursor, room) {
-        Ok(e) => {
-            show(out, &e, DEPTH)?;
-            show_rest(out, &cursor)?;
-        }
-        Err(stop) => show_stop(out, stop, &cursor)?,
+    let tokens = tokens(alloc, &text)?;
+    show_expression_of(alloc, room, &tokens, out)
+}
+
+fn show_expression_of(
+    alloc: Global,
+    room: usize,
+    tokens: &[Token<'_>],
+    out: &mut String,
+) -> Result<(), CaseStop> {
+    let mut left = Cursor::new(tokens);
+    match expression(alloc, &mut left, room) {
+        Ok(e) => show(out, &e, DEPTH)?,
+        Err(stop) => return show_stop(out, stop, &left),
     }
-    Ok(())
+    Ok(show_rest(out, &left)?)
 }
 
 fn show_condition(alloc: Global, words: &mut Words<'_>, out: &mut String) -> Result<(), CaseStop> {
     let room = words.size()?;
     let text = text(alloc, words)?;
-    let Ok(tokens) = lex(alloc, &text) else {
-        return Err(CaseStop::Malformed("a text of tokens"));
-    };
-    let mut cursor = Cursor::new(&tokens);
-    match condition(alloc, &mut cursor, room) {
-        Ok(parts) => {
-            show_parts(out, &parts)?;
-            show_rest(out, &cursor)?;
-        }
-        Err(stop) => show_stop(out, stop, &cursor)?,
+    let tokens = tokens(alloc, &text)?;
+    show_condition_of(alloc, room, &tokens, out)
+}
+
+fn show_condition_of(
+    alloc: Global,
+    room: usize,
+    tokens: &[Token<'_>],
+    out: &mut String,
+) -> Result<(), CaseStop> {
+    let mut left = Cursor::new(tokens);
+    match condition(alloc, &mut left, room) {
+        Ok(parts) => show_parts(out, &parts)?,
+        Err(stop) => return show_stop(out, stop, &left),
     }
-    Ok(())
+    Ok(show_rest(out, &left)?)
 }
 
 pub(crate) fn symbol(operator: Operator) -> &'static str {
@@ -94,6 +104,32 @@ pub(crate) fn show_word(out: &mut String, word: &Word) -> Result<(), AllocError>
     Ok(())
 }
 
+pub(crate) fn show_numeral(out: &mut String, numeral: Numeral) -> Result<(), AllocError> {
+    write!(out, "{}@{}", numeral.number, numeral.place.at)?;
+    Ok(())
+}
+
+/// Shows an opening mark and its place.
+fn show_opening(out: &mut String, mark: char, place: Place) -> Result<(), AllocError> {
+    out.push(mark)?;
+    write!(out, "@{} ", place.at)?;
+    Ok(())
+}
+
+/// Shows the operator in front of an operand of a chain, which the first one has not.
+fn show_operator(
+    out: &mut String,
+    operators: &Items<Operator>,
+    operand: usize,
+) -> Result<(), AllocError> {
+    if operand > 0 {
+        if let Some(operator) = operators.get(operand - 1) {
+            write!(out, " {} ", symbol(*operator))?;
+        }
+    }
+    Ok(())
+}
+
 /// Shows an expression of less depth than `depth`.
 #[cycle(show)]
 pub(crate) fn show(out: &mut String, e: &Expr, depth: usize) -> Result<(), AllocError> {
@@ -101,34 +137,31 @@ pub(crate) fn show(out: &mut String, e: &Expr, depth: usize) -> Result<(), Alloc
         return Ok(());
     }
     match e {
-        Expr::Number(numeral) => write!(out, "{}@{}", numeral.number, numeral.place.at)?,
-        Expr::Decimal(word) => show_word(out, word)?,
+        Expr::Number(numeral) => show_numeral(out, *numeral),
+        Expr::Decimal(word) => show_word(out, word),
         Expr::Access { name, subs } => {
             show_word(out, name)?;
-            show_subscripts(out, subs, depth - 1)?;
+            show_subscripts(out, subs, depth - 1)
         }
         Expr::Call { name, args } => {
             show_word(out, name)?;
-            out.push('(')?;
-            show_list(out, args, depth - 1)?;
-            out.push(')')?;
+            show_list(out, args, depth - 1)
         }
         Expr::Negative { operand, place } => {
-            write!(out, "<@{} ", place.at)?;
+            show_opening(out, '<', *place)?;
             show(out, operand.get(), depth - 1)?;
-            out.push('>')?;
+            Ok(out.push('>')?)
         }
         Expr::Group { inner, place } => {
-            write!(out, "(@{} ", place.at)?;
+            show_opening(out, '(', *place)?;
             show(out, inner.get(), depth - 1)?;
-            out.push(')')?;
+            Ok(out.push(')')?)
         }
         Expr::Chain {
             operands,
             operators,
-        } => show_chain(out, operands, operators, depth - 1)?,
+        } => show_chain(out, operands, operators, depth - 1),
     }
-    Ok(())
 }
 
 #[cycle(show)]
@@ -147,12 +180,12 @@ pub(crate) fn show_subscripts(
 
 #[cycle(show)]
 fn show_list(out: &mut String, items: &Items<Expr>, depth: usize) -> Result<(), AllocError> {
+    out.push('(')?;
     for (number, item) in items.as_slice().iter().enumerate() {
-        if number > 0 {
-            out.push_str(", ")?;
-        }
+        out.push_str(if number > 0 { ", " } else { "" })?;
         show(out, item, depth)?;
     }
+    out.push(')')?;
     Ok(())
 }
 
@@ -165,11 +198,7 @@ fn show_chain(
 ) -> Result<(), AllocError> {
     out.push('{')?;
     for (number, operand) in operands.as_slice().iter().enumerate() {
-        if number > 0 {
-            if let Some(operator) = operators.get(number - 1) {
-                write!(out, " {} ", symbol(*operator))?;
-            }
-        }
+        show_operator(out, operators, number)?;
         show(out, operand, depth)?;
     }
     out.push('}')?;
@@ -178,14 +207,16 @@ fn show_chain(
 
 pub(crate) fn show_parts(out: &mut String, parts: &Items<Part>) -> Result<(), AllocError> {
     for (number, part) in parts.as_slice().iter().enumerate() {
-        if number > 0 {
-            out.push_str(" && ")?;
-        }
-        show(out, &part.left, DEPTH)?;
-        write!(out, " {} ", relation(part.relation))?;
-        show(out, &part.right, DEPTH)?;
+        out.push_str(if number > 0 { " && " } else { "" })?;
+        show_part(out, part)?;
     }
     Ok(())
+}
+
+fn show_part(out: &mut String, part: &Part) -> Result<(), AllocError> {
+    show(out, &part.left, DEPTH)?;
+    write!(out, " {} ", relation(part.relation))?;
+    show(out, &part.right, DEPTH)
 }
 
 fn show_place(out: &mut String, tokens: &Cursor<'_>) -> Result<(), AllocError> {

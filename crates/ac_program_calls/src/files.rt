@@ -1,12 +1,11 @@
 //! Calls on whole files of the grammar, and on the rules.
 ghost use Rattle.std.specs.Prelude.{◌<◌, ◌^◌, length};
 
-use crate::arguments::text;
+use crate::arguments::{text, tokens};
 use crate::statements::show_file;
 use ac_case_text::{CaseStop, Words};
 use ac_grammar::tree::File;
 use ac_grammar::{GrammarFault, read};
-use ac_lex::lex;
 use ac_rules::apply;
 use ac_rules::fault::RuleFault;
 use std::alloc::{AllocError, Global};
@@ -20,25 +19,24 @@ use std::fmt::Write;
 /// - `rules "TEXT"`: of how many parameters a file is a program, or the rule that it breaks.
 pub(crate) fn answer(
     alloc: Global,
-    call: &[u8],
+    call: &str,
     words: &mut Words<'_>,
     out: &mut String,
 ) -> Result<bool, CaseStop> {
-    match call {
-        b"file" => show_text(alloc, words, out)?,
-        b"nest" => show_nest(alloc, words, out)?,
-        b"rules" => show_rules(alloc, words, out)?,
+    let answered = match call {
+        "file" => show_text(alloc, words, out),
+        "nest" => show_nest(alloc, words, out),
+        "rules" => show_rules(alloc, words, out),
         _ => return Ok(false),
-    }
+    };
+    answered?;
     Ok(true)
 }
 
 fn file_of(alloc: Global, text: &[u8]) -> Result<Result<File, GrammarFault>, CaseStop>
     requires { length text.now < 2 ^ 32 }
 {
-    let Ok(tokens) = lex(alloc, text) else {
-        return Err(CaseStop::Malformed("a text of tokens"));
-    };
+    let tokens = tokens(alloc, text)?;
     Ok(read(alloc, &tokens, text.len() as u32))
 }
 
@@ -104,7 +102,13 @@ fn show_nest(alloc: Global, words: &mut Words<'_>, out: &mut String) -> Result<(
     if text.len() >= 1_000_000 {
         return Err(CaseStop::Malformed("a short text"));
     }
-    match file_of(alloc, &text)? {
+    show_whether_file(alloc, &text, out)
+}
+
+fn show_whether_file(alloc: Global, text: &[u8], out: &mut String) -> Result<(), CaseStop>
+    requires { length text.now < 2 ^ 32 }
+{
+    match file_of(alloc, text)? {
         Ok(_) => Ok(out.push_str("a file")?),
         Err(fault) => show_fault(out, fault),
     }
@@ -112,13 +116,29 @@ fn show_nest(alloc: Global, words: &mut Words<'_>, out: &mut String) -> Result<(
 
 fn show_rules(alloc: Global, words: &mut Words<'_>, out: &mut String) -> Result<(), CaseStop> {
     let text = text(alloc, words)?;
-    let Ok(file) = file_of(alloc, &text)? else {
-        return Err(CaseStop::Malformed("the text of a file"));
-    };
-    match apply(alloc, &file) {
-        Ok(program) => write!(out, "a program of {} parameters", program.params.len())?,
-        Err(RuleFault::Memory(error)) => return Err(CaseStop::Memory(error)),
-        Err(fault) => write!(out, "{fault}")?,
+    match file_of(alloc, &text)? {
+        Ok(file) => show_program(alloc, &file, out),
+        Err(_) => Err(CaseStop::Malformed("the text of a file")),
+    }
+}
+
+/// Shows of how many parameters a file is a program, or the rule that it breaks.
+fn show_program(alloc: Global, file: &File, out: &mut String) -> Result<(), CaseStop> {
+    match apply(alloc, file) {
+        Ok(program) => Ok(show_count(out, program.params.len())?),
+        Err(fault) => show_broken(out, fault),
+    }
+}
+
+fn show_count(out: &mut String, params: usize) -> Result<(), AllocError> {
+    write!(out, "a program of {params} parameters")?;
+    Ok(())
+}
+
+fn show_broken(out: &mut String, fault: RuleFault) -> Result<(), CaseStop> {
+    match fault {
+        RuleFault::Memory(error) => return Err(CaseStop::Memory(error)),
+        fault => write!(out, "{fault}")?,
     }
     Ok(())
 }

@@ -1,5 +1,5 @@
 //! Calls on names, printed programs and copies, and the laws of programs.
-use crate::arguments::{program, small, smalls};
+use crate::arguments::{small, smalls};
 use ac_case_text::{CaseStop, Words, push_quoted};
 use ac_parse::parse;
 use ac_syntax::name::Name;
@@ -8,50 +8,70 @@ use ac_syntax::{copy, count, laws, make, print_program};
 use std::alloc::{AllocError, Global};
 use std::fmt::Write;
 
-/// Answers
+/// Answers, of the program that stands in front,
 ///
 /// - `printed "TEXT"`: the canonical text of a program.
 /// - `printed_again "TEXT"`: whether the canonical text of a program is a program whose canonical text is the same.
-/// - `name_of COUNT`: whether so many letters are a name.
-/// - `value_of_form KONST [PARAMS] [ITERS] [VALUES] [VALUES]`: the value of an index expression, and whether a copy is the same.
 /// - `first_value "TEXT"`: the nodes of the value that the first statement assigns, and whether a copy is the same.
 /// - `assignments "TEXT"`: how many assignments stand in a program.
-/// - `laws_of_programs`: the functions whose contracts are laws of programs, called.
-pub(crate) fn answer(
+pub(crate) fn answer_of(
     alloc: Global,
-    call: &[u8],
-    words: &mut Words<'_>,
+    p: &Program,
+    call: &str,
     out: &mut String,
 ) -> Result<bool, CaseStop> {
-    match call {
-        b"printed" => {
-            let printed = print_program(alloc, &program(alloc, words)?)?;
-            push_quoted(out, &printed)?;
-        }
-        b"printed_again" => show_again(alloc, &program(alloc, words)?, out)?,
-        b"name_of" => show_name(alloc, words, out)?,
-        b"value_of_form" => show_form(alloc, words, out)?,
-        b"first_value" => show_first(alloc, &program(alloc, words)?, out)?,
-        b"assignments" => show_assignments(&program(alloc, words)?, out)?,
-        b"laws_of_programs" => show_laws(out)?,
+    let answered = match call {
+        "printed" => show_printed(alloc, p, out),
+        "printed_again" => show_again(alloc, p, out),
+        "first_value" => show_first(alloc, p, out),
+        "assignments" => show_assignments(p, out),
         _ => return Ok(false),
-    }
+    };
+    answered?;
     Ok(true)
 }
 
-fn show_again(alloc: Global, program: &Program, out: &mut String) -> Result<(), CaseStop> {
-    let printed = print_program(alloc, program)?;
-    let Ok(again) = parse(alloc, &printed) else {
-        out.push_str("the print is no program")?;
-        return Ok(());
+/// Answers
+///
+/// - `name_of COUNT`: whether so many letters are a name.
+/// - `value_of_form KONST [PARAMS] [ITERS] [VALUES] [VALUES]`: the value of an index expression, and whether a copy is the same.
+/// - `laws_of_programs`: the functions whose contracts are laws of programs, called.
+pub(crate) fn answer(
+    alloc: Global,
+    call: &str,
+    words: &mut Words<'_>,
+    out: &mut String,
+) -> Result<bool, CaseStop> {
+    let answered = match call {
+        "name_of" => show_name(alloc, words, out),
+        "value_of_form" => show_form(alloc, words, out),
+        "laws_of_programs" => show_laws(out),
+        _ => return Ok(false),
     };
-    let second = print_program(alloc, &again)?;
-    out.push_str(if printed.as_slice() == second.as_slice() {
-        "the second print is the first"
-    } else {
-        "the second print differs"
-    })?;
-    Ok(())
+    answered?;
+    Ok(true)
+}
+
+fn show_printed(alloc: Global, p: &Program, out: &mut String) -> Result<(), CaseStop> {
+    let printed = print_program(alloc, p)?;
+    Ok(push_quoted(out, &printed)?)
+}
+
+fn show_again(alloc: Global, p: &Program, out: &mut String) -> Result<(), CaseStop> {
+    let printed = print_program(alloc, p)?;
+    Ok(out.push_str(again(alloc, &printed)?)?)
+}
+
+/// Whether a text is a program of which it is the canonical text.
+fn again(alloc: Global, printed: &[u8]) -> Result<&'static str, AllocError> {
+    match parse(alloc, printed) {
+        Err(_) => Ok("the print is no program"),
+        Ok(again) => Ok(if print_program(alloc, &again)?.as_slice() == printed {
+            "the second print is the first"
+        } else {
+            "the second print differs"
+        }),
+    }
 }
 
 fn show_name(alloc: Global, words: &mut Words<'_>, out: &mut String) -> Result<(), CaseStop> {
@@ -89,11 +109,20 @@ pub(crate) fn form(alloc: Global, words: &mut Words<'_>) -> Result<IndexExpr, Ca
 
 fn show_form(alloc: Global, words: &mut Words<'_>, out: &mut String) -> Result<(), CaseStop> {
     let form = form(alloc, words)?;
+    show_value(alloc, &form, words, out)?;
+    let copy = copy::copy_index_expr(alloc, &form)?;
+    Ok(show_same(out, copy == form)?)
+}
+
+fn show_value(
+    alloc: Global,
+    form: &IndexExpr,
+    words: &mut Words<'_>,
+    out: &mut String,
+) -> Result<(), CaseStop> {
     let params = smalls(alloc, words)?;
     let iters = smalls(alloc, words)?;
-    show_number(out, form.value(&params, &iters))?;
-    show_same(out, copy::copy_index_expr(alloc, &form)? == form)?;
-    Ok(())
+    Ok(show_number(out, form.value(&params, &iters))?)
 }
 
 fn first_value(program: &Program) -> Option<&Value> {
@@ -103,25 +132,26 @@ fn first_value(program: &Program) -> Option<&Value> {
     }
 }
 
-fn show_first(alloc: Global, program: &Program, out: &mut String) -> Result<(), CaseStop> {
-    let Some(value) = first_value(program) else {
-        return Err(CaseStop::Malformed("an assignment first"));
-    };
+fn show_first(alloc: Global, p: &Program, out: &mut String) -> Result<(), CaseStop> {
+    match first_value(p) {
+        Some(value) => Ok(show_nodes(alloc, value, out)?),
+        None => Err(CaseStop::Malformed("an assignment first")),
+    }
+}
+
+fn show_nodes(alloc: Global, value: &Value, out: &mut String) -> Result<(), AllocError> {
     show_number(out, count::nodes(value).map(i128::from))?;
     out.push_str(" nodes")?;
-    show_same(out, copy::copy_value(alloc, value)? == *value)?;
-    Ok(())
+    let copy = copy::copy_value(alloc, value)?;
+    show_same(out, copy == *value)
 }
 
-fn show_assignments(program: &Program, out: &mut String) -> Result<(), CaseStop> {
-    show_number(
-        out,
-        count::assignments_in(program.body.as_slice()).map(i128::from),
-    )?;
-    Ok(())
+fn show_assignments(p: &Program, out: &mut String) -> Result<(), CaseStop> {
+    let count = count::assignments_in(p.body.as_slice());
+    Ok(show_number(out, count.map(i128::from))?)
 }
 
-fn show_laws(out: &mut String) -> Result<(), AllocError> {
+fn show_laws(out: &mut String) -> Result<(), CaseStop> {
     laws::turns_of_a_loop();
     laws::entries_of_a_trace();
     laws::order_of_entries();

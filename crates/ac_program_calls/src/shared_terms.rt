@@ -6,6 +6,9 @@ use ac_syntax::tree::Symbol;
 use ac_terms::{Leaf, TermId, Terms};
 use std::alloc::{AllocError, Global};
 
+/// How deep a term may be.
+const DEPTH: usize = 20;
+
 /// Answers
 ///
 /// - `same_terms [NAMES] TERM TERM`: whether a table in which these names are commutative has one id for two terms, and whether it
@@ -16,15 +19,16 @@ use std::alloc::{AllocError, Global};
 /// `(SYMBOL TERM ..)`.
 pub(crate) fn answer(
     alloc: Global,
-    call: &[u8],
+    call: &str,
     words: &mut Words<'_>,
     out: &mut String,
 ) -> Result<bool, CaseStop> {
-    match call {
-        b"same_terms" => show_same(alloc, words, out)?,
-        b"doubled" => show_doubled(alloc, words, out)?,
+    let answered = match call {
+        "same_terms" => show_same(alloc, words, out),
+        "doubled" => show_doubled(alloc, words, out),
         _ => return Ok(false),
-    }
+    };
+    answered?;
     Ok(true)
 }
 
@@ -36,19 +40,34 @@ fn symbol(alloc: Global, bytes: &[u8], arity: usize) -> Result<Symbol, CaseStop>
 
 /// The id of the next term, which is a number or initial contents.
 fn leaf(alloc: Global, words: &mut Words<'_>, table: &mut Terms) -> Result<TermId, CaseStop> {
-    let kind = words.word();
-    if kind == b"number".as_slice() {
+    let kind = words.name();
+    if kind == "number" {
         return Ok(table.number(words.number()?)?);
     }
-    let array = words.size()?;
-    let leaf = match kind {
-        b"input" => Leaf::Input(array),
-        b"left" => Leaf::LeftLocal(array),
-        b"right" => Leaf::RightLocal(array),
-        _ => return Err(CaseStop::Malformed("a term")),
-    };
+    let leaf = leaf_of(kind, words.size()?)?;
     let cell = smalls(alloc, words)?;
     Ok(table.initial(leaf, &cell)?)
+}
+
+/// The initial contents of the cells of an array.
+fn leaf_of(kind: &str, array: usize) -> Result<Leaf, CaseStop> {
+    match kind {
+        "input" => Ok(Leaf::Input(array)),
+        "left" => Ok(Leaf::LeftLocal(array)),
+        "right" => Ok(Leaf::RightLocal(array)),
+        _ => Err(CaseStop::Malformed("a term")),
+    }
+}
+
+/// The id of a call.
+fn called(
+    alloc: Global,
+    name: &[u8],
+    table: &mut Terms,
+    args: &[TermId],
+) -> Result<TermId, CaseStop> {
+    let symbol = symbol(alloc, name, args.len())?;
+    Ok(table.call(&symbol, args)?)
 }
 
 /// The id of the next term, of less depth than `depth`.
@@ -67,7 +86,7 @@ fn term(
     }
     let name = spelling(words)?;
     let args = terms(alloc, words, table, depth - 1)?;
-    Ok(table.call(&symbol(alloc, name, args.len())?, &args)?)
+    called(alloc, name, table, &args)
 }
 
 /// The ids of the terms up to the next `)`.
@@ -95,15 +114,28 @@ fn show_one(out: &mut String, one: bool) -> Result<(), AllocError> {
 
 fn show_same(alloc: Global, words: &mut Words<'_>, out: &mut String) -> Result<(), CaseStop> {
     let mut table = Terms::new(alloc, names(alloc, words)?);
-    let mut first = *words;
-    let one = term(alloc, words, &mut table, 20)?;
-    let other = term(alloc, words, &mut table, 20)?;
-    let again = term(alloc, &mut first, &mut table, 20)?;
-    show_one(out, table.same(one, other))?;
-    out.push_str(", again ")?;
-    show_one(out, one == again)?;
+    show_same_in(alloc, words, &mut table, out)?;
     table.ids_decide_agreement();
     Ok(())
+}
+
+fn show_same_in(
+    alloc: Global,
+    words: &mut Words<'_>,
+    table: &mut Terms,
+    out: &mut String,
+) -> Result<(), CaseStop> {
+    let mut first = *words;
+    let one = term(alloc, words, table, DEPTH)?;
+    let other = term(alloc, words, table, DEPTH)?;
+    let again = term(alloc, &mut first, table, DEPTH)?;
+    Ok(show_both(out, table.same(one, other), one == again)?)
+}
+
+fn show_both(out: &mut String, one: bool, again: bool) -> Result<(), AllocError> {
+    show_one(out, one)?;
+    out.push_str(", again ")?;
+    show_one(out, again)
 }
 
 /// The id of a term that is called on itself so often.
@@ -123,11 +155,23 @@ fn doubled(
 }
 
 fn show_doubled(alloc: Global, words: &mut Words<'_>, out: &mut String) -> Result<(), CaseStop> {
-    let mut table = Terms::new(alloc, Vec::new(alloc));
     let count = words.size()?;
     let name = spelling(words)?;
-    let start = term(alloc, words, &mut table, 20)?;
-    let left = doubled(alloc, name, count, &mut table, start)?;
-    let right = doubled(alloc, name, count, &mut table, start)?;
-    show_one(out, table.same(left, right)).map_err(CaseStop::from)
+    let mut table = Terms::new(alloc, Vec::new(alloc));
+    let start = term(alloc, words, &mut table, DEPTH)?;
+    let one = is_one(alloc, name, count, &mut table, start)?;
+    Ok(show_one(out, one)?)
+}
+
+/// Whether the term that is called on itself so often has one id each time.
+fn is_one(
+    alloc: Global,
+    name: &[u8],
+    count: usize,
+    table: &mut Terms,
+    start: TermId,
+) -> Result<bool, CaseStop> {
+    let left = doubled(alloc, name, count, table, start)?;
+    let right = doubled(alloc, name, count, table, start)?;
+    Ok(table.same(left, right))
 }

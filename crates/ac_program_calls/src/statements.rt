@@ -1,6 +1,10 @@
 //! The texts of source trees.
-use crate::expressions::{DEPTH, show, show_parts, show_subscripts, show_word, symbol};
-use ac_grammar::tree::{Declared, Expr, File, Operator, Part, Pragma, Statement, Step, Word};
+use crate::expressions::{
+    DEPTH, show, show_numeral, show_parts, show_subscripts, show_word, symbol,
+};
+use ac_grammar::tree::{
+    Declared, Expr, Extent, File, Operator, Part, Pragma, Statement, Step, Word,
+};
 use ac_items::Items;
 use std::alloc::AllocError;
 use std::fmt::Write;
@@ -9,9 +13,23 @@ fn show_declared(out: &mut String, declared: &Declared) -> Result<(), AllocError
     out.push_str(if declared.whole { "int " } else { "real " })?;
     show_word(out, &declared.name)?;
     for extent in declared.extents.as_slice() {
-        write!(out, "[@{} ", extent.place.at)?;
-        show(out, &extent.size, DEPTH)?;
-        out.push(']')?;
+        show_extent(out, extent)?;
+    }
+    Ok(())
+}
+
+fn show_extent(out: &mut String, extent: &Extent) -> Result<(), AllocError> {
+    write!(out, "[@{} ", extent.place.at)?;
+    show(out, &extent.size, DEPTH)?;
+    out.push(']')?;
+    Ok(())
+}
+
+/// The name that a step adds to, where it is written.
+fn show_source(out: &mut String, source: &Option<Word>) -> Result<(), AllocError> {
+    if let Some(source) = source {
+        out.push_str(" = ")?;
+        show_word(out, source)?;
     }
     Ok(())
 }
@@ -19,28 +37,21 @@ fn show_declared(out: &mut String, declared: &Declared) -> Result<(), AllocError
 /// A step, as what is added to or taken from which name.
 fn show_step(out: &mut String, step: &Step) -> Result<(), AllocError> {
     show_word(out, &step.target)?;
-    if let Some(source) = &step.source {
-        out.push_str(" = ")?;
-        show_word(out, source)?;
-    }
+    show_source(out, &step.source)?;
     out.push_str(if step.down { " - " } else { " + " })?;
-    write!(out, "{}@{}", step.by.number, step.by.place.at)?;
-    Ok(())
+    show_numeral(out, step.by)
 }
 
-/// What stands before the body of a loop.
-fn show_turns(
-    out: &mut String,
-    typed: bool,
-    name: &Word,
-    start: &Expr,
-    cond: &Items<Part>,
-    step: &Step,
-) -> Result<(), AllocError> {
+/// What a loop's iterator is first.
+fn show_start(out: &mut String, typed: bool, name: &Word, start: &Expr) -> Result<(), AllocError> {
     out.push_str(if typed { "int " } else { "" })?;
     show_word(out, name)?;
     out.push_str(" = ")?;
-    show(out, start, DEPTH)?;
+    show(out, start, DEPTH)
+}
+
+/// How long a loop runs, and what each turn adds.
+fn show_going_on(out: &mut String, cond: &Items<Part>, step: &Step) -> Result<(), AllocError> {
     out.push_str("; ")?;
     show_parts(out, cond)?;
     out.push_str("; ")?;
@@ -56,10 +67,16 @@ fn show_assignment(
 ) -> Result<(), AllocError> {
     show_word(out, target)?;
     show_subscripts(out, subs, DEPTH)?;
+    show_assigned(out, operator, value)
+}
+
+fn show_assigned(
+    out: &mut String,
+    operator: &Option<Operator>,
+    value: &Expr,
+) -> Result<(), AllocError> {
     out.push(' ')?;
-    if let Some(operator) = operator {
-        out.push_str(symbol(*operator))?;
-    }
+    out.push_str(operator.map_or("", symbol))?;
     out.push_str("= ")?;
     show(out, value, DEPTH)?;
     out.push_str("; ")?;
@@ -83,10 +100,9 @@ fn show_statement(out: &mut String, statement: &Statement, depth: usize) -> Resu
             place,
         } => {
             write!(out, "for@{} ", place.at)?;
-            show_turns(out, *typed, name, start, cond, step)?;
-            out.push_str(" {")?;
-            show_statements(out, body, depth - 1)?;
-            out.push('}')?;
+            show_start(out, *typed, name, start)?;
+            show_going_on(out, cond, step)?;
+            show_block(out, " {", body, depth - 1)?;
         }
         Statement::Branch {
             cond,
@@ -96,13 +112,10 @@ fn show_statement(out: &mut String, statement: &Statement, depth: usize) -> Resu
         } => {
             write!(out, "if@{} ", place.at)?;
             show_parts(out, cond)?;
-            out.push_str(" {")?;
-            show_statements(out, taken, depth - 1)?;
+            show_block(out, " {", taken, depth - 1)?;
             if !other.is_empty() {
-                out.push_str("} else {")?;
-                show_statements(out, other, depth - 1)?;
+                show_block(out, " else {", other, depth - 1)?;
             }
-            out.push('}')?;
         }
         Statement::Assign {
             target,
@@ -115,14 +128,17 @@ fn show_statement(out: &mut String, statement: &Statement, depth: usize) -> Resu
 }
 
 #[cycle(statements)]
-fn show_statements(
+fn show_block(
     out: &mut String,
+    opening: &str,
     statements: &Items<Statement>,
     depth: usize,
 ) -> Result<(), AllocError> {
+    out.push_str(opening)?;
     for statement in statements.as_slice() {
         show_statement(out, statement, depth)?;
     }
+    out.push('}')?;
     Ok(())
 }
 
@@ -136,14 +152,16 @@ fn show_words(out: &mut String, front: &str, words: &Items<Word>) -> Result<(), 
     Ok(())
 }
 
+fn show_context(out: &mut String, parts: &Items<Part>) -> Result<(), AllocError> {
+    out.push_str("#context ")?;
+    show_parts(out, parts)?;
+    out.push_str("; ")?;
+    Ok(())
+}
+
 fn show_pragma(out: &mut String, pragma: &Pragma) -> Result<(), AllocError> {
     match pragma {
-        Pragma::Context(parts) => {
-            out.push_str("#context ")?;
-            show_parts(out, parts)?;
-            out.push_str("; ")?;
-            Ok(())
-        }
+        Pragma::Context(parts) => show_context(out, parts),
         Pragma::Commutative(words) => show_words(out, "#commutative", words),
         Pragma::Output(words) => show_words(out, "#output", words),
     }
@@ -155,19 +173,25 @@ pub(crate) fn show_file(out: &mut String, file: &File) -> Result<(), AllocError>
         show_pragma(out, pragma)?;
     }
     show_word(out, &file.name)?;
+    show_params(out, file.params.as_slice())?;
+    show_locals(out, file.locals.as_slice())?;
+    show_block(out, "", &file.body, DEPTH)
+}
+
+fn show_params(out: &mut String, params: &[Declared]) -> Result<(), AllocError> {
     out.push('(')?;
-    for (number, param) in file.params.as_slice().iter().enumerate() {
-        if number > 0 {
-            out.push_str(", ")?;
-        }
+    for (number, param) in params.iter().enumerate() {
+        out.push_str(if number > 0 { ", " } else { "" })?;
         show_declared(out, param)?;
     }
     out.push_str(") {")?;
-    for local in file.locals.as_slice() {
+    Ok(())
+}
+
+fn show_locals(out: &mut String, locals: &[Declared]) -> Result<(), AllocError> {
+    for local in locals {
         show_declared(out, local)?;
         out.push_str("; ")?;
     }
-    show_statements(out, &file.body, DEPTH)?;
-    out.push('}')?;
     Ok(())
 }

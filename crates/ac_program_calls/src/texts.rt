@@ -14,18 +14,16 @@ use std::fmt::Write;
 /// - `bytes_that_begin_nothing FIRST LAST`: how many of the bytes from the first to the last are a bad byte behind a blank.
 pub(crate) fn answer(
     alloc: Global,
-    call: &[u8],
+    call: &str,
     words: &mut Words<'_>,
     out: &mut String,
 ) -> Result<bool, CaseStop> {
-    match call {
-        b"tokens" => {
-            let text = text(alloc, words)?;
-            show_text(alloc, &text, out)?;
-        }
-        b"bytes_that_begin_nothing" => count_bad_bytes(alloc, words, out)?,
+    let answered = match call {
+        "tokens" => show_tokens_of(alloc, words, out),
+        "bytes_that_begin_nothing" => count_bad_bytes(alloc, words, out),
         _ => return Ok(false),
-    }
+    };
+    answered?;
     Ok(true)
 }
 
@@ -38,6 +36,11 @@ fn letter(kind: TokenKind) -> char {
         TokenKind::PragmaStart => 's',
         TokenKind::PragmaEnd => 'e',
     }
+}
+
+fn show_tokens_of(alloc: Global, words: &mut Words<'_>, out: &mut String) -> Result<(), CaseStop> {
+    let text = text(alloc, words)?;
+    show_text(alloc, &text, out)
 }
 
 fn show_text(alloc: Global, text: &[u8], out: &mut String) -> Result<(), CaseStop>
@@ -55,14 +58,16 @@ fn show_tokens(tokens: &[Token<'_>], out: &mut String) -> Result<(), AllocError>
         out.push_str("no tokens")?;
     }
     for (number, token) in tokens.iter().enumerate() {
-        if number > 0 {
-            out.push(' ')?;
-        }
-        out.push(letter(token.kind))?;
-        write!(out, "{}:", token.at)?;
-        push_bytes(out, token.text)?;
+        out.push_str(if number > 0 { " " } else { "" })?;
+        show_token(out, token)?;
     }
     Ok(())
+}
+
+fn show_token(out: &mut String, token: &Token<'_>) -> Result<(), AllocError> {
+    out.push(letter(token.kind))?;
+    write!(out, "{}:", token.at)?;
+    push_bytes(out, token.text)
 }
 
 fn is_bad(alloc: Global, byte: u8) -> bool {
@@ -73,6 +78,12 @@ fn count_bad_bytes(alloc: Global, words: &mut Words<'_>, out: &mut String) -> Re
     tokens_are_determined();
     let first = words.size()?;
     let last = words.size()?;
+    write!(out, "{}", bad_bytes(alloc, first, last))?;
+    Ok(())
+}
+
+/// How many of the bytes from the first to the last are bad.
+fn bad_bytes(alloc: Global, first: usize, last: usize) -> u32 {
     let mut count = 0u32;
     for byte in 0..=255u8 {
         let within = first <= usize::from(byte) && usize::from(byte) <= last;
@@ -80,6 +91,5 @@ fn count_bad_bytes(alloc: Global, words: &mut Words<'_>, out: &mut String) -> Re
             count = count.saturating_add(1);
         }
     }
-    write!(out, "{count}")?;
-    Ok(())
+    count
 }

@@ -1,30 +1,33 @@
 //! Calls of the plain program that lists what a program executes.
-use crate::arguments::{program, push_bytes, smalls};
+use crate::arguments::{push_bytes, smalls};
 use ac_case_text::{CaseStop, Words};
 use ac_items::Items;
 use ac_plain::slow::{self, Execution, Stop};
 use ac_plain::slow_terms::{self, TermTree};
+use ac_syntax::tree::Stmt;
 use std::alloc::{AllocError, Global};
 use std::fmt::Write;
 
-/// Answers, at the values of the parameters in brackets,
+/// Answers, of the body of the program that stands in front, at the values of the parameters in brackets,
 ///
 /// - `trace "TEXT" [VALUES]`: each execution of an assignment in order: its number, its counters, its iterators and its
 ///   subscripts.
 /// - `last_writer "TEXT" [VALUES] ARRAY [CELL]`: the number of the last execution that writes a cell.
 /// - `term "TEXT" [VALUES] ARRAY [CELL]`: the term that a program leaves in a cell, and whether a copy is the same.
-pub(crate) fn answer(
+pub(crate) fn answer_of(
     alloc: Global,
-    call: &[u8],
+    body: &[Stmt],
+    call: &str,
     words: &mut Words<'_>,
     out: &mut String,
 ) -> Result<bool, CaseStop> {
-    match call {
-        b"trace" => show_trace(alloc, words, out)?,
-        b"last_writer" => show_writer(alloc, words, out)?,
-        b"term" => show_term_of(alloc, words, out)?,
+    let answered = match call {
+        "trace" => show_trace(alloc, body, words, out),
+        "last_writer" => show_writer(alloc, body, words, out),
+        "term" => show_term_of(alloc, body, words, out),
         _ => return Ok(false),
-    }
+    };
+    answered?;
     Ok(true)
 }
 
@@ -40,9 +43,7 @@ pub(crate) fn in_range<T: Drop>(answer: Result<T, Stop>) -> Result<T, CaseStop> 
 fn show_numbers(out: &mut String, numbers: &[i64]) -> Result<(), AllocError> {
     out.push('[')?;
     for (at, number) in numbers.iter().enumerate() {
-        if at > 0 {
-            out.push(' ')?;
-        }
+        out.push_str(if at > 0 { " " } else { "" })?;
         write!(out, "{number}")?;
     }
     out.push(']')?;
@@ -50,34 +51,60 @@ fn show_numbers(out: &mut String, numbers: &[i64]) -> Result<(), AllocError> {
 }
 
 fn show_execution(out: &mut String, execution: &Execution) -> Result<(), AllocError> {
-    write!(out, "{} ", execution.stmt)?;
-    show_numbers(out, execution.counters.as_slice())?;
-    out.push(' ')?;
-    show_numbers(out, execution.iters.as_slice())?;
-    out.push(' ')?;
-    show_numbers(out, execution.at.as_slice())
+    write!(out, "{}", execution.stmt)?;
+    show_behind(out, execution.counters.as_slice())?;
+    show_behind(out, execution.iters.as_slice())?;
+    show_behind(out, execution.at.as_slice())
 }
 
-fn show_trace(alloc: Global, words: &mut Words<'_>, out: &mut String) -> Result<(), CaseStop> {
-    let program = program(alloc, words)?;
+/// Shows numbers behind a blank.
+fn show_behind(out: &mut String, numbers: &[i64]) -> Result<(), AllocError> {
+    out.push(' ')?;
+    show_numbers(out, numbers)
+}
+
+/// The executions of a body, at the next values.
+fn executions(
+    alloc: Global,
+    body: &[Stmt],
+    words: &mut Words<'_>,
+) -> Result<Vec<Execution>, CaseStop> {
     let params = smalls(alloc, words)?;
-    let executions = in_range(slow::trace(alloc, program.body.as_slice(), &params))?;
+    in_range(slow::trace(alloc, body, &params))
+}
+
+fn show_trace(
+    alloc: Global,
+    body: &[Stmt],
+    words: &mut Words<'_>,
+    out: &mut String,
+) -> Result<(), CaseStop> {
+    let executions = executions(alloc, body, words)?;
+    Ok(show_executions(out, &executions)?)
+}
+
+fn show_executions(out: &mut String, executions: &[Execution]) -> Result<(), AllocError> {
     for (at, execution) in executions.iter().enumerate() {
-        if at > 0 {
-            out.push_str("; ")?;
-        }
+        out.push_str(if at > 0 { "; " } else { "" })?;
         show_execution(out, execution)?;
     }
     Ok(())
 }
 
-fn show_writer(alloc: Global, words: &mut Words<'_>, out: &mut String) -> Result<(), CaseStop> {
-    let program = program(alloc, words)?;
-    let params = smalls(alloc, words)?;
+fn show_writer(
+    alloc: Global,
+    body: &[Stmt],
+    words: &mut Words<'_>,
+    out: &mut String,
+) -> Result<(), CaseStop> {
+    let executions = executions(alloc, body, words)?;
     let array = words.size()?;
     let cell = smalls(alloc, words)?;
-    let executions = in_range(slow::trace(alloc, program.body.as_slice(), &params))?;
-    match slow::source_of(&executions, array, &cell) {
+    Ok(show_number_of(out, slow::source_of(&executions, array, &cell))?)
+}
+
+fn show_number_of(out: &mut String, execution: Option<usize>) -> Result<(), AllocError> {
+    match execution {
         Some(at) => write!(out, "execution {at}")?,
         None => out.push_str("none")?,
     }
@@ -98,9 +125,7 @@ fn show_term(out: &mut String, term: &TermTree, depth: usize) -> Result<(), Allo
         }
         TermTree::Call { symbol, args } => {
             push_bytes(out, symbol.name.as_bytes())?;
-            out.push('(')?;
             show_terms(out, args, depth - 1)?;
-            out.push(')')?;
         }
     }
     Ok(())
@@ -108,24 +133,38 @@ fn show_term(out: &mut String, term: &TermTree, depth: usize) -> Result<(), Allo
 
 #[cycle(terms)]
 fn show_terms(out: &mut String, terms: &Items<TermTree>, depth: usize) -> Result<(), AllocError> {
+    out.push('(')?;
     for (at, term) in terms.as_slice().iter().enumerate() {
-        if at > 0 {
-            out.push_str(", ")?;
-        }
+        out.push_str(if at > 0 { ", " } else { "" })?;
         show_term(out, term, depth)?;
     }
+    out.push(')')?;
     Ok(())
 }
 
-fn show_term_of(alloc: Global, words: &mut Words<'_>, out: &mut String) -> Result<(), CaseStop> {
-    let program = program(alloc, words)?;
+/// The term that a body leaves in the next cell, at the next values.
+fn term_of(alloc: Global, body: &[Stmt], words: &mut Words<'_>) -> Result<TermTree, CaseStop> {
     let params = smalls(alloc, words)?;
     let array = words.size()?;
     let cell = smalls(alloc, words)?;
-    let body = program.body.as_slice();
-    let term = in_range(slow_terms::term_of(alloc, body, &params, array, &cell))?;
-    show_term(out, &term, 20)?;
-    out.push_str(if slow_terms::copy_term(alloc, &term)? == term {
+    in_range(slow_terms::term_of(alloc, body, &params, array, &cell))
+}
+
+fn show_term_of(
+    alloc: Global,
+    body: &[Stmt],
+    words: &mut Words<'_>,
+    out: &mut String,
+) -> Result<(), CaseStop> {
+    let term = term_of(alloc, body, words)?;
+    Ok(show_with_copy(alloc, &term, out)?)
+}
+
+/// Shows a term, and whether a copy is the same.
+fn show_with_copy(alloc: Global, term: &TermTree, out: &mut String) -> Result<(), AllocError> {
+    show_term(out, term, 20)?;
+    let copy = slow_terms::copy_term(alloc, term)?;
+    out.push_str(if copy == *term {
         ", the copy is the same"
     } else {
         ", the copy differs"

@@ -16,22 +16,23 @@ use std::fmt::Write;
 /// - `guarded TEST SUB VALUE [VALUES]`: whether the program `if (TEST >= 0) A[SUB] = VALUE;` has a trace and `A[0]` has a term.
 pub(crate) fn answer(
     alloc: Global,
-    call: &[u8],
+    call: &str,
     words: &mut Words<'_>,
     out: &mut String,
 ) -> Result<bool, CaseStop> {
-    match call {
-        b"turns" => show_turns(alloc, words, out)?,
-        b"guarded" => show_guarded(alloc, words, out)?,
+    let answered = match call {
+        "turns" => show_turns(alloc, words, out),
+        "guarded" => show_guarded(alloc, words, out),
         _ => return Ok(false),
-    }
+    };
+    answered?;
     Ok(true)
 }
 
 fn relation(words: &mut Words<'_>) -> Result<Rel, CaseStop> {
-    match words.word() {
-        b"nonnegative" => Ok(Rel::NonNegative),
-        b"zero" => Ok(Rel::Zero),
+    match words.name() {
+        "nonnegative" => Ok(Rel::NonNegative),
+        "zero" => Ok(Rel::Zero),
         _ => Err(CaseStop::Malformed("nonnegative or zero")),
     }
 }
@@ -42,11 +43,31 @@ fn holds(alloc: Global, rel: Rel, form: IndexExpr) -> Result<Cond, CaseStop> {
 
 fn show_turns(alloc: Global, words: &mut Words<'_>, out: &mut String) -> Result<(), CaseStop> {
     let start = form(alloc, words)?;
+    let cond = condition(alloc, words)?;
+    show_turns_of(alloc, &start, &cond, words, out)
+}
+
+/// The next form and the relation behind it, as a condition.
+fn condition(alloc: Global, words: &mut Words<'_>) -> Result<Cond, CaseStop> {
     let bound = form(alloc, words)?;
-    let cond = holds(alloc, relation(words)?, bound)?;
+    holds(alloc, relation(words)?, bound)
+}
+
+/// Shows the turns of a loop of the next step, at the next values.
+fn show_turns_of(
+    alloc: Global,
+    start: &IndexExpr,
+    cond: &Cond,
+    words: &mut Words<'_>,
+    out: &mut String,
+) -> Result<(), CaseStop> {
     let step = small(words)?;
     let params = smalls(alloc, words)?;
-    match slow::turns_of(alloc, &start, &cond, step, &params, &[]) {
+    show_count(out, slow::turns_of(alloc, start, cond, step, &params, &[]))
+}
+
+fn show_count(out: &mut String, turns: Result<u64, Stop>) -> Result<(), CaseStop> {
+    match turns {
         Ok(turns) => write!(out, "{turns}")?,
         Err(Stop::Range) => out.push_str("out of range")?,
         Err(Stop::Memory(error)) => return Err(CaseStop::Memory(error)),
@@ -54,14 +75,19 @@ fn show_turns(alloc: Global, words: &mut Words<'_>, out: &mut String) -> Result<
     Ok(())
 }
 
-fn guarded(alloc: Global, words: &mut Words<'_>) -> Result<Vec<Stmt>, CaseStop> {
-    let here = Place { at: 0 };
-    let test = form(alloc, words)?;
-    let cond = holds(alloc, Rel::NonNegative, test)?;
+/// The assignment of the next two forms, `A[SUB] = VALUE;`.
+fn assignment(alloc: Global, words: &mut Words<'_>) -> Result<Stmt, CaseStop> {
     let sub = form(alloc, words)?;
     let value = Value::Number(form(alloc, words)?);
-    let write = make::assign(0, vec![in alloc; sub]?, value, here);
-    let branch = make::branch(cond, vec![in alloc; write]?, Vec::new(alloc), here);
+    let subs = vec![in alloc; sub]?;
+    Ok(make::assign(0, subs, value, Place { at: 0 }))
+}
+
+fn guarded(alloc: Global, words: &mut Words<'_>) -> Result<Vec<Stmt>, CaseStop> {
+    let test = form(alloc, words)?;
+    let cond = holds(alloc, Rel::NonNegative, test)?;
+    let taken = vec![in alloc; assignment(alloc, words)?]?;
+    let branch = make::branch(cond, taken, Vec::new(alloc), Place { at: 0 });
     Ok(vec![in alloc; branch]?)
 }
 
@@ -79,9 +105,15 @@ fn show_guarded(alloc: Global, words: &mut Words<'_>, out: &mut String) -> Resul
     let params = smalls(alloc, words)?;
     out.push_str(found(slow::trace(alloc, &body, &params), "a trace")?)?;
     out.push_str(", ")?;
-    out.push_str(found(
-        slow_terms::term_of(alloc, &body, &params, 0, &[0]),
-        "a term",
-    )?)?;
-    Ok(())
+    show_found_term(alloc, &body, &params, out)
+}
+
+fn show_found_term(
+    alloc: Global,
+    body: &[Stmt],
+    params: &[i64],
+    out: &mut String,
+) -> Result<(), CaseStop> {
+    let answer = slow_terms::term_of(alloc, body, params, 0, &[0]);
+    Ok(out.push_str(found(answer, "a term")?)?)
 }

@@ -11,15 +11,16 @@ use std::fmt::Write;
 /// - `command "WORD" ..`: what the words of a command line ask for.
 pub(crate) fn answer(
     alloc: Global,
-    call: &[u8],
+    call: &str,
     words: &mut Words<'_>,
     out: &mut String,
 ) -> Result<bool, CaseStop> {
-    match call {
-        b"valuation" => show_valuation(alloc, words, out)?,
-        b"command" => show_command(alloc, words, out)?,
+    let answered = match call {
+        "valuation" => show_valuation(alloc, words, out),
+        "command" => show_command(alloc, words, out),
         _ => return Ok(false),
-    }
+    };
+    answered?;
     Ok(true)
 }
 
@@ -27,13 +28,15 @@ fn show_valuation(alloc: Global, words: &mut Words<'_>, out: &mut String) -> Res
     let params = names(alloc, words)?;
     let word = words.quoted(alloc)?;
     match valuation(alloc, &params, &word)? {
-        None => out.push_str("refused")?,
-        Some(values) => {
-            out.push_str("values")?;
-            for value in &values {
-                write!(out, " {value}")?;
-            }
-        }
+        None => Ok(out.push_str("refused")?),
+        Some(values) => Ok(show_values(out, &values)?),
+    }
+}
+
+fn show_values(out: &mut String, values: &[i64]) -> Result<(), AllocError> {
+    out.push_str("values")?;
+    for value in values {
+        write!(out, " {value}")?;
     }
     Ok(())
 }
@@ -70,24 +73,43 @@ fn show_at(out: &mut String, at: Option<&[u8]>) -> Result<(), AllocError> {
 fn show_command(alloc: Global, words: &mut Words<'_>, out: &mut String) -> Result<(), CaseStop> {
     let texts = all_quoted(alloc, words)?;
     match command_of(&texts) {
-        None => out.push_str("no form")?,
-        Some(Command::Prove { left, right }) => {
+        None => Ok(out.push_str("no form")?),
+        Some(command) => Ok(show_asked(out, &command)?),
+    }
+}
+
+fn show_asked(out: &mut String, command: &Command<'_>) -> Result<(), AllocError> {
+    match command {
+        Command::Prove { left, right } => {
             out.push_str("prove ")?;
-            show_files(out, left, right)?;
+            show_files(out, left, right)
         }
-        Some(
-            Command::Instance {
-                left,
-                right,
-                at,
-                limit,
-            },
-        ) => {
+        Command::Check { left, right, proof } => {
+            out.push_str("check ")?;
+            show_files(out, left, right)?;
+            show_proof(out, proof)
+        }
+        Command::Instance {
+            left,
+            right,
+            at,
+            limit,
+        } => {
             out.push_str("instance of ")?;
             show_files(out, left, right)?;
-            show_at(out, at)?;
-            write!(out, ", limit {limit}")?;
+            show_at_limit(out, *at, *limit)
         }
     }
+}
+
+fn show_proof(out: &mut String, proof: &[u8]) -> Result<(), AllocError> {
+    out.push_str(" by '")?;
+    push_bytes(out, proof)?;
+    out.push('\'')
+}
+
+fn show_at_limit(out: &mut String, at: Option<&[u8]>, limit: u64) -> Result<(), AllocError> {
+    show_at(out, at)?;
+    write!(out, ", limit {limit}")?;
     Ok(())
 }

@@ -118,6 +118,24 @@ impl Case {
         push_bytes(out, self.sink.bytes())
     }
 
+    /// Answers a part of a file, from a place on and of so many bytes at most, and no more than 4,096.
+    pub fn part(
+        &mut self,
+        out: &mut Vec<u8>,
+        name: &[u8],
+        from: u64,
+        room: u64,
+    ) -> Result<(), AllocError> {
+        let mut part = vec![in self.alloc; 0u8; room.min(4096) as usize]?;
+        match self.files.part(name, from, &mut part) {
+            Ok(count) => {
+                push_answer(out, b"part")?;
+                push_bytes(out, &part[..count])
+            }
+            Err(_) => push_answer(out, b"read fault"),
+        }
+    }
+
     /// Answers a write.
     pub fn write(
         &mut self,

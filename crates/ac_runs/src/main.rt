@@ -32,7 +32,7 @@
 //! - `run` and words is a command line. Its answer is the status, the text that was put, and each file of the case or named by
 //!   the words that does not hold what it held, with its bytes.
 //! - `relay NAME limit N` reads a file of at most N bytes and puts what it read; its answer ends with all that was put in the
-//!   case. `write NAME WORD` writes a file. `get NAME` looks into a file without a read.
+//!   case. `part NAME FROM ROOM` reads a part of a file, from a place on and of so many bytes at most. `write NAME WORD` writes a file. `get NAME` looks into a file without a read.
 //! - `code of` and a status asks for its exit code, and `equal outputs N` for the status of N equal outputs.
 //!
 //! Words are separated by blanks. A word in quotes may be empty and may hold blanks and the escapes `\n`, `\t`, `\"`, `\\` and

@@ -93,6 +93,9 @@ impl Script {
             ("run", words) => self.case.run(out, words)?,
             ("get", [name]) => self.case.get(out, name.as_slice())?,
             ("write", [name, bytes]) => self.case.write(out, name.as_slice(), bytes.as_slice())?,
+            ("part", [name, from, room]) => {
+                return self.answer_part(name.as_slice(), from.as_slice(), room.as_slice());
+            }
             (_, [number]) => return self.answer_number(keyword, number.as_slice()),
             (_, [first, number]) => {
                 return self.answer_pair(keyword, first.as_slice(), number.as_slice());
@@ -100,6 +103,17 @@ impl Script {
             _ => return Ok(false),
         }
         Ok(true)
+    }
+
+    /// Answers a part of a file, from a place on and of so many bytes at most.
+    fn answer_part(&mut self, name: &[u8], from: &[u8], room: &[u8]) -> Result<bool, AllocError> {
+        match (number_of(from), number_of(room)) {
+            (Some(from), Some(room)) => {
+                self.case.part(&mut self.out, name, from, room)?;
+                Ok(true)
+            }
+            _ => Ok(false),
+        }
     }
 
     /// Answers a keyword with a number.

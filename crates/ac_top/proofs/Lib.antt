@@ -1,4 +1,6 @@
 pub mod Headline
+pub mod Extents
+pub mod Reading
 pub mod Ids
 pub mod Constants
 pub mod Values

@@ -4,9 +4,8 @@ use Rattle.ac_syntax.specs.Ready.{FitParts}
 use Rattle.ac_syntax.specs.declared.tree.Comparison.{Comparison}
 use Rattle.ac_syntax.specs.declared.tree.Pair.{Pair}
 use Rattle.ac_syntax.specs.declared.tree.Program.{Program}
-use Rattle.ac_top.specs.Answers.{IsLowered}
-use Rattle.ac_top.specs.Stages.{IsLowering, IsReadPair}
-use Rattle.ac_top.specs.declared.refusals.Complaint.{Complaint as Said}
+use Rattle.ac_claims.specs.Soundness as judge
+use Rattle.ac_top.specs.Stages.{IsReadPair}
 
 both_fit : (ps xs : ℕ) (cs ds : List Comparison) → FitParts ps xs cs → FitParts ps xs ds → FitParts ps xs (cs ++ ds)
 both_fit ps xs [] ds h k = k
@@ -21,7 +20,6 @@ fits_left pair is =
 pub fits_right : (pair : Pair) → IsReadPair pair → FitParts (length pair.right.params) 0 pair.context.parts
 fits_right pair is = subst (λ n. FitParts n 0 pair.context.parts) is.ready.params (fits_left pair is)
 
--- a program with which nothing is wrong is lowered
-pub nothing_wrong : (program : Program) (found : Option Said) → ((said : Said) → ¬ (found ≡ Some said)) → IsLowering program found → IsLowered program
-nothing_wrong program None none h = h
-nothing_wrong program (Some said) none h = absurd (none said refl)
+-- what the judge of proofs asks of a pair
+pub judged : (pair : Pair) → IsReadPair pair → judge.ArePaired pair
+judged pair is = record { left = is.ready.left; right = is.ready.right; context = fits_left pair is; params = sym is.ready.params; extents = is.extents }

@@ -10,10 +10,12 @@ use Rattle.ac_syntax.specs.declared.tree.Slot.TheVariants as slot
 use Rattle.ac_syntax.specs.declared.tree.Program.{Program}
 use Rattle.ac_syntax.specs.declared.tree.Pair.{Pair}
 use Rattle.ac_rules.specs.Numbers.{param_numbers, array_numbers, HasInputs, ListsItsParameters}
+use Rattle.ac_parse.specs.Program.{IsProgramOf}
 use Rattle.ac_parse.specs.Pairing.{Parameter, integer_named, array_shaped, parameter_at, signature, is_output, IsPairOf}
 use Rattle.ac_top.specs.Runs.{IsReadyPair}
 use Rattle.ac_top.specs.Stages.{IsRead, IsReadPair}
 use Rattle.ac_top.specs.Verdicts.{IsJoined}
+use Rattle.ac_top.proofs.Extents.{same_extents}
 use Rattle.ac_top.proofs.Inputs.{all_of_filter}
 
 joined_pair : (left right : Program) (pair : Pair) → IsPairOf left right pair → IsJoined pair
@@ -62,10 +64,11 @@ small_pair left right pair is l r = record {
   context = rw is.context (both_small left.context.parts right.context.parts l.small.context r.small.context);
 }
 
-pub read_pair : (left right : Program) (pair : Pair) → IsPairOf left right pair → IsRead left → IsRead right → IsReadPair pair
-read_pair left right pair is l r = record {
+pub read_pair : (first second : List ℕ) (left right : Program) (pair : Pair) → IsProgramOf first left → IsProgramOf second right → IsPairOf left right pair → IsRead left → IsRead right → IsReadPair pair
+read_pair first second left right pair h k is l r = record {
   joined = joined_pair left right pair is;
   inputs = input_outputs left right pair is l.inputs;
   ready = ready_pair left right pair is l r;
+  extents = same_extents first second left right pair h k is;
   small = small_pair left right pair is l r;
 }

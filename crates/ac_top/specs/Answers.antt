@@ -1,8 +1,14 @@
 -- What the program answers: from its words and the files that they name to a status and a text.
-use Rattle.std.specs.Prelude.{◌≡◌, ◌≤◌, ℕ, List, [], ◌∷◌, ◌++◌, length, take, true, false, Option, Some, IfSome, option_map}
+use Rattle.std.specs.Prelude.{◌≡◌, ◌≤◌, ℕ, List, [], ◌∷◌, ◌++◌, length, take, replicate, true, false, Option, Some, IfSome, IsSomeAnd, option_map, Ok, Err, Vec}
+use Rattle.std.specs.Global.{Global}
 use Rattle.std.specs.FinMap.{get}
-use Rattle.std.specs.List.{Contains}
+use Rattle.std.specs.List.{Contains, AllByRecursion}
 use Rattle.ac_port.specs.Contents.{Contents, IsTooBig}
+use Rattle.ac_cert.specs.declared.types.Rule.{Rule}
+use Rattle.ac_claims.specs.Soundness.{AreModels, pairing_of}
+use Rattle.ac_poly.specs.declared.types.Model.{Model}
+use Rattle.ac_prooftext.specs.Checks.{IsAnswer}
+use Rattle.ac_prooftext.specs.declared.types.CheckFault.TheVariants.{TooLong, TooDeep, Refused}
 use Rattle.ac_poly.specs.Faults.{IsFineAll, IsFirstAll}
 use Rattle.ac_poly.specs.Lower.{outermost}
 use Rattle.ac_poly.specs.declared.types.LowerFault.{LowerFault}
@@ -14,12 +20,12 @@ use Rattle.ac_parse.specs.Program.{IsProgramOf}
 use Rattle.ac_parse.specs.Pairing.{IsPairOf, HasPairFault}
 use Rattle.ac_parse.specs.declared.faults.PairFault.TheVariants.{Signature, NoOutput}
 use Rattle.ac_parse.specs.declared.faults.SourceFault.{SourceFault}
-use Rattle.ac_words.specs.Commands.{Asked, prove, instance_of, IsCommand, HasForm}
+use Rattle.ac_words.specs.Commands.{Asked, prove, check_of, instance_of, IsCommand, HasForm}
 use Rattle.ac_top.specs.Reports.{Report, report}
 use Rattle.ac_top.specs.Runs.{InstanceReports, IsTheSameAt}
 use Rattle.ac_top.specs.Statuses.{status_of}
 use Rattle.ac_top.specs.Straight.{is_straight_program}
-use Rattle.ac_top.specs.Texts.{Complaint, complaint, lower_complaint, usage_line, read_fault_line, refusal_line, too_long_line, later_line, signature_line, no_output_line, verdict_lines}
+use Rattle.ac_top.specs.Texts.{Complaint, complaint, lower_complaint, usage_line, read_fault_line, refusal_line, too_long_line, later_line, signature_line, no_output_line, verdict_lines, accepted_lines, rejected_line, rejected_too_long_line}
 use Rattle.ac_top.specs.Verdicts.{AreVerdicts}
 use Rattle.ac_top.specs.declared.status.Status.{Status}
 use Rattle.ac_top.specs.declared.status.Status.TheVariants as status
@@ -31,6 +37,29 @@ pub data PairReports (a b : List ℕ) (pair : Pair) : Report → Type 0 where
   second_not_straight : is_straight_program pair.left ≡ true → is_straight_program pair.right ≡ false → PairReports a b pair (report status.Refused (later_line b))
   compared : (verdicts : List Verdict) → is_straight_program pair.left ≡ true → is_straight_program pair.right ≡ true → AreVerdicts pair pair.outputs verdicts
       → PairReports a b pair (report (status_of verdicts) (verdict_lines pair.left.arrays pair.outputs verdicts))
+
+-- one more byte than a proof may have
+unfoldable pub stream_limit : ℕ
+stream_limit = 67108865
+
+-- the bytes of a proof file that are tested, where contents are told: all of them, or one more than a proof may have
+abbrev pub IsStream : Option Contents → List ℕ → List ℕ → Type 0
+IsStream files name stream = IfSome files (λ contents. IsSomeAnd (get contents name) (λ bytes. stream ≡ take stream_limit bytes))
+
+-- what is reported of the bytes of a proof of a pair; each output that it names is the same where it is accepted
+pub data ProofReports (pair : Pair) (stream : List ℕ) : Report → Type 0 where
+  accepted : (left right : Model) (outputs : Vec ℕ Global) → AreModels pair left right → IsAnswer (pairing_of pair left right) pair.outputs stream (Ok outputs) → AllByRecursion (SameOutput pair) outputs.items
+      → ProofReports pair stream (report status.Done (accepted_lines pair.left.arrays outputs.items))
+  too_long : (left right : Model) → AreModels pair left right → IsAnswer (pairing_of pair left right) pair.outputs stream (Err TooLong) → ProofReports pair stream (report status.Different rejected_too_long_line)
+  too_deep : (left right : Model) → AreModels pair left right → IsAnswer (pairing_of pair left right) pair.outputs stream (Err TooDeep) → ProofReports pair stream (report status.Different rejected_too_long_line)
+  not_valid : (left right : Model) (number : ℕ) (rule : Rule) → AreModels pair left right → IsAnswer (pairing_of pair left right) pair.outputs stream (Err (Refused number rule))
+      → ProofReports pair stream (report status.Different (rejected_line number rule))
+
+-- what `check` reports of a pair and a named proof file; `fails` says that in this run the read of a part of that file failed after
+-- so many others
+pub data CheckReports (files : Option Contents) (fails : ℕ → Type 0) (p : List ℕ) (pair : Pair) : Report → Type 0 where
+  proof_unread : (count : ℕ) → fails count → CheckReports files fails p pair (report status.ReadFault (read_fault_line p))
+  tested : (stream : List ℕ) (r : Report) → IsStream files p stream → ProofReports pair stream r → CheckReports files fails p pair r
 
 -- a text has a fault, of which this is said
 pub record HasComplaint (bytes : List ℕ) (said : Complaint) : Type 0 where
@@ -86,21 +115,23 @@ pub record Holds (files : Option Contents) (name bytes : List ℕ) : Type 0 wher
   pub told : IfSome files (λ contents. get contents name ≡ Some bytes)
   pub short : length bytes ≤ 65536
 
--- of two named files: why one has no bytes to read, or what is reported of the bytes of both; `first_fails` says that the read of
--- the first failed in this run, and `second_fails` that the read of the second did
-pub data FileReports (files : Option Contents) (first_fails second_fails : Type 0) (a b : List ℕ) (OfPair : List ℕ → List ℕ → Pair → Report → Type 0) : Report → Type 0 where
-  first_unread : first_fails → FileReports files first_fails second_fails a b OfPair (report status.ReadFault (read_fault_line a))
-  first_too_long : IfSome files (λ contents. IsTooBig contents a 65536) → FileReports files first_fails second_fails a b OfPair (report status.Refused (too_long_line a))
-  second_unread : (first : List ℕ) → Holds files a first → second_fails → FileReports files first_fails second_fails a b OfPair (report status.ReadFault (read_fault_line b))
-  second_too_long : (first : List ℕ) → Holds files a first → IfSome files (λ contents. IsTooBig contents b 65536) → FileReports files first_fails second_fails a b OfPair (report status.Refused (too_long_line b))
-  sources : (first second : List ℕ) (r : Report) → Holds files a first → Holds files b second → SourceReports a b first second (OfPair first second) r → FileReports files first_fails second_fails a b OfPair r
+-- of two named files: why one has no bytes to read, or what is reported of the bytes of both; `fails` says that in this run the read
+-- of a name failed after those of others
+pub data FileReports (files : Option Contents) (fails : List (List ℕ) → List ℕ → Type 0) (a b : List ℕ) (OfPair : List ℕ → List ℕ → Pair → Report → Type 0) : Report → Type 0 where
+  first_unread : fails [] a → FileReports files fails a b OfPair (report status.ReadFault (read_fault_line a))
+  first_too_long : IfSome files (λ contents. IsTooBig contents a 65536) → FileReports files fails a b OfPair (report status.Refused (too_long_line a))
+  second_unread : (first : List ℕ) → Holds files a first → fails (a ∷ []) b → FileReports files fails a b OfPair (report status.ReadFault (read_fault_line b))
+  second_too_long : (first : List ℕ) → Holds files a first → IfSome files (λ contents. IsTooBig contents b 65536) → FileReports files fails a b OfPair (report status.Refused (too_long_line b))
+  sources : (first second : List ℕ) (r : Report) → Holds files a first → Holds files b second → SourceReports a b first second (OfPair first second) r → FileReports files fails a b OfPair r
 
--- what is reported of the words; `first_fails` and `second_fails` say of names that in this run the read of the first, or of the second, failed
-pub data Reports (words : List (List ℕ)) (files : Option Contents) (first_fails : List ℕ → Type 0) (second_fails : List ℕ → List ℕ → Type 0) : Report → Type 0 where
-  no_form : ¬ (HasForm words) → Reports words files first_fails second_fails (report status.Usage usage_line)
-  of_prove : (a b : List ℕ) (r : Report) → IsCommand words (prove a b) → FileReports files (first_fails a) (second_fails a b) a b (λ first second. PairReports a b) r → Reports words files first_fails second_fails r
+-- what is reported of the words; `fails` says that in this run the read of a name failed after those of others
+pub data Reports (words : List (List ℕ)) (files : Option Contents) (fails : List (List ℕ) → List ℕ → Type 0) : Report → Type 0 where
+  no_form : ¬ (HasForm words) → Reports words files fails (report status.Usage usage_line)
+  of_prove : (a b : List ℕ) (r : Report) → IsCommand words (prove a b) → FileReports files fails a b (λ first second. PairReports a b) r → Reports words files fails r
+  of_check : (a b p : List ℕ) (r : Report) → IsCommand words (check_of a b p)
+      → FileReports files fails a b (λ first second pair. CheckReports files (λ count. fails (a ∷ b ∷ replicate count p) p) p pair) r → Reports words files fails r
   of_instance : (a b : List ℕ) (at : Option (List ℕ)) (limit : ℕ) (r : Report) → IsCommand words (instance_of a b at limit)
-      → FileReports files (first_fails a) (second_fails a b) a b (λ first second pair. InstanceReports a b first second pair at limit) r → Reports words files first_fails second_fails r
+      → FileReports files fails a b (λ first second pair. InstanceReports a b first second pair at limit) r → Reports words files fails r
 
 -- what becomes of a report: its text is put whole, or a put failed in this run, or memory ran out and nothing is put
 pub data Puts (r : Report) (failed : Type 0) (before now : Option (List ℕ)) : Status → Type 0 where
@@ -109,9 +140,9 @@ pub data Puts (r : Report) (failed : Type 0) (before now : Option (List ℕ)) : 
   nothing : now ≡ before → Puts r failed before now status.Memory
 
 -- how a run ends: with the report of its words, or for want of memory, with nothing put
-pub data Ends (words : List (List ℕ)) (files : Option Contents) (first_fails : List ℕ → Type 0) (second_fails : List ℕ → List ℕ → Type 0) (failed : Type 0) (before now : Option (List ℕ)) : Status → Type 0 where
-  reported : (r : Report) (s : Status) → Reports words files first_fails second_fails r → Puts r failed before now s → Ends words files first_fails second_fails failed before now s
-  no_memory : now ≡ before → Ends words files first_fails second_fails failed before now status.Memory
+pub data Ends (words : List (List ℕ)) (files : Option Contents) (fails : List (List ℕ) → List ℕ → Type 0) (failed : Type 0) (before now : Option (List ℕ)) : Status → Type 0 where
+  reported : (r : Report) (s : Status) → Reports words files fails r → Puts r failed before now s → Ends words files fails failed before now s
+  no_memory : now ≡ before → Ends words files fails failed before now status.Memory
 
 -- the files hold texts, these have programs, and the programs are a pair of which this holds
 pub record HoldAPair (files : Option Contents) (a b : List ℕ) (Is : Pair → Type 0) : Type 0 where
@@ -127,9 +158,21 @@ pub record HoldAPair (files : Option Contents) (a b : List ℕ) (Is : Pair → T
 abbrev pub IsTheSame : Pair → Type 0
 IsTheSame pair = (output : ℕ) → Contains pair.outputs output → SameOutput pair output
 
--- for `prove` each output is the same, and for `instance` each is the same at the valuation
+-- the bytes of a proof file are those of a proof of the pair that is accepted, and each output that it names is the same
+pub record AreAccepted (files : Option Contents) (p : List ℕ) (pair : Pair) : Type 0 where
+  pub stream : List ℕ
+  pub is_stream : IsStream files p stream
+  pub left : Model
+  pub right : Model
+  pub are_models : AreModels pair left right
+  pub outputs : Vec ℕ Global
+  pub is_checked : IsAnswer (pairing_of pair left right) pair.outputs stream (Ok outputs)
+  pub same : AllByRecursion (SameOutput pair) outputs.items
+
+-- for `prove` each output is the same, for `check` each that the proof names, and for `instance` each is the same at the valuation
 abbrev pub AreTheSame : Option Contents → Asked → Type 0
 AreTheSame files (prove a b) = HoldAPair files a b IsTheSame
+AreTheSame files (check_of a b p) = HoldAPair files a b (AreAccepted files p)
 AreTheSame files (instance_of a b at limit) = HoldAPair files a b (λ pair. IsTheSameAt pair at)
 
 -- where all is done, a command was asked, and what it compares is the same

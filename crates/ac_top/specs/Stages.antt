@@ -1,18 +1,32 @@
 -- What the stages of a run hand on.
-use Rattle.std.specs.Prelude.{◌≡◌, ◌≤◌, ℕ, List, true, Option, Some, None, IfSome, Result, Ok, Err, Vec, option_map}
+use Rattle.std.specs.Prelude.{◌≡◌, ◌≤◌, ◌++◌, ℕ, ℤ, List, [], map, nat_eq, length, replicate, Bool, true, false, IsSomeAnd, Option, Some, None, IfSome, Result, Ok, Err, Vec, option_map}
 use Rattle.std.specs.Global.{Global}
 use Rattle.std.specs.declared.alloc.AllocError.{AllocError}
-use Rattle.std.specs.List.{list_all}
-use Rattle.ac_port.specs.Contents.{Contents, IsTooBig}
+use Rattle.std.specs.FinMap.{get}
+use Rattle.std.specs.List.{list_all, list_any}
+use Rattle.ac_port.specs.Contents.{Contents, IsTooBig, part_of}
+use Rattle.ac_claims.specs.Soundness.{AreModels}
+use Rattle.ac_paths.specs.Going.{Pairing}
+use Rattle.ac_prooftext.specs.Courses.{IsFed as Took}
+use Rattle.ac_prooftext.specs.declared.checker.Checker.{Checker}
+use Rattle.ac_poly.specs.Model.{model_of}
+use Rattle.ac_syntax.specs.declared.tree.Cond.{Cond}
 use Rattle.ac_syntax.specs.declared.tree.Program.{Program}
-use Rattle.ac_syntax.specs.Outputs.{input_at}
+use Rattle.ac_syntax.specs.Outputs.{input_at, extents_at}
+use Rattle.ac_syntax.specs.Index.{point, index_value}
 use Rattle.ac_syntax.specs.Ready.{ReadyProgram}
 use Rattle.ac_syntax.specs.Small.{IsSmallProgram, IsSmallPair}
 use Rattle.ac_syntax.specs.declared.tree.Pair.{Pair}
 use Rattle.ac_rules.specs.Numbers.{HasInputs, ListsItsParameters}
 use Rattle.ac_parse.specs.Pairing.{IsPairOf}
 use Rattle.ac_parse.specs.Program.{IsProgramOf}
-use Rattle.ac_top.specs.Answers.{AreLowered, AreNoPair, ArePaired, AreRefused, HasComplaint, Holds, IsLowered, IsNotLowered, PairReports}
+use Rattle.ac_top.specs.Answers.{AreLowered, AreNoPair, ArePaired, AreRefused, HasComplaint, Holds, IsLowered, IsNotLowered, IsStream, PairReports, CheckReports}
+use Rattle.ac_top.specs.Reads.{Fails}
+use Rattle.ac_top.specs.declared.lowering.Lowered.{Lowered}
+use Rattle.ac_top.specs.declared.lowering.Lowered.TheVariants.{Models}
+use Rattle.ac_top.specs.declared.lowering.Lowered.TheVariants as lowered
+use Rattle.ac_top.specs.declared.lowering.OneLowered.{OneLowered}
+use Rattle.ac_top.specs.declared.lowering.OneLowered.TheVariants as one
 use Rattle.ac_top.specs.Reports.{Report, report as a_report}
 use Rattle.ac_top.specs.Runs.{InstanceReports, IsReadyPair}
 use Rattle.ac_top.specs.Statuses.{status_of}
@@ -24,7 +38,7 @@ use Rattle.ac_top.specs.declared.report.Report.{Report as Written}
 use Rattle.ac_top.specs.declared.report.Source.{Source}
 use Rattle.ac_top.specs.declared.report.Source.TheVariants.{Bytes, Unread, TooLong}
 use Rattle.ac_top.specs.declared.runs.Task.{Task}
-use Rattle.ac_top.specs.declared.runs.Task.TheVariants.{Prove, Instance}
+use Rattle.ac_top.specs.declared.runs.Task.TheVariants.{Prove, Check, Instance}
 use Rattle.ac_top.specs.declared.sources.Paired.{Paired}
 use Rattle.ac_top.specs.declared.sources.Paired.TheVariants.{Together, Refused}
 use Rattle.ac_top.specs.declared.sources.Parsed.{Parsed}
@@ -65,11 +79,16 @@ abbrev pub IsPairing : Program → Program → Paired → Type 0
 IsPairing left right (Together pair) = IsPairOf left right pair
 IsPairing left right (Refused text) = AreNoPair left right text.items
 
+-- the extents of each output have the same values in both programs
+abbrev pub HaveOneExtent : Pair → Type 0
+HaveOneExtent pair = (o : ℕ) → list_any (nat_eq o) pair.outputs ≡ true → (params : List ℤ) → map (index_value (point params [])) (extents_at pair.right.arrays o) ≡ map (index_value (point params [])) (extents_at pair.left.arrays o)
+
 -- what is known of the pair of two programs that were read; its outputs are inputs of the left one
 pub record IsReadPair (pair : Pair) : Type 0 where
   pub joined : IsJoined pair
   pub inputs : list_all (input_at pair.left.arrays) pair.outputs ≡ true
   pub ready : IsReadyPair pair
+  pub extents : HaveOneExtent pair
   pub small : IsSmallPair pair
 
 -- the pair of two texts, or why they give none
@@ -77,24 +96,49 @@ abbrev pub IsPairingOf : List ℕ → List ℕ → List ℕ → List ℕ → Pai
 IsPairingOf a b first second (Together pair) = ArePaired first second pair × IsReadPair pair
 IsPairingOf a b first second (Refused text) = AreRefused a b first second text.items
 
--- a program is lowered, or what is wrong with it
-abbrev pub IsLowering : Program → Option Said → Type 0
-IsLowering program None = IsLowered program
-IsLowering program (Some said) = IsNotLowered program (said_by said)
+-- a program is lowered under a context, to this model, or what is wrong with it
+abbrev pub IsLowering : Program → Cond → OneLowered → Type 0
+IsLowering program context (one.Model model) = IsLowered program × (model ≡ model_of program context)
+IsLowering program context (one.Refused said) = IsNotLowered program (said_by said)
 
--- both programs of the pair of two texts are lowered, or the line that says which is not
-abbrev pub IsLoweringOf : (a b first second : List ℕ) → Pair → Option (Vec ℕ Global) → Type 0
-IsLoweringOf a b first second pair None = AreLowered pair
-IsLoweringOf a b first second pair (Some text) = AreRefused a b first second text.items
+-- what one read of a part gave; `quiet` says that no read failed in it, and `faulty` that one did
+abbrev pub IsPiece : Option Contents → (quiet faulty : Type 0) → (name : List ℕ) (from room : ℕ) → Option (Vec ℕ Global) → Type 0
+IsPiece files quiet faulty name from room None = faulty
+IsPiece files quiet faulty name from room (Some piece) = quiet × (length piece.items ≤ room) × IfSome files (λ contents. IsSomeAnd (get contents name) (λ bytes. piece.items ≡ part_of bytes from room))
 
--- what a task reports of a pair of the texts of two files
-abbrev pub TaskReports : Task → (a b first second : List ℕ) → Pair → Report → Type 0
-TaskReports Prove a b first second = PairReports a b
-TaskReports (Instance at limit) a b first second = λ pair. InstanceReports a b first second pair (option_map (λ w. w.now) at) limit
+-- a part of a named file was fed to a checker: all that there is from a place on, as far as there is room
+pub record IsFed (files : Option Contents) (name : List ℕ) (from room : ℕ) (before now : Checker) (count : ℕ) : Type 0 where
+  pub piece : List ℕ
+  pub fed : (g : Pairing) (outputs text : List ℕ) → Took g outputs text before → Took g outputs (text ++ piece) now
+  pub counted : length piece ≡ count
+  pub within : count ≤ room
+  pub told : IfSome files (λ contents. IsSomeAnd (get contents name) (λ bytes. piece ≡ part_of bytes from room))
+
+-- the same, where the part was fed, by how many bytes it has
+abbrev pub IsPartRead : Option Contents → (quiet faulty : Type 0) → (name : List ℕ) (from room : ℕ) (before now : Checker) → Option ℕ → Type 0
+IsPartRead files quiet faulty name from room before now None = faulty
+IsPartRead files quiet faulty name from room before now (Some count) = quiet × IsFed files name from room before now count
+
+-- a named file was read in parts, and its stream was fed to a checker; or a read failed
+abbrev pub IsFeeding : {Files : Type 0} → (Files → List ℕ → Files → Type 0) → (Files → ℕ) → Files → Files → Option Contents → List ℕ → Pairing → List ℕ → Checker → Bool → Type 0
+IsFeeding makes faults before after files name g outputs checker true = (stream : List ℕ) × IsStream files name stream × Took g outputs stream checker
+IsFeeding makes faults before after files name g outputs checker false = (count : ℕ) × Fails makes faults before after (replicate count name) name
+
+-- both programs of the pair of two texts are lowered, to these models, or the line that says which is not
+abbrev pub IsLoweringOf : (a b first second : List ℕ) → Pair → Lowered → Type 0
+IsLoweringOf a b first second pair (Models left right) = AreLowered pair × AreModels pair left right
+IsLoweringOf a b first second pair (lowered.Refused text) = AreRefused a b first second text.items
+
+-- what a task reports of a pair of the texts of two files; `fails` says of a proof file that the read of a part failed after so many
+abbrev pub TaskReports : Task → Option Contents → (fails : List ℕ → ℕ → Type 0) → (a b first second : List ℕ) → Pair → Report → Type 0
+TaskReports Prove files fails a b first second = PairReports a b
+TaskReports (Check proof) files fails a b first second = CheckReports files (fails proof.now) proof.now
+TaskReports (Instance at limit) files fails a b first second = λ pair. InstanceReports a b first second pair (option_map (λ w. w.now) at) limit
 
 -- a limit is at most the greatest
 abbrev pub IsWithin : Task → Type 0
 IsWithin Prove = Unit {0}
+IsWithin (Check proof) = Unit {0}
 IsWithin (Instance at limit) = limit ≤ 1000000
 
 abbrev pub verdicts_report : Pair → List Verdict → Report

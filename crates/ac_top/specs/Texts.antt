@@ -12,6 +12,8 @@ use Rattle.ac_rules.specs.declared.fault.Which.{Which}
 use Rattle.ac_rules.specs.declared.fault.Which.TheVariants.{File, Nesting, Parameters, Arrays, Dimensions, Depth, Assignments, Nodes, Literal, Coefficient, Pieces}
 use Rattle.ac_parse.specs.declared.faults.SourceFault.{SourceFault}
 use Rattle.ac_parse.specs.declared.faults.SourceFault.TheVariants.{Lex, Syntax, NotAffine, Undeclared, Misused, Duplicate, Endless, Limit, Memory}
+use Rattle.ac_cert.specs.Names.{name_of}
+use Rattle.ac_cert.specs.declared.types.Rule.{Rule}
 use Rattle.ac_poly.specs.declared.types.LowerFault.{LowerFault}
 use Rattle.ac_poly.specs.declared.types.LowerFault.TheVariants as lowering
 use Rattle.ac_top.specs.Places.{place_text}
@@ -136,3 +138,20 @@ abbrev pub outcome_lines : List Array → List ℕ → List Outcome → List ℕ
 outcome_lines arrays [] rs = []
 outcome_lines arrays (o ∷ os) [] = []
 outcome_lines arrays (o ∷ os) (r ∷ rs) = outcome_line (name_at arrays o) r ++ outcome_lines arrays os rs
+
+-- an output that an accepted proof names
+abbrev pub accepted_line : List ℕ → List ℕ
+accepted_line name = line (name ++ codes " accepted")
+
+-- one line for each output, in order
+abbrev pub accepted_lines : List Array → List ℕ → List ℕ
+accepted_lines arrays [] = []
+accepted_lines arrays (o ∷ os) = accepted_line (name_at arrays o) ++ accepted_lines arrays os
+
+-- the line of a proof that a rule refuses
+abbrev pub rejected_line : ℕ → Rule → List ℕ
+rejected_line number rule = line (codes "rejected at line " ++ decimal number ++ codes ": " ++ name_of rule)
+
+-- a proof of too many bytes, or one that is nested too deep
+abbrev pub rejected_too_long_line : List ℕ
+rejected_too_long_line = line (codes "rejected: too long")

@@ -15,12 +15,14 @@
 #![tactic(auto)]
 
 mod cells;
+mod check;
 mod compare;
 mod evaluate;
 mod halts;
 mod lowering;
 mod places;
 mod program;
+mod proof_lines;
 mod prove;
 mod refusals;
 mod report;

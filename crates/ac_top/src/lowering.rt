@@ -1,4 +1,4 @@
-// Whether the programs of a pair are lowered to integer points, and what is said where one is not.
+// The programs of a pair lowered to integer points, and what is said where one is not.
 ghost use Rattle.std.specs.Prelude.{◌≡◌, length, IfOk};
 ghost use Rattle.ac_syntax.specs.Ready.{ReadyProgram, FitParts};
 ghost use Rattle.ac_top.specs.Answers.{ArePaired};
@@ -8,9 +8,23 @@ ghost use Rattle.ac_top.specs.Texts as text;
 use crate::refusals::{Complaint, about, refusal_line};
 use crate::runs::Named;
 use ac_poly::lower;
-use ac_poly::types::LowerFault;
+use ac_poly::types::{LowerFault, Model};
 use ac_syntax::tree::{Cond, Pair, Program};
 use std::alloc::{AllocError, Global};
+
+/// The model of a program, or what is wrong with it.
+#[derive(Drop)]
+enum OneLowered {
+    Model(Model),
+    Refused(Complaint),
+}
+
+/// The models of both programs of a pair, or the line that says which has none.
+#[derive(Drop)]
+pub enum Lowered {
+    Models { left: Model, right: Model },
+    Refused(Vec<u8>),
+}
 
 /// What a fault says of a program that is not lowered. Want of memory says nothing of it.
 fn lower_complaint_of(fault: LowerFault) -> Result<Complaint, AllocError>
@@ -23,38 +37,47 @@ fn lower_complaint_of(fault: LowerFault) -> Result<Complaint, AllocError>
     }
 }
 
-/// What is wrong with a program that is not lowered under a context; nothing where it is.
-fn wrong_program(
+/// The model of a program under a context, or what is wrong with it.
+fn lowered_program(
     alloc: Global,
     program: &Program,
     context: &Cond,
-) -> Result<Option<Complaint>, AllocError>
+) -> Result<OneLowered, AllocError>
     requires program { ReadyProgram program.now }
     requires context { FitParts (length program.now.params) 0 context.now.parts }
-    ensures { IfOk result (IsLowering program.now) }
+    ensures { IfOk result (IsLowering program.now context.now) }
 {
     match lower(alloc, program, context) {
-        Ok(_) => Ok(None),
-        Err(fault) => Ok(Some(lower_complaint_of(fault)?)),
+        Ok(model) => Ok(OneLowered::Model(model)),
+        Err(fault) => Ok(OneLowered::Refused(lower_complaint_of(fault)?)),
     }
 }
 
-/// The line that says which program of the pair of two files is not lowered, the first such one; none where both are.
-pub fn not_lowered(
+/// The models of the programs of the pair of two files under its context, or the line that says which has none, of the first such one.
+pub fn lowered_pair(
     alloc: Global,
     left: &Named<'_>,
     right: &Named<'_>,
     pair: &Pair,
-) -> Result<Option<Vec<u8>>, AllocError>
+) -> Result<Lowered, AllocError>
     requires are { ArePaired left.now.bytes.now right.now.bytes.now pair.now }
     requires pair { IsReadPair pair.now }
     ensures { IfOk result (IsLoweringOf left.now.name.now right.now.name.now left.now.bytes.now right.now.bytes.now pair.now) }
 {
-    if let Some(first) = wrong_program(alloc, &pair.left, &pair.context)? {
-        return Ok(Some(refusal_line(alloc, left.name, left.bytes, first)?));
-    }
-    if let Some(second) = wrong_program(alloc, &pair.right, &pair.context)? {
-        return Ok(Some(refusal_line(alloc, right.name, right.bytes, second)?));
-    }
-    Ok(None)
+    let first = match lowered_program(alloc, &pair.left, &pair.context)? {
+        OneLowered::Model(model) => model,
+        OneLowered::Refused(complaint) => {
+            return Ok(Lowered::Refused(refusal_line(alloc, left.name, left.bytes, complaint)?));
+        }
+    };
+    let second = match lowered_program(alloc, &pair.right, &pair.context)? {
+        OneLowered::Model(model) => model,
+        OneLowered::Refused(complaint) => {
+            return Ok(Lowered::Refused(refusal_line(alloc, right.name, right.bytes, complaint)?));
+        }
+    };
+    Ok(Lowered::Models {
+        left: first,
+        right: second,
+    })
 }

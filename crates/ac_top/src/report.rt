@@ -1,21 +1,24 @@
-ghost use Rattle.std.specs.Prelude.{◌≡◌, ◌≤◌, length, true, IfOk};
+ghost use Rattle.std.specs.Prelude.{◌≡◌, ◌≤◌, ◌∷◌, length, replicate, true, IfOk};
 ghost use Rattle.ac_port.specs.Counts.{Rose};
 ghost use Rattle.std.specs.List.{list_all};
 ghost use Rattle.ac_syntax.specs.Outputs.{input_at};
+ghost use Rattle.ac_claims.specs.Soundness.{AreModels};
 ghost use Rattle.ac_top.specs.Verdicts.{IsJoined};
 ghost use Rattle.ac_top.specs.Answers.{ArePaired, PairReports, SourceReports, FileReports};
-ghost use Rattle.ac_top.specs.Reads.{FirstFails, SecondFails};
+ghost use Rattle.ac_top.specs.Reads.{Fails};
 ghost use Rattle.ac_top.specs.Reports.{report as a_report};
 ghost use Rattle.ac_top.specs.Stages.{IsReadPair, IsSource, IsWithin, TaskReports, written, verdicts_report};
 
+use crate::check::report_check;
 use crate::evaluate::Side;
-use crate::lowering::not_lowered;
+use crate::lowering::{Lowered, lowered_pair};
 use crate::prove::{Answer, prove};
 use crate::runs::{Named, Task, report_instance};
 use crate::sources::{Paired, pair_sources};
 use crate::status::{Status, status_of};
 use crate::texts::{later_line, read_fault_line, too_long_line, verdict_lines};
 use crate::verdict::Verdict;
+use ac_poly::types::Model;
 use ac_port::{Files, ReadStop};
 use ac_syntax::tree::Pair;
 use std::alloc::{AllocError, Global};
@@ -49,7 +52,7 @@ pub fn refused(text: Vec<u8>) -> Report
 }
 
 /// The report of a read that failed.
-fn unread(text: Vec<u8>) -> Report
+pub fn unread(text: Vec<u8>) -> Report
     ensures { written result ≡ a_report Status.ReadFault text.items }
 {
     Report {
@@ -99,27 +102,34 @@ fn report_verdicts(alloc: Global, pair: &Pair, verdicts: &[Verdict]) -> Result<R
     })
 }
 
-/// What a task reports of a pair of two files.
-fn report_task(
+/// What a task reports of a pair of two files and its models.
+fn report_task<F: Files>(
     alloc: Global,
+    files: &mut F,
     left: &Named<'_>,
     right: &Named<'_>,
     pair: &Pair,
+    models: (&Model, &Model),
     task: &Task<'_>,
 ) -> Result<Report, AllocError>
     requires pair { IsReadPair pair.now }
+    requires models { AreModels pair.now models.0.now models.1.now }
     requires within { IsWithin task.now }
-    ensures { IfOk result (λ r. TaskReports task.now left.now.name.now right.now.name.now left.now.bytes.now right.now.bytes.now pair.now (written r)) }
+    ensures report { IfOk result (λ r. TaskReports task.now (F.contents files.old) (λ name count. Fails F.read_makes F.read_faults files.old files.new (replicate count name) name) left.now.name.now right.now.name.now left.now.bytes.now right.now.bytes.now pair.now (written r)) }
+    ensures same { F.contents files.new ≡ F.contents files.old }
+    ensures same_writes { F.write_faults files.new ≡ F.write_faults files.old }
 {
     match task {
         Task::Prove => report_pair(alloc, left.name, right.name, pair),
+        Task::Check { proof } => report_check(alloc, files, pair, models.0, models.1, proof),
         Task::Instance { at, limit } => report_instance(alloc, left, right, pair, *at, *limit),
     }
 }
 
 /// What a task reports of the pair of two files, where both programs are lowered.
-fn report_lowered(
+fn report_lowered<F: Files>(
     alloc: Global,
+    files: &mut F,
     left: &Named<'_>,
     right: &Named<'_>,
     pair: &Pair,
@@ -128,26 +138,34 @@ fn report_lowered(
     requires are { ArePaired left.now.bytes.now right.now.bytes.now pair.now }
     requires pair { IsReadPair pair.now }
     requires within { IsWithin task.now }
-    ensures { IfOk result (λ r. SourceReports left.now.name.now right.now.name.now left.now.bytes.now right.now.bytes.now (TaskReports task.now left.now.name.now right.now.name.now left.now.bytes.now right.now.bytes.now) (written r)) }
+    ensures report { IfOk result (λ r. SourceReports left.now.name.now right.now.name.now left.now.bytes.now right.now.bytes.now (TaskReports task.now (F.contents files.old) (λ name count. Fails F.read_makes F.read_faults files.old files.new (replicate count name) name) left.now.name.now right.now.name.now left.now.bytes.now right.now.bytes.now) (written r)) }
+    ensures same { F.contents files.new ≡ F.contents files.old }
+    ensures same_writes { F.write_faults files.new ≡ F.write_faults files.old }
 {
-    match not_lowered(alloc, left, right, pair)? {
-        Some(line) => Ok(refused(line)),
-        None => report_task(alloc, left, right, pair, task),
+    match lowered_pair(alloc, left, right, pair)? {
+        Lowered::Refused(line) => Ok(refused(line)),
+        Lowered::Models {
+            left: first,
+            right: second,
+        } => report_task(alloc, files, left, right, pair, (&first, &second), task),
     }
 }
 
 /// What a task reports of two files.
-fn report_sources(
+fn report_sources<F: Files>(
     alloc: Global,
+    files: &mut F,
     left: &Named<'_>,
     right: &Named<'_>,
     task: &Task<'_>,
 ) -> Result<Report, AllocError>
     requires within { IsWithin task.now }
-    ensures { IfOk result (λ r. SourceReports left.now.name.now right.now.name.now left.now.bytes.now right.now.bytes.now (TaskReports task.now left.now.name.now right.now.name.now left.now.bytes.now right.now.bytes.now) (written r)) }
+    ensures report { IfOk result (λ r. SourceReports left.now.name.now right.now.name.now left.now.bytes.now right.now.bytes.now (TaskReports task.now (F.contents files.old) (λ name count. Fails F.read_makes F.read_faults files.old files.new (replicate count name) name) left.now.name.now right.now.name.now left.now.bytes.now right.now.bytes.now) (written r)) }
+    ensures same { F.contents files.new ≡ F.contents files.old }
+    ensures same_writes { F.write_faults files.new ≡ F.write_faults files.old }
 {
     match pair_sources(alloc, left, right)? {
-        Paired::Together(pair) => report_lowered(alloc, left, right, &pair, task),
+        Paired::Together(pair) => report_lowered(alloc, files, left, right, &pair, task),
         Paired::Refused(text) => Ok(refused(text)),
     }
 }
@@ -161,7 +179,7 @@ pub fn report_files<F: Files>(
     task: &Task<'_>,
 ) -> Result<Report, AllocError>
     requires within { IsWithin task.now }
-    ensures report { IfOk result (λ r. FileReports (F.contents files.old) (FirstFails F.read_makes F.read_faults files.old files.new a.now) (SecondFails F.read_makes F.read_faults files.old files.new a.now b.now) a.now b.now (TaskReports task.now a.now b.now) (written r)) }
+    ensures report { IfOk result (λ r. FileReports (F.contents files.old) (Fails F.read_makes F.read_faults files.old files.new) a.now b.now (TaskReports task.now (F.contents files.old) (λ name count. Fails F.read_makes F.read_faults files.old files.new (a.now ∷ b.now ∷ replicate count name) name) a.now b.now) (written r)) }
     ensures same { F.contents files.new ≡ F.contents files.old }
     ensures same_writes { F.write_faults files.new ≡ F.write_faults files.old }
 {
@@ -183,5 +201,5 @@ pub fn report_files<F: Files>(
         name: b,
         bytes: second.as_slice(),
     };
-    report_sources(alloc, &left, &right, task)
+    report_sources(alloc, files, &left, &right, task)
 }

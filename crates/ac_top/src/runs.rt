@@ -32,6 +32,8 @@ pub struct Named<'a> {
 pub enum Task<'a> {
     /// Compare its outputs at each valuation of the context.
     Prove,
+    /// Test a proof file against it.
+    Check { proof: &'a [u8] },
     /// Run both programs at the valuation that a word gives, with at most this many events.
     Instance { at: Option<&'a [u8]>, limit: u64 },
 }

@@ -1,10 +1,9 @@
 -- Words spell one command at most, and a word gives one list of values.
-use Rattle.std.proofs.Common.{◌≡◌, ◌≤◌, ◌+◌, ◌<◌, ◌^◌, ℕ, ℤ, List, [], ◌∷◌, ◌++◌, length, map, decimal, Option, None, Some, refl, sym, ap, subst, ◌∙◌, arith}
+use Rattle.std.proofs.Common.{◌≡◌, ℕ, ℤ, List, [], ◌∷◌, ◌++◌, map, Option, None, Some, refl, sym, ap, subst, ◌∙◌, arith}
 use Rattle.std.specs.Prelude.{codes}
 use Rattle.ac_words.specs.Numbers.{IsLimitText}
-use Rattle.ac_words.specs.Commands.{Asked, prove, instance_of, IsAt, no_valuation, given_valuation, IsLimit, no_limit, given_limit, IsOptions, IsSpelled, spells_prove, spells_instance, IsCommand}
-use Rattle.ac_words.specs.Entries.{Given}
-use Rattle.ac_words.specs.Valuations.{given_to, IsValuationWord}
+use Rattle.ac_words.specs.Commands.{Asked, prove, check_of, instance_of, IsAt, no_valuation, given_valuation, IsLimit, no_limit, given_limit, IsOptions, IsSpelled, spells_prove, spells_check, spells_instance}
+use Rattle.ac_words.specs.Valuations.{given_to}
 use Rattle.ac_words.specs.Laws.{HasOneCommand, HasOneValuation}
 use Rattle.ac_words.proofs.Numerals.{limit_is}
 use Rattle.ac_words.proofs.Reading.{entries_once}
@@ -48,7 +47,16 @@ options_once _ _ _ _ _ _ e (both v c m by) (both w d n is) = (let same : v ≡ w
 
 spelled_once : (ws vs : List (List ℕ)) (asked other : Asked) → ws ≡ vs → IsSpelled ws asked → IsSpelled vs other → asked ≡ other
 spelled_once _ _ _ _ e (spells_prove a b) (spells_prove c d) = let first : a ≡ c = cc in let second : b ≡ d = cc in λ i. prove (first i) (second i)
+spelled_once _ _ _ _ e (spells_prove a b) (spells_check c d q) = absurd cc
 spelled_once _ _ _ _ e (spells_prove a b) (spells_instance c d v l options is) = absurd cc
+spelled_once _ _ _ _ e (spells_check a b p) (spells_prove c d) = absurd cc
+spelled_once _ _ _ _ e (spells_check a b p) (spells_check c d q) =
+    let first : a ≡ c = cc in
+    let second : b ≡ d = cc in
+    let third : p ≡ q = cc in
+    λ i. check_of (first i) (second i) (third i)
+spelled_once _ _ _ _ e (spells_check a b p) (spells_instance c d v l options is) = absurd cc
+spelled_once _ _ _ _ e (spells_instance a b v l options is) (spells_check c d q) = absurd cc
 spelled_once _ _ _ _ e (spells_instance a b v l options is) (spells_prove c d) = absurd cc
 spelled_once _ _ _ _ e (spells_instance a b v l os is) (spells_instance c d w k qs by) =
     let first : a ≡ c = cc in

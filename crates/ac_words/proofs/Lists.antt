@@ -5,6 +5,11 @@ pub none_of : {X : Type 0} (xs : List X) → length xs ≡ 0 → xs ≡ []
 none_of [] h = refl
 none_of (x ∷ xs) h = absurd (omega (arith, h))
 
+pub one_of : {X : Type 0} (xs : List X) (x : X) → length xs ≡ 1 → x ≡ slice_index_or xs 0 x → xs ≡ x ∷ []
+one_of [] x h a = absurd (omega (arith, h))
+one_of (p ∷ []) x h a = λ i. sym a i ∷ []
+one_of (p ∷ q ∷ rest) x h a = absurd (omega (arith, h))
+
 pub two_of : {X : Type 0} (xs : List X) (x y : X) → length xs ≡ 2 → x ≡ slice_index_or xs 0 x → y ≡ slice_index_or xs 1 y → xs ≡ x ∷ y ∷ []
 two_of [] x y h a b = absurd (omega (arith, h))
 two_of (p ∷ []) x y h a b = absurd (omega (arith, h))

@@ -1,5 +1,5 @@
 -- What is given to a name, entry by entry.
-use Rattle.std.proofs.Common.{◌≡◌, ◌<◌, ℕ, zero, suc, ℤ, List, [], ◌∷◌, map, length, slice_index_or, Option, None, Some, ap, arith}
+use Rattle.std.proofs.Common.{◌≡◌, ◌<◌, ℕ, zero, suc, ℤ, List, [], ◌∷◌, map, length, slice_index_or, Option, None, Some, arith}
 
 -- the values that were found: none or one
 abbrev pub found_so_far : Option ℤ → List ℤ

@@ -5,16 +5,17 @@ use Rattle.std.specs.List.{AllByRecursion}
 use Rattle.std.specs.Str.{IsUtf8}
 use Rattle.ac_words.specs.Numbers.{IsLimitText}
 use Rattle.ac_words.specs.declared.command.Command.{Command}
-use Rattle.ac_words.specs.declared.command.Command.TheVariants.{Prove, Instance}
+use Rattle.ac_words.specs.declared.command.Command.TheVariants.{Prove, Check, Instance}
 use Rattle.ac_words.specs.declared.command.Options.{Options}
 
 -- the bytes of the words
 abbrev pub spelled : List (Vec ℕ Global) → List (List ℕ)
 spelled = map (λ word. word.items)
 
--- what a command line asks for: names of files, the word that gives the parameters their values, and a limit
+-- what a command line asks for: names of files, with that of a proof for `check`; the word that gives the parameters their values, and a limit
 pub data Asked : Type 0 where
   prove : List ℕ → List ℕ → Asked
+  check_of : List ℕ → List ℕ → List ℕ → Asked
   instance_of : List ℕ → List ℕ → Option (List ℕ) → ℕ → Asked
 
 -- `--at W`, or nothing
@@ -35,9 +36,10 @@ pub record IsOptions (words : List (List ℕ)) (at : Option (List ℕ)) (limit :
   pub is_at : IsAt first at
   pub is_limit : IsLimit second limit
 
--- `prove A B`, or `instance A B [--at W] [--limit n]`
+-- `prove A B`, `check A B P`, or `instance A B [--at W] [--limit n]`
 pub data IsSpelled : List (List ℕ) → Asked → Type 0 where
   spells_prove : (a b : List ℕ) → IsSpelled (codes "prove" ∷ a ∷ b ∷ []) (prove a b)
+  spells_check : (a b p : List ℕ) → IsSpelled (codes "check" ∷ a ∷ b ∷ p ∷ []) (check_of a b p)
   spells_instance : (a b : List ℕ) (at : Option (List ℕ)) (limit : ℕ) (options : List (List ℕ)) → IsOptions options at limit
       → IsSpelled (codes "instance" ∷ a ∷ b ∷ options) (instance_of a b at limit)
 
@@ -53,6 +55,7 @@ HasForm words = (asked : Asked) × IsCommand words asked
 -- the same in plain lists
 abbrev pub asked_by : Command → Asked
 asked_by (Prove left right) = prove left.now right.now
+asked_by (Check left right proof) = check_of left.now right.now proof.now
 asked_by (Instance left right at limit) = instance_of left.now right.now (option_map (λ w. w.now) at) limit
 
 abbrev pub AreOptions : List (List ℕ) → Options → Type 0

@@ -1,5 +1,5 @@
 -- Lists of `name=integer`, joined by commas.
-use Rattle.std.specs.Prelude.{◌≡◌, ℕ, ℤ, List, [], ◌∷◌, ◌++◌, Bool, false, ◌==◌}
+use Rattle.std.specs.Prelude.{◌≡◌, ℕ, ℤ, List, [], ◌∷◌, ◌++◌, false, ◌==◌}
 use Rattle.std.specs.List.{list_any, slice_split}
 use Rattle.ac_words.specs.Numbers.{IsInteger}
 use Rattle.ac_words.specs.declared.parts.Given.{Given as Entry}

@@ -1,4 +1,4 @@
-ghost use Rattle.std.specs.Prelude.{◌≡◌, ◌∷◌, [], ℕ, List, Option, codes, MatchOption, IsTrue, ◌↔◌};
+ghost use Rattle.std.specs.Prelude.{◌≡◌, ◌≢◌, ◌∷◌, [], ℕ, List, length, Option, codes, MatchOption, IsTrue, ◌↔◌};
 ghost use Rattle.std.specs.List.{AllByRecursion};
 ghost use Rattle.std.specs.Str.{IsUtf8};
 ghost use Rattle.ac_words.specs.Commands.{Asked, spelled, asked_by, AreOptions, IsOptions, IsSpelled, IsCommand, HasForm};
@@ -12,6 +12,12 @@ pub enum Command<'a> {
     Prove {
         left: &'a [u8],
         right: &'a [u8],
+    },
+    /// `check A B P`: test the proof file P against the files A and B.
+    Check {
+        left: &'a [u8],
+        right: &'a [u8],
+        proof: &'a [u8],
     },
     /// `instance A B [--at W] [--limit n]`: run both at the parameters that the word W gives, with at most n events.
     Instance {
@@ -107,6 +113,20 @@ fn read_options(words: &[Vec<u8>]) -> Option<Options<'_>>
     }
 }
 
+/// What `check`, two files and further words ask for.
+fn checked<'a>(left: &'a Vec<u8>, right: &'a Vec<u8>, rest: &'a [Vec<u8>]) -> Option<Command<'a>>
+    ensures { MatchOption result (length (spelled rest.now) ≢ 1) (λ c. IsSpelled (codes "check" ∷ left.now.items ∷ right.now.items ∷ spelled rest.now) (asked_by c)) }
+{
+    match rest {
+        [proof] => Some(Command::Check {
+            left: left.as_slice(),
+            right: right.as_slice(),
+            proof: proof.as_slice(),
+        }),
+        _ => None,
+    }
+}
+
 /// What a command's name, two files and further words ask for.
 fn named<'a>(
     name: &Vec<u8>,
@@ -116,6 +136,9 @@ fn named<'a>(
 ) -> Option<Command<'a>>
     ensures { MatchOption result ((asked : Asked) → ¬ (IsSpelled (name.now.items ∷ left.now.items ∷ right.now.items ∷ spelled rest.now) asked)) (λ c. IsSpelled (name.now.items ∷ left.now.items ∷ right.now.items ∷ spelled rest.now) (asked_by c)) }
 {
+    if is(name, b"check") {
+        return checked(left, right, rest);
+    }
     let left = left.as_slice();
     let right = right.as_slice();
     if is(name, b"prove") && rest.is_empty() {

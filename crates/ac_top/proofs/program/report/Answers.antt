@@ -3,8 +3,8 @@ use Rattle.std.specs.Prelude.{option_map}
 use Rattle.std.proofs.lemmas.Result.{IfOk-weaker}
 use Rattle.ac_words.specs.Commands.{spelled, asked_by, IsCommand}
 use Rattle.ac_words.specs.declared.command.Command.TheVariants.{Instance}
-use Rattle.ac_top.specs.Answers.{Reports, no_form, of_prove, of_instance}
-use Rattle.ac_top.specs.Reads.{FirstFails, SecondFails}
+use Rattle.ac_top.specs.Answers.{Reports, no_form, of_prove, of_check, of_instance}
+use Rattle.ac_top.specs.Reads.{Fails}
 use Rattle.ac_top.specs.Reports.{report as a_report}
 use Rattle.ac_top.specs.Stages.{written}
 use Rattle.ac_top.specs.declared.status.Status.TheVariants as status
@@ -23,6 +23,12 @@ returns-in-Some-Prove-clause-report g c =
     let is = subst (λ d. IsCommand (spelled c.args.words.now) (asked_by d)) asked.field-0-is asked.ensures in
     IfOk-weaker c.report_files.result _ _ (λ r found. of_prove asked.left.now asked.right.now (written r) is found) c.report_files.ensures.report
 
+pub returns-in-Some-Check-clause-report : goal.returns-in-Some-Check-clause-report
+returns-in-Some-Check-clause-report g c =
+    let asked = c.in-Some-Check in
+    let is = subst (λ d. IsCommand (spelled c.args.words.now) (asked_by d)) asked.field-0-is asked.ensures in
+    IfOk-weaker c.report_files-in-Some-Check.result _ _ (λ r found. of_check asked.left.now asked.right.now asked.proof.now (written r) is found) c.report_files-in-Some-Check.ensures.report
+
 pub returns-in-Some-Instance-clause-report : goal.returns-in-Some-Instance-clause-report
 returns-in-Some-Instance-clause-report g c =
     let asked = c.in-Some-Instance in
@@ -33,4 +39,4 @@ returns-in-Some-Instance-clause-report g c =
 pub returns-in_ok-usage_line-in-None-clause-report : goal.returns-in_ok-usage_line-in-None-clause-report
 returns-in_ok-usage_line-in-None-clause-report g c =
     let files = g.F.Files.contents c.args.files.now in
-    subst (λ t. Reports (spelled c.args.words.now) files (FirstFails g.F.Files.read_makes g.F.Files.read_faults c.args.files.now c.args.files.now) (SecondFails g.F.Files.read_makes g.F.Files.read_faults c.args.files.now c.args.files.now) (a_report status.Usage t)) (sym c.in_ok-usage_line-in-None.ensures) (no_form c.in-None.ensures)
+    subst (λ t. Reports (spelled c.args.words.now) files (Fails g.F.Files.read_makes g.F.Files.read_faults c.args.files.now c.args.files.now) (a_report status.Usage t)) (sym c.in_ok-usage_line-in-None.ensures) (no_form c.in-None.ensures)

@@ -4,16 +4,16 @@ use Rattle.ac_top.specs.Stages.{IsPairingOf, TaskReports}
 use Rattle.ac_top.proofs.report.report_sources.Goals as goal
 
 pub report_lowered-requires : goal.report_lowered-requires
-report_lowered-requires c =
+report_lowered-requires g c =
     let left = c.args.left.now in
     let right = c.args.right.now in
     let are = subst (IsPairingOf left.name.now right.name.now left.bytes.now right.bytes.now) c.in-Together.is c.in_ok-pair.ensures in
     record { are = are.0; pair = are.1; within = c.requires.within }
 
-pub returns-in-Refused : goal.returns-in-Refused
-returns-in-Refused c =
+pub returns-in-Refused-clause-report : goal.returns-in-Refused-clause-report
+returns-in-Refused-clause-report g c =
     let left = c.args.left.now in
     let right = c.args.right.now in
     let why = subst (IsPairingOf left.name.now right.name.now left.bytes.now right.bytes.now) c.in-Refused.is c.in_ok-pair.ensures in
-    subst (SourceReports left.name.now right.name.now left.bytes.now right.bytes.now (TaskReports c.args.task.now left.name.now right.name.now left.bytes.now right.bytes.now))
+    subst (SourceReports left.name.now right.name.now left.bytes.now right.bytes.now _)
     (sym c.refused.ensures) (refused c.in-Refused.text.items why)

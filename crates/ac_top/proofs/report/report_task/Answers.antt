@@ -1,15 +1,18 @@
 use Rattle.std.proofs.Common.{IfOk, sym, subst}
+use Rattle.std.proofs.lemmas.Result.{IfOk-weaker}
 use Rattle.ac_top.specs.Stages.{written, TaskReports}
+use Rattle.ac_top.proofs.Lowerings.{judged}
+use Rattle.ac_top.proofs.Reading.{task_prove, task_check, task_instance}
 use Rattle.ac_top.proofs.report.report_task.Goals as goal
 
-pub returns-in-Prove : goal.returns-in-Prove
-returns-in-Prove c =
-    let left = c.args.left.now in
-    let right = c.args.right.now in
-    subst (λ task. IfOk c.report_pair.result (λ r. TaskReports task left.name.now right.name.now left.bytes.now right.bytes.now c.args.pair.now (written r))) (sym c.in-Prove.is) c.report_pair.ensures
+pub returns-in-Prove-clause-report : goal.returns-in-Prove-clause-report
+returns-in-Prove-clause-report g c = IfOk-weaker c.report_pair.result _ _ (λ r found. task_prove c.args.task.now _ _ _ _ _ _ c.args.pair.now (written r) c.in-Prove.is found) c.report_pair.ensures
 
-pub returns-in-Instance : goal.returns-in-Instance
-returns-in-Instance c =
-    let left = c.args.left.now in
-    let right = c.args.right.now in
-    subst (λ task. IfOk c.report_instance.result (λ r. TaskReports task left.name.now right.name.now left.bytes.now right.bytes.now c.args.pair.now (written r))) (sym c.in-Instance.is) c.report_instance.ensures
+pub returns-in-Instance-clause-report : goal.returns-in-Instance-clause-report
+returns-in-Instance-clause-report g c = IfOk-weaker c.report_instance.result _ _ (λ r found. task_instance c.args.task.now _ _ _ _ _ _ c.args.pair.now (written r) c.in-Instance.is found) c.report_instance.ensures
+
+pub returns-in-Check-clause-report : goal.returns-in-Check-clause-report
+returns-in-Check-clause-report g c = IfOk-weaker c.report_check.result _ _ (λ r found. task_check c.args.task.now _ _ _ _ _ _ c.args.pair.now (written r) c.in-Check.is found) c.report_check.ensures.report
+
+pub report_check-requires-clause-paired : goal.report_check-requires-clause-paired
+report_check-requires-clause-paired g c = judged c.args.pair.now c.requires.pair

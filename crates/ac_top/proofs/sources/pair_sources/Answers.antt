@@ -11,7 +11,7 @@ use Rattle.ac_top.proofs.sources.pair_sources.Goals as goal
 
 pairing : (a b first second : List ℕ) (left right : Program) → IsProgramOf first left → IsRead left → IsProgramOf second right → IsRead right
     → (made : Paired) → IsPairing left right made → IsPairingOf a b first second made
-pairing a b first second left right l h r k (Together pair) is = (record { left = left; right = right; is_left = l; is_right = r; is_pair = is }, read_pair left right pair is h k)
+pairing a b first second left right l h r k (Together pair) is = (record { left = left; right = right; is_left = l; is_right = r; is_pair = is }, read_pair first second left right pair l r is h k)
 pairing a b first second left right l h r k (Refused text) why = no_pair left right text.items l r why
 
 pub returns-in-Refused : goal.returns-in-Refused

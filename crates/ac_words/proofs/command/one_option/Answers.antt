@@ -1,4 +1,4 @@
-use Rattle.std.proofs.Common.{◌≡◌, ◌∷◌, [], ℕ, List, Some, None, refl, subst, sym}
+use Rattle.std.proofs.Common.{◌∷◌, [], Some, refl, subst, sym}
 use Rattle.ac_words.specs.Numbers.{IsLimitText}
 use Rattle.ac_words.specs.Commands.{IsOptions}
 use Rattle.ac_words.proofs.Forms.{at_option, limit_option}

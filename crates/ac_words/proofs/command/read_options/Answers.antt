@@ -1,4 +1,4 @@
-use Rattle.std.proofs.Common.{◌≡◌, ◌∷◌, [], ℕ, List, Option, Some, None, MatchOption, subst, sym, ap, arith}
+use Rattle.std.proofs.Common.{ℕ, List, Option, None, MatchOption, subst, sym, arith}
 use Rattle.ac_words.specs.Commands.{spelled, AreOptions, IsOptions}
 use Rattle.ac_words.proofs.Forms.{no_option}
 use Rattle.ac_words.proofs.Lists.{none_of, two_of, four_of}

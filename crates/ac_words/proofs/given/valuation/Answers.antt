@@ -1,4 +1,4 @@
-use Rattle.std.proofs.Common.{◌≡◌, ℕ, ℤ, List, map, IfOk, MatchOption, Option, None, Some, Vec, subst, sym, ap, ◌∙◌}
+use Rattle.std.proofs.Common.{ℕ, ℤ, List, map, MatchOption, Option, None, Some, Vec, subst}
 use Rattle.std.specs.Global.{Global}
 use Rattle.std.proofs.lemmas.Result.{IfOk-weaker}
 use Rattle.ac_words.specs.Entries.{Given, AreEntries, parts_of, plain}

@@ -1,4 +1,4 @@
-use Rattle.std.proofs.Common.{rules, ◌≡◌, ◌<◌, ◌^◌, ℤ, FitsSigned, w64, MatchOption, Ok, sym, subst, arith}
+use Rattle.std.proofs.Common.{rules, ◌≡◌, ℤ, FitsSigned, w64, MatchOption, sym, subst}
 use Rattle.std.specs.Fmt.{signed_decimal}
 use Rattle.std.proofs.lemmas.Fmt.{parse-signed_decimal}
 use Rattle.ac_words.proofs.numbers.canonical.Goals as goal

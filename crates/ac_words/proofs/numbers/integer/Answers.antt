@@ -1,4 +1,4 @@
-use Rattle.std.proofs.Common.{rules, ◌≡◌, ◌<◌, ◌^◌, ℤ, pos, ⊎_elim, MatchOption, FitsSigned, w64, false, true, true≢false, sym, subst, ◌∙◌, ap, arith, Option, None, Some, ℕ, List, nat_eq}
+use Rattle.std.proofs.Common.{rules, ◌≡◌, ℤ, ⊎_elim, MatchOption, FitsSigned, w64, sym, subst, ◌∙◌, Option, None, Some, ℕ, List}
 use Rattle.std.specs.Prelude.{codes}
 use Rattle.std.specs.Fmt.{signed_decimal}
 use Rattle.std.specs.Str.{IsUtf8}

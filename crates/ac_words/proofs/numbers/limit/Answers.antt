@@ -1,8 +1,7 @@
-use Rattle.std.proofs.Common.{rules, ◌≡◌, ◌<◌, ◌^◌, ◌≤◌, ℕ, decimal, sym, subst, ◌∙◌, ap, arith}
-use Rattle.std.proofs.lemmas.Fmt.{decimal_injective, IsAscii-decimal}
+use Rattle.std.proofs.Common.{rules, decimal, sym, subst, arith}
+use Rattle.std.proofs.lemmas.Fmt.{IsAscii-decimal}
 use Rattle.std.proofs.lemmas.Str.{IsUtf8-from_ascii}
 use Rattle.std.specs.Str.{IsUtf8}
-use Rattle.ac_words.specs.Numbers.{IsLimitText}
 use Rattle.ac_words.proofs.Numerals.{limit_is}
 use Rattle.ac_words.proofs.numbers.limit.Goals as goal
 

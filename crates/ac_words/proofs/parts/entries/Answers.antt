@@ -1,6 +1,5 @@
-use Rattle.std.proofs.Common.{◌≡◌, ◌==◌, [], ◌∷◌, ℕ, List, length, false, map, IfOk, MatchOption, subst, sym, refl}
-use Rattle.std.specs.List.{slice_split}
-use Rattle.ac_words.specs.Entries.{Given, AreEntries, parts_of, plain}
+use Rattle.std.proofs.Common.{List, map, IfOk, MatchOption, subst, sym}
+use Rattle.ac_words.specs.Entries.{Given, AreEntries, plain}
 use Rattle.ac_words.proofs.Reading.{parts_whole}
 use Rattle.ac_words.proofs.parts.entries.Goals as goal
 

@@ -1,8 +1,7 @@
-use Rattle.std.proofs.Common.{rules, ◌≡◌, ◌==◌, ◌+◌, ◌++◌, ◌∷◌, [], ℕ, List, map, subst, sym, ap, ◌∙◌, arith, false, to_z, of_z, w64, FitsSigned}
+use Rattle.std.proofs.Common.{rules, ◌≡◌, ◌==◌, ◌+◌, ◌++◌, ◌∷◌, [], map, subst, sym, ap, ◌∙◌, arith, false}
 use Rattle.std.proofs.lemmas.List.{map-append}
-use Rattle.std.proofs.lemmas.Int.{to_z-of_z}
 use Rattle.std.specs.List.{list_any, slice_split}
-use Rattle.ac_words.specs.Entries.{Given, IsCut, IsEntry, AreEntries, plain}
+use Rattle.ac_words.specs.Entries.{AreEntries, plain}
 use Rattle.ac_words.proofs.Reading.{IsReadTo, stops, stops_last, ends, goes_on, ended}
 use Rattle.ac_words.proofs.parts.entries_of.Goals as goal
 use Rattle.ac_words.proofs.parts.entries_of.Goals.{else-loop-turn-test, then-loop-turn-test+in_default}

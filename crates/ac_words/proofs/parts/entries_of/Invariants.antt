@@ -1,5 +1,5 @@
-use Rattle.std.proofs.Common.{◌≡◌, ◌≤◌, ◌+◌, ◌++◌, List, ℕ, map, length, ◌==◌}
-use Rattle.ac_words.specs.Entries.{plain, AreEntries}
+use Rattle.std.proofs.Common.{map}
+use Rattle.ac_words.specs.Entries.{plain}
 use Rattle.ac_words.proofs.Reading.{IsReadTo}
 use Rattle.ac_words.proofs.parts.entries_of.Given as goal
 
