@@ -1,64 +1,33 @@
 -- The branches of a step, one by one.
-use Rattle.std.proofs.Common.{◌≡◌, ◌≢◌, ℕ, zero, suc, ◌+◌, ◌<◌, ◌≤◌, List, [], ◌∷◌, ◌++◌, map, reverse, length, Some, None, refl, sym, ap, ◌∙◌, subst, arith, append_assoc}
+use Rattle.std.proofs.Common.{◌≡◌, ◌≢◌, ◌<◌, List, [], ◌∷◌, ◌++◌, map, reverse, length, refl, sym, ap, ◌∙◌, arith}
 use Rattle.std.specs.Prelude.{Result, Ok, Err, IfOk}
 use Rattle.std.specs.declared.alloc.AllocError.{AllocError}
 use Rattle.std.proofs.lemmas.List.{reverse-append, reverse-reverse, length-map, length-reverse}
 use Rattle.ac_paths.specs.Branching.{onto}
-use Rattle.ac_paths.specs.Formed.{IsFormed, AllFormed}
 use Rattle.ac_paths.specs.declared.path.Branch.{Branch}
 use Rattle.ac_paths.specs.declared.path.Path.{Path}
-use Rattle.ac_claims.specs.Dues.{AreDueFormed}
-use Rattle.ac_claims.specs.Entries.{branches_of, dues, IsEntryFormed, AreEntriesFormed}
+use Rattle.ac_claims.specs.Entries.{branches_of, dues}
 use Rattle.ac_claims.specs.Machine.{Due, PlanAt}
-use Rattle.ac_claims.specs.declared.entry.Branches.{Branches}
 use Rattle.ac_claims.specs.declared.entry.Entry.{Entry}
-use Rattle.ac_claims.specs.declared.entry.Entry.TheVariants as entry
-use Rattle.ac_claims.proofs.StackSteps.{dues_with, formed_push, formed_same}
 
-pub plans_formed : (params : ℕ) (hs : List Path) → AllFormed params hs → AreDueFormed params (map PlanAt hs)
-plans_formed params [] a = tt
-plans_formed params (h ∷ hs) a = (a.0, plans_formed params hs a.1)
+pub not_nil : (bs left : List Branch) → (bs ≡ [] → ⊥) → left ≡ reverse bs → left ≢ []
+not_nil bs left n l e = n (sym (reverse-reverse bs) ∙ ap reverse (sym l ∙ e))
 
-not_nil : (bs : List Branch) → bs ≢ [] → reverse bs ≢ []
-not_nil bs n e = n (sym (reverse-reverse bs) ∙ ap reverse e)
-
--- branches that are put onto a stack
-back_again : (h : Path) (bs left : List Branch) → left ≡ reverse bs → map PlanAt (map (onto h) (reverse left)) ≡ map PlanAt (map (onto h) bs)
-back_again h bs left e = ap (λ z. map PlanAt (map (onto h) z)) (ap reverse e ∙ reverse-reverse bs)
-
-pub branches_pushed : (h : Path) (bs left : List Branch) (old new : List Entry) → left ≡ reverse bs → new ≡ old ++ entry.Branches (record { path = h; left = left }) ∷ [] → dues new ≡ map PlanAt (map (onto h) bs) ++ dues old
-branches_pushed h bs left old new e n = dues_with old new (entry.Branches (record { path = h; left = left })) n ∙ ap (λ z. z ++ dues old) (back_again h bs left e)
-
-pub branches_formed : (params : ℕ) (h : Path) (bs left : List Branch) (old new : List Entry) → (bs ≡ [] → ⊥) → left ≡ reverse bs → new ≡ old ++ entry.Branches (record { path = h; left = left }) ∷ [] → AreEntriesFormed params old → AllFormed params (map (onto h) bs) → AreEntriesFormed params new
-branches_formed params h bs left old new some e n a f =
-    formed_push params old new (entry.Branches (record { path = h; left = left })) a
-    (subst (AreDueFormed params) (sym (back_again h bs left e)) (plans_formed params (map (onto h) bs) f), subst (λ z. z ≢ []) (sym e) (not_nil bs some)) n
+-- branches that are put onto what is due
+pub back_again : (h : Path) (bs left : List Branch) → left ≡ reverse bs → map PlanAt (map (onto h) bs) ≡ branches_of h left
+back_again h bs left e = ap (λ z. map PlanAt (map (onto h) z)) (sym (reverse-reverse bs) ∙ ap reverse (sym e))
 
 -- the first of them, and those behind it
-pub branches_split : (b : Branches) (rest : List Branch) (x : Branch) → b.left ≡ rest ++ x ∷ [] → branches_of b ≡ PlanAt (onto b.path x) ∷ map PlanAt (map (onto b.path) (reverse rest))
-branches_split b rest x e = ap (λ z. map PlanAt (map (onto b.path) z)) (ap reverse e ∙ reverse-append rest (x ∷ []))
+pub branches_split : (h : Path) (left rest : List Branch) (x : Branch) → left ≡ rest ++ x ∷ [] → branches_of h left ≡ PlanAt (onto h x) ∷ branches_of h rest
+branches_split h left rest x e = ap (λ z. map PlanAt (map (onto h) z)) (ap reverse e ∙ reverse-append rest (x ∷ []))
 
-pub first_result : (b : Branches) (rest : List Branch) (x : Branch) (r : Result Path AllocError) (new old : List Due) → b.left ≡ rest ++ x ∷ [] → IfOk r (λ next. next ≡ onto b.path x) → IfOk r (λ next. new ≡ map PlanAt (map (onto b.path) (reverse rest)) ++ old)
-    → IfOk r (λ path. PlanAt path ∷ new ≡ branches_of b ++ old)
-first_result b rest x (Ok path) new old e p n = (λ i. PlanAt (p i) ∷ n i) ∙ sym (ap (λ z. z ++ old) (branches_split b rest x e))
-first_result b rest x (Err a) new old e p n = tt
+pub first_result : (h : Path) (left rest : List Branch) (x : Branch) (es old : List Entry) (r : Result Path AllocError) → left ≡ rest ++ x ∷ [] → IfOk r (λ p. PlanAt p ∷ dues p.conj.rows es ≡ PlanAt (onto h x) ∷ branches_of h rest ++ dues h.conj.rows old)
+    → IfOk r (λ p. PlanAt p ∷ dues p.conj.rows es ≡ branches_of h left ++ dues h.conj.rows old)
+first_result h left rest x es old (Ok p) e d = d ∙ sym (ap (λ z. z ++ dues h.conj.rows old) (branches_split h left rest x e))
+first_result h left rest x es old (Err a) e d = tt
 
-pub first_formed : (params : ℕ) (b : Branches) (rest : List Branch) (x : Branch) (r : Result Path AllocError) → b.left ≡ rest ++ x ∷ [] → IfOk r (λ next. next ≡ onto b.path x) → AreDueFormed params (branches_of b) → IfOk r (λ path. IsFormed params path)
-first_formed params b rest x (Ok path) e p f = let g : AreDueFormed params (PlanAt (onto b.path x) ∷ map PlanAt (map (onto b.path) (reverse rest))) = subst (AreDueFormed params) (branches_split b rest x e) f in subst (λ (y : Path). IsFormed params y) (sym p) g.0
-first_formed params b rest x (Err a) e p f = tt
-
-pub behind_formed : (params : ℕ) (b : Branches) (rest : List Branch) (x : Branch) → b.left ≡ rest ++ x ∷ [] → AreDueFormed params (branches_of b) → AreDueFormed params (map PlanAt (map (onto b.path) (reverse rest)))
-behind_formed params b rest x e f = let g : AreDueFormed params (PlanAt (onto b.path x) ∷ map PlanAt (map (onto b.path) (reverse rest))) = subst (AreDueFormed params) (branches_split b rest x e) f in g.1
-
-pub none_behind : (h : Path) (left : List Branch) (due : List Due) → left ≡ [] → due ≡ map PlanAt (map (onto h) (reverse left)) ++ due
-none_behind h left due e = ap (λ z. map PlanAt (map (onto h) (reverse z)) ++ due) (sym e)
-
-pub none_result : (h : Path) (left : List Branch) (due : List Due) (r : Result Path AllocError) → left ≡ [] → IfOk r (λ _. due ≡ map PlanAt (map (onto h) (reverse left)) ++ due)
-none_result h left due (Ok path) e = none_behind h left due e
-none_result h left due (Err a) e = tt
-
-pub some_formed : (params : ℕ) (h : Path) (left : List Branch) (old new : List Entry) → (left ≡ [] → ⊥) → new ≡ old ++ entry.Branches (record { path = h; left = left }) ∷ [] → AreDueFormed params (map PlanAt (map (onto h) (reverse left))) → AreEntriesFormed params old → AreEntriesFormed params new
-some_formed params h left old new some n f a = formed_push params old new (entry.Branches (record { path = h; left = left })) a (f, some) n
+pub none_behind : (h : Path) (left : List Branch) (due : List Due) → left ≡ [] → due ≡ branches_of h left ++ due
+none_behind h left due e = ap (λ z. branches_of h z ++ due) (sym e)
 
 pub cons_of : {A : Type 0} (xs : List A) → 0 < length xs → (d : A) × (ds : List A) × (xs ≡ d ∷ ds)
 cons_of [] l = absurd (omega (arith, l))
@@ -68,8 +37,8 @@ length_some : (bs : List Branch) → bs ≢ [] → 0 < length bs
 length_some [] n = absurd (n refl)
 length_some (b ∷ bs) n = omega arith
 
-pub some_branch : (b : Branches) → b.left ≢ [] → (d : Due) × (ds : List Due) × (branches_of b ≡ d ∷ ds)
-some_branch b n =
-    let e : length (branches_of b) ≡ length b.left = length-map (map (onto b.path) (reverse b.left)) PlanAt ∙ length-map (reverse b.left) (onto b.path) ∙ length-reverse b.left in
-    let l = length_some b.left n in
-    cons_of (branches_of b) (omega (arith, e, l))
+pub some_branch : (h : Path) (left : List Branch) → left ≢ [] → (d : Due) × (ds : List Due) × (branches_of h left ≡ d ∷ ds)
+some_branch h left n =
+    let e : length (branches_of h left) ≡ length left = length-map (map (onto h) (reverse left)) PlanAt ∙ length-map (reverse left) (onto h) ∙ length-reverse left in
+    let l = length_some left n in
+    cons_of (branches_of h left) (omega (arith, e, l))

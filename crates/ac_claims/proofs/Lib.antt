@@ -20,6 +20,8 @@ pub mod EndSteps
 pub mod StackSteps
 pub mod Residues
 pub mod KillSteps
+pub mod DueForms
+pub mod Framing
 pub mod Entering
 pub mod BranchSteps
 pub mod FeedSteps

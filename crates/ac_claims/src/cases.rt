@@ -1,16 +1,16 @@
 //! The branches of a step of the pair, one by one.
-ghost use Rattle.std.specs.Prelude.{◌≡◌, ◌≢◌, ◌∷◌, ◌++◌, [], ℕ, List, map, reverse, IfOk, OnOk};
+ghost use Rattle.std.specs.Prelude.{◌≡◌, ◌≢◌, ◌∷◌, ◌++◌, [], List, map, reverse, IfOk, OnOk};
 ghost use Rattle.ac_paths.specs.Branching.{onto};
 ghost use Rattle.ac_paths.specs.Calls.{pairing};
-ghost use Rattle.ac_paths.specs.Formed.{HasModuli, IsFormed, AllFormed};
-ghost use Rattle.ac_claims.specs.Dues.{AreDueFormed};
-ghost use Rattle.ac_claims.specs.Entries.{AreEntriesFormed, Settles, branches_of, dues};
-ghost use Rattle.ac_claims.specs.Machine.{PlanAt, take_at};
+ghost use Rattle.ac_claims.specs.Entries.{AreEntries, Settles, branches_of, dues};
+ghost use Rattle.ac_claims.specs.Machine.{Onto, PlanAt, take_at};
 ghost use Rattle.ac_claims.specs.declared.item.Item.TheVariants as item;
 ghost use Rattle.ac_claims.specs.declared.types.Claim.{Claim};
 
-use crate::entry::{Branches, Entry, Refusal, TakeStop};
+use crate::entry::{Awaited, Entry, Refusal, TakeStop};
+use crate::parts::{awaits, push_at};
 use ac_cert::Rule;
+use ac_forms::Row;
 use ac_items::Items;
 use ac_paths::going::{branches, onto};
 use ac_paths::path::{Branch, Path, Programs};
@@ -27,59 +27,63 @@ fn reversed(branches: Items<Branch>) -> Items<Branch>
 }
 
 /// Puts branches of a path onto what is due.
-fn push_branches(
+fn put_branches(
     due: &mut Items<Entry>,
     path: Path,
     branches: Items<Branch>,
-) -> Result<(), AllocError>
-    ensures value { OnOk result (dues due.new ≡ map PlanAt (map (onto path) branches) ++ dues due.old) }
-    ensures formed { (params : ℕ) → AreEntriesFormed params due.old → AllFormed params (map (onto path) branches) → AreEntriesFormed params due.new }
+) -> Result<Items<Row>, TakeStop>
+    requires { AreEntries path.conj.rows due.old }
+    ensures { Settles (Onto (map PlanAt (map (onto path) branches) ++ dues path.conj.rows due.old)) due.new result }
 {
     if branches.is_empty() {
-        return Ok(());
+        return Ok(path.conj.rows);
     }
-    let left = reversed(branches);
-    due.push(Entry::Branches(Branches { path, left }))?;
-    Ok(())
+    awaits(due, path, Awaited::Branches(reversed(branches)))
 }
 
-/// The path of the first of some branches. Those behind it are put onto what is due.
+/// The path of the first of some branches, the next one last. Those behind it are put onto what is due.
 pub(crate) fn first_branch(
-    alloc: Global,
-    branches: Branches,
+    path: Path,
+    left: Items<Branch>,
     due: &mut Items<Entry>,
 ) -> Result<Path, AllocError>
-    requires { branches.left ≢ [] }
-    ensures value { IfOk result (λ path. PlanAt path ∷ dues due.new ≡ branches_of branches ++ dues due.old) }
-    ensures formed { (params : ℕ) → AreDueFormed params (branches_of branches) → IfOk result (λ path. IsFormed params path) }
-    ensures due { (params : ℕ) → AreDueFormed params (branches_of branches) → AreEntriesFormed params due.old → AreEntriesFormed params due.new }
+    requires some { left ≢ [] }
+    requires entries { AreEntries path.conj.rows due.old }
+    ensures value { IfOk result (λ next. PlanAt next ∷ dues next.conj.rows due.new ≡ branches_of path left ++ dues path.conj.rows due.old) }
+    ensures entries { IfOk result (λ next. AreEntries next.conj.rows due.new) }
 {
-    let Branches { path, left } = branches;
     let mut left = left;
     match left.pop() {
-        Some(branch) => branch_at(alloc, path, branch, left, due),
+        Some(branch) => branch_at(path, branch, left, due),
         None => unreachable!(),
     }
 }
 
 /// The path behind a branch. The further ones, the next one last, are put onto what is due.
 fn branch_at(
-    alloc: Global,
     path: Path,
     branch: Branch,
     left: Items<Branch>,
     due: &mut Items<Entry>,
 ) -> Result<Path, AllocError>
-    ensures value { IfOk result (λ next. next ≡ onto path branch) }
-    ensures due { IfOk result (λ _. dues due.new ≡ map PlanAt (map (onto path) (reverse left)) ++ dues due.old) }
-    ensures formed { (params : ℕ) → AreDueFormed params (map PlanAt (map (onto path) (reverse left))) → AreEntriesFormed params due.old → AreEntriesFormed params due.new }
+    requires { AreEntries path.conj.rows due.old }
+    ensures value { IfOk result (λ next. PlanAt next ∷ dues next.conj.rows due.new ≡ PlanAt (onto path branch) ∷ branches_of path left ++ dues path.conj.rows due.old) }
+    ensures entries { IfOk result (λ next. AreEntries next.conj.rows due.new) }
+{
+    put_further(due, &path, left)?;
+    onto(path, branch)
+}
+
+/// Puts further branches, the next one last, onto what is due.
+fn put_further(due: &mut Items<Entry>, path: &Path, left: Items<Branch>) -> Result<(), AllocError>
+    requires { AreEntries path.now.conj.rows due.old }
+    ensures dues { OnOk result (dues path.now.conj.rows due.new ≡ branches_of path.now left ++ dues path.now.conj.rows due.old) }
+    ensures entries { OnOk result (AreEntries path.now.conj.rows due.new) }
 {
     if left.is_empty() {
-        return onto(path, branch);
+        return Ok(());
     }
-    let next = onto(path.copy(alloc)?, branch)?;
-    due.push(Entry::Branches(Branches { path, left }))?;
-    Ok(next)
+    push_at(due, path, Awaited::Branches(left))
 }
 
 /// A step of the pair.
@@ -91,12 +95,9 @@ pub(crate) fn take_go(
     line: u64,
     path: Path,
     due: &mut Items<Entry>,
-) -> Result<(), TakeStop>
-    requires left { HasModuli programs.now.left.now }
-    requires right { HasModuli programs.now.right.now }
-    requires path { IsFormed programs.now.left.now.params path }
-    ensures settles { (claims : List Claim) → Settles (take_at (pairing programs.now) claims (item.Go order cases) line path (dues due.old)) due.new result }
-    ensures formed { AreEntriesFormed programs.now.left.now.params due.old → AreEntriesFormed programs.now.left.now.params due.new }
+) -> Result<Items<Row>, TakeStop>
+    requires { AreEntries path.conj.rows due.old }
+    ensures { (claims : List Claim) → Settles (take_at (pairing programs.now) claims (item.Go order cases) line path (dues path.conj.rows due.old)) due.new result }
 {
     let refusal = Refusal {
         line,
@@ -108,8 +109,7 @@ pub(crate) fn take_go(
             if found.len() != cases {
                 return Err(TakeStop::Refused(refusal));
             }
-            push_branches(due, path, found)?;
-            Ok(())
+            put_branches(due, path, found)
         }
     }
 }

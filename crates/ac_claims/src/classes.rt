@@ -1,21 +1,20 @@
 //! The classes of a residue branch, one by one.
-ghost use Rattle.std.specs.Prelude.{◌≡◌, ◌≢◌, ◌∷◌, ◌++◌, ◌+ℤ◌, ◌-ℤ◌, pos, ℕ, List, IfOk, MatchOption, true};
+ghost use Rattle.std.specs.Prelude.{◌≡◌, ◌≢◌, ◌∷◌, ◌++◌, ◌+ℤ◌, ◌-ℤ◌, ◌<ℤ◌, pos, List, IfOk, MatchOption, OnOk, true};
 ghost use Rattle.ac_cert.specs.Rules.{class_row, has_class, with_row};
 ghost use Rattle.ac_forms.specs.Fits.{fits};
 ghost use Rattle.ac_forms.specs.Rows.{IsRowOver, IsWellMade};
-ghost use Rattle.ac_paths.specs.Formed.{IsFormed};
 ghost use Rattle.ac_paths.specs.Going.{Pairing, at_rows};
-ghost use Rattle.ac_claims.specs.Entries.{AreClasses, AreEntriesFormed, Settles, classes_of, dues};
+ghost use Rattle.ac_claims.specs.Entries.{AreClasses, AreEntries, Settles, classes_of, dues};
 ghost use Rattle.ac_claims.specs.Machine.{PlanAt, take_at};
 ghost use Rattle.ac_claims.specs.declared.item.Item.TheVariants as item;
 ghost use Rattle.ac_claims.specs.declared.types.Claim.{Claim};
 
-use crate::entry::{Classes, Entry, Refusal, TakeStop};
-use crate::parts::longer;
-use ac_cert::{EndStop, Rule, row_of_class, with_row};
+use crate::entry::{Awaited, Classes, Entry, Refusal, TakeStop};
+use crate::parts::{awaits, longer, push_at};
+use ac_cert::{EndStop, Rule, row_of_class};
 use ac_forms::{Form, Row};
 use ac_items::Items;
-use ac_paths::path::{Path, at_rows};
+use ac_paths::path::Path;
 use std::alloc::{AllocError, Global};
 
 /// Whether a branch by the residue of a form stands: its last class does.
@@ -40,14 +39,13 @@ fn has_residues(
 
 /// All classes of a residue branch.
 #[tactic(auto, using(ac_integers::proofs::Bits::again_128))]
-fn all_classes(modulus: &i128, form: Form, path: Path) -> Classes
-    ensures { result ≡ record { modulus = modulus.now; form = form; next = pos 0; path = path } }
+fn all_classes(modulus: &i128, form: Form) -> Classes
+    ensures { result ≡ record { modulus = modulus.now; form = form; next = pos 0 } }
 {
     Classes {
         modulus: *modulus,
         form,
         next: 0,
-        path,
     }
 }
 
@@ -59,9 +57,9 @@ pub(crate) fn take_residue(
     line: u64,
     path: Path,
     due: &mut Items<Entry>,
-) -> Result<(), TakeStop>
-    ensures settles { (g : Pairing) (claims : List Claim) → Settles (take_at g claims (item.Residue modulus.now form.now) line path (dues due.old)) due.new result }
-    ensures formed { (params : ℕ) → IsFormed params path → AreEntriesFormed params due.old → AreEntriesFormed params due.new }
+) -> Result<Items<Row>, TakeStop>
+    requires { AreEntries path.conj.rows due.old }
+    ensures { (g : Pairing) (claims : List Claim) → Settles (take_at g claims (item.Residue modulus.now form.now) line path (dues path.conj.rows due.old)) due.new result }
 {
     if !has_residues(alloc, modulus, form, path.conj.columns)? {
         return Err(TakeStop::Refused(Refusal {
@@ -70,30 +68,14 @@ pub(crate) fn take_residue(
         }));
     }
     let form = form.copy(alloc)?;
-    let classes = all_classes(modulus, form, path);
-    due.push(Entry::Classes(classes))?;
-    Ok(())
-}
-
-/// The last of some classes, with its row.
-fn last_class(classes: Classes, row: Row) -> Result<Path, AllocError>
-    requires made { IsWellMade classes.path.conj }
-    requires over { IsRowOver classes.path.conj.columns row }
-    ensures { IfOk result (λ path. path ≡ at_rows classes.path (with_row classes.path.conj row)) }
-{
-    let Classes {
-        modulus: _,
-        form: _,
-        next: _,
-        path,
-    } = classes;
-    longer(path, row)
+    let classes = all_classes(modulus, form);
+    awaits(due, path, Awaited::Classes(classes))
 }
 
 /// The number of the class behind the first of some, if there is one.
 #[tactic(auto, using(ac_integers::proofs::Bits::again_128))]
 fn next_of(classes: &Classes) -> Option<i128>
-    requires { AreClasses classes.now }
+    requires { classes.now.next <ℤ classes.now.modulus }
     ensures { MatchOption result (classes.now.next +ℤ pos 1 ≡ classes.now.modulus) (λ next. (next ≡ classes.now.next +ℤ pos 1) × (classes.now.next +ℤ pos 1 ≢ classes.now.modulus)) }
 {
     let modulus = classes.modulus;
@@ -121,10 +103,10 @@ fn see_constant(form: &Form)
 }
 
 /// The row of the first of some classes.
-fn row_of_first(alloc: Global, classes: &Classes) -> Result<Row, AllocError>
-    requires { AreClasses classes.now }
+fn row_of_first(alloc: Global, columns: usize, classes: &Classes) -> Result<Row, AllocError>
+    requires { AreClasses columns classes.now }
     ensures value { IfOk result (λ row. row ≡ class_row classes.now.modulus classes.now.form classes.now.next) }
-    ensures over { IfOk result (λ row. IsRowOver classes.now.path.conj.columns row) }
+    ensures over { IfOk result (λ row. IsRowOver columns row) }
 {
     see_constant(&classes.form);
     match row_of_class(
@@ -132,7 +114,7 @@ fn row_of_first(alloc: Global, classes: &Classes) -> Result<Row, AllocError>
         &classes.modulus,
         &classes.form,
         &classes.next,
-        classes.path.conj.columns,
+        columns,
     ) {
         Ok(row) => Ok(row),
         Err(EndStop::Refused(_)) => unreachable!(),
@@ -140,46 +122,50 @@ fn row_of_first(alloc: Global, classes: &Classes) -> Result<Row, AllocError>
     }
 }
 
-/// The path of the first of some classes, with its row. Those from `next` on are put onto what is due.
-fn first_of_more(
-    alloc: Global,
+/// Puts the classes from another one on onto what is due.
+fn put_behind(
+    due: &mut Items<Entry>,
+    path: &Path,
     classes: Classes,
     next: &i128,
-    row: Row,
-    due: &mut Items<Entry>,
-) -> Result<Path, AllocError>
-    requires made { IsWellMade classes.path.conj }
-    requires classes { AreClasses classes }
+) -> Result<(), AllocError>
+    requires classes { AreClasses path.now.conj.columns classes }
     requires next { next.now ≡ classes.next +ℤ pos 1 }
     requires more { classes.next +ℤ pos 1 ≢ classes.modulus }
-    requires row { row ≡ class_row classes.modulus classes.form classes.next }
-    requires over { IsRowOver classes.path.conj.columns row }
-    ensures value { IfOk result (λ path. PlanAt path ∷ dues due.new ≡ classes_of classes ++ dues due.old) }
-    ensures formed { (params : ℕ) → IsFormed params classes.path → IfOk result (λ path. IsFormed params path) }
-    ensures due { (params : ℕ) → IsFormed params classes.path → AreEntriesFormed params due.old → AreEntriesFormed params due.new }
+    requires entries { AreEntries path.now.conj.rows due.old }
+    ensures value { OnOk result (PlanAt (at_rows path.now (with_row path.now.conj (class_row classes.modulus classes.form classes.next))) ∷ dues path.now.conj.rows due.new ≡ classes_of path.now classes ++ dues path.now.conj.rows due.old) }
+    ensures entries { OnOk result (AreEntries path.now.conj.rows due.new) }
 {
-    let conj = with_row(classes.path.conj.copy(alloc)?, row)?;
-    let first = at_rows(&classes.path, conj);
-    let behind = from_next(classes, next);
-    due.push(Entry::Classes(behind))?;
-    Ok(first)
+    push_at(due, path, Awaited::Classes(from_next(classes, next)))
+}
+
+/// Puts the classes behind the first of some onto what is due.
+fn put_further(due: &mut Items<Entry>, path: &Path, classes: Classes) -> Result<(), AllocError>
+    requires classes { AreClasses path.now.conj.columns classes }
+    requires entries { AreEntries path.now.conj.rows due.old }
+    ensures value { OnOk result (PlanAt (at_rows path.now (with_row path.now.conj (class_row classes.modulus classes.form classes.next))) ∷ dues path.now.conj.rows due.new ≡ classes_of path.now classes ++ dues path.now.conj.rows due.old) }
+    ensures entries { OnOk result (AreEntries path.now.conj.rows due.new) }
+{
+    match next_of(&classes) {
+        None => Ok(()),
+        Some(next) => put_behind(due, path, classes, &next),
+    }
 }
 
 /// The path of the first of some classes. Those behind it are put onto what is due.
 pub(crate) fn first_class(
     alloc: Global,
+    path: Path,
     classes: Classes,
     due: &mut Items<Entry>,
 ) -> Result<Path, AllocError>
-    requires made { IsWellMade classes.path.conj }
-    requires classes { AreClasses classes }
-    ensures value { IfOk result (λ path. PlanAt path ∷ dues due.new ≡ classes_of classes ++ dues due.old) }
-    ensures formed { (params : ℕ) → IsFormed params classes.path → IfOk result (λ path. IsFormed params path) }
-    ensures due { (params : ℕ) → IsFormed params classes.path → AreEntriesFormed params due.old → AreEntriesFormed params due.new }
+    requires made { IsWellMade path.conj }
+    requires classes { AreClasses path.conj.columns classes }
+    requires entries { AreEntries path.conj.rows due.old }
+    ensures value { IfOk result (λ next. PlanAt next ∷ dues next.conj.rows due.new ≡ classes_of path classes ++ dues path.conj.rows due.old) }
+    ensures entries { IfOk result (λ next. AreEntries next.conj.rows due.new) }
 {
-    let row = row_of_first(alloc, &classes)?;
-    match next_of(&classes) {
-        None => last_class(classes, row),
-        Some(next) => first_of_more(alloc, classes, &next, row, due),
-    }
+    let row = row_of_first(alloc, path.conj.columns, &classes)?;
+    put_further(due, &path, classes)?;
+    longer(path, row)
 }

@@ -1,7 +1,7 @@
 use ac_cert::{EndStop, Rule};
-use ac_forms::{Conj, Form};
+use ac_forms::{Conj, Form, Row};
 use ac_items::Items;
-use ac_paths::path::{Assumed, Branch, Path};
+use ac_paths::path::{Assumed, Branch, Seat};
 use std::alloc::AllocError;
 
 /// The first line that fails, and its rule.
@@ -33,20 +33,25 @@ impl From<AllocError> for TakeStop {
     }
 }
 
+/// A path without its rows: how many columns and rows it has, and what else belongs to it. The rows are the first of the
+/// path under way.
+#[derive(Clone, Copy, Debug, Drop)]
+pub(crate) struct Prefix {
+    pub columns: usize,
+    /// How many rows.
+    pub count: usize,
+    pub left: Seat,
+    pub right: Seat,
+    pub gone: bool,
+    pub last: Option<Assumed>,
+}
+
 /// The classes of a residue branch that are still to come: those from `next` to the modulus less 1.
 #[derive(Debug, Drop)]
 pub(crate) struct Classes {
     pub modulus: i128,
     pub form: Form,
     pub next: i128,
-    pub path: Path,
-}
-
-/// The branches of a step of the pair that are still to come, the next one last, and the path to which they add.
-#[derive(Debug, Drop)]
-pub(crate) struct Branches {
-    pub path: Path,
-    pub left: Items<Branch>,
 }
 
 /// A copy whose choices are still to come.
@@ -56,18 +61,38 @@ pub(crate) struct Choosing {
     pub line: u64,
     /// How many choices are still to come.
     pub left: usize,
-    pub path: Path,
     /// What the copy is to kill.
     pub assumed: Assumed,
     /// The rows of the copy that the choices so far have left.
     pub copy: Conj,
 }
 
-/// What is due: a plan at a path, several plans, or choices.
+/// What is due at a path.
 #[derive(Debug, Drop)]
-pub(crate) enum Entry {
-    Plan(Path),
+pub(crate) enum Awaited {
+    /// A plan.
+    Plan,
+    /// A plan where the path has one row more.
+    Side(Row),
+    /// Plans at several classes.
     Classes(Classes),
-    Branches(Branches),
+    /// Plans at several branches of a step of the pair, the next one last.
+    Branches(Items<Branch>),
+    /// The choices of a copy.
     Choosing(Choosing),
+}
+
+/// What is due, and at which path.
+#[derive(Debug, Drop)]
+pub(crate) struct Entry {
+    pub prefix: Prefix,
+    pub awaited: Awaited,
+}
+
+/// A plan under way: the rows of its one path, and what is due, the next one last. The path of each entry is the front of
+/// this one, and no longer than that of a later entry: so rows are added behind the next entry's, and no row is copied.
+#[derive(Debug, Drop)]
+pub(crate) struct Ongoing {
+    pub rows: Items<Row>,
+    pub entries: Items<Entry>,
 }

@@ -1,17 +1,18 @@
 //! Places that copies are to kill.
-ghost use Rattle.std.specs.Prelude.{◌≡◌, ℕ, List};
+ghost use Rattle.std.specs.Prelude.{List};
 ghost use Rattle.ac_forms.specs.Rows.{IsWellMade};
 ghost use Rattle.ac_paths.specs.Calls.{pairing};
-ghost use Rattle.ac_paths.specs.Formed.{HasModuli, IsFormed};
-ghost use Rattle.ac_claims.specs.Entries.{AreEntriesFormed, Settles, dues};
+ghost use Rattle.ac_paths.specs.Formed.{HasModuli};
+ghost use Rattle.ac_claims.specs.Entries.{AreEntries, Settles, dues};
 ghost use Rattle.ac_claims.specs.Machine.{choose, settled, take_at};
 ghost use Rattle.ac_claims.specs.declared.item.Item.TheVariants as item;
 ghost use Rattle.ac_claims.specs.declared.types.Claim.{Claim};
 
-use crate::entry::{Choosing, Entry, Refusal, TakeStop};
+use crate::entry::{Awaited, Choosing, Entry, Refusal, TakeStop};
 use crate::item::Item;
-use crate::parts::ends_if;
+use crate::parts::{awaits, ends_if};
 use ac_cert::{Choice, Rule};
+use ac_forms::Row;
 use ac_items::Items;
 use ac_paths::copies::copy_of;
 use ac_paths::killing::{case_width, chosen, is_killed};
@@ -22,26 +23,26 @@ use std::alloc::Global;
 fn settle(
     alloc: Global,
     params: usize,
+    path: Path,
     choosing: Choosing,
     due: &mut Items<Entry>,
-) -> Result<(), TakeStop>
-    requires path { IsWellMade choosing.path.conj }
+) -> Result<Items<Row>, TakeStop>
+    requires path { IsWellMade path.conj }
     requires copy { IsWellMade choosing.copy }
-    ensures settles { Settles (settled params choosing.line choosing.left choosing.path choosing.assumed choosing.copy (dues due.old)) due.new result }
-    ensures formed { (params : ℕ) → IsFormed params choosing.path → AreEntriesFormed params due.old → AreEntriesFormed params due.new }
+    requires entries { AreEntries path.conj.rows due.old }
+    ensures { Settles (settled params choosing.line choosing.left path choosing.assumed choosing.copy (dues path.conj.rows due.old)) due.new result }
 {
     if choosing.left > 0 {
-        due.push(Entry::Choosing(choosing))?;
-        return Ok(());
+        return awaits(due, path, Awaited::Choosing(choosing));
     }
     let killed = is_killed(
         alloc,
         params,
-        choosing.path.conj.rows.as_slice(),
+        path.conj.rows.as_slice(),
         &choosing.assumed,
         &choosing.copy,
     )?;
-    ends_if(killed, choosing.line, Rule::Killed)
+    ends_if(killed, choosing.line, Rule::Killed, path)
 }
 
 /// An end at a place that a copy is to kill.
@@ -53,12 +54,12 @@ pub(crate) fn take_killed(
     line: u64,
     path: Path,
     due: &mut Items<Entry>,
-) -> Result<(), TakeStop>
+) -> Result<Items<Row>, TakeStop>
     requires left { HasModuli programs.now.left.now }
     requires right { HasModuli programs.now.right.now }
     requires path { IsWellMade path.conj }
-    ensures settles { (claims : List Claim) → Settles (take_at (pairing programs.now) claims (item.Killed numbers.now.stmt numbers.now.piece numbers.now.after numbers.now.before choices) line path (dues due.old)) due.new result }
-    ensures formed { (params : ℕ) → IsFormed params path → AreEntriesFormed params due.old → AreEntriesFormed params due.new }
+    requires entries { AreEntries path.conj.rows due.old }
+    ensures { (claims : List Claim) → Settles (take_at (pairing programs.now) claims (item.Killed numbers.now.stmt numbers.now.piece numbers.now.after numbers.now.before choices) line path (dues path.conj.rows due.old)) due.new result }
 {
     let refusal = Refusal {
         line,
@@ -73,11 +74,10 @@ pub(crate) fn take_killed(
     let choosing = Choosing {
         line,
         left: choices,
-        path,
         assumed,
         copy,
     };
-    settle(alloc, programs.left.params, choosing, due)
+    settle(alloc, programs.left.params, path, choosing, due)
 }
 
 /// A choice of a copy.
@@ -86,18 +86,18 @@ fn take_choice(
     params: usize,
     choice: &Choice,
     line: u64,
+    path: Path,
     choosing: Choosing,
     due: &mut Items<Entry>,
-) -> Result<(), TakeStop>
-    requires path { IsWellMade choosing.path.conj }
+) -> Result<Items<Row>, TakeStop>
+    requires path { IsWellMade path.conj }
     requires copy { IsWellMade choosing.copy }
-    ensures settles { Settles (choose params (item.Choice choice.now) line choosing.line choosing.left choosing.path choosing.assumed choosing.copy (dues due.old)) due.new result }
-    ensures formed { (params : ℕ) → IsFormed params choosing.path → AreEntriesFormed params due.old → AreEntriesFormed params due.new }
+    requires entries { AreEntries path.conj.rows due.old }
+    ensures { Settles (choose params (item.Choice choice.now) line choosing.line choosing.left path choosing.assumed choosing.copy (dues path.conj.rows due.old)) due.new result }
 {
     let Choosing {
         line: first,
         left,
-        path,
         assumed,
         copy,
     } = choosing;
@@ -111,11 +111,10 @@ fn take_choice(
     let behind = Choosing {
         line: first,
         left: left.saturating_sub(1),
-        path,
         assumed,
         copy,
     };
-    settle(alloc, params, behind, due)
+    settle(alloc, params, path, behind, due)
 }
 
 /// An item where a choice of a copy is due; one that is no choice leaves what is due.
@@ -124,19 +123,17 @@ pub(crate) fn choose(
     params: usize,
     item: &Item,
     line: u64,
+    path: Path,
     choosing: Choosing,
     due: &mut Items<Entry>,
-) -> Result<(), TakeStop>
-    requires path { IsWellMade choosing.path.conj }
+) -> Result<Items<Row>, TakeStop>
+    requires path { IsWellMade path.conj }
     requires copy { IsWellMade choosing.copy }
-    ensures settles { Settles (choose params item.now line choosing.line choosing.left choosing.path choosing.assumed choosing.copy (dues due.old)) due.new result }
-    ensures formed { (params : ℕ) → IsFormed params choosing.path → AreEntriesFormed params due.old → AreEntriesFormed params due.new }
+    requires entries { AreEntries path.conj.rows due.old }
+    ensures { Settles (choose params item.now line choosing.line choosing.left path choosing.assumed choosing.copy (dues path.conj.rows due.old)) due.new result }
 {
     match item {
-        Item::Choice(choice) => take_choice(alloc, params, choice, line, choosing, due),
-        _ => {
-            due.push(Entry::Choosing(choosing))?;
-            Ok(())
-        }
+        Item::Choice(choice) => take_choice(alloc, params, choice, line, path, choosing, due),
+        _ => awaits(due, path, Awaited::Choosing(choosing)),
     }
 }

@@ -1,42 +1,52 @@
 //! What is due in a plan under way.
-ghost use Rattle.std.specs.Prelude.{◌≡◌, ◌≢◌, ◌↔◌, ◌∷◌, [], ◌++◌, IsTrue, OnOk, OnErr};
+ghost use Rattle.std.specs.Prelude.{◌≡◌, ◌≢◌, ◌↔◌, ◌∷◌, [], ◌++◌, IfOk, IsTrue, OnOk, OnErr};
+ghost use Rattle.std.specs.List.{AllByRecursion};
+ghost use Rattle.ac_forms.specs.Rows.{IsWellMade};
+ghost use Rattle.ac_cert.specs.Rules.{with_row};
 ghost use Rattle.ac_paths.specs.Calls.{pairing};
 ghost use Rattle.ac_paths.specs.Formed.{HasModuli, IsFormed};
+ghost use Rattle.ac_paths.specs.Going.{at_rows};
 ghost use Rattle.ac_claims.specs.Dues.{AreDueFormed, RowsHaveModuli, Answers};
-ghost use Rattle.ac_claims.specs.Entries.{AreClasses, AreEntriesFormed, IsEntryFormed, Settles, branches_of, classes_of, due_of, dues};
+ghost use Rattle.ac_claims.specs.Entries.{AreClasses, AreEntries, HasDues, IsOngoing, Settles, SettlesAll, all_dues, branches_of, classes_of, due_at, dues};
 ghost use Rattle.ac_claims.specs.Machine.{PlanAt, take_item};
 
 use crate::cases::first_branch;
 use crate::classes::first_class;
 pub use crate::entry::Refusal;
-use crate::entry::{Branches, Classes, Entry, TakeStop};
+use crate::entry::{Awaited, Classes, Entry, Ongoing, TakeStop};
 use crate::item::Item;
 use crate::kills::choose;
+use crate::parts::{longer, path_at, push_at};
 use crate::taking::taken;
 use crate::types::Claim;
+use ac_forms::Row;
 use ac_items::Items;
-use ac_paths::path::{Path, Programs};
+use ac_paths::path::{Branch, Path, Programs};
 use std::alloc::{AllocError, Global};
 use std::marker::Model;
 
 /// What is due in a plan under way. Contracts see it as a list: the paths at which plans are still to come, the next one
 /// first, and a copy whose choices are still to come.
+///
+/// The paths of a plan share their rows, which are held once: so what is held grows by the lines that were taken, and
+/// neither a branch nor a step of the pair copies a row.
 #[derive(Debug, Drop)]
 pub struct Stack {
-    entries: Items<Entry>,
+    alloc: Global,
+    ongoing: Items<Ongoing>,
 }
 
 impl Model for Stack {
     ghost use Rattle.std.specs.Prelude.{List};
     ghost use Rattle.std.specs.List.{AllByRecursion};
-    ghost use Rattle.ac_claims.specs.Entries.{HasDues, dues};
+    ghost use Rattle.ac_claims.specs.Entries.{IsOngoing, all_dues};
     ghost use Rattle.ac_claims.specs.Machine.{Due};
 
     ghost Value = { List Due };
 
-    ghost view = { λ stack. dues stack.entries };
+    ghost view = { λ stack. all_dues stack.ongoing };
 
-    ghost invariant = { λ stack. AllByRecursion HasDues stack.entries };
+    ghost invariant = { λ stack. AllByRecursion IsOngoing stack.ongoing };
 }
 
 impl Stack {
@@ -45,7 +55,8 @@ impl Stack {
         ensures { result ≡ [] }
     {
         Stack {
-            entries: Items::new(alloc),
+            alloc,
+            ongoing: Items::new(alloc),
         }
     }
 
@@ -53,7 +64,7 @@ impl Stack {
     pub fn is_empty(&self) -> bool
         ensures { IsTrue result ↔ (self.now ≡ []) }
     {
-        self.entries.is_empty()
+        self.ongoing.is_empty()
     }
 
     /// A plan is due at a path, before what was due. After want of memory what was due is due.
@@ -61,7 +72,8 @@ impl Stack {
         ensures ok { OnOk result (self.new ≡ PlanAt path ∷ self.old) }
         ensures err { OnErr result (self.new ≡ self.old) }
     {
-        self.entries.push(Entry::Plan(path))?;
+        let plan = opened(self.alloc, path)?;
+        self.ongoing.push(plan)?;
         Ok(())
     }
 
@@ -83,90 +95,194 @@ impl Stack {
         ensures exact { Answers (take_item (pairing programs.now) claims.now item.now line self.old) self.new result }
         ensures formed { AreDueFormed programs.now.left.now.params self.new }
     {
-        match advance(alloc, programs, claims, item, line, &mut self.entries) {
+        match take_last(alloc, programs, claims, item, line, &mut self.ongoing) {
             Ok(()) => Ok(None),
             Err(TakeStop::Refused(refusal)) => {
-                self.entries = Items::new(alloc);
+                self.ongoing = Items::new(alloc);
                 Ok(Some(refusal))
             }
-            Err(TakeStop::Memory(want)) => Err(want),
+            Err(TakeStop::Memory(want)) => {
+                self.ongoing = Items::new(alloc);
+                Err(want)
+            }
         }
     }
 }
 
-/// Takes an item where the next plan or copy is due.
+/// A plan that is due at a path, and nothing else.
+fn opened(alloc: Global, path: Path) -> Result<Ongoing, AllocError>
+    ensures value { IfOk result (λ plan. dues plan.rows plan.entries ≡ PlanAt path ∷ []) }
+    ensures ongoing { IfOk result (λ plan. IsOngoing plan) }
+{
+    let mut entries = Items::new(alloc);
+    push_at(&mut entries, &path, Awaited::Plan)?;
+    Ok(Ongoing {
+        rows: path.conj.rows,
+        entries,
+    })
+}
+
+/// Takes an item in the last of some plans under way.
+fn take_last(
+    alloc: Global,
+    programs: &Programs,
+    claims: &[Claim],
+    item: &Item,
+    line: u64,
+    ongoing: &mut Items<Ongoing>,
+) -> Result<(), TakeStop>
+    requires left { HasModuli programs.now.left.now }
+    requires right { HasModuli programs.now.right.now }
+    requires claims { RowsHaveModuli claims.now }
+    requires formed { AreDueFormed programs.now.left.now.params (all_dues ongoing.old) }
+    requires ongoing { AllByRecursion IsOngoing ongoing.old }
+    ensures settles { SettlesAll (take_item (pairing programs.now) claims.now item.now line (all_dues ongoing.old)) ongoing.new result }
+    ensures ongoing { OnOk result (AllByRecursion IsOngoing ongoing.new) }
+{
+    let Some(plan) = ongoing.pop() else {
+        return Ok(());
+    };
+    let Ongoing { rows, entries } = plan;
+    let mut entries = entries;
+    match advance(alloc, programs, claims, item, line, rows, &mut entries) {
+        Ok(rows) => {
+            keep(ongoing, rows, entries)?;
+            Ok(())
+        }
+        Err(stop) => Err(stop),
+    }
+}
+
+/// Puts a plan under way behind others, if something is due in it.
+fn keep(
+    ongoing: &mut Items<Ongoing>,
+    rows: Items<Row>,
+    entries: Items<Entry>,
+) -> Result<(), AllocError>
+    requires entries { AreEntries rows entries }
+    requires ongoing { AllByRecursion IsOngoing ongoing.old }
+    ensures dues { OnOk result (all_dues ongoing.new ≡ dues rows entries ++ all_dues ongoing.old) }
+    ensures ongoing { OnOk result (AllByRecursion IsOngoing ongoing.new) }
+{
+    if entries.is_empty() {
+        return Ok(());
+    }
+    ongoing.push(Ongoing { rows, entries })?;
+    Ok(())
+}
+
+/// Takes an item where the next plan or copy is due. Gives the rows of the path that is under way then.
 fn advance(
     alloc: Global,
     programs: &Programs,
     claims: &[Claim],
     item: &Item,
     line: u64,
+    rows: Items<Row>,
     due: &mut Items<Entry>,
-) -> Result<(), TakeStop>
+) -> Result<Items<Row>, TakeStop>
     requires left { HasModuli programs.now.left.now }
     requires right { HasModuli programs.now.right.now }
     requires claims { RowsHaveModuli claims.now }
-    requires formed { AreEntriesFormed programs.now.left.now.params due.old }
-    ensures settles { Settles (take_item (pairing programs.now) claims.now item.now line (dues due.old)) due.new result }
-    ensures formed { AreEntriesFormed programs.now.left.now.params due.new }
+    requires formed { AreDueFormed programs.now.left.now.params (dues rows due.old) }
+    requires entries { AreEntries rows due.old }
+    ensures { Settles (take_item (pairing programs.now) claims.now item.now line (dues rows due.old)) due.new result }
 {
     match due.pop() {
-        Some(entry) => take_entry(alloc, programs, claims, item, line, entry, due),
-        None => Ok(()),
+        Some(entry) => {
+            let path = path_at(rows, &entry.prefix);
+            take_entry(
+                alloc,
+                programs,
+                claims,
+                item,
+                line,
+                path,
+                entry.awaited,
+                due,
+            )
+        }
+        None => Ok(rows),
     }
 }
 
-/// Takes an item where an entry is due.
+/// Takes an item where something is due at a path.
 fn take_entry(
     alloc: Global,
     programs: &Programs,
     claims: &[Claim],
     item: &Item,
     line: u64,
-    entry: Entry,
+    path: Path,
+    awaited: Awaited,
     due: &mut Items<Entry>,
-) -> Result<(), TakeStop>
+) -> Result<Items<Row>, TakeStop>
     requires left { HasModuli programs.now.left.now }
     requires right { HasModuli programs.now.right.now }
     requires claims { RowsHaveModuli claims.now }
-    requires entry { IsEntryFormed programs.now.left.now.params entry }
-    requires formed { AreEntriesFormed programs.now.left.now.params due.old }
-    ensures settles { Settles (take_item (pairing programs.now) claims.now item.now line (due_of entry ++ dues due.old)) due.new result }
-    ensures formed { AreEntriesFormed programs.now.left.now.params due.new }
+    requires formed { AreDueFormed programs.now.left.now.params (due_at path awaited) }
+    requires some { HasDues path.conj.columns awaited }
+    requires entries { AreEntries path.conj.rows due.old }
+    ensures { Settles (take_item (pairing programs.now) claims.now item.now line (due_at path awaited ++ dues path.conj.rows due.old)) due.new result }
 {
-    match entry {
-        Entry::Plan(path) => taken(alloc, programs, claims, item, line, path, due),
-        Entry::Choosing(choosing) => {
-            choose(alloc, programs.left.params, item, line, choosing, due)
+    match awaited {
+        Awaited::Plan => taken(alloc, programs, claims, item, line, path, due),
+        Awaited::Side(row) => take_side(alloc, programs, claims, item, line, path, row, due),
+        Awaited::Classes(classes) => {
+            take_class(alloc, programs, claims, item, line, path, classes, due)
         }
-        Entry::Classes(classes) => take_first(alloc, programs, claims, item, line, classes, due),
-        Entry::Branches(branches) => {
-            take_branch(alloc, programs, claims, item, line, branches, due)
+        Awaited::Branches(left) => {
+            take_branch(alloc, programs, claims, item, line, path, left, due)
+        }
+        Awaited::Choosing(choosing) => {
+            choose(alloc, programs.left.params, item, line, path, choosing, due)
         }
     }
 }
 
-/// Takes an item at the first of some classes.
-fn take_first(
+/// Takes an item where the path has one row more.
+fn take_side(
     alloc: Global,
     programs: &Programs,
     claims: &[Claim],
     item: &Item,
     line: u64,
-    classes: Classes,
+    path: Path,
+    row: Row,
     due: &mut Items<Entry>,
-) -> Result<(), TakeStop>
+) -> Result<Items<Row>, TakeStop>
     requires left { HasModuli programs.now.left.now }
     requires right { HasModuli programs.now.right.now }
     requires claims { RowsHaveModuli claims.now }
-    requires path { IsFormed programs.now.left.now.params classes.path }
-    requires classes { AreClasses classes }
-    requires formed { AreEntriesFormed programs.now.left.now.params due.old }
-    ensures settles { Settles (take_item (pairing programs.now) claims.now item.now line (classes_of classes ++ dues due.old)) due.new result }
-    ensures formed { AreEntriesFormed programs.now.left.now.params due.new }
+    requires made { IsWellMade (with_row path.conj row) }
+    requires entries { AreEntries path.conj.rows due.old }
+    ensures { Settles (take_item (pairing programs.now) claims.now item.now line (PlanAt (at_rows path (with_row path.conj row)) ∷ dues path.conj.rows due.old)) due.new result }
 {
-    let path = first_class(alloc, classes, due)?;
+    let path = longer(path, row)?;
     taken(alloc, programs, claims, item, line, path, due)
+}
+
+/// Takes an item at the first of some classes.
+fn take_class(
+    alloc: Global,
+    programs: &Programs,
+    claims: &[Claim],
+    item: &Item,
+    line: u64,
+    path: Path,
+    classes: Classes,
+    due: &mut Items<Entry>,
+) -> Result<Items<Row>, TakeStop>
+    requires left { HasModuli programs.now.left.now }
+    requires right { HasModuli programs.now.right.now }
+    requires claims { RowsHaveModuli claims.now }
+    requires path { IsFormed programs.now.left.now.params path }
+    requires classes { AreClasses path.conj.columns classes }
+    requires entries { AreEntries path.conj.rows due.old }
+    ensures { Settles (take_item (pairing programs.now) claims.now item.now line (classes_of path classes ++ dues path.conj.rows due.old)) due.new result }
+{
+    let next = first_class(alloc, path, classes, due)?;
+    taken(alloc, programs, claims, item, line, next, due)
 }
 
 /// Takes an item at the first of some branches.
@@ -176,18 +292,18 @@ fn take_branch(
     claims: &[Claim],
     item: &Item,
     line: u64,
-    branches: Branches,
+    path: Path,
+    left: Items<Branch>,
     due: &mut Items<Entry>,
-) -> Result<(), TakeStop>
+) -> Result<Items<Row>, TakeStop>
     requires left { HasModuli programs.now.left.now }
     requires right { HasModuli programs.now.right.now }
     requires claims { RowsHaveModuli claims.now }
-    requires branches { AreDueFormed programs.now.left.now.params (branches_of branches) }
-    requires some { branches.left ≢ [] }
-    requires formed { AreEntriesFormed programs.now.left.now.params due.old }
-    ensures settles { Settles (take_item (pairing programs.now) claims.now item.now line (branches_of branches ++ dues due.old)) due.new result }
-    ensures formed { AreEntriesFormed programs.now.left.now.params due.new }
+    requires formed { AreDueFormed programs.now.left.now.params (branches_of path left) }
+    requires some { left ≢ [] }
+    requires entries { AreEntries path.conj.rows due.old }
+    ensures { Settles (take_item (pairing programs.now) claims.now item.now line (branches_of path left ++ dues path.conj.rows due.old)) due.new result }
 {
-    let path = first_branch(alloc, branches, due)?;
-    taken(alloc, programs, claims, item, line, path, due)
+    let next = first_branch(path, left, due)?;
+    taken(alloc, programs, claims, item, line, next, due)
 }

@@ -1,11 +1,11 @@
 //! What an item comes to where a plan is due at a path.
-ghost use Rattle.std.specs.Prelude.{◌≡◌, ℕ, List};
+ghost use Rattle.std.specs.Prelude.{List};
 ghost use Rattle.ac_forms.specs.Rows.{IsWellMade};
 ghost use Rattle.ac_paths.specs.Calls.{pairing};
-ghost use Rattle.ac_paths.specs.Formed.{HasModuli, IsFormed};
+ghost use Rattle.ac_paths.specs.Formed.{HasModuli};
 ghost use Rattle.ac_paths.specs.Going.{Pairing};
 ghost use Rattle.ac_claims.specs.Dues.{RowsHaveModuli};
-ghost use Rattle.ac_claims.specs.Entries.{AreEntriesFormed, Settles, dues};
+ghost use Rattle.ac_claims.specs.Entries.{AreEntries, Settles, dues};
 ghost use Rattle.ac_claims.specs.Machine.{take_at};
 ghost use Rattle.ac_claims.specs.declared.entry.Entry.{Entry};
 ghost use Rattle.ac_claims.specs.declared.item.Item.TheVariants as item;
@@ -14,14 +14,14 @@ ghost use Rattle.ac_claims.specs.declared.types.Claim.{Claim};
 use crate::cases::take_go;
 use crate::classes::take_residue;
 use crate::ending::{is_hit, is_initial, is_number};
-use crate::entry::{Entry, TakeStop};
+use crate::entry::{Awaited, Entry, TakeStop};
 use crate::item::Item;
 use crate::kills::take_killed;
-use crate::parts::{at_line, ends_if, longer, push_plan};
+use crate::parts::{at_line, awaits, ends_if, longer, push_at};
 use crate::types::Claim;
 use ac_cert::types::Step;
 use ac_cert::{Absurd, End, Rule, apply_onto, rows_of_sides};
-use ac_forms::Form;
+use ac_forms::{Form, Row};
 use ac_items::Items;
 use ac_paths::path::{CopyNumbers, Path, Programs};
 use std::alloc::Global;
@@ -33,10 +33,10 @@ fn take_step(
     line: u64,
     path: Path,
     due: &mut Items<Entry>,
-) -> Result<(), TakeStop>
-    requires { IsWellMade path.conj }
-    ensures settles { (g : Pairing) (claims : List Claim) → Settles (take_at g claims (item.Step step.now) line path (dues due.old)) due.new result }
-    ensures formed { (params : ℕ) → IsFormed params path → AreEntriesFormed params due.old → AreEntriesFormed params due.new }
+) -> Result<Items<Row>, TakeStop>
+    requires made { IsWellMade path.conj }
+    requires entries { AreEntries path.conj.rows due.old }
+    ensures { (g : Pairing) (claims : List Claim) → Settles (take_at g claims (item.Step step.now) line path (dues path.conj.rows due.old)) due.new result }
 {
     let Path {
         conj,
@@ -47,55 +47,49 @@ fn take_step(
     } = path;
     match apply_onto(alloc, conj, step) {
         Ok(conj) => {
-            push_plan(
-                due,
-                Path {
-                    conj,
-                    left,
-                    right,
-                    gone,
-                    last,
-                },
-            )?;
-            Ok(())
+            let next = Path {
+                conj,
+                left,
+                right,
+                gone,
+                last,
+            };
+            awaits(due, next, Awaited::Plan)
         }
         Err(stop) => Err(at_line(stop, line)),
     }
 }
 
-/// A branch by the sign of a form.
+/// A branch by the sign of a form. The second side is due behind the first one.
 fn take_split(
     alloc: Global,
     form: &Form,
     line: u64,
     path: Path,
     due: &mut Items<Entry>,
-) -> Result<(), TakeStop>
-    requires { IsWellMade path.conj }
-    ensures settles { (g : Pairing) (claims : List Claim) → Settles (take_at g claims (item.Split form.now) line path (dues due.old)) due.new result }
-    ensures formed { (params : ℕ) → IsFormed params path → AreEntriesFormed params due.old → AreEntriesFormed params due.new }
+) -> Result<Items<Row>, TakeStop>
+    requires made { IsWellMade path.conj }
+    requires entries { AreEntries path.conj.rows due.old }
+    ensures { (g : Pairing) (claims : List Claim) → Settles (take_at g claims (item.Split form.now) line path (dues path.conj.rows due.old)) due.new result }
 {
     match rows_of_sides(alloc, form, path.conj.columns) {
         Ok((low, high)) => {
-            let again = path.copy(alloc)?;
-            let first = longer(again, low)?;
-            let second = longer(path, high)?;
-            push_plan(due, second)?;
-            push_plan(due, first)?;
-            Ok(())
+            push_at(due, &path, Awaited::Side(high))?;
+            let first = longer(path, low)?;
+            awaits(due, first, Awaited::Plan)
         }
         Err(stop) => Err(at_line(stop, line)),
     }
 }
 
 /// An end at a row that no point meets.
-fn take_absurd(alloc: Global, row: usize, line: u64, path: &Path) -> Result<(), TakeStop>
-    requires { IsWellMade path.now.conj }
-    ensures { (g : Pairing) (claims : List Claim) (due : List Entry) → Settles (take_at g claims (item.Absurd row) line path.now (dues due)) due result }
+fn take_absurd(alloc: Global, row: usize, line: u64, path: Path) -> Result<Items<Row>, TakeStop>
+    requires { IsWellMade path.conj }
+    ensures { (g : Pairing) (claims : List Claim) (due : List Entry) → AreEntries path.conj.rows due → Settles (take_at g claims (item.Absurd row) line path (dues path.conj.rows due)) due result }
 {
     let end = Absurd { row };
     match end.check(alloc, &(), &path.conj) {
-        Ok(()) => Ok(()),
+        Ok(()) => Ok(path.conj.rows),
         Err(stop) => Err(at_line(stop, line)),
     }
 }
@@ -107,36 +101,46 @@ fn take_hit(
     claims: &[Claim],
     claim: usize,
     line: u64,
-    path: &Path,
-) -> Result<(), TakeStop>
-    requires path { IsWellMade path.now.conj }
+    path: Path,
+) -> Result<Items<Row>, TakeStop>
+    requires path { IsWellMade path.conj }
     requires claims { RowsHaveModuli claims.now }
-    ensures { (due : List Entry) → Settles (take_at (pairing programs.now) claims.now (item.Hit claim) line path.now (dues due)) due result }
+    ensures { (due : List Entry) → AreEntries path.conj.rows due → Settles (take_at (pairing programs.now) claims.now (item.Hit claim) line path (dues path.conj.rows due)) due result }
 {
-    ends_if(
-        is_hit(alloc, programs, claims, claim, path)?,
-        line,
-        Rule::Hit,
-    )
+    let holds = is_hit(alloc, programs, claims, claim, &path)?;
+    ends_if(holds, line, Rule::Hit, path)
 }
 
 /// An end at two equal numbers.
-fn take_number(alloc: Global, programs: &Programs, line: u64, path: &Path) -> Result<(), TakeStop>
-    requires { IsWellMade path.now.conj }
-    ensures { (claims : List Claim) (due : List Entry) → Settles (take_at (pairing programs.now) claims item.Number line path.now (dues due)) due result }
+fn take_number(
+    alloc: Global,
+    programs: &Programs,
+    line: u64,
+    path: Path,
+) -> Result<Items<Row>, TakeStop>
+    requires { IsWellMade path.conj }
+    ensures { (claims : List Claim) (due : List Entry) → AreEntries path.conj.rows due → Settles (take_at (pairing programs.now) claims item.Number line path (dues path.conj.rows due)) due result }
 {
-    ends_if(is_number(alloc, programs, path)?, line, Rule::Number)
+    let holds = is_number(alloc, programs, &path)?;
+    ends_if(holds, line, Rule::Number, path)
 }
 
 /// An end at one initial cell of an input.
-fn take_initial(alloc: Global, programs: &Programs, line: u64, path: &Path) -> Result<(), TakeStop>
-    requires { IsWellMade path.now.conj }
-    ensures { (claims : List Claim) (due : List Entry) → Settles (take_at (pairing programs.now) claims item.Initial line path.now (dues due)) due result }
+fn take_initial(
+    alloc: Global,
+    programs: &Programs,
+    line: u64,
+    path: Path,
+) -> Result<Items<Row>, TakeStop>
+    requires { IsWellMade path.conj }
+    ensures { (claims : List Claim) (due : List Entry) → AreEntries path.conj.rows due → Settles (take_at (pairing programs.now) claims item.Initial line path (dues path.conj.rows due)) due result }
 {
-    ends_if(is_initial(alloc, programs, path)?, line, Rule::Initial)
+    let holds = is_initial(alloc, programs, &path)?;
+    ends_if(holds, line, Rule::Initial, path)
 }
 
-/// An item at a path where a plan is due; one that is none of a plan leaves what is due.
+/// An item at a path where a plan is due; one that is none of a plan leaves what is due. Gives the rows of the path that is
+/// under way then.
 pub(crate) fn taken(
     alloc: Global,
     programs: &Programs,
@@ -145,23 +149,23 @@ pub(crate) fn taken(
     line: u64,
     path: Path,
     due: &mut Items<Entry>,
-) -> Result<(), TakeStop>
+) -> Result<Items<Row>, TakeStop>
     requires left { HasModuli programs.now.left.now }
     requires right { HasModuli programs.now.right.now }
     requires claims { RowsHaveModuli claims.now }
-    requires path { IsFormed programs.now.left.now.params path }
-    ensures settles { Settles (take_at (pairing programs.now) claims.now item.now line path (dues due.old)) due.new result }
-    ensures formed { AreEntriesFormed programs.now.left.now.params due.old → AreEntriesFormed programs.now.left.now.params due.new }
+    requires made { IsWellMade path.conj }
+    requires entries { AreEntries path.conj.rows due.old }
+    ensures { Settles (take_at (pairing programs.now) claims.now item.now line path (dues path.conj.rows due.old)) due.new result }
 {
     match item {
         Item::Step(step) => take_step(alloc, step, line, path, due),
         Item::Split(form) => take_split(alloc, form, line, path, due),
         Item::Residue(modulus, form) => take_residue(alloc, modulus, form, line, path, due),
         Item::Go { order, cases } => take_go(alloc, programs, *order, *cases, line, path, due),
-        Item::Absurd(row) => take_absurd(alloc, *row, line, &path),
-        Item::Hit(claim) => take_hit(alloc, programs, claims, *claim, line, &path),
-        Item::Number => take_number(alloc, programs, line, &path),
-        Item::Initial => take_initial(alloc, programs, line, &path),
+        Item::Absurd(row) => take_absurd(alloc, *row, line, path),
+        Item::Hit(claim) => take_hit(alloc, programs, claims, *claim, line, path),
+        Item::Number => take_number(alloc, programs, line, path),
+        Item::Initial => take_initial(alloc, programs, line, path),
         Item::Killed {
             stmt,
             piece,
@@ -177,9 +181,6 @@ pub(crate) fn taken(
             };
             take_killed(alloc, programs, &numbers, *choices, line, path, due)
         }
-        _ => {
-            push_plan(due, path)?;
-            Ok(())
-        }
+        _ => awaits(due, path, Awaited::Plan),
     }
 }

@@ -24,8 +24,8 @@ const MAX_BYTES: u64 = 67_108_864;
 /// The greatest number of branches that are open on one path.
 const MAX_DEPTH: u64 = 10_000;
 
-/// The check of a stream of bytes as a proof. It holds the head of the proof, the line under way and, for each open branch that is still
-/// to come, the rows of its path.
+/// The check of a stream of bytes as a proof. It holds the head of the proof, the line under way, the rows of the path under way and,
+/// for each open branch that is still to come, the rows that it adds to the front of that path.
 #[derive(Drop)]
 pub struct Checker<'a> {
     alloc: Global,

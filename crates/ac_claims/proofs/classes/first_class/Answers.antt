@@ -1,8 +1,14 @@
-use Rattle.ac_claims.proofs.Residues.{last_result, class_result}
+use Rattle.std.proofs.Common.{◌≡◌, subst}
+use Rattle.std.specs.Prelude.{IfOk}
+use Rattle.ac_forms.specs.declared.row.Row.{Row}
+use Rattle.ac_cert.specs.Rules.{with_row}
+use Rattle.ac_paths.specs.Going.{at_rows}
+use Rattle.ac_claims.proofs.StackSteps.{row_result, row_all}
 use Rattle.ac_claims.proofs.classes.first_class.Goals as goal
 
-pub returns-in-None-clause-value : goal.returns-in-None-clause-value
-returns-in-None-clause-value c = last_result c.args.classes c.in_ok-row.row c.last_class.result _ c.requires.classes c.in-None.ensures c.in_ok-row.ensures.value c.last_class.ensures
+pub returns-clause-value : goal.returns-clause-value
+returns-clause-value c =
+    row_result c.args.path _ c.put_further.new.due _ c.longer.result (subst (λ (r : Row). IfOk c.longer.result (λ p. p ≡ at_rows c.args.path (with_row c.args.path.conj r))) c.in_ok-row.ensures.value c.longer.ensures) c.in_ok-put_further.ensures.value c.in_ok-put_further.ensures.entries
 
-pub returns-in-None-clause-formed : goal.returns-in-None-clause-formed
-returns-in-None-clause-formed c = λ params i. class_result params c.args.classes c.in_ok-row.row c.last_class.result c.requires.classes c.in_ok-row.ensures.value c.last_class.ensures i
+pub returns-clause-entries : goal.returns-clause-entries
+returns-clause-entries c = row_all c.args.path c.in_ok-row.row c.put_further.new.due c.longer.result c.longer.ensures c.in_ok-put_further.ensures.entries

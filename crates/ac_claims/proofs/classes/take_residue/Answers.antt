@@ -1,20 +1,21 @@
-use Rattle.std.proofs.Common.{◌≡◌, ◌++◌, [], ◌∷◌, pos, ap, ◌∙◌, refl, sym}
+use Rattle.std.proofs.Common.{◌≡◌, ◌++◌, pos, ap, ◌∙◌, refl, sym, subst}
+use Rattle.ac_claims.specs.Entries.{AreClasses, classes_of, dues}
+use Rattle.ac_claims.specs.Machine.{Onto}
 use Rattle.ac_claims.specs.declared.entry.Classes.{Classes}
-use Rattle.ac_claims.specs.declared.entry.Entry.TheVariants as entry
 use Rattle.ac_claims.proofs.Residues.{residue_taken, are_classes}
-use Rattle.ac_claims.proofs.StackSteps.{formed_push}
+use Rattle.ac_claims.proofs.StackSteps.{settles_as}
 use Rattle.ac_claims.proofs.classes.take_residue.Goals as goal
 
-pub returns-clause-settles : goal.returns-clause-settles
-returns-clause-settles c = λ g cs.
-    let d : Classes = record { modulus = c.args.modulus.now; form = c.args.form.now; next = pos 0; path = c.args.path } in
-    let n : c.push.new.self ≡ c.args.due.now ++ entry.Classes d ∷ [] =
-    c.in_ok-push.ensures.ok ∙ ap (λ (x : Classes). c.args.due.now ++ entry.Classes x ∷ []) (c.all_classes-classes.ensures ∙ (λ i. record { modulus = c.args.modulus.now; form = c.in_ok-form.ensures i; next = pos 0; path = c.args.path })) in
-    residue_taken g cs d c.args.line c.args.due.now c.push.new.self (sym c.in_ok-has_residues.ensures ∙ c.if-not-branch.false) refl n
+pub awaits-requires-clause-due : goal.awaits-requires-clause-due
+awaits-requires-clause-due c =
+    let d : Classes = record { modulus = c.args.modulus.now; form = c.args.form.now; next = pos 0 } in
+    let e : c.all_classes-classes.result ≡ d = c.all_classes-classes.ensures ∙ (λ i. record { modulus = c.args.modulus.now; form = c.in_ok-form.ensures i; next = pos 0 }) in
+    subst (AreClasses c.args.path.conj.columns) (sym e) (are_classes c.args.path.conj.columns d (sym c.in_ok-has_residues.ensures ∙ c.if-not-branch.false) refl)
 
-pub returns-clause-formed : goal.returns-clause-formed
-returns-clause-formed c = λ params i a.
-    let d : Classes = record { modulus = c.args.modulus.now; form = c.args.form.now; next = pos 0; path = c.args.path } in
-    let n : c.push.new.self ≡ c.args.due.now ++ entry.Classes d ∷ [] =
-    c.in_ok-push.ensures.ok ∙ ap (λ (x : Classes). c.args.due.now ++ entry.Classes x ∷ []) (c.all_classes-classes.ensures ∙ (λ i. record { modulus = c.args.modulus.now; form = c.in_ok-form.ensures i; next = pos 0; path = c.args.path })) in
-    formed_push params c.args.due.now c.push.new.self (entry.Classes d) a (i, are_classes d (sym c.in_ok-has_residues.ensures ∙ c.if-not-branch.false) refl) n
+pub returns : goal.returns
+returns c = λ g cs.
+    let d : Classes = record { modulus = c.args.modulus.now; form = c.args.form.now; next = pos 0 } in
+    let e : c.all_classes-classes.result ≡ d = c.all_classes-classes.ensures ∙ (λ i. record { modulus = c.args.modulus.now; form = c.in_ok-form.ensures i; next = pos 0 }) in
+    settles_as _ _ c.awaits.new.due c.awaits.result
+    (residue_taken g cs c.args.path d c.args.line (dues c.args.path.conj.rows c.args.due.now) (sym c.in_ok-has_residues.ensures ∙ c.if-not-branch.false) refl ∙ ap (λ (x : Classes). Onto (classes_of c.args.path x ++ dues c.args.path.conj.rows c.args.due.now)) (sym e))
+    c.awaits.ensures

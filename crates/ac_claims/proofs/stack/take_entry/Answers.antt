@@ -1,6 +1,12 @@
 use Rattle.std.proofs.Common.{subst}
-use Rattle.ac_claims.specs.Entries.{IsEntryFormed}
+use Rattle.ac_claims.specs.Dues.{AreDueFormed}
+use Rattle.ac_claims.specs.Entries.{HasDues, due_at}
+use Rattle.ac_claims.specs.declared.entry.Awaited.{Awaited}
+use Rattle.ac_claims.proofs.Entering.{of_classes}
 use Rattle.ac_claims.proofs.stack.take_entry.Goals as goal
 
-pub returns-in-Choosing-clause-formed : goal.returns-in-Choosing-clause-formed
-returns-in-Choosing-clause-formed c = c.choose.ensures.formed c.args.programs.now.left.now.params (subst (IsEntryFormed c.args.programs.now.left.now.params) c.in-Choosing.is c.requires.entry).0 c.requires.formed
+pub take_class-requires-clause-path : goal.take_class-requires-clause-path
+take_class-requires-clause-path c =
+    of_classes c.args.programs.now.left.now.params c.args.path c.in-Classes.classes
+    (subst (HasDues c.args.path.conj.columns) c.in-Classes.is c.requires.some)
+    (subst (λ (a : Awaited). AreDueFormed c.args.programs.now.left.now.params (due_at c.args.path a)) c.in-Classes.is c.requires.formed)

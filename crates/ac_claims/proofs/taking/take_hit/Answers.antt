@@ -6,7 +6,7 @@ use Rattle.ac_claims.specs.Machine.{onto_if}
 use Rattle.ac_claims.proofs.taking.take_hit.Goals as goal
 
 pub is_hit-requires-clause-path : goal.is_hit-requires-clause-path
-is_hit-requires-clause-path c = conj_moduli c.args.path.now.conj c.requires.path
+is_hit-requires-clause-path c = conj_moduli c.args.path.conj c.requires.path
 
 pub returns : goal.returns
-returns c = λ due. subst (λ (b : Bool). Settles (onto_if b c.args.line rule.Hit (dues due)) due c.ends_if.result) c.in_ok-is_hit.ensures (c.ends_if.ensures due)
+returns c = λ due a. subst (λ (b : Bool). Settles (onto_if b c.args.line rule.Hit (dues c.args.path.conj.rows due)) due c.ends_if.result) c.in_ok-holds.ensures (c.ends_if.ensures due a)

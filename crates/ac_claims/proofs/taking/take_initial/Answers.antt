@@ -6,7 +6,7 @@ use Rattle.ac_claims.specs.Machine.{onto_if}
 use Rattle.ac_claims.proofs.taking.take_initial.Goals as goal
 
 pub is_initial-requires : goal.is_initial-requires
-is_initial-requires c = conj_moduli c.args.path.now.conj c.requires
+is_initial-requires c = conj_moduli c.args.path.conj c.requires
 
 pub returns : goal.returns
-returns c = λ claims due. subst (λ (b : Bool). Settles (onto_if b c.args.line rule.Initial (dues due)) due c.ends_if.result) c.in_ok-is_initial.ensures (c.ends_if.ensures due)
+returns c = λ claims due a. subst (λ (b : Bool). Settles (onto_if b c.args.line rule.Initial (dues c.args.path.conj.rows due)) due c.ends_if.result) c.in_ok-holds.ensures (c.ends_if.ensures due a)
