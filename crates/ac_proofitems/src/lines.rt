@@ -1,8 +1,10 @@
-//! Rows, steps, choices and items as lines.
+//! Rows, steps, choices and items as lines, without the LF at the end of each. After want of memory a part of a line may have
+//! been added, but for `write_item`.
 ghost use Rattle.std.specs.Prelude.{◌≡◌, ◌++◌, ◌∷◌, [], map, codes, decimal, OnOk, OnErr, IfOk};
 ghost use Rattle.std.specs.Fmt.{signed_decimal};
 ghost use Rattle.ac_proofitems.specs.Spelling.{dotted_word, form_words, position_word, row_words, step_words, choice_words, item_words, spelled};
 ghost use Rattle.ac_proofitems.specs.Words.{line_of};
+ghost use Rattle.ac_claims.specs.declared.item.Item.TheVariants as item;
 
 use crate::push::{
     push_form, push_integer, push_integers, push_level, push_multiples, push_natural,
@@ -58,8 +60,8 @@ fn push_named_shapes(
 }
 
 /// Adds the line of a row.
-fn push_row(line: &mut Vec<u8>, row: &Row) -> Result<(), AllocError>
-    ensures { OnOk result (line.new.items ≡ line.old.items ++ line_of (row_words row.now)) }
+pub fn push_row(line: &mut Vec<u8>, row: &Row) -> Result<(), AllocError>
+    ensures { OnOk result (line.new.items ≡ line.old.items ++ spelled (item.Row row.now)) }
 {
     match row {
         Row::Ge(form) => push_named_form(line, b"ge", form),
@@ -73,8 +75,8 @@ fn push_row(line: &mut Vec<u8>, row: &Row) -> Result<(), AllocError>
 }
 
 /// Adds the line of a step.
-fn push_step(line: &mut Vec<u8>, step: &Step) -> Result<(), AllocError>
-    ensures { OnOk result (line.new.items ≡ line.old.items ++ line_of (step_words step.now)) }
+pub fn push_step(line: &mut Vec<u8>, step: &Step) -> Result<(), AllocError>
+    ensures { OnOk result (line.new.items ≡ line.old.items ++ spelled (item.Step step.now)) }
 {
     match step {
         Step::Add(pairs) => {
@@ -105,8 +107,8 @@ fn push_step(line: &mut Vec<u8>, step: &Step) -> Result<(), AllocError>
 }
 
 /// Adds the line of a choice.
-fn push_choice(line: &mut Vec<u8>, choice: &Choice) -> Result<(), AllocError>
-    ensures { OnOk result (line.new.items ≡ line.old.items ++ line_of (choice_words choice.now)) }
+pub fn push_choice(line: &mut Vec<u8>, choice: &Choice) -> Result<(), AllocError>
+    ensures { OnOk result (line.new.items ≡ line.old.items ++ spelled (item.Choice choice.now)) }
 {
     match choice {
         Choice::Drop(column) => push_named(line, b"drop", &[*column]),
@@ -138,17 +140,52 @@ fn push_claim(
     push_natural(line, rows)
 }
 
+/// Adds the line of a point.
+pub fn push_point(line: &mut Vec<u8>, values: &[i128]) -> Result<(), AllocError>
+    ensures { OnOk result (line.new.items ≡ line.old.items ++ spelled (item.Point values.now)) }
+{
+    line.extend_from_slice(b"point")?;
+    push_integers(line, values)
+}
+
+/// Adds the line of the shapes of the left program.
+pub fn push_left(line: &mut Vec<u8>, shapes: &[(u64, u64)]) -> Result<(), AllocError>
+    ensures { OnOk result (line.new.items ≡ line.old.items ++ spelled (item.Left shapes.now)) }
+{
+    push_named_shapes(line, b"left", shapes)
+}
+
+/// Adds the line of the shapes of the right program.
+pub fn push_right(line: &mut Vec<u8>, shapes: &[(u64, u64)]) -> Result<(), AllocError>
+    ensures { OnOk result (line.new.items ≡ line.old.items ++ spelled (item.Right shapes.now)) }
+{
+    push_named_shapes(line, b"right", shapes)
+}
+
+/// Adds the line of a branch by the sign of a form.
+pub fn push_split(line: &mut Vec<u8>, form: &Form) -> Result<(), AllocError>
+    ensures { OnOk result (line.new.items ≡ line.old.items ++ spelled (item.Split form.now)) }
+{
+    push_named_form(line, b"split", form)
+}
+
+/// Adds the line of a branch by the residue of a form.
+pub fn push_residue(line: &mut Vec<u8>, modulus: &i128, form: &Form) -> Result<(), AllocError>
+    ensures { OnOk result (line.new.items ≡ line.old.items ++ spelled (item.Residue modulus.now form.now)) }
+{
+    line.extend_from_slice(b"residue")?;
+    push_integer(line, modulus)?;
+    push_form(line, form)
+}
+
 /// Adds the line of an item, without the LF at its end.
-fn push_item(line: &mut Vec<u8>, item: &Item) -> Result<(), AllocError>
+pub fn push_item(line: &mut Vec<u8>, item: &Item) -> Result<(), AllocError>
     ensures { OnOk result (line.new.items ≡ line.old.items ++ spelled item.now) }
 {
     match item {
-        Item::Point(values) => {
-            line.extend_from_slice(b"point")?;
-            push_integers(line, values.as_slice())
-        }
-        Item::Left(shapes) => push_named_shapes(line, b"left", shapes.as_slice()),
-        Item::Right(shapes) => push_named_shapes(line, b"right", shapes.as_slice()),
+        Item::Point(values) => push_point(line, values.as_slice()),
+        Item::Left(shapes) => push_left(line, shapes.as_slice()),
+        Item::Right(shapes) => push_right(line, shapes.as_slice()),
         Item::Claims(claims) => push_named(line, b"claims", &[*claims]),
         Item::Claim { left, right, rows } => push_claim(line, left, right, *rows),
         Item::Row(row) => push_row(line, row),
@@ -161,12 +198,8 @@ fn push_item(line: &mut Vec<u8>, item: &Item) -> Result<(), AllocError>
         Item::Step(step) => push_step(line, step),
         Item::Choice(choice) => push_choice(line, choice),
         Item::End => line.extend_from_slice(b"end"),
-        Item::Split(form) => push_named_form(line, b"split", form),
-        Item::Residue(modulus, form) => {
-            line.extend_from_slice(b"residue")?;
-            push_integer(line, modulus)?;
-            push_form(line, form)
-        }
+        Item::Split(form) => push_split(line, form),
+        Item::Residue(modulus, form) => push_residue(line, modulus, form),
         Item::Go { order, cases } => {
             line.extend_from_slice(b"go")?;
             push_order(line, order)?;

@@ -14,12 +14,9 @@ use Rattle.ac_proofitems.proofs.Plain.{one_line}
 use Rattle.ac_proofitems.proofs.Injective.{one_item}
 use Rattle.ac_prooftext.specs.Outlines.{Place, next, next_all, start, done}
 use Rattle.ac_prooftext.specs.declared.stages.Stage.TheVariants as stage
-use Rattle.ac_prooftext.specs.Texts.{format_line, ended, lines_text, lines_in, text_of, Begin, deepest, IsSpelling, IsTextFault, no_format, no_item, IsSpelledProof, proof_text}
+use Rattle.ac_prooftext.specs.Texts.{format_line, ended, lines_text, items_text, lines_in, text_of, Begin, deepest, IsSpelling, IsTextFault, no_format, no_item, IsSpelledProof, proof_text}
 use Rattle.ac_prooftext.proofs.Following.{takes_proofs}
 use Rattle.ac_prooftext.proofs.Judging.{ended_by, format_free, some_byte}
-
-abbrev pub items_text : List Item → List ℕ
-items_text xs = lines_text (map spelled xs)
 
 -- two lines at the same place are one
 pub same_line : (line other text more : List ℕ) → IsFree 10 line → IsFree 10 other → ended line ++ text ≡ ended other ++ more → (line ≡ other) × (text ≡ more)

@@ -8,5 +8,9 @@ mod Streams
 mod Answering
 mod Verdicts
 mod Excluding
+pub mod WriteSteps
+mod Joining
+mod Reading
+mod ReadSteps
 pub mod Rebuilding
 pub mod Sound

@@ -61,11 +61,11 @@ box_of a x = record { ptr = null_ptr; alloc = a; value = x }
 abbrev IsSpelledPlan : Plan → Type 0
 IsSpelledPlan t = IsSpelled t.next
 
-spelled_row : {w : _} (all : Row_of-Plan w) → AllByRecursion IsSpelledPlan (items-the_row-Plan w all) → AreSpelled all
+pub spelled_row : {w : _} (all : Row_of-Plan w) → AllByRecursion IsSpelledPlan (items-the_row-Plan w all) → AreSpelled all
 spelled_row end_of-Plan h = tt
 spelled_row (more_of-Plan s t more) h = (h.0, spelled_row more h.1)
 
-row_length : {w : _} (all : Row_of-Plan w) → count_of all ≡ length (items-the_row-Plan w all)
+pub row_length : {w : _} (all : Row_of-Plan w) → count_of all ≡ length (items-the_row-Plan w all)
 row_length end_of-Plan = refl
 row_length (more_of-Plan s t more) = ap (λ (x : ℕ). suc x) (row_length more)
 

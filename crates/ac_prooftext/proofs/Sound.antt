@@ -44,7 +44,7 @@ named_outputs_are_same a pair left right shapes xs p outputs paired models begin
     subst (AllByRecursion (SameOutput pair)) n.1 (each_same pair r.proof.outputs (valid_proofs_name_same_outputs pair left right r.proof paired models r.moduli n.0))
 
 -- each line has a byte at least
-lines_long : (ls : List (List ℕ)) → length ls ≤ length (lines_text ls)
+pub lines_long : (ls : List (List ℕ)) → length ls ≤ length (lines_text ls)
 lines_long [] = omega arith
 lines_long (l ∷ ls) =
     let rest = lines_long ls in

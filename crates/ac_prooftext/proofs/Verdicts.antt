@@ -1,5 +1,5 @@
 -- The answer on a stream and the verdict on a proof.
-use Rattle.std.proofs.Common.{◌≡◌, ◌<◌, ◌≤◌, ◌+◌, ℕ, max, Bool, List, [], ◌∷◌, ◌++◌, map, length, Option, None, Some, refl, sym, ap, subst, ◌∙◌, arith, append_assoc}
+use Rattle.std.proofs.Common.{◌≡◌, ◌<◌, ◌≤◌, ◌+◌, ◌⊎◌, ⊎_elim, ℕ, max, Bool, List, [], ◌∷◌, ◌++◌, map, length, Option, None, Some, Ok, Err, refl, sym, ap, subst, ◌∙◌, arith, append_assoc}
 use Rattle.std.specs.Prelude.{option_and_then, is_some}
 use Rattle.std.specs.List.{AllByRecursion}
 use Rattle.std.proofs.lemmas.List.{append-nil}
@@ -14,19 +14,27 @@ use Rattle.ac_proofitems.specs.Spelling.{spelled}
 use Rattle.ac_proofitems.proofs.Plain.{one_line}
 use Rattle.ac_proofitems.proofs.Injective.{one_item}
 use Rattle.ac_prooftext.specs.Outlines.{Place, next, next_all, start, opens}
-use Rattle.ac_prooftext.specs.Texts.{format_line, ended, deepest, deepest_from, IsSpelling, IsTextFault, no_format, no_item, IsSpelledProof, proof_text}
+use Rattle.ac_prooftext.specs.Texts.{format_line, ended, items_text, deepest, deepest_from, IsSpelling, IsTextFault, no_format, no_item, IsSpelledProof, proof_text}
 use Rattle.ac_prooftext.specs.Checks.{max_depth, IsTooDeep, behind}
-use Rattle.ac_prooftext.proofs.Excluding.{items_text, same_line, same_format}
+use Rattle.ac_prooftext.specs.CheckLaws.{WrittenProofsAreJudged}
+use Rattle.ac_prooftext.specs.TextLaws.{TextsAreOfOneProof}
+use Rattle.ac_prooftext.specs.declared.types.CheckFault.TheVariants.{TooLong, TooDeep, Refused, Memory}
+use Rattle.ac_prooftext.proofs.Excluding.{same_line, same_format, spelled_proof, no_fault}
 use Rattle.ac_prooftext.proofs.Judging.{format_free, some_byte}
 
 -- one text is that of one list of items
-same_text : (xs ys : List Item) → AllByRecursion IsSpellable xs → AllByRecursion IsSpellable ys → items_text xs ≡ items_text ys → xs ≡ ys
+pub same_text : (xs ys : List Item) → AllByRecursion IsSpellable xs → AllByRecursion IsSpellable ys → items_text xs ≡ items_text ys → xs ≡ ys
 same_text [] [] h k e = refl
 same_text [] (y ∷ ys) h k e = absurd (some_byte (spelled y) (items_text ys) (sym e))
 same_text (x ∷ xs) [] h k e = absurd (some_byte (spelled x) (items_text xs) e)
 same_text (x ∷ xs) (y ∷ ys) h k e =
     let lines = same_line (spelled x) (spelled y) (items_text xs) (items_text ys) (one_line x h.0) (one_line y k.0) e in
     λ i. one_item x y h.0 k.0 lines.0 i ∷ same_text xs ys h.1 k.1 lines.1 i
+
+pub one_text : TextsAreOfOneProof
+one_text p q h k e =
+    let lines = same_line (format_line (is_some p.heads)) (format_line (is_some q.heads)) (items_text (lines_of p)) (items_text (lines_of q)) (format_free (is_some p.heads)) (format_free (is_some q.heads)) e in
+    (same_format (is_some p.heads) (is_some q.heads) lines.0, same_text (lines_of p) (lines_of q) h.items k.items lines.1)
 
 pub verdicts : (g : Pairing) (outputs text : List ℕ) (depth : ℕ) (s : IsSpelling text depth) (p : Proof) → IsSpelledProof p → text ≡ proof_text p → answer_of (behind g outputs s.items).came ≡ verdict g outputs p
 verdicts g outputs text depth s p h e =
@@ -96,3 +104,12 @@ spellings text depth h s =
     let deep = h.deep in
     let is = s.depth_is in
     omega (arith, le, deep, is)
+
+-- the text of a spelled proof is judged as the proof
+pub written : WrittenProofsAreJudged
+written g outputs p (Ok v) sp h = sym (verdicts g outputs (proof_text p) h.1.depth h.1.spelling p sp refl) ∙ h.1.answer_is
+written g outputs p (Err TooLong) sp h = h
+written g outputs p (Err TooDeep) sp h = spellings (proof_text p) (deepest (is_some p.heads) (lines_of p)) h.1 (spelled_proof p sp)
+written g outputs p (Err (Refused line r)) sp h =
+    ⊎_elim (λ t. absurd (no_fault (proof_text p) (deepest (is_some p.heads) (lines_of p)) t.1.first t.1.depth (spelled_proof p sp) t.1.fault)) (λ j. sym (verdicts g outputs (proof_text p) j.depth j.spelling p sp refl) ∙ j.answer_is) h.1
+written g outputs p (Err (Memory e)) sp h = tt

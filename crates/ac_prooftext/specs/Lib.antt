@@ -3,6 +3,8 @@ pub mod Laws
 pub mod Texts
 pub mod Lines
 pub mod TextLaws
+pub mod Writing
+pub mod Building
 pub mod Sound
 pub mod Checks
 pub mod Courses

@@ -22,6 +22,10 @@ ended line = line ++ 10 ∷ []
 abbrev pub lines_text : List (List ℕ) → List ℕ
 lines_text = flat_map ended
 
+-- the lines of items
+abbrev pub items_text : List Item → List ℕ
+items_text xs = lines_text (map spelled xs)
+
 abbrev pub lines_in : Bool → List Item → List (List ℕ)
 lines_in shapes xs = format_line shapes ∷ map spelled xs
 

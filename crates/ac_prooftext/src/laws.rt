@@ -1,8 +1,8 @@
 //! What holds of all proofs and texts: each function here does nothing, and its contract is a fact.
-ghost use Rattle.ac_prooftext.specs.CheckLaws.{AnswersAreVerdicts, DeepTextsStayDeep, DeepSpellingsAreDeep};
+ghost use Rattle.ac_prooftext.specs.CheckLaws.{AnswersAreVerdicts, DeepTextsStayDeep, DeepSpellingsAreDeep, WrittenProofsAreJudged};
 ghost use Rattle.ac_prooftext.specs.Laws.{TakesProofs};
 ghost use Rattle.ac_prooftext.specs.Sound.{NamedOutputsAreSame, AcceptedOutputsAreSame};
-ghost use Rattle.ac_prooftext.specs.TextLaws.{ProofsAreSpelled, SpellingsHaveNoFault};
+ghost use Rattle.ac_prooftext.specs.TextLaws.{ProofsAreSpelled, SpellingsHaveNoFault, TextsAreOfOneProof};
 
 use std::alloc::Global;
 
@@ -26,6 +26,18 @@ pub fn named_outputs_are_the_same(alloc: Global)
 {
     let _alloc = alloc;
 }
+
+/// No text is that of two spelled proofs: their lines are the same.
+pub fn texts_are_of_one_proof()
+    ensures { TextsAreOfOneProof }
+{}
+
+/// The answer of a check that was fed with the text of a spelled proof is that of `check_proof` on the proof: too long, too
+/// deep, or the verdict.
+pub fn written_proofs_are_judged()
+    ensures { WrittenProofsAreJudged }
+{}
+
 /// The answer on a stream is the verdict on the proof that it spells, and a stream that is too deep has no other answer.
 pub fn answers_are_verdicts()
     ensures verdicts { AnswersAreVerdicts }

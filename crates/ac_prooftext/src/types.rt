@@ -11,6 +11,26 @@ pub struct Nesting {
     pub fault: Option<u64>,
 }
 
+/// Why bytes give no proof.
+#[derive(Debug, Drop)]
+pub enum TextFault {
+    /// The first line that is missing, malformed or may not stand where it does, from 1.
+    Line(u64),
+    /// There was no memory.
+    Memory(AllocError),
+}
+
+impl From<AllocError> for TextFault {
+    ghost use Rattle.std.specs.Prelude.{◌≡◌};
+    ghost use Rattle.ac_prooftext.specs.declared.types.TextFault.TheVariants.{Memory};
+
+    ghost from_gives = { λ want e. e ≡ Memory want };
+
+    fn from(want: AllocError) -> TextFault {
+        TextFault::Memory(want)
+    }
+}
+
 /// Why a stream of bytes is not accepted as a proof.
 #[derive(Debug, Drop)]
 pub enum CheckFault {
