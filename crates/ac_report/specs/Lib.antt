@@ -1,0 +1,3 @@
+pub mod Layouts
+pub mod Texts
+pub mod FlowTexts

@@ -1,0 +1,50 @@
+use ac_forms::Conj;
+use ac_items::Items;
+use ac_match::Refuted;
+use ac_syntax::tree::Position;
+use ac_widen::Entry;
+
+/// Why an output is neither shown equal nor different.
+#[derive(Debug, Drop)]
+pub enum Cause {
+    /// Each order of commutative arguments meets a mismatch: the refuted partial orders, each with what derives a mismatch.
+    Unmatched(Items<Refuted>),
+    /// A number of this question leaves `i128`.
+    OverflowQuestion(Conj),
+    /// A number of the hull of these members leaves `i128`.
+    OverflowHull(Items<Items<i128>>),
+    /// The running cost of a question exceeds the budget.
+    SpentQuestion {
+        /// The question.
+        question: Conj,
+        /// The first running cost above the budget.
+        cost: u64,
+    },
+    /// More than 4,096 pieces of one read or output.
+    SpentPieces {
+        /// The read or output.
+        position: Position,
+        /// The pieces, each of which has a point.
+        kept: Items<Conj>,
+    },
+    /// More than 20,000 feasible paths from one start: each as entries from that start on.
+    SpentPaths(Items<Items<Entry>>),
+    /// So many partial orders are refuted that no further one is tried.
+    SpentOrders(Items<Refuted>),
+}
+
+/// What is said of an output.
+#[derive(Debug, Drop)]
+pub enum Verdict {
+    /// It is the same.
+    Equal,
+    /// At this valuation the terms of this element do not agree, and no element before it differs.
+    Different {
+        /// The valuation of the parameters.
+        at: Items<i64>,
+        /// The element.
+        element: Items<i64>,
+    },
+    /// Neither is shown.
+    Unknown(Cause),
+}
