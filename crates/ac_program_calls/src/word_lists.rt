@@ -80,9 +80,15 @@ fn show_command(alloc: Global, words: &mut Words<'_>, out: &mut String) -> Resul
 
 fn show_asked(out: &mut String, command: &Command<'_>) -> Result<(), AllocError> {
     match command {
-        Command::Prove { left, right } => {
+        Command::Prove {
+            left,
+            right,
+            budget,
+            proof,
+        } => {
             out.push_str("prove ")?;
-            show_files(out, left, right)
+            show_files(out, left, right)?;
+            show_budget_proof(out, *budget, *proof)
         }
         Command::Check { left, right, proof } => {
             out.push_str("check ")?;
@@ -98,6 +104,26 @@ fn show_asked(out: &mut String, command: &Command<'_>) -> Result<(), AllocError>
             out.push_str("instance of ")?;
             show_files(out, left, right)?;
             show_at_limit(out, *at, *limit)
+        }
+        Command::Flow { file } => {
+            out.push_str("flow of ")?;
+            push_bytes(out, file)
+        }
+    }
+}
+
+fn show_budget_proof(
+    out: &mut String,
+    budget: u64,
+    proof: Option<&[u8]>,
+) -> Result<(), AllocError> {
+    write!(out, ", budget {budget}")?;
+    match proof {
+        None => Ok(()),
+        Some(name) => {
+            out.push_str(", into '")?;
+            push_bytes(out, name)?;
+            out.push('\'')
         }
     }
 }

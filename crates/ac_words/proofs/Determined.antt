@@ -1,69 +1,75 @@
 -- Words spell one command at most, and a word gives one list of values.
-use Rattle.std.proofs.Common.{◌≡◌, ℕ, ℤ, List, [], ◌∷◌, ◌++◌, map, Option, None, Some, refl, sym, ap, subst, ◌∙◌, arith}
+use Rattle.std.proofs.Common.{◌≡◌, ◌≢◌, true≢false, nat_eq, ℕ, ℤ, List, [], ◌∷◌, ◌++◌, map, Option, None, Some, refl, sym, ap, subst, ◌∙◌, arith}
 use Rattle.std.specs.Prelude.{codes}
-use Rattle.ac_words.specs.Numbers.{IsLimitText}
-use Rattle.ac_words.specs.Commands.{Asked, prove, check_of, instance_of, IsAt, no_valuation, given_valuation, IsLimit, no_limit, given_limit, IsOptions, IsSpelled, spells_prove, spells_check, spells_instance}
+use Rattle.ac_words.specs.Numbers.{IsLimitOr}
+use Rattle.ac_words.specs.Commands.{Asked, prove, check_of, instance_of, flow_of, option, IsSpelled, spells_prove, spells_check, spells_instance, spells_flow}
 use Rattle.ac_words.specs.Valuations.{given_to}
 use Rattle.ac_words.specs.Laws.{HasOneCommand, HasOneValuation}
 use Rattle.ac_words.proofs.Numerals.{limit_is}
 use Rattle.ac_words.proofs.Reading.{entries_once}
 
--- what words spell options, and which
-data Options : List (List ℕ) → Option (List ℕ) → ℕ → Type 0 where
-  none : Options [] None 1000000
-  at : (w : List ℕ) → Options (codes "--at" ∷ w ∷ []) (Some w) 1000000
-  limit : (d : List ℕ) (n : ℕ) → IsLimitText d n → Options (codes "--limit" ∷ d ∷ []) None n
-  both : (w d : List ℕ) (n : ℕ) → IsLimitText d n → Options (codes "--at" ∷ w ∷ codes "--limit" ∷ d ∷ []) (Some w) n
+-- two options of different names are read in one way
+options_once : (f s : List ℕ) (a b c d : Option (List ℕ)) → f ≢ s → option f a ++ option s b ≡ option f c ++ option s d → (a ≡ c) × (b ≡ d)
+options_once f s None None None None apart e = (refl, refl)
+options_once f s None None None (Some z) apart e = absurd cc
+options_once f s None None (Some y) None apart e = absurd cc
+options_once f s None None (Some y) (Some z) apart e = absurd cc
+options_once f s None (Some x) None None apart e = absurd cc
+options_once f s None (Some x) None (Some z) apart e = (refl, let same : x ≡ z = cc in ap (λ w. Some w) same)
+options_once f s None (Some x) (Some y) None apart e = absurd (apart (let same : f ≡ s = cc in same))
+options_once f s None (Some x) (Some y) (Some z) apart e = absurd cc
+options_once f s (Some w) None None None apart e = absurd cc
+options_once f s (Some w) None None (Some z) apart e = absurd (apart (let same : f ≡ s = cc in same))
+options_once f s (Some w) None (Some y) None apart e = (let same : w ≡ y = cc in ap (λ v. Some v) same, refl)
+options_once f s (Some w) None (Some y) (Some z) apart e = absurd cc
+options_once f s (Some w) (Some x) None None apart e = absurd cc
+options_once f s (Some w) (Some x) None (Some z) apart e = absurd cc
+options_once f s (Some w) (Some x) (Some y) None apart e = absurd cc
+options_once f s (Some w) (Some x) (Some y) (Some z) apart e = (let same : w ≡ y = cc in ap (λ v. Some v) same, let same : x ≡ z = cc in ap (λ v. Some v) same)
 
-options_of : (first second : List (List ℕ)) (a : Option (List ℕ)) (l : ℕ) → IsAt first a → IsLimit second l → Options (first ++ second) a l
-options_of _ _ _ _ no_valuation no_limit = none
-options_of _ _ _ _ no_valuation (given_limit d n is) = limit d n is
-options_of _ _ _ _ (given_valuation w) no_limit = at w
-options_of _ _ _ _ (given_valuation w) (given_limit d n is) = both w d n is
+limit_once : (otherwise : ℕ) (d : Option (List ℕ)) (n m : ℕ) → IsLimitOr otherwise d n → IsLimitOr otherwise d m → n ≡ m
+limit_once otherwise None n m h k = h ∙ sym k
+limit_once otherwise (Some d) n m h k = limit_is d n m h (let b = k.greatest in omega (arith, b)) k.spelled
 
-options : (ws : List (List ℕ)) (a : Option (List ℕ)) (l : ℕ) → IsOptions ws a l → Options ws a l
-options ws a l h = subst (λ vs. Options vs a l) (sym h.joined) (options_of h.first h.second a l h.is_at h.is_limit)
-
-limit_once : (d e : List ℕ) (n m : ℕ) → d ≡ e → IsLimitText d n → IsLimitText e m → n ≡ m
-limit_once d e n m same h k = limit_is d n m h (let b = k.greatest in omega (arith, b)) (same ∙ k.spelled)
-
-options_once : (ws vs : List (List ℕ)) (a b : Option (List ℕ)) (l k : ℕ) → ws ≡ vs → Options ws a l → Options vs b k → (a ≡ b) × (l ≡ k)
-options_once _ _ _ _ _ _ e none none = (refl, refl)
-options_once _ _ _ _ _ _ e none (at w) = absurd cc
-options_once _ _ _ _ _ _ e none (limit d n is) = absurd cc
-options_once _ _ _ _ _ _ e none (both w d n is) = absurd cc
-options_once _ _ _ _ _ _ e (at v) none = absurd cc
-options_once _ _ _ _ _ _ e (at v) (at w) = (let same : v ≡ w = cc in ap (λ x. Some x) same, refl)
-options_once _ _ _ _ _ _ e (at v) (limit d n is) = absurd cc
-options_once _ _ _ _ _ _ e (at v) (both w d n is) = absurd cc
-options_once _ _ _ _ _ _ e (limit c m by) none = absurd cc
-options_once _ _ _ _ _ _ e (limit c m by) (at w) = absurd cc
-options_once _ _ _ _ _ _ e (limit c m by) (limit d n is) = (refl, limit_once c d m n (let same : c ≡ d = cc in same) by is)
-options_once _ _ _ _ _ _ e (limit c m by) (both w d n is) = absurd cc
-options_once _ _ _ _ _ _ e (both v c m by) none = absurd cc
-options_once _ _ _ _ _ _ e (both v c m by) (at w) = absurd cc
-options_once _ _ _ _ _ _ e (both v c m by) (limit d n is) = absurd cc
-options_once _ _ _ _ _ _ e (both v c m by) (both w d n is) = (let same : v ≡ w = cc in ap (λ x. Some x) same, limit_once c d m n (let same : c ≡ d = cc in same) by is)
+-- the first letter of the first word
+abbrev letter : List (List ℕ) → ℕ
+letter [] = 0
+letter ([] ∷ ws) = 0
+letter ((c ∷ cs) ∷ ws) = c
 
 spelled_once : (ws vs : List (List ℕ)) (asked other : Asked) → ws ≡ vs → IsSpelled ws asked → IsSpelled vs other → asked ≡ other
-spelled_once _ _ _ _ e (spells_prove a b) (spells_prove c d) = let first : a ≡ c = cc in let second : b ≡ d = cc in λ i. prove (first i) (second i)
-spelled_once _ _ _ _ e (spells_prove a b) (spells_check c d q) = absurd cc
-spelled_once _ _ _ _ e (spells_prove a b) (spells_instance c d v l options is) = absurd cc
-spelled_once _ _ _ _ e (spells_check a b p) (spells_prove c d) = absurd cc
-spelled_once _ _ _ _ e (spells_check a b p) (spells_check c d q) =
-    let first : a ≡ c = cc in
-    let second : b ≡ d = cc in
+spelled_once _ _ _ _ e (spells_prove a b d p n is) (spells_prove x y f q m by) =
+    let first : a ≡ x = cc in
+    let second : b ≡ y = cc in
+    let rest : option (codes "--budget") d ++ option (codes "--proof") p ≡ option (codes "--budget") f ++ option (codes "--proof") q = cc in
+    let same = options_once (codes "--budget") (codes "--proof") d p f q (λ k. absurd cc) rest in
+    let number : n ≡ m = limit_once 50000 f n m (subst (λ o. IsLimitOr 50000 o n) same.0 is) by in
+    λ i. prove (first i) (second i) (number i) (same.1 i)
+spelled_once _ _ _ _ e (spells_prove a b d p n is) (spells_check x y q) = absurd (true≢false (ap (λ ws. nat_eq (letter ws) 112) e))
+spelled_once _ _ _ _ e (spells_prove a b d p n is) (spells_instance x y w f m by) = absurd (true≢false (ap (λ ws. nat_eq (letter ws) 112) e))
+spelled_once _ _ _ _ e (spells_prove a b d p n is) (spells_flow x) = absurd (true≢false (ap (λ ws. nat_eq (letter ws) 112) e))
+spelled_once _ _ _ _ e (spells_check a b p) (spells_prove x y f q m by) = absurd (true≢false (ap (λ ws. nat_eq (letter ws) 99) e))
+spelled_once _ _ _ _ e (spells_check a b p) (spells_check x y q) =
+    let first : a ≡ x = cc in
+    let second : b ≡ y = cc in
     let third : p ≡ q = cc in
     λ i. check_of (first i) (second i) (third i)
-spelled_once _ _ _ _ e (spells_check a b p) (spells_instance c d v l options is) = absurd cc
-spelled_once _ _ _ _ e (spells_instance a b v l options is) (spells_check c d q) = absurd cc
-spelled_once _ _ _ _ e (spells_instance a b v l options is) (spells_prove c d) = absurd cc
-spelled_once _ _ _ _ e (spells_instance a b v l os is) (spells_instance c d w k qs by) =
-    let first : a ≡ c = cc in
-    let second : b ≡ d = cc in
-    let rest : os ≡ qs = cc in
-    let same = options_once os qs v w l k rest (options os v l is) (options qs w k by) in
-    λ i. instance_of (first i) (second i) (same.0 i) (same.1 i)
+spelled_once _ _ _ _ e (spells_check a b p) (spells_instance x y w f m by) = absurd (true≢false (ap (λ ws. nat_eq (letter ws) 99) e))
+spelled_once _ _ _ _ e (spells_check a b p) (spells_flow x) = absurd (true≢false (ap (λ ws. nat_eq (letter ws) 99) e))
+spelled_once _ _ _ _ e (spells_instance a b v d n is) (spells_prove x y f q m by) = absurd (true≢false (ap (λ ws. nat_eq (letter ws) 105) e))
+spelled_once _ _ _ _ e (spells_instance a b v d n is) (spells_check x y q) = absurd (true≢false (ap (λ ws. nat_eq (letter ws) 105) e))
+spelled_once _ _ _ _ e (spells_instance a b v d n is) (spells_instance x y w f m by) =
+    let first : a ≡ x = cc in
+    let second : b ≡ y = cc in
+    let rest : option (codes "--at") v ++ option (codes "--limit") d ≡ option (codes "--at") w ++ option (codes "--limit") f = cc in
+    let same = options_once (codes "--at") (codes "--limit") v d w f (λ k. absurd cc) rest in
+    let number : n ≡ m = limit_once 1000000 f n m (subst (λ o. IsLimitOr 1000000 o n) same.1 is) by in
+    λ i. instance_of (first i) (second i) (same.0 i) (number i)
+spelled_once _ _ _ _ e (spells_instance a b v d n is) (spells_flow x) = absurd (true≢false (ap (λ ws. nat_eq (letter ws) 105) e))
+spelled_once _ _ _ _ e (spells_flow a) (spells_prove x y f q m by) = absurd (true≢false (ap (λ ws. nat_eq (letter ws) 102) e))
+spelled_once _ _ _ _ e (spells_flow a) (spells_check x y q) = absurd (true≢false (ap (λ ws. nat_eq (letter ws) 102) e))
+spelled_once _ _ _ _ e (spells_flow a) (spells_instance x y w f m by) = absurd (true≢false (ap (λ ws. nat_eq (letter ws) 102) e))
+spelled_once _ _ _ _ e (spells_flow a) (spells_flow x) = let first : a ≡ x = cc in ap (λ file. flow_of file) first
 
 pub one_command : HasOneCommand
 one_command words asked other h k = spelled_once words words asked other refl h.spelled k.spelled

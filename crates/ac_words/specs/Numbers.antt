@@ -1,5 +1,5 @@
 -- Numbers as words, in decimal digits without leading zeros.
-use Rattle.std.specs.Prelude.{◌≡◌, ◌≤◌, ℕ, ℤ, pos, neg_ℤ, List, ◌∷◌, decimal, FitsSigned}
+use Rattle.std.specs.Prelude.{◌≡◌, ◌≤◌, ℕ, ℤ, pos, neg_ℤ, List, ◌∷◌, Option, None, Some, decimal, FitsSigned}
 use Rattle.std.specs.Int.{w64}
 
 -- an integer's digits, with a minus in front where it is not positive; so 0 has two spellings
@@ -17,3 +17,8 @@ pub record IsLimitText (text : List ℕ) (limit : ℕ) : Type 0 where
   pub spelled : text ≡ decimal limit
   pub least : 1 ≤ limit
   pub greatest : limit ≤ 1000000
+
+-- such a number, or what stands where no text gives one
+abbrev pub IsLimitOr : ℕ → Option (List ℕ) → ℕ → Type 0
+IsLimitOr otherwise None limit = limit ≡ otherwise
+IsLimitOr otherwise (Some text) limit = IsLimitText text limit

@@ -7,6 +7,7 @@ mod command;
 mod given;
 mod laws;
 mod numbers;
+mod options;
 mod parts;
 
 pub use command::{Command, command_of};

@@ -1,7 +1,7 @@
-ghost use Rattle.std.specs.Prelude.{◌≡◌, ◌<◌, ◌^◌, ℕ, ℤ, decimal, FitsSigned, MatchOption};
+ghost use Rattle.std.specs.Prelude.{◌≡◌, ◌<◌, ◌^◌, ℕ, ℤ, option_map, decimal, FitsSigned, MatchOption};
 ghost use Rattle.std.specs.Fmt.{signed_decimal};
 ghost use Rattle.std.specs.Int.{w64};
-ghost use Rattle.ac_words.specs.Numbers.{IsInteger, IsLimitText};
+ghost use Rattle.ac_words.specs.Numbers.{IsInteger, IsLimitText, IsLimitOr};
 
 use itoa::Buffer;
 
@@ -45,7 +45,7 @@ fn natural(text: &str) -> Option<u64>
 }
 
 /// The limit that a text spells, from 1 to 1,000,000.
-pub fn limit(text: &[u8]) -> Option<u64>
+fn limit(text: &[u8]) -> Option<u64>
     ensures { MatchOption result ((n : ℕ) → ¬ (IsLimitText text.now n)) (IsLimitText text.now) }
 {
     match str::from_utf8(text) {
@@ -54,5 +54,15 @@ pub fn limit(text: &[u8]) -> Option<u64>
             _ => None,
         },
         Err(_) => None,
+    }
+}
+
+/// The limit that a text spells, from 1 to 1,000,000, or what stands where there is no text.
+pub fn limit_or(text: Option<&[u8]>, otherwise: u64) -> Option<u64>
+    ensures { MatchOption result ((n : ℕ) → ¬ (IsLimitOr otherwise (option_map (λ w. w.now) text.entry) n)) (IsLimitOr otherwise (option_map (λ w. w.now) text.entry)) }
+{
+    match text {
+        Some(text) => limit(text),
+        None => Some(otherwise),
     }
 }
