@@ -1,0 +1,87 @@
+//! Questions of an unfolding.
+
+use crate::grafting::moved_plan;
+use crate::node::Node;
+use crate::types::UnfoldStop;
+use ac_claims::types::Plan;
+use ac_forms::{Conj, Row, stands};
+use ac_omega::{Decided, Decision, Stop, decide, find_point};
+use std::alloc::{AllocError, Global};
+
+/// What a question comes to.
+#[derive(Drop)]
+pub(crate) enum Answer {
+    /// It has no point; where plans are made, the plan that shows it.
+    Empty(Option<Plan>),
+    /// A point.
+    Point(Vec<i128>),
+}
+
+/// The same stop.
+fn unfold_stop(stop: Stop) -> UnfoldStop {
+    match stop {
+        Stop::Overflow(question) => UnfoldStop::Overflow(question),
+        Stop::Spent { question, cost } => UnfoldStop::Spent { question, cost },
+        Stop::Memory(want) => UnfoldStop::Memory(want),
+    }
+}
+
+/// Whether a question has a point, with a plan where it has none.
+fn decided(alloc: Global, node: &Node, budget: u64) -> Result<Answer, UnfoldStop> {
+    if !node.question.conj.is_well_made() {
+        return Err(UnfoldStop::Memory(AllocError));
+    }
+    match decide(alloc, &node.question.conj, budget) {
+        Ok(Decision::Empty(tree)) => Ok(Answer::Empty(Some(moved_plan(
+            alloc,
+            &node.placing,
+            &tree,
+        )?))),
+        Ok(Decision::Point(point)) => Ok(Answer::Point(point)),
+        Err(stop) => Err(unfold_stop(stop)),
+    }
+}
+
+/// Whether rows have a point.
+pub(crate) fn found(alloc: Global, conj: &Conj, budget: u64) -> Result<Answer, UnfoldStop> {
+    if !conj.is_well_made() {
+        return Err(UnfoldStop::Memory(AllocError));
+    }
+    match find_point(alloc, conj, budget) {
+        Ok(Decided::Empty(_)) => Ok(Answer::Empty(None)),
+        Ok(Decided::Point(point)) => Ok(Answer::Point(point)),
+        Err(stop) => Err(unfold_stop(stop)),
+    }
+}
+
+/// Whether a question has a point; where plans are made, with the plan that shows that it has none.
+pub(crate) fn asked(
+    alloc: Global,
+    node: &Node,
+    budget: u64,
+    making: bool,
+) -> Result<Answer, UnfoldStop> {
+    if making {
+        decided(alloc, node, budget)
+    } else {
+        found(alloc, &node.question.conj, budget)
+    }
+}
+
+/// The answer to a question without which the search can go on; none where it is wide or spent.
+pub(crate) fn freely(answer: Result<Answer, UnfoldStop>) -> Result<Option<Answer>, UnfoldStop> {
+    match answer {
+        Ok(answer) => Ok(Some(answer)),
+        Err(UnfoldStop::Memory(want)) => Err(UnfoldStop::Memory(want)),
+        Err(_) => Ok(None),
+    }
+}
+
+/// Whether a row stands among the rows of a question.
+#[tactic(auto, using(ac_paths::proofs::Moduli::conj_moduli))]
+pub(crate) fn stands_in(alloc: Global, conj: &Conj, row: &Row) -> Result<bool, AllocError> {
+    if !conj.is_well_made() || !row.has_modulus() {
+        return Ok(false);
+    }
+    stands(alloc, conj.rows.as_slice(), row)
+}

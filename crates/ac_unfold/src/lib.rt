@@ -1,0 +1,17 @@
+//! Unfolding a pair of positions: from the pairs of a start every step is followed to the next recurrence pair or end. What comes
+//! out is either the concrete paths on which the start fails, or a plan for each pair of pieces that a valid proof may have.
+#![tactic(auto)]
+
+mod asking;
+mod branching;
+mod course;
+mod ends;
+mod finding;
+mod grafting;
+mod node;
+mod placing;
+mod starting;
+pub mod types;
+mod unfolding;
+
+pub use starting::{broken_paths, claim_trees};

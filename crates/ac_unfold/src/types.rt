@@ -1,0 +1,47 @@
+use ac_flow::types::Flow;
+use ac_forms::Conj;
+use ac_items::Items;
+use ac_paths::path::Programs;
+use ac_widen::Entry;
+use std::alloc::AllocError;
+
+/// What the search knows of a pair: the models of both programs with the names that the pair declares commutative, and the
+/// exact dataflow of each.
+#[derive(Clone, Copy)]
+pub struct Setting<'a> {
+    pub programs: Programs<'a>,
+    pub left_flow: &'a Flow,
+    pub right_flow: &'a Flow,
+    /// The greatest running cost of a question.
+    pub budget: u64,
+}
+
+/// Why an unfolding has no answer.
+#[derive(Debug, Drop)]
+pub enum UnfoldStop {
+    /// A number of a question leaves `i128`.
+    Overflow(Conj),
+    /// The running cost of a question exceeds the budget.
+    Spent {
+        /// The question.
+        question: Conj,
+        /// The first running cost above the budget.
+        cost: u64,
+    },
+    /// More than 20,000 ends are reached from one start, or a path has more than 2,000 branches; the broken paths that were
+    /// found so far.
+    Paths(Items<Items<Entry>>),
+    /// There was no memory.
+    Memory(AllocError),
+}
+
+impl From<AllocError> for UnfoldStop {
+    ghost use Rattle.std.specs.Prelude.{◌≡◌};
+    ghost use Rattle.ac_unfold.specs.declared.types.UnfoldStop.TheVariants.{Memory};
+
+    ghost from_gives = { λ want e. e ≡ Memory want };
+
+    fn from(want: AllocError) -> UnfoldStop {
+        UnfoldStop::Memory(want)
+    }
+}
