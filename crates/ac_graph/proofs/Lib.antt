@@ -1,0 +1,12 @@
+pub mod Members
+pub mod MarkSteps
+pub mod OutlineSteps
+pub mod Linking
+pub mod MoveSteps
+pub mod PlaceSteps
+pub mod ReachSteps
+pub mod SiteSteps
+pub mod CycleSteps
+pub mod RecurSteps
+pub mod LawSteps
+pub mod GraphSteps

@@ -1,0 +1,60 @@
+use Rattle.std.proofs.Common.{◌∙◌, ◌↔◌, sym, ap, subst, List, ℕ, length}
+use Rattle.ac_syntax.specs.declared.tree.Position.{Position}
+use Rattle.ac_paths.specs.Pairs.{In}
+use Rattle.ac_graph.specs.Moves.{dependences, starts_of}
+use Rattle.ac_graph.specs.Ways.{IsGraph}
+use Rattle.ac_graph.proofs.GraphSteps.{graph_of, recurrent_are, ranks_are, recurring_at, marked_at, falling_at, reached_from}
+use Rattle.ac_graph.proofs.LawSteps.{calls_descend, edges_lead}
+use Rattle.ac_graph.proofs.making.graph.Goals as goal
+
+pub all_reached-requires : goal.all_reached-requires
+all_reached-requires c = c.in_ok-starts.ensures.distinct
+
+pub recurring-requires-clause-graph : goal.recurring-requires-clause-graph
+recurring-requires-clause-graph c =
+    let d = dependences c.args.pair.now c.in_ok-left_edges.left_edges c.in_ok-right_edges.right_edges in
+    let all = c.in_ok-pairs.ensures d (record { programs = c.in_ok-both.ensures; left = c.as_slice.ensures; right = c.as_slice-2.ensures }) in
+    subst (λ (ns : List (List ℕ)). IsGraph ns) (sym c.as_slice-5.ensures) (graph_of d c.in_ok-starts.starts c.in_ok-pairs.field-0.pairs c.in_ok-pairs.field-0.next all)
+
+pub recurring-requires-clause-wide : goal.recurring-requires-clause-wide
+recurring-requires-clause-wide c =
+    let d = dependences c.args.pair.now c.in_ok-left_edges.left_edges c.in_ok-right_edges.right_edges in
+    let all = c.in_ok-pairs.ensures d (record { programs = c.in_ok-both.ensures; left = c.as_slice.ensures; right = c.as_slice-2.ensures }) in
+    ap length c.as_slice-5.ensures ∙ all.each ∙ ap length (sym c.as_slice-4.ensures)
+
+pub ranks-requires : goal.ranks-requires
+ranks-requires c =
+    let d = dependences c.args.pair.now c.in_ok-left_edges.left_edges c.in_ok-right_edges.right_edges in
+    let all = c.in_ok-pairs.ensures d (record { programs = c.in_ok-both.ensures; left = c.as_slice.ensures; right = c.as_slice-2.ensures }) in
+    subst (λ (ns : List (List ℕ)). IsGraph ns) (sym c.as_slice-8.ensures) (graph_of d c.in_ok-starts.starts c.in_ok-pairs.field-0.pairs c.in_ok-pairs.field-0.next all)
+
+pub returns-clause-reachable : goal.returns-clause-reachable
+returns-clause-reachable c =
+    let d = dependences c.args.pair.now c.in_ok-left_edges.left_edges c.in_ok-right_edges.right_edges in
+    let all = c.in_ok-pairs.ensures d (record { programs = c.in_ok-both.ensures; left = c.as_slice.ensures; right = c.as_slice-2.ensures }) in
+    reached_from d c.in_ok-starts.starts (starts_of c.args.pair.now.outputs) c.in_ok-pairs.field-0.pairs c.in_ok-pairs.field-0.next all
+    (subst (λ (os : List ℕ). (p : Position × Position) → In p c.in_ok-starts.starts ↔ In p (starts_of os)) c.as_slice-3.ensures c.in_ok-starts.ensures.starts)
+
+pub returns-clause-distinct : goal.returns-clause-distinct
+returns-clause-distinct c =
+    let d = dependences c.args.pair.now c.in_ok-left_edges.left_edges c.in_ok-right_edges.right_edges in
+    (c.in_ok-pairs.ensures d (record { programs = c.in_ok-both.ensures; left = c.as_slice.ensures; right = c.as_slice-2.ensures })).distinct
+
+pub returns-clause-recurrent : goal.returns-clause-recurrent
+returns-clause-recurrent c =
+    let d = dependences c.args.pair.now c.in_ok-left_edges.left_edges c.in_ok-right_edges.right_edges in
+    let all = c.in_ok-pairs.ensures d (record { programs = c.in_ok-both.ensures; left = c.as_slice.ensures; right = c.as_slice-2.ensures }) in
+    let marks = recurring_at c.in_ok-both.both c.in_ok-pairs.field-0.pairs c.as_slice-4.result.now c.in_ok-pairs.field-0.next c.as_slice-5.result.now c.in_ok-marks.marks c.as_slice-4.ensures c.as_slice-5.ensures c.in_ok-marks.ensures in
+    recurrent_are d c.in_ok-both.both c.in_ok-starts.starts c.in_ok-pairs.field-0.pairs c.in_ok-recurrent.recurrent c.in_ok-pairs.field-0.next c.in_ok-marks.marks c.in_ok-both.ensures all marks
+    (marked_at c.in_ok-pairs.field-0.pairs c.as_slice-6.result.now c.in_ok-recurrent.recurrent c.in_ok-marks.marks c.as_slice-7.result.now c.as_slice-6.ensures c.as_slice-7.ensures c.in_ok-recurrent.ensures)
+
+pub returns-clause-ranks : goal.returns-clause-ranks
+returns-clause-ranks c =
+    let d = dependences c.args.pair.now c.in_ok-left_edges.left_edges c.in_ok-right_edges.right_edges in
+    let all = c.in_ok-pairs.ensures d (record { programs = c.in_ok-both.ensures; left = c.as_slice.ensures; right = c.as_slice-2.ensures }) in
+    let marks = recurring_at c.in_ok-both.both c.in_ok-pairs.field-0.pairs c.as_slice-4.result.now c.in_ok-pairs.field-0.next c.as_slice-5.result.now c.in_ok-marks.marks c.as_slice-4.ensures c.as_slice-5.ensures c.in_ok-marks.ensures in
+    let recurrent = recurrent_are d c.in_ok-both.both c.in_ok-starts.starts c.in_ok-pairs.field-0.pairs c.in_ok-recurrent.recurrent c.in_ok-pairs.field-0.next c.in_ok-marks.marks c.in_ok-both.ensures all marks
+    (marked_at c.in_ok-pairs.field-0.pairs c.as_slice-6.result.now c.in_ok-recurrent.recurrent c.in_ok-marks.marks c.as_slice-7.result.now c.as_slice-6.ensures c.as_slice-7.ensures c.in_ok-recurrent.ensures) in
+    ranks_are d c.in_ok-both.both c.in_ok-starts.starts c.in_ok-pairs.field-0.pairs c.in_ok-recurrent.recurrent c.in_ok-pairs.field-0.next c.in_ok-marks.marks c.in_ok-ranks.ranks c.in_ok-both.ensures all marks recurrent
+    (falling_at c.in_ok-pairs.field-0.next c.as_slice-8.result.now c.in_ok-marks.marks c.as_slice-9.result.now c.in_ok-ranks.ranks c.as_slice-8.ensures c.as_slice-9.ensures c.in_ok-ranks.ensures)
+    (calls_descend c.args.pair.now.left c.args.pair.now.context) (edges_lead c.args.left.now c.in_ok-left_edges.left_edges c.in_ok-left_edges.ensures) (edges_lead c.args.right.now c.in_ok-right_edges.right_edges c.in_ok-right_edges.ensures)

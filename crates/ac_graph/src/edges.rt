@@ -1,0 +1,133 @@
+//! The edges of a program, from its flow.
+ghost use Rattle.std.specs.Prelude.{◌≡◌, ◌↔◌, IfOk, OnOk, Option, Some, MatchOption, slice_get};
+ghost use Rattle.ac_syntax.specs.declared.tree.Position.{Position};
+ghost use Rattle.ac_paths.specs.Pairs.{In};
+ghost use Rattle.ac_paths.specs.Places.{initial_of};
+ghost use Rattle.ac_graph.specs.Moves.{IsEdge, target};
+ghost use Rattle.ac_graph.specs.Spreading.{same_position, same_pair, IsMore, IsEdgeOf, IsEdgeOfOne, IsEdgeAmong};
+
+use ac_flow::types::{Case, Flow};
+use ac_items::Items;
+use ac_syntax::tree::Position;
+use std::alloc::{AllocError, Global};
+
+/// The position of the initial contents of what is read.
+fn initial_of(position: &Position) -> Position
+    ensures { result ≡ initial_of position.now }
+{
+    match position {
+        Position::Output(array) => Position::InitialOutput(*array),
+        Position::Node { stmt, node } => Position::InitialNode {
+            stmt: *stmt,
+            node: *node,
+        },
+        Position::InitialOutput(array) => Position::InitialOutput(*array),
+        Position::InitialNode { stmt, node } => Position::InitialNode {
+            stmt: *stmt,
+            node: *node,
+        },
+    }
+}
+
+/// Where a case leads: to the root of its source, or to the initial position.
+fn target(position: &Position, case: &Case) -> Position
+    ensures { result ≡ target position.now case.now.source }
+{
+    match case.source {
+        Some(stmt) => Position::Node { stmt, node: 0 },
+        None => initial_of(position),
+    }
+}
+
+/// Whether two positions are one.
+pub(crate) fn same(first: &Position, second: &Position) -> bool
+    ensures { result ≡ same_position first.now second.now }
+{
+    match (first, second) {
+        (Position::Output(o), Position::Output(p)) => *o == *p,
+        (Position::Node { stmt: s, node: k }, Position::Node { stmt: t, node: l }) => {
+            *s == *t && *k == *l
+        }
+        (Position::InitialOutput(o), Position::InitialOutput(p)) => *o == *p,
+        (Position::InitialNode { stmt: s, node: k }, Position::InitialNode { stmt: t, node: l }) =>
+            *s == *t && *k == *l,
+        _ => false,
+    }
+}
+
+/// Whether two pairs of positions are one.
+fn same_pair(first: &(Position, Position), second: &(Position, Position)) -> bool
+    ensures { result ≡ same_pair first.now second.now }
+{
+    same(&first.0, &second.0) && same(&first.1, &second.1)
+}
+
+/// The place of a pair in a list, if it stands there.
+pub(crate) fn place(pairs: &[(Position, Position)], pair: &(Position, Position)) -> Option<usize>
+    ensures { MatchOption result (¬ (In pair.now pairs.now)) (λ at. slice_get pairs.now at ≡ Some pair.now) }
+{
+    for at in 0..pairs.len() {
+        if same_pair(&pairs[at], pair) {
+            return Some(at);
+        }
+    }
+    None
+}
+
+/// Adds a pair, unless it stands in the list.
+fn push_new(
+    pairs: &mut Items<(Position, Position)>,
+    pair: (Position, Position),
+) -> Result<(), AllocError>
+    ensures { OnOk result (IsMore (λ q. q ≡ pair) pairs.old pairs.new) }
+{
+    match place(pairs.as_slice(), &pair) {
+        Some(_) => Ok(()),
+        None => {
+            pairs.push(pair)?;
+            Ok(())
+        }
+    }
+}
+
+/// Adds the edge of a case, if it is left somewhere.
+fn push_edge(
+    position: &Position,
+    case: &Case,
+    out: &mut Items<(Position, Position)>,
+) -> Result<(), AllocError>
+    ensures { OnOk result (IsMore (IsEdgeOfOne position.now case.now) out.old out.new) }
+{
+    if case.pieces.is_empty() {
+        Ok(())
+    } else {
+        push_new(out, (*position, target(position, case)))?;
+        Ok(())
+    }
+}
+
+/// Adds the edges of a read or an output with these cases.
+fn push_edges(
+    position: &Position,
+    cases: &[Case],
+    out: &mut Items<(Position, Position)>,
+) -> Result<(), AllocError>
+    ensures { OnOk result (IsMore (IsEdgeOf position.now cases.now) out.old out.new) }
+{
+    for case in cases {
+        push_edge(position, case, out)?;
+    }
+    Ok(())
+}
+
+/// The edges of a program with this flow.
+pub(crate) fn edges(alloc: Global, flow: &Flow) -> Result<Items<(Position, Position)>, AllocError>
+    ensures { IfOk result (λ made. (p q : Position) → In (p, q) made ↔ IsEdge flow.now p q) }
+{
+    let mut out = Items::new(alloc);
+    let reads = flow.reads.as_slice();
+    for read in reads {
+        push_edges(&read.position, read.cases.as_slice(), &mut out)?;
+    }
+    Ok(out)
+}
