@@ -68,6 +68,13 @@ impl Hull {
         }
     }
 
+    /// How many numbers a point has.
+    pub fn columns(&self) -> usize
+        ensures { result ≡ self.now.columns }
+    {
+        self.columns
+    }
+
     /// The kept members, in the order in which they came.
     pub fn members(&self) -> &[Items<i128>]
         ensures { result.now ≡ self.now.members }

@@ -97,6 +97,14 @@ impl Orders {
         self.refuted.as_slice()
     }
 
+    /// The refuted partial orders, in the order in which they came, without taking memory.
+    pub fn into_refuted(self) -> Items<Refuted>
+        ensures { result ≡ self.refuted }
+    {
+        let Orders { refuted, .. } = self;
+        refuted
+    }
+
     /// An order of all sites that extends no refuted one; `Done` exactly where each order extends one; `Spent` exactly
     /// where there are more than 10 sites, 1,024 or more orders were refuted, and `Done` does not come.
     pub fn next(&self, alloc: Global) -> Result<Next, AllocError>

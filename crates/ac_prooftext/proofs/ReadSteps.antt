@@ -1,5 +1,6 @@
 -- A text whose lines are read to a proof.
-use Rattle.std.proofs.Common.{◌≡◌, ◌⊎◌, inl, inr, ⊎_elim, ℕ, ◌+◌, ◌<◌, ◌≤◌, ◌^◌, Bool, List, [], ◌∷◌, ◌++◌, map, length, Option, None, Some, refl, sym, ap, subst, ◌∙◌, arith, length-map, append-nil}
+use Rattle.std.proofs.Common.{◌≡◌, ⊎_elim, ℕ, ◌+◌, ◌<◌, ◌^◌, Bool, List, [], ◌∷◌, ◌++◌, map, length, Option, None, Some, refl, sym, ap, subst, ◌∙◌, arith, append-nil}
+use Rattle.std.proofs.lemmas.List.{length-map}
 use Rattle.std.specs.Prelude.{is_some}
 use Rattle.std.specs.List.{AllByRecursion}
 use Rattle.std.specs.declared.alloc.Global.{Global}
@@ -12,7 +13,7 @@ use Rattle.ac_proofitems.specs.Words.{IsFree}
 use Rattle.ac_prooftext.specs.Building.{Taken, AreTaken, unread, HasParts, SameProof, IsRead, IsReadingBy, IsReading, IsReadFault}
 use Rattle.ac_prooftext.specs.Laws.{AreRising}
 use Rattle.ac_prooftext.specs.Lines.{IsBroken, IsWithin, IsAfter, Took, Gave}
-use Rattle.ac_prooftext.specs.Texts.{format_line, ended, lines_text, items_text, lines_in, text_of, capped, IsNesting, IsSpelledProof, proof_text}
+use Rattle.ac_prooftext.specs.Texts.{format_line, lines_text, items_text, lines_in, text_of, capped, IsNesting, IsSpelledProof, proof_text}
 use Rattle.ac_prooftext.specs.declared.lines.LineReader.{LineReader}
 use Rattle.ac_prooftext.specs.declared.lines.Reading.{Reading}
 use Rattle.ac_prooftext.specs.declared.lines.Reading.TheVariants.{Unopened, Within, Faulty}
@@ -118,11 +119,10 @@ module _ (a : Global) (text rest : List ℕ) (ls : List (List ℕ)) (r : LineRea
   lines = same.lines ∙ found.lines_are
 
   pub spelled_read : IsSpelledProof q × (text ≡ proof_text q)
-  spelled_read =
-      (
-        record { items = subst (AllByRecursion IsSpellable) (sym lines) read.within.begin.0; branches = same.branches; outputs = subst (AreRising None) (sym same.outputs) found.rising },
-        text_is ∙ (λ i. text_of (sym (ap (λ (o : Option _). is_some o) same.heads ∙ found.shapes_are) i) (sym lines i)),
-      )
+  spelled_read = (
+    record { items = subst (AllByRecursion IsSpellable) (sym lines) read.within.begin.0; branches = same.branches; outputs = subst (AreRising None) (sym same.outputs) found.rising },
+    text_is ∙ (λ i. text_of (sym (ap (λ (o : Option _). is_some o) same.heads ∙ found.shapes_are) i) (sym lines i)),
+  )
 
   pub same_read : (p : Proof) → IsSpelledProof p → text ≡ proof_text p → SameProof p q
   same_read p sp e =
@@ -132,6 +132,6 @@ module _ (a : Global) (text rest : List ℕ) (ls : List (List ℕ)) (r : LineRea
 
 pub faulty_read : (a : Global) (text rest : List ℕ) (ls : List (List ℕ)) (r : LineReader) (b : ProofReader) (line : ℕ) → text ≡ lines_text ls ++ rest → IsReading a ls r b → AllByRecursion (IsFree 10) ls → IsFree 10 rest
     → ¬ ((r.reading ≡ Within) × (r.outline.stage ≡ stage.Done) × (rest ≡ [])) → line ≡ capped (r.lines + 1) → IsReadFault text (Line line)
-faulty_read a text rest ls r b line is h lines free cut_short e =
-    let n : IsNesting text r.deepest (Some (capped (r.lines + 1))) = subst (λ t. IsNesting t r.deepest (Some (capped (r.lines + 1)))) (sym is) (incomplete r rest free cut_short ls (took_by a ls r b h) lines) in
-    (n.0, (n.1, (n.2.0, e ∙ n.2.1)))
+faulty_read a text rest ls r b line is h each free cut_short e =
+    let n : IsNesting text r.deepest (Some (capped (r.lines + 1))) = subst (λ t. IsNesting t r.deepest (Some (capped (r.lines + 1)))) (sym is) (incomplete r rest free cut_short ls (took_by a ls r b h) each) in
+    (n.0, n.1, (n.2.0, e ∙ n.2.1))

@@ -1,6 +1,6 @@
 -- The lines of a spelled proof are read to a proof with these lines.
-use Rattle.std.proofs.Common.{◌≡◌, ◌⊎◌, ⊎_elim, ℕ, zero, suc, ◌+◌, ◌-◌, ◌<◌, ◌≤◌, ◌^◌, ℤ, pos, List, [], ◌∷◌, ◌++◌, map, length, Bool, Option, Some, None, refl, sym, ap, ◌∙◌, subst, arith, append_assoc, append-nil, length-append}
-use Rattle.std.specs.Prelude.{unsigned_abs, is_some}
+use Rattle.std.proofs.Common.{◌≡◌, ⊎_elim, ℕ, suc, ◌+◌, ◌-◌, ◌<◌, List, [], ◌∷◌, ◌++◌, map, length, Option, Some, None, refl, sym, ap, ◌∙◌, subst, arith, append_assoc, append-nil, length-append}
+use Rattle.std.specs.Prelude.{unsigned_abs}
 use Rattle.std.specs.List.{flat_map, AllByRecursion}
 use Rattle.std.specs.declared.alloc.Global.{Global}
 use Rattle.ac_forms.specs.Affine.{Affine}
@@ -22,9 +22,8 @@ use Rattle.ac_claims.specs.declared.types.Plan.{Plan}
 use Rattle.ac_claims.specs.declared.types.PlanNext.{PlanNext, Split', Residue', Go', Row_of-Plan, end_of-Plan, more_of-Plan}
 use Rattle.ac_claims.specs.declared.types.PlanNext.TheVariants.{Absurd, Killed, Hit, SameNumber, SameInitial}
 use Rattle.ac_claims.specs.declared.types.Proof.{Proof}
-use Rattle.ac_claims.proofs.ProofFolding.{with_rows, last_is}
-use Rattle.ac_prooftext.specs.Building.{IsSpelledPlan, Fills, IsNext, Opened, inner, with_child, IsWhole, Closes, EndsWith, Branches, kill_lines, with_choice, Copied, Chosen, TakesItem, name_of, with_trees, with_point, with_heads, with_claims, with_outputs, with_name, with_plan, TakenInPlan, Taken, AreTaken, unread, HasParts, SameProof}
-use Rattle.ac_prooftext.specs.declared.plan_reader.PlanReader.{PlanReader}
+use Rattle.ac_claims.proofs.ProofFolding.{last_is}
+use Rattle.ac_prooftext.specs.Building.{IsSpelledPlan, Fills, Opened, inner, with_child, IsWhole, Closes, EndsWith, Branches, kill_lines, with_choice, Copied, Chosen, name_of, with_point, with_heads, with_claims, with_outputs, with_name, with_plan, TakenInPlan, AreTaken, unread, HasParts, SameProof}
 use Rattle.ac_prooftext.specs.declared.proof_reader.ProofReader.{ProofReader}
 use Rattle.ac_prooftext.specs.declared.proof_reader.TreeName.{TreeName}
 
@@ -226,7 +225,8 @@ branched : {w : _} (all : Row_of-Plan w) (x : Item) (rest : List Item) (b m e : 
     → Onward b.plan.steps x (count_of all) (row_items all rest) (row_items all []) rest (inner b.plan.branches) e → PlanTaken b.plan.steps (x ∷ row_items all []) rest b e
 branched end_of-Plan x rest b m e o h same fills on go = ending (x ∷ []) rest b m e o h same on
 branched (more_of-Plan s t all) x rest b m e o h same fills on go =
-    let r = go [] m h.1 h.2 (omega arith) tt fills on in
+    let more : suc (count_of all) ≡ 0 + suc (count_of all) = omega arith in
+    let r = go [] m h.1 h.2 (omega arith) tt (subst (Fills x) more fills) on in
     record {
       plan = r.plan;
       steps_are = r.steps_are;
@@ -255,7 +255,7 @@ split_taken f s t l r rest b m e o h same p q =
       plan = n.0;
       steps_are = n.1.0.0;
       items_are = n.1.0.1.items ∙ split_of f p.plan q.plan (step_items s (next_items l [])) last (items_as p.plan s l p.steps_are p.items_are) (items_as q.plan t r q.steps_are q.items_are) ∙ ap (λ z. item.Split f ∷ z) (sym (before s l (next_before l) last));
-      spelled = n.1.0.1.spelled (p.spelled, q.spelled, tt) tt;
+      spelled = n.1.0.1.spelled (p.spelled, (q.spelled, tt)) tt;
       behind = q.behind;
       whole = q.whole;
       closes = n.1.1;
@@ -420,8 +420,7 @@ rows_taken (r ∷ rs) rest cs P Q done b e is h =
     let m = h.0 in
     let taken : m ≡ with_claims b (with_last b.claims r) = h.1.0 in
     let last : with_last b.claims r ≡ cs ++ claim_by P Q (done ++ r ∷ []) ∷ [] = ap (λ z. with_last z r) is ∙ last_is cs (claim_by P Q done) r in
-    let t = rows_taken rs rest cs P Q (done ++ r ∷ []) m e (ap (λ (z : ProofReader). z.claims) taken ∙ last) h.1.1 in
-    (
+    let t = rows_taken rs rest cs P Q (done ++ r ∷ []) m e (ap (λ (z : ProofReader). z.claims) taken ∙ last) h.1.1 in (
       t.0,
       (t.1.0 ∙ ap (λ (z : ProofReader). with_claims z (cs ++ claim_by P Q ((done ++ r ∷ []) ++ rs) ∷ [])) taken ∙ ap (λ z. with_claims b (cs ++ claim_by P Q z ∷ [])) (append_assoc done (r ∷ []) rs), t.1.1),
     )

@@ -40,6 +40,7 @@ pub enum Joined {
 }
 
 /// A branch by the sign of a form.
+#[tactic(auto, using(crate::proofs::Joining::join_steps))]
 pub fn split_next(
     alloc: Global,
     form: Form,
@@ -54,6 +55,7 @@ pub fn split_next(
 }
 
 /// A branch by the residue of a form.
+#[tactic(auto, using(crate::proofs::Joining::join_steps))]
 pub fn residue_next(modulus: i128, form: Form, children: Items<Plan>) -> PlanNext
     ensures { IsNext (item.Residue modulus form) children result }
 {
@@ -61,6 +63,7 @@ pub fn residue_next(modulus: i128, form: Form, children: Items<Plan>) -> PlanNex
 }
 
 /// A step of the pair.
+#[tactic(auto, using(crate::proofs::Joining::join_steps))]
 pub fn go_next(order: Order, children: Items<Plan>) -> PlanNext
     ensures { IsNext (item.Go order (length children)) children result }
 {
@@ -71,6 +74,7 @@ pub fn go_next(order: Order, children: Items<Plan>) -> PlanNext
 }
 
 /// Adds a child to a branch by the residue of a form, of which so many are to come.
+#[tactic(auto, using(crate::proofs::Joining::join_steps))]
 fn join_residue(
     steps: Items<Step>,
     modulus: i128,
@@ -92,6 +96,7 @@ fn join_residue(
 }
 
 /// Adds a child to a step of the pair, of which so many are to come.
+#[tactic(auto, using(crate::proofs::Joining::join_steps))]
 fn join_go(
     steps: Items<Step>,
     order: Order,
@@ -112,6 +117,7 @@ fn join_go(
 }
 
 /// Adds a child to a branch.
+#[tactic(auto, using(crate::proofs::Joining::join_steps))]
 pub fn join(alloc: Global, branch: OpenBranch, child: Plan) -> Result<Joined, AllocError>
     ensures { IfOk result (IsJoined (opened_of branch) child) }
 {

@@ -76,6 +76,7 @@ impl PlanReader {
     }
 
     /// Opens a branch.
+    #[tactic(auto, using(crate::proofs::Joining::read_steps))]
     fn open_branch(&mut self, fork: Fork) -> Result<(), AllocError>
         ensures { IfOk result (λ _. (inner self.new.branches ≡ opened_by self.old.steps fork ∷ inner self.old.branches) × (self.new.steps ≡ [])) }
     {
@@ -84,6 +85,7 @@ impl PlanReader {
     }
 
     /// Takes a branch by the residue of a form.
+    #[tactic(auto, using(crate::proofs::Joining::read_steps))]
     fn take_residue(&mut self, modulus: i128, form: Form) -> Result<Option<Plan>, AllocError>
         ensures { IfOk result (Branches (item.Residue modulus form) (unsigned_abs modulus) self.old self.new) }
     {
@@ -97,6 +99,7 @@ impl PlanReader {
     }
 
     /// Takes a step of the pair.
+    #[tactic(auto, using(crate::proofs::Joining::read_steps))]
     fn take_go(&mut self, order: Order, cases: usize) -> Result<Option<Plan>, AllocError>
         ensures { IfOk result (Branches (item.Go order cases) cases self.old self.new) }
     {
@@ -109,6 +112,7 @@ impl PlanReader {
     }
 
     /// Takes a copy, of which so many choices are to come.
+    #[tactic(auto, using(crate::proofs::Joining::read_steps))]
     fn take_kill(&mut self, kill: Kill, choices: usize) -> Result<Option<Plan>, AllocError>
         ensures { IfOk result (Copied kill choices self.old self.new) }
     {
@@ -131,6 +135,7 @@ impl PlanReader {
     }
 
     /// Takes a line. The plan, where it is complete with that.
+    #[tactic(auto, using(crate::proofs::Joining::read_steps))]
     pub fn take(&mut self, item: Item) -> Result<Option<Plan>, AllocError>
         ensures { IfOk result (TakesItem item self.old self.new) }
     {

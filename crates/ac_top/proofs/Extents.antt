@@ -12,12 +12,11 @@ use Rattle.ac_syntax.specs.declared.tree.Array.{Array}
 use Rattle.ac_syntax.specs.declared.tree.IndexExpr.{IndexExpr}
 use Rattle.ac_syntax.specs.declared.tree.Pair.{Pair}
 use Rattle.ac_syntax.specs.declared.tree.Program.{Program}
-use Rattle.ac_syntax.specs.declared.tree.Slot.{Slot}
 use Rattle.ac_syntax.specs.declared.tree.Slot.TheVariants as slot
 use Rattle.ac_grammar.specs.declared.tree.Declared.{Declared}
 use Rattle.ac_rules.specs.Declarations.{is_whole, count, slots_from}
 use Rattle.ac_rules.specs.Numbers.{array_numbers}
-use Rattle.ac_parse.specs.Pairing.{with_later, significant, Extent, extent_of, Shape, shape_of, Parameter, integer_named, array_shaped, parameter_at, signature, is_output, IsPairOf}
+use Rattle.ac_parse.specs.Pairing.{with_later, significant, Extent, extent_of, Shape, shape_of, Parameter, integer_named, array_shaped, parameter_at, is_output, IsPairOf}
 use Rattle.ac_parse.specs.Program.{IsProgramOf}
 
 -- coefficients behind the last one that is not 0 add nothing

@@ -1,12 +1,12 @@
 -- Runs at a valuation: their lines, the halts that are due, and what is known where all outcomes are equal.
-use Rattle.std.proofs.Common.{◌≡◌, ℕ, zero, suc, ◌+◌, ◌<◌, ℤ, List, [], ◌∷◌, ◌++◌, length, map, take, min, Contains, slice_index_or, Bool, true, false, ◌&&◌, if◌then◌else◌, nat_lt, Option, None, Some, IfSome, MatchOption, Vec, Result, Ok, Err, refl, sym, ap, subst, ◌∙◌, arith}
+use Rattle.std.proofs.Common.{◌≡◌, ℕ, zero, suc, ◌+◌, ◌<◌, ℤ, List, [], ◌∷◌, ◌++◌, length, take, min, Contains, slice_index_or, Bool, true, false, ◌&&◌, if◌then◌else◌, nat_lt, Option, None, Some, IfSome, MatchOption, Vec, Ok, Err, refl, sym, ap, subst, ◌∙◌, arith}
 use Rattle.std.specs.Prelude.{option_and_then, option_map}
 use Rattle.std.specs.Global.{Global}
 use Rattle.std.specs.List.{list_all, list_any}
 use Rattle.std.proofs.lemmas.List.{append_assoc, append-nil, take_more, length-take, length-map}
 use Rattle.ac_syntax.specs.Checked.{checked_value, checked_holds}
 use Rattle.ac_syntax.specs.Index.{Point, point, index_value, rel_holds, comparison_holds}
-use Rattle.ac_syntax.specs.Outputs.{IsValuation, IsElement, SameAt, SameTermsAt, input_at, swaps_of}
+use Rattle.ac_syntax.specs.Outputs.{input_at, swaps_of}
 use Rattle.ac_syntax.specs.Where.{element}
 use Rattle.ac_syntax.specs.declared.tree.Array.{Array}
 use Rattle.ac_syntax.specs.declared.tree.Comparison.{Comparison}
@@ -23,8 +23,8 @@ use Rattle.ac_instance.specs.declared.halt.Outcome.{Outcome}
 use Rattle.ac_instance.specs.declared.halt.Outcome.TheVariants.{Equal, Different}
 use Rattle.ac_words.specs.Valuations.{IsValuationWord, given_to}
 use Rattle.ac_top.specs.Reports.{Report, report as a_report}
-use Rattle.ac_top.specs.Runs.{IsGiven, is_different, status_of, RunReports, outside, too_large, range, ran, InstanceReports, not_a_valuation, at_valuation, IsTheSameAt, EqualIsSame, IsReadyPair, HaltReports, of_side}
-use Rattle.ac_top.specs.Texts.{name_at, outcome_line, outcome_lines, outside_context_line, too_large_line, range_line}
+use Rattle.ac_top.specs.Runs.{IsGiven, is_different, status_of, RunReports, outside, too_large, range, ran, InstanceReports, not_a_valuation, at_valuation, IsTheSameAt, EqualIsSame, IsReadyPair, HaltReports}
+use Rattle.ac_top.specs.Texts.{name_at, outcome_line, outcome_lines, too_large_line}
 use Rattle.ac_top.specs.declared.status.Status.TheVariants as status
 
 -- lines of outcomes, one after another

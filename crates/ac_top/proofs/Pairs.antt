@@ -1,34 +1,21 @@
 -- What is known of a pair of two programs that were read.
-use Rattle.std.proofs.Common.{◌≡◌, ℕ, suc, List, [], ◌∷◌, ◌++◌, length, map, filter, true, refl, sym, ap, subst, ◌∙◌}
-use Rattle.std.specs.List.{list_all, AllByRecursion, range_with_len}
+use Rattle.std.proofs.Common.{◌≡◌, ℕ, suc, List, [], ◌∷◌, ◌++◌, length, map, refl, sym, ap, ◌∙◌}
 use Rattle.std.proofs.lemmas.List.FromFn.{length-range_with_len}
-use Rattle.ac_syntax.specs.Outputs.{input_at}
-use Rattle.ac_syntax.specs.Small.{IsSmallForm, AreSmallParts, IsSmallPair}
+use Rattle.ac_syntax.specs.Small.{AreSmallParts, IsSmallPair}
 use Rattle.ac_syntax.specs.declared.tree.Comparison.{Comparison}
 use Rattle.ac_syntax.specs.declared.tree.Slot.{Slot}
 use Rattle.ac_syntax.specs.declared.tree.Slot.TheVariants as slot
 use Rattle.ac_syntax.specs.declared.tree.Program.{Program}
 use Rattle.ac_syntax.specs.declared.tree.Pair.{Pair}
-use Rattle.ac_rules.specs.Numbers.{param_numbers, array_numbers, HasInputs, ListsItsParameters}
+use Rattle.ac_rules.specs.Numbers.{param_numbers, ListsItsParameters}
 use Rattle.ac_parse.specs.Program.{IsProgramOf}
-use Rattle.ac_parse.specs.Pairing.{Parameter, integer_named, array_shaped, parameter_at, signature, is_output, IsPairOf}
+use Rattle.ac_parse.specs.Pairing.{Parameter, integer_named, array_shaped, parameter_at, signature, IsPairOf}
 use Rattle.ac_top.specs.Runs.{IsReadyPair}
 use Rattle.ac_top.specs.Stages.{IsRead, IsReadPair}
-use Rattle.ac_top.specs.Verdicts.{IsJoined}
 use Rattle.ac_top.proofs.Extents.{same_extents}
-use Rattle.ac_top.proofs.Inputs.{all_of_filter}
 
-joined_pair : (left right : Program) (pair : Pair) → IsPairOf left right pair → IsJoined pair
-joined_pair left right pair is = record {
-  context = is.context ∙ ap (λ (p : Program). p.context.parts ++ right.context.parts) (sym is.left_is) ∙ ap (λ (p : Program). pair.left.context.parts ++ p.context.parts) (sym is.right_is);
-  commutative = is.commutative ∙ ap (λ (p : Program). p.commutative ++ right.commutative) (sym is.left_is) ∙ ap (λ (p : Program). pair.left.commutative ++ p.commutative) (sym is.right_is);
-}
-
-input_outputs : (left right : Program) (pair : Pair) → IsPairOf left right pair → HasInputs left → list_all (input_at pair.left.arrays) pair.outputs ≡ true
-input_outputs left right pair is h =
-    subst (λ os. list_all (input_at pair.left.arrays) os ≡ true) (sym is.outputs)
-    (subst (λ (p : Program). list_all (input_at p.arrays) (filter (is_output left right) (array_numbers left.slots)) ≡ true) (sym is.left_is)
-    (all_of_filter (input_at left.arrays) (is_output left right) (array_numbers left.slots) h))
+joined_context : (left right : Program) (pair : Pair) → IsPairOf left right pair → pair.context.parts ≡ pair.left.context.parts ++ pair.right.context.parts
+joined_context left right pair is = is.context ∙ ap (λ (p : Program). p.context.parts ++ right.context.parts) (sym is.left_is) ∙ ap (λ (p : Program). pair.left.context.parts ++ p.context.parts) (sym is.right_is)
 
 -- the integers of a signature
 abbrev integers : List Parameter → ℕ
@@ -66,8 +53,7 @@ small_pair left right pair is l r = record {
 
 pub read_pair : (first second : List ℕ) (left right : Program) (pair : Pair) → IsProgramOf first left → IsProgramOf second right → IsPairOf left right pair → IsRead left → IsRead right → IsReadPair pair
 read_pair first second left right pair h k is l r = record {
-  joined = joined_pair left right pair is;
-  inputs = input_outputs left right pair is l.inputs;
+  context = joined_context left right pair is;
   ready = ready_pair left right pair is l r;
   extents = same_extents first second left right pair h k is;
   small = small_pair left right pair is l r;

@@ -1,12 +1,13 @@
 -- Reads, one after the other, and files that are read in parts.
-use Rattle.std.proofs.Common.{◌≡◌, ◌≤◌, ◌<◌, ℕ, zero, suc, ◌+◌, ◌-◌, List, [], ◌∷◌, ◌++◌, length, take, drop, min, replicate, length-append, length-drop, map, Bool, true, false, Option, Some, None, option_map, IfSome, IsSomeAnd, refl, sym, ap, subst, ◌∙◌, arith}
+use Rattle.std.proofs.Common.{◌≡◌, ◌≤◌, ◌<◌, ℕ, zero, suc, ◌+◌, ◌-◌, List, [], ◌∷◌, ◌++◌, length, take, drop, min, replicate, length-append, length-drop, Option, Some, None, option_map, IfSome, IsSomeAnd, refl, sym, ap, subst, ◌∙◌, arith}
 use Rattle.std.specs.FinMap.{get}
 use Rattle.std.proofs.lemmas.List.{append_assoc, append-nil, take_all, length-take, replicate-append-replicate}
 use Rattle.std.proofs.Math.Seq.{take-add}
 use Rattle.ac_port.specs.Contents.{Contents, part_of}
 use Rattle.ac_syntax.specs.declared.tree.Pair.{Pair}
 use Rattle.ac_prooftext.specs.declared.checker.Checker.{Checker}
-use Rattle.ac_top.specs.Answers.{IsStream, stream_limit, PairReports, SourceReports, refused, paired, CheckReports, proof_unread, tested}
+use Rattle.ac_top.specs.Answers.{IsStream, stream_limit, SourceReports, refused, paired, CheckReports, proof_unread, tested}
+use Rattle.ac_top.specs.Proving.{ProveReports}
 use Rattle.ac_top.specs.Reads.{AreRead, no_read, one_more, Fails}
 use Rattle.ac_top.specs.Reports.{Report}
 use Rattle.ac_top.specs.Runs.{InstanceReports}
@@ -28,12 +29,12 @@ module _ {Files : Type 0} (makes : Files → List ℕ → Files → Type 0) (fau
 -- what is reported of a pair, where the reads that fail are told otherwise
 pub task_on : (task : Task) (files : Option Contents) (f g : List ℕ → ℕ → Type 0) → ((name : List ℕ) (count : ℕ) → f name count → g name count) → (a b x y : List ℕ) (pair : Pair) (r : Report)
     → TaskReports task files f a b x y pair r → TaskReports task files g a b x y pair r
-task_on Prove files f g on a b x y pair r h = h
+task_on (Prove budget proof) files f g on a b x y pair r h = h
 task_on (Check proof) files f g on a b x y pair _ (proof_unread count h) = proof_unread count (on proof.now count h)
 task_on (Check proof) files f g on a b x y pair r (tested stream _ is h) = tested stream r is h
 task_on (Instance at limit) files f g on a b x y pair r h = h
 
-pub task_prove : (task : Task) (files : Option Contents) (fails : List ℕ → ℕ → Type 0) (a b x y : List ℕ) (pair : Pair) (r : Report) → task ≡ Prove → PairReports a b pair r → TaskReports task files fails a b x y pair r
+pub task_prove : (task : Task) {budget : _} {proof : _} (files : Option Contents) (fails : List ℕ → ℕ → Type 0) (a b x y : List ℕ) (pair : Pair) (r : Report) → task ≡ Prove budget proof → ProveReports pair (option_map (λ w. w.now) proof) r → TaskReports task files fails a b x y pair r
 task_prove task files fails a b x y pair r is h = subst (λ t. TaskReports t files fails a b x y pair r) (sym is) h
 
 pub task_check : (task : Task) {proof : _} (files : Option Contents) (fails : List ℕ → ℕ → Type 0) (a b x y : List ℕ) (pair : Pair) (r : Report) → task ≡ Check proof → CheckReports files (fails proof.now) proof.now pair r → TaskReports task files fails a b x y pair r

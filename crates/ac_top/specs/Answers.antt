@@ -1,9 +1,9 @@
 -- What the program answers: from its words and the files that they name to a status and a text.
-use Rattle.std.specs.Prelude.{◌≡◌, ◌≤◌, ℕ, List, [], ◌∷◌, ◌++◌, length, take, replicate, true, false, Option, Some, IfSome, IsSomeAnd, option_map, Ok, Err, Vec}
+use Rattle.std.specs.Prelude.{◌≡◌, ◌≤◌, ℕ, List, [], ◌∷◌, ◌++◌, length, take, replicate, Option, Some, None, IfSome, IsSomeAnd, option_map, Ok, Err, Vec}
 use Rattle.std.specs.Global.{Global}
-use Rattle.std.specs.FinMap.{get}
+use Rattle.std.specs.FinMap.{get, insert}
 use Rattle.std.specs.List.{Contains, AllByRecursion}
-use Rattle.ac_port.specs.Contents.{Contents, IsTooBig}
+use Rattle.ac_port.specs.Contents.{Contents, IsTooBig, IsSameBut}
 use Rattle.ac_cert.specs.declared.types.Rule.{Rule}
 use Rattle.ac_claims.specs.Soundness.{AreModels, pairing_of}
 use Rattle.ac_poly.specs.declared.types.Model.{Model}
@@ -20,23 +20,15 @@ use Rattle.ac_parse.specs.Program.{IsProgramOf}
 use Rattle.ac_parse.specs.Pairing.{IsPairOf, HasPairFault}
 use Rattle.ac_parse.specs.declared.faults.PairFault.TheVariants.{Signature, NoOutput}
 use Rattle.ac_parse.specs.declared.faults.SourceFault.{SourceFault}
-use Rattle.ac_words.specs.Commands.{Asked, prove, check_of, instance_of, IsCommand, HasForm}
-use Rattle.ac_top.specs.Reports.{Report, report}
+use Rattle.ac_words.specs.Commands.{Asked, prove, check_of, instance_of, flow_of, IsCommand, HasForm}
+use Rattle.ac_flow.specs.declared.types.Flow.{Flow}
+use Rattle.ac_top.specs.Flows.{FlowReports, IsFlowOf}
+use Rattle.ac_top.specs.Reports.{Report, report, ProofFile}
 use Rattle.ac_top.specs.Runs.{InstanceReports, IsTheSameAt}
-use Rattle.ac_top.specs.Statuses.{status_of}
-use Rattle.ac_top.specs.Straight.{is_straight_program}
-use Rattle.ac_top.specs.Texts.{Complaint, complaint, lower_complaint, usage_line, read_fault_line, refusal_line, too_long_line, later_line, signature_line, no_output_line, verdict_lines, accepted_lines, rejected_line, rejected_too_long_line}
-use Rattle.ac_top.specs.Verdicts.{AreVerdicts}
+use Rattle.ac_top.specs.Proving.{ProveReports, ShowsEqual, HasDifference}
+use Rattle.ac_top.specs.Texts.{Complaint, complaint, lower_complaint, usage_line, read_fault_line, refusal_line, too_long_line, write_fault_line, signature_line, no_output_line, accepted_lines, rejected_line, rejected_too_long_line}
 use Rattle.ac_top.specs.declared.status.Status.{Status}
 use Rattle.ac_top.specs.declared.status.Status.TheVariants as status
-use Rattle.ac_top.specs.declared.verdict.Verdict.{Verdict}
-
--- what `prove` reports of a pair: a form of program that is not compared yet, or the verdicts on its outputs
-pub data PairReports (a b : List ℕ) (pair : Pair) : Report → Type 0 where
-  first_not_straight : is_straight_program pair.left ≡ false → PairReports a b pair (report status.Refused (later_line a))
-  second_not_straight : is_straight_program pair.left ≡ true → is_straight_program pair.right ≡ false → PairReports a b pair (report status.Refused (later_line b))
-  compared : (verdicts : List Verdict) → is_straight_program pair.left ≡ true → is_straight_program pair.right ≡ true → AreVerdicts pair pair.outputs verdicts
-      → PairReports a b pair (report (status_of verdicts) (verdict_lines pair.left.arrays pair.outputs verdicts))
 
 -- one more byte than a proof may have
 unfoldable pub stream_limit : ℕ
@@ -124,14 +116,27 @@ pub data FileReports (files : Option Contents) (fails : List (List ℕ) → List
   second_too_long : (first : List ℕ) → Holds files a first → IfSome files (λ contents. IsTooBig contents b 65536) → FileReports files fails a b OfPair (report status.Refused (too_long_line b))
   sources : (first second : List ℕ) (r : Report) → Holds files a first → Holds files b second → SourceReports a b first second (OfPair first second) r → FileReports files fails a b OfPair r
 
+-- what `flow` reports of the text of a named file: why it is refused, or what is reported of its program, which is lowered
+pub data TextReports (a bytes : List ℕ) : Report → Type 0 where
+  text_refused : (said : Complaint) → HasComplaint bytes said → TextReports a bytes (report status.Refused (refusal_line a bytes said))
+  text_not_lowered : (program : Program) (said : Complaint) → IsProgramOf bytes program → IsNotLowered program said → TextReports a bytes (report status.Refused (refusal_line a bytes said))
+  text_lowered : (program : Program) (r : Report) → IsProgramOf bytes program → IsLowered program → FlowReports program r → TextReports a bytes r
+
+-- of a named file: why it has no bytes to read, or what is reported of its text; `fails` says that in this run the read of the file failed
+pub data OneFileReports (files : Option Contents) (fails : Type 0) (a : List ℕ) : Report → Type 0 where
+  file_unread : fails → OneFileReports files fails a (report status.ReadFault (read_fault_line a))
+  file_too_long : IfSome files (λ contents. IsTooBig contents a 65536) → OneFileReports files fails a (report status.Refused (too_long_line a))
+  text_of_file : (bytes : List ℕ) (r : Report) → Holds files a bytes → TextReports a bytes r → OneFileReports files fails a r
+
 -- what is reported of the words; `fails` says that in this run the read of a name failed after those of others
 pub data Reports (words : List (List ℕ)) (files : Option Contents) (fails : List (List ℕ) → List ℕ → Type 0) : Report → Type 0 where
   no_form : ¬ (HasForm words) → Reports words files fails (report status.Usage usage_line)
-  of_prove : (a b : List ℕ) (r : Report) → IsCommand words (prove a b) → FileReports files fails a b (λ first second. PairReports a b) r → Reports words files fails r
+  of_prove : (a b : List ℕ) (budget : ℕ) (proof : Option (List ℕ)) (r : Report) → IsCommand words (prove a b budget proof) → FileReports files fails a b (λ first second pair. ProveReports pair proof) r → Reports words files fails r
   of_check : (a b p : List ℕ) (r : Report) → IsCommand words (check_of a b p)
       → FileReports files fails a b (λ first second pair. CheckReports files (λ count. fails (a ∷ b ∷ replicate count p) p) p pair) r → Reports words files fails r
   of_instance : (a b : List ℕ) (at : Option (List ℕ)) (limit : ℕ) (r : Report) → IsCommand words (instance_of a b at limit)
       → FileReports files fails a b (λ first second pair. InstanceReports a b first second pair at limit) r → Reports words files fails r
+  of_flow : (a : List ℕ) (r : Report) → IsCommand words (flow_of a) → OneFileReports files (fails [] a) a r → Reports words files fails r
 
 -- what becomes of a report: its text is put whole, or a put failed in this run, or memory ran out and nothing is put
 pub data Puts (r : Report) (failed : Type 0) (before now : Option (List ℕ)) : Status → Type 0 where
@@ -139,10 +144,23 @@ pub data Puts (r : Report) (failed : Type 0) (before now : Option (List ℕ)) : 
   part : (count : ℕ) → failed → now ≡ option_map (λ sent. sent ++ take count r.text) before → Puts r failed before now status.WriteFault
   nothing : now ≡ before → Puts r failed before now status.Memory
 
--- how a run ends: with the report of its words, or for want of memory, with nothing put
-pub data Ends (words : List (List ℕ)) (files : Option Contents) (fails : List (List ℕ) → List ℕ → Type 0) (failed : Type 0) (before now : Option (List ℕ)) : Status → Type 0 where
-  reported : (r : Report) (s : Status) → Reports words files fails r → Puts r failed before now s → Ends words files fails failed before now s
-  no_memory : now ≡ before → Ends words files fails failed before now status.Memory
+-- the told contents with a file that was written
+abbrev pub with_file : ProofFile → Option Contents → Option Contents
+with_file file = option_map (λ contents. insert contents file.name file.bytes)
+
+-- what becomes of a report, by what the files hold before and after it, and what is put: where it has a file for a proof that is written first, and the
+-- text is put only then; `spoilt` says that a write failed in this run, and `failed` that a put did
+pub data Delivers (r : Report) (spoilt failed : Type 0) (files after : Option Contents) (before now : Option (List ℕ)) : Status → Type 0 where
+  only_put : (s : Status) → r.proof ≡ None → after ≡ files → Puts r failed before now s → Delivers r spoilt failed files after before now s
+  proof_first : (file : ProofFile) (s : Status) → r.proof ≡ Some file → after ≡ with_file file files → Puts r failed before now s → Delivers r spoilt failed files after before now s
+  proof_fails : (file : ProofFile) (s : Status) → r.proof ≡ Some file → spoilt → IsSameBut file.name files after → Puts (report status.WriteFault (write_fault_line file.name)) failed before now s
+      → Delivers r spoilt failed files after before now s
+  proof_wants : (file : ProofFile) → r.proof ≡ Some file → after ≡ files → now ≡ before → Delivers r spoilt failed files after before now status.Memory
+
+-- how a run ends: with the report of its words, or for want of memory, with nothing written and nothing put
+pub data Ends (words : List (List ℕ)) (files after : Option Contents) (fails : List (List ℕ) → List ℕ → Type 0) (spoilt failed : Type 0) (before now : Option (List ℕ)) : Status → Type 0 where
+  reported : (r : Report) (s : Status) → Reports words files fails r → Delivers r spoilt failed files after before now s → Ends words files after fails spoilt failed before now s
+  no_memory : after ≡ files → now ≡ before → Ends words files after fails spoilt failed before now status.Memory
 
 -- the files hold texts, these have programs, and the programs are a pair of which this holds
 pub record HoldAPair (files : Option Contents) (a b : List ℕ) (Is : Pair → Type 0) : Type 0 where
@@ -169,12 +187,45 @@ pub record AreAccepted (files : Option Contents) (p : List ℕ) (pair : Pair) : 
   pub is_checked : IsAnswer (pairing_of pair left right) pair.outputs stream (Ok outputs)
   pub same : AllByRecursion (SameOutput pair) outputs.items
 
--- for `prove` each output is the same, for `check` each that the proof names, and for `instance` each is the same at the valuation
+-- the file holds the text of a program of which this holds
+pub record HoldsAProgram (files : Option Contents) (a : List ℕ) (Is : Program → Type 0) : Type 0 where
+  pub bytes : List ℕ
+  pub holds : Holds files a bytes
+  pub program : Program
+  pub is_program : IsProgramOf bytes program
+  pub is : Is program
+
+-- for `prove` each output is the same, for `check` each that the proof names, and for `instance` each is the same at the valuation; for
+-- `flow` each read has its sources
 abbrev pub AreTheSame : Option Contents → Asked → Type 0
-AreTheSame files (prove a b) = HoldAPair files a b IsTheSame
+AreTheSame files (prove a b budget proof) = HoldAPair files a b IsTheSame
 AreTheSame files (check_of a b p) = HoldAPair files a b (AreAccepted files p)
 AreTheSame files (instance_of a b at limit) = HoldAPair files a b (λ pair. IsTheSameAt pair at)
+AreTheSame files (flow_of a) = HoldsAProgram files a (λ program. (flow : Flow) × IsFlowOf program flow)
 
--- where all is done, a command was asked, and what it compares is the same
+-- where all is done, a command was asked, and what it compares is the same, or what it tells is so
 abbrev pub DoneMeansTheSame : List (List ℕ) → Option Contents → Status → Type 0
 DoneMeansTheSame words files s = s ≡ status.Done → (asked : Asked) × IsCommand words asked × AreTheSame files asked
+
+-- where `prove` finds an output different, the terms of both programs do not agree in some element of an output, at some valuation of the context
+abbrev pub DifferentMeansDifferent : List (List ℕ) → Option Contents → Status → Type 0
+DifferentMeansDifferent words files s = s ≡ status.Different → (a b : List ℕ) (budget : ℕ) (proof : Option (List ℕ)) → IsCommand words (prove a b budget proof) → HoldAPair files a b HasDifference
+
+-- the words ask for a proof in this file, and these bytes show which outputs of the pair are equal
+pub record AsksFor (words : List (List ℕ)) (files : Option Contents) (file : ProofFile) : Type 0 where
+  pub a : List ℕ
+  pub b : List ℕ
+  pub budget : ℕ
+  pub is : IsCommand words (prove a b budget (Some file.name))
+  pub shows : HoldAPair files a b (λ pair. ShowsEqual pair file.bytes)
+
+-- what the files hold after a run: what they held before; but where the words ask for a proof and some output is equal its file holds such a proof, or
+-- anything where a write failed in this run
+pub data KeepsFiles (words : List (List ℕ)) (spoilt : Type 0) (files after : Option Contents) : Type 0 where
+  kept : after ≡ files → KeepsFiles words spoilt files after
+  proof_written : (file : ProofFile) → AsksFor words files file → after ≡ with_file file files → KeepsFiles words spoilt files after
+  proof_spoilt : (file : ProofFile) → AsksFor words files file → spoilt → IsSameBut file.name files after → KeepsFiles words spoilt files after
+
+-- the words ask for a file with a proof
+abbrev pub AskForAProof : List (List ℕ) → Type 0
+AskForAProof words = (a b : List ℕ) × (budget : ℕ) × (p : List ℕ) × IsCommand words (prove a b budget (Some p))

@@ -1,13 +1,11 @@
 pub mod Answers
 pub mod Codes
-pub mod Kept
-pub mod Least
+pub mod Flows
 pub mod Places
+pub mod Proving
 pub mod Reads
 pub mod Reports
 pub mod Runs
 pub mod Stages
 pub mod Statuses
-pub mod Straight
 pub mod Texts
-pub mod Verdicts

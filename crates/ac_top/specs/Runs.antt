@@ -1,5 +1,5 @@
 -- What `instance` reports of a pair: the runs of both programs at one valuation.
-use Rattle.std.specs.Prelude.{◌≡◌, ℕ, ℤ, List, [], ◌∷◌, Bool, true, false, if◌then◌else◌, Option, Some, None, Result, Ok, Err, length}
+use Rattle.std.specs.Prelude.{◌≡◌, ℕ, ℤ, List, [], ◌∷◌, Bool, true, false, if◌then◌else◌, Option, Some, None, Ok, Err, length}
 use Rattle.std.specs.List.{list_any, Contains}
 use Rattle.ac_syntax.specs.Outputs.{IsValuation, IsElement, SameAt, SameTermsAt}
 use Rattle.ac_syntax.specs.Ready.{ReadyProgram}

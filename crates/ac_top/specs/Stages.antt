@@ -1,39 +1,39 @@
 -- What the stages of a run hand on.
-use Rattle.std.specs.Prelude.{◌≡◌, ◌≤◌, ◌++◌, ℕ, ℤ, List, [], map, nat_eq, length, replicate, Bool, true, false, IsSomeAnd, Option, Some, None, IfSome, Result, Ok, Err, Vec, option_map}
+use Rattle.std.specs.Prelude.{◌≡◌, ◌≤◌, ◌++◌, ℕ, ℤ, List, [], ◌∷◌, map, nat_eq, length, replicate, Bool, true, false, IsSomeAnd, Option, Some, None, IfSome, Result, Ok, Err, Vec, option_map}
 use Rattle.std.specs.Global.{Global}
 use Rattle.std.specs.declared.alloc.AllocError.{AllocError}
 use Rattle.std.specs.FinMap.{get}
-use Rattle.std.specs.List.{list_all, list_any}
+use Rattle.std.specs.List.{list_any}
 use Rattle.ac_port.specs.Contents.{Contents, IsTooBig, part_of}
 use Rattle.ac_claims.specs.Soundness.{AreModels}
 use Rattle.ac_paths.specs.Going.{Pairing}
 use Rattle.ac_prooftext.specs.Courses.{IsFed as Took}
 use Rattle.ac_prooftext.specs.declared.checker.Checker.{Checker}
-use Rattle.ac_poly.specs.Model.{model_of}
+use Rattle.ac_poly.specs.Model.{model_of, HasContext}
+use Rattle.ac_poly.specs.declared.types.Model.{Model}
 use Rattle.ac_syntax.specs.declared.tree.Cond.{Cond}
 use Rattle.ac_syntax.specs.declared.tree.Program.{Program}
-use Rattle.ac_syntax.specs.Outputs.{input_at, extents_at}
+use Rattle.ac_syntax.specs.Outputs.{extents_at}
 use Rattle.ac_syntax.specs.Index.{point, index_value}
 use Rattle.ac_syntax.specs.Ready.{ReadyProgram}
 use Rattle.ac_syntax.specs.Small.{IsSmallProgram, IsSmallPair}
 use Rattle.ac_syntax.specs.declared.tree.Pair.{Pair}
-use Rattle.ac_rules.specs.Numbers.{HasInputs, ListsItsParameters}
+use Rattle.ac_rules.specs.Numbers.{ListsItsParameters}
 use Rattle.ac_parse.specs.Pairing.{IsPairOf}
 use Rattle.ac_parse.specs.Program.{IsProgramOf}
-use Rattle.ac_top.specs.Answers.{AreLowered, AreNoPair, ArePaired, AreRefused, HasComplaint, Holds, IsLowered, IsNotLowered, IsStream, PairReports, CheckReports}
+use Rattle.ac_top.specs.Answers.{AreLowered, AreNoPair, ArePaired, AreRefused, HasComplaint, Holds, IsLowered, IsNotLowered, IsStream, CheckReports}
 use Rattle.ac_top.specs.Reads.{Fails}
 use Rattle.ac_top.specs.declared.lowering.Lowered.{Lowered}
 use Rattle.ac_top.specs.declared.lowering.Lowered.TheVariants.{Models}
 use Rattle.ac_top.specs.declared.lowering.Lowered.TheVariants as lowered
 use Rattle.ac_top.specs.declared.lowering.OneLowered.{OneLowered}
 use Rattle.ac_top.specs.declared.lowering.OneLowered.TheVariants as one
-use Rattle.ac_top.specs.Reports.{Report, report as a_report}
+use Rattle.ac_top.specs.Proving.{ProveReports}
+use Rattle.ac_top.specs.Reports.{Report, ProofFile}
 use Rattle.ac_top.specs.Runs.{InstanceReports, IsReadyPair}
-use Rattle.ac_top.specs.Statuses.{status_of}
-use Rattle.ac_top.specs.Texts.{Complaint, verdict_lines}
-use Rattle.ac_top.specs.Verdicts.{IsJoined}
+use Rattle.ac_top.specs.Texts.{Complaint}
 use Rattle.ac_top.specs.declared.refusals.Complaint.{Complaint as Said}
-use Rattle.ac_top.specs.declared.verdict.Verdict.{Verdict}
+use Rattle.ac_top.specs.declared.report.ProofFile.{ProofFile as File}
 use Rattle.ac_top.specs.declared.report.Report.{Report as Written}
 use Rattle.ac_top.specs.declared.report.Source.{Source}
 use Rattle.ac_top.specs.declared.report.Source.TheVariants.{Bytes, Unread, TooLong}
@@ -44,9 +44,13 @@ use Rattle.ac_top.specs.declared.sources.Paired.TheVariants.{Together, Refused}
 use Rattle.ac_top.specs.declared.sources.Parsed.{Parsed}
 use Rattle.ac_top.specs.declared.sources.Parsed.TheVariants as parsed
 
--- the status and the bytes of a report
+-- the name and the bytes of a file
+abbrev pub file_of : File → ProofFile
+file_of file = record { name = file.name.items; bytes = file.bytes.items }
+
+-- the status and the bytes of a report, and its file
 abbrev pub written : Written → Report
-written r = a_report r.status r.text.items
+written r = record { status = r.status; text = r.text.items; proof = option_map file_of r.proof }
 
 -- what a read gave; `quiet` says that no read failed in it, and `faulty` that one did
 abbrev pub IsSource : Option Contents → (quiet faulty : Type 0) → List ℕ → Source → Type 0
@@ -59,7 +63,6 @@ pub record IsRead (program : Program) : Type 0 where
   pub ready : ReadyProgram program
   pub small : IsSmallProgram program
   pub parameters : ListsItsParameters program
-  pub inputs : HasInputs program
 
 -- what the code says of a fault; nothing of want of memory
 abbrev pub said_by : Said → Complaint
@@ -83,10 +86,9 @@ IsPairing left right (Refused text) = AreNoPair left right text.items
 abbrev pub HaveOneExtent : Pair → Type 0
 HaveOneExtent pair = (o : ℕ) → list_any (nat_eq o) pair.outputs ≡ true → (params : List ℤ) → map (index_value (point params [])) (extents_at pair.right.arrays o) ≡ map (index_value (point params [])) (extents_at pair.left.arrays o)
 
--- what is known of the pair of two programs that were read; its outputs are inputs of the left one
+-- what is known of the pair of two programs that were read; its context is that of both
 pub record IsReadPair (pair : Pair) : Type 0 where
-  pub joined : IsJoined pair
-  pub inputs : list_all (input_at pair.left.arrays) pair.outputs ≡ true
+  pub context : pair.context.parts ≡ pair.left.context.parts ++ pair.right.context.parts
   pub ready : IsReadyPair pair
   pub extents : HaveOneExtent pair
   pub small : IsSmallPair pair
@@ -96,9 +98,9 @@ abbrev pub IsPairingOf : List ℕ → List ℕ → List ℕ → List ℕ → Pai
 IsPairingOf a b first second (Together pair) = ArePaired first second pair × IsReadPair pair
 IsPairingOf a b first second (Refused text) = AreRefused a b first second text.items
 
--- a program is lowered under a context, to this model, or what is wrong with it
+-- a program is lowered under a context, to this model, whose context has its meaning, or what is wrong with it
 abbrev pub IsLowering : Program → Cond → OneLowered → Type 0
-IsLowering program context (one.Model model) = IsLowered program × (model ≡ model_of program context)
+IsLowering program context (one.Model model) = IsLowered program × (model ≡ model_of program context) × HasContext context model
 IsLowering program context (one.Refused said) = IsNotLowered program (said_by said)
 
 -- what one read of a part gave; `quiet` says that no read failed in it, and `faulty` that one did
@@ -131,15 +133,16 @@ IsLoweringOf a b first second pair (lowered.Refused text) = AreRefused a b first
 
 -- what a task reports of a pair of the texts of two files; `fails` says of a proof file that the read of a part failed after so many
 abbrev pub TaskReports : Task → Option Contents → (fails : List ℕ → ℕ → Type 0) → (a b first second : List ℕ) → Pair → Report → Type 0
-TaskReports Prove files fails a b first second = PairReports a b
+TaskReports (Prove budget proof) files fails a b first second = λ pair. ProveReports pair (option_map (λ w. w.now) proof)
 TaskReports (Check proof) files fails a b first second = CheckReports files (fails proof.now) proof.now
 TaskReports (Instance at limit) files fails a b first second = λ pair. InstanceReports a b first second pair (option_map (λ w. w.now) at) limit
 
 -- a limit is at most the greatest
 abbrev pub IsWithin : Task → Type 0
-IsWithin Prove = Unit {0}
+IsWithin (Prove budget proof) = Unit {0}
 IsWithin (Check proof) = Unit {0}
 IsWithin (Instance at limit) = limit ≤ 1000000
 
-abbrev pub verdicts_report : Pair → List Verdict → Report
-verdicts_report pair verdicts = a_report (status_of verdicts) (verdict_lines pair.left.arrays pair.outputs verdicts)
+-- the models of both programs of a pair under its context
+abbrev pub models_of : Pair → List Model
+models_of pair = model_of pair.left pair.context ∷ model_of pair.right pair.context ∷ []

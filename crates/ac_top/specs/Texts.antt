@@ -17,8 +17,6 @@ use Rattle.ac_cert.specs.declared.types.Rule.{Rule}
 use Rattle.ac_poly.specs.declared.types.LowerFault.{LowerFault}
 use Rattle.ac_poly.specs.declared.types.LowerFault.TheVariants as lowering
 use Rattle.ac_top.specs.Places.{place_text}
-use Rattle.ac_top.specs.declared.verdict.Verdict.{Verdict}
-use Rattle.ac_top.specs.declared.verdict.Verdict.TheVariants.{Equal, Different}
 
 -- a line ends with a newline
 abbrev pub line : List ℕ → List ℕ
@@ -29,6 +27,9 @@ usage_line = line (codes "usage: prove A B [--budget n] [--proof P] | check A B 
 
 abbrev pub read_fault_line : List ℕ → List ℕ
 read_fault_line name = line (name ++ codes ": read fault")
+
+abbrev pub write_fault_line : List ℕ → List ℕ
+write_fault_line name = line (name ++ codes ": write fault")
 
 abbrev pub too_long_line : List ℕ → List ℕ
 too_long_line name = line (name ++ codes ":1:1: limit file")
@@ -81,10 +82,6 @@ lower_complaint (lowering.Memory error) = None
 abbrev pub refusal_line : List ℕ → List ℕ → Complaint → List ℕ
 refusal_line name bytes said = line (place_text name bytes said.at ++ codes ": " ++ said.words)
 
--- a form of file that is not compared yet
-abbrev pub later_line : List ℕ → List ℕ
-later_line name = line (name ++ codes ":1:1: later")
-
 abbrev pub signature_line : ℕ → List ℕ
 signature_line number = line (codes "signature " ++ decimal number)
 
@@ -105,15 +102,8 @@ name_at [] k = []
 name_at (a ∷ rest) zero = a.name
 name_at (a ∷ rest) (suc k) = name_at rest k
 
-abbrev pub verdict_line : List ℕ → Verdict → List ℕ
-verdict_line name Equal = line (name ++ codes " equal")
-verdict_line name (Different e) = line (name ++ codes " different, element " ++ element_text e)
-
--- one line for each output, in order
-abbrev pub verdict_lines : List Array → List ℕ → List Verdict → List ℕ
-verdict_lines arrays [] vs = []
-verdict_lines arrays (o ∷ os) [] = []
-verdict_lines arrays (o ∷ os) (v ∷ vs) = verdict_line (name_at arrays o) v ++ verdict_lines arrays os vs
+abbrev pub empty_context_line : List ℕ
+empty_context_line = line (codes "empty context")
 
 abbrev pub valuation_line : List ℕ
 valuation_line = line (codes "valuation")

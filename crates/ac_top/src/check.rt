@@ -103,6 +103,7 @@ fn rejected(text: Vec<u8>) -> Report
     Report {
         status: Status::Different,
         text,
+        proof: None,
     }
 }
 
@@ -123,6 +124,7 @@ fn report_checked(
         Ok(outputs) => Ok(Report {
             status: Status::Done,
             text: accepted_lines(alloc, pair.left.arrays.as_slice(), &outputs)?,
+            proof: None,
         }),
         Err(CheckFault::TooLong) => Ok(rejected(rejected_too_long_line(alloc)?)),
         Err(CheckFault::TooDeep) => Ok(rejected(rejected_too_long_line(alloc)?)),

@@ -9,15 +9,13 @@
 //! is told. What stands before the pair of two texts is `sources::pair_sources`. Both programs of a pair are then lowered to integer
 //! points, and the first that is not is refused in the same way (`lowering`).
 //!
-//! `prove` compares programs without parameters, loops, branches, contexts and commutative names by the terms that they
-//! leave: both are run over one table of shared terms, and only the cells that either assigns are looked at. Every other
-//! pair is answered by the line `later`. `instance` runs both programs of a pair at one valuation.
+//! `prove` compares the outputs of a pair at all valuations of its context, by the search of `ac_walk` (`prove`), and writes the file for the
+//! proof of what is equal before the text is put (`program`). `check` tests such a file, `instance` runs both programs of a pair at one
+//! valuation, and `flow` tells the sources of the reads of one file.
 #![tactic(auto)]
 
-mod cells;
 mod check;
-mod compare;
-mod evaluate;
+mod flows;
 mod halts;
 mod lowering;
 mod places;
@@ -29,10 +27,8 @@ mod report;
 mod runs;
 mod sources;
 pub mod status;
-mod straight;
 mod texts;
-pub mod verdict;
 
+pub use ac_report::Verdict;
 pub use program::run;
 pub use status::{Status, status_of};
-pub use verdict::Verdict;

@@ -14,7 +14,7 @@ use std::alloc::{AllocError, Global};
 
 /// The model of a program, or what is wrong with it.
 #[derive(Drop)]
-enum OneLowered {
+pub enum OneLowered {
     Model(Model),
     Refused(Complaint),
 }
@@ -38,7 +38,7 @@ fn lower_complaint_of(fault: LowerFault) -> Result<Complaint, AllocError>
 }
 
 /// The model of a program under a context, or what is wrong with it.
-fn lowered_program(
+pub fn lowered_program(
     alloc: Global,
     program: &Program,
     context: &Cond,

@@ -1,15 +1,18 @@
-ghost use Rattle.std.specs.Prelude.{◌≡◌, ◌≤◌, IfOk};
+ghost use Rattle.std.specs.Prelude.{◌≡◌, None, IfOk};
 ghost use Rattle.ac_port.specs.Counts.{Rose};
 ghost use Rattle.ac_words.specs.Commands.{spelled};
-ghost use Rattle.ac_top.specs.Answers.{Reports, Puts, Ends, DoneMeansTheSame};
+ghost use Rattle.ac_top.specs.Answers.{Reports, Puts, Delivers, Ends, DoneMeansTheSame, DifferentMeansDifferent, KeepsFiles, AskForAProof};
 ghost use Rattle.ac_top.specs.Reads.{Fails};
+ghost use Rattle.ac_top.specs.Reports.{report as a_report};
 ghost use Rattle.ac_top.specs.Stages.{written};
+ghost use Rattle.ac_top.specs.Texts as text;
 
+use crate::flows::report_flow;
 use crate::report::{Report, report_files};
 use crate::runs::Task;
 use crate::status::Status;
-use crate::texts::usage_line;
-use ac_port::{Files, Sink, SinkStop};
+use crate::texts::{usage_line, write_fault_line};
+use ac_port::{Files, Sink, SinkStop, WriteStop};
 use ac_words::{Command, command_of};
 use std::alloc::{AllocError, Global};
 
@@ -20,9 +23,14 @@ fn report<F: Files>(alloc: Global, words: &[Vec<u8>], files: &mut F) -> Result<R
     ensures same_writes { F.write_faults files.new ≡ F.write_faults files.old }
 {
     match command_of(words) {
-        Some(Command::Prove { left, right }) => {
-            report_files(alloc, files, left, right, &Task::Prove)
-        }
+        Some(
+            Command::Prove {
+                left,
+                right,
+                budget,
+                proof,
+            },
+        ) => report_files(alloc, files, left, right, &Task::Prove { budget, proof }),
         Some(
             Command::Instance {
                 left,
@@ -34,9 +42,11 @@ fn report<F: Files>(alloc: Global, words: &[Vec<u8>], files: &mut F) -> Result<R
         Some(Command::Check { left, right, proof }) => {
             report_files(alloc, files, left, right, &Task::Check { proof })
         }
+        Some(Command::Flow { file }) => report_flow(alloc, files, file),
         None => Ok(Report {
             status: Status::Usage,
             text: usage_line(alloc)?,
+            proof: None,
         }),
     }
 }
@@ -52,35 +62,72 @@ fn put<S: Sink>(out: &mut S, report: &Report) -> Status
     }
 }
 
+/// Puts the line of a file that could not be written.
+fn put_write_fault<S: Sink>(alloc: Global, out: &mut S, name: &[u8]) -> Status
+    ensures { Puts (a_report Status.WriteFault (text.write_fault_line name.now)) (Rose (S.faults out.old) (S.faults out.new)) (S.sent out.old) (S.sent out.new) result }
+{
+    match write_fault_line(alloc, name) {
+        Ok(text) => {
+            let report = Report {
+                status: Status::WriteFault,
+                text,
+                proof: None,
+            };
+            put(out, &report)
+        }
+        Err(_) => Status::Memory,
+    }
+}
+
+/// Writes the file of a report, if it has one, and then puts its text.
+fn deliver<F: Files, S: Sink>(alloc: Global, files: &mut F, out: &mut S, report: &Report) -> Status
+    ensures delivers { Delivers (written report.now) (Rose (F.write_faults files.old) (F.write_faults files.new)) (Rose (S.faults out.old) (S.faults out.new)) (F.contents files.old) (F.contents files.new) (S.sent out.old) (S.sent out.new) result }
+    ensures untouched { report.now.proof ≡ None → files.new ≡ files.old }
+{
+    match &report.proof {
+        None => put(out, report),
+        Some(file) => match files.write(file.name.as_slice(), file.bytes.as_slice()) {
+            Ok(()) => put(out, report),
+            Err(WriteStop::Failed) => put_write_fault(alloc, out, file.name.as_slice()),
+            Err(WriteStop::Memory(_)) => Status::Memory,
+        },
+    }
+}
+
 /// Does what the words ask for: reads the files that they name, compares their programs, and puts the report in one put.
 ///
-/// The words are those after the program's name. `prove A B` compares two source files, of at most 65,536 bytes each; `check A B P` tests the proof
-/// file P against them, read in parts of 65,536 bytes, of at most 67,108,864 bytes in all and nested at most 10,000 deep; and
-/// `instance A B [--at N=5,M=3] [--limit n]` runs both at one valuation; any other words are a faulty command line. Each
-/// output of the pair has a line, `X equal` or `X different, element [e]..`; of `check` each output that an accepted proof names has a line
-/// `X accepted`, and a proof that is not accepted the line that says which of its lines is refused by which rule.
+/// The words are those after the program's name. `prove A B [--budget n] [--proof P]` compares two source files, of at most 65,536 bytes each,
+/// at all valuations of their context; where some output is equal it first writes the file P, which proves those that are.
+/// `check A B P` tests the proof file P against both, read in parts of 65,536 bytes, of at most 67,108,864 bytes in all and nested at most
+/// 10,000 deep; `instance A B [--at N=5,M=3] [--limit n]` runs both at one valuation; `flow A` tells where each read of a file has
+/// its value from; any other words are a faulty command line. Each output of the pair has a line of `prove`, `X equal`, `X different ..` or `X unknown
+/// ..`, and one of `instance`; of `check` each output that an accepted proof names has a line `X accepted`, and a proof that is not accepted
+/// the line that says which of its lines is refused by which rule.
 ///
 /// A read fault of a file is answered only where the files' count of faults rose in the read of that file, and a write fault only
-/// where the sink's count rose in this call.
-/// No file changes. After want of memory nothing is put.
+/// where their count of write faults or the sink's count rose in this call.
+/// No file changes but P. After want of memory nothing is put.
 pub fn run<F: Files, S: Sink>(
     alloc: Global,
     words: &[Vec<u8>],
     files: &mut F,
     out: &mut S,
 ) -> Status
-    // What is answered, and what is put.
-    ensures answer { Ends (spelled words.now) (F.contents files.old) (Fails F.read_makes F.read_faults files.old files.new) (Rose (S.faults out.old) (S.faults out.new)) (S.sent out.old) (S.sent out.new) result }
+    // What is answered, what is written, and what is put.
+    ensures answer { Ends (spelled words.now) (F.contents files.old) (F.contents files.new) (Fails F.read_makes F.read_faults files.old files.new) (Rose (F.write_faults files.old) (F.write_faults files.new)) (Rose (S.faults out.old) (S.faults out.new)) (S.sent out.old) (S.sent out.new) result }
 
     // What is reported equal is equal.
     ensures headline { DoneMeansTheSame (spelled words.now) (F.contents files.old) result }
 
-    // No file changes.
-    ensures same { F.contents files.new ≡ F.contents files.old }
-    ensures same_writes { F.write_faults files.new ≡ F.write_faults files.old }
+    // What is reported different is different.
+    ensures different { DifferentMeansDifferent (spelled words.now) (F.contents files.old) result }
+
+    // No file changes but that of a proof of what is equal, which is then written.
+    ensures same { KeepsFiles (spelled words.now) (Rose (F.write_faults files.old) (F.write_faults files.new)) (F.contents files.old) (F.contents files.new) }
+    ensures same_writes { ¬ (AskForAProof (spelled words.now)) → F.write_faults files.new ≡ F.write_faults files.old }
 {
     match report(alloc, words, files) {
-        Ok(report) => put(out, &report),
+        Ok(report) => deliver(alloc, files, out, &report),
         Err(_) => Status::Memory,
     }
 }

@@ -1,145 +1,86 @@
-ghost use Rattle.std.specs.Prelude.{◌≡◌, [], ◌∷◌, List, length, true, false, nat_eq, IfOk, IfSome, is_some};
-ghost use Rattle.std.specs.List.{list_all};
-ghost use Rattle.ac_syntax.specs.Algebra.{Cell};
-ghost use Rattle.ac_syntax.specs.Outputs.{extents_at, input_at};
-ghost use Rattle.ac_syntax.specs.Sameness.{term};
-ghost use Rattle.ac_syntax.specs.Term.{Term};
-ghost use Rattle.ac_terms.specs.Table.{Keeps};
-ghost use Rattle.ac_top.specs.Kept.{leaf_in, Holds};
-ghost use Rattle.ac_top.specs.Least.{IsLeast, throughout};
-ghost use Rattle.ac_top.specs.Straight.{is_plain, is_straight_program};
-ghost use Rattle.ac_top.specs.Verdicts.{IsJoined, difference, AreFirst, IsAnswer};
-ghost use Rattle.ac_top.specs.declared.evaluate.Side.TheVariants.{Left, Right};
+// The work of `prove`: the verdicts on the outputs of a pair, and the file for the proof of those that are equal.
+ghost use Rattle.std.specs.Prelude.{◌≡◌, Some, option_map, IfOk};
+ghost use Rattle.ac_claims.specs.Soundness as judge;
+ghost use Rattle.ac_walk.specs.Verdicts.{AreVerdicts};
+ghost use Rattle.ac_top.specs.Proving.{ProveReports, IsProofOf, IsFileOf};
+ghost use Rattle.ac_top.specs.Stages.{file_of, models_of, written};
 
-use crate::cells::Cells;
-use crate::compare::{Comparison, compare};
-use crate::evaluate::{Side, declared_at};
-use crate::straight::run;
-use crate::verdict::Verdict;
-use ac_items::Items;
-use ac_syntax::tree::{Array, IndexExpr, Pair, Program};
-use ac_terms::Terms;
+use crate::report::{ProofFile, Report, refused};
+use crate::status::status_of;
+use crate::texts::empty_context_line;
+use ac_claims::types::Proof;
+use ac_flow::types::Limits;
+use ac_poly::types::Model;
+use ac_prooftext::write_proof;
+use ac_report::verdict_text;
+use ac_syntax::tree::Pair;
+use ac_walk::{ProveStop, Proved, prove};
 use std::alloc::{AllocError, Global};
 
-/// What is said of a pair.
-#[derive(Debug, Drop)]
-pub enum Answer {
-    /// This program has a form that is not compared yet.
-    Later(Side),
-    /// A verdict for each output of the pair, in order.
-    Verdicts(Items<Verdict>),
-}
-
-/// Whether a program has no parameter, no context line and no commutative line.
-fn is_plain_program(program: &Program) -> bool
-    ensures { result ≡ is_plain program.now }
+/// The file of this name for a proof: none where no output is equal.
+fn named_file(alloc: Global, proof: &Proof, name: &[u8]) -> Result<Option<ProofFile>, AllocError>
+    ensures { IfOk result (λ file. IsFileOf proof.now (Some name.now) (option_map file_of file)) }
 {
-    program.params.is_empty() && program.context.parts.is_empty() && program.commutative.is_empty()
-}
-
-/// What a straight-line program leaves; none where it is no such program.
-fn left_by(
-    alloc: Global,
-    table: &mut Terms,
-    side: Side,
-    arrays: &[Array],
-    program: &Program,
-) -> Result<Option<Cells>, AllocError>
-    ensures straight { IfOk result (λ cells. is_some cells ≡ is_straight_program program.now) }
-    ensures ran { IfOk result (λ cells. IfSome cells (λ ids. Holds table.new ids (leaf_in side arrays.now) (term program.now.body [] (leaf_in side arrays.now)))) }
-    ensures kept { Keeps table.old table.new }
-    ensures names { table.new.commutative ≡ table.old.commutative }
-{
-    if !is_plain_program(program) {
+    if proof.outputs.is_empty() {
         return Ok(None);
     }
-    let mut cells = Cells::new(alloc);
-    if run(
-        alloc,
-        table,
-        &mut cells,
-        side,
-        arrays,
-        program.body.as_slice(),
-    )? {
-        Ok(Some(cells))
-    } else {
-        Ok(None)
-    }
+    let bytes = write_proof(alloc, proof)?;
+    let name = Vec::from_slice(alloc, name)?;
+    Ok(Some(ProofFile { name, bytes }))
 }
 
-/// The extents of an array.
-fn extents(arrays: &[Array], array: usize) -> &[IndexExpr]
-    ensures { result.now ≡ extents_at arrays.now array }
-{
-    match declared_at(arrays, array) {
-        Some(declared) => declared.extents.as_slice(),
-        None => &[],
-    }
-}
-
-/// The verdict on one output.
-fn verdict(alloc: Global, table: &mut Terms, runs: &Comparison) -> Result<Verdict, AllocError>
-    requires { input_at runs.now.arrays.now runs.now.output ≡ true }
-    ensures least { (left right : Cell → Term) → Holds table.old runs.now.left.now (leaf_in Left runs.now.arrays.now) left → Holds table.old runs.now.right.now (leaf_in Right runs.now.arrays.now) right → IfOk result (λ said. IsLeast (throughout table.old.commutative runs.now.output runs.now.extents.now left right) (difference said)) }
-    ensures kept { Keeps table.old table.new }
-    ensures names { table.new.commutative ≡ table.old.commutative }
-{
-    match compare(alloc, table, runs)? {
-        Some(element) => Ok(Verdict::Different(element)),
-        None => Ok(Verdict::Equal),
-    }
-}
-
-/// The verdicts on all outputs.
-fn verdicts(
+/// The file for a proof: none where no name is given, or where no output is equal.
+fn proof_file(
     alloc: Global,
-    table: &mut Terms,
-    left: &Cells,
-    right: &Cells,
-    arrays: &[Array],
-    outputs: &[usize],
-) -> Result<Items<Verdict>, AllocError>
-    requires { list_all (input_at arrays.now) outputs.now ≡ true }
-    ensures least { (l r : Cell → Term) → Holds table.old left.now (leaf_in Left arrays.now) l → Holds table.old right.now (leaf_in Right arrays.now) r → IfOk result (AreFirst table.old.commutative arrays.now l r outputs.now) }
+    proof: &Proof,
+    name: Option<&[u8]>,
+) -> Result<Option<ProofFile>, AllocError>
+    ensures { IfOk result (λ file. IsFileOf proof.now (option_map (λ w. w.now) name.entry) (option_map file_of file)) }
 {
-    let mut said = Items::new(alloc);
-    for output in outputs {
-        let output = *output;
-        let extents = extents(arrays, output);
-        let runs = Comparison {
-            left,
-            right,
-            arrays,
-            output,
-            extents,
-        };
-        said.push(verdict(alloc, table, &runs)?)?;
+    match name {
+        Some(name) => named_file(alloc, proof, name),
+        None => Ok(None),
     }
-    Ok(said)
 }
 
-/// Compares two straight-line programs, by the terms that they leave.
-pub fn prove(alloc: Global, pair: &Pair) -> Result<Answer, AllocError>
-    requires joined { IsJoined pair.now }
-    requires inputs { list_all (input_at pair.now.left.arrays) pair.now.outputs ≡ true }
-    ensures { IfOk result (IsAnswer pair.now) }
+/// What is reported of the verdicts on a pair and their proof.
+fn report_proved(
+    alloc: Global,
+    pair: &Pair,
+    proved: &Proved,
+    name: Option<&[u8]>,
+) -> Result<Report, AllocError>
+    requires verdicts { AreVerdicts pair.now pair.now.outputs proved.now.verdicts }
+    requires proof { IsProofOf pair.now proved.now.verdicts proved.now.proof }
+    ensures { IfOk result (λ r. ProveReports pair.now (option_map (λ w. w.now) name.entry) (written r)) }
 {
-    let arrays = pair.left.arrays.as_slice();
-    let mut table = Terms::new(alloc, Vec::new(alloc));
-    let Some(left) = left_by(alloc, &mut table, Side::Left, arrays, &pair.left)? else {
-        return Ok(Answer::Later(Side::Left));
-    };
-    let Some(right) = left_by(alloc, &mut table, Side::Right, arrays, &pair.right)? else {
-        return Ok(Answer::Later(Side::Right));
-    };
-    let said = verdicts(
-        alloc,
-        &mut table,
-        &left,
-        &right,
-        arrays,
-        pair.outputs.as_slice(),
-    )?;
-    Ok(Answer::Verdicts(said))
+    let verdicts = proved.verdicts.as_slice();
+    let proof = proof_file(alloc, &proved.proof, name)?;
+    let text = verdict_text(alloc, pair, verdicts)?;
+    Ok(Report {
+        status: status_of(verdicts),
+        text,
+        proof,
+    })
+}
+
+/// What `prove` reports of a pair and its models: each question may cost as much as the budget, and the name is that of the file for
+/// the proof.
+pub fn report_prove(
+    alloc: Global,
+    pair: &Pair,
+    models: &[Model; 2],
+    budget: u64,
+    name: Option<&[u8]>,
+) -> Result<Report, AllocError>
+    requires paired { judge.ArePaired pair.now }
+    requires models { models.now ≡ models_of pair.now }
+    ensures { IfOk result (λ r. ProveReports pair.now (option_map (λ w. w.now) name.entry) (written r)) }
+{
+    let limits = Limits { budget };
+    match prove(alloc, pair, models, &limits) {
+        Ok(proved) => report_proved(alloc, pair, &proved, name),
+        Err(ProveStop::EmptyContext) => Ok(refused(empty_context_line(alloc)?)),
+        Err(ProveStop::Memory(error)) => Err(error),
+    }
 }

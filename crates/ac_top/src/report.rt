@@ -1,23 +1,17 @@
-ghost use Rattle.std.specs.Prelude.{◌≡◌, ◌≤◌, ◌∷◌, length, replicate, true, IfOk};
+ghost use Rattle.std.specs.Prelude.{◌≡◌, ◌∷◌, replicate, IfOk};
 ghost use Rattle.ac_port.specs.Counts.{Rose};
-ghost use Rattle.std.specs.List.{list_all};
-ghost use Rattle.ac_syntax.specs.Outputs.{input_at};
-ghost use Rattle.ac_claims.specs.Soundness.{AreModels};
-ghost use Rattle.ac_top.specs.Verdicts.{IsJoined};
-ghost use Rattle.ac_top.specs.Answers.{ArePaired, PairReports, SourceReports, FileReports};
+ghost use Rattle.ac_top.specs.Answers.{ArePaired, SourceReports, FileReports};
 ghost use Rattle.ac_top.specs.Reads.{Fails};
 ghost use Rattle.ac_top.specs.Reports.{report as a_report};
-ghost use Rattle.ac_top.specs.Stages.{IsReadPair, IsSource, IsWithin, TaskReports, written, verdicts_report};
+ghost use Rattle.ac_top.specs.Stages.{IsReadPair, IsSource, IsWithin, TaskReports, models_of, written};
 
 use crate::check::report_check;
-use crate::evaluate::Side;
 use crate::lowering::{Lowered, lowered_pair};
-use crate::prove::{Answer, prove};
+use crate::prove::report_prove;
 use crate::runs::{Named, Task, report_instance};
 use crate::sources::{Paired, pair_sources};
-use crate::status::{Status, status_of};
-use crate::texts::{later_line, read_fault_line, too_long_line, verdict_lines};
-use crate::verdict::Verdict;
+use crate::status::Status;
+use crate::texts::{read_fault_line, too_long_line};
 use ac_poly::types::Model;
 use ac_port::{Files, ReadStop};
 use ac_syntax::tree::Pair;
@@ -26,11 +20,19 @@ use std::alloc::{AllocError, Global};
 /// The longest source file, in bytes.
 const MAX_SOURCE: u64 = 65536;
 
-/// How a run ends, and the text that it puts.
+/// A file to be written: its name, and the bytes that it is to hold.
+#[derive(Drop)]
+pub struct ProofFile {
+    pub name: Vec<u8>,
+    pub bytes: Vec<u8>,
+}
+
+/// How a run ends, the text that it puts, and the file for a proof, if there is one.
 #[derive(Drop)]
 pub struct Report {
     pub status: Status,
     pub text: Vec<u8>,
+    pub proof: Option<ProofFile>,
 }
 
 /// What the read of a source file gave.
@@ -48,6 +50,7 @@ pub fn refused(text: Vec<u8>) -> Report
     Report {
         status: Status::Refused,
         text,
+        proof: None,
     }
 }
 
@@ -58,11 +61,16 @@ pub fn unread(text: Vec<u8>) -> Report
     Report {
         status: Status::ReadFault,
         text,
+        proof: None,
     }
 }
 
 /// Reads a source file.
-fn read_source<F: Files>(alloc: Global, files: &mut F, name: &[u8]) -> Result<Source, AllocError>
+pub fn read_source<F: Files>(
+    alloc: Global,
+    files: &mut F,
+    name: &[u8],
+) -> Result<Source, AllocError>
     ensures source { IfOk result (IsSource (F.contents files.old) (F.read_faults files.new ≡ F.read_faults files.old) (Rose (F.read_faults files.old) (F.read_faults files.new)) name.now) }
     ensures same { F.contents files.new ≡ F.contents files.old }
     ensures makes { F.read_makes files.old name.now files.new }
@@ -76,32 +84,6 @@ fn read_source<F: Files>(alloc: Global, files: &mut F, name: &[u8]) -> Result<So
     }
 }
 
-/// What `prove` reports of a pair of the named files.
-fn report_pair(alloc: Global, a: &[u8], b: &[u8], pair: &Pair) -> Result<Report, AllocError>
-    requires joined { IsJoined pair.now }
-    requires inputs { list_all (input_at pair.now.left.arrays) pair.now.outputs ≡ true }
-    ensures { IfOk result (λ r. PairReports a.now b.now pair.now (written r)) }
-{
-    match prove(alloc, pair)? {
-        Answer::Later(Side::Left) => Ok(refused(later_line(alloc, a)?)),
-        Answer::Later(Side::Right) => Ok(refused(later_line(alloc, b)?)),
-        Answer::Verdicts(verdicts) => report_verdicts(alloc, pair, verdicts.as_slice()),
-    }
-}
-
-/// The lines of the verdicts on a pair, with their status.
-fn report_verdicts(alloc: Global, pair: &Pair, verdicts: &[Verdict]) -> Result<Report, AllocError>
-    requires { length pair.now.outputs ≡ length verdicts.now }
-    ensures { IfOk result (λ r. written r ≡ verdicts_report pair.now verdicts.now) }
-{
-    let arrays = pair.left.arrays.as_slice();
-    let text = verdict_lines(alloc, arrays, pair.outputs.as_slice(), verdicts)?;
-    Ok(Report {
-        status: status_of(verdicts),
-        text,
-    })
-}
-
 /// What a task reports of a pair of two files and its models.
 fn report_task<F: Files>(
     alloc: Global,
@@ -109,19 +91,19 @@ fn report_task<F: Files>(
     left: &Named<'_>,
     right: &Named<'_>,
     pair: &Pair,
-    models: (&Model, &Model),
+    models: &[Model; 2],
     task: &Task<'_>,
 ) -> Result<Report, AllocError>
     requires pair { IsReadPair pair.now }
-    requires models { AreModels pair.now models.0.now models.1.now }
+    requires models { models.now ≡ models_of pair.now }
     requires within { IsWithin task.now }
     ensures report { IfOk result (λ r. TaskReports task.now (F.contents files.old) (λ name count. Fails F.read_makes F.read_faults files.old files.new (replicate count name) name) left.now.name.now right.now.name.now left.now.bytes.now right.now.bytes.now pair.now (written r)) }
     ensures same { F.contents files.new ≡ F.contents files.old }
     ensures same_writes { F.write_faults files.new ≡ F.write_faults files.old }
 {
     match task {
-        Task::Prove => report_pair(alloc, left.name, right.name, pair),
-        Task::Check { proof } => report_check(alloc, files, pair, models.0, models.1, proof),
+        Task::Prove { budget, proof } => report_prove(alloc, pair, models, *budget, *proof),
+        Task::Check { proof } => report_check(alloc, files, pair, &models[0], &models[1], proof),
         Task::Instance { at, limit } => report_instance(alloc, left, right, pair, *at, *limit),
     }
 }
@@ -147,7 +129,7 @@ fn report_lowered<F: Files>(
         Lowered::Models {
             left: first,
             right: second,
-        } => report_task(alloc, files, left, right, pair, (&first, &second), task),
+        } => report_task(alloc, files, left, right, pair, &[first, second], task),
     }
 }
 

@@ -30,12 +30,21 @@ pub struct Named<'a> {
 /// What is to be done with a pair.
 #[derive(Clone, Copy, Debug)]
 pub enum Task<'a> {
-    /// Compare its outputs at each valuation of the context.
-    Prove,
+    /// Compare its outputs at each valuation of the context, with questions of at most this cost, and write what proves them equal to
+    /// a file.
+    Prove {
+        budget: u64,
+        proof: Option<&'a [u8]>,
+    },
     /// Test a proof file against it.
-    Check { proof: &'a [u8] },
+    Check {
+        proof: &'a [u8],
+    },
     /// Run both programs at the valuation that a word gives, with at most this many events.
-    Instance { at: Option<&'a [u8]>, limit: u64 },
+    Instance {
+        at: Option<&'a [u8]>,
+        limit: u64,
+    },
 }
 
 /// The report of a run that was halted.
@@ -45,6 +54,7 @@ fn halted(text: Vec<u8>) -> Report
     Report {
         status: Status::Halted,
         text,
+        proof: None,
     }
 }
 
@@ -86,6 +96,7 @@ fn report_outcomes(alloc: Global, pair: &Pair, outcomes: &[Outcome]) -> Result<R
     Ok(Report {
         status: status_of_outcomes(outcomes),
         text,
+        proof: None,
     })
 }
 

@@ -10,7 +10,7 @@ use std::alloc::{AllocError, Global};
 
 /// The program of a text, or what is wrong with it.
 #[derive(Drop)]
-enum Parsed {
+pub enum Parsed {
     Program(Program),
     Refused(Complaint),
 }
@@ -23,7 +23,7 @@ pub enum Paired {
 }
 
 /// The program of a text, or what is wrong with it.
-fn program_of(alloc: Global, bytes: &[u8]) -> Result<Parsed, AllocError>
+pub fn program_of(alloc: Global, bytes: &[u8]) -> Result<Parsed, AllocError>
     ensures { IfOk result (IsParsed bytes.now) }
 {
     match parse(alloc, bytes) {

@@ -1,8 +1,9 @@
 ghost use Rattle.std.specs.Prelude.{◌≡◌};
 ghost use Rattle.ac_top.specs.Codes.{code_of};
-ghost use Rattle.ac_top.specs.Statuses.{is_different, status_of};
+ghost use Rattle.std.specs.List.{list_any};
+ghost use Rattle.ac_top.specs.Statuses.{is_different, is_unknown, status_of};
 
-use crate::verdict::Verdict;
+use ac_report::Verdict;
 
 /// How a run ended.
 #[derive(Clone, Copy, Debug, PartialEq, Eq)]
@@ -49,23 +50,55 @@ impl Status {
     }
 }
 
-/// The status of several verdicts: different where one is, else done.
+/// The status of several verdicts: different where one is, else unknown where one is, else done.
 pub fn status_of(verdicts: &[Verdict]) -> Status
     ensures { result ≡ status_of verdicts.now }
 {
+    if any_different(verdicts) {
+        Status::Different
+    } else if any_unknown(verdicts) {
+        Status::Unknown
+    } else {
+        Status::Done
+    }
+}
+
+fn any_different(verdicts: &[Verdict]) -> bool
+    ensures { result ≡ list_any is_different verdicts.now }
+{
     for verdict in verdicts {
         if is_different(verdict) {
-            return Status::Different;
+            return true;
         }
     }
-    Status::Done
+    false
+}
+
+fn any_unknown(verdicts: &[Verdict]) -> bool
+    ensures { result ≡ list_any is_unknown verdicts.now }
+{
+    for verdict in verdicts {
+        if is_unknown(verdict) {
+            return true;
+        }
+    }
+    false
 }
 
 fn is_different(verdict: &Verdict) -> bool
     ensures { result ≡ is_different verdict.now }
 {
     match verdict {
-        Verdict::Equal => false,
-        Verdict::Different(_) => true,
+        Verdict::Different { .. } => true,
+        Verdict::Equal | Verdict::Unknown(_) => false,
+    }
+}
+
+fn is_unknown(verdict: &Verdict) -> bool
+    ensures { result ≡ is_unknown verdict.now }
+{
+    match verdict {
+        Verdict::Unknown(_) => true,
+        Verdict::Equal | Verdict::Different { .. } => false,
     }
 }

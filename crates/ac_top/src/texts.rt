@@ -1,8 +1,7 @@
-ghost use Rattle.std.specs.Prelude.{◌≡◌, ◌∷◌, [], ◌++◌, codes, length, OnOk, IfOk};
+ghost use Rattle.std.specs.Prelude.{◌≡◌, ◌∷◌, [], ◌++◌, codes, slice_get, OnOk, IfOk};
+ghost use Rattle.std.specs.Option.{option_copied};
 ghost use Rattle.ac_top.specs.Texts as text;
 
-use crate::evaluate::declared_at;
-use crate::verdict::Verdict;
 use ac_syntax::tree::Array;
 use itoa::Buffer;
 use std::alloc::{AllocError, Global};
@@ -41,11 +40,18 @@ pub fn too_long_line(alloc: Global, name: &[u8]) -> Result<Vec<u8>, AllocError>
     named_line(alloc, name, b":1:1: limit file")
 }
 
-/// The line for a file of a form that is not compared yet.
-pub fn later_line(alloc: Global, name: &[u8]) -> Result<Vec<u8>, AllocError>
-    ensures { IfOk result (λ bytes. bytes.items ≡ text.later_line name.now) }
+/// The line for a file whose write failed.
+pub fn write_fault_line(alloc: Global, name: &[u8]) -> Result<Vec<u8>, AllocError>
+    ensures { IfOk result (λ bytes. bytes.items ≡ text.write_fault_line name.now) }
 {
-    named_line(alloc, name, b":1:1: later")
+    named_line(alloc, name, b": write fault")
+}
+
+/// The line for a context that no valuation meets.
+pub fn empty_context_line(alloc: Global) -> Result<Vec<u8>, AllocError>
+    ensures { IfOk result (λ bytes. bytes.items ≡ text.empty_context_line) }
+{
+    Vec::from_slice(alloc, b"empty context\n")
 }
 
 /// The line for programs whose parameter lists differ.
@@ -83,6 +89,13 @@ fn push_coordinate(bytes: &mut Vec<u8>, x: &i64) -> Result<(), AllocError>
     Ok(())
 }
 
+/// The array with this number.
+fn declared_at(arrays: &[Array], array: usize) -> Option<&Array>
+    ensures { option_copied result ≡ slice_get arrays.now array }
+{
+    arrays.get(array)
+}
+
 /// The name of an array.
 pub fn name_of(arrays: &[Array], array: usize) -> &[u8]
     ensures { result.now ≡ text.name_at arrays.now array }
@@ -91,37 +104,4 @@ pub fn name_of(arrays: &[Array], array: usize) -> &[u8]
         Some(declared) => declared.name.as_bytes(),
         None => &[],
     }
-}
-
-/// Adds the line of a verdict.
-fn push_verdict(bytes: &mut Vec<u8>, name: &[u8], verdict: &Verdict) -> Result<(), AllocError>
-    ensures { OnOk result (bytes.new.items ≡ bytes.old.items ++ text.verdict_line name.now verdict.now) }
-{
-    bytes.extend_from_slice(name)?;
-    match verdict {
-        Verdict::Equal => bytes.extend_from_slice(b" equal\n"),
-        Verdict::Different(element) => {
-            bytes.extend_from_slice(b" different, element ")?;
-            push_element(bytes, element.as_slice())?;
-            bytes.push(b'\n')?;
-            Ok(())
-        }
-    }
-}
-
-/// The lines of all verdicts.
-pub fn verdict_lines(
-    alloc: Global,
-    arrays: &[Array],
-    outputs: &[usize],
-    verdicts: &[Verdict],
-) -> Result<Vec<u8>, AllocError>
-    requires { length outputs.now ≡ length verdicts.now }
-    ensures { IfOk result (λ bytes. bytes.items ≡ text.verdict_lines arrays.now outputs.now verdicts.now) }
-{
-    let mut bytes = Vec::new(alloc);
-    for at in 0..outputs.len() {
-        push_verdict(&mut bytes, name_of(arrays, outputs[at]), &verdicts[at])?;
-    }
-    Ok(bytes)
 }

@@ -1,10 +1,9 @@
-use Rattle.std.proofs.Common.{◌≡◌, ◌≤◌, ◌<◌, ◌+◌, ◌++◌, ℕ, List, [], length, replicate, Option, Some, None, refl, sym, ap, subst, ◌∙◌, arith}
+use Rattle.std.proofs.Common.{◌≡◌, ◌+◌, ◌++◌, [], replicate, Option, refl, sym, ap, subst, ◌∙◌, arith}
 use Rattle.ac_port.specs.Contents.{Contents}
 use Rattle.ac_port.specs.Counts.{Rose}
-use Rattle.ac_top.specs.Answers.{IsStream, stream_limit}
-use Rattle.ac_top.specs.Reads.{AreRead, no_read, one_more, Fails}
+use Rattle.ac_top.specs.Reads.{AreRead, no_read, one_more}
 use Rattle.ac_top.specs.Stages.{IsFed, IsPartRead}
-use Rattle.ac_top.proofs.Reading.{IsFront, front_begins, front_on, longer, stream_ends, stream_is_long, again, limit-is}
+use Rattle.ac_top.proofs.Reading.{front_begins, front_on, longer, stream_ends, stream_is_long, again, limit-is}
 use Rattle.ac_top.proofs.check.feed_file.Goals as goal
 
 pub loop-at-init : goal.loop-at-init

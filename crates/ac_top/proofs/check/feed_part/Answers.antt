@@ -1,6 +1,6 @@
-use Rattle.std.proofs.Common.{◌≡◌, ◌≤◌, List, ℕ, length, Option, IfSome, IsSomeAnd, ap, subst, sym, ◌∙◌, arith}
+use Rattle.std.proofs.Common.{◌≡◌, List, ℕ, length, IfSome, IsSomeAnd, ap, subst, sym, ◌∙◌, arith}
 use Rattle.std.specs.FinMap.{get}
-use Rattle.ac_port.specs.Contents.{Contents, part_of}
+use Rattle.ac_port.specs.Contents.{part_of}
 use Rattle.ac_port.specs.Counts.{Rose}
 use Rattle.ac_top.specs.Stages.{IsPiece}
 use Rattle.ac_top.proofs.check.feed_part.Goals as goal

@@ -1,6 +1,5 @@
-use Rattle.std.proofs.Common.{◌≡◌, ℕ, List, sym, ap, subst, ◌∙◌}
-use Rattle.std.specs.Prelude.{Ok, Err, Vec, Result}
-use Rattle.std.specs.Global.{Global}
+use Rattle.std.proofs.Common.{sym, ap, subst, ◌∙◌}
+use Rattle.std.specs.Prelude.{Ok, Err}
 use Rattle.ac_claims.specs.Soundness.{pairing_of}
 use Rattle.ac_prooftext.specs.Checks.{IsAnswer}
 use Rattle.ac_prooftext.specs.declared.types.CheckFault.TheVariants.{TooLong, TooDeep, Refused}

@@ -26,3 +26,10 @@ returns-in-Refused-2 c =
     let made = subst (IsLowering pair.left pair.context) c.in-Model.is c.in_ok-model.ensures in
     let why = subst (IsLowering pair.right pair.context) c.in-Refused-2.is c.in_ok-model-2.ensures in
     subst (AreRefused left.name.now right.name.now left.bytes.now right.bytes.now) (sym c.in_ok-refusal_line-in-Refused-2.ensures) (second_not_lowered pair (said_by c.in-Refused-2.complaint) c.requires.are made.0 why)
+
+pub returns : goal.returns
+returns c =
+    let pair = c.args.pair.now in
+    let one = subst (IsLowering pair.left pair.context) c.in-Model.is c.in_ok-model.ensures in
+    let two = subst (IsLowering pair.right pair.context) c.in-Model-2.is c.in_ok-model-2.ensures in
+    (record { left = one.0; right = two.0 }, record { left_is = one.1; right_is = two.1 })

@@ -1,9 +1,9 @@
-use Rattle.std.proofs.Common.{◌≡◌, IfOk, sym, ap, subst, ◌∙◌}
+use Rattle.std.proofs.Common.{sym, subst}
 use Rattle.std.specs.Prelude.{option_map}
 use Rattle.std.proofs.lemmas.Result.{IfOk-weaker}
 use Rattle.ac_words.specs.Commands.{spelled, asked_by, IsCommand}
 use Rattle.ac_words.specs.declared.command.Command.TheVariants.{Instance}
-use Rattle.ac_top.specs.Answers.{Reports, no_form, of_prove, of_check, of_instance}
+use Rattle.ac_top.specs.Answers.{Reports, no_form, of_prove, of_check, of_instance, of_flow}
 use Rattle.ac_top.specs.Reads.{Fails}
 use Rattle.ac_top.specs.Reports.{report as a_report}
 use Rattle.ac_top.specs.Stages.{written}
@@ -21,7 +21,7 @@ pub returns-in-Some-Prove-clause-report : goal.returns-in-Some-Prove-clause-repo
 returns-in-Some-Prove-clause-report g c =
     let asked = c.in-Some-Prove in
     let is = subst (λ d. IsCommand (spelled c.args.words.now) (asked_by d)) asked.field-0-is asked.ensures in
-    IfOk-weaker c.report_files.result _ _ (λ r found. of_prove asked.left.now asked.right.now (written r) is found) c.report_files.ensures.report
+    IfOk-weaker c.report_files.result _ _ (λ r found. of_prove asked.left.now asked.right.now asked.budget (option_map (λ w. w.now) asked.proof) (written r) is found) c.report_files.ensures.report
 
 pub returns-in-Some-Check-clause-report : goal.returns-in-Some-Check-clause-report
 returns-in-Some-Check-clause-report g c =
@@ -35,6 +35,12 @@ returns-in-Some-Instance-clause-report g c =
     let is = subst (λ d. IsCommand (spelled c.args.words.now) (asked_by d)) asked.field-0-is asked.ensures in
     IfOk-weaker c.report_files-in-Some-Instance.result _ _
     (λ r found. of_instance asked.left.now asked.right.now (option_map (λ w. w.now) asked.at) asked.limit (written r) is found) c.report_files-in-Some-Instance.ensures.report
+
+pub returns-in-Some-Flow-clause-report : goal.returns-in-Some-Flow-clause-report
+returns-in-Some-Flow-clause-report g c =
+    let asked = c.in-Some-Flow in
+    let is = subst (λ d. IsCommand (spelled c.args.words.now) (asked_by d)) asked.field-0-is asked.ensures in
+    IfOk-weaker c.report_flow.result _ _ (λ r found. of_flow asked.file.now (written r) is found) c.report_flow.ensures.report
 
 pub returns-in_ok-usage_line-in-None-clause-report : goal.returns-in_ok-usage_line-in-None-clause-report
 returns-in_ok-usage_line-in-None-clause-report g c =

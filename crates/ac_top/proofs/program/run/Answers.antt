@@ -1,20 +1,27 @@
-use Rattle.ac_port.specs.Counts.{Rose}
-use Rattle.ac_top.specs.Answers.{reported, no_memory}
-use Rattle.ac_words.specs.Commands.{spelled}
-use Rattle.ac_top.specs.Reads.{Fails}
-use Rattle.ac_top.specs.Stages.{written}
 use Rattle.std.proofs.Common.{refl}
-use Rattle.ac_top.proofs.Headline.{done, put_done}
+use Rattle.ac_port.specs.Counts.{Rose}
+use Rattle.ac_words.specs.Commands.{spelled}
+use Rattle.ac_top.specs.Answers.{no_memory, kept}
+use Rattle.ac_top.proofs.Delivering.{ends, leaves, tells_the_same, tells_different, no_writes}
 use Rattle.ac_top.proofs.program.run.Goals as goal
 
 pub returns-in-Ok-clause-answer : goal.returns-in-Ok-clause-answer
-returns-in-Ok-clause-answer g c = reported (written c.in-Ok.report) c.put.result c.in-Ok.ensures.report c.put.ensures
+returns-in-Ok-clause-answer g c = ends g.F.Files.read_makes g.F.Files.read_faults g.F.Files.contents g.F.Files.write_faults c.args.files.now c.report.new.files c.deliver.new.files (spelled c.args.words.now) c.in-Ok.report (Rose (g.S.Sink.faults c.args.out.now) (g.S.Sink.faults c.deliver.new.out)) (g.S.Sink.sent c.args.out.now) (g.S.Sink.sent c.deliver.new.out) c.deliver.result c.report.ensures.same c.report.ensures.same_writes c.in-Ok.ensures.report c.deliver.ensures.delivers c.deliver.ensures.untouched
 
 pub returns-in-Ok-clause-headline : goal.returns-in-Ok-clause-headline
-returns-in-Ok-clause-headline g c =
-    let files = g.F.Files.contents c.args.files.now in
-    put_done (spelled c.args.words.now) files (Rose (g.S.Sink.faults c.args.out.now) (g.S.Sink.faults c.put.new.out)) (g.S.Sink.sent c.args.out.now) (g.S.Sink.sent c.put.new.out) (written c.in-Ok.report) c.put.result c.put.ensures
-    (done (spelled c.args.words.now) files (Fails g.F.Files.read_makes g.F.Files.read_faults c.args.files.now c.report.new.files) (written c.in-Ok.report) c.in-Ok.ensures.report)
+returns-in-Ok-clause-headline g c = tells_the_same g.F.Files.read_makes g.F.Files.read_faults g.F.Files.contents g.F.Files.write_faults c.args.files.now c.report.new.files c.deliver.new.files (spelled c.args.words.now) c.in-Ok.report (Rose (g.S.Sink.faults c.args.out.now) (g.S.Sink.faults c.deliver.new.out)) (g.S.Sink.sent c.args.out.now) (g.S.Sink.sent c.deliver.new.out) c.deliver.result c.report.ensures.same c.report.ensures.same_writes c.in-Ok.ensures.report c.deliver.ensures.delivers c.deliver.ensures.untouched
+
+pub returns-in-Ok-clause-different : goal.returns-in-Ok-clause-different
+returns-in-Ok-clause-different g c = tells_different g.F.Files.read_makes g.F.Files.read_faults g.F.Files.contents g.F.Files.write_faults c.args.files.now c.report.new.files c.deliver.new.files (spelled c.args.words.now) c.in-Ok.report (Rose (g.S.Sink.faults c.args.out.now) (g.S.Sink.faults c.deliver.new.out)) (g.S.Sink.sent c.args.out.now) (g.S.Sink.sent c.deliver.new.out) c.deliver.result c.report.ensures.same c.report.ensures.same_writes c.in-Ok.ensures.report c.deliver.ensures.delivers c.deliver.ensures.untouched
+
+pub returns-in-Ok-clause-same : goal.returns-in-Ok-clause-same
+returns-in-Ok-clause-same g c = leaves g.F.Files.read_makes g.F.Files.read_faults g.F.Files.contents g.F.Files.write_faults c.args.files.now c.report.new.files c.deliver.new.files (spelled c.args.words.now) c.in-Ok.report (Rose (g.S.Sink.faults c.args.out.now) (g.S.Sink.faults c.deliver.new.out)) (g.S.Sink.sent c.args.out.now) (g.S.Sink.sent c.deliver.new.out) c.deliver.result c.report.ensures.same c.report.ensures.same_writes c.in-Ok.ensures.report c.deliver.ensures.delivers c.deliver.ensures.untouched
+
+pub returns-in-Ok-clause-same_writes : goal.returns-in-Ok-clause-same_writes
+returns-in-Ok-clause-same_writes g c = no_writes g.F.Files.read_makes g.F.Files.read_faults g.F.Files.contents g.F.Files.write_faults c.args.files.now c.report.new.files c.deliver.new.files (spelled c.args.words.now) c.in-Ok.report (Rose (g.S.Sink.faults c.args.out.now) (g.S.Sink.faults c.deliver.new.out)) (g.S.Sink.sent c.args.out.now) (g.S.Sink.sent c.deliver.new.out) c.deliver.result c.report.ensures.same c.report.ensures.same_writes c.in-Ok.ensures.report c.deliver.ensures.delivers c.deliver.ensures.untouched
 
 pub returns-in-Err-clause-answer : goal.returns-in-Err-clause-answer
-returns-in-Err-clause-answer g c = no_memory refl
+returns-in-Err-clause-answer g c = no_memory c.report.ensures.same refl
+
+pub returns-in-Err-clause-same : goal.returns-in-Err-clause-same
+returns-in-Err-clause-same g c = kept c.report.ensures.same

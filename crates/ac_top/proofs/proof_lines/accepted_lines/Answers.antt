@@ -1,4 +1,4 @@
-use Rattle.std.proofs.Common.{◌++◌, take, slice_index_or, ap, sym, ◌∙◌}
+use Rattle.std.proofs.Common.{◌++◌, slice_index_or, ap, sym, ◌∙◌}
 use Rattle.ac_top.specs.Texts.{accepted_line}
 use Rattle.ac_top.proofs.Lines.{further_accepted}
 use Rattle.ac_top.proofs.proof_lines.accepted_lines.Goals as goal

@@ -1,4 +1,4 @@
-use Rattle.std.proofs.Common.{◌≡◌, IfOk, IfSome, List, [], ◌∷◌, replicate, ℕ, Option, sym, ap, subst, ◌∙◌}
+use Rattle.std.proofs.Common.{◌≡◌, IfSome, List, [], ◌∷◌, replicate, ℕ, Option, sym, ap, subst, ◌∙◌}
 use Rattle.std.proofs.lemmas.Result.{IfOk-weaker}
 use Rattle.ac_port.specs.Contents.{Contents, IsTooBig}
 use Rattle.ac_port.specs.Counts.{Rose}

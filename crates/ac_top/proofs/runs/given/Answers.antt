@@ -1,4 +1,4 @@
-use Rattle.std.proofs.Common.{◌≡◌, ℤ, List, [], ℕ, IfOk, MatchOption, sym, subst}
+use Rattle.std.proofs.Common.{ℤ, List, [], IfOk, MatchOption, sym, subst}
 use Rattle.std.specs.Prelude.{option_map}
 use Rattle.ac_words.specs.Valuations.{IsValuationWord}
 use Rattle.ac_top.proofs.Instances.{IsFound}

@@ -1,8 +1,6 @@
-use Rattle.std.proofs.Common.{◌≡◌, ℤ, List, ℕ, Option, MatchOption, Vec, ap, sym, subst, ◌∙◌}
+use Rattle.std.proofs.Common.{ap, sym, subst, ◌∙◌}
 use Rattle.std.specs.Prelude.{option_map}
-use Rattle.std.specs.Global.{Global}
 use Rattle.std.proofs.lemmas.Result.{IfOk-weaker}
-use Rattle.ac_syntax.specs.declared.tree.Pair.{Pair}
 use Rattle.ac_instance.specs.Answers.{IsReadyAt}
 use Rattle.ac_top.specs.Reports.{report as a_report}
 use Rattle.ac_top.specs.Runs.{valuation_word, RunReports, InstanceReports, not_a_valuation, at_valuation}

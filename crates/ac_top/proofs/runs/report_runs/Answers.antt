@@ -1,7 +1,6 @@
-use Rattle.std.proofs.Common.{◌≡◌, List, ℕ, length, Err, sym, ap, subst, ◌∙◌}
+use Rattle.std.proofs.Common.{length, Err, sym, ap, subst, ◌∙◌}
 use Rattle.std.proofs.lemmas.Result.{IfOk-weaker}
 use Rattle.ac_instance.specs.Answers.{compared, IsAnswer}
-use Rattle.ac_instance.specs.declared.halt.Outcome.{Outcome}
 use Rattle.ac_top.specs.Reports.{report as a_report}
 use Rattle.ac_top.specs.Runs.{status_of, RunReports, ran}
 use Rattle.ac_top.specs.Stages.{written}

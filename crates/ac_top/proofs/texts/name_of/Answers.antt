@@ -1,6 +1,6 @@
 use Rattle.std.proofs.Common.{sym, ap, ◌∙◌}
 use Rattle.std.specs.Option.{option_copied}
-use Rattle.ac_top.proofs.Constants.{name_is, name_in}
+use Rattle.ac_top.proofs.Lines.{name_is, name_in}
 use Rattle.ac_top.proofs.texts.name_of.Goals as goal
 
 pub returns-in-Some : goal.returns-in-Some

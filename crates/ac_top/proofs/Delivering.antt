@@ -1,0 +1,197 @@
+-- What becomes of a report: the file for a proof, and the text.
+use Rattle.std.proofs.Common.{◌≡◌, ℕ, List, [], ◌∷◌, replicate, Option, None, Some, refl, sym, ap, subst, ◌∙◌}
+use Rattle.std.specs.Prelude.{option_map}
+use Rattle.std.specs.List.{AllByRecursion}
+use Rattle.ac_port.specs.Contents.{Contents}
+use Rattle.ac_syntax.specs.Outputs.{SameOutput}
+use Rattle.ac_syntax.specs.declared.tree.Pair.{Pair}
+use Rattle.ac_syntax.specs.declared.tree.Program.{Program}
+use Rattle.ac_claims.specs.declared.types.Proof.{Proof}
+use Rattle.ac_report.specs.declared.types.Verdict.{Verdict}
+use Rattle.ac_report.specs.declared.types.Verdict.TheVariants.{Equal, Different, Unknown}
+use Rattle.ac_walk.specs.Verdicts.{AreVerdicts, equal_outputs}
+use Rattle.ac_words.specs.Commands.{prove, IsCommand}
+use Rattle.ac_top.specs.Answers.{FileReports, first_unread, first_too_long, second_unread, second_too_long, sources, TextReports, text_refused, text_not_lowered, text_lowered, OneFileReports, file_unread, file_too_long, text_of_file, Reports, no_form, of_prove, of_check, of_instance, of_flow, CheckReports, proof_unread, tested, accepted, too_long, too_deep, not_valid, HoldAPair, Puts, whole, part, nothing, Delivers, only_put, proof_first, proof_fails, proof_wants, Ends, reported, DoneMeansTheSame, DifferentMeansDifferent, AsksFor, AskForAProof, KeepsFiles, kept, proof_written, proof_spoilt}
+use Rattle.ac_top.specs.Flows.{FlowReports, no_valuation, context_stopped, flow_stopped, flowed}
+use Rattle.ac_top.specs.Proving.{ProveReports, empty_context, compared, IsProofOf, IsFileOf, no_name, none_equal, whole_text, ShowsEqual}
+use Rattle.ac_top.specs.Reports.{Report, report as a_report, ProofFile}
+use Rattle.ac_top.specs.Runs.{InstanceReports, not_a_valuation, at_valuation, outside, too_large, range, ran}
+use Rattle.ac_top.specs.declared.status.Status.{Status}
+use Rattle.ac_top.specs.declared.status.Status.TheVariants as status
+use Rattle.ac_port.specs.Counts.{Rose}
+use Rattle.ac_top.specs.Reads.{Fails}
+use Rattle.ac_top.specs.Stages.{file_of, written}
+use Rattle.ac_top.specs.declared.report.ProofFile.{ProofFile as File}
+use Rattle.ac_top.specs.declared.report.Report.{Report as Written}
+use Rattle.ac_top.proofs.Headline.{of_files, done, different}
+
+-- each output that is equal is the same
+equal_same : (pair : Pair) (os : List ℕ) (vs : List Verdict) → AreVerdicts pair os vs → AllByRecursion (SameOutput pair) (equal_outputs os vs)
+equal_same pair [] vs h = tt
+equal_same pair (o ∷ os) [] h = absurd h
+equal_same pair (o ∷ os) (Equal ∷ vs) h = (h.0, equal_same pair os vs h.1)
+equal_same pair (o ∷ os) (Different params e ∷ vs) h = equal_same pair os vs h.1
+equal_same pair (o ∷ os) (Unknown cause ∷ vs) h = equal_same pair os vs h.1
+
+-- the file of a report of `prove`
+record Shown (pair : Pair) (name : Option (List ℕ)) (file : ProofFile) : Type 0 where
+  pub shows : ShowsEqual pair file.bytes
+  pub name_is : name ≡ Some file.name
+
+in_file : (pair : Pair) (vs : List Verdict) (proof : Proof) (name : Option (List ℕ)) (f : Option ProofFile) (file : ProofFile) → AreVerdicts pair pair.outputs vs → IsProofOf pair vs proof → IsFileOf proof name f → f ≡ Some file → Shown pair name file
+in_file pair vs proof name f file h is no_name e = absurd cc
+in_file pair vs proof name f file h is (none_equal p none) e = absurd cc
+in_file pair vs proof name f file h is (whole_text g some text) e =
+    let same : g ≡ file = cc in
+    record {
+      shows = record {
+        proof = proof;
+        text = ap (λ (x : ProofFile). x.bytes) (sym same) ∙ text;
+        accepted = is.accepted some;
+        some = some;
+        same = subst (AllByRecursion (SameOutput pair)) (sym is.names) (equal_same pair pair.outputs vs h);
+      };
+      name_is = ap (λ (x : ProofFile). Some x.name) same;
+    }
+
+shown : (pair : Pair) (name : Option (List ℕ)) (file : ProofFile) (r : Report) → ProveReports pair name r → r.proof ≡ Some file → Shown pair name file
+shown pair name file r (empty_context h) e = absurd cc
+shown pair name file r (compared vs proof f h is of) e = in_file pair vs proof name f file h is of e
+
+-- no other report has a file
+check_none : (files : Option Contents) (fails : ℕ → Type 0) (p : List ℕ) (pair : Pair) (file : ProofFile) (r : Report) → CheckReports files fails p pair r → r.proof ≡ Some file → ⊥
+check_none files fails p pair file r (proof_unread count h) e = absurd cc
+check_none files fails p pair file r (tested stream _ is (accepted left right outputs models h same)) e = absurd cc
+check_none files fails p pair file r (tested stream _ is (too_long left right models h)) e = absurd cc
+check_none files fails p pair file r (tested stream _ is (too_deep left right models h)) e = absurd cc
+check_none files fails p pair file r (tested stream _ is (not_valid left right number rule models h)) e = absurd cc
+
+instance_none : (a b first second : List ℕ) (pair : Pair) (at : Option (List ℕ)) (limit : ℕ) (file : ProofFile) (r : Report) → InstanceReports a b first second pair at limit r → r.proof ≡ Some file → ⊥
+instance_none a b first second pair at limit file r (not_a_valuation h) e = absurd cc
+instance_none a b first second pair at limit file r (at_valuation params _ given (outside d)) e = absurd cc
+instance_none a b first second pair at limit file r (at_valuation params _ given (too_large d)) e = absurd cc
+instance_none a b first second pair at limit file r (at_valuation params _ given (range side place value d)) e = absurd cc
+instance_none a b first second pair at limit file r (at_valuation params _ given (ran events outcomes d all same)) e = absurd cc
+
+program_none : (program : Program) (file : ProofFile) (r : Report) → FlowReports program r → r.proof ≡ Some file → ⊥
+program_none program file r (no_valuation n) e = absurd cc
+program_none program file r (context_stopped stop text un n is) e = absurd cc
+program_none program file r (flow_stopped stop text n is) e = absurd cc
+program_none program file r (flowed flow is) e = absurd cc
+
+text_none : (a bytes : List ℕ) (file : ProofFile) (r : Report) → TextReports a bytes r → r.proof ≡ Some file → ⊥
+text_none a bytes file r (text_refused said k) e = absurd cc
+text_none a bytes file r (text_not_lowered program said k m) e = absurd cc
+text_none a bytes file r (text_lowered program _ k m h) e = program_none program file r h e
+
+flow_none : (files : Option Contents) (fails : Type 0) (a : List ℕ) (file : ProofFile) (r : Report) → OneFileReports files fails a r → r.proof ≡ Some file → ⊥
+flow_none files fails a file r (file_unread h) e = absurd cc
+flow_none files fails a file r (file_too_long h) e = absurd cc
+flow_none files fails a file r (text_of_file bytes _ h k) e = text_none a bytes file r k e
+
+module _ (words : List (List ℕ)) (files : Option Contents) (fails : List (List ℕ) → List ℕ → Type 0) (file : ProofFile) where
+  abbrev HasIt : Report → Type 0
+  HasIt r = r.proof ≡ Some file
+
+  -- of the reports of two files, one with a file is that of `prove`
+  of_pair : (a b : List ℕ) (Is : Pair → Type 0) (OfPair : List ℕ → List ℕ → Pair → Report → Type 0) → ((first second : List ℕ) (pair : Pair) (r : Report) → OfPair first second pair r → HasIt r → Is pair)
+      → (r : Report) → FileReports files fails a b OfPair r → HasIt r → HoldAPair files a b Is
+  of_pair a b Is OfPair good r h e = of_files files a b Is HasIt (λ text k. absurd cc) (λ text k. absurd cc) fails OfPair good r h e
+
+  asks_prove : (a b : List ℕ) (budget : ℕ) (name : Option (List ℕ)) → IsCommand words (prove a b budget name) → HoldAPair files a b (λ pair. Shown pair name file) → AsksFor words files file
+  asks_prove a b budget name is h = record {
+    a = a;
+    b = b;
+    budget = budget;
+    is = subst (λ (n : Option (List ℕ)). IsCommand words (prove a b budget n)) h.is.name_is is;
+    shows = record { first = h.first; second = h.second; holds_first = h.holds_first; holds_second = h.holds_second; pair = h.pair; are = h.are; is = h.is.shows };
+  }
+
+  -- a report with a file is that of a command that asks for it
+  pub asks : (r : Report) → Reports words files fails r → HasIt r → AsksFor words files file
+  asks r (no_form h) e = absurd cc
+  asks r (of_prove a b budget name s is h) e =
+      asks_prove a b budget name is (of_pair a b (λ pair. Shown pair name file) (λ first second pair. ProveReports pair name) (λ first second pair u p k. shown pair name file u p k) s h e)
+  asks r (of_check a b p s is h) e =
+      absurd ((of_pair a b (λ pair. ⊥) (λ first second pair. CheckReports files (λ count. fails (a ∷ b ∷ replicate count p) p) p pair) (λ first second pair u q k. check_none files (λ count. fails (a ∷ b ∷ replicate count p) p) p pair file u q k) s h e).is)
+  asks r (of_instance a b at limit s is h) e =
+      absurd ((of_pair a b (λ pair. ⊥) (λ first second pair. InstanceReports a b first second pair at limit) (λ first second pair u q k. instance_none a b first second pair at limit file u q k) s h e).is)
+  asks r (of_flow a s is h) e = absurd (flow_none files (fails [] a) a file s h e)
+
+  -- of a report with a file no read failed, so it is one whatever is said of reads that fail
+  module _ (also : List (List ℕ) → List ℕ → Type 0) where
+    files_too : (a b : List ℕ) (OfPair : List ℕ → List ℕ → Pair → Report → Type 0) (r : Report) → FileReports files fails a b OfPair r → HasIt r → FileReports files also a b OfPair r
+    files_too a b OfPair r (first_unread h) e = absurd cc
+    files_too a b OfPair r (first_too_long h) e = absurd cc
+    files_too a b OfPair r (second_unread x h k) e = absurd cc
+    files_too a b OfPair r (second_too_long x h k) e = absurd cc
+    files_too a b OfPair r (sources x y _ h k m) e = sources x y r h k m
+
+    pub reports_too : (r : Report) → Reports words files fails r → HasIt r → Reports words files also r
+    reports_too r (no_form h) e = absurd cc
+    reports_too r (of_prove a b budget name _ is h) e = of_prove a b budget name r is (files_too a b (λ first second pair. ProveReports pair name) r h e)
+    reports_too r (of_check a b p s is h) e =
+        absurd ((of_pair a b (λ pair. ⊥) (λ first second pair. CheckReports files (λ count. fails (a ∷ b ∷ replicate count p) p) p pair) (λ first second pair u q k. check_none files (λ count. fails (a ∷ b ∷ replicate count p) p) p pair file u q k) s h e).is)
+    reports_too r (of_instance a b at limit s is h) e =
+        absurd ((of_pair a b (λ pair. ⊥) (λ first second pair. InstanceReports a b first second pair at limit) (λ first second pair u q k. instance_none a b first second pair at limit file u q k) s h e).is)
+    reports_too r (of_flow a s is h) e = absurd (flow_none files (fails [] a) a file s h e)
+
+-- what a run leaves
+module _ (words : List (List ℕ)) (fails : List (List ℕ) → List ℕ → Type 0) (spoilt failed : Type 0) (files after : Option Contents) (before now : Option (List ℕ)) (r : Report) where
+  pub keeps : (s : Status) → Reports words files fails r → Delivers r spoilt failed files after before now s → KeepsFiles words spoilt files after
+  keeps s h (only_put _ none e p) = kept e
+  keeps s h (proof_first file _ is e p) = proof_written file (asks words files fails file r h is) e
+  keeps s h (proof_fails file _ is bad same p) = proof_spoilt file (asks words files fails file r h is) bad same
+  keeps s h (proof_wants file is e k) = kept e
+
+  put_as : (P : Status → Type 0) (t : Report) (s : Status) → P t.status → P status.WriteFault → P status.Memory → Puts t failed before now s → P s
+  put_as P t s h k m (whole e) = h
+  put_as P t s h k m (part count bad e) = k
+  put_as P t s h k m (nothing e) = m
+
+  -- the status is that of the report, or of a write that failed, or of want of memory
+  pub delivered : (P : Status → Type 0) (s : Status) → P r.status → P status.WriteFault → P status.Memory → Delivers r spoilt failed files after before now s → P s
+  delivered P s h k m (only_put _ none e p) = put_as P r s h k m p
+  delivered P s h k m (proof_first file _ is e p) = put_as P r s h k m p
+  delivered P s h k m (proof_fails file _ is bad same p) = put_as P (a_report status.WriteFault _) s k k m p
+  delivered P s h k m (proof_wants file is e none) = m
+
+asks_for_a_proof : (words : List (List ℕ)) (files : Option Contents) (file : ProofFile) → AsksFor words files file → AskForAProof words
+asks_for_a_proof words files file h = (h.a, h.b, h.budget, file.name, h.is)
+
+-- a run: what is reported, by the files before and behind the reads, and what then becomes of the report
+module _ {Files : Type 0} (makes : Files → List ℕ → Files → Type 0) (faults : Files → ℕ) (contents : Files → Option Contents) (write_faults : Files → ℕ) (old mid new : Files)
+    (words : List (List ℕ)) (report : Written) (failed : Type 0) (before now : Option (List ℕ)) (s : Status) (same : contents mid ≡ contents old) (same_writes : write_faults mid ≡ write_faults old)
+    (h : Reports words (contents old) (Fails makes faults old mid) (written report)) (d : Delivers (written report) (Rose (write_faults mid) (write_faults new)) failed (contents mid) (contents new) before now s)
+    (untouched : report.proof ≡ None → new ≡ mid) where
+  delivers_here : Delivers (written report) (Rose (write_faults old) (write_faults new)) failed (contents old) (contents new) before now s
+  delivers_here =
+      subst (λ (w : ℕ). Delivers (written report) (Rose w (write_faults new)) failed (contents old) (contents new) before now s) same_writes
+      (subst (λ (f : Option Contents). Delivers (written report) (Rose (write_faults mid) (write_faults new)) failed f (contents new) before now s) same d)
+
+  by_file : (o : Option File) → report.proof ≡ o → Reports words (contents old) (Fails makes faults old new) (written report)
+  by_file None e = subst (λ (m : Files). Reports words (contents old) (Fails makes faults old m) (written report)) (sym (untouched e)) h
+  by_file (Some f) e = reports_too words (contents old) (Fails makes faults old mid) (file_of f) (Fails makes faults old new) (written report) h (ap (option_map file_of) e)
+
+  pub ends : Ends words (contents old) (contents new) (Fails makes faults old new) (Rose (write_faults old) (write_faults new)) failed before now s
+  ends = reported (written report) s (by_file report.proof refl) delivers_here
+
+  pub leaves : KeepsFiles words (Rose (write_faults old) (write_faults new)) (contents old) (contents new)
+  leaves = keeps words (Fails makes faults old mid) (Rose (write_faults old) (write_faults new)) failed (contents old) (contents new) before now (written report) s h delivers_here
+
+  of_status : (P : Status → Type 0) → P report.status → P status.WriteFault → P status.Memory → P s
+  of_status P k m n = delivered words (Fails makes faults old mid) (Rose (write_faults old) (write_faults new)) failed (contents old) (contents new) before now (written report) P s k m n delivers_here
+
+  pub tells_the_same : DoneMeansTheSame words (contents old) s
+  tells_the_same = of_status (DoneMeansTheSame words (contents old)) (done words (contents old) (Fails makes faults old mid) (written report) h) (λ e. absurd cc) (λ e. absurd cc)
+
+  pub tells_different : DifferentMeansDifferent words (contents old) s
+  tells_different = of_status (DifferentMeansDifferent words (contents old)) (different words (contents old) (Fails makes faults old mid) (written report) h) (λ e. absurd cc) (λ e. absurd cc)
+
+  by_none : (o : Option File) → report.proof ≡ o → ¬ (AskForAProof words) → write_faults new ≡ write_faults old
+  by_none None e unasked = ap write_faults (untouched e) ∙ same_writes
+  by_none (Some f) e unasked =
+      absurd (unasked (asks_for_a_proof words (contents old) (file_of f) (asks words (contents old) (Fails makes faults old mid) (file_of f) (written report) h (ap (option_map file_of) e))))
+
+  pub no_writes : ¬ (AskForAProof words) → write_faults new ≡ write_faults old
+  no_writes = by_none report.proof refl

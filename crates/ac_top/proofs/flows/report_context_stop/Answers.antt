@@ -1,0 +1,29 @@
+use Rattle.std.proofs.Common.{sym, subst}
+use Rattle.ac_top.specs.Flows.{FlowReports}
+use Rattle.ac_top.specs.Reports.{report as a_report}
+use Rattle.ac_top.proofs.Flowing.{stop_status, context_report}
+use Rattle.ac_top.proofs.flows.report_context_stop.Goals as goal
+
+pub returns-in-EmptyContext : goal.returns-in-EmptyContext
+returns-in-EmptyContext c =
+    let p = c.args.program.now in
+    let t = c.in_ok-text.text.items in
+    subst (FlowReports p) (sym c.refused.ensures) (subst (λ s. FlowReports p (a_report (stop_status s) t)) c.in-EmptyContext.is (context_report p c.args.stop.now t c.requires.context c.requires.stop c.in_ok-text.ensures))
+
+pub returns-in-Overflow : goal.returns-in-Overflow
+returns-in-Overflow c =
+    let p = c.args.program.now in
+    let t = c.in_ok-text.text.items in
+    subst (FlowReports p) (sym c.stopped.ensures) (subst (λ s. FlowReports p (a_report (stop_status s) t)) c.in-Overflow.is (context_report p c.args.stop.now t c.requires.context c.requires.stop c.in_ok-text.ensures))
+
+pub returns-in-Spent : goal.returns-in-Spent
+returns-in-Spent c =
+    let p = c.args.program.now in
+    let t = c.in_ok-text.text.items in
+    subst (FlowReports p) (sym c.stopped-in-Spent.ensures) (subst (λ s. FlowReports p (a_report (stop_status s) t)) c.in-Spent.is (context_report p c.args.stop.now t c.requires.context c.requires.stop c.in_ok-text.ensures))
+
+pub returns-in-Memory : goal.returns-in-Memory
+returns-in-Memory c =
+    let p = c.args.program.now in
+    let t = c.in_ok-text.text.items in
+    subst (FlowReports p) (sym c.stopped-in-Memory.ensures) (subst (λ s. FlowReports p (a_report (stop_status s) t)) c.in-Memory.is (context_report p c.args.stop.now t c.requires.context c.requires.stop c.in_ok-text.ensures))

@@ -1,0 +1,11 @@
+use Rattle.std.proofs.Common.{subst}
+use Rattle.ac_poly.specs.Model.{HasContext}
+use Rattle.ac_flow.specs.Contexts.{ContextStops}
+use Rattle.ac_top.specs.Flows.{default_budget}
+use Rattle.ac_top.proofs.flows.report_model.Goals as goal
+
+pub report_context_stop-requires-clause-context : goal.report_context_stop-requires-clause-context
+report_context_stop-requires-clause-context c = subst (HasContext c.args.program.now.context) c.requires.model c.requires.context
+
+pub report_context_stop-requires-clause-stop : goal.report_context_stop-requires-clause-stop
+report_context_stop-requires-clause-stop c = subst (λ m. ContextStops default_budget m c.in-Err.stop) c.requires.model c.in-Err.ensures.stops

@@ -1,0 +1,20 @@
+use Rattle.std.proofs.Common.{sym, ap, subst, ◌∙◌}
+use Rattle.std.proofs.lemmas.Result.{IfOk-weaker}
+use Rattle.ac_top.specs.Answers.{TextReports, text_not_lowered, text_lowered}
+use Rattle.ac_top.specs.Reports.{report as a_report}
+use Rattle.ac_top.specs.Stages.{written, IsLowering, said_by}
+use Rattle.ac_top.specs.declared.status.Status.TheVariants as status
+use Rattle.ac_top.proofs.flows.report_program.Goals as goal
+
+pub returns-in-Model : goal.returns-in-Model
+returns-in-Model c =
+    let p = c.args.program.now in
+    let made = subst (IsLowering p p.context) c.in-Model.is c.in_ok-model.ensures in
+    IfOk-weaker c.report_model.result _ _ (λ r found. text_lowered p (written r) c.requires.is made.0 found) c.report_model.ensures
+
+pub returns-in_ok-refusal_line-in-Refused : goal.returns-in_ok-refusal_line-in-Refused
+returns-in_ok-refusal_line-in-Refused c =
+    let p = c.args.program.now in
+    let file = c.args.file.now in
+    let why = subst (IsLowering p p.context) c.in-Refused.is c.in_ok-model.ensures in
+    subst (TextReports file.name.now file.bytes.now) (sym (c.refused.ensures ∙ ap (a_report status.Refused) c.in_ok-refusal_line-in-Refused.ensures)) (text_not_lowered p (said_by c.in-Refused.complaint) c.requires.is why)

@@ -1,6 +1,0 @@
-use Rattle.std.proofs.Common.{◌≡◌, take}
-use Rattle.ac_top.specs.Texts.{verdict_lines}
-use Rattle.ac_top.proofs.texts.verdict_lines.Given as goal
-
-abbrev pub invariant-loop-at : goal.invariant-loop-at
-invariant-loop-at l = l.bytes.items ≡ verdict_lines l.arrays (take l.at l.outputs) (take l.at l.verdicts)

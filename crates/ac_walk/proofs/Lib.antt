@@ -1,0 +1,4 @@
+pub mod Elements
+pub mod Gathered
+pub mod Spelling
+pub mod Contexts

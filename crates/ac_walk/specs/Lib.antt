@@ -1,0 +1,4 @@
+pub mod Verdicts
+pub mod Stops
+pub mod Gathering
+pub mod Deciding

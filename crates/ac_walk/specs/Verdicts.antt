@@ -1,0 +1,70 @@
+-- What the search says of a pair, output by output, and the proof that it gives.
+use Rattle.std.specs.Prelude.{ℕ, ℤ, List, [], ◌∷◌, ◌++◌, map, Some}
+use Rattle.std.specs.List.{AllByRecursion}
+use Rattle.ac_syntax.specs.Outputs.{IsValuation, SameOutput}
+use Rattle.ac_syntax.specs.declared.tree.Pair.{Pair}
+use Rattle.ac_instance.specs.Answers.{compared}
+use Rattle.ac_instance.specs.Least.{IsLeast}
+use Rattle.ac_poly.specs.Model.{model_of}
+use Rattle.ac_paths.specs.Going.{Pairing}
+use Rattle.ac_claims.specs.ProofFaults.{IsValidProof}
+use Rattle.ac_claims.specs.ProofMachine.{AreSpelledTrees}
+use Rattle.ac_claims.specs.Soundness.{ClaimsHaveModuli, pairing_of}
+use Rattle.ac_claims.specs.declared.types.Proof.{Proof}
+use Rattle.ac_report.specs.declared.types.Verdict.{Verdict}
+use Rattle.ac_report.specs.declared.types.Verdict.TheVariants.{Equal, Different, Unknown}
+use Rattle.ac_walk.specs.declared.types.ProveStop.{ProveStop}
+use Rattle.ac_walk.specs.declared.types.ProveStop.TheVariants.{EmptyContext, Memory}
+
+-- at a valuation of the context this is the least element whose terms do not agree
+abbrev pub IsDifferentAt : Pair → ℕ → List ℤ → List ℤ → Type 0
+IsDifferentAt pair output at element = IsValuation pair at × IsLeast (compared pair at output) (Some element)
+
+-- equal: the output is the same; different: at this valuation this is its least element whose terms do not agree
+abbrev pub IsVerdict : Pair → ℕ → Verdict → Type 0
+IsVerdict pair output Equal = SameOutput pair output
+IsVerdict pair output (Different at element) = IsDifferentAt pair output at element
+IsVerdict pair output (Unknown cause) = Unit {0}
+
+-- one verdict for each output, in order
+abbrev pub AreVerdicts : Pair → List ℕ → List Verdict → Type 0
+AreVerdicts pair [] [] = Unit {0}
+AreVerdicts pair [] (v ∷ vs) = ⊥
+AreVerdicts pair (o ∷ os) [] = ⊥
+AreVerdicts pair (o ∷ os) (v ∷ vs) = IsVerdict pair o v × AreVerdicts pair os vs
+
+-- an output, if its verdict is Equal
+abbrev pub if_equal : ℕ → Verdict → List ℕ
+if_equal output Equal = output ∷ []
+if_equal output (Different at element) = []
+if_equal output (Unknown cause) = []
+
+-- the outputs whose verdict is Equal
+abbrev pub equal_outputs : List ℕ → List Verdict → List ℕ
+equal_outputs [] vs = []
+equal_outputs (o ∷ os) [] = []
+equal_outputs (o ∷ os) (v ∷ vs) = if_equal o v ++ equal_outputs os vs
+
+-- the outputs that a proof names
+abbrev pub named : Proof → List ℕ
+named proof = map (λ o. o.0) proof.outputs
+
+-- the programs of the pair under its context, as the check of a proof takes them
+abbrev pub pairing : Pair → Pairing
+pairing pair = pairing_of pair (model_of pair.left pair.context) (model_of pair.right pair.context)
+
+-- the check of proofs accepts it
+abbrev pub IsAccepted : Pair → Proof → Type 0
+IsAccepted pair proof = IsValidProof (pairing pair) pair.outputs proof
+
+-- it is spelled, and the check of proofs accepts it, so each output that it names is the same
+pub record IsSound (pair : Pair) (proof : Proof) : Type 0 where
+  pub spelled : AreSpelledTrees proof.trees.items
+  pub claims : ClaimsHaveModuli proof
+  pub accepted : IsAccepted pair proof
+  pub same : AllByRecursion (SameOutput pair) (named proof)
+
+-- no valuation meets the context
+abbrev pub IsStop : Pair → ProveStop → Type 0
+IsStop pair EmptyContext = (params : List ℤ) → ¬ (IsValuation pair params)
+IsStop pair (Memory want) = Unit {0}
