@@ -1,19 +1,20 @@
 -- Where the rows that a choice leaves stand: behind trails without steps, behind a class, behind raised rows, and behind splinters.
-use Rattle.std.proofs.Common.{◌≡◌, ℕ, zero, suc, ◌+◌, ℤ, pos, neg_ℤ, ◌+ℤ◌, Bool, true, false, cond, List, [], ◌∷◌, ◌++◌, length, take, map, Option, Some, None, slice_get, refl, sym, ap, subst, ◌∙◌, arith, append_assoc, length-append}
+use Rattle.std.proofs.Common.{◌≡◌, ℕ, zero, suc, ◌+◌, ℤ, pos, neg_ℤ, ◌+ℤ◌, true, false, cond, List, [], ◌∷◌, ◌++◌, length, take, Option, Some, None, slice_get, refl, sym, ap, subst, ◌∙◌, arith, append_assoc, length-append}
 use Rattle.std.specs.Prelude.{Result, Ok, Err, IfOk}
 use Rattle.std.proofs.lemmas.Int.{ints}
-use Rattle.ac_forms.specs.Affine.{Affine, coef, column_form, shifted}
+use Rattle.ac_forms.specs.Affine.{Affine, column_form, shifted}
+use Rattle.ac_forms.specs.Rows.{form_of}
 use Rattle.ac_forms.specs.declared.conj.Conj.{Conj}
 use Rattle.ac_forms.specs.declared.row.Row.{Row}
 use Rattle.ac_forms.specs.declared.row.Row.TheVariants.{Eq, Div, Ge}
 use Rattle.ac_cert.specs.declared.choose.Choice.{Choice}
-use Rattle.ac_cert.specs.Bounds.{is_low, last_splinter}
+use Rattle.ac_cert.specs.Bounds.{is_low}
+use Rattle.ac_cert.specs.Choices.{is_lower_row}
 use Rattle.ac_cert.specs.Rules.{class_row}
-use Rattle.ac_trails.specs.Branches.{lift_count, lifts, raised_places, splinter_count, IsAlong, AreAlong, with_rows, Stage, IsOn, IsClass, IsRaised, worth, IsSplintered, IsBranch, stage}
+use Rattle.ac_trails.specs.Branches.{lift_count, lifts, raised_places, IsAlong, AreAlong, with_rows, Stage, IsOn, IsClass, IsRaised, worth, IsSplintered, IsBranch, stage}
 use Rattle.ac_trails.specs.Descents.{StandOn, Carries, base_of, column_less, raised_rows}
 use Rattle.ac_trails.specs.Leaves.{less}
 use Rattle.ac_trails.specs.Standing.{place_of, coef_of, Renames, StandsAt, Stand, IsOnto}
-use Rattle.ac_trails.specs.Tries.{count_to}
 use Rattle.ac_trails.specs.declared.branch.Branch.{Branch}
 use Rattle.ac_trails.specs.declared.descent.Base.{Base}
 use Rattle.ac_trails.specs.declared.path.Trail.{Trail}
@@ -115,36 +116,41 @@ along-stands ns d front rest r s n e l h = record {
   renames = h.renames;
 }
 
--- the lower rows stand at their places behind their splinters
-stand-raised : (ns : List ℕ) (d : Conj) (z : ℕ) (a : ℤ) (rs : List Row) (ps : List ℕ) (front more : List Row) (next : ℕ) → Stand ns d rs ps → AreAlong ns (lifts rs (map (splinter_count z a) rs)) more → d.rows ≡ front ++ more → length front ≡ next
-    → Stand ns d (raised_rows z a rs) (raised_places z rs (map (splinter_count z a) rs) ps next)
-stand-raised ns d z a [] ps front more next h g e l = tt
-stand-raised ns d z a (r ∷ rs) [] front more next h g e l = absurd h
-stand-raised ns d z a (Eq f ∷ rs) (p ∷ ps) front more next h g e l = stand-raised ns d z a rs ps front more next h.1 g e l
-stand-raised ns d z a (Div m f ∷ rs) (p ∷ ps) front more next h g e l = stand-raised ns d z a rs ps front more next h.1 g e l
-stand-raised ns d z a (Ge f ∷ rs) (p ∷ ps) front more next h g e l = by (is_low z f) (count_to (last_splinter a (coef z f))) more refl g e (λ front more next g e l. stand-raised ns d z a rs ps front more next h.1 g e l)
-  where
-    by : (t : Bool) (n : ℕ) (more : List Row) → is_low z f ≡ t → AreAlong ns (lifts (Ge f ∷ rs) (cond t n 0 ∷ map (splinter_count z a) rs)) more → d.rows ≡ front ++ more
-        → ((front more : List Row) (next : ℕ) → AreAlong ns (lifts rs (map (splinter_count z a) rs)) more → d.rows ≡ front ++ more → length front ≡ next → Stand ns d (raised_rows z a rs) (raised_places z rs (map (splinter_count z a) rs) ps next))
-        → Stand ns d (cond t (Ge (less f n) ∷ raised_rows z a rs) (raised_rows z a rs)) (raised_places z (Ge f ∷ rs) (cond t n 0 ∷ map (splinter_count z a) rs) (p ∷ ps) next)
-    by false n more t g e go = rw t (go front more next g e l)
-    by true zero more t g e go = rw t (stands-less ns d p f h.0, go front more next g e l)
-    by true (suc n) [] t g e go = absurd g
-    by true (suc n) (s ∷ more) t g e go =
-        let far : d.rows ≡ (front ++ s ∷ []) ++ more = e ∙ sym (append_assoc front (s ∷ []) more) in
-        let long : length (front ++ s ∷ []) ≡ next + 1 = omega (arith, length-append front (s ∷ []), l) in
-        rw t (along-stands ns d front more (Ge (less f (suc n))) s next e l g.0, go (front ++ s ∷ []) more (next + 1) g.1 far long)
+-- a row more, at the place where it stands if it is a lower one
+with-lower : (ns : List ℕ) (d : Conj) (z : ℕ) (r : Row) (rs : List Row) (n : ℕ) (counts : List ℕ) (place : ℕ) (places : List ℕ) → ((f : Affine) → r ≡ Ge f → StandsAt ns d place (Ge (less f n))) → Stand ns d (raised_rows z rs counts) places
+    → Stand ns d (raised_rows z (r ∷ rs) (n ∷ counts)) (cond (is_lower_row z (Some r)) (place ∷ places) places)
+with-lower ns d z (Eq f) rs n counts place places here rest = rest
+with-lower ns d z (Div m f) rs n counts place places here rest = rest
+with-lower ns d z (Ge f) rs n counts place places here rest =
+    elim (is_low z f) as (λ t. Stand ns d (cond t (Ge (less f n) ∷ raised_rows z rs counts) (raised_rows z rs counts)) (cond t (place ∷ places) places)) [
+      | true ↦ (here f refl, rest)
+      | false ↦ rest
+    ]
 
-pub stand-shadow : (b : Base) (c d : Conj) (ns : List ℕ) (rs : List Row) (ps counts : List ℕ) (z n : ℕ) (a : ℤ) → counts ≡ map (splinter_count z a) rs → length counts ≡ length rs → n ≡ b.rows + lift_count counts → StandOn b ns rs ps c → IsRaised ns rs counts c d
-    → StandOn (base_with b n) ns (rs ++ raised_rows z a rs) (ps ++ raised_places z rs counts ps b.rows) d
-stand-shadow b c d ns rs ps counts z n a is long e s h =
+-- the lower rows stand at their places behind their splinters
+stand-raised : (ns : List ℕ) (d : Conj) (z : ℕ) (rs : List Row) (counts ps : List ℕ) (front more : List Row) (next : ℕ) → Stand ns d rs ps → AreAlong ns (lifts rs counts) more → d.rows ≡ front ++ more → length front ≡ next
+    → Stand ns d (raised_rows z rs counts) (raised_places z rs counts ps next)
+stand-raised ns d z [] counts ps front more next h g e l = tt
+stand-raised ns d z (r ∷ rs) [] ps front more next h g e l = tt
+stand-raised ns d z (r ∷ rs) (n ∷ counts) [] front more next h g e l = absurd h
+stand-raised ns d z (r ∷ rs) (zero ∷ counts) (p ∷ ps) front more next h g e l =
+    with-lower ns d z r rs 0 counts p (raised_places z rs counts ps next) (λ f is. stands-less ns d p f (subst (StandsAt ns d p) is h.0)) (stand-raised ns d z rs counts ps front more next h.1 g e l)
+stand-raised ns d z (r ∷ rs) (suc n ∷ counts) (p ∷ ps) front [] next h g e l = absurd g
+stand-raised ns d z (r ∷ rs) (suc n ∷ counts) (p ∷ ps) front (s ∷ more) next h g e l =
+    let far : d.rows ≡ (front ++ s ∷ []) ++ more = e ∙ sym (append_assoc front (s ∷ []) more) in
+    let long : length (front ++ s ∷ []) ≡ next + 1 = omega (arith, length-append front (s ∷ []), l) in
+    let here : StandsAt ns d next (Ge (less (form_of r) (suc n))) = along-stands ns d front more (Ge (less (form_of r) (suc n))) s next e l g.0 in
+    with-lower ns d z r rs (suc n) counts next (raised_places z rs counts ps (next + 1)) (λ f is. subst (λ (x : Row). StandsAt ns d next (Ge (less (form_of x) (suc n)))) is here)
+    (stand-raised ns d z rs counts ps (front ++ s ∷ []) more (next + 1) h.1 g.1 far long)
+
+pub stand-shadow : (b : Base) (c d : Conj) (ns : List ℕ) (rs : List Row) (ps counts : List ℕ) (z n : ℕ) → length counts ≡ length rs → n ≡ b.rows + lift_count counts → StandOn b ns rs ps c → IsRaised ns rs counts c d
+    → StandOn (base_with b n) ns (rs ++ raised_rows z rs counts) (ps ++ raised_places z rs counts ps b.rows) d
+stand-shadow b c d ns rs ps counts z n long e s h =
     let size : n ≡ b.rows + length h.more = omega (arith, e, along-length ns (lifts rs counts) h.more h.along, all-lifts-length rs counts long) in
     let t : StandOn (base_with b n) ns rs ps (with_rows c h.more) = stand-further b c ns rs ps h.more n size s in
-    let along : AreAlong ns (lifts rs (map (splinter_count z a) rs)) h.more = subst (λ (x : List ℕ). AreAlong ns (lifts rs x) h.more) is h.along in
-    let up = stand-raised ns (with_rows c h.more) z a rs ps c.rows h.more b.rows t.stand along refl s.rows in
-    let up' = subst (λ (x : List ℕ). Stand ns (with_rows c h.more) (raised_rows z a rs) (raised_places z rs x ps b.rows)) (sym is) up in
-    subst (λ (x : Conj). StandOn (base_with b n) ns (rs ++ raised_rows z a rs) (ps ++ raised_places z rs counts ps b.rows) x) (sym h.is)
-    (record { columns = t.columns; rows = t.rows; one = t.one; names = t.names; stand = stand-append ns (with_rows c h.more) rs ps (raised_rows z a rs) (raised_places z rs counts ps b.rows) t.stand up' })
+    let up = stand-raised ns (with_rows c h.more) z rs counts ps c.rows h.more b.rows t.stand h.along refl s.rows in
+    subst (λ (x : Conj). StandOn (base_with b n) ns (rs ++ raised_rows z rs counts) (ps ++ raised_places z rs counts ps b.rows) x) (sym h.is)
+    (record { columns = t.columns; rows = t.rows; one = t.one; names = t.names; stand = stand-append ns (with_rows c h.more) rs ps (raised_rows z rs counts) (raised_places z rs counts ps b.rows) t.stand up })
 
 -- ---- behind splinters
 

@@ -151,13 +151,13 @@ pub record Ready (b : Branch) (r : Refutation) : Type 0 where
 
 pub ready : (s : Stage) (c : Conj) (h : Choice) (r : Refutation) (b : Branch) → s.rows ≡ c.rows → length s.names ≡ c.columns → Chosen c h r s.counts → IsBranch s h b → Ready b r
 ready s c h r b e n x i =
-    let rows : b.standing.rows.items ≡ left_by h c.rows = i.rows ∙ ap (left_by h) e in
     let long : length b.names.items ≡ c.columns = i.names ∙ n in
+    let left : left_by h s.rows ≡ left_by h c.rows = ap (left_by h) e in
     record {
       names = long ∙ sym x.columns;
-      made = rw (long, rows) x.tried.made;
-      fits = rw rows x.rows_fit';
-      normal = rw rows x.rows;
+      made = rw i.names (i.rows.made (rw (n, left) x.tried.made));
+      fits = i.rows.fits (rw left x.rows_fit');
+      normal = x.rows ∙ ap normal_form (sym left) ∙ sym i.rows.normal;
     }
 
 pub serves : (s : Stage) (h : Choice) (b : Branch) (t : Tree End) → IsBranch s h b → ((start : Conj) → Carries b.trail start b.names.items b.standing.rows.items b.standing.places.items → Accepts t absurd_refusals start) → Serves s h t

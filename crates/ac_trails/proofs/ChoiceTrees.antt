@@ -1,5 +1,5 @@
 -- The tree of all choices is accepted where the tree of each is.
-use Rattle.std.proofs.Common.{◌≡◌, ℕ, zero, suc, ◌+◌, ◌≤◌, ℤ, pos, negsuc, neg_ℤ, ◌-ℤ◌, ◌≤ℤ◌, List, [], ◌∷◌, length, map, take, drop, get_or, refl, sym, ap, subst, ◌∙◌, arith}
+use Rattle.std.proofs.Common.{◌≡◌, ℕ, zero, suc, ◌+◌, ◌≤◌, ℤ, pos, negsuc, neg_ℤ, ◌-ℤ◌, ◌≤ℤ◌, List, [], ◌∷◌, length, take, drop, get_or, refl, sym, ap, subst, ◌∙◌, arith}
 use Rattle.std.specs.Prelude.{Result, IfOk}
 use Rattle.std.proofs.lemmas.Int.{ints}
 use Rattle.ac_forms.specs.Affine.{Affine, column_form}
@@ -11,9 +11,9 @@ use Rattle.ac_cert.specs.declared.choose.Choice.TheVariants as choice
 use Rattle.ac_cert.specs.declared.ends.Absurd.{Absurd}
 use Rattle.ac_cert.specs.declared.types.Tree.{Tree}
 use Rattle.ac_cert.specs.Accepted.{Accepts, AcceptsEach, absurd_refusals}
-use Rattle.ac_cert.specs.Bounds.{greatest_size, highs}
-use Rattle.ac_trails.specs.Branches.{Stage, stage, IsOn, ServeFirst, ServeLeaves, IsRaised, splinter_count, leaf_choices, residue_choices, AreResidues, AreAll}
+use Rattle.ac_trails.specs.Branches.{Stage, stage, IsOn, ServeFirst, ServeLeaves, IsRaised, leaf_choices, residue_choices, AreResidues, AreAll}
 use Rattle.ac_trails.specs.Standing.{Renames}
+use Rattle.ac_trails.specs.Sufficing.{Suffice}
 use Rattle.ac_trails.proofs.Branching.{ok-as}
 use Rattle.ac_trails.proofs.RaisedTrees.{raised-nothing}
 
@@ -69,13 +69,13 @@ residues-accepted s n z m hs ts res a e served k =
 
 pub record AreSplinters (rows : List Row) (counts : List ℕ) (hs : List Choice) (z : ℕ) : Type 0 where
   pub is : hs ≡ choice.Shadow z ∷ leaf_choices z 0 counts
-  pub counted : counts ≡ map (splinter_count z (greatest_size (highs z rows))) rows
+  pub suffice : Suffice z rows rows counts
 
 pub are-splinters : (n : ℕ) (rows : List Row) (counts : List ℕ) (hs : List Choice) (z : ℕ) → AreAll n rows counts hs → get_or hs 0 (choice.Drop 0) ≡ choice.Shadow z → AreSplinters rows counts hs z
 are-splinters n rows counts [] z a e = absurd a
 are-splinters n rows counts (h ∷ hs) z a e =
     let b : AreAll n rows counts (choice.Shadow z ∷ hs) = subst (λ (x : Choice). AreAll n rows counts (x ∷ hs)) e a in
-    subst (λ (x : Choice). AreSplinters rows counts (x ∷ hs) z) (sym e) (record { is = ap (λ (gs : List Choice). choice.Shadow z ∷ gs) b.0; counted = b.1 })
+    subst (λ (x : Choice). AreSplinters rows counts (x ∷ hs) z) (sym e) (record { is = ap (λ (gs : List Choice). choice.Shadow z ∷ gs) b.0; suffice = b.1 })
 
 -- the first tree is that of the shadow, and the others those of the splinters
 pub record ShadowFirst (s : Stage) (t : Tree Absurd) (ts : List (Tree Absurd)) : Type 0 where

@@ -23,6 +23,9 @@ pub mod FreeRows
 pub mod Enough
 pub mod ShadowNumbers
 pub mod Shadowed
+pub mod ShownSteps
+pub mod ShownSizes
+pub mod ShownFor
 pub mod Bounding
 pub mod Shadowings
 pub mod ShadowsLeft

@@ -1,19 +1,16 @@
 -- The numbers of a splinter of a lower row stay in `i128`, and are calm.
-use Rattle.std.proofs.Common.{◌≡◌, ℕ, zero, suc, ◌+◌, ◌≤◌, ◌<◌, ◌^◌, ℤ, pos, negsuc, neg_ℤ, ◌-ℤ◌, ◌*ℤ◌, ◌≤ℤ◌, List, [], ◌∷◌, ◌++◌, inr, true, Some, slice_get, get_or, length, unsigned_abs, refl, arith}
+use Rattle.std.proofs.Common.{◌≡◌, ℕ, zero, suc, ◌+◌, ◌≤◌, ◌<◌, ◌^◌, ℤ, pos, negsuc, neg_ℤ, ◌-ℤ◌, ◌≤ℤ◌, List, [], ◌∷◌, ◌++◌, inr, true, Some, slice_get, get_or, length, unsigned_abs, refl, arith}
 use Rattle.std.specs.Prelude.{◌≢◌}
 use Rattle.std.specs.Int.Signed.{lt_z}
-use Rattle.std.proofs.lemmas.Int.{ints, clamps, by_lt_z}
+use Rattle.std.proofs.lemmas.Int.{ints}
 use Rattle.std.proofs.lemmas.Option.{slice_get_read}
-use Rattle.ac_integers.proofs.Floor.{floor_le}
-use Rattle.ac_integers.proofs.Products.{mul-le-mul_ℤ}
 use Rattle.ac_forms.specs.Affine.{Affine, coef}
 use Rattle.ac_forms.specs.Fits.{Fits}
 use Rattle.ac_forms.specs.Rows.{HaveModuli}
 use Rattle.ac_forms.specs.declared.row.Row.{Row}
 use Rattle.ac_forms.specs.declared.row.Row.TheVariants.{Eq, Div, Ge}
 use Rattle.ac_cert.specs.Choices.{splinter}
-use Rattle.ac_cert.specs.declared.column.Bound.{Bound}
-use Rattle.ac_cert.specs.Bounds.{is_low, highs, greatest_size, last_splinter}
+use Rattle.ac_cert.specs.Bounds.{is_low}
 use Rattle.ac_forms.specs.declared.conj.Conj.{Conj}
 use Rattle.ac_trails.specs.Descents.{AreCalm, StandOn}
 use Rattle.ac_trails.specs.Standing.{StandsAt}
@@ -21,29 +18,6 @@ use Rattle.ac_trails.specs.declared.descent.Base.{Base}
 use Rattle.ac_trails.proofs.StandingLists.{stand-push}
 use Rattle.ac_trails.specs.Refutations.{IsFormWithin, AreRowsWithin, AreModest}
 use Rattle.ac_trails.proofs.Moderate.{sum_size, turned_size, fits_within, number_small, modest-calm, calm-append}
-
--- the last splinter of a lower row is not greater than its coefficient
-last_within : (a b : ℕ) (k : ℤ) → k ≤ℤ last_splinter (pos a) (pos (suc b)) → k ≤ℤ pos (suc b)
-last_within zero b k h =
-    let e : pos 0 *ℤ pos (suc b) -ℤ pos 0 -ℤ pos (suc b) ≡ negsuc b = omega (arith, ints) in
-    let l = rw e at h in
-    omega (arith, ints, l)
-last_within (suc a) b k h =
-    let q = last_splinter (pos (suc a)) (pos (suc b)) in
-    let l = floor_le (pos (suc a) *ℤ pos (suc b) -ℤ pos (suc a) -ℤ pos (suc b)) (suc a) (omega arith) in
-    by_lt_z (pos (suc b)) q
-    (λ m. absurd (let n = mul-le-mul_ℤ (suc a) (pos (suc b)) q (omega (arith, ints, m)) in omega (arith, ints, l, n)))
-    (λ m. omega (arith, ints, m, h))
-
-greatest_some : (hs : List Bound) → pos 0 ≤ℤ greatest_size hs
-greatest_some [] = omega (arith, ints)
-greatest_some (b ∷ hs) = let h = greatest_some hs in omega (arith, ints, clamps, h)
-
-by_sizes : (a b k : ℤ) → pos 0 ≤ℤ a → pos 1 ≤ℤ b → k ≤ℤ last_splinter a b → k ≤ℤ b
-by_sizes (pos a) (pos (suc b)) k h l m = last_within a b k m
-by_sizes (pos a) (pos zero) k h l m = absurd (omega (arith, ints, l))
-by_sizes (pos a) (negsuc b) k h l m = absurd (omega (arith, ints, l))
-by_sizes (negsuc a) b k h l m = absurd (omega (arith, ints, h))
 
 smaller : (k b : ℤ) → pos 0 ≤ℤ k → k ≤ℤ b → unsigned_abs k ≤ unsigned_abs b
 smaller (pos k) (pos b) h l = omega (arith, ints, l)
@@ -64,20 +38,20 @@ within_at p q (r ∷ rs) (suc i) f w e = within_at p q rs i f w.1 e
 pub less_size : (x y : ℤ) → unsigned_abs (x -ℤ y) ≤ unsigned_abs x + unsigned_abs y
 less_size x y = let s = sum_size x (neg_ℤ y) in let o = turned_size y in omega arith
 
-splinter_size : (rs : List Row) (z i : ℕ) (k : ℤ) (f : Affine) → AreModest rs [] → slice_get rs i ≡ Some (Ge f) → pos 0 ≤ℤ k → is_low z f ≡ true → k ≤ℤ last_splinter (greatest_size (highs z rs)) (coef z f)
+splinter_size : (rs : List Row) (z i : ℕ) (k : ℤ) (f : Affine) → AreModest rs [] → slice_get rs i ≡ Some (Ge f) → pos 0 ≤ℤ k → is_low z f ≡ true → k ≤ℤ coef z f
     → (unsigned_abs (f.konst -ℤ k) ≤ 2 ^ 122) × ((j : ℕ) → unsigned_abs (coef j f) ≤ 2 ^ 122)
 splinter_size rs z i k f a e l low last =
     let w = within_at a.factor a.number rs i f a.rows e in
     let p = positive (coef z f) low in
     let n = number_small a.factor a.number z f a.product w (not_none (coef z f) p) in
-    let s = smaller k (coef z f) l (by_sizes (greatest_size (highs z rs)) (coef z f) k (greatest_some (highs z rs)) p last) in
+    let s = smaller k (coef z f) l last in
     let d = less_size f.konst k in
     ((let h = w.konst in let c = w.coefs z in omega arith), (λ j. let h = w.coefs j in omega arith))
 
-pub splinter_fits : (rs : List Row) (z i : ℕ) (k : ℤ) (f : Affine) → AreModest rs [] → slice_get rs i ≡ Some (Ge f) → pos 0 ≤ℤ k → is_low z f ≡ true → k ≤ℤ last_splinter (greatest_size (highs z rs)) (coef z f) → Fits (f.konst -ℤ k)
+pub splinter_fits : (rs : List Row) (z i : ℕ) (k : ℤ) (f : Affine) → AreModest rs [] → slice_get rs i ≡ Some (Ge f) → pos 0 ≤ℤ k → is_low z f ≡ true → k ≤ℤ coef z f → Fits (f.konst -ℤ k)
 splinter_fits rs z i k f a e l low last = let s = splinter_size rs z i k f a e l low last in fits_within (f.konst -ℤ k) (let h = s.0 in omega arith)
 
-pub splinter-calm : (rs : List Row) (z i : ℕ) (k : ℤ) (f : Affine) → AreModest rs [] → HaveModuli rs → slice_get rs i ≡ Some (Ge f) → pos 0 ≤ℤ k → is_low z f ≡ true → k ≤ℤ last_splinter (greatest_size (highs z rs)) (coef z f)
+pub splinter-calm : (rs : List Row) (z i : ℕ) (k : ℤ) (f : Affine) → AreModest rs [] → HaveModuli rs → slice_get rs i ≡ Some (Ge f) → pos 0 ≤ℤ k → is_low z f ≡ true → k ≤ℤ coef z f
     → AreCalm (rs ++ Eq (record { konst = f.konst -ℤ k; coefs = f.coefs }) ∷ [])
 splinter-calm rs z i k f a m e l low last =
     let s = splinter_size rs z i k f a e l low last in

@@ -1,5 +1,5 @@
 -- A lower row that is raised beyond its splinters: the trees behind it, and the path in front of it.
-use Rattle.std.proofs.Common.{◌≡◌, ℕ, zero, suc, ◌+◌, ◌*◌, ◌<◌, ◌≤◌, ◌^◌, ℤ, pos, negsuc, neg_ℤ, ◌+ℤ◌, ◌-ℤ◌, ◌*ℤ◌, ◌≤ℤ◌, Bool, true, false, cond, List, [], ◌∷◌, ◌++◌, length, map, take, drop, get_or, Option, Some, None, slice_get, refl, sym, ap, subst, ◌∙◌, arith, lit<, append_assoc, length-append}
+use Rattle.std.proofs.Common.{◌≡◌, ℕ, zero, suc, ◌+◌, ◌*◌, ◌<◌, ◌≤◌, ◌^◌, ℤ, pos, negsuc, neg_ℤ, ◌+ℤ◌, ◌-ℤ◌, ◌*ℤ◌, ◌≤ℤ◌, Bool, true, false, List, [], ◌∷◌, ◌++◌, length, map, take, drop, get_or, Option, Some, None, slice_get, refl, sym, ap, subst, ◌∙◌, arith, lit<, append_assoc, length-append}
 use Rattle.std.specs.Prelude.{unsigned_abs, Result, IfOk}
 use Rattle.std.specs.Int.Signed.{lt_z}
 use Rattle.std.proofs.lemmas.Int.{ints}
@@ -14,14 +14,15 @@ use Rattle.ac_cert.specs.declared.choose.Choice.{Choice}
 use Rattle.ac_cert.specs.declared.ends.Absurd.{Absurd}
 use Rattle.ac_cert.specs.declared.types.Tree.{Tree}
 use Rattle.ac_cert.specs.Accepted.{Accepts, absurd_refusals}
-use Rattle.ac_cert.specs.Bounds.{is_low, last_splinter}
+use Rattle.ac_cert.specs.Bounds.{is_low}
 use Rattle.ac_cert.specs.Rules.{with_row}
-use Rattle.ac_trails.specs.Branches.{splinter_count, lift_count, lifts, IsAlong, AreAlong, with_rows, Stage, IsOn, IsRaised, worth, IsSplintered, ServeFirst, ServeLeaves, splinter_choices, leaf_choices}
+use Rattle.ac_trails.specs.Branches.{lift_count, lifts, IsAlong, AreAlong, with_rows, Stage, IsOn, IsRaised, worth, IsSplintered, ServeFirst, ServeLeaves, splinter_choices, leaf_choices}
 use Rattle.ac_trails.specs.Leaves.{less, under, HasRoom, GoesOn, IsLikeAt, AcceptsFrom}
 use Rattle.ac_trails.specs.Refutations.{IsFormWithin, IsRowWithin, AreRowsWithin, AreModest}
 use Rattle.ac_trails.specs.Standing.{place_of, coef_of, Renames, Alike, StandsAt, Stand}
-use Rattle.ac_trails.specs.Tries.{count_to}
+use Rattle.ac_trails.specs.Sufficing.{SufficesAt, Suffice}
 use Rattle.ac_trails.proofs.Branching.{ok-as, onto-rows, along-length, lifts-length}
+use Rattle.ac_trails.proofs.Enough.{suffices-long}
 use Rattle.ac_trails.proofs.Leaves.{fits-between}
 use Rattle.ac_trails.proofs.Paths.{stands-on}
 use Rattle.ac_trails.proofs.Renaming.{alike-renames}
@@ -52,19 +53,20 @@ pub record IsLower (r : Row) : Type 0 where
   pub column : ℕ
   pub low : is_low column form ≡ true
 
-row-lower : (z : ℕ) (a : ℤ) (r : Row) → 0 < splinter_count z a r → IsLower r
-row-lower z a (Eq f) h = absurd (omega arith)
-row-lower z a (Div m f) h = absurd (omega arith)
-row-lower z a (Ge f) h = by (is_low z f) refl h
+row-lower : (z : ℕ) (all : List Row) (r : Row) (n : ℕ) → SufficesAt z all r n → 0 < n → IsLower r
+row-lower z all (Eq f) n s h = absurd (omega (arith, s))
+row-lower z all (Div m f) n s h = absurd (omega (arith, s))
+row-lower z all (Ge f) n s h = by (is_low z f) refl
   where
-    by : (t : Bool) → is_low z f ≡ t → 0 < cond t (count_to (last_splinter a (coef z f))) 0 → IsLower (Ge f)
-    by true e h = record { form = f; is = refl; column = z; low = e }
-    by false e h = absurd (omega arith)
+    by : (t : Bool) → is_low z f ≡ t → IsLower (Ge f)
+    by true e = record { form = f; is = refl; column = z; low = e }
+    by false e = absurd (let none = s.1 e in omega (arith, none))
 
-pub lower-at : (z : ℕ) (a : ℤ) (rs : List Row) (i : ℕ) (r : Row) → i < length rs → r ≡ get_or rs i r → 0 < get_or (map (splinter_count z a) rs) i 0 → IsLower r
-lower-at z a [] i r l e h = absurd (omega arith)
-lower-at z a (x ∷ rs) zero r l e h = rw e (row-lower z a x h)
-lower-at z a (x ∷ rs) (suc i) r l e h = lower-at z a rs i r (omega arith) e h
+lower-at : (z : ℕ) (all rs : List Row) (ns : List ℕ) (i : ℕ) (r : Row) → Suffice z all rs ns → i < length rs → r ≡ get_or rs i r → 0 < get_or ns i 0 → IsLower r
+lower-at z all [] ns i r s l e h = absurd (omega arith)
+lower-at z all (x ∷ rs) [] i r s l e h = absurd s
+lower-at z all (x ∷ rs) (n ∷ ns) zero r s l e h = rw e (row-lower z all x n s.0 h)
+lower-at z all (x ∷ rs) (n ∷ ns) (suc i) r s l e h = lower-at z all rs ns i r s.1 (omega arith) e h
 
 pub row-at : (rs : List Row) (i : ℕ) (r : Row) → i < length rs → r ≡ get_or rs i r → slice_get rs i ≡ Some r
 row-at [] i r l e = absurd (omega arith)
@@ -151,12 +153,8 @@ leaves-front z i ns h =
     let s : suc i ≡ i + 1 = omega arith in
     ap (leaf_choices z i) (counts-front ns i h) ∙ ap (λ (j : ℕ). splinter_choices (get_or ns i 0) z i 0 ++ leaf_choices z j (drop (i + 1) ns)) s
 
-pub counts-long : (rs : List Row) (counts : List ℕ) → ((z : ℕ) × (a : ℤ) × (counts ≡ map (splinter_count z a) rs)) → length counts ≡ length rs
-counts-long rs counts h = ap length h.2 ∙ map-long h.0 h.1 rs
-  where
-    map-long : (z : ℕ) (a : ℤ) (rs : List Row) → length (map (splinter_count z a) rs) ≡ length rs
-    map-long z a [] = refl
-    map-long z a (r ∷ rs) = ap (λ (n : ℕ). suc n) (map-long z a rs)
+pub counts-long : (rs : List Row) (counts : List ℕ) → ((z : ℕ) × Suffice z rs rs counts) → length counts ≡ length rs
+counts-long rs counts h = suffices-long h.0 rs rs counts h.1
 
 -- what serves the later rows
 pub serves-same : (s : Stage) (i : ℕ) (ts : List (Tree Absurd)) → i < length s.counts → get_or s.counts i 0 ≡ 0 → ServeLeaves s i ts → ServeLeaves s (i + 1) ts
@@ -406,5 +404,5 @@ raised-past s i res l e k =
     (λ (t : Tree Absurd). (c d : Conj) → IsOn s c → IsRaised s.names (take i s.rows) s.counts c d → Accepts t absurd_refusals d) res
     (λ t h c d on up. h c d on (raised-same s.names s.rows s.counts i c d l e up)) k
 
-pub lower-row : (rs : List Row) (counts : List ℕ) (i : ℕ) (r : Row) → ((z : ℕ) × (a : ℤ) × (counts ≡ map (splinter_count z a) rs)) → i < length rs → r ≡ get_or rs i r → 0 < get_or counts i 0 → IsLower r
-lower-row rs counts i r h l e p = lower-at h.0 h.1 rs i r l e (subst (λ (ns : List ℕ). 0 < get_or ns i 0) h.2 p)
+pub lower-row : (rs : List Row) (counts : List ℕ) (i : ℕ) (r : Row) → ((z : ℕ) × Suffice z rs rs counts) → i < length rs → r ≡ get_or rs i r → 0 < get_or counts i 0 → IsLower r
+lower-row rs counts i r h l e p = lower-at h.0 rs rs counts i r h.1 l e p

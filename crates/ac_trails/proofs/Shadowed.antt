@@ -1,5 +1,5 @@
 -- The dark shadow of a lower and an upper row of a column, from rows that stand.
-use Rattle.std.proofs.Common.{◌≡◌, ℕ, zero, suc, ◌<◌, ℤ, pos, ◌+ℤ◌, ◌-ℤ◌, ◌*ℤ◌, neg_ℤ, ◌≤ℤ◌, List, [], ◌∷◌, length, set, get_or, true, arith, refl, sym, ap, ◌∙◌, subst, to_z, of_z}
+use Rattle.std.proofs.Common.{◌≡◌, ℕ, zero, suc, ◌<◌, ℤ, pos, ◌+ℤ◌, ◌-ℤ◌, ◌*ℤ◌, neg_ℤ, ◌≤ℤ◌, List, [], ◌∷◌, length, set, get_or, true, int_le, arith, refl, sym, ap, ◌∙◌, subst, to_z, of_z}
 use Rattle.std.specs.Int.{w128}
 use Rattle.std.specs.Int.Signed.{lt_z}
 use Rattle.std.proofs.lemmas.Int.{ints}
@@ -10,10 +10,11 @@ use Rattle.ac_forms.specs.Affine.{Affine, coef, combined, shifted}
 use Rattle.ac_forms.specs.Fits.{Fits}
 use Rattle.ac_forms.specs.declared.conj.Conj.{Conj}
 use Rattle.ac_forms.specs.declared.row.Row.TheVariants.{Ge}
-use Rattle.ac_cert.specs.Bounds.{is_high, low_bound, high_bound, highs}
+use Rattle.ac_cert.specs.Bounds.{is_high, low_bound, high_bound}
 use Rattle.ac_cert.specs.Choices.{shadow_form}
+use Rattle.ac_cert.proofs.Truths.{le-true}
 use Rattle.ac_trails.specs.Refutations.{AreModest}
-use Rattle.ac_trails.specs.Shadowing.{loss, IsEnough}
+use Rattle.ac_trails.specs.Shadowing.{loss}
 use Rattle.ac_trails.specs.Standing.{raised, Leads}
 use Rattle.ac_trails.specs.declared.path.Trail.{Trail}
 use Rattle.ac_trails.proofs.Renaming.{none_mixed}
@@ -93,11 +94,6 @@ plain-pair z f g m l h = pair-of z f g (pos 0) m l h (omega (arith, ints)) (omeg
 pub size-fits : (z : ℕ) (f g : Affine) → AreModest (Ge f ∷ Ge g ∷ []) [] → Fits (neg_ℤ (coef z g))
 size-fits z f g m = opposite-fits g z m.factor m.number m.rows.1.0 m.product
 
-pub shadow-made : (z : ℕ) (f g s h : Affine) → AreModest (Ge f ∷ Ge g ∷ []) [] → pos 1 ≤ℤ coef z f → is_high z g ≡ true
-    → s ≡ combined (neg_ℤ (coef z g)) f (coef z f) g → h ≡ shifted s (neg_ℤ (loss (neg_ℤ (coef z g)) (coef z f))) → h ≡ shadow_form (low_bound z f) (high_bound z g)
-shadow-made z f g s h m l k e d =
-    d ∙ ap (λ (x : Affine). shifted x (neg_ℤ (loss (neg_ℤ (coef z g)) (coef z f)))) e ∙ shadow-is z f g l (high-size (coef z g) k)
-
 pub pair-leads : (z : ℕ) (f g : Affine) (n : ℤ) (u : Trail) (start path : Conj) (names : List ℕ) (i : ℕ) → pos 1 ≤ℤ coef z f → is_high z g ≡ true
     → Leads u start path names i (Ge (raised (combined (neg_ℤ (coef z g)) (shifted f (neg_ℤ n)) (coef z f) g) ((neg_ℤ (coef z g)) *ℤ n -ℤ loss (neg_ℤ (coef z g)) (coef z f))))
     → Leads u start path names i (Ge (shadow_form (low_bound z f) (high_bound z g)))
@@ -108,5 +104,5 @@ pub at-least-one : (x : ℤ) → pos 1 ≤ℤ x → pos 0 ≤ℤ x
 at-least-one x h = omega (arith, ints, h)
 
 -- what is left of the multiple is not negative
-pub enough-one : (z : ℕ) (g : Affine) (n b : ℤ) → is_high z g ≡ true → IsEnough n b (highs z (Ge g ∷ [])) → pos 0 ≤ℤ ((neg_ℤ (coef z g)) *ℤ n -ℤ loss (neg_ℤ (coef z g)) b)
-enough-one z g n b h e = let l = (rw h at e).0 in omega (arith, ints, l)
+pub enough-one : (n a b : ℤ) → int_le (loss a b) (a *ℤ n) ≡ true → pos 0 ≤ℤ (a *ℤ n -ℤ loss a b)
+enough-one n a b e = let l = le-true (loss a b) (a *ℤ n) e in omega (arith, ints, l)

@@ -3,22 +3,21 @@ use Rattle.std.proofs.Common.{◌≡◌, ℕ, zero, suc, ◌+◌, ◌<◌, ◌�
 use Rattle.std.proofs.lemmas.List.{append-nil, at_drop_all, drop_more}
 use Rattle.std.proofs.lemmas.Option.{slice_get_read}
 use Rattle.std.proofs.Math.Seq.{drop-nil}
-use Rattle.ac_forms.specs.Affine.{Affine, coef, shifted}
+use Rattle.ac_forms.specs.Affine.{Affine, shifted}
 use Rattle.ac_forms.specs.declared.conj.Conj.{Conj}
 use Rattle.ac_forms.specs.declared.row.Row.{Row}
 use Rattle.ac_forms.specs.declared.row.Row.TheVariants.{Eq, Div, Ge}
 use Rattle.ac_cert.specs.declared.column.Bound.{Bound}
-use Rattle.ac_cert.specs.Bounds.{is_low, low_bound, lows, highs, last_splinter}
-use Rattle.ac_cert.specs.Choices.{shadows_with, shadows}
+use Rattle.ac_cert.specs.Bounds.{is_low, low_bound, lows, highs}
 use Rattle.ac_cert.proofs.Parts.{drop-at}
 use Rattle.ac_trails.specs.Descents.{raised_rows}
 use Rattle.ac_trails.specs.Leaves.{less}
-use Rattle.ac_trails.specs.Tries.{count_to}
-use Rattle.ac_trails.specs.Shadowing.{ShowsAll, Continues}
+use Rattle.ac_trails.specs.Shadowing.{IsBeside, ShowsAll, Continues}
+use Rattle.ac_trails.specs.Shown.{shown_with, shown_rows}
 use Rattle.ac_trails.specs.Standing.{StandsAt, Stand, Reaches, Leads, HasOne, IsOnto, IsSameBase, one_form}
 use Rattle.ac_trails.specs.declared.descent.Standing.{Standing}
 use Rattle.ac_trails.specs.declared.path.Trail.{Trail}
-use Rattle.ac_trails.proofs.Bounding.{rows-more, shadows-cons, lower-shadows, lows-length}
+use Rattle.ac_trails.proofs.Bounding.{rows-more, shown-cons, lower-shown, lows-length}
 use Rattle.ac_trails.proofs.StandingLists.{stand-push, stand-at}
 use Rattle.ac_trails.proofs.Paths.{stands-on, stand-on, onto-self, onto-again}
 
@@ -48,55 +47,51 @@ shows-again t u v made more most holds on first then = λ start path names h o k
 row-at : (names : List ℕ) (c : Conj) (rs : List Row) (is : List ℕ) (k : ℕ) (r : Row) (i : ℕ) → Stand names c rs is → k < length rs → r ≡ get_or rs k r → i ≡ get_or is k 0 → StandsAt names c i r
 row-at names c rs is k r i s l e f = rw f (stand-at names c rs is k r s (slice_get_read rs (length rs) k r refl l e))
 
--- a lower row that stands less a number, beside rows that stand
-abbrev pub Beside : Affine → ℤ → ℕ → List Row → List ℕ → List ℕ → Conj → Type 0
-Beside f n x rs is names c = StandsAt names c x (Ge (shifted f (neg_ℤ n))) × Stand names c rs is
+beside-on : (f : Affine) (n : ℤ) (x own : ℕ) (rs : List Row) (is : List ℕ) (names : List ℕ) (c d : Conj) → IsOnto c d → IsBeside f n x own rs is names c → IsBeside f n x own rs is names d
+beside-on f n x own rs is names c d o h = record { less = stands-on names c d x (Ge (shifted f (neg_ℤ n))) o h.less; whole = stands-on names c d own (Ge f) o h.whole; all = stand-on names c d rs is o h.all }
 
-beside-on : (f : Affine) (n : ℤ) (x : ℕ) (rs : List Row) (is : List ℕ) (names : List ℕ) (c d : Conj) → IsOnto c d → Beside f n x rs is names c → Beside f n x rs is names d
-beside-on f n x rs is names c d o h = (stands-on names c d x (Ge (shifted f (neg_ℤ n))) o h.0, stand-on names c d rs is o h.1)
-
--- the shadows of a lower row beside the first rows
-pub record UppersSoFar (z : ℕ) (f : Affine) (n : ℤ) (x : ℕ) (rs : List Row) (is : List ℕ) (t u : Trail) (made more : Standing) (left : List Row) : Type 0 where
-  pub rows : made.rows.items ++ shadows_with (low_bound z f) (highs z rs) ≡ more.rows.items ++ shadows_with (low_bound z f) (highs z left)
+-- the rows of a lower row beside the first rows
+pub record UppersSoFar (z : ℕ) (f : Affine) (n : ℤ) (x own : ℕ) (rs : List Row) (is : List ℕ) (t u : Trail) (made more : Standing) (left : List Row) : Type 0 where
+  pub rows : made.rows.items ++ shown_with n (low_bound z f) (highs z rs) ≡ more.rows.items ++ shown_with n (low_bound z f) (highs z left)
   pub long : length made.places.items ≡ length made.rows.items → length more.places.items ≡ length more.rows.items
-  pub shows : Continues t u made more (Beside f n x rs is)
+  pub shows : Continues t u made more (IsBeside f n x own rs is)
 
-pub uppers-start : (z : ℕ) (f : Affine) (n : ℤ) (x : ℕ) (rs : List Row) (is : List ℕ) (t : Trail) (made : Standing) → UppersSoFar z f n x rs is t t made made rs
-uppers-start z f n x rs is t made = record { rows = refl; long = λ e. e; shows = λ start path names h o k s. shows-same t start path names made h o s }
+pub uppers-start : (z : ℕ) (f : Affine) (n : ℤ) (x own : ℕ) (rs : List Row) (is : List ℕ) (t : Trail) (made : Standing) → UppersSoFar z f n x own rs is t t made made rs
+uppers-start z f n x own rs is t made = record { rows = refl; long = λ e. e; shows = λ start path names h o k s. shows-same t start path names made h o s }
 
-pub uppers-more : (z : ℕ) (f : Affine) (n : ℤ) (x : ℕ) (rs : List Row) (is : List ℕ) (t u v : Trail) (made more most : Standing) (i : ℕ) (r : Row) (p : ℕ)
-    → UppersSoFar z f n x rs is t u made more (drop i rs) → i < length rs → r ≡ get_or rs i r → p ≡ get_or is i 0
-    → most.rows.items ≡ more.rows.items ++ shadows_with (low_bound z f) (highs z (r ∷ [])) → (length more.places.items ≡ length more.rows.items → length most.places.items ≡ length most.rows.items)
-    → Continues u v more most (λ names path. StandsAt names path x (Ge (shifted f (neg_ℤ n))) × StandsAt names path p r)
-    → UppersSoFar z f n x rs is t v made most (drop (i + 1) rs)
-uppers-more z f n x rs is t u v made more most i r p s l e d rows long shows = record {
-  rows = rows-more more.rows.items most.rows.items (shadows_with (low_bound z f) (highs z (r ∷ []))) (shadows_with (low_bound z f) (highs z (drop (i + 1) rs))) (shadows_with (low_bound z f) (highs z (drop i rs))) _
-      (ap (λ (ls : List Row). shadows_with (low_bound z f) (highs z ls)) (drop-at rs i r l e) ∙ shadows-cons z (low_bound z f) r (drop (i + 1) rs)) s.rows rows;
+pub uppers-more : (z : ℕ) (f : Affine) (n : ℤ) (x own : ℕ) (rs : List Row) (is : List ℕ) (t u v : Trail) (made more most : Standing) (i : ℕ) (r : Row) (p : ℕ)
+    → UppersSoFar z f n x own rs is t u made more (drop i rs) → i < length rs → r ≡ get_or rs i r → p ≡ get_or is i 0
+    → most.rows.items ≡ more.rows.items ++ shown_with n (low_bound z f) (highs z (r ∷ [])) → (length more.places.items ≡ length more.rows.items → length most.places.items ≡ length most.rows.items)
+    → Continues u v more most (λ names path. IsBeside f n x own rs is names path × StandsAt names path p r)
+    → UppersSoFar z f n x own rs is t v made most (drop (i + 1) rs)
+uppers-more z f n x own rs is t u v made more most i r p s l e d rows long shows = record {
+  rows = rows-more more.rows.items most.rows.items (shown_with n (low_bound z f) (highs z (r ∷ []))) (shown_with n (low_bound z f) (highs z (drop (i + 1) rs))) (shown_with n (low_bound z f) (highs z (drop i rs))) _
+      (ap (λ (ls : List Row). shown_with n (low_bound z f) (highs z ls)) (drop-at rs i r l e) ∙ shown-cons z n (low_bound z f) r (drop (i + 1) rs)) s.rows rows;
   long = λ h. long (s.long h);
-  shows = shows-again t u v made more most (Beside f n x rs is) (beside-on f n x rs is) s.shows (λ start path names h o k w. shows start path names h o (k.0, row-at names path rs is i r p k.1 l e d) w);
+  shows = shows-again t u v made more most (IsBeside f n x own rs is) (beside-on f n x own rs is) s.shows (λ start path names h o k w. shows start path names h o (k, row-at names path rs is i r p k.all l e d) w);
 }
 
-nothing-left : (z : ℕ) (low : Bound) (rs : List Row) (i : ℕ) (done : List Row) → length rs ≤ i → done ++ shadows_with low (highs z (drop i rs)) ≡ done
-nothing-left z low rs i done l = at_drop_all (λ (ls : List Row). done ++ shadows_with low (highs z ls)) rs i l ∙ append-nil done
+nothing-left : (z : ℕ) (n : ℤ) (low : Bound) (rs : List Row) (i : ℕ) (done : List Row) → length rs ≤ i → done ++ shown_with n low (highs z (drop i rs)) ≡ done
+nothing-left z n low rs i done l = at_drop_all (λ (ls : List Row). done ++ shown_with n low (highs z ls)) rs i l ∙ append-nil done
 
-pub uppers-end : (z : ℕ) (f : Affine) (n : ℤ) (x : ℕ) (rs : List Row) (is : List ℕ) (t u : Trail) (made more : Standing) (i : ℕ) → UppersSoFar z f n x rs is t u made more (drop i rs) → length rs ≤ i
-    → more.rows.items ≡ made.rows.items ++ shadows_with (low_bound z f) (highs z rs)
-uppers-end z f n x rs is t u made more i s l = sym (s.rows ∙ nothing-left z (low_bound z f) rs i more.rows.items l)
+pub uppers-end : (z : ℕ) (f : Affine) (n : ℤ) (x own : ℕ) (rs : List Row) (is : List ℕ) (t u : Trail) (made more : Standing) (i : ℕ) → UppersSoFar z f n x own rs is t u made more (drop i rs) → length rs ≤ i
+    → more.rows.items ≡ made.rows.items ++ shown_with n (low_bound z f) (highs z rs)
+uppers-end z f n x own rs is t u made more i s l = sym (s.rows ∙ nothing-left z n (low_bound z f) rs i more.rows.items l)
 
 -- a lower row's place is the first of those that are left
-pub raised-here : (z : ℕ) (a : ℤ) (f : Affine) (n : ℤ) (rest : List Row) (ps : List ℕ) (k p : ℕ) (names : List ℕ) (c : Conj) → is_low z f ≡ true → n ≡ pos (count_to (last_splinter a (coef z f))) → k < length ps → p ≡ get_or ps k 0
-    → Stand names c (raised_rows z a (Ge f ∷ rest)) (drop k ps) → StandsAt names c p (Ge (shifted f (neg_ℤ n)))
-raised-here z a f n rest ps k p names c h is l e s =
+pub raised-here : (z : ℕ) (f : Affine) (n : ℕ) (m : ℤ) (rest : List Row) (ns ps : List ℕ) (k p : ℕ) (names : List ℕ) (c : Conj) → is_low z f ≡ true → m ≡ pos n → k < length ps → p ≡ get_or ps k 0
+    → Stand names c (raised_rows z (Ge f ∷ rest) (n ∷ ns)) (drop k ps) → StandsAt names c p (Ge (shifted f (neg_ℤ m)))
+raised-here z f n m rest ns ps k p names c h is l e s =
     let t = rw (h, drop_more ps k 0 l) at s in
     rw (is, e) t.0
 
 -- and the others are behind it
-raised-left : (z : ℕ) (a : ℤ) (r : Row) (rest : List Row) (ps : List ℕ) (names : List ℕ) (c : Conj) → Stand names c (raised_rows z a (r ∷ rest)) ps → Stand names c (raised_rows z a rest) (drop (length (lows z (r ∷ []))) ps)
-raised-left z a (Eq f) rest ps names c s = s
-raised-left z a (Div m f) rest ps names c s = s
-raised-left z a (Ge f) rest ps names c s = by (is_low z f) ps s
+raised-left : (z : ℕ) (r : Row) (rest : List Row) (n : ℕ) (ns ps : List ℕ) (names : List ℕ) (c : Conj) → Stand names c (raised_rows z (r ∷ rest) (n ∷ ns)) ps → Stand names c (raised_rows z rest ns) (drop (length (lows z (r ∷ []))) ps)
+raised-left z (Eq f) rest n ns ps names c s = s
+raised-left z (Div m f) rest n ns ps names c s = s
+raised-left z (Ge f) rest n ns ps names c s = by (is_low z f) ps s
   where
-    by : (t : Bool) (ps : List ℕ) → Stand names c (cond t (Ge (less f (count_to (last_splinter a (coef z f)))) ∷ raised_rows z a rest) (raised_rows z a rest)) ps → Stand names c (raised_rows z a rest) (drop (length (cond t (low_bound z f ∷ []) [])) ps)
+    by : (t : Bool) (ps : List ℕ) → Stand names c (cond t (Ge (less f n) ∷ raised_rows z rest ns) (raised_rows z rest ns)) ps → Stand names c (raised_rows z rest ns) (drop (length (cond t (low_bound z f ∷ []) [])) ps)
     by true [] s = absurd s
     by true (p ∷ ps) s = s.1
     by false ps s = s
@@ -107,23 +102,23 @@ drop-drop (p ∷ ps) zero n m e = ap (λ (x : ℕ). drop x (p ∷ ps)) (omega (a
 drop-drop (p ∷ ps) (suc k) n zero e = absurd (omega (arith, e))
 drop-drop (p ∷ ps) (suc k) n (suc m) e = drop-drop ps k n m (omega (arith, e))
 
-pub raised-after : (z : ℕ) (a : ℤ) (r : Row) (rest : List Row) (ps : List ℕ) (k n : ℕ) (names : List ℕ) (c : Conj) → n ≡ k + length (lows z (r ∷ [])) → Stand names c (raised_rows z a (r ∷ rest)) (drop k ps) → Stand names c (raised_rows z a rest) (drop n ps)
-raised-after z a r rest ps k n names c e s =
-    rw (← (drop-drop ps k (length (lows z (r ∷ []))) n e)) (raised-left z a r rest (drop k ps) names c s)
+raised-after : (z : ℕ) (r : Row) (rest : List Row) (count : ℕ) (ns ps : List ℕ) (k n : ℕ) (names : List ℕ) (c : Conj) → n ≡ k + length (lows z (r ∷ [])) → Stand names c (raised_rows z (r ∷ rest) (count ∷ ns)) (drop k ps) → Stand names c (raised_rows z rest ns) (drop n ps)
+raised-after z r rest count ns ps k n names c e s =
+    rw (← (drop-drop ps k (length (lows z (r ∷ []))) n e)) (raised-left z r rest count ns (drop k ps) names c s)
 
 pub one-low : (z : ℕ) (f : Affine) (k m : ℕ) → is_low z f ≡ true → k + length (lows z (Ge f ∷ [])) ≤ m → k < m
 one-low z f k m h l = let t = rw h at l in omega arith
 
--- the shadows of the first rows
-pub record LowersSoFar (z : ℕ) (a : ℤ) (rs : List Row) (is ps : List ℕ) (t u : Trail) (made more : Standing) (used : ℕ) (left : List Row) : Type 0 where
-  pub rows : made.rows.items ++ shadows (lows z rs) (highs z rs) ≡ more.rows.items ++ shadows (lows z left) (highs z rs)
+-- the rows that are shown for the first rows
+pub record LowersSoFar (z : ℕ) (rs : List Row) (is ns ps : List ℕ) (t u : Trail) (made more : Standing) (used : ℕ) (left : List Row) (numbers : List ℕ) : Type 0 where
+  pub rows : made.rows.items ++ shown_rows z rs rs ns ≡ more.rows.items ++ shown_rows z rs left numbers
   pub long : length made.places.items ≡ length made.rows.items → length more.places.items ≡ length more.rows.items
   pub count : used + length (lows z left) ≡ length ps
-  pub onward : (names : List ℕ) (c : Conj) → Stand names c (raised_rows z a rs) ps → Stand names c (raised_rows z a left) (drop used ps)
-  pub shows : Continues t u made more (λ names c. Stand names c (raised_rows z a rs) ps × Stand names c rs is)
+  pub onward : (names : List ℕ) (c : Conj) → Stand names c (raised_rows z rs ns) ps → Stand names c (raised_rows z left numbers) (drop used ps)
+  pub shows : Continues t u made more (λ names c. Stand names c (raised_rows z rs ns) ps × Stand names c rs is)
 
-pub lowers-start : (z : ℕ) (a : ℤ) (rs : List Row) (is ps : List ℕ) (t : Trail) (made : Standing) → length ps ≡ length (lows z rs) → LowersSoFar z a rs is ps t t made made 0 rs
-lowers-start z a rs is ps t made e = record {
+pub lowers-start : (z : ℕ) (rs : List Row) (is ns ps : List ℕ) (t : Trail) (made : Standing) → length ps ≡ length (lows z rs) → LowersSoFar z rs is ns ps t t made made 0 rs ns
+lowers-start z rs is ns ps t made e = record {
   rows = refl;
   long = λ h. h;
   count = omega (arith, e);
@@ -134,28 +129,29 @@ lowers-start z a rs is ps t made e = record {
 both-on : (names : List ℕ) (c d : Conj) (xs ys : List Row) (ps is : List ℕ) → IsOnto c d → Stand names c xs ps × Stand names c ys is → Stand names d xs ps × Stand names d ys is
 both-on names c d xs ys ps is o h = (stand-on names c d xs ps o h.0, stand-on names c d ys is o h.1)
 
-pub lowers-more : (z : ℕ) (a : ℤ) (rs : List Row) (is ps : List ℕ) (t u v : Trail) (made more most : Standing) (used next i : ℕ) (r : Row)
-    → LowersSoFar z a rs is ps t u made more used (drop i rs) → i < length rs → r ≡ get_or rs i r → next ≡ used + length (lows z (r ∷ []))
-    → most.rows.items ≡ more.rows.items ++ shadows (lows z (r ∷ [])) (highs z rs) → (length more.places.items ≡ length more.rows.items → length most.places.items ≡ length most.rows.items)
-    → ((rest : List Row) → Continues u v more most (λ names path. Stand names path (raised_rows z a (r ∷ rest)) (drop used ps) × Stand names path rs is))
-    → LowersSoFar z a rs is ps t v made most next (drop (i + 1) rs)
-lowers-more z a rs is ps t u v made more most used next i r s l e n rows long shows =
+pub lowers-more : (z : ℕ) (rs : List Row) (is ns ps : List ℕ) (t u v : Trail) (made more most : Standing) (used next i : ℕ) (r : Row) (own n : ℕ)
+    → LowersSoFar z rs is ns ps t u made more used (drop i rs) (drop i ns) → length ns ≡ length rs → i < length rs → r ≡ get_or rs i r → own ≡ get_or is i 0 → n ≡ get_or ns i 0 → next ≡ used + length (lows z (r ∷ []))
+    → most.rows.items ≡ more.rows.items ++ shown_rows z rs (r ∷ []) (n ∷ []) → (length more.places.items ≡ length more.rows.items → length most.places.items ≡ length most.rows.items)
+    → ((rest : List Row) (counts : List ℕ) → Continues u v more most (λ names path. Stand names path (raised_rows z (r ∷ rest) (n ∷ counts)) (drop used ps) × StandsAt names path own r × Stand names path rs is))
+    → LowersSoFar z rs is ns ps t v made most next (drop (i + 1) rs) (drop (i + 1) ns)
+lowers-more z rs is ns ps t u v made more most used next i r own n s long-ns l e at_own at_n by rows long shows =
     let d = drop-at rs i r l e in
+    let b : drop i ns ≡ n ∷ drop (i + 1) ns = drop_more ns i 0 (omega (arith, l, long-ns)) ∙ ap (λ (k : ℕ). k ∷ drop (i + 1) ns) (sym at_n) in
     let c = lows-length z r (drop (i + 1) rs) in
     let count = rw d at s.count in
     record {
-      rows = rows-more more.rows.items most.rows.items (shadows (lows z (r ∷ [])) (highs z rs)) (shadows (lows z (drop (i + 1) rs)) (highs z rs)) (shadows (lows z (drop i rs)) (highs z rs)) _
-          (ap (λ (ls : List Row). shadows (lows z ls) (highs z rs)) d ∙ lower-shadows z r (drop (i + 1) rs) (highs z rs)) s.rows rows;
+      rows = rows-more more.rows.items most.rows.items (shown_rows z rs (r ∷ []) (n ∷ [])) (shown_rows z rs (drop (i + 1) rs) (drop (i + 1) ns)) (shown_rows z rs (drop i rs) (drop i ns)) _
+          (ap (λ (ls : List Row). shown_rows z rs ls (drop i ns)) d ∙ ap (λ (ks : List ℕ). shown_rows z rs (r ∷ drop (i + 1) rs) ks) b ∙ lower-shown z rs r (drop (i + 1) rs) n (drop (i + 1) ns)) s.rows rows;
       long = λ h. long (s.long h);
-      count = omega (arith, count, c, n);
-      onward = λ names c h. raised-after z a r (drop (i + 1) rs) ps used next names c n (rw d at (s.onward names c h));
-      shows = shows-again t u v made more most (λ names c. Stand names c (raised_rows z a rs) ps × Stand names c rs is) (λ names c d o h. both-on names c d (raised_rows z a rs) rs ps is o h) s.shows
-          (λ start path names h o k w. shows (drop (i + 1) rs) start path names h o (rw d at (s.onward names path k.0), k.1) w);
+      count = omega (arith, count, c, by);
+      onward = λ names c h. raised-after z r (drop (i + 1) rs) n (drop (i + 1) ns) ps used next names c by (rw (d, b) at (s.onward names c h));
+      shows = shows-again t u v made more most (λ names c. Stand names c (raised_rows z rs ns) ps × Stand names c rs is) (λ names c d o h. both-on names c d (raised_rows z rs ns) rs ps is o h) s.shows
+          (λ start path names h o k w. shows (drop (i + 1) rs) (drop (i + 1) ns) start path names h o (rw (d, b) at (s.onward names path k.0), row-at names path rs is i r own k.1 l e at_own, k.1) w);
     }
 
-pub lowers-end : (z : ℕ) (a : ℤ) (rs : List Row) (is ps : List ℕ) (t u : Trail) (made more : Standing) (used i : ℕ) → LowersSoFar z a rs is ps t u made more used (drop i rs) → length rs ≤ i
-    → more.rows.items ≡ made.rows.items ++ shadows (lows z rs) (highs z rs)
-lowers-end z a rs is ps t u made more used i s l = sym (s.rows ∙ at_drop_all (λ (ls : List Row). more.rows.items ++ shadows (lows z ls) (highs z rs)) rs i l ∙ append-nil more.rows.items)
+pub lowers-end : (z : ℕ) (rs : List Row) (is ns ps : List ℕ) (t u : Trail) (made more : Standing) (used i : ℕ) → LowersSoFar z rs is ns ps t u made more used (drop i rs) (drop i ns) → length rs ≤ i
+    → more.rows.items ≡ made.rows.items ++ shown_rows z rs rs ns
+lowers-end z rs is ns ps t u made more used i s l = sym (s.rows ∙ at_drop_all (λ (ls : List Row). more.rows.items ++ shown_rows z rs ls (drop i ns)) rs i l ∙ append-nil more.rows.items)
 
 pub lowers-within : (z : ℕ) (rs : List Row) (ps : List ℕ) (used i : ℕ) (r : Row) → used + length (lows z (drop i rs)) ≡ length ps → i < length rs → r ≡ get_or rs i r → used + length (lows z (r ∷ [])) ≤ length ps
 lowers-within z rs ps used i r count l e =

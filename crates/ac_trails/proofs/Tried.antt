@@ -16,15 +16,17 @@ use Rattle.ac_forms.specs.declared.row.Row.TheVariants.{Eq, Div, Ge}
 use Rattle.ac_forms.proofs.Passes.{moduli_of}
 use Rattle.ac_cert.specs.declared.choose.Choice.{Choice}
 use Rattle.ac_cert.specs.declared.choose.Choice.TheVariants as choice
-use Rattle.ac_cert.specs.Bounds.{has_column, is_low, highs, only_bounds, is_one_sided, greatest_size, last_splinter}
+use Rattle.ac_cert.specs.Bounds.{has_column, is_low, is_none, lows, highs, only_bounds, is_one_sided, last_splinter}
 use Rattle.ac_cert.specs.Choices.{column_of, are_absurd, is_equality_of, allows, spread_row, left_by}
-use Rattle.ac_cert.specs.ChoiceFits.{sizes_fit}
 use Rattle.ac_cert.proofs.LeftMade.{raw_made}
 use Rattle.ac_cert.proofs.Fitting.{true_fits}
 use Rattle.ac_cert.proofs.Truths.{true-le}
-use Rattle.ac_trails.specs.Branches.{splinter_count, count_of, counts_from, IsTry, AreTries, residue_choices, splinter_choices, leaf_choices, AreResidues, AreAll}
+use Rattle.ac_trails.specs.Branches.{count_of, counts_from, IsTry, AreTries, residue_choices, splinter_choices, leaf_choices, AreResidues, AreAll}
 use Rattle.ac_trails.specs.Refutations.{AreChoicesOf}
-use Rattle.ac_trails.specs.Tries.{Tries, first_equality, has_divisibility, lcm, common_modulus, residues_from, residues, splinters_from, count_to, last_splinter_fits, splinters, tries_by, tries_for, all_of}
+use Rattle.ac_trails.specs.Sufficing.{SufficesAt, Suffice}
+use Rattle.ac_trails.specs.Tries.{Tries, first_equality, has_divisibility, lcm, common_modulus, residues_from, residues, splinters_from, count_to, last_splinter_fits, need_of, splinters_by, splinters, tries_by, tries_for, all_of}
+use Rattle.ac_trails.specs.declared.strategy.Strategy.{Strategy}
+use Rattle.ac_trails.proofs.Enough.{strategy-suffices, suffices-long}
 
 -- ---- which choices these are
 
@@ -52,20 +54,46 @@ mapped-some : (xs : List Choice) (o : Option (List Choice)) (hs : List Choice) �
 mapped-some xs None hs e = absurd cc
 mapped-some xs (Some rest) hs e = (rest, refl, cc)
 
-leaves-are : (z : ℕ) (a : ℤ) (i : ℕ) (rows : List Row) (hs : List Choice) → all_of (splinters z a i rows) ≡ Some hs → hs ≡ leaf_choices z i (map (splinter_count z a) rows)
-leaves-are z a i [] hs e = cc
-leaves-are z a i (Eq f ∷ rs) hs e = leaves-are z a (suc i) rs hs e
-leaves-are z a i (Div m f ∷ rs) hs e = leaves-are z a (suc i) rs hs e
-leaves-are z a i (Ge f ∷ rs) hs e = by (is_low z f) (last_splinter_fits a (coef z f)) (count_to (last_splinter a (coef z f))) e (λ hs e. leaves-are z a (suc i) rs hs e)
+fits-parts : (t : Bool) (n z i : ℕ) (rest : Tries) (hs : List Choice) → all_of (cond t (splinters_from n z i 0) (None ∷ []) ++ rest) ≡ Some hs → (ys : List Choice) × (all_of rest ≡ Some ys) × (hs ≡ splinter_choices n z i 0 ++ ys)
+fits-parts true n z i rest hs e = mapped-some (splinter_choices n z i 0) (all_of rest) hs (sym (splinters-are n z i 0 rest) ∙ e)
+fits-parts false n z i rest hs e = absurd cc
+
+-- how many splinters a strategy has of each row
+abbrev count_by : Option ℤ → ℤ → ℕ
+count_by None b = 0
+count_by (Some a) b = count_to (last_splinter a b)
+
+abbrev row_count : Strategy → ℕ → List Row → Row → ℕ
+row_count s z rows (Ge f) = cond (is_low z f) (count_by (need_of s z rows f) (coef z f)) 0
+row_count s z rows (Eq f) = 0
+row_count s z rows (Div m f) = 0
+
+-- these are they, and they suffice
+record AreLeaves (s : Strategy) (z i : ℕ) (rows rs : List Row) (hs : List Choice) : Type 0 where
+  pub is : hs ≡ leaf_choices z i (map (row_count s z rows) rs)
+  pub suffice : Suffice z rows rs (map (row_count s z rows) rs)
+
+leaves-are : (s : Strategy) (z i : ℕ) (rows rs : List Row) (hs : List Choice) → is_none (highs z rows) ≡ false → all_of (splinters s z rows i rs) ≡ Some hs → AreLeaves s z i rows rs hs
+leaves-are s z i rows [] hs some e = record { is = cc; suffice = tt }
+leaves-are s z i rows (Eq f ∷ rs) hs some e = let g = leaves-are s z (suc i) rows rs hs some e in record { is = g.is; suffice = (refl, g.suffice) }
+leaves-are s z i rows (Div m f ∷ rs) hs some e = let g = leaves-are s z (suc i) rows rs hs some e in record { is = g.is; suffice = (refl, g.suffice) }
+leaves-are s z i rows (Ge f ∷ rs) hs some e = by (is_low z f) (need_of s z rows f) refl refl e (λ hs e. leaves-are s z (suc i) rows rs hs some e)
   where
-    by : (t u : Bool) (n : ℕ) → all_of (cond t (cond u (splinters_from n z i 0) (None ∷ [])) [] ++ splinters z a (suc i) rs) ≡ Some hs
-        → ((hs : List Choice) → all_of (splinters z a (suc i) rs) ≡ Some hs → hs ≡ leaf_choices z (suc i) (map (splinter_count z a) rs))
-        → hs ≡ splinter_choices (cond t n 0) z i 0 ++ leaf_choices z (suc i) (map (splinter_count z a) rs)
-    by true true n e go =
-        let m = mapped-some (splinter_choices n z i 0) (all_of (splinters z a (suc i) rs)) hs (sym (splinters-are n z i 0 (splinters z a (suc i) rs)) ∙ e) in
-        m.2 ∙ ap (λ (ys : List Choice). splinter_choices n z i 0 ++ ys) (go m.0 m.1)
-    by true false n e go = absurd cc
-    by false u n e go = go hs e
+    counts : List ℕ
+    counts = map (row_count s z rows) rs
+
+    by : (t : Bool) (o : Option ℤ) → is_low z f ≡ t → need_of s z rows f ≡ o → all_of (cond t (splinters_by o z i (coef z f)) [] ++ splinters s z rows (suc i) rs) ≡ Some hs
+        → ((hs : List Choice) → all_of (splinters s z rows (suc i) rs) ≡ Some hs → AreLeaves s z (suc i) rows rs hs) → AreLeaves s z i rows (Ge f ∷ rs) hs
+    by true (Some a) l o e go =
+        let n = count_to (last_splinter a (coef z f)) in
+        let p = fits-parts (last_splinter_fits a (coef z f)) n z i (splinters s z rows (suc i) rs) hs e in
+        let g = go p.0 p.1 in
+        record {
+          is = rw (l, o) (p.2 ∙ ap (λ (ys : List Choice). splinter_choices n z i 0 ++ ys) g.is);
+          suffice = rw (l, o) ((λ _. strategy-suffices s z rows f a some l o, λ no. absurd cc), g.suffice);
+        }
+    by true None l o e go = absurd cc
+    by false o l _ e go = let g = go hs e in record { is = rw l g.is; suffice = rw l ((λ yes. absurd cc, λ _. refl), g.suffice) }
 
 -- ---- how many of them are splinters of a row
 
@@ -116,13 +144,8 @@ counts-are z i xs (n ∷ ns) none =
     let rest' : counts_from (suc i) (length ns) (xs ++ (splinter_choices n z i 0 ++ leaf_choices z (suc i) ns)) ≡ ns = ap (counts_from (suc i) (length ns)) (sym (append_assoc xs (splinter_choices n z i 0) (leaf_choices z (suc i) ns))) ∙ rest in
     ap (λ (k : ℕ). k ∷ counts_from (suc i) (length ns) (xs ++ (splinter_choices n z i 0 ++ leaf_choices z (suc i) ns))) here ∙ ap (λ (ks : List ℕ). n ∷ ks) rest'
 
-map-length : (z : ℕ) (a : ℤ) (rs : List Row) → length (map (splinter_count z a) rs) ≡ length rs
-map-length z a [] = refl
-map-length z a (r ∷ rs) = ap (λ (k : ℕ). suc k) (map-length z a rs)
-
-shadow-counts : (z : ℕ) (a : ℤ) (rs : List Row) → counts_from 0 (length rs) (choice.Shadow z ∷ leaf_choices z 0 (map (splinter_count z a) rs)) ≡ map (splinter_count z a) rs
-shadow-counts z a rs =
-    subst (λ (n : ℕ). counts_from 0 n (choice.Shadow z ∷ leaf_choices z 0 (map (splinter_count z a) rs)) ≡ map (splinter_count z a) rs) (map-length z a rs) (counts-are z 0 (choice.Shadow z ∷ []) (map (splinter_count z a) rs) (λ j h. refl))
+shadow-counts : (z : ℕ) (rs : List Row) (ns : List ℕ) → length ns ≡ length rs → counts_from 0 (length rs) (choice.Shadow z ∷ leaf_choices z 0 ns) ≡ ns
+shadow-counts z rs ns e = subst (λ (n : ℕ). counts_from 0 n (choice.Shadow z ∷ leaf_choices z 0 ns) ≡ ns) e (counts-are z 0 (choice.Shadow z ∷ []) ns (λ j h. refl))
 
 -- ---- what the rows allow
 
@@ -218,32 +241,36 @@ residue-tries c counts z m (suc n) r made within e = (
   residue-tries c counts z m n (suc r) made within (omega arith),
 )
 
-splinter-tries : (c : Conj) (counts : List ℕ) (z i n k : ℕ) (f : Affine) → IsWellMade c → are_absurd c.rows ≡ false → z < c.columns → slice_get c.rows i ≡ Some (Ge f) → is_low z f ≡ true → k + n ≡ count_to (last_splinter (greatest_size (highs z c.rows)) (coef z f))
+splinter-tries : (c : Conj) (counts : List ℕ) (z i n k : ℕ) (f : Affine) → IsWellMade c → are_absurd c.rows ≡ false → z < c.columns → slice_get c.rows i ≡ Some (Ge f) → is_low z f ≡ true → pos (k + n) ≤ℤ coef z f
     → AreTries c.columns c.rows counts (splinter_choices n z i k)
 splinter-tries c counts z i zero k f made possible within at low e = tt
 splinter-tries c counts z i (suc n) k f made possible within at low e = (
   record {
     made = left-made (choice.Splinter z i (pos k)) c made possible within (both-true _ _ (rw at low) (true-le (pos 0) (pos k) (omega (arith, ints))));
-    allowed = record { form = f; at = at; low = low; from = omega (arith, ints); to = last-of k (last_splinter (greatest_size (highs z c.rows)) (coef z f)) (omega arith) };
+    allowed = record { form = f; at = at; low = low; from = omega (arith, ints); to = first-of (coef z f) e };
   },
-  splinter-tries c counts z i n (suc k) f made possible within at low (omega arith),
+  splinter-tries c counts z i n (suc k) f made possible within at low (subst (λ (j : ℕ). pos j ≤ℤ coef z f) (later k n) e),
 )
   where
-    last-of : (k : ℕ) (last : ℤ) → k < count_to last → pos k ≤ℤ last
-    last-of k (pos n) h = omega (arith, ints)
-    last-of k (negsuc n) h = absurd (omega arith)
+    later : (k n : ℕ) → k + suc n ≡ suc k + n
+    later k n = omega arith
+
+    first-of : (b : ℤ) → pos (k + suc n) ≤ℤ b → pos k ≤ℤ b
+    first-of b h = omega (arith, ints, h)
 
 tries-both : (n : ℕ) (rows : List Row) (counts : List ℕ) (xs ys : List Choice) → AreTries n rows counts xs → AreTries n rows counts ys → AreTries n rows counts (xs ++ ys)
 tries-both n rows counts [] ys a b = b
 tries-both n rows counts (h ∷ xs) ys a b = (a.0, tries-both n rows counts xs ys a.1 b)
 
-leaf-tries : (c : Conj) (counts : List ℕ) (z i : ℕ) (rs : List Row) → IsWellMade c → are_absurd c.rows ≡ false → z < c.columns → ((k : ℕ) → slice_get c.rows (i + k) ≡ slice_get rs k)
-    → AreTries c.columns c.rows counts (leaf_choices z i (map (splinter_count z (greatest_size (highs z c.rows))) rs))
-leaf-tries c counts z i [] made possible within h = tt
-leaf-tries c counts z i (r ∷ rs) made possible within h =
-    tries-both c.columns c.rows counts (splinter_choices (splinter_count z (greatest_size (highs z c.rows)) r) z i 0) _
-    (here r (subst (λ (k : ℕ). slice_get c.rows k ≡ Some r) (same i) (h 0)))
-    (leaf-tries c counts z (suc i) rs made possible within (λ k. subst (λ (j : ℕ). slice_get c.rows j ≡ slice_get rs k) (later i k) (h (suc k))))
+leaf-tries : (c : Conj) (counts : List ℕ) (z i : ℕ) (rs : List Row) (ns : List ℕ) → IsWellMade c → are_absurd c.rows ≡ false → z < c.columns → ((k : ℕ) → slice_get c.rows (i + k) ≡ slice_get rs k) → Suffice z c.rows rs ns
+    → AreTries c.columns c.rows counts (leaf_choices z i ns)
+leaf-tries c counts z i [] [] made possible within h s = tt
+leaf-tries c counts z i [] (n ∷ ns) made possible within h s = absurd s
+leaf-tries c counts z i (r ∷ rs) [] made possible within h s = absurd s
+leaf-tries c counts z i (r ∷ rs) (n ∷ ns) made possible within h s =
+    tries-both c.columns c.rows counts (splinter_choices n z i 0) _
+    (here r (subst (λ (k : ℕ). slice_get c.rows k ≡ Some r) (same i) (h 0)) s.0)
+    (leaf-tries c counts z (suc i) rs ns made possible within (λ k. subst (λ (j : ℕ). slice_get c.rows j ≡ slice_get rs k) (later i k) (h (suc k))) s.1)
   where
     same : (i : ℕ) → i + 0 ≡ i
     same i = omega arith
@@ -251,14 +278,20 @@ leaf-tries c counts z i (r ∷ rs) made possible within h =
     later : (i k : ℕ) → i + suc k ≡ suc i + k
     later i k = omega arith
 
-    here : (r : Row) → slice_get c.rows i ≡ Some r → AreTries c.columns c.rows counts (splinter_choices (splinter_count z (greatest_size (highs z c.rows)) r) z i 0)
-    here (Eq f) at = tt
-    here (Div m f) at = tt
-    here (Ge f) at = by (is_low z f) refl
+    whole : (k : ℕ) → k ≡ 0 + k
+    whole k = omega arith
+
+    none : n ≡ 0 → AreTries c.columns c.rows counts (splinter_choices n z i 0)
+    none e = subst (λ (k : ℕ). AreTries c.columns c.rows counts (splinter_choices k z i 0)) (sym e) tt
+
+    here : (r : Row) → slice_get c.rows i ≡ Some r → SufficesAt z c.rows r n → AreTries c.columns c.rows counts (splinter_choices n z i 0)
+    here (Eq f) at s = none s
+    here (Div m f) at s = none s
+    here (Ge f) at s = by (is_low z f) refl
       where
-        by : (t : Bool) → is_low z f ≡ t → AreTries c.columns c.rows counts (splinter_choices (cond t (count_to (last_splinter (greatest_size (highs z c.rows)) (coef z f))) 0) z i 0)
-        by true low = splinter-tries c counts z i _ 0 f made possible within at low (omega arith)
-        by false low = tt
+        by : (t : Bool) → is_low z f ≡ t → AreTries c.columns c.rows counts (splinter_choices n z i 0)
+        by true low = splinter-tries c counts z i n 0 f made possible within at low (let w = s.0 low in subst (λ (k : ℕ). pos k ≤ℤ coef z f) (whole n) w.within)
+        by false low = none (s.1 low)
 
 if-fits : (t : Bool) (xs : Tries) (hs : List Choice) → all_of (cond t xs (None ∷ [])) ≡ Some hs → (t ≡ true) × (all_of xs ≡ Some hs)
 if-fits true xs hs e = (refl, e)
@@ -275,18 +308,18 @@ residues-fan c counts hs z (suc m) made within some e =
     some-is : (xs ys : List Choice) → Some xs ≡ Some ys → xs ≡ ys
     some-is xs ys e = cc
 
-shadow-fan : (c : Conj) (counts : List ℕ) (hs : List Choice) (z : ℕ) → IsWellMade c → are_absurd c.rows ≡ false → z < c.columns → only_bounds z c.rows ≡ true → counts ≡ counts_from 0 (length c.rows) hs
-    → all_of (Some (choice.Shadow z) ∷ cond (sizes_fit (highs z c.rows)) (splinters z (greatest_size (highs z c.rows)) 0 c.rows) (None ∷ [])) ≡ Some hs → Fan c counts hs
-shadow-fan c counts hs z made possible within only are e =
-    let a = greatest_size (highs z c.rows) in
-    let m = mapped-some (choice.Shadow z ∷ []) (all_of (cond (sizes_fit (highs z c.rows)) (splinters z a 0 c.rows) (None ∷ []))) hs e in
-    let f = if-fits (sizes_fit (highs z c.rows)) (splinters z a 0 c.rows) m.0 m.1 in
-    let leaves = leaves-are z a 0 c.rows m.0 f.1 in
-    let is : hs ≡ choice.Shadow z ∷ leaf_choices z 0 (map (splinter_count z a) c.rows) = m.2 ∙ ap (λ (ys : List Choice). choice.Shadow z ∷ ys) leaves in
-    let counted : counts ≡ map (splinter_count z a) c.rows = are ∙ ap (counts_from 0 (length c.rows)) is ∙ shadow-counts z a c.rows in
-    let all : AreAll c.columns c.rows counts (choice.Shadow z ∷ leaf_choices z 0 (map (splinter_count z a) c.rows)) = (ap (leaf_choices z 0) (sym counted), counted) in
-    let first : IsTry c.columns c.rows counts (choice.Shadow z) = record { made = left-made (choice.Shadow z) c made possible within only; allowed = (only, counted) } in
-    subst (Fan c counts) (sym is) (record { all = all; tries = (first, leaf-tries c counts z 0 c.rows made possible within (λ k. ap (slice_get c.rows) (same k))) })
+shadow-fan : (s : Strategy) (c : Conj) (counts : List ℕ) (hs : List Choice) (z : ℕ) → IsWellMade c → are_absurd c.rows ≡ false → z < c.columns → only_bounds z c.rows ≡ true → is_one_sided z c.rows ≡ false → counts ≡ counts_from 0 (length c.rows) hs
+    → all_of (Some (choice.Shadow z) ∷ splinters s z c.rows 0 c.rows) ≡ Some hs → Fan c counts hs
+shadow-fan s c counts hs z made possible within only one are e =
+    let ns = map (row_count s z c.rows) c.rows in
+    let m = mapped-some (choice.Shadow z ∷ []) (all_of (splinters s z c.rows 0 c.rows)) hs e in
+    let leaves = leaves-are s z 0 c.rows c.rows m.0 (or-none (is_none (lows z c.rows)) (is_none (highs z c.rows)) one).1 m.1 in
+    let is : hs ≡ choice.Shadow z ∷ leaf_choices z 0 ns = m.2 ∙ ap (λ (ys : List Choice). choice.Shadow z ∷ ys) leaves.is in
+    let counted : counts ≡ ns = are ∙ ap (counts_from 0 (length c.rows)) is ∙ shadow-counts z c.rows ns (suffices-long z c.rows c.rows ns leaves.suffice) in
+    let suffice : Suffice z c.rows c.rows counts = subst (Suffice z c.rows c.rows) (sym counted) leaves.suffice in
+    let all : AreAll c.columns c.rows counts (choice.Shadow z ∷ leaf_choices z 0 ns) = (ap (leaf_choices z 0) (sym counted), suffice) in
+    let first : IsTry c.columns c.rows counts (choice.Shadow z) = record { made = left-made (choice.Shadow z) c made possible within only; allowed = (only, suffice) } in
+    subst (Fan c counts) (sym is) (record { all = all; tries = (first, leaf-tries c counts z 0 c.rows ns made possible within (λ k. ap (slice_get c.rows) (same k)) leaves.suffice) })
   where
     same : (k : ℕ) → 0 + k ≡ k
     same k = omega arith
@@ -298,7 +331,7 @@ choices_fan c counts hs made h are = by (first_equality h.column 0 c.rows) (has_
     z : ℕ
     z = h.column
 
-    by : (o : Option ℕ) (d : Bool) → first_equality h.column 0 c.rows ≡ o → has_divisibility h.column c.rows ≡ d → all_of (tries_by o h.column c.rows) ≡ Some hs → Fan c counts hs
+    by : (o : Option ℕ) (d : Bool) → first_equality h.column 0 c.rows ≡ o → has_divisibility h.column c.rows ≡ d → all_of (tries_by h.strategy o h.column c.rows) ≡ Some hs → Fan c counts hs
     by (Some i) d e f all =
         let k = equality-found h.column 0 i c.rows e in
         let at : is_equality_of h.column (slice_get c.rows i) ≡ true = subst (λ (j : ℕ). is_equality_of h.column (slice_get c.rows j) ≡ true) (same i k.0 k.1) k.2 in
@@ -310,9 +343,9 @@ choices_fan c counts hs made h are = by (first_equality h.column 0 c.rows) (has_
     by None false e f all = bounds (is_one_sided h.column c.rows) refl (rw f at all)
       where
         bounds : (t : Bool) → is_one_sided h.column c.rows ≡ t
-            → all_of (cond t (Some (choice.Drop h.column) ∷ []) (Some (choice.Shadow h.column) ∷ cond (sizes_fit (highs h.column c.rows)) (splinters h.column (greatest_size (highs h.column c.rows)) 0 c.rows) (None ∷ []))) ≡ Some hs
+            → all_of (cond t (Some (choice.Drop h.column) ∷ []) (Some (choice.Shadow h.column) ∷ splinters h.strategy h.column c.rows 0 c.rows)) ≡ Some hs
             → Fan c counts hs
         bounds true one all =
             subst (Fan c counts) (sym (one-of (choice.Drop h.column) hs all))
             (record { all = refl; tries = (record { made = left-made (choice.Drop h.column) c made h.possible h.present (both-true _ _ (bounds-only h.column 0 c.rows e f) one); allowed = tt }, tt) })
-        bounds false one all = shadow-fan c counts hs h.column made h.possible h.present (bounds-only h.column 0 c.rows e f) are all
+        bounds false one all = shadow-fan h.strategy c counts hs h.column made h.possible h.present (bounds-only h.column 0 c.rows e f) one are all

@@ -1,17 +1,17 @@
 -- Branches: where the trees of the choices for a column begin on the path.
-use Rattle.std.specs.Prelude.{◌≡◌, ℕ, zero, suc, ◌+◌, ◌<◌, ◌≤◌, ℤ, pos, ◌≤ℤ◌, ◌<ℤ◌, ◌-ℤ◌, List, [], ◌∷◌, ◌++◌, map, take, drop, length, cond, nat_eq, true, slice_get, Some}
+use Rattle.std.specs.Prelude.{◌≡◌, ℕ, zero, suc, ◌+◌, ◌<◌, ◌≤◌, ℤ, pos, ◌≤ℤ◌, ◌<ℤ◌, ◌-ℤ◌, List, [], ◌∷◌, ◌++◌, take, drop, length, cond, nat_eq, true, slice_get, Some}
 use Rattle.ac_forms.specs.Affine.{Affine, coef, column_form}
 use Rattle.ac_forms.specs.Fits.{Fits}
 use Rattle.ac_forms.specs.Rows.{AreRowsOver, form_of}
 use Rattle.ac_forms.specs.declared.conj.Conj.{Conj}
 use Rattle.ac_forms.specs.declared.row.Row.{Row}
-use Rattle.ac_forms.specs.declared.row.Row.TheVariants.{Eq, Div, Ge}
+use Rattle.ac_forms.specs.declared.row.Row.TheVariants.{Eq, Ge}
 use Rattle.ac_cert.specs.declared.choose.Choice.{Choice}
 use Rattle.ac_cert.specs.declared.choose.Choice.TheVariants as choice
 use Rattle.ac_cert.specs.declared.ends.Absurd.{Absurd}
 use Rattle.ac_cert.specs.declared.types.Tree.{Tree}
 use Rattle.ac_cert.specs.Accepted.{Accepts, absurd_refusals}
-use Rattle.ac_cert.specs.Bounds.{is_low, highs, only_bounds, greatest_size, last_splinter}
+use Rattle.ac_cert.specs.Bounds.{is_low, only_bounds}
 use Rattle.ac_cert.specs.ChoiceFits.{after_choice}
 use Rattle.ac_cert.specs.Choices.{is_equality_of, is_lower_row, left_by}
 use Rattle.ac_cert.specs.Ends.{is_absurd}
@@ -19,19 +19,14 @@ use Rattle.ac_cert.specs.Rules.{class}
 use Rattle.ac_trails.specs.Descents.{StandOn, AreCalm, Carries}
 use Rattle.ac_trails.specs.Leaves.{less}
 use Rattle.ac_trails.specs.Refutations.{conj_of, Refutes, IsModest}
+use Rattle.ac_trails.specs.Shown.{StandFor}
 use Rattle.ac_trails.specs.Standing.{Renames, with_form}
-use Rattle.ac_trails.specs.Tries.{count_to}
+use Rattle.ac_trails.specs.Sufficing.{Suffice}
 use Rattle.ac_trails.specs.declared.branch.Branch.{Branch}
 use Rattle.ac_trails.specs.declared.descent.Base.{Base}
 use Rattle.ac_trails.specs.declared.descent.Below.{Below}
 use Rattle.ac_trails.specs.declared.descent.Below.TheVariants as below
 use Rattle.ac_trails.specs.declared.refutation.Refutation.{Refutation}
-
--- how many splinters a row has, where a is the greatest size of an upper row
-abbrev pub splinter_count : ℕ → ℤ → Row → ℕ
-splinter_count z a (Ge f) = cond (is_low z f) (count_to (last_splinter a (coef z f))) 0
-splinter_count z a (Eq f) = 0
-splinter_count z a (Div m f) = 0
 
 -- how many of the choices are splinters of row i
 abbrev pub count_of : ℕ → List Choice → ℕ
@@ -140,11 +135,11 @@ Begins s (choice.Residue z m r) c d = IsClass s.names z m r c d
 Begins s (choice.Shadow z) c d = IsRaised s.names s.rows s.counts c d
 Begins s (choice.Splinter z i k) c d = IsSplintered s i k c d
 
--- the rows that a choice leaves stand where its tree begins
+-- the rows that a choice leaves stand where its tree begins, or others in their place
 pub record IsBranch (s : Stage) (h : Choice) (b : Branch) : Type 0 where
   pub names : length b.names.items ≡ length s.names
   pub long : length b.standing.places.items ≡ length b.standing.rows.items
-  pub rows : b.standing.rows.items ≡ left_by h s.rows
+  pub rows : StandFor (length s.names) b.standing.rows.items (left_by h s.rows)
   pub calm : AreCalm b.standing.rows.items
   pub carries : (c d : Conj) → IsOn s c → Begins s h c d → Carries b.trail d b.names.items b.standing.rows.items b.standing.places.items
 
@@ -158,20 +153,20 @@ ServeFirst s hs [] = Unit {0}
 ServeFirst s [] (t ∷ ts) = ⊥
 ServeFirst s (h ∷ hs) (t ∷ ts) = Serves s h t × ServeFirst s hs ts
 
--- the row is a lower one of the column, and k one of its splinters
+-- the row is a lower one of the column, and k a number that may be one of its splinters
 pub record IsSplinterOf (z i : ℕ) (k : ℤ) (rs : List Row) : Type 0 where
   pub form : Affine
   pub at : slice_get rs i ≡ Some (Ge form)
   pub low : is_low z form ≡ true
   pub from : pos 0 ≤ℤ k
-  pub to : k ≤ℤ last_splinter (greatest_size (highs z rs)) (coef z form)
+  pub to : k ≤ℤ coef z form
 
 -- the rows allow the choice
 abbrev pub Allows : ℕ → List Row → List ℕ → Choice → Type 0
 Allows n rs counts (choice.Drop z) = Unit {0}
 Allows n rs counts (choice.Equal z i) = is_equality_of z (slice_get rs i) ≡ true
 Allows n rs counts (choice.Residue z m r) = (z < n) × (pos 1 ≤ℤ m) × (pos 0 ≤ℤ r) × (r <ℤ m)
-Allows n rs counts (choice.Shadow z) = (only_bounds z rs ≡ true) × (counts ≡ map (splinter_count z (greatest_size (highs z rs))) rs)
+Allows n rs counts (choice.Shadow z) = (only_bounds z rs ≡ true) × Suffice z rs rs counts
 Allows n rs counts (choice.Splinter z i k) = IsSplinterOf z i k rs
 
 -- and what it leaves is well made over the columns
@@ -219,7 +214,7 @@ AreAll n rs counts [] = ⊥
 AreAll n rs counts (choice.Drop z ∷ hs) = hs ≡ []
 AreAll n rs counts (choice.Equal z i ∷ hs) = hs ≡ []
 AreAll n rs counts (choice.Residue z m r ∷ hs) = AreResidues n z m (choice.Residue z m r ∷ hs)
-AreAll n rs counts (choice.Shadow z ∷ hs) = (hs ≡ leaf_choices z 0 counts) × (counts ≡ map (splinter_count z (greatest_size (highs z rs))) rs)
+AreAll n rs counts (choice.Shadow z ∷ hs) = (hs ≡ leaf_choices z 0 counts) × Suffice z rs rs counts
 AreAll n rs counts (choice.Splinter z i k ∷ hs) = ⊥
 
 -- each choice leaves the conjunction of its refutation

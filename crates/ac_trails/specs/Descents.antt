@@ -5,12 +5,11 @@ use Rattle.ac_forms.specs.Affine.{Affine, coef, shifted, column_form}
 use Rattle.ac_forms.specs.declared.conj.Conj.{Conj}
 use Rattle.ac_forms.specs.declared.row.Row.{Row}
 use Rattle.ac_forms.specs.declared.row.Row.TheVariants.{Eq, Div, Ge}
-use Rattle.ac_cert.specs.Bounds.{is_low, last_splinter}
+use Rattle.ac_cert.specs.Bounds.{is_low}
 use Rattle.ac_cert.specs.Ends.{is_absurd}
 use Rattle.ac_cert.specs.Accepted.{after_steps}
 use Rattle.ac_trails.specs.Leaves.{less}
 use Rattle.ac_trails.specs.Standing.{StandsAt, Stand, one_form}
-use Rattle.ac_trails.specs.Tries.{count_to}
 use Rattle.ac_trails.specs.declared.descent.Base.{Base}
 use Rattle.ac_trails.specs.declared.descent.Below.{Below}
 use Rattle.ac_trails.specs.declared.descent.Below.TheVariants as below
@@ -69,9 +68,10 @@ AreCalm (r ∷ rs) = IsCalm r × AreCalm rs
 abbrev pub column_less : ℕ → ℕ → ℤ → Affine
 column_less columns z r = shifted (column_form columns z) (neg_ℤ r)
 
--- the lower rows of the column, in order, each raised beyond its last splinter, where a is the greatest size of an upper row
-abbrev pub raised_rows : ℕ → ℤ → List Row → List Row
-raised_rows z a [] = []
-raised_rows z a (Ge f ∷ rs) = cond (is_low z f) (Ge (less f (count_to (last_splinter a (coef z f)))) ∷ raised_rows z a rs) (raised_rows z a rs)
-raised_rows z a (Eq f ∷ rs) = raised_rows z a rs
-raised_rows z a (Div m f ∷ rs) = raised_rows z a rs
+-- the lower rows of the column, in order, each less the number of its splinters
+abbrev pub raised_rows : ℕ → List Row → List ℕ → List Row
+raised_rows z [] ns = []
+raised_rows z (r ∷ rs) [] = []
+raised_rows z (Ge f ∷ rs) (n ∷ ns) = cond (is_low z f) (Ge (less f n) ∷ raised_rows z rs ns) (raised_rows z rs ns)
+raised_rows z (Eq f ∷ rs) (n ∷ ns) = raised_rows z rs ns
+raised_rows z (Div m f ∷ rs) (n ∷ ns) = raised_rows z rs ns

@@ -14,18 +14,20 @@ use Rattle.ac_cert.specs.ChoiceFits.{after_choice}
 use Rattle.ac_trails.specs.Tries.{tries_for, all_of}
 use Rattle.ac_trails.specs.declared.refutation.Refutation.{Refutation, Row_of-Refutation, end_of-Refutation, more_of-Refutation}
 use Rattle.ac_trails.specs.declared.refutation.Refutation.TheVariants.{Absurd, Open'}
+use Rattle.ac_trails.specs.declared.strategy.Strategy.{Strategy}
 
 -- the conjunction that has no point
 abbrev pub conj_of : Refutation → Conj
 conj_of (Absurd c) = c
 conj_of (Open' c hs n below) = c
 
--- these are all choices for one of the columns of a conjunction that is not absurd, in order
+-- these are all choices of a strategy for one of the columns of a conjunction that is not absurd, in order
 pub record AreChoicesOf (c : Conj) (hs : List Choice) : Type 0 where
   pub possible : are_absurd c.rows ≡ false
+  pub strategy : Strategy
   pub column : ℕ
   pub present : column < c.columns
-  pub all : all_of (tries_for column c.rows) ≡ Some hs
+  pub all : all_of (tries_for strategy column c.rows) ≡ Some hs
 
 -- the refutation stands: its conjunction is well made and absurd, or what each choice for a column leaves is refuted below
 unfoldable mutual

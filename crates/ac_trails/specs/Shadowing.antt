@@ -1,32 +1,35 @@
 -- The steps to the dark shadows of a column (W. Pugh, The Omega test, 1991).
-use Rattle.std.specs.Prelude.{ℕ, ℤ, pos, ◌-ℤ◌, ◌*ℤ◌, ◌≤ℤ◌, List, [], ◌∷◌}
-use Rattle.ac_forms.specs.Affine.{Affine, coef}
+use Rattle.std.specs.Prelude.{ℕ, ℤ, pos, neg_ℤ, ◌≤ℤ◌, List, [], ◌∷◌}
+use Rattle.ac_forms.specs.Affine.{Affine, coef, shifted}
 use Rattle.ac_forms.specs.declared.conj.Conj.{Conj}
 use Rattle.ac_forms.specs.declared.row.Row.{Row}
 use Rattle.ac_forms.specs.declared.row.Row.TheVariants.{Ge}
-use Rattle.ac_cert.specs.declared.column.Bound.{Bound}
-use Rattle.ac_cert.specs.Bounds.{highs}
+use Rattle.ac_cert.specs.Bounds.{low_bound, highs}
 use Rattle.ac_trails.specs.Refutations.{AreModest}
-use Rattle.ac_trails.specs.Standing.{IsOnto, Reaches, HasOne, Stand}
+use Rattle.ac_trails.specs.Standing.{IsOnto, Reaches, HasOne, StandsAt, Stand}
+pub use Rattle.ac_trails.specs.Sufficing.{loss}
+use Rattle.ac_trails.specs.Sufficing.{AreShown}
 use Rattle.ac_trails.specs.declared.descent.Standing.{Standing}
 use Rattle.ac_trails.specs.declared.path.Trail.{Trail}
 
--- what the dark shadow of a lower row with coefficient b and an upper row of size a takes from their sum
-abbrev pub loss : ℤ → ℤ → ℤ
-loss a b = (a -ℤ pos 1) *ℤ (b -ℤ pos 1)
-
--- n times the size of each upper row is at least what is lost
-abbrev pub IsEnough : ℤ → ℤ → List Bound → Type 0
-IsEnough n b [] = Unit {0}
-IsEnough n b (high ∷ hs) = (loss high.size b ≤ℤ (high.size *ℤ n)) × IsEnough n b hs
-
--- a lower row of the column less n goes on to its dark shadow with each upper one of the rows
-pub record IsMargin (z : ℕ) (n : ℤ) (form : Affine) (rows : List Row) : Type 0 where
+-- n may be taken from a lower row of the column beside these rows: at most its coefficient
+pub record IsTaken (z : ℕ) (n : ℤ) (form : Affine) (rows : List Row) : Type 0 where
   pub modest : AreModest (Ge form ∷ rows) []
   pub low : pos 1 ≤ℤ coef z form
   pub some : pos 0 ≤ℤ n
   pub within : n ≤ℤ coef z form
-  pub enough : IsEnough n (coef z form) (highs z rows)
+
+-- among all rows, a lower row of the column less n goes on to its dark shadow with each upper one of these, or their pair is exact
+pub record IsMargin (z : ℕ) (all : List Row) (n : ℤ) (form : Affine) (rows : List Row) : Type 0 where
+  pub taken : IsTaken z n form rows
+  pub around : AreModest (Ge form ∷ all) []
+  pub shown : AreShown z all n (low_bound z form) (highs z rows)
+
+-- a lower row stands less n at the first place and as it is at the second, beside all rows at theirs
+pub record IsBeside (form : Affine) (n : ℤ) (place own : ℕ) (rows : List Row) (places : List ℕ) (names : List ℕ) (path : Conj) : Type 0 where
+  pub less : StandsAt names path place (Ge (shifted form (neg_ℤ n)))
+  pub whole : StandsAt names path own (Ge form)
+  pub all : Stand names path rows places
 
 -- the trail goes on from the path, to one on which the rows stand at their places, beside `1 >= 0`
 pub record ShowsAll (t : Trail) (start path : Conj) (names : List ℕ) (s : Standing) : Type 0 where

@@ -1,15 +1,19 @@
 -- The choices for a column (W. Pugh, The Omega test, 1991), in order; none in the place of choices for which a number leaves `i128`.
-use Rattle.std.specs.Prelude.{◌≡◌, ◌⊎◌, ℕ, zero, suc, ◌*◌, ◌/◌, Bool, false, ◌&&◌, ◌||◌, cond, ℤ, pos, negsuc, ◌-ℤ◌, ◌*ℤ◌, unsigned_abs, List, [], ◌∷◌, ◌++◌, Option, Some, None, option_map}
+use Rattle.std.specs.Prelude.{◌≡◌, ◌⊎◌, ℕ, zero, suc, ◌*◌, ◌/◌, Bool, false, ◌&&◌, ◌||◌, cond, ℤ, pos, ◌-ℤ◌, ◌*ℤ◌, unsigned_abs, List, [], ◌∷◌, ◌++◌, Option, Some, None, option_map}
 use Rattle.ac_integers.specs.Gcd.{gcd}
-use Rattle.ac_forms.specs.Affine.{coef}
+use Rattle.ac_forms.specs.Affine.{Affine, coef}
 use Rattle.ac_forms.specs.Fits.{fits}
 use Rattle.ac_forms.specs.declared.row.Row.{Row}
 use Rattle.ac_forms.specs.declared.row.Row.TheVariants.{Eq, Div, Ge}
 use Rattle.ac_cert.specs.declared.choose.Choice.{Choice}
 use Rattle.ac_cert.specs.declared.choose.Choice.TheVariants as choice
-use Rattle.ac_cert.specs.Bounds.{has_column, is_low, highs, is_one_sided}
+use Rattle.ac_cert.specs.Bounds.{has_column, is_low, low_bound, highs, is_one_sided}
 pub use Rattle.ac_cert.specs.Bounds.{greatest_size, last_splinter}
 use Rattle.ac_cert.specs.ChoiceFits.{sizes_fit}
+pub use Rattle.ac_exact.specs.Exact.{count_to}
+use Rattle.ac_exact.specs.Tests.{economical, pairs_fit}
+use Rattle.ac_trails.specs.declared.strategy.Strategy.{Strategy}
+use Rattle.ac_trails.specs.declared.strategy.Strategy.TheVariants.{Full, Economical}
 
 -- choices in order, where none stands for a number that leaves `i128`
 abbrev pub Tries : Type 0
@@ -58,33 +62,38 @@ splinters_from (suc n) z i k = Some (choice.Splinter z i (pos k)) ∷ splinters_
 abbrev pub last_splinter_fits : ℤ → ℤ → Bool
 last_splinter_fits a b = fits (a *ℤ b) && (fits (a *ℤ b -ℤ a) && fits (a *ℤ b -ℤ a -ℤ b))
 
--- how many numbers there are from 0 to a last one
-abbrev pub count_to : ℤ → ℕ
-count_to (pos n) = suc n
-count_to (negsuc n) = zero
+-- the size of an upper row for which a lower row has its splinters: the greatest one, or of those whose pair with it isn't exact; none where a number that makes it leaves `i128`
+abbrev pub need_of : Strategy → ℕ → List Row → Affine → Option ℤ
+need_of Full z rows f = cond (sizes_fit (highs z rows)) (Some (greatest_size (highs z rows))) None
+need_of Economical z rows f = cond (pairs_fit (low_bound z f) (highs z rows)) (Some (economical z rows f)) None
 
--- the splinters of a row, none where it is no lower one
-abbrev pub splinters_of : ℕ → ℤ → ℕ → Row → Tries
-splinters_of z a i (Ge f) = cond (is_low z f) (cond (last_splinter_fits a (coef z f)) (splinters_from (count_to (last_splinter a (coef z f))) z i 0) (None ∷ [])) []
-splinters_of z a i (Eq f) = []
-splinters_of z a i (Div m f) = []
+-- the splinters of row i, where its coefficient is b, for an upper row of this size
+abbrev pub splinters_by : Option ℤ → ℕ → ℕ → ℤ → Tries
+splinters_by None z i b = None ∷ []
+splinters_by (Some a) z i b = cond (last_splinter_fits a b) (splinters_from (count_to (last_splinter a b)) z i 0) (None ∷ [])
 
--- the splinters of all lower rows, where the first row has the place i
-abbrev pub splinters : ℕ → ℤ → ℕ → List Row → Tries
-splinters z a i [] = []
-splinters z a i (r ∷ rs) = splinters_of z a i r ++ splinters z a (suc i) rs
+-- the splinters of a row among these, none where it is no lower one
+abbrev pub splinters_of : Strategy → ℕ → List Row → ℕ → Row → Tries
+splinters_of s z rows i (Ge f) = cond (is_low z f) (splinters_by (need_of s z rows f) z i (coef z f)) []
+splinters_of s z rows i (Eq f) = []
+splinters_of s z rows i (Div m f) = []
+
+-- the splinters of all lower rows of the last ones among these, where the first of those has the place i
+abbrev pub splinters : Strategy → ℕ → List Row → ℕ → List Row → Tries
+splinters s z rows i [] = []
+splinters s z rows i (r ∷ rs) = splinters_of s z rows i r ++ splinters s z rows (suc i) rs
 
 -- the choices for a column that only bounds have
-abbrev pub by_bounds : ℕ → List Row → Tries
-by_bounds z rows = cond (is_one_sided z rows) (Some (choice.Drop z) ∷ []) (Some (choice.Shadow z) ∷ cond (sizes_fit (highs z rows)) (splinters z (greatest_size (highs z rows)) 0 rows) (None ∷ []))
+abbrev pub by_bounds : Strategy → ℕ → List Row → Tries
+by_bounds s z rows = cond (is_one_sided z rows) (Some (choice.Drop z) ∷ []) (Some (choice.Shadow z) ∷ splinters s z rows 0 rows)
 
 -- by the first equality that has the column; else by the residues of its divisibilities; else dropped where its rows bound it from one side; else its shadow, then its splinters
-abbrev pub tries_by : Option ℕ → ℕ → List Row → Tries
-tries_by (Some i) z rows = Some (choice.Equal z i) ∷ []
-tries_by None z rows = cond (has_divisibility z rows) (residues z (common_modulus z 1 rows)) (by_bounds z rows)
+abbrev pub tries_by : Strategy → Option ℕ → ℕ → List Row → Tries
+tries_by s (Some i) z rows = Some (choice.Equal z i) ∷ []
+tries_by s None z rows = cond (has_divisibility z rows) (residues z (common_modulus z 1 rows)) (by_bounds s z rows)
 
-unfoldable pub tries_for : ℕ → List Row → Tries
-tries_for z rows = tries_by (first_equality z 0 rows) z rows
+unfoldable pub tries_for : Strategy → ℕ → List Row → Tries
+tries_for s z rows = tries_by s (first_equality z 0 rows) z rows
 
 -- all of them, where there is one in each place
 abbrev pub all_of : Tries → Option (List Choice)

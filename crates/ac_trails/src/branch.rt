@@ -1,12 +1,13 @@
 //! Where the rows that a choice leaves stand.
-ghost use Rattle.std.specs.Prelude.{◌≡◌, ◌<◌, ◌≤ℤ◌, ◌<ℤ◌, pos, ℕ, List, [], ◌∷◌, true, length, map, slice_get, Some, ◌+◌, ◌++◌, cond, IfOk, IfSome};
+ghost use Rattle.std.specs.Prelude.{◌≡◌, ◌<◌, ◌≤ℤ◌, ◌<ℤ◌, pos, ℕ, List, [], ◌∷◌, true, length, slice_get, Some, ◌+◌, ◌++◌, cond, IfOk, IfSome};
 ghost use Rattle.ac_forms.specs.Rows.{AreRowsOver, IsWellMade};
-ghost use Rattle.ac_cert.specs.Bounds.{greatest_size, highs, only_bounds};
+ghost use Rattle.ac_cert.specs.Bounds.{only_bounds};
 ghost use Rattle.ac_cert.specs.ChoiceFits.{choice_fits};
 ghost use Rattle.ac_cert.specs.Choices.{is_equality_of, is_lower_row};
 ghost use Rattle.ac_cert.specs.declared.choose.Choice.TheVariants.{Drop, Equal, Residue, Shadow, Splinter};
-ghost use Rattle.ac_trails.specs.Branches.{IsBranch, IsSplinterOf, IsTry, lift_count, place_after, raised_place, raised_places, splinter_count, stage};
+ghost use Rattle.ac_trails.specs.Branches.{IsBranch, IsSplinterOf, IsTry, lift_count, place_after, raised_place, raised_places, stage};
 ghost use Rattle.ac_trails.specs.Refutations.{AreModest};
+ghost use Rattle.ac_trails.specs.Sufficing.{Suffice};
 
 use crate::by_equality::{free_rows, splinter_rows};
 use crate::descent::{Base, Standing};
@@ -202,7 +203,8 @@ fn shadow_branch(
     z: usize,
 ) -> Result<Branch, AllocError>
     requires long { length places.now ≡ length rows.now }
-    requires counts { counts.now ≡ map (splinter_count z (greatest_size (highs z rows.now))) rows.now }
+    requires counts { length counts.now ≡ length rows.now }
+    requires suffices { Suffice z rows.now rows.now counts.now }
     requires made { AreRowsOver (length names.now) rows.now }
     requires modest { AreModest rows.now [] }
     requires bounds { only_bounds z rows.now ≡ true }
@@ -214,7 +216,7 @@ fn shadow_branch(
         return Err(AllocError);
     };
     let mut trail = Trail::behind(alloc, Base { rows: end, ..base });
-    let standing = trail.show_shadow(alloc, names, z, rows, places, raised.as_slice())?;
+    let standing = trail.show_shadow(alloc, names, z, rows, places, counts, raised.as_slice())?;
     let names = Vec::from_slice(alloc, names)?;
     Ok(Branch {
         trail,

@@ -6,7 +6,7 @@ ghost use Rattle.ac_forms.specs.Fits.{Fits};
 ghost use Rattle.ac_forms.specs.Rows.{AreRowsOver, HaveModuli};
 ghost use Rattle.ac_forms.specs.declared.conj.Conj.{Conj};
 ghost use Rattle.ac_forms.specs.declared.row.Row.TheVariants.{Eq, Div, Ge};
-ghost use Rattle.ac_cert.specs.Bounds.{frees, without, is_low, highs, greatest_size, last_splinter};
+ghost use Rattle.ac_cert.specs.Bounds.{frees, without, is_low};
 ghost use Rattle.ac_cert.specs.ChoiceFits.{equality_fits};
 ghost use Rattle.ac_cert.specs.Choices.{size_of, by_equality, is_equality_of, left_by};
 ghost use Rattle.ac_cert.specs.declared.choose.Choice.TheVariants.{Drop, Equal, Splinter};
@@ -101,7 +101,7 @@ pub(crate) fn splinter_rows(
     requires moduli { HaveModuli rows.now }
     requires lower { i < length rows.now }
     requires low { pos 0 ≤ℤ k }
-    requires last { (f : _) → slice_get rows.now i ≡ Some (Ge f) → (is_low z f ≡ true) × (k ≤ℤ last_splinter (greatest_size (highs z rows.now)) (coef z f)) }
+    requires last { (f : _) → slice_get rows.now i ≡ Some (Ge f) → (is_low z f ≡ true) × (k ≤ℤ coef z f) }
     ensures long { IfOk result (λ s. length s.places.items ≡ length s.rows.items) }
     ensures rows { IfOk result (λ s. s.rows.items ≡ left_by (Splinter z i k) rows.now) }
     ensures calm { IfOk result (λ s. AreCalm s.rows.items) }

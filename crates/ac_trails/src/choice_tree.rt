@@ -1,11 +1,12 @@
 //! The tree of all choices for a column, from the tree of each.
-ghost use Rattle.std.specs.Prelude.{◌≡◌, ◌<◌, ◌≤◌, ◌+◌, ◌^◌, ℕ, ℤ, List, [], ◌∷◌, length, map, take, pos, IfOk};
+ghost use Rattle.std.specs.Prelude.{◌≡◌, ◌<◌, ◌≤◌, ◌+◌, ◌^◌, ℕ, List, [], ◌∷◌, length, take, pos, IfOk};
 ghost use Rattle.ac_forms.specs.Fits.{Fits};
 ghost use Rattle.ac_forms.specs.Rows.{AreRowsOver, IsWellMade};
 ghost use Rattle.ac_forms.specs.declared.conj.Conj.{Conj};
 ghost use Rattle.ac_cert.specs.Accepted.{Accepts, absurd_refusals};
-ghost use Rattle.ac_trails.specs.Branches.{AreAll, IsOn, IsRaised, ServeFirst, ServeLeaves, count_of, counts_from, lift_count, residue_choices, splinter_count, stage};
+ghost use Rattle.ac_trails.specs.Branches.{AreAll, IsOn, IsRaised, ServeFirst, ServeLeaves, count_of, counts_from, lift_count, residue_choices, stage};
 ghost use Rattle.ac_trails.specs.Refutations.{AreModest};
+ghost use Rattle.ac_trails.specs.Sufficing.{Suffice};
 
 use crate::descent::Base;
 use crate::renamed::renamed;
@@ -91,7 +92,7 @@ fn raised_from(
     splinters: Vec<Tree<Absurd>>,
 ) -> Result<Tree<Absurd>, AllocError>
     requires long { length places.now ≡ length rows.now }
-    requires counts { (z : ℕ) × (a : ℤ) × (counts.now ≡ map (splinter_count z a) rows.now) }
+    requires counts { (z : ℕ) × Suffice z rows.now rows.now counts.now }
     requires modest { AreModest rows.now [] }
     requires deep { length splinters.items ≤ 2 ^ depth }
     requires here { i ≤ length rows.now }

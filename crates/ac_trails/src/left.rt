@@ -20,7 +20,7 @@ pub(crate) struct Left {
 }
 
 /// The normal form of a row.
-fn normal_of(alloc: Global, row: &Row) -> Result<NormalRow, AllocError>
+pub(crate) fn normal_of(alloc: Global, row: &Row) -> Result<NormalRow, AllocError>
     requires modulus { HasModulus row.now }
     requires fits { normal_fits row.now ≡ true }
     ensures { IfOk result (λ left. left ≡ normal_row row.now) }

@@ -10,7 +10,7 @@ use ac_items::Items;
 pub enum Refutation {
     /// It is the absurd one.
     Absurd(Conj),
-    /// The choices for one of its columns, in order, and why what each of them leaves has no point.
+    /// The choices of a strategy for one of its columns, in order, and why what each of them leaves has no point.
     Open {
         conj: Conj,
         choices: Items<Choice>,

@@ -2,6 +2,7 @@ use Rattle.std.proofs.Common.{length, subst, sym, ap}
 use Rattle.ac_forms.proofs.Passes.{moduli_of}
 use Rattle.ac_trails.specs.Descents.{StandOn}
 use Rattle.ac_trails.proofs.Branching.{carries-behind}
+use Rattle.ac_trails.proofs.ShownFor.{stand-same}
 use Rattle.ac_trails.proofs.branch.drop_branch.Goals as goal
 
 pub free_rows-requires-clause-moduli : goal.free_rows-requires-clause-moduli
@@ -11,7 +12,7 @@ pub returns : goal.returns
 returns c = λ counts depth. record {
   names = ap length c.in_ok-names.ensures.items;
   long = c.in_ok-standing.ensures.long;
-  rows = c.in_ok-standing.ensures.rows;
+  rows = stand-same (length c.args.names.now) _ _ (c.in_ok-standing.ensures.rows);
   calm = c.in_ok-standing.ensures.calm;
   carries = λ p d on is.
       let here : StandOn c.args.base c.args.names.now c.args.rows.now c.args.places.now d = subst (StandOn c.args.base c.args.names.now c.args.rows.now c.args.places.now) (sym is) on in

@@ -4,13 +4,14 @@ use Rattle.ac_integers.proofs.Bits.{again_128}
 use Rattle.ac_trails.specs.Descents.{Carries}
 use Rattle.ac_trails.specs.declared.descent.Base.{Base}
 use Rattle.ac_trails.proofs.Branching.{carries-behind, stand-class}
+use Rattle.ac_trails.proofs.ShownFor.{stand-same}
 use Rattle.ac_trails.proofs.branch.residue_branch.Goals as goal
 
 pub returns : goal.returns
 returns c = λ counts depth. record {
   names = length-set c.in_ok-names.names.items c.args.z _ ∙ ap length c.in_ok-names.ensures.items;
   long = c.in_ok-standing.ensures.long;
-  rows = rw (again_128 c.args.m c.ranges.m, again_128 c.args.r c.ranges.r) at c.in_ok-standing.ensures.rows;
+  rows = stand-same (length c.args.names.now) _ _ (rw (again_128 c.args.m c.ranges.m, again_128 c.args.r c.ranges.r) at c.in_ok-standing.ensures.rows);
   calm = c.in_ok-standing.ensures.calm;
   carries = λ p d on is.
       let next : c.in-Some.next ≡ c.args.base.rows + 1 = first_of (omega arith, search rules) in

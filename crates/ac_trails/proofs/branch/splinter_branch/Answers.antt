@@ -7,6 +7,7 @@ use Rattle.ac_trails.specs.Branches.{Stage, stage, lift_count, worth}
 use Rattle.ac_trails.specs.Standing.{StandsAt}
 use Rattle.ac_trails.proofs.Branching.{carries-behind, OnSplinter, stand-splinter}
 use Rattle.ac_trails.proofs.RaisedPlaces.{at-within}
+use Rattle.ac_trails.proofs.ShownFor.{stand-same}
 use Rattle.ac_trails.proofs.branch.splinter_branch.Goals as goal
 
 pub splinter_rows-requires-clause-moduli : goal.splinter_rows-requires-clause-moduli
@@ -22,7 +23,7 @@ pub returns : goal.returns
 returns c = record {
   names = ap length c.in_ok-names.ensures.items;
   long = c.in_ok-standing.ensures.long;
-  rows = rw (again_128 c.args.k c.ranges.k) at c.in_ok-standing.ensures.rows;
+  rows = stand-same (length c.args.names.now) _ _ (rw (again_128 c.args.k c.ranges.k) at c.in_ok-standing.ensures.rows);
   calm = c.in_ok-standing.ensures.calm;
   carries = λ p d on is.
       let s : Stage = stage c.args.base c.args.names.now c.args.places.now c.args.rows.now c.args.counts.now c.args.depth in

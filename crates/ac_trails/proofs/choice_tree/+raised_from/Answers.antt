@@ -9,6 +9,11 @@ use Rattle.ac_trails.proofs.choice_tree.+raised_from.Goals as goal
 pub returns-then-i-rows : goal.returns-then-i-rows
 returns-then-i-rows t c = λ p d on up. c.requires.shadow p d on (raised-whole c.args.names.now c.args.rows.now c.args.counts.now c.args.i p d c.if-i-rows.true up)
 
+pub bounds-counts-i : goal.bounds-counts-i
+bounds-counts-i t c =
+    let long : length c.args.counts.now ≡ length c.args.rows.now = counts-long c.args.rows.now c.args.counts.now c.requires.counts in
+    omega arith
+
 pub raised_from-requires : goal.raised_from-requires
 raised_from-requires t c = (
   search rules,

@@ -1,7 +1,6 @@
 use Rattle.std.proofs.Common.{ℕ, pos, rules, sym, ap, ◌∙◌}
 use Rattle.ac_integers.proofs.Bits.{again_128}
 use Rattle.ac_forms.specs.Fits.{Fits}
-use Rattle.ac_cert.specs.Bounds.{greatest_size, highs}
 use Rattle.ac_trails.specs.Branches.{Stage, stage, AreResidues, ServeFirst}
 use Rattle.ac_trails.proofs.ChoiceTrees.{are-splinters, ShadowFirst, shadow-taken, from-nothing, are-residues, residues-long, residues-accepted}
 use Rattle.ac_trails.proofs.choice_tree.choice_tree.Goals as goal
@@ -22,7 +21,7 @@ returns-in-Residue c =
 pub raised_from-requires-clause-counts : goal.raised_from-requires-clause-counts
 raised_from-requires-clause-counts c =
     let a = are-splinters c.args.conj.now.columns c.args.conj.now.rows c.args.counts.now c.args.choices.now c.in-Shadow.field-0 c.requires.all c.in-Shadow.is in
-    rw c.as_slice-rows.ensures (c.in-Shadow.field-0, greatest_size (highs c.in-Shadow.field-0 c.args.conj.now.rows), a.counted)
+    rw c.as_slice-rows.ensures (c.in-Shadow.field-0, a.suffice)
 
 pub raised_from-requires-clause-served : goal.raised_from-requires-clause-served
 raised_from-requires-clause-served c =

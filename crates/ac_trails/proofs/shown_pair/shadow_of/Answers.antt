@@ -1,19 +1,12 @@
-use Rattle.ac_trails.proofs.Renaming.{blends-can}
-use Rattle.ac_trails.proofs.ShadowNumbers.{pair-blends, loss-fits, shadow-fits}
-use Rattle.ac_trails.proofs.Shadowed.{again-is, plain-pair, size-fits, shadow-made}
-use Rattle.ac_trails.proofs.by_shadow.shadow_of.Goals as goal
+use Rattle.std.proofs.Common.{pos, neg_ℤ, ap, ◌∙◌}
+use Rattle.ac_forms.specs.Affine.{Affine, coef, shifted}
+use Rattle.ac_trails.specs.Shadowing.{loss}
+use Rattle.ac_trails.proofs.ShadowNumbers.{loss-fits, shadow-fits}
+use Rattle.ac_trails.proofs.Shadowed.{again-is, plain-pair, size-fits}
+use Rattle.ac_trails.proofs.shown_pair.shadow_of.Goals as goal
 
 pub opposite_coef-a-requires : goal.opposite_coef-a-requires
 opposite_coef-a-requires c = size-fits c.args.z c.args.low.now c.args.high.now c.requires.modest
-
-pub sum_of-requires : goal.sum_of-requires
-sum_of-requires c =
-    let f = c.args.low.now in
-    let g = c.args.high.now in
-    let p = plain-pair c.args.z f g c.requires.modest c.requires.low c.requires.high in
-    let a = again-is c.opposite_coef-a.result _ c.opposite_coef-a.ensures (record { sfits = c.opposite_coef-a.type_inv }) in
-    let b = again-is c.coef-b.result _ c.coef-b.ensures (record { sfits = c.coef-b.type_inv }) in
-    rw (a, b) (blends-can _ f _ g (pair-blends f g _ _ _ p))
 
 pub loss-requires-clause-fits : goal.loss-requires-clause-fits
 loss-requires-clause-fits c =
@@ -32,11 +25,11 @@ less-requires c =
     let a = again-is c.opposite_coef-a.result _ c.opposite_coef-a.ensures (record { sfits = c.opposite_coef-a.type_inv }) in
     let b = again-is c.coef-b.result _ c.coef-b.ensures (record { sfits = c.coef-b.type_inv }) in
     let l = again-is c.loss.result _ c.loss.ensures (record { sfits = c.loss.type_inv }) in
-    rw (l, c.in_ok-sum.ensures, a, b) (shadow-fits f g _ _ _ p)
+    rw (l, c.in_ok-real.ensures, a, b) (shadow-fits f g (neg_ℤ (coef c.args.z g)) (coef c.args.z f) (pos 0) p)
 
 pub returns : goal.returns
 returns c =
     let a = again-is c.opposite_coef-a.result _ c.opposite_coef-a.ensures (record { sfits = c.opposite_coef-a.type_inv }) in
     let b = again-is c.coef-b.result _ c.coef-b.ensures (record { sfits = c.coef-b.type_inv }) in
     let l = again-is c.loss.result _ c.loss.ensures (record { sfits = c.loss.type_inv }) in
-    shadow-made c.args.z c.args.low.now c.args.high.now c.in_ok-sum.sum c.in_ok-form.form c.requires.modest c.requires.low c.requires.high (rw (a, b) at (c.in_ok-sum.ensures)) (rw (l, a, b) at c.in_ok-form.ensures)
+    (rw (l, a, b) at c.in_ok-form.ensures) ∙ ap (λ (x : Affine). shifted x (neg_ℤ (loss (neg_ℤ (coef c.args.z c.args.high.now)) (coef c.args.z c.args.low.now)))) c.in_ok-real.ensures
