@@ -1,5 +1,5 @@
 -- An integer for a column exists exactly where one of its choices leaves rows that have a point.
-use Rattle.std.proofs.Common.{◌≡◌, ◌↔◌, ◌⊎◌, inl, inr, ℕ, zero, suc, ◌+◌, ◌<◌, ℤ, pos, negsuc, ◌≤ℤ◌, Bool, true, false, cond, List, [], ◌∷◌, ◌++◌, length, set, slice_get, Option, Some, None, arith, refl, ap, sym, subst}
+use Rattle.std.proofs.Common.{◌≡◌, ◌↔◌, ◌⊎◌, inl, inr, ℕ, zero, suc, ◌+◌, ◌<◌, ℤ, pos, negsuc, ◌≤ℤ◌, Bool, true, false, cond, ◌||◌, List, [], ◌∷◌, ◌++◌, length, set, slice_get, Option, Some, None, arith, refl, ap, sym, subst}
 use Rattle.std.specs.Prelude.{option_map, Result, Ok, Err, IfOk}
 use Rattle.std.proofs.lemmas.Int.{ints}
 use Rattle.ac_forms.specs.Affine.{Affine, coef}
@@ -13,16 +13,21 @@ use Rattle.ac_forms.specs.declared.stop.FormStop.{FormStop}
 use Rattle.ac_forms.specs.declared.stop.FormStop.TheVariants.{Wide, Memory}
 use Rattle.ac_cert.specs.declared.choose.Choice.{Choice}
 use Rattle.ac_cert.specs.declared.choose.Choice.TheVariants as choice
-use Rattle.ac_cert.specs.Bounds.{is_low, highs, only_bounds, is_one_sided, greatest_size, last_splinter}
+use Rattle.ac_cert.specs.Bounds.{is_low, low_bound, lows, highs, is_none, only_bounds, is_one_sided, last_splinter}
 use Rattle.ac_cert.specs.Choices.{is_equality_of, left_by}
 use Rattle.ac_cert.specs.ChoiceFits.{sizes_fit}
-use Rattle.ac_cert.specs.Splinters.{IsOnSplinter}
-use Rattle.ac_cert.proofs.Covering.{covers-equal, covers-residue, covers-drop, covers-bounds}
+use Rattle.ac_cert.proofs.Covering.{covers-equal, covers-residue, covers-drop}
+use Rattle.ac_exact.specs.Exact.{Needs, Suffices, IsOnNeeded}
+use Rattle.ac_exact.specs.Tests.{economical, full, pairs_fit}
+use Rattle.ac_exact.proofs.Covering.{covers-needed}
+use Rattle.ac_exact.proofs.Implying.{economical-suffices, full-suffices}
 use Rattle.ac_cert.proofs.Lifting.{lifts-somewhere}
 use Rattle.ac_omega.specs.Stops.{MadeOf}
-use Rattle.ac_trails.specs.Tries.{Tries, first_equality, has_divisibility, common_modulus, residues_from, residues, splinters_from, count_to, last_splinter_fits, splinters_of, splinters, by_bounds, tries_by, tries_for, all_of, IsAmong}
+use Rattle.ac_trails.specs.Tries.{Tries, first_equality, has_divisibility, common_modulus, residues_from, residues, splinters_from, count_to, last_splinter_fits, splinters_by, splinters_of, splinters, by_bounds, tries_by, tries_for, all_of, IsAmong}
 use Rattle.ac_omega.proofs.Moduli.{common-grows}
 use Rattle.ac_omega.proofs.Legal.{Allowed, all-allowed, among-allowed, equality-found, only-bounds}
+use Rattle.ac_trails.specs.declared.strategy.Strategy.{Strategy}
+use Rattle.ac_trails.specs.declared.strategy.Strategy.TheVariants.{Full, Economical}
 
 -- the choice is one of these, up to the first that is none
 IsTried : Choice → Tries → Type 0
@@ -93,30 +98,44 @@ below_count : (k : ℕ) (last : ℤ) → pos k ≤ℤ last → k < count_to last
 below_count k (pos n) h = omega (arith, ints)
 below_count k (negsuc n) h = absurd (omega (arith, ints))
 
-splinter-here : (z : ℕ) (a : ℤ) (i k : ℕ) (f : Affine) → is_low z f ≡ true → pos k ≤ℤ last_splinter a (coef z f) → IsTried (choice.Splinter z i (pos k)) (splinters_of z a i (Ge f))
+splinter-by : (z i k : ℕ) (a b : ℤ) → pos k ≤ℤ last_splinter a b → IsTried (choice.Splinter z i (pos k)) (splinters_by (Some a) z i b)
 unfolding IsTried
-splinter-here z a i k f e h =
-    rw e
-    (elim (last_splinter_fits a (coef z f)) as (λ t. IsTried (choice.Splinter z i (pos k)) (cond t (splinters_from (count_to (last_splinter a (coef z f))) z i 0) (None ∷ []))) [
-      | true ↦ subst (λ (j : ℕ). IsTried (choice.Splinter z i (pos j)) (splinters_from (count_to (last_splinter a (coef z f))) z i 0)) (same k) (splinter-from z i (count_to (last_splinter a (coef z f))) k 0 (below_count k _ h))
+splinter-by z i k a b h =
+    elim (last_splinter_fits a b) as (λ t. IsTried (choice.Splinter z i (pos k)) (cond t (splinters_from (count_to (last_splinter a b)) z i 0) (None ∷ []))) [
+      | true ↦ subst (λ (j : ℕ). IsTried (choice.Splinter z i (pos j)) (splinters_from (count_to (last_splinter a b)) z i 0)) (same k) (splinter-from z i (count_to (last_splinter a b)) k 0 (below_count k _ h))
       | false ↦ tt
-    ])
+    ]
   where
     same : (r : ℕ) → 0 + r ≡ r
     same r = omega arith
 
-splinter-tried : (z : ℕ) (a : ℤ) (i k j : ℕ) (f : Affine) (rs : List Row) → slice_get rs j ≡ Some (Ge f) → is_low z f ≡ true → pos k ≤ℤ last_splinter a (coef z f) → IsTried (choice.Splinter z (i + j) (pos k)) (splinters z a i rs)
-splinter-tried z a i k j f [] e low h = absurd cc
-splinter-tried z a i k zero f (r ∷ rs) e low h =
+-- up to which size the splinters of a lower row go, where its numbers fit
+abbrev needs : Strategy → ℕ → List Row → Needs
+needs Full z rows = full z rows
+needs Economical z rows = economical z rows
+
+splinter-where : (t : Bool) (z i k : ℕ) (a b : ℤ) → pos k ≤ℤ last_splinter a b → IsTried (choice.Splinter z i (pos k)) (splinters_by (cond t (Some a) None) z i b)
+unfolding IsTried
+splinter-where true z i k a b h = splinter-by z i k a b h
+splinter-where false z i k a b h = tt
+
+splinter-here : (strategy : Strategy) (z i k : ℕ) (rows : List Row) (f : Affine) → is_low z f ≡ true → pos k ≤ℤ last_splinter (needs strategy z rows f) (coef z f) → IsTried (choice.Splinter z i (pos k)) (splinters_of strategy z rows i (Ge f))
+splinter-here Full z i k rows f e h = rw e (splinter-where (sizes_fit (highs z rows)) z i k (full z rows f) (coef z f) h)
+splinter-here Economical z i k rows f e h = rw e (splinter-where (pairs_fit (low_bound z f) (highs z rows)) z i k (economical z rows f) (coef z f) h)
+
+splinter-tried : (strategy : Strategy) (z i k j : ℕ) (rows : List Row) (f : Affine) (rs : List Row) → slice_get rs j ≡ Some (Ge f) → is_low z f ≡ true → pos k ≤ℤ last_splinter (needs strategy z rows f) (coef z f)
+    → IsTried (choice.Splinter z (i + j) (pos k)) (splinters strategy z rows i rs)
+splinter-tried strategy z i k j rows f [] e low h = absurd cc
+splinter-tried strategy z i k zero rows f (r ∷ rs) e low h =
     let is : r ≡ Ge f = cc in
-    tried-first _ (splinters_of z a i r) (splinters z a (suc i) rs)
-    (rw is (subst (λ (n : ℕ). IsTried (choice.Splinter z n (pos k)) (splinters_of z a i (Ge f))) (same i) (splinter-here z a i k f low h)))
+    tried-first _ (splinters_of strategy z rows i r) (splinters strategy z rows (suc i) rs)
+    (rw is (subst (λ (n : ℕ). IsTried (choice.Splinter z n (pos k)) (splinters_of strategy z rows i (Ge f))) (same i) (splinter-here strategy z i k rows f low h)))
   where
     same : (r : ℕ) → r ≡ r + zero
     same r = omega arith
-splinter-tried z a i k (suc j) f (r ∷ rs) e low h =
-    tried-second _ (splinters_of z a i r) (splinters z a (suc i) rs)
-    (subst (λ (n : ℕ). IsTried (choice.Splinter z n (pos k)) (splinters z a (suc i) rs)) (later i j) (splinter-tried z a (suc i) k j f rs e low h))
+splinter-tried strategy z i k (suc j) rows f (r ∷ rs) e low h =
+    tried-second _ (splinters_of strategy z rows i r) (splinters strategy z rows (suc i) rs)
+    (subst (λ (n : ℕ). IsTried (choice.Splinter z n (pos k)) (splinters strategy z rows (suc i) rs)) (later i j) (splinter-tried strategy z (suc i) k j rows f rs e low h))
   where
     later : (r d : ℕ) → suc r + d ≡ r + suc d
     later r d = omega arith
@@ -125,24 +144,31 @@ splinter-tried z a i k (suc j) f (r ∷ rs) e low h =
 pub HasPoint : ℕ → List Row → List ℤ → Tries → Type 0
 HasPoint z rows p tries = (h : Choice) × IsTried h tries × (w : ℤ) × Meets (left_by h rows) (set p z w)
 
-bounds-cover : (z : ℕ) (rows : List Row) (p : List ℤ) (v : ℤ) → z < length p → only_bounds z rows ≡ true → Meets rows (set p z v) → HasPoint z rows p (by_bounds z rows)
+or-false : (a b : Bool) → (a || b) ≡ false → b ≡ false
+or-false true b e = absurd cc
+or-false false b e = e
+
+needs-suffice : (strategy : Strategy) (z : ℕ) (rows : List Row) → is_one_sided z rows ≡ false → Suffices (needs strategy z rows) z rows
+needs-suffice Full z rows e = full-suffices z rows (or-false (is_none (lows z rows)) (is_none (highs z rows)) e)
+needs-suffice Economical z rows e = economical-suffices z rows
+
+bounds-cover : (strategy : Strategy) (z : ℕ) (rows : List Row) (p : List ℤ) (v : ℤ) → z < length p → only_bounds z rows ≡ true → Meets rows (set p z v) → HasPoint z rows p (by_bounds strategy z rows)
 unfolding HasPoint IsTried
-bounds-cover z rows p v l o m = by (is_one_sided z rows) (sizes_fit (highs z rows))
+bounds-cover strategy z rows p v l o m = by (is_one_sided z rows) refl
   where
-    by : (t u : Bool) → HasPoint z rows p (cond t (Some (choice.Drop z) ∷ []) (Some (choice.Shadow z) ∷ cond u (splinters z (greatest_size (highs z rows)) 0 rows) (None ∷ [])))
-    by true u = (choice.Drop z, inl refl, v, covers-drop z rows (set p z v) m)
-    by false u =
-        elim (covers-bounds z rows p v l o m) [
+    by : (t : Bool) → is_one_sided z rows ≡ t → HasPoint z rows p (cond t (Some (choice.Drop z) ∷ []) (Some (choice.Shadow z) ∷ splinters strategy z rows 0 rows))
+    by true e = (choice.Drop z, inl refl, v, covers-drop z rows (set p z v) m)
+    by false e =
+        elim (covers-needed (needs strategy z rows) z rows p v l o (needs-suffice strategy z rows e) m) [
           | inl s ↦ (choice.Shadow z, inl refl, v, s)
-          | inr s ↦ (choice.Splinter z s.place (pos s.worth), inr (on s u), v, s.meets)
+          | inr s ↦ (choice.Splinter z s.place (pos s.worth), inr (on s), v, s.meets)
         ]
       where
-        on : (s : IsOnSplinter z rows (set p z v)) (u : Bool) → IsTried (choice.Splinter z s.place (pos s.worth)) (cond u (splinters z (greatest_size (highs z rows)) 0 rows) (None ∷ []))
-        on s true = subst (λ (n : ℕ). IsTried (choice.Splinter z n (pos s.worth)) (splinters z (greatest_size (highs z rows)) 0 rows)) (same s.place) (splinter-tried z (greatest_size (highs z rows)) 0 s.worth s.place s.form rows s.at s.low s.within)
+        on : (s : IsOnNeeded (needs strategy z rows) z rows (set p z v)) → IsTried (choice.Splinter z s.place (pos s.worth)) (splinters strategy z rows 0 rows)
+        on s = subst (λ (n : ℕ). IsTried (choice.Splinter z n (pos s.worth)) (splinters strategy z rows 0 rows)) (same s.place) (splinter-tried strategy z 0 s.worth s.place rows s.form rows s.at s.low s.within)
           where
             same : (r : ℕ) → 0 + r ≡ r
             same r = omega arith
-        on s false = tt
 
 residues-cover : (z : ℕ) (rows : List Row) (p : List ℤ) (v : ℤ) → z < length p → HaveModuli rows → Meets rows (set p z v) → HasPoint z rows p (residues z (common_modulus z 1 rows))
 unfolding HasPoint
@@ -152,11 +178,11 @@ residues-cover z rows p v l h m =
     (choice.Residue z (pos (common_modulus z 1 rows)) (pos c.0), residue-tried z (common_modulus z 1 rows) c.0 c.1, c.2, c.3)
 
 -- where there is an integer, one of the choices has a point
-tries-cover : (z : ℕ) (rows : List Row) (p : List ℤ) (v : ℤ) → z < length p → HaveModuli rows → Meets rows (set p z v) → HasPoint z rows p (tries_for z rows)
+tries-cover : (strategy : Strategy) (z : ℕ) (rows : List Row) (p : List ℤ) (v : ℤ) → z < length p → HaveModuli rows → Meets rows (set p z v) → HasPoint z rows p (tries_for strategy z rows)
 unfolding HasPoint IsTried tries_for
-tries-cover z rows p v l h m = by (first_equality z 0 rows) (has_divisibility z rows) refl refl
+tries-cover strategy z rows p v l h m = by (first_equality z 0 rows) (has_divisibility z rows) refl refl
   where
-    by : (o : Option ℕ) (d : Bool) → first_equality z 0 rows ≡ o → has_divisibility z rows ≡ d → HasPoint z rows p (tries_by o z rows)
+    by : (o : Option ℕ) (d : Bool) → first_equality z 0 rows ≡ o → has_divisibility z rows ≡ d → HasPoint z rows p (tries_by strategy o z rows)
     by (Some i) d e is =
         let k = equality-found z 0 i rows e in
         (choice.Equal z i, inl refl, v, covers-equal z i rows p v l (subst (λ (j : ℕ). is_equality_of z (slice_get rows j) ≡ true) (same i k.0 k.1) k.2) m)
@@ -164,15 +190,15 @@ tries-cover z rows p v l h m = by (first_equality z 0 rows) (has_divisibility z 
         same : (i k : ℕ) → i ≡ 0 + k → k ≡ i
         same i k e = omega arith
     by None true e is = rw is (residues-cover z rows p v l h m)
-    by None false e is = rw is (bounds-cover z rows p v l (only-bounds z 0 rows e is) m)
+    by None false e is = rw is (bounds-cover strategy z rows p v l (only-bounds z 0 rows e is) m)
 
-pub listed-complete : (z : ℕ) (c : Conj) (hs : List Choice) → IsWellMade c → z < c.columns → all_of (tries_for z c.rows) ≡ Some hs → (p : List ℤ) → length p ≡ c.columns
+pub listed-complete : (strategy : Strategy) (z : ℕ) (c : Conj) (hs : List Choice) → IsWellMade c → z < c.columns → all_of (tries_for strategy z c.rows) ≡ Some hs → (p : List ℤ) → length p ≡ c.columns
     → ((v : ℤ) × Meets c.rows (set p z v)) ↔ ((h : Choice) × IsAmong h hs × (w : ℤ) × Meets (left_by h c.rows) (set p z w))
 unfolding HasPoint
-listed-complete z c hs made within e p l =
+listed-complete strategy z c hs made within e p l =
     let moduli = moduli_of c.columns c.rows made in (
-      (λ m. let f = tries-cover z c.rows p m.0 (omega (arith, l)) moduli m.1 in (f.0, tried-among f.0 (tries_for z c.rows) hs f.1 e, f.2, f.3)),
-      (λ f. back f.0 f.2 (among-allowed z c.rows (tries_for z c.rows) hs f.0 (all-allowed z c.rows moduli) e f.1) f.3),
+      (λ m. let f = tries-cover strategy z c.rows p m.0 (omega (arith, l)) moduli m.1 in (f.0, tried-among f.0 (tries_for strategy z c.rows) hs f.1 e, f.2, f.3)),
+      (λ f. back f.0 f.2 (among-allowed z c.rows (tries_for strategy z c.rows) hs f.0 (all-allowed strategy z c.rows moduli) e f.1) f.3),
     )
   where
     back : (h : Choice) (w : ℤ) → Allowed z c.rows h → Meets (left_by h c.rows) (set p z w) → (v : ℤ) × Meets c.rows (set p z v)
@@ -180,8 +206,8 @@ listed-complete z c hs made within e p l =
         subst (λ (x : ℕ). (v : ℤ) × Meets c.rows (set p x v)) a.column
         (lifts-somewhere h c.rows p w a.allowed (rw a.column (omega (arith, l))) (subst (λ (x : ℕ). Meets (left_by h c.rows) (set p x w)) (sym a.column) m))
 
-pub made-complete : (z : ℕ) (c : Conj) (res : Result (List Choice) FormStop) → IsWellMade c → z < c.columns → MadeOf res (all_of (tries_for z c.rows))
+pub made-complete : (strategy : Strategy) (z : ℕ) (c : Conj) (res : Result (List Choice) FormStop) → IsWellMade c → z < c.columns → MadeOf res (all_of (tries_for strategy z c.rows))
     → IfOk res (λ hs. (p : List ℤ) → length p ≡ c.columns → ((v : ℤ) × Meets c.rows (set p z v)) ↔ ((h : Choice) × IsAmong h hs × (w : ℤ) × Meets (left_by h c.rows) (set p z w)))
-made-complete z c (Ok hs) made within e = λ p l. listed-complete z c hs made within e p l
-made-complete z c (Err Wide) made within e = tt
-made-complete z c (Err (Memory want)) made within e = tt
+made-complete strategy z c (Ok hs) made within e = λ p l. listed-complete strategy z c hs made within e p l
+made-complete strategy z c (Err Wide) made within e = tt
+made-complete strategy z c (Err (Memory want)) made within e = tt

@@ -19,6 +19,7 @@ use Rattle.ac_omega.proofs.Bounding.{rows-met, rows-on}
 use Rattle.ac_trails.specs.Refutations.{IsRefutationOf}
 use Rattle.ac_trails.specs.declared.refutation.Refutation.{Refutation}
 use Rattle.ac_cert.proofs.LeftMade.{conj_made}
+use Rattle.ac_trails.specs.declared.strategy.Strategy.{Strategy}
 
 pub normal-made : (q d : Conj) → IsWellMade q → d ≡ normal_conj q → IsWellMade d
 normal-made q d made e = subst IsWellMade (sym e) (conj_made q made)
@@ -26,15 +27,15 @@ normal-made q d made e = subst IsWellMade (sym e) (conj_made q made)
 pub normal-normal : (q d : Conj) → d ≡ normal_conj q → IsNormal d
 normal-normal q d e = (q.rows, ap (λ x. x.rows) e)
 
-pub normal-wide : (budget : ℕ) (q : Conj) → (RowsFit q.rows → ⊥) → walk_of budget q ≡ def.Wide
-normal-wide budget q h = by (rows_fit q.rows) refl
+pub normal-wide : (strategy : Strategy) (budget : ℕ) (q : Conj) → (RowsFit q.rows → ⊥) → walk_of strategy budget q ≡ def.Wide
+normal-wide strategy budget q h = by (rows_fit q.rows) refl
   where
-    by : (t : Bool) → rows_fit q.rows ≡ t → def.entered (cond t (Some (normal_conj q)) None) (λ c. def.walk (eliminating (columns_to c.columns)) (budget + 1) budget c 0 (with_rows q.rows nothing_met)) ≡ def.Wide
+    by : (t : Bool) → rows_fit q.rows ≡ t → def.entered (cond t (Some (normal_conj q)) None) (λ c. def.walk (eliminating strategy (columns_to c.columns)) (budget + 1) budget c 0 (with_rows q.rows nothing_met)) ≡ def.Wide
     by true e = absurd (h ((rows_fit-is q.rows).0 e))
     by false e = refl
 
-pub walk-is : (budget : ℕ) (q d : Conj) (s : Maxima) → RowsFit q.rows → d ≡ normal_conj q → s ≡ with_rows q.rows nothing_met → walk_of budget q ≡ def.walk (eliminating (columns_to d.columns)) (budget + 1) budget d 0 s
-walk-is budget q d s f e m = rw ((rows_fit-is q.rows).1 f, e, m) refl
+pub walk-is : (strategy : Strategy) (budget : ℕ) (q d : Conj) (s : Maxima) → RowsFit q.rows → d ≡ normal_conj q → s ≡ with_rows q.rows nothing_met → walk_of strategy budget q ≡ def.walk (eliminating strategy (columns_to d.columns)) (budget + 1) budget d 0 s
+walk-is strategy budget q d s f e m = rw ((rows_fit-is q.rows).1 f, e, m) refl
 
 pub err-decides : (e : Halt) (q : Conj) (v w : def.Walked Maxima) → v ≡ w → Searches (Err e) w → Decides (Err e) q v
 err-decides halt.Wide q v w s h = inl (s ∙ h)

@@ -106,7 +106,7 @@ shadow-fit-one vars b z f g room p q =
     (combine-fit b (pos 1) (pos 1) (without z f) (without z g) (inl refl) (inl refl) (set-units f.coefs z (form-units vars b f p)) (set-units g.coefs z (form-units vars b g q)) p.small q.small room)
     (fits-within (pos 1 *ℤ f.konst +ℤ pos 1 *ℤ g.konst -ℤ (pos 1 -ℤ pos 1) *ℤ (pos 1 -ℤ pos 1)) (b + b) (shadow-small f.konst g.konst b p.small q.small) room)
 
-shadow-fit : (vars : List ℕ) (b z : ℕ) (low high : Bound) → b + b < 2 ^ 127 → IsBound vars b z (pos 1) low → IsBound vars b z (negsuc 0) high → shadow_fits low high ≡ true
+pub shadow-fit : (vars : List ℕ) (b z : ℕ) (low high : Bound) → b + b < 2 ^ 127 → IsBound vars b z (pos 1) low → IsBound vars b z (negsuc 0) high → shadow_fits low high ≡ true
 shadow-fit vars b z low high room l h =
     let o = shadow-fit-one vars b z l.form h.form room l.over h.over in
     let o1 = subst (λ (g : Affine). shadow_fits_at (pos 1) (without z l.form) (pos 1) g ≡ true) (sym h.rest) o in

@@ -9,6 +9,7 @@ use Rattle.ac_omega.specs.Projection.{is_among}
 use Rattle.ac_omega.proofs.DifferenceRows.{IsRow, Each}
 use Rattle.ac_omega.proofs.DifferenceChoices.{leave}
 use Rattle.ac_omega.proofs.Present.{next-present}
+use Rattle.ac_trails.specs.declared.strategy.Strategy.{Strategy}
 
 -- a column outside is in no row
 absent-test : (c : ℤ) → c ≡ pos 0 → not (int_eq c (pos 0)) ≡ false
@@ -23,15 +24,15 @@ absent-each : (vars : List ℕ) (b z : ℕ) (rs : List Row) → Each (IsRow vars
 absent-each vars b z [] h a = refl
 absent-each vars b z (r ∷ rs) h a = rw (absent-form vars b z r h.0 a) (absent-each vars b z rs h.1 a)
 
-pub next-left : (vars cols : List ℕ) (b z : ℕ) (rs : List Row) → Each (IsRow vars b) rs → next_column cols rs ≡ Some z → is_among z vars ≡ true
-next-left vars cols b z rs h e = by (is_among z vars) refl
+pub next-left : (strategy : Strategy) (vars cols : List ℕ) (b z : ℕ) (rs : List Row) → Each (IsRow vars b) rs → next_column strategy cols rs ≡ Some z → is_among z vars ≡ true
+next-left strategy vars cols b z rs h e = by (is_among z vars) refl
   where
     differ : {t : Bool} → t ≡ true → t ≡ false → ⊥
     differ e f = cc
 
     by : (t : Bool) → is_among z vars ≡ t → is_among z vars ≡ true
     by true a = a
-    by false a = absurd (differ (next-present cols rs z e) (absent-each vars b z rs h a))
+    by false a = absurd (differ (next-present strategy cols rs z e) (absent-each vars b z rs h a))
 
 -- fewer columns are left
 leave-short : (z : ℕ) (vars : List ℕ) → length (leave z vars) ≤ length vars

@@ -136,7 +136,7 @@ both-true true true e f = refl
 both-true true false e f = f
 both-true false b e f = e
 
-row-fits : (vars : List ℕ) (b : ℕ) (r : Row) → b < 2 ^ 127 → IsRaw vars b r → normal_fits r ≡ true
+pub row-fits : (vars : List ℕ) (b : ℕ) (r : Row) → b < 2 ^ 127 → IsRaw vars b r → normal_fits r ≡ true
 row-fits vars b (Eq f) l h =
     let u = form-units vars b f h in
     both-true (all_fit (absolutes f.coefs)) (all_fit (eq_numbers f)) (absolutes-fit f.coefs u) (eq-fit vars b f l h (all-bit 0 f.coefs (inl refl) u))

@@ -20,10 +20,11 @@ use Rattle.ac_omega.proofs.DifferencePoints.{AreWithin, within-more}
 use Rattle.ac_omega.proofs.DifferenceTries.{OneChoice, one-choice}
 use Rattle.ac_omega.proofs.DifferenceNexts.{next-left, leave-less}
 use Rattle.ac_omega.proofs.DifferenceWalks.{level, cost, cost-step, cost-level, squares, grown, grown-least, Standing, normal-standing, AreSmall, rows-small, Comes, zeros-within, zeros-length, behind-comes}
+use Rattle.ac_trails.specs.declared.strategy.Strategy.{Strategy}
 
 -- what is the same all along
-pub record Frame (top n : ℕ) (cols : List ℕ) : Type 0 where
-  pub below : AreBelow n cols
+pub record Frame (strategy : Strategy) (top n : ℕ) (cols : List ℕ) : Type 0 where
+  pub below : AreBelow strategy n cols
   pub one : 1 ≤ top
   pub room : 121 * top < 2 ^ 127
 
@@ -40,33 +41,33 @@ pub stage-rows : (top n m : ℕ) (vars : List ℕ) (b : ℕ) (c : Conj) → Stag
 unfolding level
 stage-rows top n m vars b c h = omega (arith, h.standing.few, squares (length vars) m h.short)
 
-abbrev going : List ℕ → ℕ → ℕ → Conj → ℕ → Maxima → Walked Maxima
-going cols f budget d j t = walk (eliminating cols) f budget d j t
+abbrev going : Strategy → List ℕ → ℕ → ℕ → Conj → ℕ → Maxima → Walked Maxima
+going strategy cols f budget d j t = walk (eliminating strategy cols) f budget d j t
 
 -- the choices, where there are some
-abbrev OpenComes : ℕ → ℕ → ℕ → List ℕ → ℕ → Conj → ℕ → ℕ → Maxima → Type 0
-OpenComes top budget n cols m c fuel k s =
-    (f z : ℕ) → fuel ≡ suc f → next_column cols c.rows ≡ Some z → Comes top budget n m k (tries (eliminating cols) (going cols f budget) c (tries_for z c.rows) (k + length c.rows) (with_rows c.rows s))
+abbrev OpenComes : Strategy → ℕ → ℕ → ℕ → List ℕ → ℕ → Conj → ℕ → ℕ → Maxima → Type 0
+OpenComes strategy top budget n cols m c fuel k s =
+    (f z : ℕ) → fuel ≡ suc f → next_column strategy cols c.rows ≡ Some z → Comes top budget n m k (tries (eliminating strategy cols) (going strategy cols f budget) c (tries_for strategy z c.rows) (k + length c.rows) (with_rows c.rows s))
 
-looked-comes : (top budget n m : ℕ) (cols vars : List ℕ) (b : ℕ) (c : Conj) (f k : ℕ) (s : Maxima) → Frame top n cols → Stage top n m vars b c → AreSmall top s
-    → ((z : ℕ) → next_column cols c.rows ≡ Some z → Comes top budget n m k (tries (eliminating cols) (going cols f budget) c (tries_for z c.rows) (k + length c.rows) (with_rows c.rows s)))
-    → (t : Bool) (o : Option ℕ) → next_column cols c.rows ≡ o → Comes top budget n m k (looked (eliminating cols) (going cols f budget) c (k + length c.rows) (with_rows c.rows s) (cond t Absurd (look_at c o)))
-looked-comes top budget n m cols vars b c f k s frame h small open-case true o e =
+looked-comes : (strategy : Strategy) (top budget n m : ℕ) (cols vars : List ℕ) (b : ℕ) (c : Conj) (f k : ℕ) (s : Maxima) → Frame strategy top n cols → Stage top n m vars b c → AreSmall top s
+    → ((z : ℕ) → next_column strategy cols c.rows ≡ Some z → Comes top budget n m k (tries (eliminating strategy cols) (going strategy cols f budget) c (tries_for strategy z c.rows) (k + length c.rows) (with_rows c.rows s)))
+    → (t : Bool) (o : Option ℕ) → next_column strategy cols c.rows ≡ o → Comes top budget n m k (looked (eliminating strategy cols) (going strategy cols f budget) c (k + length c.rows) (with_rows c.rows s) (cond t Absurd (look_at strategy c o)))
+looked-comes strategy top budget n m cols vars b c f k s frame h small open-case true o e =
     (omega (arith, stage-rows top n m vars b c h, cost-level m), rows-small vars b top c.rows s h.standing.rows (omega (arith, grown-least m b, h.grows)) frame.one small)
-looked-comes top budget n m cols vars b c f k s frame h small open-case false None e = (zeros-within (m * top) c.columns, zeros-length c.columns ∙ h.columns)
-looked-comes top budget n m cols vars b c f k s frame h small open-case false (Some z) e = open-case z e
+looked-comes strategy top budget n m cols vars b c f k s frame h small open-case false None e = (zeros-within (m * top) c.columns, zeros-length c.columns ∙ h.columns)
+looked-comes strategy top budget n m cols vars b c f k s frame h small open-case false (Some z) e = open-case z e
 
 within-comes : (top budget n m k j : ℕ) (t : Bool) (w : Walked Maxima) → nat_lt budget j ≡ t → j ≤ k + cost m → Comes top budget n m k w → Comes top budget n m k (cond t (Spent j) w)
 within-comes top budget n m k j true w e l h = omega (arith, ltb-true budget j e)
 within-comes top budget n m k j false w e l h = h
 
-walk-stage : (top budget n m : ℕ) (cols vars : List ℕ) (b : ℕ) (c : Conj) (fuel k : ℕ) (s : Maxima) → Frame top n cols → Stage top n m vars b c → AreSmall top s → budget < fuel + k → OpenComes top budget n cols m c fuel k s
-    → Comes top budget n m k (walk (eliminating cols) fuel budget c k s)
+walk-stage : (strategy : Strategy) (top budget n m : ℕ) (cols vars : List ℕ) (b : ℕ) (c : Conj) (fuel k : ℕ) (s : Maxima) → Frame strategy top n cols → Stage top n m vars b c → AreSmall top s → budget < fuel + k → OpenComes strategy top budget n cols m c fuel k s
+    → Comes top budget n m k (walk (eliminating strategy cols) fuel budget c k s)
 unfolding walk
-walk-stage top budget n m cols vars b c zero k s frame h small l open-case = omega arith
-walk-stage top budget n m cols vars b c (suc f) k s frame h small l open-case =
+walk-stage strategy top budget n m cols vars b c zero k s frame h small l open-case = omega arith
+walk-stage strategy top budget n m cols vars b c (suc f) k s frame h small l open-case =
     within-comes top budget n m k (k + length c.rows) (nat_lt budget (k + length c.rows)) _ refl (omega (arith, stage-rows top n m vars b c h, cost-level m))
-    (looked-comes top budget n m cols vars b c f k s frame h small (λ z e. open-case f z refl e) (are_absurd c.rows) (next_column cols c.rows) refl)
+    (looked-comes strategy top budget n m cols vars b c f k s frame h small (λ z e. open-case f z refl e) (are_absurd c.rows) (next_column strategy cols c.rows) refl)
 
 -- what the choice leaves
 pub after-one : (h : Choice) (c : Conj) → choice_fits h c.rows ≡ true → rows_fit (left_by h c.rows) ≡ true → after_choice h c ≡ Some (normal_conj (raw h c))
@@ -87,11 +88,11 @@ more-times : (m top b : ℕ) → b ≤ top → m * top + b ≤ suc m * top
 more-times m top b l = omega arith
 
 -- the one choice and the walk behind it
-choice-comes : (top budget n m : ℕ) (cols vars : List ℕ) (b : ℕ) (c : Conj) (f z k : ℕ) (s : Maxima) → Frame top n cols → Stage top n (suc m) vars b c → next_column cols c.rows ≡ Some z → (o : OneChoice vars b z c.rows)
-    → Comes top budget n m (k + length c.rows) (walk (eliminating cols) f budget (normal_conj (raw o.one c)) (k + length c.rows) s)
-    → Comes top budget n (suc m) k (tries (eliminating cols) (going cols f budget) c (tries_for z c.rows) (k + length c.rows) s)
+choice-comes : (strategy : Strategy) (top budget n m : ℕ) (cols vars : List ℕ) (b : ℕ) (c : Conj) (f z k : ℕ) (s : Maxima) → Frame strategy top n cols → Stage top n (suc m) vars b c → next_column strategy cols c.rows ≡ Some z → (o : OneChoice strategy vars b z c.rows)
+    → Comes top budget n m (k + length c.rows) (walk (eliminating strategy cols) f budget (normal_conj (raw o.one c)) (k + length c.rows) s)
+    → Comes top budget n (suc m) k (tries (eliminating strategy cols) (going strategy cols f budget) c (tries_for strategy z c.rows) (k + length c.rows) s)
 unfolding grown
-choice-comes top budget n m cols vars b c f z k s frame h e o w =
+choice-comes strategy top budget n m cols vars b c f z k s frame h e o w =
     let double : b + b ≤ top = omega (arith, grown-least m (b + b), h.grows) in
     let fit = rows-fit (leave z vars) (b + b) (left_by o.one c.rows) (omega (arith, frame.room)) o.left in
     let lift : List ℤ → Option (List ℤ) = λ q. cond (lift_fits o.one c.rows q) (Some (lifted o.one c.rows q)) None in
@@ -102,15 +103,15 @@ choice-comes top budget n m cols vars b c f z k s frame h e o w =
     (lifted o.one c.rows q, some-lifted (lift_fits o.one c.rows q) (lifted o.one c.rows q) g.fits, within-more (m * top + b) (suc m * top) (lifted o.one c.rows q) (more-times m top b least) g.within, g.long ∙ l) in
     let sum : k + length c.rows + cost m ≤ k + cost (suc m) = omega (arith, stage-rows top n (suc m) vars b c h, cost-step m) in
     let y = behind-comes top budget n m k (k + length c.rows) _ lift sum back w in
-    let y1 = subst (λ (t : Maxima). Comes top budget n (suc m) k (behind (going cols f budget (normal_conj (raw o.one c)) (k + length c.rows) t) lift (λ i u. Gone i u))) (sym (o.mark s)) y in
-    let y2 = subst (λ (d : Option Conj). Comes top budget n (suc m) k (behind (entered d (λ d. going cols f budget d (k + length c.rows) (with_choice o.one s))) lift (λ i u. Gone i u))) (sym (after-one o.one c o.fits fit)) y1 in
-    subst (λ (hs : Tries). Comes top budget n (suc m) k (tries (eliminating cols) (going cols f budget) c hs (k + length c.rows) s)) (sym o.tries) y2
+    let y1 = subst (λ (t : Maxima). Comes top budget n (suc m) k (behind (going strategy cols f budget (normal_conj (raw o.one c)) (k + length c.rows) t) lift (λ i u. Gone i u))) (sym (o.mark s)) y in
+    let y2 = subst (λ (d : Option Conj). Comes top budget n (suc m) k (behind (entered d (λ d. going strategy cols f budget d (k + length c.rows) (with_choice o.one s))) lift (λ i u. Gone i u))) (sym (after-one o.one c o.fits fit)) y1 in
+    subst (λ (hs : Tries). Comes top budget n (suc m) k (tries (eliminating strategy cols) (going strategy cols f budget) c hs (k + length c.rows) s)) (sym o.tries) y2
 
 -- one column fewer
-pub next-stage : (top n m : ℕ) (cols vars : List ℕ) (b : ℕ) (c : Conj) (z : ℕ) → Stage top n (suc m) vars b c → next_column cols c.rows ≡ Some z → (o : OneChoice vars b z c.rows) → Stage top n m (leave z vars) (b + b) (normal_conj (raw o.one c))
+pub next-stage : (strategy : Strategy) (top n m : ℕ) (cols vars : List ℕ) (b : ℕ) (c : Conj) (z : ℕ) → Stage top n (suc m) vars b c → next_column strategy cols c.rows ≡ Some z → (o : OneChoice strategy vars b z c.rows) → Stage top n m (leave z vars) (b + b) (normal_conj (raw o.one c))
 unfolding grown
-next-stage top n m cols vars b c z h e o = record {
-  short = omega (arith, leave-less z vars (next-left vars cols b z c.rows h.standing.rows e), h.short);
+next-stage strategy top n m cols vars b c z h e o = record {
+  short = omega (arith, leave-less z vars (next-left strategy vars cols b z c.rows h.standing.rows e), h.short);
   depth = omega (arith, h.depth);
   columns = h.columns;
   standing = normal-standing (leave z vars) (b + b) (raw o.one c) (omega (arith, h.one)) o.left;
@@ -118,20 +119,20 @@ next-stage top n m cols vars b c z h e o = record {
   grows = h.grows;
 }
 
-pub none-left : (top n : ℕ) (cols vars : List ℕ) (b : ℕ) (c : Conj) (z : ℕ) → Stage top n zero vars b c → next_column cols c.rows ≡ Some z → ⊥
-none-left top n cols vars b c z h e = omega (arith, leave-less z vars (next-left vars cols b z c.rows h.standing.rows e), h.short)
+pub none-left : (strategy : Strategy) (top n : ℕ) (cols vars : List ℕ) (b : ℕ) (c : Conj) (z : ℕ) → Stage top n zero vars b c → next_column strategy cols c.rows ≡ Some z → ⊥
+none-left strategy top n cols vars b c z h e = omega (arith, leave-less z vars (next-left strategy vars cols b z c.rows h.standing.rows e), h.short)
 
 pub double-fits : (top n m : ℕ) (vars : List ℕ) (b : ℕ) (c : Conj) → Stage top n (suc m) vars b c → 121 * top < 2 ^ 127 → b + b < 2 ^ 127
 unfolding grown
 double-fits top n m vars b c h room = omega (arith, grown-least m (b + b), h.grows)
 
-pub walk-comes : (top budget n m : ℕ) (cols vars : List ℕ) (b : ℕ) (c : Conj) (fuel k : ℕ) (s : Maxima) → Frame top n cols → Stage top n m vars b c → AreSmall top s → budget < fuel + k → Comes top budget n m k (walk (eliminating cols) fuel budget c k s)
-walk-comes top budget n zero cols vars b c fuel k s frame h small l =
-    walk-stage top budget n zero cols vars b c fuel k s frame h small l (λ f z e i. absurd (none-left top n cols vars b c z h i))
-walk-comes top budget n (suc m) cols vars b c fuel k s frame h small l =
-    walk-stage top budget n (suc m) cols vars b c fuel k s frame h small l
+pub walk-comes : (strategy : Strategy) (top budget n m : ℕ) (cols vars : List ℕ) (b : ℕ) (c : Conj) (fuel k : ℕ) (s : Maxima) → Frame strategy top n cols → Stage top n m vars b c → AreSmall top s → budget < fuel + k → Comes top budget n m k (walk (eliminating strategy cols) fuel budget c k s)
+walk-comes strategy top budget n zero cols vars b c fuel k s frame h small l =
+    walk-stage strategy top budget n zero cols vars b c fuel k s frame h small l (λ f z e i. absurd (none-left strategy top n cols vars b c z h i))
+walk-comes strategy top budget n (suc m) cols vars b c fuel k s frame h small l =
+    walk-stage strategy top budget n (suc m) cols vars b c fuel k s frame h small l
     (λ f z e i.
-    let o = one-choice vars b z c.rows (double-fits top n m vars b c h frame.room) h.standing.rows in
+    let o = one-choice strategy vars b z c.rows (double-fits top n m vars b c h frame.room) h.standing.rows in
     let t = rows-small vars b top c.rows s h.standing.rows (omega (arith, grown-least (suc m) b, h.grows)) frame.one small in
-    choice-comes top budget n m cols vars b c f z k (with_rows c.rows s) frame h i o
-    (walk-comes top budget n m cols (leave z vars) (b + b) (normal_conj (raw o.one c)) f (k + length c.rows) (with_rows c.rows s) frame (next-stage top n m cols vars b c z h i o) t (omega (arith, column-rows cols c.rows z i))))
+    choice-comes strategy top budget n m cols vars b c f z k (with_rows c.rows s) frame h i o
+    (walk-comes strategy top budget n m cols (leave z vars) (b + b) (normal_conj (raw o.one c)) f (k + length c.rows) (with_rows c.rows s) frame (next-stage strategy top n m cols vars b c z h i o) t (omega (arith, column-rows strategy cols c.rows z i))))

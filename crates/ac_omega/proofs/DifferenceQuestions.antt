@@ -23,6 +23,7 @@ use Rattle.ac_omega.proofs.DifferenceNormals.{rows-fit}
 use Rattle.ac_omega.proofs.DifferencePoints.{AreWithin, can-evaluate}
 use Rattle.ac_omega.proofs.DifferenceWalks.{cost, grown, grown-least, normal-standing, AreSmall, form-small, Comes}
 use Rattle.ac_omega.proofs.DifferencePaths.{Frame, Stage, times-room, walk-comes}
+use Rattle.ac_trails.specs.declared.strategy.Strategy.{Strategy}
 
 -- the columns below n
 pub below : ℕ → List ℕ
@@ -86,14 +87,14 @@ pub grown-sixty : grown 60 (2 ^ 48) ≡ 2 ^ 108
 unfolding grown
 grown-sixty = refl
 
-question-comes : (budget : ℕ) (q : Conj) → IsWellMade q → q.columns ≤ 60 → AreDifferences (2 ^ 48) q.rows → Comes (2 ^ 108) budget q.columns q.columns 0 (walk_of budget q)
-question-comes budget q made l d = by (rows_fit q.rows) (rows-fit (below q.columns) (2 ^ 48) q.rows (lit< tt) raw)
+question-comes : (strategy : Strategy) (budget : ℕ) (q : Conj) → IsWellMade q → q.columns ≤ 60 → AreDifferences (2 ^ 48) q.rows → Comes (2 ^ 108) budget q.columns q.columns 0 (walk_of strategy budget q)
+question-comes strategy budget q made l d = by (rows_fit q.rows) (rows-fit (below q.columns) (2 ^ 48) q.rows (lit< tt) raw)
   where
     raw : Each (IsRaw (below q.columns) (2 ^ 48)) q.rows
     raw = question-raw q.columns (2 ^ 48) q.rows made d
 
-    frame : Frame (2 ^ 108) q.columns (columns_to q.columns)
-    frame = record { below = all-below q.columns (columns_to q.columns) refl; one = lit≤ tt; room = lit< tt }
+    frame : Frame strategy (2 ^ 108) q.columns (columns_to q.columns)
+    frame = record { below = all-below strategy q.columns (columns_to q.columns) refl; one = lit≤ tt; room = lit< tt }
 
     stage : Stage (2 ^ 108) q.columns q.columns (below q.columns) (2 ^ 48) (normal_conj q)
     stage = record {
@@ -108,8 +109,8 @@ question-comes budget q made l d = by (rows_fit q.rows) (rows-fit (below q.colum
     small : AreSmall (2 ^ 108) (with_rows q.rows nothing_met)
     small = question-small q.columns (2 ^ 48) (2 ^ 108) q.rows nothing_met made d (lit≤ tt) (lit≤ tt) (record { factor = omega arith; number = omega arith })
 
-    by : (t : Bool) → t ≡ true → Comes (2 ^ 108) budget q.columns q.columns 0 (entered (cond t (Some (normal_conj q)) None) (λ c. walk (eliminating (columns_to c.columns)) (budget + 1) budget c 0 (with_rows q.rows nothing_met)))
-    by true e = walk-comes (2 ^ 108) budget q.columns q.columns (columns_to q.columns) (below q.columns) (2 ^ 48) (normal_conj q) (budget + 1) 0 (with_rows q.rows nothing_met) frame stage small (omega arith)
+    by : (t : Bool) → t ≡ true → Comes (2 ^ 108) budget q.columns q.columns 0 (entered (cond t (Some (normal_conj q)) None) (λ c. walk (eliminating strategy (columns_to c.columns)) (budget + 1) budget c 0 (with_rows q.rows nothing_met)))
+    by true e = walk-comes strategy (2 ^ 108) budget q.columns q.columns (columns_to q.columns) (below q.columns) (2 ^ 48) (normal_conj q) (budget + 1) 0 (with_rows q.rows nothing_met) frame stage small (omega arith)
     by false e = absurd cc
 
 -- the clauses
@@ -123,23 +124,23 @@ cube-is n = rw (add-one n) (ap (λ (x : ℕ). 2 * x) (third (suc n)))
         once : (x : ℕ) → x * x ^ 0 ≡ x
         once x = rw (pow-zero x) (omega arith)
 
-comes-as : (budget : ℕ) (q : Conj) (w : Walked Maxima) → IsWellMade q → q.columns ≤ 60 → AreDifferences (2 ^ 48) q.rows → walk_of budget q ≡ w → Comes (2 ^ 108) budget q.columns q.columns 0 w
-comes-as budget q w made l d e =
+comes-as : (strategy : Strategy) (budget : ℕ) (q : Conj) (w : Walked Maxima) → IsWellMade q → q.columns ≤ 60 → AreDifferences (2 ^ 48) q.rows → walk_of strategy budget q ≡ w → Comes (2 ^ 108) budget q.columns q.columns 0 w
+comes-as strategy budget q w made l d e =
     let P : Walked Maxima → Type 0 = λ v. Comes (2 ^ 108) budget q.columns q.columns 0 v in
-    subst P e (question-comes budget q made l d)
+    subst P e (question-comes strategy budget q made l d)
 
-pub never-wide : (budget : ℕ) (q : Conj) → IsWellMade q → q.columns ≤ 60 → AreDifferences (2 ^ 48) q.rows → walk_of budget q ≡ Wide → ⊥
-never-wide budget q made l d e = comes-as budget q Wide made l d e
+pub never-wide : (strategy : Strategy) (budget : ℕ) (q : Conj) → IsWellMade q → q.columns ≤ 60 → AreDifferences (2 ^ 48) q.rows → walk_of strategy budget q ≡ Wide → ⊥
+never-wide strategy budget q made l d e = comes-as strategy budget q Wide made l d e
 
-pub never-spent : (budget : ℕ) (q : Conj) (k : ℕ) → IsWellMade q → q.columns ≤ 60 → AreDifferences (2 ^ 48) q.rows → 2 * (q.columns + 1) ^ 3 ≤ budget → walk_of budget q ≡ Spent k → ⊥
-never-spent budget q k made l d m e =
-    let c : budget < 0 + cost q.columns = comes-as budget q (Spent k) made l d e in
+pub never-spent : (strategy : Strategy) (budget : ℕ) (q : Conj) (k : ℕ) → IsWellMade q → q.columns ≤ 60 → AreDifferences (2 ^ 48) q.rows → 2 * (q.columns + 1) ^ 3 ≤ budget → walk_of strategy budget q ≡ Spent k → ⊥
+never-spent strategy budget q k made l d m e =
+    let c : budget < 0 + cost q.columns = comes-as strategy budget q (Spent k) made l d e in
     let n : cost q.columns ≤ budget = subst (λ (x : ℕ). x ≤ budget) (cube-is q.columns) m in
     omega arith
 
-pub gone-cost : (budget : ℕ) (q : Conj) (k : ℕ) (s : Maxima) → IsWellMade q → q.columns ≤ 60 → AreDifferences (2 ^ 48) q.rows → walk_of budget q ≡ Gone k s → k ≤ 2 * (q.columns + 1) ^ 3
-gone-cost budget q k s made l d e =
-    let c : k ≤ 0 + cost q.columns = (comes-as budget q (Gone k s) made l d e).0 in
+pub gone-cost : (strategy : Strategy) (budget : ℕ) (q : Conj) (k : ℕ) (s : Maxima) → IsWellMade q → q.columns ≤ 60 → AreDifferences (2 ^ 48) q.rows → walk_of strategy budget q ≡ Gone k s → k ≤ 2 * (q.columns + 1) ^ 3
+gone-cost strategy budget q k s made l d e =
+    let c : k ≤ 0 + cost q.columns = (comes-as strategy budget q (Gone k s) made l d e).0 in
     subst (λ (x : ℕ). k ≤ x) (sym (cube-is q.columns)) (omega arith)
 
 few-times : (a b n : ℕ) → a ≤ 1 → b ≤ n → a * b ≤ n
@@ -147,12 +148,12 @@ few-times zero b n h g = omega arith
 few-times (suc zero) b n h g = omega arith
 few-times (suc (suc a)) b n h g = absurd (omega arith)
 
-pub never-large : (budget : ℕ) (q : Conj) (k : ℕ) (s : Maxima) → IsWellMade q → q.columns ≤ 60 → AreDifferences (2 ^ 48) q.rows → walk_of budget q ≡ Gone k s → s.factor * s.number ≤ 2 ^ 120
-never-large budget q k s made l d e =
-    let a = (comes-as budget q (Gone k s) made l d e).1 in
+pub never-large : (strategy : Strategy) (budget : ℕ) (q : Conj) (k : ℕ) (s : Maxima) → IsWellMade q → q.columns ≤ 60 → AreDifferences (2 ^ 48) q.rows → walk_of strategy budget q ≡ Gone k s → s.factor * s.number ≤ 2 ^ 120
+never-large strategy budget q k s made l d e =
+    let a = (comes-as strategy budget q (Gone k s) made l d e).1 in
     few-times s.factor s.number (2 ^ 120) a.factor (omega (arith, a.number))
 
-pub point-tests : (budget : ℕ) (q : Conj) (p : List ℤ) → IsWellMade q → q.columns ≤ 60 → AreDifferences (2 ^ 48) q.rows → walk_of budget q ≡ Found p → CanTest q.rows p
-point-tests budget q p made l d e =
-    let a = (comes-as budget q (Found p) made l d e).0 in
+pub point-tests : (strategy : Strategy) (budget : ℕ) (q : Conj) (p : List ℤ) → IsWellMade q → q.columns ≤ 60 → AreDifferences (2 ^ 48) q.rows → walk_of strategy budget q ≡ Found p → CanTest q.rows p
+point-tests strategy budget q p made l d e =
+    let a = (comes-as strategy budget q (Found p) made l d e).0 in
     question-tests q.columns (2 ^ 48) (q.columns * 2 ^ 108) q.rows p made d a (times-room q.columns (2 ^ 108) (2 ^ 48) l (lit≤ tt) (lit< tt))

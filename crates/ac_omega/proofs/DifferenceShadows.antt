@@ -107,7 +107,7 @@ shadow-one : (vars : List ℕ) (b z : ℕ) (f g : Affine) → IsOver vars b f �
 shadow-one vars b z f g p q e d =
     plus-over vars b z f g (shadow_at (pos 1) (without z f) (pos 1) (without z g)) p q (λ j. shadow-coef z j f g e d) (shadow-konst f.konst g.konst) e d
 
-shadow-over : (vars : List ℕ) (b z : ℕ) (low high : Bound) → IsBound vars b z (pos 1) low → IsBound vars b z (negsuc 0) high → IsOver (leave z vars) (b + b) (shadow_form low high)
+pub shadow-over : (vars : List ℕ) (b z : ℕ) (low high : Bound) → IsBound vars b z (pos 1) low → IsBound vars b z (negsuc 0) high → IsOver (leave z vars) (b + b) (shadow_form low high)
 shadow-over vars b z low high l h =
     let P : Affine → Type 0 = IsOver (leave z vars) (b + b) in
     let o = shadow-one vars b z l.form h.form l.over h.over l.at h.at in

@@ -1,5 +1,5 @@
 -- The elimination of columns from rows of differences is one path, and the piece that it leaves has rows of differences.
-use Rattle.std.proofs.Common.{◌≡◌, ℕ, zero, suc, ◌+◌, ◌*◌, ◌<◌, ◌≤◌, ◌^◌, ◌==◌, lit<, lit≤, nat_lt, cond, Bool, true, false, ◌||◌, List, [], ◌∷◌, ◌++◌, append-nil, length, Option, Some, None, Result, Ok, Err, IfOk, IfErr, arith, refl, ap, sym, subst, ◌∙◌, ◌⊎◌, inl, inr}
+use Rattle.std.proofs.Common.{◌≡◌, ℕ, zero, suc, ◌+◌, ◌*◌, ◌<◌, ◌≤◌, ◌^◌, ◌==◌, lit<, lit≤, nat_lt, cond, Bool, true, false, ◌||◌, List, [], ◌∷◌, ◌++◌, append-nil, length, Option, Some, None, Result, Ok, Err, IfOk, IfErr, arith, refl, ap, sym, subst, ◌∙◌, inl, inr}
 use Rattle.std.specs.List.{AllByRecursion}
 use Rattle.std.proofs.Math.Nat.{pow-succ', pow-zero}
 use borrow.Author.Tests.{ltb-true, eqb-true, eq-eqb}
@@ -33,6 +33,7 @@ use Rattle.ac_omega.proofs.DifferenceNexts.{next-left, leave-less}
 use Rattle.ac_omega.proofs.DifferenceWalks.{cost, cost-step, cost-level, grown, grown-least, normal-standing}
 use Rattle.ac_omega.proofs.DifferencePaths.{Stage, stage-rows, after-one, next-stage, none-left, double-fits}
 use Rattle.ac_omega.proofs.DifferenceQuestions.{below, length-below, question-raw, grown-upto, grown-sixty, cube-is}
+use Rattle.ac_trails.specs.declared.strategy.Strategy.{Strategy}
 
 or-first : (a b : Bool) → a ≡ true → (a || b) ≡ true
 or-first true b e = refl
@@ -92,32 +93,32 @@ are-differences vars b most (Eq f ∷ rs) h l = ((h.0.0.difference, omega (arith
 are-differences vars b most (Div m f ∷ rs) h l = absurd h.0
 are-differences vars b most (Ge f ∷ rs) h l = ((h.0.0.difference, omega (arith, h.0.0.small)), are-differences vars b most rs h.1 l)
 
-abbrev going : List ℕ → ℕ → ℕ → List Choice → Conj → ℕ → Swept Conj Choice
-going cols f budget q d j = sweep (eliminating cols) f budget q d j
+abbrev going : Strategy → List ℕ → ℕ → ℕ → List Choice → Conj → ℕ → Swept Conj Choice
+going strategy cols f budget q d j = sweep (eliminating strategy cols) f budget q d j
 
 -- the choices, where there are some
-abbrev OpenComes : ℕ → List ℕ → ℕ → ℕ → List Choice → Conj → ℕ → ℕ → Type 0
-OpenComes budget cols m most path c fuel k =
-    (f z : ℕ) → fuel ≡ suc f → next_column cols c.rows ≡ Some z → ComesTo budget m k most (sweeps (eliminating cols) (going cols f budget) path c (tries_for z c.rows) (k + length c.rows))
+abbrev OpenComes : Strategy → ℕ → List ℕ → ℕ → ℕ → List Choice → Conj → ℕ → ℕ → Type 0
+OpenComes strategy budget cols m most path c fuel k =
+    (f z : ℕ) → fuel ≡ suc f → next_column strategy cols c.rows ≡ Some z → ComesTo budget m k most (sweeps (eliminating strategy cols) (going strategy cols f budget) path c (tries_for strategy z c.rows) (k + length c.rows))
 
-swept-comes : (top budget n m : ℕ) (cols vars : List ℕ) (b most : ℕ) (path : List Choice) (c : Conj) (f k : ℕ) → Stage top n m vars b c → b ≤ most
-    → ((z : ℕ) → next_column cols c.rows ≡ Some z → ComesTo budget m k most (sweeps (eliminating cols) (going cols f budget) path c (tries_for z c.rows) (k + length c.rows)))
-    → (t : Bool) (o : Option ℕ) → next_column cols c.rows ≡ o → ComesTo budget m k most (swept (eliminating cols) (going cols f budget) path c (k + length c.rows) (cond t Absurd (look_at c o)))
-swept-comes top budget n m cols vars b most path c f k h l open-case true o e = (omega (arith, stage-rows top n m vars b c h, cost-level m), tt)
-swept-comes top budget n m cols vars b most path c f k h l open-case false None e = (omega (arith, stage-rows top n m vars b c h, cost-level m), (are-differences vars b most c.rows h.standing.rows l, tt))
-swept-comes top budget n m cols vars b most path c f k h l open-case false (Some z) e = open-case z e
+swept-comes : (strategy : Strategy) (top budget n m : ℕ) (cols vars : List ℕ) (b most : ℕ) (path : List Choice) (c : Conj) (f k : ℕ) → Stage top n m vars b c → b ≤ most
+    → ((z : ℕ) → next_column strategy cols c.rows ≡ Some z → ComesTo budget m k most (sweeps (eliminating strategy cols) (going strategy cols f budget) path c (tries_for strategy z c.rows) (k + length c.rows)))
+    → (t : Bool) (o : Option ℕ) → next_column strategy cols c.rows ≡ o → ComesTo budget m k most (swept (eliminating strategy cols) (going strategy cols f budget) path c (k + length c.rows) (cond t Absurd (look_at strategy c o)))
+swept-comes strategy top budget n m cols vars b most path c f k h l open-case true o e = (omega (arith, stage-rows top n m vars b c h, cost-level m), tt)
+swept-comes strategy top budget n m cols vars b most path c f k h l open-case false None e = (omega (arith, stage-rows top n m vars b c h, cost-level m), (are-differences vars b most c.rows h.standing.rows l, tt))
+swept-comes strategy top budget n m cols vars b most path c f k h l open-case false (Some z) e = open-case z e
 
 within-comes : (budget m k j most : ℕ) (t : Bool) (w : Swept Conj Choice) → nat_lt budget j ≡ t → j ≤ k + cost m → ComesTo budget m k most w → ComesTo budget m k most (cond t (Spent j) w)
 within-comes budget m k j most true w e l h = omega (arith, ltb-true budget j e)
 within-comes budget m k j most false w e l h = h
 
-sweep-stage : (top budget n m : ℕ) (cols vars : List ℕ) (b most : ℕ) (path : List Choice) (c : Conj) (fuel k : ℕ) → Stage top n m vars b c → b ≤ most → budget < fuel + k → OpenComes budget cols m most path c fuel k
-    → ComesTo budget m k most (sweep (eliminating cols) fuel budget path c k)
+sweep-stage : (strategy : Strategy) (top budget n m : ℕ) (cols vars : List ℕ) (b most : ℕ) (path : List Choice) (c : Conj) (fuel k : ℕ) → Stage top n m vars b c → b ≤ most → budget < fuel + k → OpenComes strategy budget cols m most path c fuel k
+    → ComesTo budget m k most (sweep (eliminating strategy cols) fuel budget path c k)
 unfolding sweep
-sweep-stage top budget n m cols vars b most path c zero k h l e open-case = omega arith
-sweep-stage top budget n m cols vars b most path c (suc f) k h l e open-case =
+sweep-stage strategy top budget n m cols vars b most path c zero k h l e open-case = omega arith
+sweep-stage strategy top budget n m cols vars b most path c (suc f) k h l e open-case =
     within-comes budget m k (k + length c.rows) most (nat_lt budget (k + length c.rows)) _ refl (omega (arith, stage-rows top n m vars b c h, cost-level m))
-    (swept-comes top budget n m cols vars b most path c f k h l (λ z i. open-case f z refl i) (are_absurd c.rows) (next_column cols c.rows) refl)
+    (swept-comes strategy top budget n m cols vars b most path c f k h l (λ z i. open-case f z refl i) (are_absurd c.rows) (next_column strategy cols c.rows) refl)
 
 -- the one choice
 onward-end : (w : Swept Conj Choice) → onward w (λ j. Pieces [] j) ≡ w
@@ -125,8 +126,8 @@ onward-end (Pieces xs k) = ap (λ ys. Pieces ys k) (append-nil xs)
 onward-end (Spent k) = refl
 onward-end Wide = refl
 
-one-swept : (cols : List ℕ) (go : List Choice → Conj → ℕ → Swept Conj Choice) (path : List Choice) (c d : Conj) (h : Choice) (k : ℕ) → after_choice h c ≡ Some d → sweeps (eliminating cols) go path c (Some h ∷ []) k ≡ go (path ++ h ∷ []) d k
-one-swept cols go path c d h k e = onward-end _ ∙ ap (λ (o : Option Conj). into o (λ x. go (path ++ h ∷ []) x k)) e
+one-swept : (strategy : Strategy) (cols : List ℕ) (go : List Choice → Conj → ℕ → Swept Conj Choice) (path : List Choice) (c d : Conj) (h : Choice) (k : ℕ) → after_choice h c ≡ Some d → sweeps (eliminating strategy cols) go path c (Some h ∷ []) k ≡ go (path ++ h ∷ []) d k
+one-swept strategy cols go path c d h k e = onward-end _ ∙ ap (λ (o : Option Conj). into o (λ x. go (path ++ h ∷ []) x k)) e
 
 asked-grown : (z b most : ℕ) (asked : List ℕ) → is_among z asked ≡ true → grown (length asked) b ≤ most → grown (length (leave z asked)) (b + b) ≤ most
 unfolding grown
@@ -134,28 +135,28 @@ asked-grown z b most asked a l =
     let u : grown (suc (length (leave z asked))) b ≤ grown (length asked) b = grown-upto (suc (length (leave z asked))) (length asked) b (leave-less z asked a) in
     omega (arith, u, l)
 
-choice-comes : (top budget n m : ℕ) (cols vars : List ℕ) (b most : ℕ) (path : List Choice) (c : Conj) (f z k : ℕ) → 121 * top < 2 ^ 127 → Stage top n (suc m) vars b c → (o : OneChoice vars b z c.rows)
-    → ComesTo budget m (k + length c.rows) most (sweep (eliminating cols) f budget (path ++ o.one ∷ []) (normal_conj (raw o.one c)) (k + length c.rows))
-    → ComesTo budget (suc m) k most (sweeps (eliminating cols) (going cols f budget) path c (tries_for z c.rows) (k + length c.rows))
-choice-comes top budget n m cols vars b most path c f z k room h o w =
+choice-comes : (strategy : Strategy) (top budget n m : ℕ) (cols vars : List ℕ) (b most : ℕ) (path : List Choice) (c : Conj) (f z k : ℕ) → 121 * top < 2 ^ 127 → Stage top n (suc m) vars b c → (o : OneChoice strategy vars b z c.rows)
+    → ComesTo budget m (k + length c.rows) most (sweep (eliminating strategy cols) f budget (path ++ o.one ∷ []) (normal_conj (raw o.one c)) (k + length c.rows))
+    → ComesTo budget (suc m) k most (sweeps (eliminating strategy cols) (going strategy cols f budget) path c (tries_for strategy z c.rows) (k + length c.rows))
+choice-comes strategy top budget n m cols vars b most path c f z k room h o w =
     let fit = rows-fit (leave z vars) (b + b) (left_by o.one c.rows) (double-fits top n m vars b c h room) o.left in
     let sum : k + length c.rows + cost m ≤ k + cost (suc m) = omega (arith, stage-rows top n (suc m) vars b c h, cost-step m) in
     let y = comes-back budget m k (k + length c.rows) most _ sum w in
-    let one = one-swept cols (going cols f budget) path c (normal_conj (raw o.one c)) o.one (k + length c.rows) (after-one o.one c o.fits fit) in
+    let one = one-swept strategy cols (going strategy cols f budget) path c (normal_conj (raw o.one c)) o.one (k + length c.rows) (after-one o.one c o.fits fit) in
     let y1 = subst (λ (v : Swept Conj Choice). ComesTo budget (suc m) k most v) (sym one) y in
-    subst (λ (hs : Tries). ComesTo budget (suc m) k most (sweeps (eliminating cols) (going cols f budget) path c hs (k + length c.rows))) (sym o.tries) y1
+    subst (λ (hs : Tries). ComesTo budget (suc m) k most (sweeps (eliminating strategy cols) (going strategy cols f budget) path c hs (k + length c.rows))) (sym o.tries) y1
 
-sweep-comes : (top budget n m : ℕ) (cols vars asked : List ℕ) (b most : ℕ) (path : List Choice) (c : Conj) (fuel k : ℕ) → 121 * top < 2 ^ 127 → Stage top n m vars b c → AreAsked cols vars asked → grown (length asked) b ≤ most → budget < fuel + k
-    → ComesTo budget m k most (sweep (eliminating cols) fuel budget path c k)
-sweep-comes top budget n zero cols vars asked b most path c fuel k room h a g l =
-    sweep-stage top budget n zero cols vars b most path c fuel k h (omega (arith, g, grown-least (length asked) b)) l (λ f z e i. absurd (none-left top n cols vars b c z h i))
-sweep-comes top budget n (suc m) cols vars asked b most path c fuel k room h a g l =
-    sweep-stage top budget n (suc m) cols vars b most path c fuel k h (omega (arith, g, grown-least (length asked) b)) l
+sweep-comes : (strategy : Strategy) (top budget n m : ℕ) (cols vars asked : List ℕ) (b most : ℕ) (path : List Choice) (c : Conj) (fuel k : ℕ) → 121 * top < 2 ^ 127 → Stage top n m vars b c → AreAsked cols vars asked → grown (length asked) b ≤ most → budget < fuel + k
+    → ComesTo budget m k most (sweep (eliminating strategy cols) fuel budget path c k)
+sweep-comes strategy top budget n zero cols vars asked b most path c fuel k room h a g l =
+    sweep-stage strategy top budget n zero cols vars b most path c fuel k h (omega (arith, g, grown-least (length asked) b)) l (λ f z e i. absurd (none-left strategy top n cols vars b c z h i))
+sweep-comes strategy top budget n (suc m) cols vars asked b most path c fuel k room h a g l =
+    sweep-stage strategy top budget n (suc m) cols vars b most path c fuel k h (omega (arith, g, grown-least (length asked) b)) l
     (λ f z e i.
-    let o = one-choice vars b z c.rows (double-fits top n m vars b c h room) h.standing.rows in
-    let there = a.each z (next-among cols c.rows z i) (next-left vars cols b z c.rows h.standing.rows i) in
-    choice-comes top budget n m cols vars b most path c f z k room h o
-    (sweep-comes top budget n m cols (leave z vars) (leave z asked) (b + b) most (path ++ o.one ∷ []) (normal_conj (raw o.one c)) f (k + length c.rows) room (next-stage top n m cols vars b c z h i o) (asked-less z cols vars asked a) (asked-grown z b most asked there g) (omega (arith, column-rows cols c.rows z i))))
+    let o = one-choice strategy vars b z c.rows (double-fits top n m vars b c h room) h.standing.rows in
+    let there = a.each z (next-among strategy cols c.rows z i) (next-left strategy vars cols b z c.rows h.standing.rows i) in
+    choice-comes strategy top budget n m cols vars b most path c f z k room h o
+    (sweep-comes strategy top budget n m cols (leave z vars) (leave z asked) (b + b) most (path ++ o.one ∷ []) (normal_conj (raw o.one c)) f (k + length c.rows) room (next-stage strategy top n m cols vars b c z h i o) (asked-less z cols vars asked a) (asked-grown z b most asked there g) (omega (arith, column-rows strategy cols c.rows z i))))
 
 -- the question's walk
 grown-more : (n b c : ℕ) → b ≤ c → grown n b ≤ grown n c
@@ -171,9 +172,9 @@ grown-power (suc n) b = rw (grown-power n (b + b), pow-succ' 2 n) (twice (2 ^ n)
     twice : (x : ℕ) → x * (b + b) ≡ 2 * x * b
     twice x = omega arith
 
-question-swept : (budget : ℕ) (q : Conj) (vars : List ℕ) (b : ℕ) → IsWellMade q → q.columns ≤ 60 → 1 ≤ b → b ≤ 2 ^ 48 → AreDifferences b q.rows → ComesTo budget q.columns 0 (2 ^ length vars * b) (pieces_of vars budget q)
+question-swept : (strategy : Strategy) (budget : ℕ) (q : Conj) (vars : List ℕ) (b : ℕ) → IsWellMade q → q.columns ≤ 60 → 1 ≤ b → b ≤ 2 ^ 48 → AreDifferences b q.rows → ComesTo budget q.columns 0 (2 ^ length vars * b) (pieces_of strategy vars budget q)
 unfolding elimination
-question-swept budget q vars b made l one most d = by (rows_fit q.rows) (rows-fit (below q.columns) b q.rows (omega (arith, room)) raw)
+question-swept strategy budget q vars b made l one most d = by (rows_fit q.rows) (rows-fit (below q.columns) b q.rows (omega (arith, room)) raw)
   where
     room : 2 ^ 48 < 2 ^ 127
     room = lit< tt
@@ -197,28 +198,28 @@ question-swept budget q vars b made l one most d = by (rows_fit q.rows) (rows-fi
       grows = top;
     }
 
-    by : (t : Bool) → t ≡ true → ComesTo budget q.columns 0 (2 ^ length vars * b) (into (cond t (Some (normal_conj q)) None) (λ c. sweep (eliminating vars) (budget + 1) budget [] c 0))
+    by : (t : Bool) → t ≡ true → ComesTo budget q.columns 0 (2 ^ length vars * b) (into (cond t (Some (normal_conj q)) None) (λ c. sweep (eliminating strategy vars) (budget + 1) budget [] c 0))
     by true e =
-        sweep-comes (2 ^ 108) budget q.columns q.columns vars (below q.columns) vars b (2 ^ length vars * b) [] (normal_conj q) (budget + 1) 0 (lit< tt) stage (record { each = λ z c w. c })
+        sweep-comes strategy (2 ^ 108) budget q.columns q.columns vars (below q.columns) vars b (2 ^ length vars * b) [] (normal_conj q) (budget + 1) 0 (lit< tt) stage (record { each = λ z c w. c })
         (let p = grown-power (length vars) b in omega (arith, p)) (omega arith)
     by false e = absurd cc
 
-swept-as : (budget : ℕ) (q : Conj) (vars : List ℕ) (b : ℕ) (w : Swept Conj Choice) → IsWellMade q → q.columns ≤ 60 → 1 ≤ b → b ≤ 2 ^ 48 → AreDifferences b q.rows → pieces_of vars budget q ≡ w → ComesTo budget q.columns 0 (2 ^ length vars * b) w
-swept-as budget q vars b w made l one most d e = subst (λ (v : Swept Conj Choice). ComesTo budget q.columns 0 (2 ^ length vars * b) v) e (question-swept budget q vars b made l one most d)
+swept-as : (strategy : Strategy) (budget : ℕ) (q : Conj) (vars : List ℕ) (b : ℕ) (w : Swept Conj Choice) → IsWellMade q → q.columns ≤ 60 → 1 ≤ b → b ≤ 2 ^ 48 → AreDifferences b q.rows → pieces_of strategy vars budget q ≡ w → ComesTo budget q.columns 0 (2 ^ length vars * b) w
+swept-as strategy budget q vars b w made l one most d e = subst (λ (v : Swept Conj Choice). ComesTo budget q.columns 0 (2 ^ length vars * b) v) e (question-swept strategy budget q vars b made l one most d)
 
-pub differences-eliminate : (result : Result (List Piece) Stop) (q : Conj) (vars : List ℕ) (budget : ℕ) → IsWellMade q → Eliminates result q (pieces_of vars budget q) → q.columns ≤ 60 → AreDifferences (2 ^ 48) q.rows → IfErr result (StopsBelow q.columns budget)
-differences-eliminate (Ok ps) q vars budget made h l d = tt
-differences-eliminate (Err (stop.Overflow c)) q vars budget made h l d = swept-as budget q vars (2 ^ 48) Wide made l (lit≤ tt) (lit≤ tt) d h.0
-differences-eliminate (Err (stop.Spent c k)) q vars budget made h l d =
-    let s : budget < 0 + cost q.columns = swept-as budget q vars (2 ^ 48) (Spent h.1) made l (lit≤ tt) (lit≤ tt) d h.2 in
+pub differences-eliminate : (strategy : Strategy) (result : Result (List Piece) Stop) (q : Conj) (vars : List ℕ) (budget : ℕ) → IsWellMade q → Eliminates result q (pieces_of strategy vars budget q) → q.columns ≤ 60 → AreDifferences (2 ^ 48) q.rows → IfErr result (StopsBelow q.columns budget)
+differences-eliminate strategy (Ok ps) q vars budget made h l d = tt
+differences-eliminate strategy (Err (stop.Overflow c)) q vars budget made h l d = swept-as strategy budget q vars (2 ^ 48) Wide made l (lit≤ tt) (lit≤ tt) d h.0
+differences-eliminate strategy (Err (stop.Spent c k)) q vars budget made h l d =
+    let s : budget < 0 + cost q.columns = swept-as strategy budget q vars (2 ^ 48) (Spent h.1) made l (lit≤ tt) (lit≤ tt) d h.2 in
     subst (λ (x : ℕ). budget < x) (sym (cube-is q.columns)) (omega arith)
-differences-eliminate (Err (stop.Memory e)) q vars budget made h l d = tt
+differences-eliminate strategy (Err (stop.Memory e)) q vars budget made h l d = tt
 
 all-parts : (most : ℕ) (ps : List Piece) → AllByRecursion (λ x. AreDifferences most x.1.rows) (parts ps) → AreAllDifferences most ps
 all-parts most [] a = tt
 all-parts most (p ∷ ps) a = (a.0, all-parts most ps a.1)
 
-pub differences-left : (result : Result (List Piece) Stop) (q : Conj) (vars : List ℕ) (budget b : ℕ) → IsWellMade q → Eliminates result q (pieces_of vars budget q) → q.columns ≤ 60 → 1 ≤ b → b ≤ 2 ^ 48 → AreDifferences b q.rows
+pub differences-left : (strategy : Strategy) (result : Result (List Piece) Stop) (q : Conj) (vars : List ℕ) (budget b : ℕ) → IsWellMade q → Eliminates result q (pieces_of strategy vars budget q) → q.columns ≤ 60 → 1 ≤ b → b ≤ 2 ^ 48 → AreDifferences b q.rows
     → IfOk result (λ ps. AreAllDifferences (2 ^ length vars * b) ps)
-differences-left (Ok ps) q vars budget b made h l one most d = all-parts (2 ^ length vars * b) ps (swept-as budget q vars b (Pieces (parts ps) h.0) made l one most d h.1).1
-differences-left (Err s) q vars budget b made h l one most d = tt
+differences-left strategy (Ok ps) q vars budget b made h l one most d = all-parts (2 ^ length vars * b) ps (swept-as strategy budget q vars b (Pieces (parts ps) h.0) made l one most d h.1).1
+differences-left strategy (Err s) q vars budget b made h l one most d = tt

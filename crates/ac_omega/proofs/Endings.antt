@@ -24,13 +24,14 @@ use Rattle.ac_omega.proofs.Gones.{all-gone}
 use Rattle.ac_omega.proofs.Projecting.{pieces-project}
 use Rattle.ac_omega.proofs.Sweeps.{sweep-done}
 use Rattle.ac_omega.proofs.Visiting.{SweepsTo, swept-to}
+use Rattle.ac_trails.specs.declared.strategy.Strategy.{Strategy}
 
 -- the walk from the normal form
-pieces-from : (vars : List ℕ) (b : ℕ) (c : Conj) → RowsFit c.rows → pieces_of vars b c ≡ def.sweep (elimination vars) (b + 1) b [] (normal_conj c) 0
-pieces-from vars b c f = rw (rows_fit_true c.rows f) refl
+pieces-from : (strategy : Strategy) (vars : List ℕ) (b : ℕ) (c : Conj) → RowsFit c.rows → pieces_of strategy vars b c ≡ def.sweep (elimination strategy vars) (b + 1) b [] (normal_conj c) 0
+pieces-from strategy vars b c f = rw (rows_fit_true c.rows f) refl
 
-pub pieces-wide : (vars : List ℕ) (b : ℕ) (c : Conj) → (RowsFit c.rows → ⊥) → pieces_of vars b c ≡ def.Wide
-pieces-wide vars b c f = rw (rows_fit_false c.rows f) refl
+pub pieces-wide : (strategy : Strategy) (vars : List ℕ) (b : ℕ) (c : Conj) → (RowsFit c.rows → ⊥) → pieces_of strategy vars b c ≡ def.Wide
+pieces-wide strategy vars b c f = rw (rows_fit_false c.rows f) refl
 
 pub wide-back : (s : Stop) (c : Conj) (w : def.Swept Conj Choice) → HandsBack s halt.Wide c → w ≡ def.Wide → Eliminates (Err s) c w
 wide-back (stop.Overflow d) c w h e = (e, h.1)
@@ -48,32 +49,32 @@ stopped (stop.Spent d k) (halt.Memory x) c ps w b e = let f = b.0 in absurd cc
 stopped (stop.Memory x) h c ps w b e = tt
 
 -- the walk's answer, from no pieces on, is that of the question
-from-normal : (r : Result Walked Halt) (ps : List Piece) (vars : List ℕ) (b : ℕ) (c d : Conj) (s : Maxima) (path : List Choice) (old : List Piece) → RowsFit c.rows → d ≡ normal_conj c → path ≡ [] → old ≡ []
-    → ((n : ℕ) → b < n + 0 → Visits r ps (walk (visiting ForPieces vars) n b (path, d) 0 (seen s old))) → SweepsTo r ps (def.sweep (elimination vars) (b + 1) b [] (normal_conj c) 0)
-from-normal r ps vars b c d s path old f e p o h = swept-to r vars (b + 1) b [] (normal_conj c) 0 s ps (rw (e, p, o) at (h (b + 1) (omega arith)))
+from-normal : (strategy : Strategy) (r : Result Walked Halt) (ps : List Piece) (vars : List ℕ) (b : ℕ) (c d : Conj) (s : Maxima) (path : List Choice) (old : List Piece) → RowsFit c.rows → d ≡ normal_conj c → path ≡ [] → old ≡ []
+    → ((n : ℕ) → b < n + 0 → Visits r ps (walk (visiting strategy ForPieces vars) n b (path, d) 0 (seen s old))) → SweepsTo r ps (def.sweep (elimination strategy vars) (b + 1) b [] (normal_conj c) 0)
+from-normal strategy r ps vars b c d s path old f e p o h = swept-to strategy r vars (b + 1) b [] (normal_conj c) 0 s ps (rw (e, p, o) at (h (b + 1) (omega arith)))
 
-pub first-back : (s : Stop) (h : Halt) (ps : List Piece) (vars : List ℕ) (b : ℕ) (c d : Conj) (m : Maxima) (path : List Choice) (old : List Piece) → RowsFit c.rows → d ≡ normal_conj c → path ≡ [] → old ≡ []
-    → ((n : ℕ) → b < n + 0 → Visits (Err h) ps (walk (visiting ForPieces vars) n b (path, d) 0 (seen m old))) → HandsBack s h c → Eliminates (Err s) c (pieces_of vars b c)
-first-back s h ps vars b c d m path old f e p o w back =
-    subst (λ (v : def.Swept Conj Choice). Eliminates (Err s) c v) (sym (pieces-from vars b c f)) (stopped s h c ps _ back (from-normal (Err h) ps vars b c d m path old f e p o w))
+pub first-back : (strategy : Strategy) (s : Stop) (h : Halt) (ps : List Piece) (vars : List ℕ) (b : ℕ) (c d : Conj) (m : Maxima) (path : List Choice) (old : List Piece) → RowsFit c.rows → d ≡ normal_conj c → path ≡ [] → old ≡ []
+    → ((n : ℕ) → b < n + 0 → Visits (Err h) ps (walk (visiting strategy ForPieces vars) n b (path, d) 0 (seen m old))) → HandsBack s h c → Eliminates (Err s) c (pieces_of strategy vars b c)
+first-back strategy s h ps vars b c d m path old f e p o w back =
+    subst (λ (v : def.Swept Conj Choice). Eliminates (Err s) c v) (sym (pieces-from strategy vars b c f)) (stopped s h c ps _ back (from-normal strategy (Err h) ps vars b c d m path old f e p o w))
 
 -- all that is said of the pieces
-pub record Answered (vars : List ℕ) (b : ℕ) (c : Conj) (ps : List Piece) : Type 0 where
-  pub exact : Eliminates (Ok ps) c (pieces_of vars b c)
+pub record Answered (strategy : Strategy) (vars : List ℕ) (b : ℕ) (c : Conj) (ps : List Piece) : Type 0 where
+  pub exact : Eliminates (Ok ps) c (pieces_of strategy vars b c)
   pub gone : AllGone vars ps
   pub projection : (p : List ℤ) → length p ≡ c.columns → (HoldsFor vars c.rows p → SomeHolds ps p) × (SomeHolds ps p → HoldsFor vars c.rows p)
 
-answered : (k : ℕ) (ps : List Piece) (vars : List ℕ) (b : ℕ) (c : Conj) → IsWellMade c → RowsFit c.rows → def.sweep (elimination vars) (b + 1) b [] (normal_conj c) 0 ≡ def.Pieces (parts ps) k → Answered vars b c ps
-answered k ps vars b c made f is = record {
-  exact = (k, pieces-from vars b c f ∙ is);
-  gone = all-gone vars ps (sweep-done (elimination vars) (b + 1) b [] (normal_conj c) 0 k (parts ps) is);
-  projection = λ q l. pieces-project vars b k c ps q made is l;
+answered : (strategy : Strategy) (k : ℕ) (ps : List Piece) (vars : List ℕ) (b : ℕ) (c : Conj) → IsWellMade c → RowsFit c.rows → def.sweep (elimination strategy vars) (b + 1) b [] (normal_conj c) 0 ≡ def.Pieces (parts ps) k → Answered strategy vars b c ps
+answered strategy k ps vars b c made f is = record {
+  exact = (k, pieces-from strategy vars b c f ∙ is);
+  gone = all-gone strategy vars ps (sweep-done (elimination strategy vars) (b + 1) b [] (normal_conj c) 0 k (parts ps) is);
+  projection = λ q l. pieces-project strategy vars b k c ps q made is l;
 }
 
-pub first-answer : (r : Walked) (ps : List Piece) (vars : List ℕ) (b : ℕ) (c d : Conj) (m : Maxima) (path : List Choice) (old : List Piece) → IsWellMade c → RowsFit c.rows → d ≡ normal_conj c → path ≡ [] → old ≡ []
-    → ((n : ℕ) → b < n + 0 → Visits (Ok r) ps (walk (visiting ForPieces vars) n b (path, d) 0 (seen m old))) → Answered vars b c ps
-first-answer (done.Gone k s r) ps vars b c d m path old made f e p o w = answered k ps vars b c made f (from-normal (Ok (done.Gone k s r)) ps vars b c d m path old f e p o w)
-first-answer (done.Found q) ps vars b c d m path old made f e p o w = absurd (from-normal (Ok (done.Found q)) ps vars b c d m path old f e p o w)
+pub first-answer : (strategy : Strategy) (r : Walked) (ps : List Piece) (vars : List ℕ) (b : ℕ) (c d : Conj) (m : Maxima) (path : List Choice) (old : List Piece) → IsWellMade c → RowsFit c.rows → d ≡ normal_conj c → path ≡ [] → old ≡ []
+    → ((n : ℕ) → b < n + 0 → Visits (Ok r) ps (walk (visiting strategy ForPieces vars) n b (path, d) 0 (seen m old))) → Answered strategy vars b c ps
+first-answer strategy (done.Gone k s r) ps vars b c d m path old made f e p o w = answered strategy k ps vars b c made f (from-normal strategy (Ok (done.Gone k s r)) ps vars b c d m path old f e p o w)
+first-answer strategy (done.Found q) ps vars b c d m path old made f e p o w = absurd (from-normal strategy (Ok (done.Found q)) ps vars b c d m path old f e p o w)
 
 pub normal-made : (c d : Conj) → IsWellMade c → d ≡ normal_conj c → IsWellMade d
 normal-made c d made e = let P : Conj → Type 0 = λ x. IsWellMade x in subst P (sym e) (conj_made c made)

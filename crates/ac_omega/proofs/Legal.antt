@@ -19,14 +19,14 @@ use Rattle.ac_forms.specs.declared.row.Row.{Row}
 use Rattle.ac_forms.specs.declared.row.Row.TheVariants.{Eq, Div, Ge}
 use Rattle.ac_cert.specs.declared.choose.Choice.{Choice}
 use Rattle.ac_cert.specs.declared.choose.Choice.TheVariants as choice
-use Rattle.ac_cert.specs.Bounds.{has_column, is_low, highs, only_bounds, is_one_sided}
+use Rattle.ac_cert.specs.Bounds.{has_column, is_low, only_bounds, is_one_sided}
 use Rattle.ac_cert.specs.Choices.{column_of, are_absurd, is_equality_of, is_lower_row, is_common_multiple, allows, is_legal}
-use Rattle.ac_cert.specs.ChoiceFits.{sizes_fit}
 use Rattle.ac_cert.proofs.Truths.{true-le}
-use Rattle.ac_trails.specs.Tries.{Tries, first_equality, has_divisibility, lcm, common_modulus, residues_from, residues, splinters_from, count_to, last_splinter, last_splinter_fits, splinters_of, splinters, greatest_size, by_bounds, tries_by, tries_for, all_of, IsAmong}
+use Rattle.ac_trails.specs.Tries.{Tries, first_equality, has_divisibility, lcm, common_modulus, residues_from, residues, splinters_from, count_to, last_splinter, last_splinter_fits, need_of, splinters_by, splinters_of, splinters, by_bounds, tries_by, tries_for, all_of, IsAmong}
 use Rattle.ac_omega.specs.Walk.{IsTried}
 use Rattle.ac_omega.proofs.CommonMultiples.{IsLcm-lcm, lcm-positive}
 use Rattle.ac_omega.proofs.Moduli.{common-cons, row-grows, size_positive}
+use Rattle.ac_trails.specs.declared.strategy.Strategy.{Strategy}
 
 -- the choice takes the column, and the rows allow it
 pub record Allowed (z : ℕ) (rows : List Row) (h : Choice) : Type 0 where
@@ -140,58 +140,61 @@ unfolding AreAllowed
 row-splinters z i zero k rows h = tt
 row-splinters z i (suc n) k rows h = (record { column = refl; allowed = both-true _ _ h (true-le (pos 0) (pos k) (omega (arith, ints))) }, row-splinters z i n (suc k) rows h)
 
-splinters-at : (z : ℕ) (a : ℤ) (i : ℕ) (rows : List Row) (r : Row) → slice_get rows i ≡ Some r → AreAllowed z rows (splinters_of z a i r)
+splinters-by : (z i : ℕ) (b : ℤ) (need : Option ℤ) (rows : List Row) → is_lower_row z (slice_get rows i) ≡ true → AreAllowed z rows (splinters_by need z i b)
 unfolding AreAllowed
-splinters-at z a i rows (Eq f) e = tt
-splinters-at z a i rows (Div m f) e = tt
-splinters-at z a i rows (Ge f) e = by (is_low z f) (last_splinter_fits a (coef z f)) refl
-  where
-    by : (t u : Bool) → is_low z f ≡ t → AreAllowed z rows (cond t (cond u (splinters_from (count_to (last_splinter a (coef z f))) z i 0) (None ∷ [])) [])
-    by true true is = row-splinters z i (count_to (last_splinter a (coef z f))) 0 rows (rw e is)
-    by true false is = tt
-    by false u is = tt
+splinters-by z i b None rows h = tt
+splinters-by z i b (Some a) rows h = elim (last_splinter_fits a b) as (λ t. AreAllowed z rows (cond t (splinters_from (count_to (last_splinter a b)) z i 0) (None ∷ []))) [ true ↦ row-splinters z i (count_to (last_splinter a b)) 0 rows h | false ↦ tt ]
 
-all-splinters : (z : ℕ) (a : ℤ) (i : ℕ) (rows rs : List Row) → ((k : ℕ) → slice_get rows (i + k) ≡ slice_get rs k) → AreAllowed z rows (splinters z a i rs)
+splinters-at : (strategy : Strategy) (z i : ℕ) (rows : List Row) (r : Row) → slice_get rows i ≡ Some r → AreAllowed z rows (splinters_of strategy z rows i r)
 unfolding AreAllowed
-all-splinters z a i rows [] h = tt
-all-splinters z a i rows (r ∷ rs) h =
-    allowed-both z rows (splinters_of z a i r) (splinters z a (suc i) rs) (splinters-at z a i rows r (subst (λ (k : ℕ). slice_get rows k ≡ Some r) (add-zero i) (h 0)))
-    (all-splinters z a (suc i) rows rs (λ k. subst (λ (j : ℕ). slice_get rows j ≡ slice_get rs k) (later i k) (h (suc k))))
+splinters-at strategy z i rows (Eq f) e = tt
+splinters-at strategy z i rows (Div m f) e = tt
+splinters-at strategy z i rows (Ge f) e = by (is_low z f) refl
+  where
+    by : (t : Bool) → is_low z f ≡ t → AreAllowed z rows (cond t (splinters_by (need_of strategy z rows f) z i (coef z f)) [])
+    by true is = splinters-by z i (coef z f) (need_of strategy z rows f) rows (rw e is)
+    by false is = tt
+
+all-splinters : (strategy : Strategy) (z i : ℕ) (rows rs : List Row) → ((k : ℕ) → slice_get rows (i + k) ≡ slice_get rs k) → AreAllowed z rows (splinters strategy z rows i rs)
+unfolding AreAllowed
+all-splinters strategy z i rows [] h = tt
+all-splinters strategy z i rows (r ∷ rs) h =
+    allowed-both z rows (splinters_of strategy z rows i r) (splinters strategy z rows (suc i) rs) (splinters-at strategy z i rows r (subst (λ (k : ℕ). slice_get rows k ≡ Some r) (add-zero i) (h 0)))
+    (all-splinters strategy z (suc i) rows rs (λ k. subst (λ (j : ℕ). slice_get rows j ≡ slice_get rs k) (later i k) (h (suc k))))
   where
     later : (i k : ℕ) → i + suc k ≡ suc i + k
     later i k = omega arith
 
-pub all-bounds : (z : ℕ) (rows : List Row) → only_bounds z rows ≡ true → AreAllowed z rows (by_bounds z rows)
+pub all-bounds : (strategy : Strategy) (z : ℕ) (rows : List Row) → only_bounds z rows ≡ true → AreAllowed z rows (by_bounds strategy z rows)
 unfolding AreAllowed
-all-bounds z rows o = by (is_one_sided z rows) (sizes_fit (highs z rows)) refl
+all-bounds strategy z rows o = by (is_one_sided z rows) refl
   where
-    by : (t u : Bool) → is_one_sided z rows ≡ t → AreAllowed z rows (cond t (Some (choice.Drop z) ∷ []) (Some (choice.Shadow z) ∷ cond u (splinters z (greatest_size (highs z rows)) 0 rows) (None ∷ [])))
-    by true u is = (record { column = refl; allowed = both-true _ _ o is }, tt)
-    by false true is = (record { column = refl; allowed = o }, all-splinters z (greatest_size (highs z rows)) 0 rows rows (λ k. ap (slice_get rows) (zero-add k)))
-    by false false is = (record { column = refl; allowed = o }, tt)
+    by : (t : Bool) → is_one_sided z rows ≡ t → AreAllowed z rows (cond t (Some (choice.Drop z) ∷ []) (Some (choice.Shadow z) ∷ splinters strategy z rows 0 rows))
+    by true is = (record { column = refl; allowed = both-true _ _ o is }, tt)
+    by false is = (record { column = refl; allowed = o }, all-splinters strategy z 0 rows rows (λ k. ap (slice_get rows) (zero-add k)))
 
-pub all-allowed : (z : ℕ) (rows : List Row) → HaveModuli rows → AreAllowed z rows (tries_for z rows)
+pub all-allowed : (strategy : Strategy) (z : ℕ) (rows : List Row) → HaveModuli rows → AreAllowed z rows (tries_for strategy z rows)
 unfolding AreAllowed tries_for
-all-allowed z rows h = by (first_equality z 0 rows) (has_divisibility z rows) refl refl
+all-allowed strategy z rows h = by (first_equality z 0 rows) (has_divisibility z rows) refl refl
   where
-    by : (o : Option ℕ) (d : Bool) → first_equality z 0 rows ≡ o → has_divisibility z rows ≡ d → AreAllowed z rows (tries_by o z rows)
+    by : (o : Option ℕ) (d : Bool) → first_equality z 0 rows ≡ o → has_divisibility z rows ≡ d → AreAllowed z rows (tries_by strategy o z rows)
     by (Some i) d e is = let k = equality-found z 0 i rows e in (record { column = refl; allowed = subst (λ (j : ℕ). is_equality_of z (slice_get rows j) ≡ true) (same i k.0 k.1) k.2 }, tt)
       where
         same : (i k : ℕ) → i ≡ 0 + k → k ≡ i
         same i k e = omega arith
     by None true e is = rw is (all-residues z rows h)
-    by None false e is = rw is (all-bounds z rows (only-bounds z 0 rows e is))
+    by None false e is = rw is (all-bounds strategy z rows (only-bounds z 0 rows e is))
 
 -- each of the choices that are listed is legal
-pub listed-legal : (z : ℕ) (c : Conj) (hs : List Choice) (h : Choice) → IsWellMade c → z < c.columns → are_absurd c.rows ≡ false → all_of (tries_for z c.rows) ≡ Some hs → IsAmong h hs → is_legal h c ≡ true
-listed-legal z c hs h made within absurd_not e i =
-    let a = among-allowed z c.rows (tries_for z c.rows) hs h (all-allowed z c.rows (moduli_of c.columns c.rows made)) e i in
+pub listed-legal : (strategy : Strategy) (z : ℕ) (c : Conj) (hs : List Choice) (h : Choice) → IsWellMade c → z < c.columns → are_absurd c.rows ≡ false → all_of (tries_for strategy z c.rows) ≡ Some hs → IsAmong h hs → is_legal h c ≡ true
+listed-legal strategy z c hs h made within absurd_not e i =
+    let a = among-allowed z c.rows (tries_for strategy z c.rows) hs h (all-allowed strategy z c.rows (moduli_of c.columns c.rows made)) e i in
     both-true _ _ (not-true (are_absurd c.rows) absurd_not) (both-true _ _ (rw a.column (lt-ltb z c.columns within)) a.allowed)
 
-pub made-legal : (z : ℕ) (c : Conj) (res : Result (List Choice) FormStop) → IsWellMade c → z < c.columns → are_absurd c.rows ≡ false → MadeOf res (all_of (tries_for z c.rows)) → IfOk res (λ hs. (h : Choice) → IsAmong h hs → is_legal h c ≡ true)
-made-legal z c (Ok hs) made within absurd_not e = λ h i. listed-legal z c hs h made within absurd_not e i
-made-legal z c (Err Wide) made within absurd_not e = tt
-made-legal z c (Err (Memory want)) made within absurd_not e = tt
+pub made-legal : (strategy : Strategy) (z : ℕ) (c : Conj) (res : Result (List Choice) FormStop) → IsWellMade c → z < c.columns → are_absurd c.rows ≡ false → MadeOf res (all_of (tries_for strategy z c.rows)) → IfOk res (λ hs. (h : Choice) → IsAmong h hs → is_legal h c ≡ true)
+made-legal strategy z c (Ok hs) made within absurd_not e = λ h i. listed-legal strategy z c hs h made within absurd_not e i
+made-legal strategy z c (Err Wide) made within absurd_not e = tt
+made-legal strategy z c (Err (Memory want)) made within absurd_not e = tt
 
 -- each of the choices that are tried is legal
 tried-allowed : (z : ℕ) (rows : List Row) (hs : Tries) (h : Choice) → AreAllowed z rows hs → IsTried h hs → Allowed z rows h
@@ -202,7 +205,7 @@ tried-allowed z rows (None ∷ hs) h a (inr i) = tried-allowed z rows hs h a i
 tried-allowed z rows (Some x ∷ hs) h a (inl e) = let s : x ≡ h = cc in subst (Allowed z rows) s a.0
 tried-allowed z rows (Some x ∷ hs) h a (inr i) = tried-allowed z rows hs h a.1 i
 
-pub tried-legal : (z : ℕ) (c : Conj) (h : Choice) → IsWellMade c → z < c.columns → are_absurd c.rows ≡ false → IsTried h (tries_for z c.rows) → is_legal h c ≡ true
-tried-legal z c h made within absurd_not i =
-    let a = tried-allowed z c.rows (tries_for z c.rows) h (all-allowed z c.rows (moduli_of c.columns c.rows made)) i in
+pub tried-legal : (strategy : Strategy) (z : ℕ) (c : Conj) (h : Choice) → IsWellMade c → z < c.columns → are_absurd c.rows ≡ false → IsTried h (tries_for strategy z c.rows) → is_legal h c ≡ true
+tried-legal strategy z c h made within absurd_not i =
+    let a = tried-allowed z c.rows (tries_for strategy z c.rows) h (all-allowed strategy z c.rows (moduli_of c.columns c.rows made)) i in
     both-true _ _ (not-true (are_absurd c.rows) absurd_not) (both-true _ _ (rw a.column (lt-ltb z c.columns within)) a.allowed)

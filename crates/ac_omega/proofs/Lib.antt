@@ -42,3 +42,4 @@ pub mod DifferenceQuestions
 pub mod DifferenceStops
 pub mod Replays
 pub mod DifferenceSweeps
+pub mod Totals

@@ -1,39 +1,36 @@
 -- The next column is one of the columns, and its choices are of it.
-use Rattle.std.proofs.Common.{◌≡◌, inl, inr, ℕ, ◌<◌, Bool, true, false, cond, ◌||◌, ◌==◌, eq-eqb, ℤ, List, [], ◌∷◌, Option, Some, None, refl, subst}
-use Rattle.std.proofs.lemmas.Bool.{lt-ltb}
+use Rattle.std.proofs.Common.{◌≡◌, inl, inr, ℕ, Bool, true, false, cond, ◌||◌, ◌==◌, eq-eqb, List, [], ◌∷◌, Option, Some, None, refl, subst}
 use Rattle.std.specs.List.{filter}
-use Rattle.ac_forms.proofs.Passes.{moduli_of}
-use Rattle.ac_forms.specs.Rows.{IsWellMade}
-use Rattle.ac_forms.specs.declared.conj.Conj.{Conj}
 use Rattle.ac_forms.specs.declared.row.Row.{Row}
 use Rattle.ac_forms.specs.declared.row.Row.TheVariants.{Eq, Div, Ge}
 use Rattle.ac_cert.specs.Bounds.{has_column}
-use Rattle.ac_cert.specs.Choices.{are_absurd}
 use Rattle.ac_cert.specs.declared.choose.Choice.{Choice}
-use Rattle.ac_omega.specs.Columns.{better, precedes, least_from, or_else, by_equality, by_rule, passes, key, size_key, next_column}
+use Rattle.ac_omega.specs.Columns.{better, precedes, least_from, or_else, by_equality, by_rule, passes, key, size_key, is_two_sided, precedes_by_two, splinter_key, excess_key, by_splinters, next_column}
 use Rattle.ac_omega.specs.declared.ranking.Rule.{Rule}
 use Rattle.ac_omega.specs.declared.ranking.Rule.TheVariants as rule
 use Rattle.ac_omega.specs.Projection.{is_among}
-use Rattle.ac_trails.specs.Tries.{Tries, tries_for}
+use Rattle.ac_trails.specs.Tries.{Tries}
 use Rattle.ac_omega.specs.Walk.{IsTried}
-use Rattle.ac_omega.proofs.Legal.{Allowed, AreAllowed, all-allowed}
+use Rattle.ac_omega.proofs.Legal.{Allowed, AreAllowed}
+use Rattle.ac_trails.specs.declared.strategy.Strategy.{Strategy}
+use Rattle.ac_trails.specs.declared.strategy.Strategy.TheVariants.{Full, Economical}
 
 -- P holds of each of these columns
 abbrev pub Each : (ℕ → Type 0) → List ℕ → Type 0
 Each P [] = Unit {0}
 Each P (z ∷ zs) = P z × Each P zs
 
-better-in : (P : ℕ → Type 0) (key : ℕ → Option ℤ) (best : Option ℕ) (x z : ℕ) → ((y : ℕ) → best ≡ Some y → P y) → P x → better key best x ≡ Some z → P z
-better-in P key None x z b l e = let s : x ≡ z = cc in subst P s l
-better-in P key (Some y) x z b l e = by (precedes key x y) e
+better-in : (P : ℕ → Type 0) (before : ℕ → ℕ → Bool) (best : Option ℕ) (x z : ℕ) → ((y : ℕ) → best ≡ Some y → P y) → P x → better before best x ≡ Some z → P z
+better-in P before None x z b l e = let s : x ≡ z = cc in subst P s l
+better-in P before (Some y) x z b l e = by (before x y) e
   where
     by : (t : Bool) → Some (cond t x y) ≡ Some z → P z
     by true e = let s : x ≡ z = cc in subst P s l
     by false e = b z e
 
-from-in : (P : ℕ → Type 0) (key : ℕ → Option ℤ) (best : Option ℕ) (zs : List ℕ) (z : ℕ) → ((y : ℕ) → best ≡ Some y → P y) → Each P zs → least_from key best zs ≡ Some z → P z
-from-in P key best [] z b a e = b z e
-from-in P key best (x ∷ xs) z b a e = from-in P key (better key best x) xs z (λ y f. better-in P key best x y b a.0 f) a.1 e
+from-in : (P : ℕ → Type 0) (before : ℕ → ℕ → Bool) (best : Option ℕ) (zs : List ℕ) (z : ℕ) → ((y : ℕ) → best ≡ Some y → P y) → Each P zs → least_from before best zs ≡ Some z → P z
+from-in P before best [] z b a e = b z e
+from-in P before best (x ∷ xs) z b a e = from-in P before (better before best x) xs z (λ y f. better-in P before best x y b a.0 f) a.1 e
 
 filter-in : (P : ℕ → Type 0) (test : ℕ → Bool) (zs : List ℕ) → Each P zs → Each P (filter test zs)
 filter-in P test [] a = tt
@@ -50,27 +47,31 @@ or-in : (P : ℕ → Type 0) (z : ℕ) (o p : Option ℕ) → (o ≡ Some z → 
 or-in P z None p f g e = g e
 or-in P z (Some y) p f g e = f e
 
-least-in : (P : ℕ → Type 0) (key : ℕ → Option ℤ) (test : ℕ → Bool) (zs : List ℕ) (z : ℕ) → Each P zs → least_from key None (filter test zs) ≡ Some z → P z
-least-in P key test zs z a e = from-in P key None (filter test zs) z (λ y. none-in P y) (filter-in P test zs a) e
+least-in : (P : ℕ → Type 0) (before : ℕ → ℕ → Bool) (test : ℕ → Bool) (zs : List ℕ) (z : ℕ) → Each P zs → least_from before None (filter test zs) ≡ Some z → P z
+least-in P before test zs z a e = from-in P before None (filter test zs) z (λ y. none-in P y) (filter-in P test zs a) e
 
 equality-in : (P : ℕ → Type 0) (vars : List ℕ) (rows : List Row) (z : ℕ) → Each P vars → by_equality vars rows ≡ Some z → P z
 equality-in P vars [] z a e = absurd cc
 equality-in P vars (Eq f ∷ rs) z a e =
-    or-in P z (least_from (size_key f) None (filter (λ x. has_column x (Eq f)) vars)) (by_equality vars rs) (least-in P (size_key f) (λ x. has_column x (Eq f)) vars z a) (equality-in P vars rs z a) e
+    or-in P z (least_from (precedes (size_key f)) None (filter (λ x. has_column x (Eq f)) vars)) (by_equality vars rs) (least-in P (precedes (size_key f)) (λ x. has_column x (Eq f)) vars z a) (equality-in P vars rs z a) e
 equality-in P vars (Div m f ∷ rs) z a e = equality-in P vars rs z a e
 equality-in P vars (Ge f ∷ rs) z a e = equality-in P vars rs z a e
 
 rule-in : (P : ℕ → Type 0) (r : Rule) (vars : List ℕ) (rows : List Row) (z : ℕ) → Each P vars → by_rule r vars rows ≡ Some z → P z
-rule-in P r vars rows z a e = least-in P (key r rows) (passes r rows) vars z a e
+rule-in P r vars rows z a e = least-in P (precedes (key r rows)) (passes r rows) vars z a e
+
+splinters-in : (P : ℕ → Type 0) (strategy : Strategy) (vars : List ℕ) (rows : List Row) (z : ℕ) → Each P vars → by_splinters strategy vars rows ≡ Some z → P z
+splinters-in P Full vars rows z a e = rule-in P rule.TwoSided vars rows z a e
+splinters-in P Economical vars rows z a e = least-in P (precedes_by_two (splinter_key rows) (excess_key rows)) (λ x. is_two_sided x rows) vars z a e
 
 -- what holds of each column holds of the next one
-next-in : (P : ℕ → Type 0) (vars : List ℕ) (rows : List Row) (z : ℕ) → Each P vars → next_column vars rows ≡ Some z → P z
+next-in : (strategy : Strategy) (P : ℕ → Type 0) (vars : List ℕ) (rows : List Row) (z : ℕ) → Each P vars → next_column strategy vars rows ≡ Some z → P z
 unfolding next_column
-next-in P vars rows z a e =
+next-in strategy P vars rows z a e =
     or-in P z (by_equality vars rows) _ (equality-in P vars rows z a)
     (or-in P z (by_rule rule.Divided vars rows) _ (rule-in P rule.Divided vars rows z a)
     (or-in P z (by_rule rule.OneSided vars rows) _ (rule-in P rule.OneSided vars rows z a)
-    (or-in P z (by_rule rule.UnitPairs vars rows) _ (rule-in P rule.UnitPairs vars rows z a) (rule-in P rule.TwoSided vars rows z a)))) e
+    (or-in P z (by_rule rule.UnitPairs vars rows) _ (rule-in P rule.UnitPairs vars rows z a) (splinters-in P strategy vars rows z a)))) e
 
 each-more : (y : ℕ) (zs vars : List ℕ) → Each (λ z. is_among z vars ≡ true) zs → Each (λ z. is_among z (y ∷ vars) ≡ true) zs
 each-more y [] vars a = tt
@@ -80,11 +81,11 @@ each-among : (vars : List ℕ) → Each (λ z. is_among z vars ≡ true) vars
 each-among [] = tt
 each-among (z ∷ zs) = (rw (eq-eqb z z refl) refl, each-more z zs zs (each-among zs))
 
-pub least-among : (rank : ℕ → Option ℤ) (zs : List ℕ) (z : ℕ) → least_from rank None zs ≡ Some z → is_among z zs ≡ true
-least-among rank zs z e = from-in (λ y. is_among y zs ≡ true) rank None zs z (λ y. none-in (λ x. is_among x zs ≡ true) y) (each-among zs) e
+pub least-among : (before : ℕ → ℕ → Bool) (zs : List ℕ) (z : ℕ) → least_from before None zs ≡ Some z → is_among z zs ≡ true
+least-among before zs z e = from-in (λ y. is_among y zs ≡ true) before None zs z (λ y. none-in (λ x. is_among x zs ≡ true) y) (each-among zs) e
 
-pub next-among : (vars : List ℕ) (rows : List Row) (z : ℕ) → next_column vars rows ≡ Some z → is_among z vars ≡ true
-next-among vars rows z e = next-in (λ y. is_among y vars ≡ true) vars rows z (each-among vars) e
+pub next-among : (strategy : Strategy) (vars : List ℕ) (rows : List Row) (z : ℕ) → next_column strategy vars rows ≡ Some z → is_among z vars ≡ true
+next-among strategy vars rows z e = next-in strategy (λ y. is_among y vars ≡ true) vars rows z (each-among vars) e
 
 pub allowed-each : (z : ℕ) (rows : List Row) (hs : Tries) (h : Choice) → AreAllowed z rows hs → IsTried h hs → Allowed z rows h
 unfolding AreAllowed

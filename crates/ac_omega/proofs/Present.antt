@@ -1,5 +1,5 @@
 -- The next column is in some row, so it is one of the conjunction's.
-use Rattle.std.proofs.Common.{◌≡◌, ◌⊎◌, inl, inr, ℕ, ◌<◌, ◌≤◌, nat_lt, ◌==◌, cond, Bool, true, false, not, ◌&&◌, ◌||◌, ℤ, pos, int_eq, List, [], ◌∷◌, length, Option, Some, None, arith, refl}
+use Rattle.std.proofs.Common.{◌≡◌, ◌⊎◌, inl, inr, ℕ, ◌<◌, ◌≤◌, nat_lt, ◌==◌, cond, Bool, true, false, not, ◌&&◌, ◌||◌, ℤ, pos, int_eq, List, [], ◌∷◌, Option, Some, None, arith, refl}
 use Rattle.std.specs.Int.Signed.{lt_z}
 use Rattle.std.specs.List.{filter}
 use Rattle.std.proofs.lemmas.Int.{ints}
@@ -12,11 +12,13 @@ use Rattle.ac_forms.specs.declared.row.Row.{Row}
 use Rattle.ac_forms.specs.declared.row.Row.TheVariants.{Eq, Div, Ge}
 use Rattle.ac_cert.specs.Bounds.{has_column, is_low, low_bound, lows, highs, is_none, is_one_sided}
 use Rattle.ac_trails.specs.Tries.{has_divisibility}
-use Rattle.ac_omega.specs.Columns.{is_present, is_two_sided, are_unit_pairs, least_by, or_else, by_equality, by_rule, passes, key, size_key, next_column}
+use Rattle.ac_omega.specs.Columns.{is_present, is_two_sided, are_unit_pairs, least_by, or_else, by_equality, by_rule, passes, key, size_key, precedes, precedes_by_two, splinter_key, excess_key, by_splinters, next_column}
 use Rattle.ac_omega.specs.declared.ranking.Rule.{Rule}
 use Rattle.ac_omega.specs.declared.ranking.Rule.TheVariants as rule
 use Rattle.ac_omega.specs.Projection.{is_among}
 use Rattle.ac_omega.proofs.Nexts.{least-among}
+use Rattle.ac_trails.specs.declared.strategy.Strategy.{Strategy}
+use Rattle.ac_trails.specs.declared.strategy.Strategy.TheVariants.{Full, Economical}
 
 -- the least of those that pass passes
 among-filter : (test : ℕ → Bool) (z : ℕ) (zs : List ℕ) → is_among z (filter test zs) ≡ true → test z ≡ true
@@ -31,8 +33,8 @@ among-filter test z (x ∷ xs) e = by (test x) refl (among-filter test z xs) e
     by true f i e = at (z == x) refl f i e
     by false f i e = i e
 
-least-passes : (rank : ℕ → Option ℤ) (test : ℕ → Bool) (zs : List ℕ) (z : ℕ) → least_by rank (filter test zs) ≡ Some z → test z ≡ true
-least-passes rank test zs z e = among-filter test z zs (least-among rank (filter test zs) z e)
+least-passes : (before : ℕ → ℕ → Bool) (test : ℕ → Bool) (zs : List ℕ) (z : ℕ) → least_by before (filter test zs) ≡ Some z → test z ≡ true
+least-passes before test zs z e = among-filter test z zs (least-among before (filter test zs) z e)
 
 else-of : (o p : Option ℕ) (z : ℕ) → or_else o p ≡ Some z → (o ≡ Some z) ⊎ (p ≡ Some z)
 else-of None p z e = inr e
@@ -52,8 +54,8 @@ and-first false b e = absurd cc
 
 equality-present : (vars : List ℕ) (rows : List Row) (z : ℕ) → by_equality vars rows ≡ Some z → is_present z rows ≡ true
 equality-present vars [] z e = absurd cc
-equality-present vars (Eq f ∷ rs) z e = elim (else-of (least_by (size_key f) (filter (λ x. has_column x (Eq f)) vars)) (by_equality vars rs) z e) [
-  | inl h ↦ or-first (has_column z (Eq f)) (is_present z rs) (least-passes (size_key f) (λ x. has_column x (Eq f)) vars z h)
+equality-present vars (Eq f ∷ rs) z e = elim (else-of (least_by (precedes (size_key f)) (filter (λ x. has_column x (Eq f)) vars)) (by_equality vars rs) z e) [
+  | inl h ↦ or-first (has_column z (Eq f)) (is_present z rs) (least-passes (precedes (size_key f)) (λ x. has_column x (Eq f)) vars z h)
   | inr h ↦ or-second (has_column z (Eq f)) (is_present z rs) (equality-present vars rs z h)
 ]
 equality-present vars (Div m f ∷ rs) z e = or-second (has_column z (Div m f)) (is_present z rs) (equality-present vars rs z e)
@@ -99,11 +101,15 @@ passes-present rule.UnitPairs rows z e = two-present z rows (and-first (is_two_s
 passes-present rule.TwoSided rows z e = two-present z rows e
 
 rule-present : (r : Rule) (vars : List ℕ) (rows : List Row) (z : ℕ) → by_rule r vars rows ≡ Some z → is_present z rows ≡ true
-rule-present r vars rows z e = passes-present r rows z (least-passes (key r rows) (passes r rows) vars z e)
+rule-present r vars rows z e = passes-present r rows z (least-passes (precedes (key r rows)) (passes r rows) vars z e)
 
-pub next-present : (vars : List ℕ) (rows : List Row) (z : ℕ) → next_column vars rows ≡ Some z → is_present z rows ≡ true
+splinters-present : (strategy : Strategy) (vars : List ℕ) (rows : List Row) (z : ℕ) → by_splinters strategy vars rows ≡ Some z → is_present z rows ≡ true
+splinters-present Full vars rows z e = rule-present rule.TwoSided vars rows z e
+splinters-present Economical vars rows z e = two-present z rows (least-passes (precedes_by_two (splinter_key rows) (excess_key rows)) (λ x. is_two_sided x rows) vars z e)
+
+pub next-present : (strategy : Strategy) (vars : List ℕ) (rows : List Row) (z : ℕ) → next_column strategy vars rows ≡ Some z → is_present z rows ≡ true
 unfolding next_column
-next-present vars rows z e = elim (else-of (by_equality vars rows) _ z e) [
+next-present strategy vars rows z e = elim (else-of (by_equality vars rows) _ z e) [
   | inl h ↦ equality-present vars rows z h
   | inr h ↦ elim (else-of (by_rule rule.Divided vars rows) _ z h) [
     | inl g ↦ rule-present rule.Divided vars rows z g
@@ -111,7 +117,7 @@ next-present vars rows z e = elim (else-of (by_equality vars rows) _ z e) [
       | inl k ↦ rule-present rule.OneSided vars rows z k
       | inr k ↦ elim (else-of (by_rule rule.UnitPairs vars rows) _ z k) [
         | inl l ↦ rule-present rule.UnitPairs vars rows z l
-        | inr l ↦ rule-present rule.TwoSided vars rows z l
+        | inr l ↦ splinters-present strategy vars rows z l
       ]
     ]
   ]
@@ -127,12 +133,12 @@ past-none n z (r ∷ rs) w l =
     absent-test : (c : ℤ) → c ≡ pos 0 → not (int_eq c (pos 0)) ≡ false
     absent-test c e = rw e refl
 
-pub next-within : (vars : List ℕ) (c : Conj) (z : ℕ) → IsWellMade c → next_column vars c.rows ≡ Some z → z < c.columns
-next-within vars c z made e = by (nat_lt z c.columns) refl
+pub next-within : (strategy : Strategy) (vars : List ℕ) (c : Conj) (z : ℕ) → IsWellMade c → next_column strategy vars c.rows ≡ Some z → z < c.columns
+next-within strategy vars c z made e = by (nat_lt z c.columns) refl
   where
     differ : {t : Bool} → t ≡ true → t ≡ false → ⊥
     differ e f = cc
 
     by : (t : Bool) → nat_lt z c.columns ≡ t → z < c.columns
     by true l = ltb-true z c.columns l
-    by false l = absurd (differ (next-present vars c.rows z e) (past-none c.columns z c.rows made (ltb-false z c.columns l)))
+    by false l = absurd (differ (next-present strategy vars c.rows z e) (past-none c.columns z c.rows made (ltb-false z c.columns l)))

@@ -38,6 +38,7 @@ use Rattle.ac_forms.proofs.Passes.{moduli_of}
 use Rattle.ac_omega.proofs.Nexts.{next-among, allowed-each}
 use Rattle.ac_omega.proofs.Present.{next-within}
 use Rattle.ac_omega.proofs.Sweeps.{sweep-exact}
+use Rattle.ac_trails.specs.declared.strategy.Strategy.{Strategy}
 
 -- a dot product, where the points agree but at coefficients that are 0
 dot-agree : (cs p q : List ℤ) → length q ≡ length p → ((j : ℕ) → (get_or q j (pos 0) ≡ get_or p j (pos 0)) ⊎ (get_or cs j (pos 0) ≡ pos 0)) → dot cs q ≡ dot cs p
@@ -158,46 +159,46 @@ MeetsAt n c p = (length p ≡ n) × Meets c.rows p
 abbrev pub HasAt : List ℕ → ℕ → Conj → List ℤ → Type 0
 HasAt vars n c p = (length p ≡ n) × HoldsFor vars c.rows p
 
-column-below : (vars : List ℕ) (n : ℕ) (c : Conj) (z : ℕ) → IsGood n c → next_column vars c.rows ≡ Some z → z < c.columns
-column-below vars n c z g e = next-within vars c z g.made e
+column-below : (strategy : Strategy) (vars : List ℕ) (n : ℕ) (c : Conj) (z : ℕ) → IsGood n c → next_column strategy vars c.rows ≡ Some z → z < c.columns
+column-below strategy vars n c z g e = next-within strategy vars c z g.made e
 
-pub tried-legal : (vars : List ℕ) (n : ℕ) (c : Conj) (hs : List (Option Choice)) (h : Choice) → IsGood n c → IsOpen vars c hs → IsTried h hs → is_legal h c ≡ true
-tried-legal vars n c hs h g o i =
-    legal.tried-legal o.column c h g.made (column-below vars n c o.column g o.next) o.not_absurd (let P : Tries → Type 0 = λ xs. IsTried h xs in subst P o.tries i)
+pub tried-legal : (strategy : Strategy) (vars : List ℕ) (n : ℕ) (c : Conj) (hs : List (Option Choice)) (h : Choice) → IsGood n c → IsOpen strategy vars c hs → IsTried h hs → is_legal h c ≡ true
+tried-legal strategy vars n c hs h g o i =
+    legal.tried-legal strategy o.column c h g.made (column-below strategy vars n c o.column g o.next) o.not_absurd (let P : Tries → Type 0 = λ xs. IsTried h xs in subst P o.tries i)
 
-pub tried-column : (vars : List ℕ) (n : ℕ) (c : Conj) (hs : List (Option Choice)) (h : Choice) → IsGood n c → (o : IsOpen vars c hs) → IsTried h hs → column_of h ≡ o.column
-tried-column vars n c hs h g o i =
-    (allowed-each o.column c.rows (tries_for o.column c.rows) h (all-allowed o.column c.rows (moduli_of c.columns c.rows g.made)) (let P : Tries → Type 0 = λ xs. IsTried h xs in subst P o.tries i)).column
+pub tried-column : (strategy : Strategy) (vars : List ℕ) (n : ℕ) (c : Conj) (hs : List (Option Choice)) (h : Choice) → IsGood n c → (o : IsOpen strategy vars c hs) → IsTried h hs → column_of h ≡ o.column
+tried-column strategy vars n c hs h g o i =
+    (allowed-each o.column c.rows (tries_for strategy o.column c.rows) h (all-allowed strategy o.column c.rows (moduli_of c.columns c.rows g.made)) (let P : Tries → Type 0 = λ xs. IsTried h xs in subst P o.tries i)).column
 
-good-left : (vars : List ℕ) (n : ℕ) (c d : Conj) (hs : List (Option Choice)) (h : Choice) → IsGood n c → IsOpen vars c hs → IsTried h hs → after_choice h c ≡ Some d → IsGood n d
-good-left vars n c d hs h g o i e = record {
-  made = let P : Conj → Type 0 = λ x. IsWellMade x in subst P (sym (left-is h c d e)) (conj_made (raw h c) (raw_made h c (tried-legal vars n c hs h g o i) g.made));
+good-left : (strategy : Strategy) (vars : List ℕ) (n : ℕ) (c d : Conj) (hs : List (Option Choice)) (h : Choice) → IsGood n c → IsOpen strategy vars c hs → IsTried h hs → after_choice h c ≡ Some d → IsGood n d
+good-left strategy vars n c d hs h g o i e = record {
+  made = let P : Conj → Type 0 = λ x. IsWellMade x in subst P (sym (left-is h c d e)) (conj_made (raw h c) (raw_made h c (tried-legal strategy vars n c hs h g o i) g.made));
   columns = left-columns h c d e ∙ g.columns;
 }
 
 -- a point of what a choice leaves, but for the columns, is one of the conjunction
-back-at : (vars : List ℕ) (n : ℕ) (c d : Conj) (hs : List (Option Choice)) (h : Choice) (p : List ℤ) → IsGood n c → IsOpen vars c hs → IsTried h hs → after_choice h c ≡ Some d → HasAt vars n d p → HasAt vars n c p
-back-at vars n c d hs h p g o i e x =
-    let legal = tried-legal vars n c hs h g o i in
+back-at : (strategy : Strategy) (vars : List ℕ) (n : ℕ) (c d : Conj) (hs : List (Option Choice)) (h : Choice) (p : List ℤ) → IsGood n c → IsOpen strategy vars c hs → IsTried h hs → after_choice h c ≡ Some d → HasAt vars n d p → HasAt vars n c p
+back-at strategy vars n c d hs h p g o i e x =
+    let legal = tried-legal strategy vars n c hs h g o i in
     let q = x.1.at in
     let m = (left-keeps h c d q legal g.made e).0 x.1.meets in
     let on = lifts h c q legal (x.1.differs.long ∙ x.0 ∙ sym g.columns) m in
     let at = lifted_at h c.rows q in
-    let among : is_among (column_of h) vars ≡ true = rw (tried-column vars n c hs h g o i) (next-among vars c.rows o.column o.next) in
+    let among : is_among (column_of h) vars ≡ true = rw (tried-column strategy vars n c hs h g o i) (next-among strategy vars c.rows o.column o.next) in
     let P : List ℤ → Type 0 = λ y. DiffersIn vars p y in
     (x.0, record { at = lifted h c.rows q; differs = subst P (sym at.1) (set-differs vars p q (column_of h) at.0 among x.1.differs); meets = on.meets })
 
 -- a point of the conjunction, but for the columns, is one of what some choice leaves
-on-at : (vars : List ℕ) (n : ℕ) (c : Conj) (hs : List (Option Choice)) (p : List ℤ) → IsGood n c → IsOpen vars c hs → IsWhole hs → HasAt vars n c p → (h : Choice) × IsTried h hs × ((d : Conj) → after_choice h c ≡ Some d → HasAt vars n d p)
-on-at vars n c hs p g o w x =
+on-at : (strategy : Strategy) (vars : List ℕ) (n : ℕ) (c : Conj) (hs : List (Option Choice)) (p : List ℤ) → IsGood n c → IsOpen strategy vars c hs → IsWhole hs → HasAt vars n c p → (h : Choice) × IsTried h hs × ((d : Conj) → after_choice h c ≡ Some d → HasAt vars n d p)
+on-at strategy vars n c hs p g o w x =
     let P : Tries → Type 0 = λ xs. IsWhole xs in
-    let all = whole-all (tries_for o.column c.rows) (subst P o.tries w) in
+    let all = whole-all (tries_for strategy o.column c.rows) (subst P o.tries w) in
     let q = x.1.at in
     let z = o.column in
     let Q : List ℤ → Type 0 = λ y. Meets c.rows y in
     let m = subst Q (sym (set-get_or q z (pos 0))) x.1.meets in
-    let s = (listed-complete z c all.0 g.made (column-below vars n c z g o.next) all.1 q (x.1.differs.long ∙ x.0 ∙ sym g.columns)).0 (get_or q z (pos 0), m) in
-    let t = among-tried s.0 (tries_for z c.rows) all.0 all.1 s.1 in
+    let s = (listed-complete strategy z c all.0 g.made (column-below strategy vars n c z g o.next) all.1 q (x.1.differs.long ∙ x.0 ∙ sym g.columns)).0 (get_or q z (pos 0), m) in
+    let t = among-tried s.0 (tries_for strategy z c.rows) all.0 all.1 s.1 in
     let R : Tries → Type 0 = λ xs. IsTried s.0 xs in
     let i = subst R (sym o.tries) t in (
       s.0,
@@ -206,20 +207,20 @@ on-at vars n c hs p g o w x =
         x.0,
         record {
           at = set q z s.2;
-          differs = set-differs vars p q z s.2 (next-among vars c.rows z o.next) x.1.differs;
-          meets = (left-keeps s.0 c d (set q z s.2) (tried-legal vars n c hs s.0 g o i) g.made e).1 s.3;
+          differs = set-differs vars p q z s.2 (next-among strategy vars c.rows z o.next) x.1.differs;
+          meets = (left-keeps s.0 c d (set q z s.2) (tried-legal strategy vars n c hs s.0 g o i) g.made e).1 s.3;
         },
       ),
     )
 
-pub projects : (vars : List ℕ) (n : ℕ) → Projects (elimination vars) (IsGood n) (MeetsAt n) (HasAt vars n)
+pub projects : (strategy : Strategy) (vars : List ℕ) (n : ℕ) → Projects (elimination strategy vars) (IsGood n) (MeetsAt n) (HasAt vars n)
 unfolding elimination
-projects vars n = record {
-  done = λ c q p g e. ((λ x. (x.0, gone-meets vars c.rows p (next-none vars c.rows (look-done vars c q e)) x.1)), (λ x. (x.0, itself vars c.rows p x.1)));
-  absurd_row = λ c p g e x. absurd-meets c.rows x.1.at (look-absurd vars c e) x.1.meets;
-  choice = λ c hs p g e w x. on-at vars n c hs p g (look-open vars c hs e) w x;
-  good = λ c hs h d g e i s. good-left vars n c d hs h g (look-open vars c hs e) i s;
-  back = λ c hs h d p g e i s x. back-at vars n c d hs h p g (look-open vars c hs e) i s x;
+projects strategy vars n = record {
+  done = λ c q p g e. ((λ x. (x.0, gone-meets vars c.rows p (next-none strategy vars c.rows (look-done strategy vars c q e)) x.1)), (λ x. (x.0, itself vars c.rows p x.1)));
+  absurd_row = λ c p g e x. absurd-meets c.rows x.1.at (look-absurd strategy vars c e) x.1.meets;
+  choice = λ c hs p g e w x. on-at strategy vars n c hs p g (look-open strategy vars c hs e) w x;
+  good = λ c hs h d g e i s. good-left strategy vars n c d hs h g (look-open strategy vars c hs e) i s;
+  back = λ c hs h d p g e i s x. back-at strategy vars n c d hs h p g (look-open strategy vars c hs e) i s x;
 }
 
 -- pieces as the code has them
@@ -240,22 +241,22 @@ normal-holds vars c p made = (
 )
 
 -- the pieces of the walk from the question's normal form are its projection
-pub pieces-project : (vars : List ℕ) (b k : ℕ) (c : Conj) (ps : List Piece) (p : List ℤ) → IsWellMade c → sweep (elimination vars) (b + 1) b [] (normal_conj c) 0 ≡ Pieces (parts ps) k → length p ≡ c.columns
+pub pieces-project : (strategy : Strategy) (vars : List ℕ) (b k : ℕ) (c : Conj) (ps : List Piece) (p : List ℤ) → IsWellMade c → sweep (elimination strategy vars) (b + 1) b [] (normal_conj c) 0 ≡ Pieces (parts ps) k → length p ≡ c.columns
     → HoldsFor vars c.rows p ↔ SomeHolds ps p
-pieces-project vars b k c ps p made e l =
+pieces-project strategy vars b k c ps p made e l =
     let g : IsGood c.columns (normal_conj c) = record { made = conj_made c made; columns = refl } in
-    let x = sweep-exact (elimination vars) (IsGood c.columns) (MeetsAt c.columns) (HasAt vars c.columns) (projects vars c.columns) (b + 1) b [] (normal_conj c) 0 k (parts ps) p e g in
+    let x = sweep-exact (elimination strategy vars) (IsGood c.columns) (MeetsAt c.columns) (HasAt vars c.columns) (projects strategy vars c.columns) (b + 1) b [] (normal_conj c) 0 k (parts ps) p e g in
     ((λ h. some-in c.columns ps p (x.0 (l, (normal-holds vars c p made).0 h))), (λ h. (normal-holds vars c p made).1 (x.1 (in-some c.columns ps p l h)).1))
 
-pub covers : (vars : List ℕ) (n : ℕ) → Covers (elimination vars) (IsGood n) (HasAt vars n)
+pub covers : (strategy : Strategy) (vars : List ℕ) (n : ℕ) → Covers (elimination strategy vars) (IsGood n) (HasAt vars n)
 unfolding elimination
-covers vars n = record {
-  absurd_row = λ c p g e x. absurd-meets c.rows x.1.at (look-absurd vars c e) x.1.meets;
-  choice = λ c hs p g e w x. let s = on-at vars n c hs p g (look-open vars c hs e) w x in (s.0, s.1, λ d f. (p, s.2 d f));
-  good = λ c hs h d g e i s. good-left vars n c d hs h g (look-open vars c hs e) i s;
+covers strategy vars n = record {
+  absurd_row = λ c p g e x. absurd-meets c.rows x.1.at (look-absurd strategy vars c e) x.1.meets;
+  choice = λ c hs p g e w x. let s = on-at strategy vars n c hs p g (look-open strategy vars c hs e) w x in (s.0, s.1, λ d f. (p, s.2 d f));
+  good = λ c hs h d g e i s. good-left strategy vars n c d hs h g (look-open strategy vars c hs e) i s;
 }
 
 -- a walk that finds no point: there is none
-pub gone-empty : (vars : List ℕ) (b : ℕ) (c : Conj) (k : ℕ) → IsWellMade c → (n j : ℕ) (s t : Maxima) → walk (elimination vars) n b c k s ≡ Gone j t → (p : List ℤ) → length p ≡ c.columns → Meets c.rows p → ⊥
-gone-empty vars b c k made n j s t e p l m =
-    walk-gone (elimination vars) (IsGood c.columns) (HasAt vars c.columns) (covers vars c.columns) n b c k s j t p e (record { made = made; columns = refl }) (l, itself vars c.rows p m)
+pub gone-empty : (strategy : Strategy) (vars : List ℕ) (b : ℕ) (c : Conj) (k : ℕ) → IsWellMade c → (n j : ℕ) (s t : Maxima) → walk (elimination strategy vars) n b c k s ≡ Gone j t → (p : List ℤ) → length p ≡ c.columns → Meets c.rows p → ⊥
+gone-empty strategy vars b c k made n j s t e p l m =
+    walk-gone (elimination strategy vars) (IsGood c.columns) (HasAt vars c.columns) (covers strategy vars c.columns) n b c k s j t p e (record { made = made; columns = refl }) (l, itself vars c.rows p m)

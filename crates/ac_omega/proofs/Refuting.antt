@@ -21,6 +21,7 @@ use Rattle.ac_trails.specs.Refutations.{Refutes, RefuteEach, AreChoicesOf, AreMo
 use Rattle.ac_trails.specs.Tries.{Tries, tries_for, all_of, gathered}
 use Rattle.ac_trails.specs.declared.refutation.Refutation.{Refutation, Row_of-Refutation, end_of-Refutation, more_of-Refutation, items-the_row-Refutation, the_lemmas}
 use Rattle.ac_trails.specs.declared.refutation.Refutation.TheVariants.{Absurd, Open, Open'}
+use Rattle.ac_trails.specs.declared.strategy.Strategy.{Strategy}
 
 -- what each choice leaves is refuted, in turn
 abbrev pub AreRefutedBehind : List Choice → Conj → List Refutation → Type 0
@@ -72,8 +73,8 @@ unfolding IsWithin
 absurd-within s c b = b
 
 -- the choices that are done, of all
-pub first-tried : (z : ℕ) (rows seen : List Row) (left : Tries) (hs : List Choice) → seen ≡ rows → left ≡ tries_for z seen → hs ≡ [] → all_of (tries_for z rows) ≡ gathered hs left
-first-tried z rows seen left hs e l n = rw (l, e, n) (sym (gathered_all (tries_for z rows)))
+pub first-tried : (strategy : Strategy) (z : ℕ) (rows seen : List Row) (left : Tries) (hs : List Choice) → seen ≡ rows → left ≡ tries_for strategy z seen → hs ≡ [] → all_of (tries_for strategy z rows) ≡ gathered hs left
+first-tried strategy z rows seen left hs e l n = rw (l, e, n) (sym (gathered_all (tries_for strategy z rows)))
 
 pub next-tried : (aim : Aim) (hs gs : List Choice) (h : Choice) (r : Option Refutation) (all : Option (List Choice)) (left rest : Tries) → (WantsRefutation aim → all ≡ gathered hs left) → left ≡ Some h ∷ rest → gs ≡ with_choice_behind hs h r → (WantsRefutation aim → IsSome r)
     → WantsRefutation aim → all ≡ gathered gs rest

@@ -1,5 +1,5 @@
 -- The choices that lead to a piece are legal, name only the columns, and lead to it.
-use Rattle.std.proofs.Common.{◌≡◌, ℕ, zero, suc, ◌+◌, ◌<◌, ◌≤◌, inl, inr, List, [], ◌∷◌, ◌++◌, append_assoc, append-nil, Option, Some, None, nat_lt, Bool, true, false, cond, ◌&&◌, refl, sym, ap, ◌∙◌, subst}
+use Rattle.std.proofs.Common.{◌≡◌, ℕ, zero, suc, ◌+◌, inl, inr, List, [], ◌∷◌, ◌++◌, append_assoc, append-nil, Option, Some, None, nat_lt, Bool, true, false, cond, ◌&&◌, refl, sym, ◌∙◌, subst}
 use Rattle.std.specs.Prelude.{option_and_then, Result, Ok, Err, IfOk}
 use Rattle.ac_forms.specs.Columns.{AreTrimmed}
 use Rattle.ac_forms.specs.NormalForm.{normal_conj}
@@ -15,7 +15,7 @@ use Rattle.ac_omega.specs.Answers.{Eliminates, parts}
 use Rattle.ac_omega.specs.Elimination.{elimination, look, pieces_of}
 use Rattle.ac_omega.specs.Projection.{is_among, AllGone}
 use Rattle.ac_omega.specs.Replays.{replayed, IsReached, AreReached, HaveAllFrom, AreOver}
-use Rattle.ac_omega.specs.Sweep.{Swept, Pieces, Spent, Wide, into, sweeps, swept, sweep}
+use Rattle.ac_omega.specs.Sweep.{Swept, Pieces, into, sweeps, swept, sweep}
 use Rattle.ac_omega.specs.Walk.{Look, Done, Absurd, Open, IsTried}
 use Rattle.ac_omega.specs.declared.pieces.Stop.{Stop}
 use Rattle.ac_omega.specs.declared.piece.Piece.{Piece}
@@ -23,6 +23,7 @@ use Rattle.ac_omega.proofs.Gones.{IsOpen, look-open, none-at}
 use Rattle.ac_omega.proofs.Nexts.{next-among}
 use Rattle.ac_omega.proofs.Projecting.{IsGood, projects, left-is, tried-legal, tried-column}
 use Rattle.ac_omega.proofs.Sweeps.{onward-parts, into-parts, if-pieces}
+use Rattle.ac_trails.specs.declared.strategy.Strategy.{Strategy}
 
 -- the choices behind the path lead from the conjunction to the piece
 record Leads (vars : List ℕ) (path : List Choice) (c : Conj) (choices : List Choice) (rest : Conj) : Type 0 where
@@ -58,42 +59,42 @@ lead-first vars path h c d (x ∷ xs) legal among left (a, more) = (
 )
 
 -- each choice that is tried names the next column
-tried-among : (vars : List ℕ) (n : ℕ) (c : Conj) (hs : List (Option Choice)) (h : Choice) → IsGood n c → IsOpen vars c hs → IsTried h hs → is_among (column_of h) vars ≡ true
-tried-among vars n c hs h g o i = subst (λ (z : ℕ). is_among z vars ≡ true) (sym (tried-column vars n c hs h g o i)) (next-among vars c.rows o.column o.next)
+tried-among : (strategy : Strategy) (vars : List ℕ) (n : ℕ) (c : Conj) (hs : List (Option Choice)) (h : Choice) → IsGood n c → IsOpen strategy vars c hs → IsTried h hs → is_among (column_of h) vars ≡ true
+tried-among strategy vars n c hs h g o i = subst (λ (z : ℕ). is_among z vars ≡ true) (sym (tried-column strategy vars n c hs h g o i)) (next-among strategy vars c.rows o.column o.next)
 
 Goes : List ℕ → ℕ → (List Choice → Conj → ℕ → Swept Conj Choice) → Type 0
 Goes vars n go = (path : List Choice) (d : Conj) (k j : ℕ) (zs : List (List Choice × Conj)) → IsGood n d → go path d k ≡ Pieces zs j → AllLead vars path d zs
 
-sweeps-lead : (vars : List ℕ) (n : ℕ) (go : List Choice → Conj → ℕ → Swept Conj Choice) (path : List Choice) (c : Conj) (hs : List (Option Choice)) (k j : ℕ) (zs : List (List Choice × Conj)) → Goes vars n go
+sweeps-lead : (strategy : Strategy) (vars : List ℕ) (n : ℕ) (go : List Choice → Conj → ℕ → Swept Conj Choice) (path : List Choice) (c : Conj) (hs : List (Option Choice)) (k j : ℕ) (zs : List (List Choice × Conj)) → Goes vars n go
     → ((h : Choice) → IsTried h hs → is_legal h c ≡ true) → ((h : Choice) → IsTried h hs → is_among (column_of h) vars ≡ true) → ((h : Choice) (d : Conj) → IsTried h hs → after_choice h c ≡ Some d → IsGood n d)
-    → sweeps (elimination vars) go path c hs k ≡ Pieces zs j → AllLead vars path c zs
+    → sweeps (elimination strategy vars) go path c hs k ≡ Pieces zs j → AllLead vars path c zs
 unfolding AllLead Goes elimination
-sweeps-lead vars n go path c [] k j zs g legal among good e = let f : [] ≡ zs = cc in subst (AllLead vars path c) f tt
-sweeps-lead vars n go path c (None ∷ hs) k j zs g legal among good e = absurd cc
-sweeps-lead vars n go path c (Some h ∷ hs) k j zs g legal among good e =
-    let b = onward-parts (into (after_choice h c) (λ d. go (path ++ h ∷ []) d k)) (sweeps (elimination vars) go path c hs) zs j e in
+sweeps-lead strategy vars n go path c [] k j zs g legal among good e = let f : [] ≡ zs = cc in subst (AllLead vars path c) f tt
+sweeps-lead strategy vars n go path c (None ∷ hs) k j zs g legal among good e = absurd cc
+sweeps-lead strategy vars n go path c (Some h ∷ hs) k j zs g legal among good e =
+    let b = onward-parts (into (after_choice h c) (λ d. go (path ++ h ∷ []) d k)) (sweeps (elimination strategy vars) go path c hs) zs j e in
     let t = into-parts (after_choice h c) (λ d. go (path ++ h ∷ []) d k) b.0 b.1 b.3 in
     let first = lead-first vars path h c t.0 b.0 (legal h (inl refl)) (among h (inl refl)) t.1 (g (path ++ h ∷ []) t.0 k b.1 b.0 (good h t.0 (inl refl) t.1) t.2) in
-    let rest = sweeps-lead vars n go path c hs b.1 j b.2 g (λ x i. legal x (inr i)) (λ x i. among x (inr i)) (λ x d i s. good x d (inr i) s) b.4 in
+    let rest = sweeps-lead strategy vars n go path c hs b.1 j b.2 g (λ x i. legal x (inr i)) (λ x i. among x (inr i)) (λ x d i s. good x d (inr i) s) b.4 in
     subst (AllLead vars path c) (sym b.5) (lead-both vars path c b.0 b.2 first rest)
 
-swept-lead : (vars : List ℕ) (n : ℕ) (go : List Choice → Conj → ℕ → Swept Conj Choice) (path : List Choice) (c : Conj) (k j : ℕ) (l : Look Choice) (zs : List (List Choice × Conj)) → Goes vars n go → IsGood n c
-    → look vars c ≡ l → swept (elimination vars) go path c k l ≡ Pieces zs j → AllLead vars path c zs
+swept-lead : (strategy : Strategy) (vars : List ℕ) (n : ℕ) (go : List Choice → Conj → ℕ → Swept Conj Choice) (path : List Choice) (c : Conj) (k j : ℕ) (l : Look Choice) (zs : List (List Choice × Conj)) → Goes vars n go → IsGood n c
+    → look strategy vars c ≡ l → swept (elimination strategy vars) go path c k l ≡ Pieces zs j → AllLead vars path c zs
 unfolding AllLead elimination replayed
-swept-lead vars n go path c k j (Done q) zs g good is e =
+swept-lead strategy vars n go path c k j (Done q) zs g good is e =
     let f : (path, c) ∷ [] ≡ zs = cc in
     subst (AllLead vars path c) f (record { more = []; is = sym (append-nil path); left = refl }, tt)
-swept-lead vars n go path c k j Absurd zs g good is e = let f : [] ≡ zs = cc in subst (AllLead vars path c) f tt
-swept-lead vars n go path c k j (Open hs) zs g good is e =
-    let o = look-open vars c hs is in
-    sweeps-lead vars n go path c hs k j zs g (λ h i. tried-legal vars n c hs h good o i) (λ h i. tried-among vars n c hs h good o i) (λ h d i s. (projects vars n).good c hs h d good is i s) e
+swept-lead strategy vars n go path c k j Absurd zs g good is e = let f : [] ≡ zs = cc in subst (AllLead vars path c) f tt
+swept-lead strategy vars n go path c k j (Open hs) zs g good is e =
+    let o = look-open strategy vars c hs is in
+    sweeps-lead strategy vars n go path c hs k j zs g (λ h i. tried-legal strategy vars n c hs h good o i) (λ h i. tried-among strategy vars n c hs h good o i) (λ h d i s. (projects strategy vars n).good c hs h d good is i s) e
 
-sweep-leads : (vars : List ℕ) (n m budget : ℕ) → Goes vars n (λ path c k. sweep (elimination vars) m budget path c k)
+sweep-leads : (strategy : Strategy) (vars : List ℕ) (n m budget : ℕ) → Goes vars n (λ path c k. sweep (elimination strategy vars) m budget path c k)
 unfolding sweep Goes elimination
-sweep-leads vars n zero budget path c k j zs good e = absurd cc
-sweep-leads vars n (suc m) budget path c k j zs good e =
-    swept-lead vars n (λ q d i. sweep (elimination vars) m budget q d i) path c (k + (elimination vars).size c) j (look vars c) zs (sweep-leads vars n m budget) good refl
-    (if-pieces (nat_lt budget (k + (elimination vars).size c)) (k + (elimination vars).size c) _ zs j e)
+sweep-leads strategy vars n zero budget path c k j zs good e = absurd cc
+sweep-leads strategy vars n (suc m) budget path c k j zs good e =
+    swept-lead strategy vars n (λ q d i. sweep (elimination strategy vars) m budget q d i) path c (k + (elimination strategy vars).size c) j (look strategy vars c) zs (sweep-leads strategy vars n m budget) good refl
+    (if-pieces (nat_lt budget (k + (elimination strategy vars).size c)) (k + (elimination strategy vars).size c) _ zs j e)
 
 -- the pieces, as the code has them
 some_fit : (b : Bool) (d : Conj) (go : Conj → Swept Conj Choice) (zs : List (List Choice × Conj)) (j : ℕ) → into (cond b (Some d) None) go ≡ Pieces zs j → (b ≡ true) × (go d ≡ Pieces zs j)
@@ -106,11 +107,11 @@ reached-of vars question [] fits a g = tt
 reached-of vars question (x ∷ ps) fits (a, more) g =
     (record { fits = fits; left = subst (λ (hs : List Choice). replayed vars hs (normal_conj question) ≡ Some x.rest) (sym a.is) a.left; gone = g.0 }, reached-of vars question ps fits more g.1)
 
-are-reached : (vars : List ℕ) (budget k : ℕ) (question : Conj) (ps : List Piece) → IsWellMade question → pieces_of vars budget question ≡ Pieces (parts ps) k → AllGone vars ps → AreReached vars question ps
+are-reached : (strategy : Strategy) (vars : List ℕ) (budget k : ℕ) (question : Conj) (ps : List Piece) → IsWellMade question → pieces_of strategy vars budget question ≡ Pieces (parts ps) k → AllGone vars ps → AreReached vars question ps
 unfolding Goes
-are-reached vars budget k question ps made e gone =
-    let s = some_fit (rows_fit question.rows) (normal_conj question) (λ c. sweep (elimination vars) (budget + 1) budget [] c 0) (parts ps) k e in
-    reached-of vars question ps s.0 (sweep-leads vars question.columns (budget + 1) budget [] (normal_conj question) 0 k (parts ps) (record { made = conj_made question made; columns = refl }) s.1) gone
+are-reached strategy vars budget k question ps made e gone =
+    let s = some_fit (rows_fit question.rows) (normal_conj question) (λ c. sweep (elimination strategy vars) (budget + 1) budget [] c 0) (parts ps) k e in
+    reached-of vars question ps s.0 (sweep-leads strategy vars question.columns (budget + 1) budget [] (normal_conj question) 0 k (parts ps) (record { made = conj_made question made; columns = refl }) s.1) gone
 
 -- What choices leave is in normal form, over the question's columns.
 record IsTidy (n : ℕ) (c : Conj) : Type 0 where
@@ -161,12 +162,12 @@ all-over n vars question [] made all r = tt
 all-over n vars question (x ∷ ps) made all r = (reached-over n vars question x made all r.0, all-over n vars question ps made all r.1)
 
 -- what an elimination answers
-pub result-reached : (vars : List ℕ) (budget : ℕ) (question : Conj) (result : Result (List Piece) Stop) → IsWellMade question → Eliminates result question (pieces_of vars budget question) → IfOk result (λ ps. AllGone vars ps)
+pub result-reached : (strategy : Strategy) (vars : List ℕ) (budget : ℕ) (question : Conj) (result : Result (List Piece) Stop) → IsWellMade question → Eliminates result question (pieces_of strategy vars budget question) → IfOk result (λ ps. AllGone vars ps)
     → IfOk result (λ ps. AreReached vars question ps)
-result-reached vars budget question (Ok ps) made exact gone = are-reached vars budget exact.0 question ps made exact.1 gone
-result-reached vars budget question (Err s) made exact gone = tt
+result-reached strategy vars budget question (Ok ps) made exact gone = are-reached strategy vars budget exact.0 question ps made exact.1 gone
+result-reached strategy vars budget question (Err s) made exact gone = tt
 
-pub result-over : (n : ℕ) (vars : List ℕ) (budget : ℕ) (question : Conj) (result : Result (List Piece) Stop) → IsWellMade question → HaveAllFrom n question.columns vars → Eliminates result question (pieces_of vars budget question)
+pub result-over : (strategy : Strategy) (n : ℕ) (vars : List ℕ) (budget : ℕ) (question : Conj) (result : Result (List Piece) Stop) → IsWellMade question → HaveAllFrom n question.columns vars → Eliminates result question (pieces_of strategy vars budget question)
     → IfOk result (λ ps. AllGone vars ps) → IfOk result (λ ps. AreOver n ps)
-result-over n vars budget question (Ok ps) made all exact gone = all-over n vars question ps made all (are-reached vars budget exact.0 question ps made exact.1 gone)
-result-over n vars budget question (Err s) made all exact gone = tt
+result-over strategy n vars budget question (Ok ps) made all exact gone = all-over n vars question ps made all (are-reached strategy vars budget exact.0 question ps made exact.1 gone)
+result-over strategy n vars budget question (Err s) made all exact gone = tt

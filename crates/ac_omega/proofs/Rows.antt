@@ -4,11 +4,13 @@ use Rattle.std.specs.List.{filter}
 use Rattle.ac_forms.specs.declared.conj.Conj.{Conj}
 use Rattle.ac_forms.specs.declared.row.Row.{Row}
 use Rattle.ac_cert.specs.Choices.{are_absurd}
-use Rattle.ac_omega.specs.Columns.{or_else, by_rule, passes, key, least_from, next_column}
+use Rattle.ac_omega.specs.Columns.{or_else, by_rule, passes, key, precedes, precedes_by_two, least_from, is_two_sided, splinter_key, excess_key, by_splinters, next_column}
 use Rattle.ac_omega.specs.declared.ranking.Rule.{Rule}
 use Rattle.ac_omega.specs.declared.ranking.Rule.TheVariants as rule
 use Rattle.ac_omega.specs.Elimination.{look, look_at}
 use Rattle.ac_omega.specs.Walk.{Absurd, HasRows}
+use Rattle.ac_trails.specs.declared.strategy.Strategy.{Strategy}
+use Rattle.ac_trails.specs.declared.strategy.Strategy.TheVariants.{Full, Economical}
 
 -- a row, where the next column is one
 filter-none : {X : Type 0} (test : X → Bool) (xs : List X) → ((x : X) → test x ≡ false) → filter test xs ≡ []
@@ -19,7 +21,7 @@ divided-none : (z : ℕ) → passes rule.Divided [] z ≡ false
 divided-none z = refl
 
 rule-none : (r : Rule) (vars : List ℕ) → by_rule r vars [] ≡ None
-rule-none r vars = ap (λ zs. least_from (key r []) None zs) (filter-none (passes r []) vars (λ z. at r z))
+rule-none r vars = ap (λ zs. least_from (precedes (key r [])) None zs) (filter-none (passes r []) vars (λ z. at r z))
   where
     at : (r : Rule) (z : ℕ) → passes r [] z ≡ false
     at rule.Divided z = refl
@@ -27,28 +29,32 @@ rule-none r vars = ap (λ zs. least_from (key r []) None zs) (filter-none (passe
     at rule.UnitPairs z = refl
     at rule.TwoSided z = refl
 
+splinters-none : (strategy : Strategy) (vars : List ℕ) → by_splinters strategy vars [] ≡ None
+splinters-none Full vars = rule-none rule.TwoSided vars
+splinters-none Economical vars = ap (λ zs. least_from (precedes_by_two (splinter_key []) (excess_key [])) None zs) (filter-none (λ z. is_two_sided z []) vars (λ z. refl))
+
 all-none : (a b c d e : Option ℕ) → a ≡ None → b ≡ None → c ≡ None → d ≡ None → e ≡ None → or_else a (or_else b (or_else c (or_else d e))) ≡ None
 all-none a b c d e p q r s t = simp (p, q, r, s, t)
 
-pub no-rows : (vars : List ℕ) → next_column vars [] ≡ None
+pub no-rows : (strategy : Strategy) (vars : List ℕ) → next_column strategy vars [] ≡ None
 unfolding next_column
-no-rows vars = all-none _ _ _ _ _ refl (rule-none rule.Divided vars) (rule-none rule.OneSided vars) (rule-none rule.UnitPairs vars) (rule-none rule.TwoSided vars)
+no-rows strategy vars = all-none _ _ _ _ _ refl (rule-none rule.Divided vars) (rule-none rule.OneSided vars) (rule-none rule.UnitPairs vars) (splinters-none strategy vars)
 
-pub column-rows : (vars : List ℕ) (rows : List Row) (z : ℕ) → next_column vars rows ≡ Some z → 1 ≤ length rows
-column-rows vars [] z e = let f = no-rows vars in absurd cc
-column-rows vars (r ∷ rs) z e = omega arith
+pub column-rows : (strategy : Strategy) (vars : List ℕ) (rows : List Row) (z : ℕ) → next_column strategy vars rows ≡ Some z → 1 ≤ length rows
+column-rows strategy vars [] z e = let f = no-rows strategy vars in absurd cc
+column-rows strategy vars (r ∷ rs) z e = omega arith
 
 absurd-rows : (rows : List Row) → are_absurd rows ≡ true → 1 ≤ length rows
 absurd-rows [] e = absurd cc
 absurd-rows (r ∷ rs) e = omega arith
 
-pub has-rows : (vars : List ℕ) (c : Conj) → HasRows (look vars c) (length c.rows)
-has-rows vars c = at (are_absurd c.rows) refl
+pub has-rows : (strategy : Strategy) (vars : List ℕ) (c : Conj) → HasRows (look strategy vars c) (length c.rows)
+has-rows strategy vars c = at (are_absurd c.rows) refl
   where
-    by : (o : Option ℕ) → next_column vars c.rows ≡ o → HasRows (look_at c o) (length c.rows)
+    by : (o : Option ℕ) → next_column strategy vars c.rows ≡ o → HasRows (look_at strategy c o) (length c.rows)
     by None e = tt
-    by (Some z) e = column-rows vars c.rows z e
+    by (Some z) e = column-rows strategy vars c.rows z e
 
-    at : (t : Bool) → are_absurd c.rows ≡ t → HasRows (cond t Absurd (look_at c (next_column vars c.rows))) (length c.rows)
+    at : (t : Bool) → are_absurd c.rows ≡ t → HasRows (cond t Absurd (look_at strategy c (next_column strategy vars c.rows))) (length c.rows)
     at true e = absurd-rows c.rows e
-    at false e = by (next_column vars c.rows) refl
+    at false e = by (next_column strategy vars c.rows) refl

@@ -1,6 +1,6 @@
 -- One conjunction of a walk: what the code answers is the definition's.
-use Rattle.std.proofs.Common.{◌≡◌, ℕ, zero, suc, ◌+◌, ◌-◌, ◌^◌, ◌<◌, ◌≤◌, min, ℤ, pos, List, [], ◌∷◌, ◌++◌, length, Option, Some, None, Result, Ok, Err, Bool, true, false, cond, ◌&&◌, arith, refl, ◌∙◌, ap, sym, subst}
-use Rattle.std.specs.Prelude.{replicate, option_map, IfOk}
+use Rattle.std.proofs.Common.{◌≡◌, ℕ, zero, suc, ◌+◌, ◌-◌, ◌^◌, ◌<◌, ◌≤◌, min, ℤ, pos, List, length, Some, None, Result, Ok, Err, Bool, true, false, cond, ◌&&◌, arith, refl, ◌∙◌, ap, sym, subst}
+use Rattle.std.specs.Prelude.{replicate, IfOk}
 use borrow.Author.Tests.{lt-ltb, le-ltb}
 use Rattle.ac_forms.specs.NormalForm.{normal_conj}
 use Rattle.ac_forms.specs.Rows.{IsWellMade}
@@ -11,11 +11,10 @@ use Rattle.ac_cert.specs.ChoiceFits.{after_choice, choice_fits, raw}
 use Rattle.ac_cert.specs.Points.{IsPoint}
 use Rattle.ac_cert.specs.declared.choose.Choice.{Choice}
 use Rattle.ac_omega.specs.Columns.{next_column}
-use Rattle.ac_omega.specs.Elimination.{look}
-use Rattle.ac_omega.specs.Maxima.{Maxima, with_choice, with_rows}
-use Rattle.ac_omega.specs.Searching.{lifted_to, Leaves, IfFound, IsNormal, Settle, SettleFor, WantsPoint}
-use Rattle.ac_omega.specs.Visits.{Seen, seen, piece_of, visiting, Visits, tried, Tried, at_leaf}
-use Rattle.ac_trails.specs.Tries.{Tries, tries_for}
+use Rattle.ac_omega.specs.Maxima.{with_rows}
+use Rattle.ac_omega.specs.Searching.{IfFound, IsNormal, Settle, SettleFor, WantsPoint}
+use Rattle.ac_omega.specs.Visits.{Seen, seen, visiting, Visits, tried, Tried, at_leaf}
+use Rattle.ac_trails.specs.Tries.{tries_for}
 use Rattle.ac_omega.specs.Walk as def
 use Rattle.ac_omega.specs.Walk.{walk, looked, behind, entered}
 use Rattle.ac_omega.specs.declared.halt.Halt.{Halt}
@@ -26,6 +25,7 @@ use Rattle.ac_omega.specs.declared.search.Aim.TheVariants.{ForPoint, ForRefutati
 use Rattle.ac_omega.specs.declared.search.Walked.{Walked}
 use Rattle.ac_omega.specs.declared.search.Walked.TheVariants as done
 use Rattle.ac_omega.proofs.Rows.{column-rows}
+use Rattle.ac_trails.specs.declared.strategy.Strategy.{Strategy}
 
 -- what a choice leaves is in normal form
 pub after-normal : (h : Choice) (c d : Conj) → after_choice h c ≡ Some d → (d.columns ≡ c.columns) × IsNormal d
@@ -40,51 +40,51 @@ after-normal h c d e = by (choice_fits h c.rows) (rows_fit (left_by h c.rows)) e
     by false b e = absurd cc
 
 -- a conjunction within the budget
-walk-looks : (aim : Aim) (vars : List ℕ) (n b : ℕ) (path : List Choice) (c : Conj) (k : ℕ) (s : Seen) → k + length c.rows ≤ b → b < n + k
-    → (m : ℕ) × (n ≡ suc m) × (walk (visiting aim vars) n b (path, c) k s ≡ looked (visiting aim vars) (λ x j t. walk (visiting aim vars) m b x j t) (path, c) (k + length c.rows) ((visiting aim vars).note (path, c) s) ((visiting aim vars).look (path, c)))
+walk-looks : (strategy : Strategy) (aim : Aim) (vars : List ℕ) (n b : ℕ) (path : List Choice) (c : Conj) (k : ℕ) (s : Seen) → k + length c.rows ≤ b → b < n + k
+    → (m : ℕ) × (n ≡ suc m) × (walk (visiting strategy aim vars) n b (path, c) k s ≡ looked (visiting strategy aim vars) (λ x j t. walk (visiting strategy aim vars) m b x j t) (path, c) (k + length c.rows) ((visiting strategy aim vars).note (path, c) s) ((visiting strategy aim vars).look (path, c)))
 unfolding walk
-walk-looks aim vars zero b path c k s l f = absurd (omega arith)
-walk-looks aim vars (suc m) b path c k s l f = (m, refl, rw (le-ltb b (k + length c.rows) l) refl)
+walk-looks strategy aim vars zero b path c k s l f = absurd (omega arith)
+walk-looks strategy aim vars (suc m) b path c k s l f = (m, refl, rw (le-ltb b (k + length c.rows) l) refl)
 
-pub over-budget : (aim : Aim) (vars : List ℕ) (n b : ℕ) (path : List Choice) (c : Conj) (k j : ℕ) (s : Seen) (ps : List Piece) → k ≤ b → b < k + length c.rows → b < n + k → j ≡ min (k + length c.rows) (2 ^ 64 - 1) → Visits (Err (halt.Spent j)) ps (walk (visiting aim vars) n b (path, c) k s)
+pub over-budget : (strategy : Strategy) (aim : Aim) (vars : List ℕ) (n b : ℕ) (path : List Choice) (c : Conj) (k j : ℕ) (s : Seen) (ps : List Piece) → k ≤ b → b < k + length c.rows → b < n + k → j ≡ min (k + length c.rows) (2 ^ 64 - 1) → Visits (Err (halt.Spent j)) ps (walk (visiting strategy aim vars) n b (path, c) k s)
 unfolding walk
-over-budget aim vars zero b path c k j s ps l o f e = absurd (omega arith)
-over-budget aim vars (suc m) b path c k j s ps l o f e = (k + length c.rows, rw (lt-ltb b (k + length c.rows) o) refl, e)
+over-budget strategy aim vars zero b path c k j s ps l o f e = absurd (omega arith)
+over-budget strategy aim vars (suc m) b path c k j s ps l o f e = (k + length c.rows, rw (lt-ltb b (k + length c.rows) o) refl, e)
 
-pub absurd-gone : (aim : Aim) (vars : List ℕ) (n b : ℕ) (path : List Choice) (c : Conj) (k : ℕ) (s : Seen) → k + length c.rows ≤ b → b < n + k → are_absurd c.rows ≡ true → walk (visiting aim vars) n b (path, c) k s ≡ def.Gone (k + length c.rows) (seen (with_rows c.rows s.maxima) s.pieces)
-absurd-gone aim vars n b path c k s l f e = (walk-looks aim vars n b path c k s l f).2 ∙ rw e refl
+pub absurd-gone : (strategy : Strategy) (aim : Aim) (vars : List ℕ) (n b : ℕ) (path : List Choice) (c : Conj) (k : ℕ) (s : Seen) → k + length c.rows ≤ b → b < n + k → are_absurd c.rows ≡ true → walk (visiting strategy aim vars) n b (path, c) k s ≡ def.Gone (k + length c.rows) (seen (with_rows c.rows s.maxima) s.pieces)
+absurd-gone strategy aim vars n b path c k s l f e = (walk-looks strategy aim vars n b path c k s l f).2 ∙ rw e refl
 
-leaf-here : (aim : Aim) (vars : List ℕ) (m b : ℕ) (path : List Choice) (c : Conj) (k : ℕ) (s : Seen) → are_absurd c.rows ≡ false → next_column vars c.rows ≡ None
-    → looked (visiting aim vars) (λ x j t. walk (visiting aim vars) m b x j t) (path, c) k ((visiting aim vars).note (path, c) s) ((visiting aim vars).look (path, c)) ≡ at_leaf aim path c k (with_rows c.rows s.maxima) s.pieces
-leaf-here ForPoint vars m b path c k s e o = rw (e, o) refl
-leaf-here ForRefutation vars m b path c k s e o = rw (e, o) refl
-leaf-here ForPieces vars m b path c k s e o = rw (e, o) refl
+leaf-here : (strategy : Strategy) (aim : Aim) (vars : List ℕ) (m b : ℕ) (path : List Choice) (c : Conj) (k : ℕ) (s : Seen) → are_absurd c.rows ≡ false → next_column strategy vars c.rows ≡ None
+    → looked (visiting strategy aim vars) (λ x j t. walk (visiting strategy aim vars) m b x j t) (path, c) k ((visiting strategy aim vars).note (path, c) s) ((visiting strategy aim vars).look (path, c)) ≡ at_leaf aim path c k (with_rows c.rows s.maxima) s.pieces
+leaf-here strategy ForPoint vars m b path c k s e o = rw (e, o) refl
+leaf-here strategy ForRefutation vars m b path c k s e o = rw (e, o) refl
+leaf-here strategy ForPieces vars m b path c k s e o = rw (e, o) refl
 
-pub leaf-found : (aim : Aim) (vars : List ℕ) (n b : ℕ) (path : List Choice) (c : Conj) (k : ℕ) (s : Seen) → k + length c.rows ≤ b → b < n + k → are_absurd c.rows ≡ false → next_column vars c.rows ≡ None → walk (visiting aim vars) n b (path, c) k s ≡ at_leaf aim path c (k + length c.rows) (with_rows c.rows s.maxima) s.pieces
-leaf-found aim vars n b path c k s l f e o = let w = walk-looks aim vars n b path c k s l f in w.2 ∙ leaf-here aim vars w.0 b path c (k + length c.rows) s e o
+pub leaf-found : (strategy : Strategy) (aim : Aim) (vars : List ℕ) (n b : ℕ) (path : List Choice) (c : Conj) (k : ℕ) (s : Seen) → k + length c.rows ≤ b → b < n + k → are_absurd c.rows ≡ false → next_column strategy vars c.rows ≡ None → walk (visiting strategy aim vars) n b (path, c) k s ≡ at_leaf aim path c (k + length c.rows) (with_rows c.rows s.maxima) s.pieces
+leaf-found strategy aim vars n b path c k s l f e o = let w = walk-looks strategy aim vars n b path c k s l f in w.2 ∙ leaf-here strategy aim vars w.0 b path c (k + length c.rows) s e o
 
-pub by-column : (aim : Aim) (vars : List ℕ) (n b : ℕ) (path : List Choice) (c : Conj) (k : ℕ) (s : Seen) (z : ℕ) (r : Result Walked Halt) (ps : List Piece) → k + length c.rows ≤ b → b < n + k → are_absurd c.rows ≡ false → next_column vars c.rows ≡ Some z
-    → Tried r ps aim vars b path c (tries_for z c.rows) (k + length c.rows) (seen (with_rows c.rows s.maxima) s.pieces) → Visits r ps (walk (visiting aim vars) n b (path, c) k s)
-by-column aim vars n b path c k s z r ps l f e o h =
-    let w = walk-looks aim vars n b path c k s l f in
-    let q = column-rows vars c.rows z o in
-    let t : walk (visiting aim vars) n b (path, c) k s ≡ tried aim vars w.0 b path c (tries_for z c.rows) (k + length c.rows) (seen (with_rows c.rows s.maxima) s.pieces) = w.2 ∙ rw (e, o) refl in
+pub by-column : (strategy : Strategy) (aim : Aim) (vars : List ℕ) (n b : ℕ) (path : List Choice) (c : Conj) (k : ℕ) (s : Seen) (z : ℕ) (r : Result Walked Halt) (ps : List Piece) → k + length c.rows ≤ b → b < n + k → are_absurd c.rows ≡ false → next_column strategy vars c.rows ≡ Some z
+    → Tried r ps strategy aim vars b path c (tries_for strategy z c.rows) (k + length c.rows) (seen (with_rows c.rows s.maxima) s.pieces) → Visits r ps (walk (visiting strategy aim vars) n b (path, c) k s)
+by-column strategy aim vars n b path c k s z r ps l f e o h =
+    let w = walk-looks strategy aim vars n b path c k s l f in
+    let q = column-rows strategy vars c.rows z o in
+    let t : walk (visiting strategy aim vars) n b (path, c) k s ≡ tried strategy aim vars w.0 b path c (tries_for strategy z c.rows) (k + length c.rows) (seen (with_rows c.rows s.maxima) s.pieces) = w.2 ∙ rw (e, o) refl in
     rw t (h w.0 (omega (arith, w.1)))
 
 -- zeros, where no row is left
-zeros-meet : (vars : List ℕ) (c : Conj) (p : List ℤ) → IsWellMade c → IsNormal c → Settle c.columns vars → are_absurd c.rows ≡ false → next_column vars c.rows ≡ None → p ≡ replicate c.columns (pos 0) → IsPoint c p
-zeros-meet vars c p made normal settle e o z =
+zeros-meet : (strategy : Strategy) (vars : List ℕ) (c : Conj) (p : List ℤ) → IsWellMade c → IsNormal c → Settle strategy c.columns vars → are_absurd c.rows ≡ false → next_column strategy vars c.rows ≡ None → p ≡ replicate c.columns (pos 0) → IsPoint c p
+zeros-meet strategy vars c p made normal settle e o z =
     record { long = rw z (length-replicate c.columns (pos 0)); meets = rw (settle c made normal refl e o) tt }
   where
     length-replicate : (n : ℕ) (x : ℤ) → length (replicate n x) ≡ n
     length-replicate zero x = refl
     length-replicate (suc n) x = ap suc (length-replicate n x)
 
-pub leaf-point : (aim : Aim) (vars : List ℕ) (c : Conj) (r : Result Walked Halt) → IsWellMade c → IsNormal c → SettleFor aim c.columns vars → are_absurd c.rows ≡ false → next_column vars c.rows ≡ None
+pub leaf-point : (strategy : Strategy) (aim : Aim) (vars : List ℕ) (c : Conj) (r : Result Walked Halt) → IsWellMade c → IsNormal c → SettleFor strategy aim c.columns vars → are_absurd c.rows ≡ false → next_column strategy vars c.rows ≡ None
     → IfOk r (λ w. IfFound w (λ p. WantsPoint aim × (p ≡ replicate c.columns (pos 0)))) → IfOk r (λ w. IfFound w (λ p. IsPoint c p))
-leaf-point aim vars c (Ok (done.Gone k s r)) made normal settle e o h = tt
-leaf-point aim vars c (Ok (done.Found p)) made normal settle e o h = zeros-meet vars c p.items made normal (settle h.0) e o h.1
-leaf-point aim vars c (Err stop) made normal settle e o h = tt
+leaf-point strategy aim vars c (Ok (done.Gone k s r)) made normal settle e o h = tt
+leaf-point strategy aim vars c (Ok (done.Found p)) made normal settle e o h = zeros-meet strategy vars c p.items made normal (settle h.0) e o h.1
+leaf-point strategy aim vars c (Err stop) made normal settle e o h = tt
 
 -- an answer of equal walks
 pub visits-as : (r : Result Walked Halt) (ps : List Piece) (v w : def.Walked Seen) → v ≡ w → Visits r ps w → Visits r ps v

@@ -1,5 +1,5 @@
 -- The walk of all purposes is, for a point, the walk for a point, and for pieces the walk of all pieces.
-use Rattle.std.proofs.Common.{◌≡◌, ℕ, zero, suc, ◌+◌, ◌<◌, ◌≤◌, nat_lt, ℤ, List, [], ◌∷◌, ◌++◌, append_assoc, append-nil, length, Option, Some, None, Result, Ok, Err, Bool, true, false, cond, refl, ◌∙◌, ap, sym, subst}
+use Rattle.std.proofs.Common.{◌≡◌, ℕ, zero, suc, ◌+◌, nat_lt, ℤ, List, [], ◌∷◌, ◌++◌, append_assoc, append-nil, length, Option, Some, None, Result, Ok, Err, Bool, true, false, cond, refl, ◌∙◌, ap, sym, subst}
 use Rattle.std.specs.Prelude.{option_map}
 use Rattle.ac_forms.specs.declared.conj.Conj.{Conj}
 use Rattle.ac_cert.specs.ChoiceFits.{after_choice}
@@ -21,6 +21,7 @@ use Rattle.ac_omega.specs.Visits.{Seen, seen, piece_of, look_for, pieces_at, vis
 use Rattle.ac_omega.specs.Walk as def
 use Rattle.ac_omega.specs.Walk.{Look, Done, Absurd, Open, behind, entered, lifted, tries, looked, walk}
 use Rattle.ac_trails.specs.Tries.{Tries}
+use Rattle.ac_trails.specs.declared.strategy.Strategy.{Strategy}
 
 -- For a point: the pieces stay as they are.
 abbrev as_seen : List Piece → def.Walked Maxima → def.Walked Seen
@@ -49,33 +50,33 @@ unfolding SameSeen
 entered-seen ps go of q None k s h = refl
 entered-seen ps go of q (Some d) k s h = h q d k s
 
-tries-seen : (aim : Aim) (vars : List ℕ) (ps : List Piece) (go : List Choice × Conj → ℕ → Seen → def.Walked Seen) (of : Conj → ℕ → Maxima → def.Walked Maxima) (path : List Choice) (c : Conj) (hs : Tries) (k : ℕ) (s : Maxima) → SameSeen ps go of
-    → tries (visiting aim vars) go (path, c) hs k (seen s ps) ≡ as_seen ps (tries (eliminating vars) of c hs k s)
-tries-seen aim vars ps go of path c [] k s h = refl
-tries-seen aim vars ps go of path c (None ∷ hs) k s h = refl
-tries-seen aim vars ps go of path c (Some x ∷ hs) k s h =
-    ap (λ w. behind w (λ p. lifted_to x c p) (tries (visiting aim vars) go (path, c) hs)) (entered-seen ps go of (path ++ x ∷ []) (after_choice x c) k (with_choice x s) h)
-    ∙ behind-seen ps (entered (after_choice x c) (λ d. of d k (with_choice x s))) (λ p. lifted_to x c p) (tries (visiting aim vars) go (path, c) hs) (tries (eliminating vars) of c hs) (λ j t. tries-seen aim vars ps go of path c hs j t h)
+tries-seen : (strategy : Strategy) (aim : Aim) (vars : List ℕ) (ps : List Piece) (go : List Choice × Conj → ℕ → Seen → def.Walked Seen) (of : Conj → ℕ → Maxima → def.Walked Maxima) (path : List Choice) (c : Conj) (hs : Tries) (k : ℕ) (s : Maxima) → SameSeen ps go of
+    → tries (visiting strategy aim vars) go (path, c) hs k (seen s ps) ≡ as_seen ps (tries (eliminating strategy vars) of c hs k s)
+tries-seen strategy aim vars ps go of path c [] k s h = refl
+tries-seen strategy aim vars ps go of path c (None ∷ hs) k s h = refl
+tries-seen strategy aim vars ps go of path c (Some x ∷ hs) k s h =
+    ap (λ w. behind w (λ p. lifted_to x c p) (tries (visiting strategy aim vars) go (path, c) hs)) (entered-seen ps go of (path ++ x ∷ []) (after_choice x c) k (with_choice x s) h)
+    ∙ behind-seen ps (entered (after_choice x c) (λ d. of d k (with_choice x s))) (λ p. lifted_to x c p) (tries (visiting strategy aim vars) go (path, c) hs) (tries (eliminating strategy vars) of c hs) (λ j t. tries-seen strategy aim vars ps go of path c hs j t h)
 
 -- at one conjunction
-seen-at : (aim : Aim) (vars : List ℕ) (ps : List Piece) (go : List Choice × Conj → ℕ → Seen → def.Walked Seen) (of : Conj → ℕ → Maxima → def.Walked Maxima) (path : List Choice) (c : Conj) (k : ℕ) (s : Maxima) (l : Look Choice) → WantsPoint aim → SameSeen ps go of
-    → looked (visiting aim vars) go (path, c) k (seen s (pieces_at aim (piece_of path c) ps l)) (look_for aim l) ≡ as_seen ps (looked (eliminating vars) of c k s l)
-seen-at ForPoint vars ps go of path c k s (Done p) w h = refl
-seen-at ForRefutation vars ps go of path c k s (Done p) w h = refl
-seen-at ForPieces vars ps go of path c k s (Done p) w h = absurd w
-seen-at aim vars ps go of path c k s Absurd w h = refl
-seen-at aim vars ps go of path c k s (Open hs) w h = tries-seen aim vars ps go of path c hs k s h
+seen-at : (strategy : Strategy) (aim : Aim) (vars : List ℕ) (ps : List Piece) (go : List Choice × Conj → ℕ → Seen → def.Walked Seen) (of : Conj → ℕ → Maxima → def.Walked Maxima) (path : List Choice) (c : Conj) (k : ℕ) (s : Maxima) (l : Look Choice) → WantsPoint aim → SameSeen ps go of
+    → looked (visiting strategy aim vars) go (path, c) k (seen s (pieces_at aim (piece_of path c) ps l)) (look_for aim l) ≡ as_seen ps (looked (eliminating strategy vars) of c k s l)
+seen-at strategy ForPoint vars ps go of path c k s (Done p) w h = refl
+seen-at strategy ForRefutation vars ps go of path c k s (Done p) w h = refl
+seen-at strategy ForPieces vars ps go of path c k s (Done p) w h = absurd w
+seen-at strategy aim vars ps go of path c k s Absurd w h = refl
+seen-at strategy aim vars ps go of path c k s (Open hs) w h = tries-seen strategy aim vars ps go of path c hs k s h
 
 if-seen : (ps : List Piece) (t : Bool) (j : ℕ) (v : def.Walked Seen) (w : def.Walked Maxima) → v ≡ as_seen ps w → cond t (def.Spent j) v ≡ as_seen ps (cond t (def.Spent j) w)
 if-seen ps true j v w e = refl
 if-seen ps false j v w e = e
 
-walk-seen : (aim : Aim) (vars : List ℕ) (ps : List Piece) (n b : ℕ) → WantsPoint aim → SameSeen ps (λ x j t. walk (visiting aim vars) n b x j t) (λ d j t. walk (eliminating vars) n b d j t)
+walk-seen : (strategy : Strategy) (aim : Aim) (vars : List ℕ) (ps : List Piece) (n b : ℕ) → WantsPoint aim → SameSeen ps (λ x j t. walk (visiting strategy aim vars) n b x j t) (λ d j t. walk (eliminating strategy vars) n b d j t)
 unfolding walk SameSeen
-walk-seen aim vars ps zero b w q d k s = refl
-walk-seen aim vars ps (suc n) b w q d k s =
+walk-seen strategy aim vars ps zero b w q d k s = refl
+walk-seen strategy aim vars ps (suc n) b w q d k s =
     if-seen ps (nat_lt b (k + length d.rows)) (k + length d.rows) _ _
-    (seen-at aim vars ps (λ x j t. walk (visiting aim vars) n b x j t) (λ e j t. walk (eliminating vars) n b e j t) q d (k + length d.rows) (with_rows d.rows s) (look vars d) w (walk-seen aim vars ps n b w))
+    (seen-at strategy aim vars ps (λ x j t. walk (visiting strategy aim vars) n b x j t) (λ e j t. walk (eliminating strategy vars) n b e j t) q d (k + length d.rows) (with_rows d.rows s) (look strategy vars d) w (walk-seen strategy aim vars ps n b w))
 
 -- an answer of the walk for a point
 searches-as : (r : Result Walked Halt) (ps qs : List Piece) (w : def.Walked Maxima) → Visits r qs (as_seen ps w) → Searches r w
@@ -101,13 +102,13 @@ searches-as (Err (halt.Spent j)) ps qs (def.Spent i) h = let a : i ≡ h.0 = (le
 searches-as (Err (halt.Spent j)) ps qs def.Wide h = absurd (let e = h.1 in cc)
 searches-as (Err (halt.Memory e)) ps qs w h = tt
 
-searched : (r : Result Walked Halt) (aim : Aim) (vars : List ℕ) (n b : ℕ) (path : List Choice) (c : Conj) (k : ℕ) (s : Maxima) (ps qs : List Piece) → WantsPoint aim → Visits r qs (walk (visiting aim vars) n b (path, c) k (seen s ps)) → Searches r (walk (eliminating vars) n b c k s)
+searched : (strategy : Strategy) (r : Result Walked Halt) (aim : Aim) (vars : List ℕ) (n b : ℕ) (path : List Choice) (c : Conj) (k : ℕ) (s : Maxima) (ps qs : List Piece) → WantsPoint aim → Visits r qs (walk (visiting strategy aim vars) n b (path, c) k (seen s ps)) → Searches r (walk (eliminating strategy vars) n b c k s)
 unfolding SameSeen
-searched r aim vars n b path c k s ps qs w h = searches-as r ps qs (walk (eliminating vars) n b c k s) (subst (λ (v : def.Walked Seen). Visits r qs v) (walk-seen aim vars ps n b w path c k s) h)
+searched strategy r aim vars n b path c k s ps qs w h = searches-as r ps qs (walk (eliminating strategy vars) n b c k s) (subst (λ (v : def.Walked Seen). Visits r qs v) (walk-seen strategy aim vars ps n b w path c k s) h)
 
-pub searched-all : (r : Result Walked Halt) (aim : Aim) (vars : List ℕ) (b : ℕ) (path : List Choice) (c : Conj) (s : Maxima) (ps qs : List Piece) → WantsPoint aim → vars ≡ columns_to c.columns → Visits r qs (walk (visiting aim vars) (b + 1) b (path, c) 0 (seen s ps))
-    → Searches r (walk (eliminating (columns_to c.columns)) (b + 1) b c 0 s)
-searched-all r aim vars b path c s ps qs w v h = subst (λ (zs : List ℕ). Searches r (walk (eliminating zs) (b + 1) b c 0 s)) v (searched r aim vars (b + 1) b path c 0 s ps qs w h)
+pub searched-all : (strategy : Strategy) (r : Result Walked Halt) (aim : Aim) (vars : List ℕ) (b : ℕ) (path : List Choice) (c : Conj) (s : Maxima) (ps qs : List Piece) → WantsPoint aim → vars ≡ columns_to c.columns → Visits r qs (walk (visiting strategy aim vars) (b + 1) b (path, c) 0 (seen s ps))
+    → Searches r (walk (eliminating strategy (columns_to c.columns)) (b + 1) b c 0 s)
+searched-all strategy r aim vars b path c s ps qs w v h = subst (λ (zs : List ℕ). Searches r (walk (eliminating strategy zs) (b + 1) b c 0 s)) v (searched strategy r aim vars (b + 1) b path c 0 s ps qs w h)
 
 -- For pieces: those of the walk stand behind the ones so far.
 IsSwept : def.Walked Seen → List Piece → Swept Conj Choice → Type 0
@@ -139,37 +140,37 @@ unfolding IsSwept AreSwept
 entered-swept go of q None k t h = refl
 entered-swept go of q (Some d) k t h = h q d k t
 
-tries-swept : (vars : List ℕ) (go : List Choice × Conj → ℕ → Seen → def.Walked Seen) (of : List Choice → Conj → ℕ → Swept Conj Choice) (path : List Choice) (c : Conj) (hs : Tries) (k : ℕ) (t : Seen) → AreSwept go of
-    → IsSwept (tries (visiting ForPieces vars) go (path, c) hs k t) t.pieces (sweeps (eliminating vars) of path c hs k)
+tries-swept : (strategy : Strategy) (vars : List ℕ) (go : List Choice × Conj → ℕ → Seen → def.Walked Seen) (of : List Choice → Conj → ℕ → Swept Conj Choice) (path : List Choice) (c : Conj) (hs : Tries) (k : ℕ) (t : Seen) → AreSwept go of
+    → IsSwept (tries (visiting strategy ForPieces vars) go (path, c) hs k t) t.pieces (sweeps (eliminating strategy vars) of path c hs k)
 unfolding IsSwept
-tries-swept vars go of path c [] k t h = ([], refl, sym (append-nil (parts t.pieces)))
-tries-swept vars go of path c (None ∷ hs) k t h = refl
-tries-swept vars go of path c (Some x ∷ hs) k t h =
-    behind-swept t.pieces (entered (option_map (λ d. (path ++ x ∷ [], d)) (after_choice x c)) (λ y. go y k (seen (with_choice x t.maxima) t.pieces))) (into (after_choice x c) (λ d. of (path ++ x ∷ []) d k)) (λ p. lifted_to x c p) (tries (visiting ForPieces vars) go (path, c) hs) (sweeps (eliminating vars) of path c hs)
-    (entered-swept go of (path ++ x ∷ []) (after_choice x c) k (seen (with_choice x t.maxima) t.pieces) h) (λ j u. tries-swept vars go of path c hs j u h)
+tries-swept strategy vars go of path c [] k t h = ([], refl, sym (append-nil (parts t.pieces)))
+tries-swept strategy vars go of path c (None ∷ hs) k t h = refl
+tries-swept strategy vars go of path c (Some x ∷ hs) k t h =
+    behind-swept t.pieces (entered (option_map (λ d. (path ++ x ∷ [], d)) (after_choice x c)) (λ y. go y k (seen (with_choice x t.maxima) t.pieces))) (into (after_choice x c) (λ d. of (path ++ x ∷ []) d k)) (λ p. lifted_to x c p) (tries (visiting strategy ForPieces vars) go (path, c) hs) (sweeps (eliminating strategy vars) of path c hs)
+    (entered-swept go of (path ++ x ∷ []) (after_choice x c) k (seen (with_choice x t.maxima) t.pieces) h) (λ j u. tries-swept strategy vars go of path c hs j u h)
 
 parts-append : (xs ys : List Piece) → parts (xs ++ ys) ≡ parts xs ++ parts ys
 parts-append [] ys = refl
 parts-append (x ∷ xs) ys = ap (λ zs. (x.choices, x.rest) ∷ zs) (parts-append xs ys)
 
-swept-at : (vars : List ℕ) (go : List Choice × Conj → ℕ → Seen → def.Walked Seen) (of : List Choice → Conj → ℕ → Swept Conj Choice) (path : List Choice) (c : Conj) (k : ℕ) (s : Maxima) (ps : List Piece) (l : Look Choice) → AreSwept go of
-    → IsSwept (looked (visiting ForPieces vars) go (path, c) k (seen s (pieces_at ForPieces (piece_of path c) ps l)) (look_for ForPieces l)) ps (swept (eliminating vars) of path c k l)
+swept-at : (strategy : Strategy) (vars : List ℕ) (go : List Choice × Conj → ℕ → Seen → def.Walked Seen) (of : List Choice → Conj → ℕ → Swept Conj Choice) (path : List Choice) (c : Conj) (k : ℕ) (s : Maxima) (ps : List Piece) (l : Look Choice) → AreSwept go of
+    → IsSwept (looked (visiting strategy ForPieces vars) go (path, c) k (seen s (pieces_at ForPieces (piece_of path c) ps l)) (look_for ForPieces l)) ps (swept (eliminating strategy vars) of path c k l)
 unfolding IsSwept
-swept-at vars go of path c k s ps (Done p) h = ((path, c) ∷ [], refl, parts-append ps (piece_of path c ∷ []))
-swept-at vars go of path c k s ps Absurd h = ([], refl, sym (append-nil (parts ps)))
-swept-at vars go of path c k s ps (Open hs) h = tries-swept vars go of path c hs k (seen s ps) h
+swept-at strategy vars go of path c k s ps (Done p) h = ((path, c) ∷ [], refl, parts-append ps (piece_of path c ∷ []))
+swept-at strategy vars go of path c k s ps Absurd h = ([], refl, sym (append-nil (parts ps)))
+swept-at strategy vars go of path c k s ps (Open hs) h = tries-swept strategy vars go of path c hs k (seen s ps) h
 
 if-swept : (ps : List Piece) (t : Bool) (j : ℕ) (w : def.Walked Seen) (v : Swept Conj Choice) → IsSwept w ps v → IsSwept (cond t (def.Spent j) w) ps (cond t (whole.Spent j) v)
 unfolding IsSwept
 if-swept ps true j w v h = refl
 if-swept ps false j w v h = h
 
-walk-swept : (vars : List ℕ) (n b : ℕ) → AreSwept (λ x j t. walk (visiting ForPieces vars) n b x j t) (λ q d j. sweep (eliminating vars) n b q d j)
+walk-swept : (strategy : Strategy) (vars : List ℕ) (n b : ℕ) → AreSwept (λ x j t. walk (visiting strategy ForPieces vars) n b x j t) (λ q d j. sweep (eliminating strategy vars) n b q d j)
 unfolding walk sweep IsSwept AreSwept
-walk-swept vars zero b q d k t = refl
-walk-swept vars (suc n) b q d k t =
+walk-swept strategy vars zero b q d k t = refl
+walk-swept strategy vars (suc n) b q d k t =
     if-swept t.pieces (nat_lt b (k + length d.rows)) (k + length d.rows) _ _
-    (swept-at vars (λ x j u. walk (visiting ForPieces vars) n b x j u) (λ p e j. sweep (eliminating vars) n b p e j) q d (k + length d.rows) (with_rows d.rows t.maxima) t.pieces (look vars d) (walk-swept vars n b))
+    (swept-at strategy vars (λ x j u. walk (visiting strategy ForPieces vars) n b x j u) (λ p e j. sweep (eliminating strategy vars) n b p e j) q d (k + length d.rows) (with_rows d.rows t.maxima) t.pieces (look strategy vars d) (walk-swept strategy vars n b))
 
 -- an answer of the walk of all pieces
 gone-swept : (k : ℕ) (s : Maxima) (ps : List Piece) (w : def.Walked Seen) (v : Swept Conj Choice) → w ≡ def.Gone k (seen s ps) → IsSwept w [] v → v ≡ Pieces (parts ps) k
@@ -205,6 +206,6 @@ swept-as (Err halt.Wide) ps w v e h = wide-swept w v e h
 swept-as (Err (halt.Spent c)) ps w v e h = (e.0, spent-swept e.0 w v e.1 h, e.2)
 swept-as (Err (halt.Memory x)) ps w v e h = tt
 
-pub swept-to : (r : Result Walked Halt) (vars : List ℕ) (n b : ℕ) (path : List Choice) (c : Conj) (k : ℕ) (s : Maxima) (ps : List Piece) → Visits r ps (walk (visiting ForPieces vars) n b (path, c) k (seen s [])) → SweepsTo r ps (sweep (elimination vars) n b path c k)
+pub swept-to : (strategy : Strategy) (r : Result Walked Halt) (vars : List ℕ) (n b : ℕ) (path : List Choice) (c : Conj) (k : ℕ) (s : Maxima) (ps : List Piece) → Visits r ps (walk (visiting strategy ForPieces vars) n b (path, c) k (seen s [])) → SweepsTo r ps (sweep (elimination strategy vars) n b path c k)
 unfolding AreSwept elimination
-swept-to r vars n b path c k s ps h = swept-as r ps (walk (visiting ForPieces vars) n b (path, c) k (seen s [])) (sweep (eliminating vars) n b path c k) h (walk-swept vars n b path c k (seen s []))
+swept-to strategy r vars n b path c k s ps h = swept-as r ps (walk (visiting strategy ForPieces vars) n b (path, c) k (seen s [])) (sweep (eliminating strategy vars) n b path c k) h (walk-swept strategy vars n b path c k (seen s []))

@@ -1,5 +1,5 @@
 -- The next column of an elimination (W. Pugh, The Omega test, 1991): rules in order, of which the first that gives a column decides.
-use Rattle.std.specs.Prelude.{ℕ, ◌*◌, ◌<◌, Bool, true, false, not, ◌&&◌, ◌||◌, cond, nat_lt, ℤ, pos, ◌-ℤ◌, unsigned_abs, List, [], ◌∷◌, length, filter, Option, Some, None}
+use Rattle.std.specs.Prelude.{ℕ, ◌+◌, ◌*◌, ◌<◌, Bool, true, false, not, ◌&&◌, ◌||◌, cond, nat_lt, ℤ, pos, ◌-ℤ◌, unsigned_abs, List, [], ◌∷◌, length, filter, Option, Some, None}
 use Rattle.std.specs.Int.Signed.{lt_z}
 use Rattle.std.specs.Ordering.{int_eq}
 use Rattle.ac_forms.specs.Affine.{Affine, coef}
@@ -7,8 +7,10 @@ use Rattle.ac_forms.specs.Fits.{fits}
 use Rattle.ac_forms.specs.declared.row.Row.{Row}
 use Rattle.ac_forms.specs.declared.row.Row.TheVariants.{Eq, Div, Ge}
 use Rattle.ac_cert.specs.declared.column.Bound.{Bound}
-use Rattle.ac_cert.specs.Bounds.{has_column, lows, highs, is_one_sided}
-use Rattle.ac_trails.specs.Tries.{has_divisibility, common_modulus}
+use Rattle.ac_cert.specs.Bounds.{has_column, is_low, lows, highs, is_one_sided}
+use Rattle.ac_trails.specs.Tries.{has_divisibility, common_modulus, count_to, last_splinter, last_splinter_fits, need_of}
+use Rattle.ac_trails.specs.declared.strategy.Strategy.{Strategy}
+use Rattle.ac_trails.specs.declared.strategy.Strategy.TheVariants.{Full, Economical}
 use Rattle.ac_omega.specs.declared.ranking.Rule.{Rule}
 use Rattle.ac_omega.specs.declared.ranking.Rule.TheVariants as rule
 
@@ -57,17 +59,22 @@ less (Some x) (Some y) = lt_z x y
 abbrev pub precedes : (ℕ → Option ℤ) → ℕ → ℕ → Bool
 precedes key z y = less (key z) (key y) || (not (less (key y) (key z)) && nat_lt z y)
 
-abbrev pub better : (ℕ → Option ℤ) → Option ℕ → ℕ → Option ℕ
-better key None z = Some z
-better key (Some y) z = Some (cond (precedes key z y) z y)
+-- by a first key, where those are equal by a second one, and then by its place
+abbrev pub precedes_by_two : (ℕ → Option ℤ) → (ℕ → Option ℤ) → ℕ → ℕ → Bool
+precedes_by_two first second z y = less (first z) (first y) || (not (less (first y) (first z)) && precedes second z y)
 
--- the first of a best column so far and of a list, by key and place
-abbrev pub least_from : (ℕ → Option ℤ) → Option ℕ → List ℕ → Option ℕ
-least_from key best [] = best
-least_from key best (z ∷ zs) = least_from key (better key best z) zs
+-- the better of a best column so far and one more, where some come before others
+abbrev pub better : (ℕ → ℕ → Bool) → Option ℕ → ℕ → Option ℕ
+better before None z = Some z
+better before (Some y) z = Some (cond (before z y) z y)
 
-abbrev pub least_by : (ℕ → Option ℤ) → List ℕ → Option ℕ
-least_by key zs = least_from key None zs
+-- the first of a best column so far and of a list
+abbrev pub least_from : (ℕ → ℕ → Bool) → Option ℕ → List ℕ → Option ℕ
+least_from before best [] = best
+least_from before best (z ∷ zs) = least_from before (better before best z) zs
+
+abbrev pub least_by : (ℕ → ℕ → Bool) → List ℕ → Option ℕ
+least_by before zs = least_from before None zs
 
 abbrev pub or_else : Option ℕ → Option ℕ → Option ℕ
 or_else (Some z) other = Some z
@@ -80,7 +87,7 @@ size_key f z = Some (pos (unsigned_abs (coef z f)))
 -- the first equality that has one of the columns: of these the one with the least coefficient, by absolute values
 abbrev pub by_equality : List ℕ → List Row → Option ℕ
 by_equality vars [] = None
-by_equality vars (Eq f ∷ rs) = or_else (least_by (size_key f) (filter (λ z. has_column z (Eq f)) vars)) (by_equality vars rs)
+by_equality vars (Eq f ∷ rs) = or_else (least_by (precedes (size_key f)) (filter (λ z. has_column z (Eq f)) vars)) (by_equality vars rs)
 by_equality vars (Div m f ∷ rs) = by_equality vars rs
 by_equality vars (Ge f ∷ rs) = by_equality vars rs
 
@@ -99,13 +106,55 @@ key rule.UnitPairs rows z = Some (excess (length (lows z rows)) (length (highs z
 key rule.TwoSided rows z = Some (excess (length (lows z rows)) (length (highs z rows)))
 
 abbrev pub by_rule : Rule → List ℕ → List Row → Option ℕ
-by_rule r vars rows = least_by (key r rows) (filter (passes r rows) vars)
+by_rule r vars rows = least_by (precedes (key r rows)) (filter (passes r rows) vars)
+
+-- how many splinters a lower row with coefficient b has for an upper row of this size; none where a number that makes them leaves `i128`
+abbrev pub count_for : Option ℤ → ℤ → Option ℕ
+count_for None b = None
+count_for (Some a) b = cond (last_splinter_fits a b) (Some (count_to (last_splinter a b))) None
+
+-- how many a row among these has: 0 where it is no lower one
+abbrev pub count_of : Strategy → ℕ → List Row → Row → Option ℕ
+count_of s z rows (Ge f) = cond (is_low z f) (count_for (need_of s z rows f) (coef z f)) (Some 0)
+count_of s z rows (Eq f) = Some 0
+count_of s z rows (Div m f) = Some 0
+
+abbrev pub plus : Option ℕ → Option ℕ → Option ℕ
+plus (Some m) (Some n) = Some (m + n)
+plus (Some m) None = None
+plus None n = None
+
+-- how many the last ones among the rows have together
+abbrev pub total_of : Strategy → ℕ → List Row → List Row → Option ℕ
+total_of s z rows [] = Some 0
+total_of s z rows (r ∷ rs) = plus (count_of s z rows r) (total_of s z rows rs)
+
+-- a number of `i128`
+abbrev pub fitting : Option ℕ → Option ℤ
+fitting None = None
+fitting (Some n) = cond (fits (pos n)) (Some (pos n)) None
+
+abbrev pub excess_key : List Row → ℕ → Option ℤ
+excess_key rows z = Some (excess (length (lows z rows)) (length (highs z rows)))
+
+-- how many splinters the economical strategy tries for a column
+abbrev pub splinter_key : List Row → ℕ → Option ℤ
+splinter_key rows z = fitting (total_of Economical z rows rows)
+
+-- of the columns that rows bound from both sides the one with the fewest splinters, and of those the one whose pairs exceed its bounds least
+abbrev pub fewest : List ℕ → List Row → Option ℕ
+fewest vars rows = least_by (precedes_by_two (splinter_key rows) (excess_key rows)) (filter (λ z. is_two_sided z rows) vars)
+
+-- where no column has a size 1 in each of its pairs
+abbrev pub by_splinters : Strategy → List ℕ → List Row → Option ℕ
+by_splinters Full vars rows = by_rule rule.TwoSided vars rows
+by_splinters Economical vars rows = fewest vars rows
 
 -- the next of these columns; none where no row has one
-unfoldable pub next_column : List ℕ → List Row → Option ℕ
-next_column vars rows =
+unfoldable pub next_column : Strategy → List ℕ → List Row → Option ℕ
+next_column s vars rows =
     or_else (by_equality vars rows)
     (or_else (by_rule rule.Divided vars rows)
     (or_else (by_rule rule.OneSided vars rows)
     (or_else (by_rule rule.UnitPairs vars rows)
-    (by_rule rule.TwoSided vars rows))))
+    (by_splinters s vars rows))))

@@ -1,5 +1,5 @@
 -- Where one stands among the choices for a column.
-use Rattle.std.specs.Prelude.{◌≡◌, ℕ, suc, ◌-◌, ◌<◌, ◌≤◌, ◌^◌, length, false, cond, pos, ◌≤ℤ◌, unsigned_abs, List, [], ◌∷◌, ◌++◌, drop, Option, Some, None}
+use Rattle.std.specs.Prelude.{◌≡◌, ℕ, ℤ, suc, ◌-◌, ◌<◌, ◌≤◌, ◌^◌, length, false, cond, pos, ◌≤ℤ◌, unsigned_abs, List, [], ◌∷◌, ◌++◌, drop, Option, Some, None}
 use Rattle.ac_forms.specs.declared.row.Row.{Row}
 use Rattle.ac_cert.specs.declared.choose.Choice.TheVariants as choice
 use Rattle.ac_cert.specs.Bounds.{highs, is_one_sided}
@@ -9,34 +9,41 @@ use Rattle.ac_omega.specs.declared.cursor.Cursor.TheVariants as at
 use Rattle.ac_omega.specs.declared.cursor.Next.{Next}
 use Rattle.ac_omega.specs.declared.cursor.Next.TheVariants as next
 use Rattle.ac_trails.specs.Tries.{Tries, residues_from, splinters_from, splinters, greatest_size}
+use Rattle.ac_trails.specs.declared.strategy.Strategy.{Strategy}
+use Rattle.ac_trails.specs.declared.strategy.Strategy.TheVariants.{Full, Economical}
+
+-- what is kept for all lower rows: the greatest size of an upper row, where each has its splinters for that one
+abbrev pub kept_for : Strategy → ℕ → List Row → Option ℤ
+kept_for Full z rows = cond (sizes_fit (highs z rows)) (Some (greatest_size (highs z rows))) None
+kept_for Economical z rows = None
 
 -- the choices that are left
-abbrev pub tries_left : ℕ → List Row → Cursor → Tries
-tries_left z rows (at.Equal i) = Some (choice.Equal z i) ∷ []
-tries_left z rows (at.Residue m r) = residues_from (unsigned_abs m - r) z m r
-tries_left z rows at.Drop = Some (choice.Drop z) ∷ []
-tries_left z rows at.Shadow = Some (choice.Shadow z) ∷ cond (sizes_fit (highs z rows)) (splinters z (greatest_size (highs z rows)) 0 rows) (None ∷ [])
-tries_left z rows (at.Splinter a i k count) = splinters_from (count - k) z i k ++ splinters z a (suc i) (drop (suc i) rows)
-tries_left z rows (at.Lower a i) = splinters z a i (drop i rows)
-tries_left z rows at.Wide = None ∷ []
-tries_left z rows at.End = []
+abbrev pub tries_left : Strategy → ℕ → List Row → Cursor → Tries
+tries_left s z rows (at.Equal i) = Some (choice.Equal z i) ∷ []
+tries_left s z rows (at.Residue m r) = residues_from (unsigned_abs m - r) z m r
+tries_left s z rows at.Drop = Some (choice.Drop z) ∷ []
+tries_left s z rows at.Shadow = Some (choice.Shadow z) ∷ splinters s z rows 0 rows
+tries_left s z rows (at.Splinter kept i k count) = splinters_from (count - k) z i k ++ splinters s z rows (suc i) (drop (suc i) rows)
+tries_left s z rows (at.Lower kept i) = splinters s z rows i (drop i rows)
+tries_left s z rows at.Wide = None ∷ []
+tries_left s z rows at.End = []
 
 -- the numbers of the cursor are such as the rows give
-abbrev pub IsSound : ℕ → List Row → Cursor → Type 0
-IsSound z rows (at.Equal i) = Unit {0}
-IsSound z rows (at.Residue m r) = pos 0 ≤ℤ m
-IsSound z rows at.Drop = Unit {0}
-IsSound z rows at.Shadow = is_one_sided z rows ≡ false
-IsSound z rows (at.Splinter a i k count) = (pos 1 ≤ℤ a) × (i < length rows) × (count ≤ 2 ^ 127)
-IsSound z rows (at.Lower a i) = pos 1 ≤ℤ a
-IsSound z rows at.Wide = Unit {0}
-IsSound z rows at.End = Unit {0}
+abbrev pub IsSound : Strategy → ℕ → List Row → Cursor → Type 0
+IsSound s z rows (at.Equal i) = Unit {0}
+IsSound s z rows (at.Residue m r) = pos 0 ≤ℤ m
+IsSound s z rows at.Drop = Unit {0}
+IsSound s z rows at.Shadow = is_one_sided z rows ≡ false
+IsSound s z rows (at.Splinter kept i k count) = (kept ≡ kept_for s z rows) × (is_one_sided z rows ≡ false) × (i < length rows) × (count ≤ 2 ^ 127)
+IsSound s z rows (at.Lower kept i) = (kept ≡ kept_for s z rows) × (is_one_sided z rows ≡ false)
+IsSound s z rows at.Wide = Unit {0}
+IsSound s z rows at.End = Unit {0}
 
 -- what comes next of these choices: the first one, with the cursor behind it; a number that is too wide; or none
-abbrev pub IsNext : ℕ → List Row → Next → Tries → Type 0
-IsNext z rows (next.Try h cursor) hs = (hs ≡ Some h ∷ tries_left z rows cursor) × IsSound z rows cursor
-IsNext z rows next.Wide hs = (rest : Tries) × (hs ≡ None ∷ rest)
-IsNext z rows next.End hs = hs ≡ []
+abbrev pub IsNext : Strategy → ℕ → List Row → Next → Tries → Type 0
+IsNext s z rows (next.Try h cursor) hs = (hs ≡ Some h ∷ tries_left s z rows cursor) × IsSound s z rows cursor
+IsNext s z rows next.Wide hs = (rest : Tries) × (hs ≡ None ∷ rest)
+IsNext s z rows next.End hs = hs ≡ []
 
 -- that many splinters of row i, or a number that is too wide
 abbrev pub row_splinters : ℕ → ℕ → Option ℕ → Tries

@@ -18,10 +18,11 @@ use Rattle.ac_omega.specs.Elimination.{eliminating, normal_of}
 use Rattle.ac_omega.specs.Maxima.{Maxima, nothing_met, with_rows}
 use Rattle.ac_omega.specs.Searching.{columns_to}
 use Rattle.ac_omega.specs.Walk as def
+use Rattle.ac_trails.specs.declared.strategy.Strategy.{Strategy}
 
 -- the walk of a question: from its normal form on, over all its columns; the question's own numbers count among the greatest
-abbrev pub walk_of : ℕ → Conj → def.Walked Maxima
-walk_of budget q = def.entered (normal_of q) (λ c. def.walk (eliminating (columns_to c.columns)) (budget + 1) budget c 0 (with_rows q.rows nothing_met))
+abbrev pub walk_of : Strategy → ℕ → Conj → def.Walked Maxima
+walk_of s budget q = def.entered (normal_of q) (λ c. def.walk (eliminating s (columns_to c.columns)) (budget + 1) budget c 0 (with_rows q.rows nothing_met))
 
 -- the walk finds this point, at which the question can be evaluated in `i128`
 abbrev pub EndsAt : List ℤ → Conj → def.Walked Maxima → Type 0

@@ -10,35 +10,36 @@ use Rattle.ac_omega.specs.Columns.{next_column}
 use Rattle.ac_omega.specs.Maxima.{Maxima, with_rows, with_choice}
 use Rattle.ac_omega.specs.Sweep.{Swept, into, sweep}
 use Rattle.ac_trails.specs.Tries.{tries_for}
+use Rattle.ac_trails.specs.declared.strategy.Strategy.{Strategy}
 use Rattle.ac_omega.specs.Walk.{Method, Look, Done, Absurd, Open}
 
 -- the choices for the next column; without one, all columns are 0 where no row is left
-abbrev pub look_at : Conj → Option ℕ → Look Choice
-look_at c (Some z) = Open (tries_for z c.rows)
-look_at c None = Done (replicate c.columns (pos 0))
+abbrev pub look_at : Strategy → Conj → Option ℕ → Look Choice
+look_at s c (Some z) = Open (tries_for s z c.rows)
+look_at s c None = Done (replicate c.columns (pos 0))
 
-abbrev pub look : List ℕ → Conj → Look Choice
-look vars c = cond (are_absurd c.rows) Absurd (look_at c (next_column vars c.rows))
+abbrev pub look : Strategy → List ℕ → Conj → Look Choice
+look s vars c = cond (are_absurd c.rows) Absurd (look_at s c (next_column s vars c.rows))
 
 -- a conjunction costs its rows
-abbrev pub eliminating : List ℕ → Method Conj Choice Maxima
-eliminating vars = record {
+abbrev pub eliminating : Strategy → List ℕ → Method Conj Choice Maxima
+eliminating s vars = record {
   size = λ c. length c.rows;
-  look = λ c. look vars c;
+  look = λ c. look s vars c;
   step = λ c h. after_choice h c;
   lift = λ c h p. cond (lift_fits h c.rows p) (Some (lifted h c.rows p)) None;
-  note = λ c s. with_rows c.rows s;
-  mark = λ h s. with_choice h s;
+  note = λ c met. with_rows c.rows met;
+  mark = λ h met. with_choice h met;
 }
 
 -- the same, under a name that proofs need not look into
-unfoldable pub elimination : List ℕ → Method Conj Choice Maxima
-elimination vars = eliminating vars
+unfoldable pub elimination : Strategy → List ℕ → Method Conj Choice Maxima
+elimination s vars = eliminating s vars
 
 -- the normal form, where its numbers stay in `i128`
 abbrev pub normal_of : Conj → Option Conj
 normal_of c = cond (rows_fit c.rows) (Some (normal_conj c)) None
 
 -- the pieces of a question, from its normal form on
-abbrev pub pieces_of : List ℕ → ℕ → Conj → Swept Conj Choice
-pieces_of vars budget question = into (normal_of question) (λ c. sweep (elimination vars) (budget + 1) budget [] c 0)
+abbrev pub pieces_of : Strategy → List ℕ → ℕ → Conj → Swept Conj Choice
+pieces_of s vars budget question = into (normal_of question) (λ c. sweep (elimination s vars) (budget + 1) budget [] c 0)

@@ -14,3 +14,5 @@ pub mod Visits
 pub mod Decisions
 pub mod Differences
 pub mod Replays
+pub mod Fewest
+pub mod Either

@@ -1,5 +1,5 @@
 -- What an answer of a search says of the walk. Want of memory may come at any time.
-use Rattle.std.specs.Prelude.{◌≡◌, ℕ, zero, suc, ◌∷◌, ◌++◌, ◌<◌, ◌≤◌, ◌^◌, ◌-◌, min, true, false, cond, ℤ, List, [], Option, Some, None, Result, Ok, Err}
+use Rattle.std.specs.Prelude.{◌≡◌, ℕ, zero, suc, ◌∷◌, ◌++◌, ◌≤◌, ◌^◌, ◌-◌, min, true, false, cond, ℤ, List, [], Option, Some, None, Result, Ok, Err}
 use Rattle.ac_forms.specs.NormalForm.{normal_form}
 use Rattle.ac_forms.specs.Rows.{IsWellMade}
 use Rattle.ac_forms.specs.declared.conj.Conj.{Conj}
@@ -17,6 +17,7 @@ use Rattle.ac_omega.specs.Columns.{next_column}
 use Rattle.ac_omega.specs.Maxima.{Maxima}
 use Rattle.ac_trails.specs.Refutations.{conj_of, Refutes}
 use Rattle.ac_trails.specs.Tries.{Tries}
+use Rattle.ac_trails.specs.declared.strategy.Strategy.{Strategy}
 use Rattle.ac_trails.specs.declared.refutation.Refutation.{Refutation}
 use Rattle.ac_omega.specs.Walk as def
 use Rattle.ac_omega.specs.Walk.{IsTried}
@@ -98,12 +99,12 @@ abbrev pub IsNormal : Conj → Type 0
 IsNormal c = (rows : List Row) × (c.rows ≡ normal_form rows)
 
 -- a conjunction in normal form over that many columns, of which none is next, has no row or is absurd
-abbrev pub Settle : ℕ → List ℕ → Type 0
-Settle n vars = (c : Conj) → IsWellMade c → IsNormal c → c.columns ≡ n → are_absurd c.rows ≡ false → next_column vars c.rows ≡ None → c.rows ≡ []
+abbrev pub Settle : Strategy → ℕ → List ℕ → Type 0
+Settle strategy n vars = (c : Conj) → IsWellMade c → IsNormal c → c.columns ≡ n → are_absurd c.rows ≡ false → next_column strategy vars c.rows ≡ None → c.rows ≡ []
 
 -- the same, asked where the walk is for a point
-abbrev pub SettleFor : Aim → ℕ → List ℕ → Type 0
-SettleFor aim n vars = WantsPoint aim → Settle n vars
+abbrev pub SettleFor : Strategy → Aim → ℕ → List ℕ → Type 0
+SettleFor strategy aim n vars = WantsPoint aim → Settle strategy n vars
 
 -- all columns below that many, in order
 abbrev pub columns_to : ℕ → List ℕ

@@ -1,5 +1,5 @@
 -- One walk for a point, for a refutation and for pieces: over conjunctions, each with the choices that led to it; it keeps the greatest numbers met and the pieces so far.
-use Rattle.std.specs.Prelude.{◌≡◌, ℕ, ◌+◌, ◌-◌, ◌<◌, ◌^◌, min, cond, pos, ℤ, List, [], ◌∷◌, ◌++◌, length, replicate, Option, Some, None, option_map, Result, Ok, Err}
+use Rattle.std.specs.Prelude.{◌≡◌, ℕ, ◌+◌, ◌-◌, ◌<◌, ◌^◌, min, cond, pos, ℤ, List, [], ◌∷◌, ◌++◌, length, replicate, Some, None, option_map, Result, Ok, Err}
 use Rattle.ac_forms.specs.declared.conj.Conj.{Conj}
 use Rattle.ac_cert.specs.Choices.{lifted}
 use Rattle.ac_cert.specs.ChoiceFits.{after_choice, lift_fits}
@@ -16,6 +16,7 @@ use Rattle.ac_omega.specs.Maxima.{Maxima, with_rows, with_choice}
 use Rattle.ac_omega.specs.Walk.{Method, Look, Done, Absurd, Open}
 use Rattle.ac_omega.specs.Walk as def
 use Rattle.ac_trails.specs.Tries.{Tries}
+use Rattle.ac_trails.specs.declared.strategy.Strategy.{Strategy}
 
 -- what a walk has met and kept so far
 pub record Seen : Type 0 where
@@ -49,13 +50,13 @@ pieces_at aim x ps (Done p) = with_piece aim x ps
 pieces_at aim x ps Absurd = ps
 pieces_at aim x ps (Open hs) = ps
 
-abbrev pub visiting : Aim → List ℕ → Method (List Choice × Conj) Choice Seen
-visiting aim vars = record {
+abbrev pub visiting : Strategy → Aim → List ℕ → Method (List Choice × Conj) Choice Seen
+visiting strategy aim vars = record {
   size = λ x. length x.1.rows;
-  look = λ x. look_for aim (look vars x.1);
+  look = λ x. look_for aim (look strategy vars x.1);
   step = λ x h. option_map (λ d. (x.0 ++ h ∷ [], d)) (after_choice h x.1);
   lift = λ x h p. cond (lift_fits h x.1.rows p) (Some (lifted h x.1.rows p)) None;
-  note = λ x s. seen (with_rows x.1.rows s.maxima) (pieces_at aim (piece_of x.0 x.1) s.pieces (look vars x.1));
+  note = λ x s. seen (with_rows x.1.rows s.maxima) (pieces_at aim (piece_of x.0 x.1) s.pieces (look strategy vars x.1));
   mark = λ h s. seen (with_choice h s.maxima) s.pieces;
 }
 
@@ -68,12 +69,12 @@ Visits (Err (halt.Spent c)) ps w = (j : ℕ) × (w ≡ def.Spent j) × (c ≡ mi
 Visits (Err (halt.Memory e)) ps w = Unit {0}
 
 -- the walk of some choices, where at most n conjunctions stand on one path behind them
-abbrev pub tried : Aim → List ℕ → ℕ → ℕ → List Choice → Conj → Tries → ℕ → Seen → def.Walked Seen
-tried aim vars n budget path c hs k s = def.tries (visiting aim vars) (λ x j t. def.walk (visiting aim vars) n budget x j t) (path, c) hs k s
+abbrev pub tried : Strategy → Aim → List ℕ → ℕ → ℕ → List Choice → Conj → Tries → ℕ → Seen → def.Walked Seen
+tried strategy aim vars n budget path c hs k s = def.tries (visiting strategy aim vars) (λ x j t. def.walk (visiting strategy aim vars) n budget x j t) (path, c) hs k s
 
 -- the answer is that of the walk of some choices, whatever bound on the path exceeds what is left of the budget
-abbrev pub Tried : Result Walked Halt → List Piece → Aim → List ℕ → ℕ → List Choice → Conj → Tries → ℕ → Seen → Type 0
-Tried result ps aim vars budget path c hs k s = (n : ℕ) → budget < n + k → Visits result ps (tried aim vars n budget path c hs k s)
+abbrev pub Tried : Result Walked Halt → List Piece → Strategy → Aim → List ℕ → ℕ → List Choice → Conj → Tries → ℕ → Seen → Type 0
+Tried result ps strategy aim vars budget path c hs k s = (n : ℕ) → budget < n + k → Visits result ps (tried strategy aim vars n budget path c hs k s)
 
 -- what the walk comes to where nothing is left to eliminate
 abbrev pub at_leaf : Aim → List Choice → Conj → ℕ → Maxima → List Piece → def.Walked Seen

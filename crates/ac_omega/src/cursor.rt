@@ -1,16 +1,15 @@
-ghost use Rattle.std.specs.Prelude.{◌≡◌, ◌<◌, ◌≤◌, ◌^◌, ◌-◌, ◌++◌, suc, ℕ, List, Option, Some, [], ◌∷◌, pos, ◌≤ℤ◌, unsigned_abs, length, false, drop, IfSome};
+ghost use Rattle.std.specs.Prelude.{◌≡◌, ◌<◌, ◌≤◌, ◌^◌, ◌-◌, ◌++◌, suc, List, [], ◌∷◌, Some, pos, ◌≤ℤ◌, unsigned_abs, length, false, drop, IfOk};
 ghost use Rattle.ac_forms.specs.Rows.{HaveModuli};
 ghost use Rattle.ac_cert.specs.Bounds.{is_one_sided};
-ghost use Rattle.ac_omega.specs.Cursors.{tries_left, IsSound, IsNext, row_splinters};
-ghost use Rattle.ac_trails.specs.Tries.{residues_from, splinters_from, splinters_of, splinters, tries_for};
+ghost use Rattle.ac_omega.specs.Cursors.{kept_for, tries_left, IsSound, IsNext};
+ghost use Rattle.ac_trails.specs.Tries.{residues_from, splinters_from, splinters, tries_for};
 
-use crate::listing::count_to;
-use crate::scan::{
-    common_modulus, first_equality, greatest_size, has_divisibility, is_lower_row, is_one_sided,
-    last_splinter,
-};
+use crate::needs::{kept_for, splinter_count};
+use crate::scan::{common_modulus, first_equality, has_divisibility, is_one_sided};
 use ac_cert::Choice;
 use ac_forms::Row;
+use ac_trails::Strategy;
+use std::alloc::{AllocError, Global};
 
 /// Where one stands among the choices for a column, which are made one at a time.
 #[derive(Debug, Drop)]
@@ -23,11 +22,10 @@ pub(crate) enum Cursor {
     Drop,
     /// At the shadow, before all splinters.
     Shadow,
-    /// `Splinter(a, i, k, count)`: at the splinter k of the row i, which has that many, where a is the greatest size of an
-    /// upper row.
-    Splinter(i128, usize, u128, u128),
-    /// `Lower(a, i)`: before the splinters of the row i.
-    Lower(i128, usize),
+    /// `Splinter(kept, i, k, count)`: at the splinter k of the row i, which has that many, where this is kept for all rows.
+    Splinter(Option<i128>, usize, u128, u128),
+    /// `Lower(kept, i)`: before the splinters of the row i.
+    Lower(Option<i128>, usize),
     /// At a number that leaves `i128`.
     Wide,
     /// Behind all choices.
@@ -45,11 +43,11 @@ pub(crate) enum Next {
     End,
 }
 
-/// Before the first of the choices for a column.
-pub(crate) fn first(z: usize, rows: &[Row]) -> Cursor
+/// Before the first of the choices of a strategy for a column.
+pub(crate) fn first(strategy: Strategy, z: usize, rows: &[Row]) -> Cursor
     requires { HaveModuli rows.now }
-    ensures value { tries_left z rows.now result ≡ tries_for z rows.now }
-    ensures sound { IsSound z rows.now result }
+    ensures value { tries_left strategy z rows.now result ≡ tries_for strategy z rows.now }
+    ensures sound { IsSound strategy z rows.now result }
 {
     if let Some(place) = first_equality(z, rows) {
         return Cursor::Equal(place);
@@ -67,28 +65,39 @@ pub(crate) fn first(z: usize, rows: &[Row]) -> Cursor
     }
 }
 
-/// What comes next among the choices for a column.
-pub(crate) fn advance(z: usize, rows: &[Row], cursor: &Cursor) -> Next
-    requires { IsSound z rows.now cursor.now }
-    ensures { IsNext z rows.now result (tries_left z rows.now cursor.now) }
+/// What comes next among the choices of a strategy for a column.
+pub(crate) fn advance(
+    alloc: Global,
+    strategy: Strategy,
+    z: usize,
+    rows: &[Row],
+    cursor: &Cursor,
+) -> Result<Next, AllocError>
+    requires { IsSound strategy z rows.now cursor.now }
+    ensures { IfOk result (λ next. IsNext strategy z rows.now next (tries_left strategy z rows.now cursor.now)) }
 {
     match cursor {
-        Cursor::Equal(place) => Next::Try(Choice::Equal(z, *place), Cursor::End),
-        Cursor::Residue(modulus, r) => next_residue(z, rows, modulus, *r),
-        Cursor::Drop => Next::Try(Choice::Drop(z), Cursor::End),
-        Cursor::Shadow => Next::Try(Choice::Shadow(z), behind_shadow(z, rows)),
-        Cursor::Splinter(a, i, k, count) => next_splinter(z, rows, a, *i, *k, *count),
-        Cursor::Lower(a, i) => next_lower(z, rows, a, *i),
-        Cursor::Wide => Next::Wide,
-        Cursor::End => Next::End,
+        Cursor::Equal(place) => Ok(Next::Try(Choice::Equal(z, *place), Cursor::End)),
+        Cursor::Residue(modulus, r) => Ok(next_residue(strategy, z, rows, modulus, *r)),
+        Cursor::Drop => Ok(Next::Try(Choice::Drop(z), Cursor::End)),
+        Cursor::Shadow => Ok(Next::Try(
+            Choice::Shadow(z),
+            Cursor::Lower(kept_for(strategy, z, rows), 0),
+        )),
+        Cursor::Splinter(kept, i, k, count) => {
+            next_splinter(alloc, strategy, z, rows, kept, *i, *k, *count)
+        }
+        Cursor::Lower(kept, i) => next_lower(alloc, strategy, z, rows, kept, *i),
+        Cursor::Wide => Ok(Next::Wide),
+        Cursor::End => Ok(Next::End),
     }
 }
 
 /// What comes next among residues.
 #[tactic(auto, using(ac_integers::proofs::Bits::again_128))]
-fn next_residue(z: usize, rows: &[Row], modulus: &i128, r: u128) -> Next
+fn next_residue(strategy: Strategy, z: usize, rows: &[Row], modulus: &i128, r: u128) -> Next
     requires { pos 0 ≤ℤ modulus.now }
-    ensures { IsNext z rows.now result (residues_from (unsigned_abs modulus.now - r) z modulus.now r) }
+    ensures { IsNext strategy z rows.now result (residues_from (unsigned_abs modulus.now - r) z modulus.now r) }
 {
     if r < modulus.unsigned_abs() {
         Next::Try(
@@ -100,75 +109,77 @@ fn next_residue(z: usize, rows: &[Row], modulus: &i128, r: u128) -> Next
     }
 }
 
-/// Where one stands behind the shadow.
-fn behind_shadow(z: usize, rows: &[Row]) -> Cursor
-    requires { is_one_sided z rows.now ≡ false }
-    ensures value { Some (Choice.Shadow z) ∷ tries_left z rows.now result ≡ tries_left z rows.now Cursor.Shadow }
-    ensures sound { IsSound z rows.now result }
-{
-    match greatest_size(z, rows) {
-        Some(greatest) => Cursor::Lower(greatest, 0),
-        None => Cursor::Wide,
-    }
-}
-
 /// What comes next among the splinters of a row and of the rows behind it.
 #[tactic(auto, using(ac_integers::proofs::Bits::again_128))]
-fn next_splinter(z: usize, rows: &[Row], a: &i128, i: usize, k: u128, count: u128) -> Next
-    requires greatest { pos 1 ≤ℤ a.now }
+fn next_splinter(
+    alloc: Global,
+    strategy: Strategy,
+    z: usize,
+    rows: &[Row],
+    kept: &Option<i128>,
+    i: usize,
+    k: u128,
+    count: u128,
+) -> Result<Next, AllocError>
+    requires kept { kept.now ≡ kept_for strategy z rows.now }
+    requires sides { is_one_sided z rows.now ≡ false }
     requires place { i < length rows.now }
     requires small { count ≤ 2 ^ 127 }
-    ensures { IsNext z rows.now result (splinters_from (count - k) z i k ++ splinters z a.now (suc i) (drop (suc i) rows.now)) }
+    ensures { IfOk result (λ next. IsNext strategy z rows.now next (splinters_from (count - k) z i k ++ splinters strategy z rows.now (suc i) (drop (suc i) rows.now))) }
 {
     if k < count {
-        return Next::Try(
+        return Ok(Next::Try(
             Choice::Splinter(z, i, k as i128),
-            Cursor::Splinter(*a, i, k + 1, count),
-        );
+            Cursor::Splinter(*kept, i, k + 1, count),
+        ));
     }
     let _count = rows.len();
-    next_lower(z, rows, a, i + 1)
+    next_lower(alloc, strategy, z, rows, kept, i + 1)
 }
 
 /// What comes next among the splinters of the rows from a place on.
-fn next_lower(z: usize, rows: &[Row], a: &i128, start: usize) -> Next
-    requires { pos 1 ≤ℤ a.now }
-    ensures { IsNext z rows.now result (splinters z a.now start (drop start rows.now)) }
+fn next_lower(
+    alloc: Global,
+    strategy: Strategy,
+    z: usize,
+    rows: &[Row],
+    kept: &Option<i128>,
+    start: usize,
+) -> Result<Next, AllocError>
+    requires kept { kept.now ≡ kept_for strategy z rows.now }
+    requires sides { is_one_sided z rows.now ≡ false }
+    ensures { IfOk result (λ next. IsNext strategy z rows.now next (splinters strategy z rows.now start (drop start rows.now))) }
 {
     for i in start..rows.len() {
-        match splinter_count(z, a, &rows[i]) {
-            None => return Next::Wide,
-            Some(0) => {}
-            Some(count) => return first_splinter(z, rows, a, i, count),
+        match splinter_count(alloc, strategy, z, rows, kept, &rows[i]) {
+            Err(want) => return Err(want),
+            Ok(None) => return Ok(Next::Wide),
+            Ok(Some(0)) => {}
+            Ok(Some(count)) => return Ok(first_splinter(strategy, z, rows, kept, i, count)),
         }
     }
-    Next::End
+    Ok(Next::End)
 }
 
 /// The first splinter of a row.
 #[tactic(auto, using(ac_integers::proofs::Bits::again_128))]
-fn first_splinter(z: usize, rows: &[Row], a: &i128, i: usize, count: u128) -> Next
-    requires greatest { pos 1 ≤ℤ a.now }
+fn first_splinter(
+    strategy: Strategy,
+    z: usize,
+    rows: &[Row],
+    kept: &Option<i128>,
+    i: usize,
+    count: u128,
+) -> Next
+    requires kept { kept.now ≡ kept_for strategy z rows.now }
+    requires sides { is_one_sided z rows.now ≡ false }
     requires place { i < length rows.now }
     requires some { 0 < count }
     requires small { count ≤ 2 ^ 127 }
-    ensures { IsNext z rows.now result (splinters_from count z i 0 ++ splinters z a.now (suc i) (drop (suc i) rows.now)) }
+    ensures { IsNext strategy z rows.now result (splinters_from count z i 0 ++ splinters strategy z rows.now (suc i) (drop (suc i) rows.now)) }
 {
-    Next::Try(Choice::Splinter(z, i, 0), Cursor::Splinter(*a, i, 1, count))
-}
-
-/// How many splinters a row has, where `a` is the greatest size of an upper row; none exactly where a number that makes
-/// the last one leaves `i128`.
-fn splinter_count(z: usize, a: &i128, row: &Row) -> Option<u128>
-    requires { pos 1 ≤ℤ a.now }
-    ensures value { (i : ℕ) → splinters_of z a.now i row.now ≡ row_splinters z i result }
-    ensures small { IfSome result (λ count. count ≤ 2 ^ 127) }
-{
-    if !is_lower_row(z, row) {
-        return Some(0);
-    }
-    match last_splinter(*a, row.form().coef(z)) {
-        None => None,
-        Some(last) => Some(count_to(last)),
-    }
+    Next::Try(
+        Choice::Splinter(z, i, 0),
+        Cursor::Splinter(*kept, i, 1, count),
+    )
 }

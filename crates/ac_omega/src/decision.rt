@@ -9,6 +9,7 @@ ghost use Rattle.ac_omega.specs.Decisions.{Decides, Finds, Settles, Certifies, I
 ghost use Rattle.ac_omega.specs.Walk.{walk};
 ghost use Rattle.ac_omega.specs.Within.{Bounds, HaveRisen, IsWithin};
 ghost use Rattle.ac_trails.specs.Refutations.{IsRefutationOf};
+ghost use Rattle.ac_trails.specs.declared.strategy.Strategy.TheVariants.{Full};
 
 use crate::extent::{Maxima, are_large, with_rows};
 use crate::halt::Halt;
@@ -17,7 +18,7 @@ use crate::search::{Aim, Walked, search};
 use ac_cert::{Absurd, Tree};
 use ac_forms::{Conj, FormStop};
 use ac_items::Items;
-use ac_trails::{Refutation, certify};
+use ac_trails::{Refutation, Strategy, certify};
 use std::alloc::{AllocError, Global};
 
 /// What a question comes to.
@@ -50,11 +51,18 @@ fn all_columns(alloc: Global, columns: usize) -> Result<Vec<usize>, AllocError>
 }
 
 /// The search from a conjunction in normal form on, over all its columns.
-fn search_all(alloc: Global, aim: Aim, conj: Conj, budget: u64, met: Maxima) -> Result<Walked, Halt>
+fn search_all(
+    alloc: Global,
+    strategy: Strategy,
+    aim: Aim,
+    conj: Conj,
+    budget: u64,
+    met: Maxima,
+) -> Result<Walked, Halt>
     requires aim { WantsPoint aim }
     requires made { IsWellMade conj }
     requires normal { IsNormal conj }
-    ensures exact { Searches result (walk (eliminating (columns_to conj.columns)) (budget + 1) budget conj 0 met) }
+    ensures exact { Searches result (walk (eliminating strategy (columns_to conj.columns)) (budget + 1) budget conj 0 met) }
     ensures point { IfOk result (λ w. IfFound w (λ p. IsPoint conj p)) }
     ensures told { IfOk result (λ w. IfGone w (λ s r. WantsRefutation aim → IsSome r)) }
     ensures refuted { IfOk result (λ w. IfGone w (λ s r. IfSome r (λ x. IsRefuted conj x))) }
@@ -66,6 +74,7 @@ fn search_all(alloc: Global, aim: Aim, conj: Conj, budget: u64, met: Maxima) -> 
     let mut pieces = Items::new(alloc);
     search(
         alloc,
+        strategy,
         aim,
         &vars,
         conj,
@@ -94,10 +103,16 @@ fn test(conj: &Conj, point: &[i128]) -> Result<(), Halt>
 ///
 /// `Wide` exactly where a number leaves `i128` first, also with a budget of 0 for the question's own normal form; `Spent`
 /// exactly where the running cost exceeds the budget first, with that cost.
-fn walked(alloc: Global, aim: Aim, conj: &Conj, budget: u64) -> Result<Walked, Halt>
+fn walked(
+    alloc: Global,
+    strategy: Strategy,
+    aim: Aim,
+    conj: &Conj,
+    budget: u64,
+) -> Result<Walked, Halt>
     requires aim { WantsPoint aim }
     requires made { IsWellMade conj.now }
-    ensures exact { Decides result conj.now (walk_of budget conj.now) }
+    ensures exact { Decides result conj.now (walk_of strategy budget conj.now) }
     ensures point { IfOk result (λ w. IfFound w (λ p. IsPoint conj.now p)) }
     ensures told { IfOk result (λ w. IfGone w (λ s r. WantsRefutation aim → IsSome r)) }
     ensures refuted { IfOk result (λ w. IfGone w (λ s r. IfSome r (λ x. IsRefutationOf conj.now x))) }
@@ -114,7 +129,7 @@ fn walked(alloc: Global, aim: Aim, conj: &Conj, budget: u64) -> Result<Walked, H
         number: 0,
     };
     let met = with_rows(conj.rows.as_slice(), none);
-    match search_all(alloc, aim, normal, budget, met) {
+    match search_all(alloc, strategy, aim, normal, budget, met) {
         Ok(
             Walked::Gone {
                 cost,
@@ -147,12 +162,32 @@ fn walked(alloc: Global, aim: Aim, conj: &Conj, budget: u64) -> Result<Walked, H
 /// within a budget of 2 (n + 1)^3.
 pub fn find_point(alloc: Global, conj: &Conj, budget: u64) -> Result<Decided, Stop>
     requires { IsWellMade conj.now }
-    ensures exact { Finds result conj.now (walk_of budget conj.now) }
+    ensures exact { Finds result conj.now (walk_of Full budget conj.now) }
     ensures point { IfOk result (λ d. IfPoint d (λ p. IsPoint conj.now p)) }
     ensures empty { IfOk result (λ d. IfEmpty d ((p : List ℤ) → IsPoint conj.now p → ⊥)) }
     ensures differences { conj.now.columns ≤ 60 → AreDifferences (2 ^ 48) conj.now.rows → IfErr result (StopsBelow conj.now.columns budget) }
 {
-    match walked(alloc, Aim::ForPoint, conj, budget) {
+    find_point_by(alloc, Strategy::Full, conj, budget)
+}
+
+/// The same as `find_point`, by the walk of a strategy.
+///
+/// The economical walk tries splinters only for pairs of a lower and an upper row whose dark shadow may lose a point, and where no
+/// column has a coefficient 1 or -1 in each of its pairs it takes one with the fewest splinters. There `Overflow` exactly also
+/// where a number of a pair's shadow or of its normal form leaves `i128`.
+pub fn find_point_by(
+    alloc: Global,
+    strategy: Strategy,
+    conj: &Conj,
+    budget: u64,
+) -> Result<Decided, Stop>
+    requires { IsWellMade conj.now }
+    ensures exact { Finds result conj.now (walk_of strategy budget conj.now) }
+    ensures point { IfOk result (λ d. IfPoint d (λ p. IsPoint conj.now p)) }
+    ensures empty { IfOk result (λ d. IfEmpty d ((p : List ℤ) → IsPoint conj.now p → ⊥)) }
+    ensures differences { conj.now.columns ≤ 60 → AreDifferences (2 ^ 48) conj.now.rows → IfErr result (StopsBelow conj.now.columns budget) }
+{
+    match walked(alloc, strategy, Aim::ForPoint, conj, budget) {
         Ok(Walked::Gone { maxima, .. }) => Ok(Decided::Empty(maxima)),
         Ok(Walked::Found(point)) => Ok(Decided::Point(point)),
         Err(halt) => Err(handed_back(alloc, halt, conj)),
@@ -171,24 +206,41 @@ pub fn find_point(alloc: Global, conj: &Conj, budget: u64) -> Result<Decided, St
 /// within a budget of 2 (n + 1)^3.
 pub fn decide(alloc: Global, conj: &Conj, budget: u64) -> Result<Decision, Stop>
     requires { IsWellMade conj.now }
-    ensures exact { Settles result conj.now (walk_of budget conj.now) }
+    ensures exact { Settles result conj.now (walk_of Full budget conj.now) }
     ensures point { IfOk result (λ d. IfMet d (λ p. IsPoint conj.now p)) }
     ensures accepted { IfOk result (λ d. IfCertified d (λ tree. Accepts tree absurd_refusals conj.now)) }
     ensures empty { IfOk result (λ d. IfCertified d (λ tree. (p : List ℤ) → IsPoint conj.now p → ⊥)) }
     ensures differences { conj.now.columns ≤ 60 → AreDifferences (2 ^ 48) conj.now.rows → IfErr result (StopsBelow conj.now.columns budget) }
 {
-    settled(alloc, conj, budget)
+    decide_by(alloc, Strategy::Full, conj, budget)
 }
 
-/// The same as `decide`, of any question.
-fn settled(alloc: Global, conj: &Conj, budget: u64) -> Result<Decision, Stop>
+/// The same as `decide`, by the walk of a strategy, which is that of `find_point_by`.
+pub fn decide_by(
+    alloc: Global,
+    strategy: Strategy,
+    conj: &Conj,
+    budget: u64,
+) -> Result<Decision, Stop>
     requires { IsWellMade conj.now }
-    ensures exact { Settles result conj.now (walk_of budget conj.now) }
+    ensures exact { Settles result conj.now (walk_of strategy budget conj.now) }
+    ensures point { IfOk result (λ d. IfMet d (λ p. IsPoint conj.now p)) }
+    ensures accepted { IfOk result (λ d. IfCertified d (λ tree. Accepts tree absurd_refusals conj.now)) }
+    ensures empty { IfOk result (λ d. IfCertified d (λ tree. (p : List ℤ) → IsPoint conj.now p → ⊥)) }
+    ensures differences { conj.now.columns ≤ 60 → AreDifferences (2 ^ 48) conj.now.rows → IfErr result (StopsBelow conj.now.columns budget) }
+{
+    settled(alloc, strategy, conj, budget)
+}
+
+/// The same as `decide_by`, of any question.
+fn settled(alloc: Global, strategy: Strategy, conj: &Conj, budget: u64) -> Result<Decision, Stop>
+    requires { IsWellMade conj.now }
+    ensures exact { Settles result conj.now (walk_of strategy budget conj.now) }
     ensures point { IfOk result (λ d. IfMet d (λ p. IsPoint conj.now p)) }
     ensures accepted { IfOk result (λ d. IfCertified d (λ tree. Accepts tree absurd_refusals conj.now)) }
     ensures empty { IfOk result (λ d. IfCertified d (λ tree. (p : List ℤ) → IsPoint conj.now p → ⊥)) }
 {
-    match walked(alloc, Aim::ForRefutation, conj, budget) {
+    match walked(alloc, strategy, Aim::ForRefutation, conj, budget) {
         Ok(
             Walked::Gone {
                 maxima,

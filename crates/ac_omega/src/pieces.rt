@@ -5,6 +5,7 @@ ghost use Rattle.ac_omega.specs.Differences.{AreDifferences, AreAllDifferences, 
 ghost use Rattle.ac_omega.specs.Elimination.{pieces_of};
 ghost use Rattle.ac_omega.specs.Projection.{HoldsFor, SomeHolds, AllGone};
 ghost use Rattle.ac_omega.specs.Replays.{AreReached, HaveAllFrom, AreOver};
+ghost use Rattle.ac_trails.specs.declared.strategy.Strategy.TheVariants.{Full};
 
 use crate::extent::Maxima;
 use crate::halt::Halt;
@@ -12,6 +13,7 @@ use crate::piece::Piece;
 use crate::search::{Aim, search};
 use ac_forms::{Conj, FormStop};
 use ac_items::Items;
+use ac_trails::Strategy;
 use std::alloc::{AllocError, Global};
 
 /// Why a question has no answer. The question is handed back as a copy.
@@ -64,7 +66,7 @@ pub fn eliminate(
     budget: u64,
 ) -> Result<Items<Piece>, Stop>
     requires { IsWellMade conj.now }
-    ensures exact { Eliminates result conj.now (pieces_of vars.now budget conj.now) }
+    ensures exact { Eliminates result conj.now (pieces_of Full vars.now budget conj.now) }
     ensures gone { IfOk result (λ pieces. AllGone vars.now pieces) }
     ensures projection { IfOk result (λ pieces. (p : List ℤ) → length p ≡ conj.now.columns → HoldsFor vars.now conj.now.rows p ↔ SomeHolds pieces p) }
     ensures reached { IfOk result (λ pieces. AreReached vars.now conj.now pieces) }
@@ -72,13 +74,43 @@ pub fn eliminate(
     ensures differences { conj.now.columns ≤ 60 → AreDifferences (2 ^ 48) conj.now.rows → IfErr result (StopsBelow conj.now.columns budget) }
     ensures difference_pieces { (b : ℕ) → conj.now.columns ≤ 60 → 1 ≤ b → b ≤ 2 ^ 48 → AreDifferences b conj.now.rows → IfOk result (λ pieces. AreAllDifferences (2 ^ length vars.now * b) pieces) }
 {
-    eliminated(alloc, conj, vars, budget)
+    eliminate_by(alloc, Strategy::Full, conj, vars, budget)
+}
+
+/// The same as `eliminate`, by the walk of a strategy.
+///
+/// The economical walk tries splinters only for pairs of a lower and an upper row whose dark shadow may lose a point, and where no
+/// column has a coefficient 1 or -1 in each of its pairs it takes one with the fewest splinters. There `Overflow` exactly also
+/// where a number of a pair's shadow or of its normal form leaves `i128`.
+pub fn eliminate_by(
+    alloc: Global,
+    strategy: Strategy,
+    conj: &Conj,
+    vars: &[usize],
+    budget: u64,
+) -> Result<Items<Piece>, Stop>
+    requires { IsWellMade conj.now }
+    ensures exact { Eliminates result conj.now (pieces_of strategy vars.now budget conj.now) }
+    ensures gone { IfOk result (λ pieces. AllGone vars.now pieces) }
+    ensures projection { IfOk result (λ pieces. (p : List ℤ) → length p ≡ conj.now.columns → HoldsFor vars.now conj.now.rows p ↔ SomeHolds pieces p) }
+    ensures reached { IfOk result (λ pieces. AreReached vars.now conj.now pieces) }
+    ensures over { (n : ℕ) → HaveAllFrom n conj.now.columns vars.now → IfOk result (λ pieces. AreOver n pieces) }
+    ensures differences { conj.now.columns ≤ 60 → AreDifferences (2 ^ 48) conj.now.rows → IfErr result (StopsBelow conj.now.columns budget) }
+    ensures difference_pieces { (b : ℕ) → conj.now.columns ≤ 60 → 1 ≤ b → b ≤ 2 ^ 48 → AreDifferences b conj.now.rows → IfOk result (λ pieces. AreAllDifferences (2 ^ length vars.now * b) pieces) }
+{
+    eliminated(alloc, strategy, conj, vars, budget)
 }
 
 /// The pieces of a question.
-fn eliminated(alloc: Global, conj: &Conj, vars: &[usize], budget: u64) -> Result<Items<Piece>, Stop>
+fn eliminated(
+    alloc: Global,
+    strategy: Strategy,
+    conj: &Conj,
+    vars: &[usize],
+    budget: u64,
+) -> Result<Items<Piece>, Stop>
     requires { IsWellMade conj.now }
-    ensures exact { Eliminates result conj.now (pieces_of vars.now budget conj.now) }
+    ensures exact { Eliminates result conj.now (pieces_of strategy vars.now budget conj.now) }
     ensures gone { IfOk result (λ pieces. AllGone vars.now pieces) }
     ensures projection { IfOk result (λ pieces. (p : List ℤ) → length p ≡ conj.now.columns → HoldsFor vars.now conj.now.rows p ↔ SomeHolds pieces p) }
 {
@@ -95,6 +127,7 @@ fn eliminated(alloc: Global, conj: &Conj, vars: &[usize], budget: u64) -> Result
     let mut pieces = Items::new(alloc);
     match search(
         alloc,
+        strategy,
         Aim::ForPieces,
         vars,
         rest,

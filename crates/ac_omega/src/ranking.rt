@@ -1,11 +1,14 @@
-ghost use Rattle.std.specs.Prelude.{◌≡◌, ◌↔◌, IsTrue, ◌<◌, ◌≤◌, ◌+◌, ◌^◌, ◌||◌, Some, pos, [], ◌∷◌, length, unsigned_abs, filter, cond};
+ghost use Rattle.std.specs.Prelude.{◌≡◌, ◌↔◌, IsTrue, IfOk, ◌<◌, ◌≤◌, ◌+◌, ◌^◌, ◌||◌, Some, pos, [], ◌∷◌, length, unsigned_abs, filter, cond};
 ghost use Rattle.ac_forms.specs.Affine.{coef};
 ghost use Rattle.ac_forms.specs.Rows.{HaveModuli, form_of};
 ghost use Rattle.ac_cert.specs.Bounds.{has_column, is_low, is_high, lows, highs, is_one_sided};
-ghost use Rattle.ac_omega.specs.Columns.{AreColumns, is_present, are_units, are_unit_pairs, excess, less, precedes, better, by_equality, passes, key, by_rule, least_by, size_key, next_column};
+ghost use Rattle.ac_omega.specs.Columns.{AreColumns, is_present, are_units, are_unit_pairs, excess, less, precedes, better, by_equality, passes, key, by_rule, by_splinters, least_by, size_key, next_column};
 
+use crate::fewest::fewest;
 use crate::scan::{common_modulus, has_column, has_divisibility, is_one_sided};
 use ac_forms::{Form, Row};
+use ac_trails::Strategy;
+use std::alloc::{AllocError, Global};
 
 /// The rules by which the next column is taken where no equality decides.
 #[derive(Clone, Copy)]
@@ -150,7 +153,7 @@ fn excess(lower: usize, upper: usize) -> i128
 }
 
 /// By how many rows the pairs of lower and upper rows of a column exceed these rows.
-fn excess_of(z: usize, rows: &[Row]) -> i128
+pub(crate) fn excess_of(z: usize, rows: &[Row]) -> i128
     ensures { result ≡ excess (length (lows z rows.now)) (length (highs z rows.now)) }
 {
     let _count = rows.len();
@@ -158,7 +161,7 @@ fn excess_of(z: usize, rows: &[Row]) -> i128
 }
 
 /// Whether a number is less than another, where none is greater than any.
-fn less(first: &Option<i128>, second: &Option<i128>) -> bool
+pub(crate) fn less(first: &Option<i128>, second: &Option<i128>) -> bool
     ensures { result ≡ less first.now second.now }
 {
     match (first, second) {
@@ -205,7 +208,7 @@ fn precedes(rule: Rule, rows: &[Row], z: usize, y: usize) -> bool
 /// The better of the best column so far and one more.
 fn better(rule: Rule, rows: &[Row], best: Option<usize>, z: usize) -> Option<usize>
     requires { HaveModuli rows.now }
-    ensures { result ≡ better (key rule rows.now) best z }
+    ensures { result ≡ better (precedes (key rule rows.now)) best z }
 {
     match best {
         None => Some(z),
@@ -244,7 +247,7 @@ fn is_smaller(form: &Form, z: usize, y: usize) -> bool
 
 /// The better of the best column of a form so far and one more.
 fn smaller(form: &Form, best: Option<usize>, z: usize) -> Option<usize>
-    ensures { result ≡ better (size_key form.now) best z }
+    ensures { result ≡ better (precedes (size_key form.now)) best z }
 {
     match best {
         None => Some(z),
@@ -260,7 +263,7 @@ fn smaller(form: &Form, best: Option<usize>, z: usize) -> Option<usize>
 
 /// The column of a form with the least coefficient other than 0, by absolute values.
 fn smallest(form: &Form, vars: &[usize]) -> Option<usize>
-    ensures { result ≡ least_by (size_key form.now) (filter (λ z. has_column z (Row.Eq form.now)) vars.now) }
+    ensures { result ≡ least_by (precedes (size_key form.now)) (filter (λ z. has_column z (Row.Eq form.now)) vars.now) }
 {
     let mut best = None;
     for z in vars {
@@ -293,27 +296,50 @@ fn by_equality(vars: &[usize], rows: &[Row]) -> Option<usize>
     None
 }
 
+/// Of the columns that rows bound from both sides the one that a strategy takes where none has a coefficient 1 or -1 in each of
+/// its pairs: by the rows that its pairs are more than its bounds, and by the fewest splinters first where these are economical.
+fn by_splinters(
+    alloc: Global,
+    strategy: Strategy,
+    vars: &[usize],
+    rows: &[Row],
+) -> Result<Option<usize>, AllocError>
+    requires { HaveModuli rows.now }
+    ensures { IfOk result (λ z. z ≡ by_splinters strategy vars.now rows.now) }
+{
+    match strategy {
+        Strategy::Full => Ok(by_rule(Rule::TwoSided, vars, rows)),
+        Strategy::Economical => fewest(alloc, vars, rows),
+    }
+}
+
 /// The next of these columns; none exactly where no row has one of them.
 ///
 /// The first rule that gives a column decides, and of equal columns the least one goes first: an equality, by its least
 /// coefficient; the least common modulus of divisibilities; rows from one side only; pairs of a lower and an upper row
-/// that have a coefficient 1 or -1 each, and then any, by the rows that the pairs are more than the rows.
+/// that have a coefficient 1 or -1 each, by the rows that the pairs are more than the rows; and then any, by the same, or by
+/// the fewest splinters first where these are economical.
 #[tactic(auto, unfolding(crate::specs::Columns::next_column))]
-pub(crate) fn next_column(vars: &[usize], rows: &[Row]) -> Option<usize>
+pub(crate) fn next_column(
+    alloc: Global,
+    strategy: Strategy,
+    vars: &[usize],
+    rows: &[Row],
+) -> Result<Option<usize>, AllocError>
     requires { HaveModuli rows.now }
-    ensures { result ≡ next_column vars.now rows.now }
+    ensures { IfOk result (λ z. z ≡ next_column strategy vars.now rows.now) }
 {
     if let Some(z) = by_equality(vars, rows) {
-        return Some(z);
+        return Ok(Some(z));
     }
     if let Some(z) = by_rule(Rule::Divided, vars, rows) {
-        return Some(z);
+        return Ok(Some(z));
     }
     if let Some(z) = by_rule(Rule::OneSided, vars, rows) {
-        return Some(z);
+        return Ok(Some(z));
     }
     if let Some(z) = by_rule(Rule::UnitPairs, vars, rows) {
-        return Some(z);
+        return Ok(Some(z));
     }
-    by_rule(Rule::TwoSided, vars, rows)
+    by_splinters(alloc, strategy, vars, rows)
 }

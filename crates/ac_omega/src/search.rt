@@ -21,7 +21,7 @@ use crate::scan::are_absurd;
 use ac_cert::{Choice, StepStop};
 use ac_forms::{Conj, FormStop, Row};
 use ac_items::Items;
-use ac_trails::Refutation;
+use ac_trails::{Refutation, Strategy};
 use std::alloc::{AllocError, Global};
 
 /// What a walk is for.
@@ -162,6 +162,7 @@ fn at_leaf(
 #[cycle(searches)]
 pub(crate) fn search(
     alloc: Global,
+    strategy: Strategy,
     aim: Aim,
     vars: &[usize],
     conj: Conj,
@@ -174,8 +175,8 @@ pub(crate) fn search(
     requires cost { cost ≤ budget }
     requires made { IsWellMade conj }
     requires normal { IsNormal conj }
-    requires settle { SettleFor aim conj.columns vars.now }
-    ensures exact { (n : ℕ) → budget < n + cost → Visits result pieces.new (walk (visiting aim vars.now) n budget (path.old, conj) cost (seen met pieces.old)) }
+    requires settle { SettleFor strategy aim conj.columns vars.now }
+    ensures exact { (n : ℕ) → budget < n + cost → Visits result pieces.new (walk (visiting strategy aim vars.now) n budget (path.old, conj) cost (seen met pieces.old)) }
     ensures point { IfOk result (λ w. IfFound w (λ p. IsPoint conj p)) }
     ensures grown { IfOk result (λ w. HasGrown cost budget w) }
     ensures same_path { IfOk result (λ w. IfGone w (λ s r. path.new ≡ path.old)) }
@@ -197,9 +198,12 @@ pub(crate) fn search(
             refutation: wanted(aim, Refutation::Absurd(conj)),
         });
     }
-    match next_column(vars, conj.rows.as_slice()) {
-        Some(z) => by_column(alloc, aim, vars, conj, z, budget, spent, all, path, pieces),
-        None => at_leaf(alloc, aim, conj, spent, all, path, pieces),
+    match next_column(alloc, strategy, vars, conj.rows.as_slice()) {
+        Ok(Some(z)) => by_column(
+            alloc, strategy, aim, vars, conj, z, budget, spent, all, path, pieces,
+        ),
+        Ok(None) => at_leaf(alloc, aim, conj, spent, all, path, pieces),
+        Err(want) => Err(Halt::Memory(want)),
     }
 }
 
@@ -207,6 +211,7 @@ pub(crate) fn search(
 #[cycle(searches)]
 fn by_column(
     alloc: Global,
+    strategy: Strategy,
     aim: Aim,
     vars: &[usize],
     conj: Conj,
@@ -219,12 +224,12 @@ fn by_column(
 ) -> Result<Walked, Halt>
     requires cost { cost ≤ budget }
     requires made { IsWellMade conj }
-    requires settle { SettleFor aim conj.columns vars.now }
+    requires settle { SettleFor strategy aim conj.columns vars.now }
     requires possible { are_absurd conj.rows ≡ false }
     requires column { z < conj.columns }
     requires within { Bounds met conj.rows }
-    requires legal { AreLegal (tries_for z conj.rows) conj }
-    ensures exact { Tried result pieces.new aim vars.now budget path.old conj (tries_for z conj.rows) cost (seen met pieces.old) }
+    requires legal { AreLegal (tries_for strategy z conj.rows) conj }
+    ensures exact { Tried result pieces.new strategy aim vars.now budget path.old conj (tries_for strategy z conj.rows) cost (seen met pieces.old) }
     ensures point { IfOk result (λ w. IfFound w (λ p. IsPoint conj p)) }
     ensures grown { IfOk result (λ w. HasGrown cost budget w) }
     ensures same_path { IfOk result (λ w. IfGone w (λ s r. path.new ≡ path.old)) }
@@ -236,16 +241,17 @@ fn by_column(
     let rows = conj.rows.as_slice();
     let mut choices = Items::new(alloc);
     let mut below = Items::new(alloc);
-    let mut cursor = first(z, rows);
+    let mut cursor = first(strategy, z, rows);
     let mut spent = cost;
     let mut all = met;
     'choices: loop {
-        match advance(z, rows, &cursor) {
-            Next::End => break,
-            Next::Wide => return Err(Halt::Wide),
-            Next::Try(choice, next) => {
+        match advance(alloc, strategy, z, rows, &cursor) {
+            Err(want) => return Err(Halt::Memory(want)),
+            Ok(Next::End) => break,
+            Ok(Next::Wide) => return Err(Halt::Wide),
+            Ok(Next::Try(choice, next)) => {
                 match by_choice(
-                    alloc, aim, vars, &conj, &choice, budget, spent, all, path, pieces,
+                    alloc, strategy, aim, vars, &conj, &choice, budget, spent, all, path, pieces,
                 ) {
                     Ok(
                         Walked::Gone {
@@ -283,6 +289,7 @@ fn by_column(
 #[cycle(searches)]
 fn by_choice(
     alloc: Global,
+    strategy: Strategy,
     aim: Aim,
     vars: &[usize],
     conj: &Conj,
@@ -295,9 +302,9 @@ fn by_choice(
 ) -> Result<Walked, Halt>
     requires cost { cost ≤ budget }
     requires made { IsWellMade conj.now }
-    requires settle { SettleFor aim conj.now.columns vars.now }
+    requires settle { SettleFor strategy aim conj.now.columns vars.now }
     requires legal { is_legal choice.now conj.now ≡ true }
-    ensures exact { Tried result pieces.new aim vars.now budget path.old conj.now (Some choice.now ∷ []) cost (seen met pieces.old) }
+    ensures exact { Tried result pieces.new strategy aim vars.now budget path.old conj.now (Some choice.now ∷ []) cost (seen met pieces.old) }
     ensures point { IfOk result (λ w. IfFound w (λ p. IsPoint conj.now p)) }
     ensures grown { IfOk result (λ w. HasGrown cost budget w) }
     ensures same_path { IfOk result (λ w. IfGone w (λ s r. path.new ≡ path.old)) }
@@ -314,6 +321,7 @@ fn by_choice(
     path.push(*choice)?;
     match search(
         alloc,
+        strategy,
         aim,
         vars,
         rest,

@@ -5,4 +5,4 @@ use Rattle.ac_omega.proofs.laws.walk_is_one.Goals as goal
 
 pub returns : goal.returns
 unfolding elimination
-returns c = λ n o s x y. walk-enough (elimination c.args.vars.now) (λ d. has-rows c.args.vars.now d) n o c.args.budget c.args.conj.now c.args.cost s c.requires x y
+returns c = λ n o s x y. walk-enough (elimination c.args.strategy c.args.vars.now) (λ d. has-rows c.args.strategy c.args.vars.now d) n o c.args.budget c.args.conj.now c.args.cost s c.requires x y

@@ -22,12 +22,12 @@ abbrev pub invariant-by_column-choices : goal.invariant-by_column-choices
 invariant-by_column-choices l = record {
   low : l.cost ≤ l.spent;
   high : l.spent ≤ l.budget;
-  sound : IsSound l.z l.rows l.cursor;
-  legal : AreLegal (tries_left l.z l.rows l.cursor) l.fn.conj;
+  sound : IsSound l.strategy l.z l.rows l.cursor;
+  legal : AreLegal (tries_left l.strategy l.z l.rows l.cursor) l.fn.conj;
   same_path : l.path ≡ l.initial.path;
-  so_far : (n : ℕ) → l.budget < n + l.cost → tried l.aim l.vars n l.budget l.initial.path l.fn.conj (tries_for l.z l.fn.conj.rows) l.cost (seen l.fn.met l.initial.pieces)
-      ≡ tried l.aim l.vars n l.budget l.initial.path l.fn.conj (tries_left l.z l.rows l.cursor) l.spent (seen l.all l.pieces);
-  tried : WantsRefutation l.aim → all_of (tries_for l.z l.fn.conj.rows) ≡ gathered l.choices (tries_left l.z l.rows l.cursor);
+  so_far : (n : ℕ) → l.budget < n + l.cost → tried l.strategy l.aim l.vars n l.budget l.initial.path l.fn.conj (tries_for l.strategy l.z l.fn.conj.rows) l.cost (seen l.fn.met l.initial.pieces)
+      ≡ tried l.strategy l.aim l.vars n l.budget l.initial.path l.fn.conj (tries_left l.strategy l.z l.rows l.cursor) l.spent (seen l.all l.pieces);
+  tried : WantsRefutation l.aim → all_of (tries_for l.strategy l.z l.fn.conj.rows) ≡ gathered l.choices (tries_left l.strategy l.z l.rows l.cursor);
   refuted : AreRefutedBehind l.choices l.fn.conj l.below;
   within : AllByRecursion (IsWithin l.all) l.below;
   moduli : AreModuliWithin l.all.factor l.choices;
@@ -35,4 +35,4 @@ invariant-by_column-choices l = record {
 }
 
 abbrev pub decreases-by_column-choices : goal.decreases-by_column-choices
-decreases-by_column-choices l = length (tries_left l.z l.rows l.cursor)
+decreases-by_column-choices l = length (tries_left l.strategy l.z l.rows l.cursor)
