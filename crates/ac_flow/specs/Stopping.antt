@@ -4,15 +4,11 @@ use Rattle.std.specs.List.{Contains}
 use Rattle.ac_forms.specs.Renaming.{rows_renaming}
 use Rattle.ac_forms.specs.declared.conj.Conj.{Conj}
 use Rattle.ac_forms.specs.declared.row.Row.{Row}
-use Rattle.ac_omega.specs.Answers.{parts}
-use Rattle.ac_omega.specs.Elimination.{pieces_of}
-use Rattle.ac_omega.specs.Sweep.{Pieces}
 use Rattle.ac_omega.specs.declared.piece.Piece.{Piece}
 use Rattle.ac_poly.specs.declared.types.Model.{Model}
 use Rattle.ac_poly.specs.declared.types.StmtModel.{StmtModel}
 use Rattle.ac_kills.specs.Causes.{CutStops}
-use Rattle.ac_kills.specs.Kills.{columns_from}
-use Rattle.ac_kills.specs.Remaining.{CopyStops}
+use Rattle.ac_kills.specs.Remaining.{IsWalkOf, CopyStops}
 use Rattle.ac_kills.specs.declared.cut.CutStop.{CutStop}
 use Rattle.ac_kills.specs.declared.cut.CutStop.TheVariants.{Overflow, Spent, Full, Memory}
 use Rattle.ac_paths.specs.Columns.{base, columns_of}
@@ -64,8 +60,7 @@ pub record IsKillPiece (budget : ℕ) (m : Model) (a : Assumed) (ws : List CopyN
   pub copy : Conj
   pub made : conj_of m a writing ≡ Some copy
   pub pieces : List Piece
-  pub cost : ℕ
-  pub walk : pieces_of (columns_from (case_width m.params a) copy) budget copy ≡ Pieces (parts pieces) cost
+  pub walk : IsWalkOf budget (case_width m.params a) copy pieces
   pub piece : Piece
   pub found : Contains pieces piece
   pub rows : kill ≡ piece.rest.rows

@@ -2,6 +2,7 @@
 ghost use Rattle.std.specs.Prelude.{◌≡◌, length, IfOk, IfErr};
 ghost use Rattle.ac_forms.specs.Rows.{AreRowsOver, Meets};
 ghost use Rattle.ac_omega.specs.Decisions.{walk_of, EndsAt};
+ghost use Rattle.ac_trails.specs.declared.strategy.Strategy.TheVariants.{Full};
 ghost use Rattle.ac_flow.specs.Contexts.{ContextStops};
 ghost use Rattle.ac_flow.specs.Readers.{IsLowered};
 ghost use Rattle.ac_flow.specs.Writings.{over};
@@ -19,7 +20,7 @@ use std::alloc::Global;
 /// `Spent` where its running cost exceeds the budget, with that cost. The question is handed back.
 pub fn context_point(alloc: Global, m: &Model, limits: &Limits) -> Result<Vec<i128>, ContextStop>
     requires { IsLowered m.now }
-    ensures exact { IfOk result (λ params. EndsAt params.items (over m.now.params m.now.context) (walk_of limits.now.budget (over m.now.params m.now.context))) }
+    ensures exact { IfOk result (λ params. EndsAt params.items (over m.now.params m.now.context) (walk_of Full limits.now.budget (over m.now.params m.now.context))) }
     ensures point { IfOk result (λ params. (length params.items ≡ m.now.params) × Meets m.now.context params.items) }
     ensures stops { IfErr result (ContextStops limits.now.budget m.now) }
 {

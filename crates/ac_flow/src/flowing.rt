@@ -266,7 +266,8 @@ fn flows(alloc: Global, m: &Model, budget: u64) -> Result<Items<ReadFlow>, FlowS
 ///
 /// `Overflow` only where a number of a question leaves `i128`: a case's rows with further rows from its kills, a copy whose
 /// coordinates are eliminated, or rows that cannot be formed, of which those before are shown. `Spent` only where the running
-/// cost of such a question exceeds the budget. `Pieces` only where more than 4,096 pieces of one read or output are kept.
+/// cost of such a question exceeds the budget. Questions go to the economical elimination first, and to the full one where that
+/// stops; a stop is the full one's. `Pieces` only where more than 4,096 pieces of one read or output are kept.
 pub fn flow(alloc: Global, m: &Model, limits: &Limits) -> Result<Flow, FlowStop>
     requires { IsLowered m.now }
     ensures cases { IfOk result (λ f. AreFlows m.now (readers m.now) f.reads) }

@@ -6,8 +6,7 @@ use Rattle.ac_forms.specs.Negation.{negation, NegationFits}
 use Rattle.ac_forms.specs.declared.conj.Conj.{Conj}
 use Rattle.ac_forms.specs.declared.row.Row.{Row}
 use Rattle.ac_sets.specs.Ends.{is_among}
-use Rattle.ac_omega.specs.Decisions.{walk_of, IsWide, IsSpent}
-use Rattle.ac_kills.specs.Causes.{IsKillRow, IsFurther, Itself, OfNegation, AreFurther, IsCutCase, AreKillRows, AreCutCases, StopsOn, CutStops, IfFull}
+use Rattle.ac_kills.specs.Causes.{IsKillRow, IsFurther, Itself, OfNegation, AreFurther, IsCutCase, AreKillRows, AreCutCases, IsTooWide, CostsTooMuch, StopsOn, CutStops, IfFull}
 use Rattle.ac_kills.specs.Cuts.{with_new, with_all_new, extended, after_row, row_parts, parts_outside, HasPoint, Sieved, AreKept, ArePartlyKept, Cuts, CutsAll, AreCut, AreAllCut, ArePartlyCut, AllHavePoints}
 use Rattle.ac_kills.specs.declared.cut.CutStop.{CutStop}
 use Rattle.ac_kills.specs.declared.cut.CutStop.TheVariants.{Overflow, Spent, Full, Memory}
@@ -63,8 +62,8 @@ part-case base kills c d s n k f h = all-new-case base kills d.columns c d.rows 
 
 -- a question that is a cut case
 pub on_case : (budget : ℕ) (base : List Row) (kills : List (List Row)) (q : Conj) (e : CutStop) → IsCutCase base kills q → StopsOn budget q e → CutStops budget base kills e
-on_case budget base kills q (Overflow c) k s = (subst (IsCutCase base kills) (sym s.0) k, inl (subst (λ (x : Conj). IsWide x (walk_of budget x)) (sym s.0) s.1))
-on_case budget base kills q (Spent c m) k s = (subst (IsCutCase base kills) (sym s.0) k, subst (λ (x : Conj). IsSpent m (walk_of budget x)) (sym s.0) s.1)
+on_case budget base kills q (Overflow c) k s = (subst (IsCutCase base kills) (sym s.0) k, inl (subst (IsTooWide budget) (sym s.0) s.1))
+on_case budget base kills q (Spent c m) k s = (subst (IsCutCase base kills) (sym s.0) k, subst (CostsTooMuch budget m) (sym s.0) s.1)
 on_case budget base kills q Full k s = tt
 on_case budget base kills q (Memory e) k s = tt
 

@@ -15,7 +15,8 @@ use Rattle.ac_forms.specs.declared.row.Row.{Row}
 use Rattle.ac_forms.specs.declared.row.Row.TheVariants.{Eq, Div, Ge}
 use Rattle.ac_sets.proofs.Commons.{Meets-cut}
 use Rattle.ac_cert.proofs.Keeping.{Meets-append}
-use Rattle.ac_omega.specs.Answers.{Eliminates, parts}
+use Rattle.ac_omega.specs.Either.{EliminatesEither}
+use Rattle.ac_trails.specs.declared.strategy.Strategy.TheVariants.{Full, Economical}
 use Rattle.ac_omega.specs.Columns.{AreColumns}
 use Rattle.ac_omega.specs.Elimination.{pieces_of}
 use Rattle.ac_omega.specs.Projection.{is_among, DiffersIn, HoldsFor, SomeHolds, AllGone}
@@ -147,16 +148,16 @@ pub has-all : (first : ℕ) (copy : Conj) → first ≤ copy.columns → HaveAll
 has-all first copy low j l h = among-range first (copy.columns - first) j l (omega (arith, low, h))
 
 pub record Answered (first : ℕ) (copy : Conj) (budget : ℕ) (r : Result (List Piece) Stop) : Type 0 where
-  pub exact : Eliminates r copy (pieces_of (columns_from first copy) budget copy)
+  pub exact : EliminatesEither r copy (pieces_of Economical (columns_from first copy) budget copy) (pieces_of Full (columns_from first copy) budget copy)
   pub kills : IfOk r (λ pieces. AreReached (columns_from first copy) copy pieces)
   pub over : IfOk r (λ pieces. AreOver first pieces)
   pub projection : IfOk r (λ pieces. AreProjection first copy pieces)
 
-pub answered : (first : ℕ) (copy : Conj) (budget : ℕ) (vars : List ℕ) (r : Result (List Piece) Stop) → vars ≡ columns_from first copy → first ≤ copy.columns → Eliminates r copy (pieces_of vars budget copy)
+pub answered : (first : ℕ) (copy : Conj) (budget : ℕ) (vars : List ℕ) (r : Result (List Piece) Stop) → vars ≡ columns_from first copy → first ≤ copy.columns → EliminatesEither r copy (pieces_of Economical vars budget copy) (pieces_of Full vars budget copy)
     → IfOk r (λ pieces. (p : List ℤ) → length p ≡ copy.columns → HoldsFor vars copy.rows p ↔ SomeHolds pieces p) → IfOk r (λ pieces. AreReached vars copy pieces)
     → ((n : ℕ) → HaveAllFrom n copy.columns vars → IfOk r (λ pieces. AreOver n pieces)) → Answered first copy budget r
 answered first copy budget vars r is low exact points reached over = record {
-  exact = subst (λ (zs : List ℕ). Eliminates r copy (pieces_of zs budget copy)) is exact;
+  exact = subst (λ (zs : List ℕ). EliminatesEither r copy (pieces_of Economical zs budget copy) (pieces_of Full zs budget copy)) is exact;
   kills = subst (λ (zs : List ℕ). IfOk r (λ pieces. AreReached zs copy pieces)) is reached;
   over = all;
   projection = projected r all (subst (λ (zs : List ℕ). IfOk r (λ pieces. (p : List ℤ) → length p ≡ copy.columns → HoldsFor zs copy.rows p ↔ SomeHolds pieces p)) is points);

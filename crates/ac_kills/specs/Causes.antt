@@ -5,7 +5,9 @@ use Rattle.ac_forms.specs.Negation.{negation, NegationFits}
 use Rattle.ac_forms.specs.declared.conj.Conj.{Conj}
 use Rattle.ac_forms.specs.declared.row.Row.{Row}
 use Rattle.ac_sets.specs.Ends.{is_among}
+use Rattle.ac_trails.specs.declared.strategy.Strategy.TheVariants.{Full as Fully, Economical}
 use Rattle.ac_omega.specs.Decisions.{walk_of, IsWide, IsSpent}
+use Rattle.ac_omega.specs.Either.{StopsFinding}
 use Rattle.ac_kills.specs.declared.cut.CutStop.{CutStop}
 use Rattle.ac_kills.specs.declared.cut.CutStop.TheVariants.{Overflow, Spent, Full, Memory}
 
@@ -38,17 +40,25 @@ abbrev pub AreCutCases : List Row → List (List Row) → List Conj → Type 0
 AreCutCases base kills [] = Unit {0}
 AreCutCases base kills (c ∷ cs) = IsCutCase base kills c × AreCutCases base kills cs
 
+-- the economical search for a point stops, and of the full one a number leaves `i128`
+abbrev pub IsTooWide : ℕ → Conj → Type 0
+IsTooWide budget q = StopsFinding q (walk_of Economical budget q) × IsWide q (walk_of Fully budget q)
+
+-- and the full one costs more than the budget, k where it is given up
+abbrev pub CostsTooMuch : ℕ → ℕ → Conj → Type 0
+CostsTooMuch budget k q = StopsFinding q (walk_of Economical budget q) × IsSpent k (walk_of Fully budget q)
+
 -- a question stops cutting: it is too wide, or costs more than the budget
 abbrev pub StopsOn : ℕ → Conj → CutStop → Type 0
-StopsOn budget q (Overflow c) = (c ≡ q) × IsWide q (walk_of budget q)
-StopsOn budget q (Spent c k) = (c ≡ q) × IsSpent k (walk_of budget q)
+StopsOn budget q (Overflow c) = (c ≡ q) × IsTooWide budget q
+StopsOn budget q (Spent c k) = (c ≡ q) × CostsTooMuch budget k q
 StopsOn budget q Full = Unit {0}
 StopsOn budget q (Memory e) = Unit {0}
 
 -- a cut case does, or its next row cannot be formed
 abbrev pub CutStops : ℕ → List Row → List (List Row) → CutStop → Type 0
-CutStops budget base kills (Overflow c) = IsCutCase base kills c × (IsWide c (walk_of budget c) ⊎ ((r : Row) × IsKillRow kills r × (¬ NegationFits r)))
-CutStops budget base kills (Spent c k) = IsCutCase base kills c × IsSpent k (walk_of budget c)
+CutStops budget base kills (Overflow c) = IsCutCase base kills c × (IsTooWide budget c ⊎ ((r : Row) × IsKillRow kills r × (¬ NegationFits r)))
+CutStops budget base kills (Spent c k) = IsCutCase base kills c × CostsTooMuch budget k c
 CutStops budget base kills Full = Unit {0}
 CutStops budget base kills (Memory e) = Unit {0}
 

@@ -12,7 +12,10 @@ use Rattle.ac_omega.specs.Replays.{AreReached, AreOver}
 use Rattle.ac_kills.specs.Kills.{columns_from, AreProjection}
 use Rattle.ac_forms.specs.declared.row.Row.{Row}
 use Rattle.ac_omega.specs.Answers.{parts, saturated}
+use Rattle.ac_omega.specs.Either.{StopsEliminating}
 use Rattle.ac_omega.specs.Elimination.{pieces_of}
+use Rattle.ac_trails.specs.declared.strategy.Strategy.{Strategy}
+use Rattle.ac_trails.specs.declared.strategy.Strategy.TheVariants.{Full as Fully, Economical}
 use Rattle.ac_omega.specs.Sweep.{Pieces, Wide, Spent as Costly}
 use Rattle.ac_kills.specs.Causes.{AreKillRows, AreCutCases, CutStops}
 use Rattle.ac_kills.specs.declared.cut.CutStop.{CutStop}
@@ -64,9 +67,14 @@ abbrev pub AllKillsOf : List (List Row) → List (List Piece) → Type 0
 AllKillsOf kills [] = Unit {0}
 AllKillsOf kills (k ∷ ks) = AreKillsOf kills k × AllKillsOf kills ks
 
--- they are what is left where a copy's further columns are eliminated
+-- they are what is left where a copy's further columns are eliminated by a strategy
+abbrev pub AreLeftBy : Strategy → ℕ → ℕ → Conj → List Piece → Type 0
+AreLeftBy s budget first copy found = (cost : ℕ) × (pieces_of s (columns_from first copy) budget copy ≡ Pieces (parts found) cost)
+
+-- by the economical one, or where that stops by the full one
 abbrev pub IsWalkOf : ℕ → ℕ → Conj → List Piece → Type 0
-IsWalkOf budget first copy found = (cost : ℕ) × (pieces_of (columns_from first copy) budget copy ≡ Pieces (parts found) cost)
+IsWalkOf budget first copy found =
+    AreLeftBy Economical budget first copy found ⊎ (StopsEliminating (pieces_of Economical (columns_from first copy) budget copy) × AreLeftBy Fully budget first copy found)
 
 -- what is left of a case outside kill pieces: its points at which none of them holds. No two of the pieces have a point in
 -- common, and each has one
@@ -87,9 +95,11 @@ pub record IsRemaining (case : Conj) (copies pieces : List Conj) (kills : List (
   pub killed : AllKills case.columns copies kills
   pub cover : (p : List ℤ) → length p ≡ case.columns → Meets case.rows p → InSome p pieces ⊎ SomeKill kills p
 
--- the elimination of a copy stops
+-- the elimination of a copy stops: the economical one, and so does the full one
 abbrev pub CopyStops : ℕ → ℕ → Conj → CutStop → Type 0
-CopyStops budget first copy (Overflow c) = (c ≡ copy) × (pieces_of (columns_from first copy) budget copy ≡ Wide)
-CopyStops budget first copy (Spent c k) = (c ≡ copy) × (j : ℕ) × (pieces_of (columns_from first copy) budget copy ≡ Costly j) × (k ≡ saturated j)
+CopyStops budget first copy (Overflow c) =
+    (c ≡ copy) × StopsEliminating (pieces_of Economical (columns_from first copy) budget copy) × (pieces_of Fully (columns_from first copy) budget copy ≡ Wide)
+CopyStops budget first copy (Spent c k) =
+    (c ≡ copy) × StopsEliminating (pieces_of Economical (columns_from first copy) budget copy) × (j : ℕ) × (pieces_of Fully (columns_from first copy) budget copy ≡ Costly j) × (k ≡ saturated j)
 CopyStops budget first copy Full = ⊥
 CopyStops budget first copy (Memory e) = Unit {0}

@@ -10,7 +10,7 @@ ghost use Rattle.ac_kills.specs.Cuts.{with_new, with_all_new, extended, row_part
 
 use ac_forms::{Conj, FormStop, Row};
 use ac_items::Items;
-use ac_omega::{Decided, Stop, find_point};
+use ac_omega::{Decided, Stop, settle_point};
 use std::alloc::{AllocError, AllocFailed, Global};
 
 /// Why cutting stops.
@@ -92,7 +92,7 @@ pub(crate) fn has_point(alloc: Global, conj: &Conj, budget: u64) -> Result<bool,
     ensures stops { IfErr result (StopsOn budget conj.now) }
     ensures full { IfErr result (λ e. IfFull e ⊥) }
 {
-    match find_point(alloc, conj, budget) {
+    match settle_point(alloc, conj, budget) {
         Ok(Decided::Point(_)) => Ok(true),
         Ok(Decided::Empty(_)) => Ok(false),
         Err(Stop::Overflow(question)) => Err(CutStop::Overflow(question)),

@@ -1,16 +1,17 @@
 ghost use Rattle.std.specs.Prelude.{◌≡◌, ◌≤◌, ◌-◌, IfOk, IfErr};
 ghost use Rattle.std.specs.List.{range_with_len};
 ghost use Rattle.ac_forms.specs.Rows.{IsWellMade};
-ghost use Rattle.ac_omega.specs.Answers.{Eliminates};
+ghost use Rattle.ac_omega.specs.Either.{EliminatesEither};
 ghost use Rattle.ac_omega.specs.Elimination.{pieces_of};
 ghost use Rattle.ac_kills.specs.Kills.{columns_from, AreProjection};
 ghost use Rattle.ac_omega.specs.Replays.{AreReached, AreOver};
+ghost use Rattle.ac_trails.specs.declared.strategy.Strategy.TheVariants.{Full, Economical};
 ghost use Rattle.ac_kills.specs.Remaining.{AreFound, IsWalkOf, CopyStops};
 
 use crate::cut::CutStop;
 use ac_forms::Conj;
 use ac_items::Items;
-use ac_omega::{Piece, Stop, eliminate};
+use ac_omega::{Piece, Stop, settle_pieces};
 use std::alloc::{AllocError, Global};
 
 /// The columns from the first one on.
@@ -27,7 +28,8 @@ fn columns_from(alloc: Global, first: usize, columns: usize) -> Result<Vec<usize
 }
 
 /// What is left of a copy where its columns, those from the first one on, are eliminated, each piece with the choices that
-/// lead to it: they kill a place on whose path the piece's rows stand.
+/// lead to it: they kill a place on whose path the piece's rows stand. The columns go by the economical elimination, and where
+/// that stops by the full one, whose stop is handed on.
 pub fn kill_pieces(
     alloc: Global,
     copy: &Conj,
@@ -52,7 +54,7 @@ pub fn kill_pieces(
 fn eliminated(alloc: Global, copy: &Conj, first: usize, budget: u64) -> Result<Items<Piece>, Stop>
     requires made { IsWellMade copy.now }
     requires first { first ≤ copy.now.columns }
-    ensures exact { Eliminates result copy.now (pieces_of (columns_from first copy.now) budget copy.now) }
+    ensures exact { EliminatesEither result copy.now (pieces_of Economical (columns_from first copy.now) budget copy.now) (pieces_of Full (columns_from first copy.now) budget copy.now) }
     ensures kills { IfOk result (λ pieces. AreReached (columns_from first copy.now) copy.now pieces) }
     ensures over { IfOk result (λ pieces. AreOver first pieces) }
     ensures projection { IfOk result (λ pieces. AreProjection first copy.now pieces) }
@@ -61,5 +63,5 @@ fn eliminated(alloc: Global, copy: &Conj, first: usize, budget: u64) -> Result<I
         Ok(vars) => vars,
         Err(want) => return Err(Stop::Memory(want)),
     };
-    eliminate(alloc, copy, &vars, budget)
+    settle_pieces(alloc, copy, &vars, budget)
 }

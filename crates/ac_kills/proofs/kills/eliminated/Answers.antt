@@ -2,10 +2,10 @@ use Rattle.std.proofs.Common.{◌∙◌}
 use Rattle.ac_kills.proofs.Projections.{Answered, answered}
 use Rattle.ac_kills.proofs.kills.eliminated.Goals as goal
 
-all : (c : goal.After-drop-vars) → Answered c.args.first c.args.copy.now c.args.budget c.eliminate.result
+all : (c : goal.After-drop-vars) → Answered c.args.first c.args.copy.now c.args.budget c.settle_pieces.result
 all c =
-    answered c.args.first c.args.copy.now c.args.budget c.deref.result.now c.eliminate.result (c.deref.ensures.value ∙ c.in-Ok.ensures) c.requires.first c.eliminate.ensures.exact c.eliminate.ensures.projection c.eliminate.ensures.reached
-    c.eliminate.ensures.over
+    answered c.args.first c.args.copy.now c.args.budget c.deref.result.now c.settle_pieces.result (c.deref.ensures.value ∙ c.in-Ok.ensures) c.requires.first c.settle_pieces.ensures.exact c.settle_pieces.ensures.projection c.settle_pieces.ensures.reached
+    c.settle_pieces.ensures.over
 
 pub returns-clause-exact : goal.returns-clause-exact
 returns-clause-exact c = (all c).exact
