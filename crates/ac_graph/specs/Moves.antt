@@ -98,6 +98,16 @@ AreReached d starts pairs = (p : Position × Position) → In p pairs ↔ Reache
 abbrev pub AreDistinct : List (Position × Position) → Type 0
 AreDistinct pairs = (i j : ℕ) (p : Position × Position) → slice_get pairs i ≡ Some p → slice_get pairs j ≡ Some p → i ≡ j
 
+-- the places of the pairs that meet a condition
+pub record ArePlaces (P : Position × Position → Type 0) (pairs : List (Position × Position)) (places : List ℕ) : Type 0 where
+  pub sound : (j : ℕ) → In j places → (q : Position × Position) × P q × (slice_get pairs j ≡ Some q)
+  pub whole : (q : Position × Position) → P q → (j : ℕ) × In j places × (slice_get pairs j ≡ Some q)
+
+-- for each of the pairs the places among them of those to which it moves
+pub record AreTargets (d : Dependences) (pairs : List (Position × Position)) (next : List (List ℕ)) : Type 0 where
+  pub each : length next ≡ length pairs
+  pub follows : (i : ℕ) (nodes : List ℕ) (p : Position × Position) → slice_get next i ≡ Some nodes → slice_get pairs i ≡ Some p → ArePlaces (Moves d p) pairs nodes
+
 -- an output of both programs against itself
 abbrev pub start_of : ℕ → Position × Position
 start_of output = (Output output, Output output)

@@ -9,6 +9,7 @@ use Rattle.ac_syntax.specs.declared.tree.Order.{Order}
 use Rattle.ac_syntax.specs.declared.tree.Symbol.{Symbol}
 use Rattle.ac_flow.specs.declared.types.ReadFlow.{ReadFlow}
 use Rattle.ac_graph.specs.Moves.{Dependences, Moves, Reaches, AreDistinct, target}
+pub use Rattle.ac_graph.specs.Moves.{ArePlaces}
 
 -- whether two positions are one
 abbrev pub same_position : Position → Position → Bool
@@ -66,11 +67,6 @@ pub record Extends (old added new : List (Position × Position)) : Type 0 where
   pub has : (q : Position × Position) → In q new → In q old ⊎ In q added
   pub keeps : (q : Position × Position) → In q added → In q new
   pub distinct : AreDistinct old → AreDistinct new
-
--- the places of the pairs that meet a condition
-pub record ArePlaces (P : Position × Position → Type 0) (pairs : List (Position × Position)) (places : List ℕ) : Type 0 where
-  pub sound : (j : ℕ) → In j places → (q : Position × Position) × P q × (slice_get pairs j ≡ Some q)
-  pub whole : (q : Position × Position) → P q → (j : ℕ) × In j places × (slice_get pairs j ≡ Some q)
 
 -- the pairs that are found from some, where the first of them are followed
 pub record IsReaching (d : Dependences) (starts pairs : List (Position × Position)) (next : List (List ℕ)) (at : ℕ) : Type 0 where

@@ -4,7 +4,7 @@ ghost use Rattle.ac_syntax.specs.declared.tree.Position.{Position};
 ghost use Rattle.ac_syntax.specs.declared.tree.Site.{Site};
 ghost use Rattle.ac_paths.specs.Going.{Pairing};
 ghost use Rattle.ac_paths.specs.Pairs.{In};
-ghost use Rattle.ac_graph.specs.Moves.{IsEdge, IsSite, dependences, pairing_of, start_of, starts_of, AreDistinct, AreRanks, AreReached, AreRecurrent, AreSites};
+ghost use Rattle.ac_graph.specs.Moves.{IsEdge, IsSite, dependences, pairing_of, start_of, starts_of, AreDistinct, AreTargets, AreRanks, AreReached, AreRecurrent, AreSites};
 ghost use Rattle.ac_graph.specs.Outlines.{AreOutlinesOf};
 
 use crate::analysis::{chosen, ranks, recurring};
@@ -45,13 +45,14 @@ fn start_of(alloc: Global, output: usize) -> Result<Items<(Position, Position)>,
 /// The moves of a pair of programs by the flows of both (S. Verdoolaege, G. Janssens and M. Bruynooghe, Equivalence checking of
 /// static affine programs using widening to handle recurrences, 2012).
 ///
-/// An edge leads from a read or an output to the root of an assignment, where some case of this source is left, and to its initial
-/// position, where the case of the initial contents is. A pair of positions moves along the edges of a read or an output on the
-/// left, else of one on the right, else from two calls of one symbol to each pair of their arguments, in order; and crossed, where
-/// the symbol has two arguments and is declared commutative. `reachable` holds each pair once that moves reach from an output
-/// against itself. A pair recurs if it lies on a cycle of moves, has the root of an assignment on a side, and either has no read
-/// or output on either side or lies on a cycle through pairs with one alone. Every cycle of moves holds such a pair: so each
-/// reachable pair has a rank, and each of its moves leads to a recurrence pair or to a pair of smaller rank.
+/// An edge leads from a read or an output to the root of an assignment, where some case of this source is left, and to its
+/// initial position, where the case of the initial contents is. A pair of positions moves along the edges of a read or an
+/// output on the left, else of one on the right, else from two calls of one symbol to each pair of their arguments, in order;
+/// and crossed, where the symbol has two arguments and is declared commutative. `reachable` holds each pair once that moves
+/// reach from an output against itself, and `targets` the places of those to which each of them moves. A pair recurs if it lies
+/// on a cycle of moves, has the root of an assignment on a side, and either has no read or output on either side or lies on a
+/// cycle through pairs with one alone. Every cycle of moves holds such a pair: so each reachable pair has a rank, and each of
+/// its moves leads to a recurrence pair or to a pair of smaller rank.
 ///
 /// The only refusal is want of memory.
 pub fn graph(alloc: Global, pair: &Pair, left: &Flow, right: &Flow) -> Result<Graph, AllocError>
@@ -59,6 +60,7 @@ pub fn graph(alloc: Global, pair: &Pair, left: &Flow, right: &Flow) -> Result<Gr
     ensures right { IfOk result (λ made. (p q : Position) → In (p, q) made.right_edges ↔ IsEdge right.now p q) }
     ensures reachable { IfOk result (λ made. AreReached (dependences pair.now made.left_edges made.right_edges) (starts_of pair.now.outputs) made.reachable) }
     ensures distinct { IfOk result (λ made. AreDistinct made.reachable) }
+    ensures targets { IfOk result (λ made. AreTargets (dependences pair.now made.left_edges made.right_edges) made.reachable made.targets) }
     ensures recurrent { IfOk result (λ made. AreRecurrent (dependences pair.now made.left_edges made.right_edges) made.reachable made.recurrent) }
     ensures ranks { IfOk result (λ made. AreRanks (dependences pair.now made.left_edges made.right_edges) made.reachable made.recurrent made.ranks) }
 {
@@ -79,6 +81,7 @@ pub fn graph(alloc: Global, pair: &Pair, left: &Flow, right: &Flow) -> Result<Gr
         left_edges,
         right_edges,
         reachable: pairs,
+        targets: next,
         recurrent,
         ranks,
     })

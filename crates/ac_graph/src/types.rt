@@ -11,6 +11,8 @@ pub struct Graph {
     pub right_edges: Items<(Position, Position)>,
     /// The pairs that moves reach from an output of both programs against itself.
     pub reachable: Items<(Position, Position)>,
+    /// For each reachable pair, in their order, the places among them of those to which it moves.
+    pub targets: Items<Items<usize>>,
     /// The recurrence pairs among them.
     pub recurrent: Items<(Position, Position)>,
     /// A number for each reachable pair, in their order: each move leads to a recurrence pair or to one of a smaller number.

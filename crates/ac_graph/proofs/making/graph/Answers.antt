@@ -40,6 +40,12 @@ returns-clause-distinct c =
     let d = dependences c.args.pair.now c.in_ok-left_edges.left_edges c.in_ok-right_edges.right_edges in
     (c.in_ok-pairs.ensures d (record { programs = c.in_ok-both.ensures; left = c.as_slice.ensures; right = c.as_slice-2.ensures })).distinct
 
+pub returns-clause-targets : goal.returns-clause-targets
+returns-clause-targets c =
+    let d = dependences c.args.pair.now c.in_ok-left_edges.left_edges c.in_ok-right_edges.right_edges in
+    let all = c.in_ok-pairs.ensures d (record { programs = c.in_ok-both.ensures; left = c.as_slice.ensures; right = c.as_slice-2.ensures }) in
+    record { each = all.each; follows = all.follows }
+
 pub returns-clause-recurrent : goal.returns-clause-recurrent
 returns-clause-recurrent c =
     let d = dependences c.args.pair.now c.in_ok-left_edges.left_edges c.in_ok-right_edges.right_edges in
