@@ -5,7 +5,8 @@ use crate::node::Node;
 use crate::types::UnfoldStop;
 use ac_claims::types::Plan;
 use ac_forms::{Conj, Row, stands};
-use ac_omega::{Decided, Decision, Stop, decide, find_point};
+use ac_omega::{Decided, Decision, Stop, settle, settle_point};
+use ac_trim::trim;
 use std::alloc::{AllocError, Global};
 
 /// What a question comes to.
@@ -31,12 +32,11 @@ fn decided(alloc: Global, node: &Node, budget: u64) -> Result<Answer, UnfoldStop
     if !node.question.conj.is_well_made() {
         return Err(UnfoldStop::Memory(AllocError));
     }
-    match decide(alloc, &node.question.conj, budget) {
-        Ok(Decision::Empty(tree)) => Ok(Answer::Empty(Some(moved_plan(
-            alloc,
-            &node.placing,
-            &tree,
-        )?))),
+    match settle(alloc, &node.question.conj, budget) {
+        Ok(Decision::Empty(tree)) => {
+            let tree = trim(alloc, node.question.conj.rows.len(), tree)?;
+            Ok(Answer::Empty(Some(moved_plan(alloc, &node.placing, &tree)?)))
+        }
         Ok(Decision::Point(point)) => Ok(Answer::Point(point)),
         Err(stop) => Err(unfold_stop(stop)),
     }
@@ -47,7 +47,7 @@ pub(crate) fn found(alloc: Global, conj: &Conj, budget: u64) -> Result<Answer, U
     if !conj.is_well_made() {
         return Err(UnfoldStop::Memory(AllocError));
     }
-    match find_point(alloc, conj, budget) {
+    match settle_point(alloc, conj, budget) {
         Ok(Decided::Empty(_)) => Ok(Answer::Empty(None)),
         Ok(Decided::Point(point)) => Ok(Answer::Point(point)),
         Err(stop) => Err(unfold_stop(stop)),

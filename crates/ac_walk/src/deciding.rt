@@ -7,6 +7,7 @@ use crate::differing::{Difference, try_point, try_refuted};
 use crate::entries::part_of;
 use crate::keys::{Key, Template};
 use crate::rounds::{Ended, walk};
+use crate::sharing::shared;
 use crate::stops::Stop;
 use ac_graph::types::Graph;
 use ac_graph::{reachable_from, sites};
@@ -35,11 +36,16 @@ pub(crate) struct Reach {
     pub number: usize,
     pub array: usize,
     pub recurrent: Items<(Position, Position)>,
+    /// Further pairs, to which many ways lead.
+    pub shared: Items<(Position, Position)>,
     pub sites: Items<Site>,
 }
 
+/// How many ways may lead to a pair before the search stops there as at a recurrence pair.
+const MOST_WAYS: u64 = 16;
+
 /// Whether a pair of positions is among others.
-fn is_among(pairs: &[(Position, Position)], pair: &(Position, Position)) -> bool {
+pub(crate) fn is_among(pairs: &[(Position, Position)], pair: &(Position, Position)) -> bool {
     for other in pairs {
         if other.0 == pair.0 && other.1 == pair.1 {
             return true;
@@ -78,6 +84,11 @@ pub(crate) fn reach_of(
         number,
         array,
         recurrent: common(alloc, pairs.as_slice(), graph.recurrent.as_slice())?,
+        shared: common(
+            alloc,
+            pairs.as_slice(),
+            shared(alloc, graph, MOST_WAYS)?.as_slice(),
+        )?,
         sites: sites(alloc, pair, pairs.as_slice())?,
     })
 }
@@ -115,13 +126,14 @@ fn refute(
     Ok(Further::Refuted)
 }
 
-/// Searches under a further order.
+/// Searches under a further order, up to the given pairs.
 fn try_order(
     alloc: Global,
     pair: &Pair,
     setting: &Setting<'_>,
     template: &Template,
     reach: &Reach,
+    stops: &[(Position, Position)],
     orders: &mut Orders,
     tried: &mut Items<Items<i64>>,
     order: Items<(Site, Order)>,
@@ -129,13 +141,12 @@ fn try_order(
     requires { ArePaired pair.now }
     ensures { IfOk result (IsFurther pair.now reach.now.number) }
 {
-    let recurrent = reach.recurrent.as_slice();
     match walk(
         alloc,
         setting,
         template,
         reach.array,
-        recurrent,
+        stops,
         order.as_slice(),
     ) {
         Ok(Ended::Stands(keys)) => Ok(Further::Decided(Decision::Stands(order, keys))),
@@ -164,13 +175,14 @@ fn unmatched(
     }
 }
 
-/// Searches on an output: under one order after another, until the output stands or each order is refuted.
-pub(crate) fn decide(
+/// Searches on an output up to the given pairs: under one order after another, until the output stands or each order is refuted.
+fn decide_up_to(
     alloc: Global,
     pair: &Pair,
     setting: &Setting<'_>,
     template: &Template,
     reach: &Reach,
+    stops: &[(Position, Position)],
 ) -> Result<Decision, AllocError>
     requires { ArePaired pair.now }
     ensures { IfOk result (IsDecision pair.now reach.now.number) }
@@ -192,6 +204,7 @@ pub(crate) fn decide(
             setting,
             template,
             reach,
+            stops,
             &mut orders,
             &mut tried,
             order,
@@ -201,4 +214,42 @@ pub(crate) fn decide(
         }
     }
     Err(AllocError)
+}
+
+/// The recurrence pairs that an output reaches, and the shared ones.
+fn all_stops(alloc: Global, reach: &Reach) -> Result<Items<(Position, Position)>, AllocError> {
+    let mut stops = Items::from_slice(alloc, reach.recurrent.as_slice())?;
+    for pair in reach.shared.as_slice() {
+        stops.push(*pair)?;
+    }
+    Ok(stops)
+}
+
+/// Searches on an output: where many ways lead to some pairs, up to these as up to recurrence pairs; and where that is not so, or
+/// where it leaves the output unknown, up to the recurrence pairs alone.
+pub(crate) fn decide(
+    alloc: Global,
+    pair: &Pair,
+    setting: &Setting<'_>,
+    template: &Template,
+    reach: &Reach,
+) -> Result<Decision, AllocError>
+    requires { ArePaired pair.now }
+    ensures { IfOk result (IsDecision pair.now reach.now.number) }
+{
+    if !reach.shared.is_empty() {
+        let stops = all_stops(alloc, reach)?;
+        match decide_up_to(alloc, pair, setting, template, reach, stops.as_slice())? {
+            Decision::Unknown(_) => {}
+            decision => return Ok(decision),
+        }
+    }
+    decide_up_to(
+        alloc,
+        pair,
+        setting,
+        template,
+        reach,
+        reach.recurrent.as_slice(),
+    )
 }

@@ -2,6 +2,7 @@
 ghost use Rattle.std.specs.Prelude.{◌≡◌, ◌≤ℤ◌, ◌++◌, pos, length, IfOk, IsTrue};
 ghost use Rattle.ac_widen.specs.Combinations.{Each};
 
+use crate::following::without_following;
 use crate::positions::{columns_of, empty_rows};
 use crate::stops::{Stop, astray, of_hull};
 use ac_claims::types::Claim;
@@ -254,7 +255,10 @@ impl Key {
         let equalities = equality_rows(alloc, &self.hull)?;
         let thresholds = template.thresholds.as_slice();
         match claim_rows(alloc, columns, thresholds, moduli, members) {
-            Ok(rows) => Ok(joined(equalities, rows)?),
+            Ok(rows) => {
+                let rows = without_following(alloc, rows, equalities.as_slice())?;
+                Ok(joined(equalities, rows)?)
+            }
             Err(FormStop::Wide) => Err(too_large(alloc, members)),
             Err(FormStop::Memory(want)) => Err(Stop::Memory(want)),
         }

@@ -4,12 +4,14 @@
 mod deciding;
 mod differing;
 mod entries;
+mod following;
 mod judging;
 mod keys;
 mod parts;
 mod positions;
 mod proving;
 mod rounds;
+mod sharing;
 mod stops;
 mod types;
 
