@@ -1,0 +1,5 @@
+mod Random
+mod Listed
+mod Shifts
+mod Holding
+mod Making

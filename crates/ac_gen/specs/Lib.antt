@@ -1,0 +1,5 @@
+pub mod Draws
+pub mod Loops
+pub mod Pipelines
+pub mod Plain
+pub mod WellMade
