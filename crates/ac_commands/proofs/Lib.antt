@@ -1,0 +1,7 @@
+mod Values
+mod Reading
+mod Numerals
+mod Lists
+mod Parsing
+pub mod Determined
+pub mod Forms
