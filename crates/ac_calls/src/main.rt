@@ -17,7 +17,11 @@ fn answer(
     out: &mut String,
 ) -> Result<bool, CaseStop> {
     let call = words.name();
-    Ok(calls.answer(alloc, call, words, out)? || ac_program_calls::answer(alloc, call, words, out)?)
+    Ok(
+        calls.answer(alloc, call, words, out)?
+            || ac_program_calls::answer(alloc, call, words, out)?
+            || ac_search_calls::answer(alloc, call, words, out)?,
+    )
 }
 
 /// Adds the answer of a line with a call.

@@ -1,6 +1,8 @@
 use crate::shown::push_conj;
 use crate::written::conj_of;
-use crate::{choices, conjs, difference, elimination, forms, integers, trails, trees, unions};
+use crate::{
+    choices, conjs, difference, elimination, forms, integers, settling, trails, trees, unions,
+};
 use ac_case_text::{CaseStop, Words};
 use ac_forms::Conj;
 use ac_items::Items;
@@ -83,6 +85,7 @@ fn answer_on_questions(
 ) -> Result<bool, CaseStop> {
     Ok(
         elimination::answer(alloc, given, call, words, out)?
+            || settling::answer(alloc, given, call, words, out)?
             || difference::answer(alloc, given, call, words, out)?
             || unions::answer(alloc, given, call, words, out)?,
     )

@@ -13,6 +13,7 @@ mod elimination;
 mod forms;
 mod given;
 mod integers;
+mod settling;
 mod shown;
 mod steps;
 mod trails;
