@@ -3,9 +3,10 @@
 use crate::answers::status_words;
 use crate::draft::Draft;
 use crate::lines::{push_answer, push_bytes, push_line};
+use crate::parted::Parted;
 use crate::relay::{RelayStop, relay};
 use ac_port::{Files, MemFiles, MemSink, WriteStop};
-use ac_top::run;
+use ac_top::{Status, run};
 use std::alloc::{AllocError, Global};
 
 /// The files of a case, their names, and its sink.
@@ -15,6 +16,17 @@ pub struct Case {
     files: MemFiles,
     names: Vec<Vec<u8>>,
     sink: MemSink,
+    may_fail: bool,
+}
+
+/// The pieces, in bytes, in which a proof file is read once more, and the longest file that is read so.
+static PIECES: [(usize, usize); 2] = [(1, 4_096), (7, 65_536)];
+
+/// What a command line came to at first.
+#[derive(Drop)]
+struct First {
+    status: Status,
+    put: Vec<u8>,
 }
 
 /// What a file held before a run.
@@ -31,6 +43,7 @@ impl Case {
             files: MemFiles::new(alloc),
             names: Vec::new(alloc),
             sink: MemSink::new(alloc),
+            may_fail: false,
         }
     }
 
@@ -53,6 +66,7 @@ impl Case {
             b"put" => self.sink.fail_put(call)?,
             _ => return Ok(false),
         }
+        self.may_fail = true;
         Ok(true)
     }
 
@@ -101,8 +115,59 @@ impl Case {
         let status = run(self.alloc, words, &mut self.files, &mut self.sink);
         push_answer(out, status_words(status).as_bytes())?;
         let put = self.sink.bytes().get(count..).unwrap_or(b"");
-        push_bytes(out, put)?;
-        self.push_changes(out, held.as_slice())
+        let first = First {
+            status,
+            put: put.to_vec(self.alloc)?,
+        };
+        push_bytes(out, first.put.as_slice())?;
+        self.push_changes(out, held.as_slice())?;
+        if self.may_fail {
+            return Ok(());
+        }
+        self.push_pieces(out, words, &first)
+    }
+
+    /// The files that words name once more.
+    fn copied(&self, words: &[Vec<u8>]) -> Result<MemFiles, AllocError> {
+        let mut files = MemFiles::new(self.alloc);
+        for word in words {
+            if let Some(bytes) = self.files.get(word.as_slice()) {
+                files.add(word.as_slice(), bytes)?;
+            }
+        }
+        Ok(files)
+    }
+
+    /// Answers a command line once more, where a part of a file has at most so many bytes: whether its status and what it
+    /// puts are as at first.
+    fn is_same(&self, words: &[Vec<u8>], size: usize, first: &First) -> Result<bool, AllocError> {
+        let mut files = Parted::new(self.copied(words)?, size);
+        let mut sink = MemSink::new(self.alloc);
+        let again = run(self.alloc, words, &mut files, &mut sink);
+        Ok(again.code() == first.status.code() && sink.bytes() == first.put.as_slice())
+    }
+
+    /// Reads the proof file of a `check` in pieces: a line for each size with which the answer is not the same.
+    fn push_pieces(
+        &self,
+        out: &mut Vec<u8>,
+        words: &[Vec<u8>],
+        first: &First,
+    ) -> Result<(), AllocError> {
+        let [command, _, _, proof] = words else {
+            return Ok(());
+        };
+        if command.as_slice() != b"check".as_slice() {
+            return Ok(());
+        }
+        let length = self.files.get(proof.as_slice()).unwrap_or(b"").len();
+        for (size, most) in &PIECES {
+            if length <= *most && !self.is_same(words, *size, first)? {
+                let line = format!(in self.alloc; "in pieces of {}: another answer", size)?;
+                push_line(out, line.as_bytes())?;
+            }
+        }
+        Ok(())
     }
 
     /// Answers a relay, with all that was put.
