@@ -61,16 +61,29 @@ static void difference(int rows) {
     row(r % 12 == 11, between(-1, 20), coefs);
   }
 }
+// two elements i and j below N in tiles t and u: the columns are t, u, i, j and N; the distances of the elements and of the tiles are drawn
+static void tiles(long tile) {
+  row(0, 0, (long[]){-tile, 0, 1, 0, 0});
+  row(0, tile - 1, (long[]){tile, 0, -1, 0, 0});
+  row(0, 0, (long[]){0, -tile, 0, 1, 0});
+  row(0, tile - 1, (long[]){0, tile, 0, -1, 0});
+  row(0, 0, (long[]){0, 0, 1, 0, 0});
+  row(0, -1, (long[]){0, 0, -1, 0, 1});
+  row(0, 0, (long[]){0, 0, 0, 1, 0});
+  row(0, -1, (long[]){0, 0, 0, -1, 1});
+  row(0, between(-2 * tile, 2 * tile), (long[]){0, 0, 1, -1, 0});
+  row(1, between(-1, 1), (long[]){1, -1, 0, 0, 0});
+}
 static double now(void) { struct timespec t; clock_gettime(CLOCK_MONOTONIC, &t); return t.tv_sec * 1e6 + t.tv_nsec / 1e3; }
 
-static void family(const char *name, int n, int questions, int rows, long size, long width) {
+static void family(const char *name, int n, int questions, int rows, long size, long width, long tile) {
   columns = n;
   state = (uint64_t)n * 1000u + (uint64_t)rows;
   double total = 0; int empty = 0;
   char *answers = malloc(questions + 1);
   for (int q = 0; q < questions; q++) {
     open_question();
-    if (size) dense(rows, size, width); else difference(rows);
+    if (tile) tiles(tile); else if (size) dense(rows, size, width); else difference(rows);
     double start = now();
     int is = isl_basic_set_is_empty(set) == isl_bool_true;
     total += now() - start;
@@ -85,8 +98,11 @@ static void family(const char *name, int n, int questions, int rows, long size, 
 int main(void) {
   ctx = isl_ctx_alloc();
   isl_options_set_on_error(ctx, ISL_ON_ERROR_ABORT);
-  for (int n = 4; n <= 8; n++) family("dense", n, 32, 4, 3, 12);
-  for (int n = 4; n <= 7; n++) family("steep", n, 32, 4, 9, 12);
-  for (int n = 10; n <= 25; n += 5) family("difference", n, 32, 3 * n, 0, 0);
+  for (int n = 4; n <= 8; n++) family("dense", n, 32, 4, 3, 12, 0);
+  for (int n = 4; n <= 7; n++) family("steep", n, 32, 4, 9, 12, 0);
+  for (int n = 10; n <= 25; n += 5) family("difference", n, 32, 3 * n, 0, 0, 0);
+  family("tiles-of-4", 5, 32, 10, 0, 0, 4);
+  family("tiles-of-16", 5, 32, 10, 0, 0, 16);
+  family("tiles-of-64", 5, 32, 10, 0, 0, 64);
   isl_ctx_free(ctx);
 }
