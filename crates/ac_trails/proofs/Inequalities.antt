@@ -1,12 +1,15 @@
 -- What is left of a row `form >= 0` that stands; rows without coefficients.
-use Rattle.std.proofs.Common.{◌≡◌, ◌==◌, ℕ, ℤ, pos, negsuc, List, get_or, Option, Some, None, Bool, true, false, cond, slice_get, unsigned_abs, refl, ap, ◌∙◌, arith}
+use Rattle.std.proofs.Common.{◌≡◌, ◌==◌, ℕ, zero, suc, ◌≤◌, ℤ, pos, negsuc, ◌*ℤ◌, ◌≤ℤ◌, List, get_or, Option, Some, None, Bool, true, false, cond, slice_get, unsigned_abs, refl, sym, ap, ◌∙◌, arith}
 use Rattle.std.specs.Prelude.{int_le}
+use Rattle.std.specs.Int.{int_div_euclid}
 use Rattle.std.specs.Int.Signed.{lt_z}
 use Rattle.std.proofs.lemmas.Int.{ints}
 use Rattle.std.proofs.Math.Nat.{eq-zero_of_zero-dvd}
 use borrow.Author.Tests.{eqb-true}
 use Rattle.ac_integers.specs.Gcd.{content, DividesEach}
-use Rattle.ac_integers.proofs.Divisors.{gcd_all_divides}
+use Rattle.ac_integers.specs.Multiple.{divides}
+use Rattle.ac_integers.proofs.Divisors.{gcd_all_divides, divides-true}
+use Rattle.ac_integers.proofs.Floor.{floor_exact}
 use Rattle.ac_forms.specs.Affine.{Affine, coef}
 use Rattle.ac_forms.specs.NormalRows.{divided, normal_ge}
 use Rattle.ac_forms.specs.Rows.{form_of}
@@ -17,8 +20,9 @@ use Rattle.ac_forms.specs.declared.normal.NormalRow.TheVariants.{Dropped, Absurd
 use Rattle.ac_cert.specs.Ends.{is_absurd, is_false}
 use Rattle.ac_cert.specs.Rules.{all_zero}
 use Rattle.ac_trails.specs.declared.path.Trail.{Trail}
-use Rattle.ac_trails.specs.Standing.{place_of, coef_of, Renames, StandsAt, with_form, Reaches, Leads, LeftStands, Shows}
-use Rattle.ac_trails.proofs.Quotients.{divides-coef, zeros}
+use Rattle.ac_trails.specs.Standing.{place_of, coef_of, Alike, Renames, StandsAt, with_form, Reaches, Leads, LeftStands, Shows}
+use Rattle.ac_trails.proofs.Quotients.{coef-divided, divides-coef, zeros}
+use Rattle.ac_trails.proofs.Renaming.{renames-alike}
 use Rattle.ac_trails.proofs.Paths.{onto-self}
 
 zero_size : (c : ℤ) → unsigned_abs c ≡ 0 → c ≡ pos 0
@@ -80,3 +84,31 @@ ge_shows_cut u start path names i d f e n l = record {
   where
     other : (d c : ℕ) → d ≡ c → (d ≡ 0 → ⊥) → (c == 0) ≡ false
     other d c e n = grind arith
+
+-- ---- a row whose coefficients have no common divisor stands as it is
+
+divided_by_one : (k : ℤ) → divides 1 k ≡ true
+divided_by_one k = grind arith
+
+pub floor_by_one : (c : ℤ) → int_div_euclid c (pos 1) ≡ c
+floor_by_one c = sym (floor_exact c 1 (omega arith) (divides-true 1 c (divided_by_one c)) ∙ one_times (int_div_euclid c (pos 1)))
+  where
+    one_times : (c : ℤ) → pos 1 *ℤ c ≡ c
+    one_times c = omega (arith, ints)
+
+divided_alike : (f : Affine) → Alike f (divided (pos 1) f)
+divided_alike f = record { konst = floor_by_one f.konst; coefs = λ j. coef-divided (pos 1) f j (omega (arith, ints)) ∙ floor_by_one (coef j f) }
+
+pub ge_shows_unit : (t : Trail) (start path : Conj) (names : List ℕ) (x d : ℕ) (f : Affine) → d ≡ content f.coefs → d ≡ 1 → Reaches t start path → StandsAt names path x (Ge f) → Shows t start path names x (normal_ge f)
+ge_shows_unit t start path names x d f e o h a =
+    ge_shows_cut t start path names x 1 f (sym o ∙ e) (λ z. absurd (omega (arith, z))) (record {
+      further = path;
+      reaches = h;
+      onto = onto-self path;
+      stands = record { form = a.form; at = a.at; renames = renames-alike names f (divided (pos 1) f) a.form a.renames (divided_alike f) };
+    })
+
+pub ge_shows_small : (t : Trail) (start path : Conj) (names : List ℕ) (x d : ℕ) (f : Affine) → d ≡ content f.coefs → d ≤ 1 → Reaches t start path → StandsAt names path x (Ge f) → Shows t start path names x (normal_ge f)
+ge_shows_small t start path names x zero f e l h a = ge_shows_still t start path names x 0 f e refl h a
+ge_shows_small t start path names x (suc zero) f e l h a = ge_shows_unit t start path names x 1 f e refl h a
+ge_shows_small t start path names x (suc (suc d)) f e l h a = absurd (omega arith)

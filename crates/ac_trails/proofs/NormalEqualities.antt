@@ -9,7 +9,7 @@ use Rattle.ac_integers.specs.Multiple.{divides}
 use Rattle.ac_integers.proofs.Columns.{get_or-mix}
 use Rattle.ac_integers.proofs.Divisors.{divides-true, divides-false, gcd_all_divides}
 use Rattle.ac_integers.proofs.Floor.{floor_exact}
-use Rattle.ac_forms.specs.Affine.{Affine, coef, combined, scaled}
+use Rattle.ac_forms.specs.Affine.{Affine, MixFits, coef, combined, scaled}
 use Rattle.ac_forms.specs.NormalRows.{trim, trim_onto, divided, leads_negative, signed, normal_eq}
 use Rattle.ac_forms.specs.Rows.{form_of}
 use Rattle.ac_forms.specs.declared.conj.Conj.{Conj}
@@ -291,3 +291,61 @@ divisor_divides g f e = rw e (content_divides (content f.coefs) f refl)
 pub content_fits : (f : Affine) → (content f.coefs ≡ 0) ⊎ IsModerate f → content f.coefs < 2 ^ 127
 content_fits f (inl z) = omega (arith, z)
 content_fits f (inr m) = content_small f m
+
+-- ---- an equality whose coefficients have no common divisor stands as it is, or with the opposite sign
+
+divided_by_one : (k : ℤ) → divides 1 k ≡ true
+divided_by_one k = grind arith
+
+over_one : (k c : ℤ) → int_div_euclid (k *ℤ c) (pos 1) ≡ k *ℤ c
+over_one k c = sym (floor_exact (k *ℤ c) 1 (omega arith) (divides-true 1 (k *ℤ c) (divided_by_one (k *ℤ c))) ∙ one_times (int_div_euclid (k *ℤ c) (pos 1)))
+
+alike-trans : (f g h : Affine) → Alike f g → Alike g h → Alike f h
+alike-trans f g h a b = record { konst = b.konst ∙ a.konst; coefs = λ j. b.coefs j ∙ a.coefs j }
+
+once_alike : (f : Affine) → Alike f (half 1 (pos 1) f)
+once_alike f = record {
+  konst = over_one (pos 1) f.konst ∙ one_times f.konst;
+  coefs = λ j. coef-half 1 (pos 1) f j (omega arith) ∙ over_one (pos 1) (coef j f) ∙ one_times (coef j f);
+}
+
+-- -1 times the form, as a sum with 0 times it
+abbrev turned : Affine → Affine
+turned f = combined (negsuc 0) f (pos 0) f
+
+turned_value : (c : ℤ) → negsuc 0 *ℤ c +ℤ pos 0 *ℤ c ≡ negsuc 0 *ℤ c
+turned_value c = omega (arith, ints)
+
+turned_alike : (f : Affine) → Alike (turned f) (half 1 (negsuc 0) f)
+turned_alike f = record {
+  konst = over_one (negsuc 0) f.konst ∙ sym (turned_value f.konst);
+  coefs = λ j. coef-half 1 (negsuc 0) f j (omega arith) ∙ over_one (negsuc 0) (coef j f) ∙ sym (get_or-mix (negsuc 0) f.coefs (pos 0) f.coefs j ∙ turned_value (coef j f));
+}
+
+mix_turned : (c : ℤ) → unsigned_abs c ≤ 2 ^ 122 → MixFits (negsuc 0) c (pos 0) c
+mix_turned c l = (fits_small (negsuc 0 *ℤ c) (omega (arith, turned_small c, l)), fits_small (pos 0 *ℤ c) (rw (no_times c) (omega arith)), rw (turned_value c) (fits_small (negsuc 0 *ℤ c) (omega (arith, turned_small c, l))))
+  where
+    no_times : (c : ℤ) → pos 0 *ℤ c ≡ pos 0
+    no_times c = omega (arith, ints)
+
+pub turned_blends : (f : Affine) → IsModerate f → Blends (negsuc 0) f (pos 0) f
+turned_blends f m = record { konst = mix_turned f.konst m.konst; coefs = λ j. mix_turned (coef j f) (m.coefs j) }
+
+pub unit_kept : (t : Trail) (start path : Conj) (names : List ℕ) (x : ℕ) (f : Affine) → content f.coefs ≡ 1 → leads_negative f.coefs ≡ false → Reaches t start path → StandsAt names path x (Eq f) → Shows t start path names x (normal_eq f)
+unit_kept t start path names x f e l h a =
+    bounds_kept t start path names x 1 (pos 1) f (sym e) (omega arith) (divided_by_one f.konst) (low_signed 1 f (omega arith) (content_divides 1 f (sym e)) l) (record {
+      further = path;
+      reaches = h;
+      onto = onto-self path;
+      stands = alike_equality names path x f (half 1 (pos 1) f) (once_alike f) a;
+    })
+
+pub unit_turned : (u : Trail) (start path : Conj) (names : List ℕ) (i : ℕ) (f : Affine) → content f.coefs ≡ 1 → leads_negative f.coefs ≡ true → Leads u start path names i (Eq (turned f)) → Shows u start path names i (normal_eq f)
+unit_turned u start path names i f e l h =
+    bounds_kept u start path names i 1 (negsuc 0) f (sym e) (omega arith) (divided_by_one f.konst)
+    (high_signed 1 f (omega arith) (content_divides 1 f (sym e)) (divides-true 1 f.konst (divided_by_one f.konst)) l) (record {
+      further = h.further;
+      reaches = h.reaches;
+      onto = h.onto;
+      stands = alike_equality names h.further i (turned f) (half 1 (negsuc 0) f) (turned_alike f) h.stands;
+    })

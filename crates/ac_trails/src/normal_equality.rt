@@ -62,8 +62,32 @@ impl Trail {
         if size == 0 {
             return Ok(x);
         }
+        if size == 1 {
+            let place = self.show_unit_equality(alloc, x, form)?;
+            return Ok(place);
+        }
         let (low, high) = self.show_bounds(alloc, x, size)?;
         let place = self.join_bounds(alloc, low, high, size, form)?;
+        Ok(place)
+    }
+
+    /// What is left of the row `form = 0` at place x, whose coefficients have no common divisor: the row itself, or with the opposite
+    /// sign.
+    fn show_unit_equality(
+        &mut self,
+        alloc: Global,
+        x: usize,
+        form: &Form,
+    ) -> Result<usize, AllocError>
+        requires unit { content form.now.coefs ≡ 1 }
+        requires moderate { IsModerate form.now }
+        ensures base { OnOk result (IsSameBase self.old self.new) }
+        ensures shows { IfOk result (λ i. (start path : Conj) (names : List ℕ) → Reaches self.old start path → StandsAt names path x (Eq form.now) → Shows self.new start path names i (normal_eq form.now)) }
+    {
+        if !has_negative_lead(form.coefs()) {
+            return Ok(x);
+        }
+        let place = self.add_two(alloc, x, -1, x, 0)?;
         Ok(place)
     }
 

@@ -31,7 +31,7 @@ impl Trail {
         ensures shows { IfOk result (λ i. (start path : Conj) (names : List ℕ) → Reaches self.old start path → StandsAt names path x (Ge form.now) → Shows self.new start path names i (normal_ge form.now)) }
     {
         let divisor = ac_integers::content(form.coefs());
-        if divisor == 0 {
+        if divisor <= 1 {
             return Ok(x);
         }
         let Some(size) = narrow(divisor) else {

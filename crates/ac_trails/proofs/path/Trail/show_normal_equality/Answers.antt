@@ -26,6 +26,6 @@ returns-clause-shows c =
     let size = c.divisor_of-size.result in
     let fits : FitsSigned w128 size = search rules in
     let some : size ≡ pos 0 → ⊥ = λ z. c.if-size-eq0.false (rw z refl) in
-    equality_left c.args.self.now c.show_bounds.new.self c.join_bounds.new.self c.args.x c.in_ok-low.low c.in_ok-low.high c.in_ok-place.place size c.args.form.now
-    (simp read_back at c.in_ok-low.ensures.bounds) (simp read_back at c.in_ok-place.ensures.shows)
+    equality_left c.args.self.now c.show_bounds.new.self c.join_bounds.new.self c.args.x c.in_ok-low.low c.in_ok-low.high c.in_ok-place-2.place size c.args.form.now
+    (simp read_back at c.in_ok-low.ensures.bounds) (simp read_back at c.in_ok-place-2.ensures.shows)
     (divisor_some size (content c.args.form.now.coefs) c.divisor_of-size.ensures some) (divisor_divides size c.args.form.now c.divisor_of-size.ensures) (moderate_of size c.args.form.now c.divisor_of-size.ensures some c.requires)
