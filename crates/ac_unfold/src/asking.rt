@@ -6,6 +6,7 @@ use crate::types::UnfoldStop;
 use ac_claims::types::Plan;
 use ac_forms::{Conj, Row, stands};
 use ac_omega::{Decided, Decision, Stop, settle, settle_point};
+use ac_sums::{Reduction, refuting_sum};
 use ac_trim::trim;
 use std::alloc::{AllocError, Global};
 
@@ -31,6 +32,9 @@ fn unfold_stop(stop: Stop) -> UnfoldStop {
 fn decided(alloc: Global, node: &Node, budget: u64) -> Result<Answer, UnfoldStop> {
     if !node.question.conj.is_well_made() {
         return Err(UnfoldStop::Memory(AllocError));
+    }
+    if let Some(tree) = refuting_sum(alloc, &node.question.conj)? {
+        return Ok(Answer::Empty(Some(moved_plan(alloc, &node.placing, &tree)?)));
     }
     match settle(alloc, &node.question.conj, budget) {
         Ok(Decision::Empty(tree)) => {
@@ -65,6 +69,28 @@ pub(crate) fn asked(
         decided(alloc, node, budget)
     } else {
         found(alloc, &node.question.conj, budget)
+    }
+}
+
+/// The answer that a sum of rows gives to a question, if one does: it has no point; where plans are made, with the plan that shows
+/// it.
+pub(crate) fn seen(
+    alloc: Global,
+    node: &Node,
+    reduction: &Reduction,
+    making: bool,
+) -> Result<Option<Answer>, AllocError> {
+    let question = &node.question.conj;
+    if !question.is_well_made() {
+        return Ok(None);
+    }
+    match reduction.refuting_sum(alloc, question)? {
+        Some(tree) if making => {
+            let plan = moved_plan(alloc, &node.placing, &tree)?;
+            Ok(Some(Answer::Empty(Some(plan))))
+        }
+        Some(_) => Ok(Some(Answer::Empty(None))),
+        None => Ok(None),
     }
 }
 

@@ -1,6 +1,6 @@
 //! The ends of paths: a mismatch, and rows that have to stand.
 
-use crate::asking::{Answer, asked, stands_in};
+use crate::asking::{Answer, asked, seen, stands_in};
 use crate::branching::{Part, parts_of};
 use crate::course::Course;
 use crate::finding::Finds;
@@ -10,6 +10,7 @@ use crate::types::{Setting, UnfoldStop};
 use ac_claims::types::{Claim, Plan, PlanNext};
 use ac_forms::{FormStop, NormalRow, Row};
 use ac_items::Items;
+use ac_sums::Reduction;
 use ac_syntax::tree::{Order, Site};
 use std::alloc::{AllocError, Global};
 
@@ -50,6 +51,20 @@ pub(crate) fn refuted(
     }
 }
 
+/// A part of a row's negation has no point where the start stands: its plan, or its path is broken.
+fn refuted_part(
+    alloc: Global,
+    search: &Search<'_>,
+    beside: &Node,
+    reduction: &Reduction,
+    finds: &mut Finds,
+) -> Result<Option<Plan>, UnfoldStop> {
+    match seen(alloc, beside, reduction, search.making)? {
+        Some(Answer::Empty(plan)) => Ok(plan),
+        Some(Answer::Point(_)) | None => refuted(alloc, search, beside, finds),
+    }
+}
+
 /// What comes of the parts of a row's negation.
 #[derive(Drop)]
 enum Closed {
@@ -65,13 +80,14 @@ fn refute_parts(
     search: &Search<'_>,
     node: &Node,
     outside: &[Part],
+    reduction: &Reduction,
     finds: &mut Finds,
 ) -> Result<Closed, UnfoldStop> {
     let mut plans = Vec::new(alloc);
     for part in outside {
         let before = finds.len();
         let beside = node.within(alloc, part)?;
-        if let Some(plan) = refuted(alloc, search, &beside, finds)? {
+        if let Some(plan) = refuted_part(alloc, search, &beside, reduction, finds)? {
             plans.push(plan).map_err(AllocError::from)?;
         }
         if finds.len() > before {
@@ -127,12 +143,20 @@ fn stand_branched(
     search: &Search<'_>,
     course: Course,
     row: &Row,
+    reduction: &Reduction,
     finds: &mut Finds,
 ) -> Result<Stood, UnfoldStop> {
     let Some(parts) = parts_of(alloc, row, course.node.question.conj.columns)? else {
         return Err(too_wide(alloc, &course.node));
     };
-    match refute_parts(alloc, search, &course.node, parts.outside.as_slice(), finds)? {
+    match refute_parts(
+        alloc,
+        search,
+        &course.node,
+        parts.outside.as_slice(),
+        reduction,
+        finds,
+    )? {
         Closed::Broken => Ok(Stood::Ended(None)),
         Closed::Refuted(outside) => {
             Ok(Stood::On(course.beyond(alloc, row, &parts.inside, outside)?))
@@ -146,6 +170,7 @@ fn stand_row(
     search: &Search<'_>,
     course: Course,
     row: &Row,
+    reduction: &Reduction,
     finds: &mut Finds,
 ) -> Result<Stood, UnfoldStop> {
     if stands_in(alloc, &course.node.question.conj, row)? {
@@ -154,7 +179,7 @@ fn stand_row(
     if is_absurd(alloc, row)? {
         return stand_absurd(alloc, search, course, finds);
     }
-    stand_branched(alloc, search, course, row, finds)
+    stand_branched(alloc, search, course, row, reduction, finds)
 }
 
 /// The end of a plan, where plans are made.
@@ -177,9 +202,10 @@ pub(crate) fn stand(
     finds: &mut Finds,
 ) -> Result<Option<Plan>, UnfoldStop> {
     finds.count(alloc)?;
+    let reduction = Reduction::of(alloc, &node.question.conj)?;
     let mut course = Course::new(alloc, node);
     for row in rows {
-        match stand_row(alloc, search, course, row, finds)? {
+        match stand_row(alloc, search, course, row, &reduction, finds)? {
             Stood::On(next) => course = next,
             Stood::Ended(plan) => return Ok(plan),
         }
