@@ -11,6 +11,7 @@ mod parts;
 mod positions;
 mod proving;
 mod rounds;
+mod shapes;
 mod sharing;
 mod stops;
 mod types;

@@ -9,9 +9,10 @@ use crate::deciding::{Decision, decide, reach_of};
 use crate::judging::is_accepted;
 use crate::keys::{Key, Template, template_of};
 use crate::parts::{Part, part_of_output};
+use crate::shapes::heads;
 use crate::stops::Stop;
 use crate::types::{ProveStop, Proved};
-use ac_claims::types::{Claim, ClaimTree, Proof};
+use ac_claims::types::{Claim, ClaimTree, Heads, Proof};
 use ac_flow::types::{ContextStop, Flow, FlowStop, Limits};
 use ac_flow::{context_point, flow};
 use ac_forms::Conj;
@@ -51,14 +52,14 @@ fn cause_of(alloc: Global, stop: &FlowStop) -> Result<Cause, AllocError> {
 }
 
 /// A proof that names no output.
-fn empty_proof(alloc: Global, point: Vec<i128>) -> Proof
+fn empty_proof(alloc: Global, point: Vec<i128>, heads: Option<Heads>) -> Proof
     ensures named { named result ≡ [] }
     ensures spelled { AreSpelledTrees result.trees.items }
     ensures claims { ClaimsHaveModuli result }
 {
     Proof {
         point: Items::from(point),
-        heads: None,
+        heads,
         claims: Items::new(alloc),
         outputs: Items::new(alloc),
         trees: Vec::new(alloc),
@@ -80,7 +81,7 @@ fn unknown_all(
     }
     Ok(Proved {
         verdicts,
-        proof: empty_proof(alloc, point),
+        proof: empty_proof(alloc, point, None),
     })
 }
 
@@ -268,9 +269,10 @@ fn verdicts(
     ensures { IfOk result (IsProvedOf pair.now pair.now.outputs) }
 {
     let outputs = pair.outputs.as_slice();
+    let heads = heads(alloc, setting.programs.left, setting.programs.right)?;
     let mut proved = Proved {
         verdicts: Items::new(alloc),
-        proof: empty_proof(alloc, point),
+        proof: empty_proof(alloc, point, Some(heads)),
     };
     for number in 0..outputs.len() {
         let array = outputs[number];
