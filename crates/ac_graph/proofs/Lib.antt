@@ -10,3 +10,7 @@ pub mod CycleSteps
 pub mod RecurSteps
 pub mod LawSteps
 pub mod GraphSteps
+pub mod Standing
+pub mod Named
+pub mod Resolving
+pub mod Stepping

@@ -4,3 +4,4 @@ pub mod Moves
 pub mod Outlines
 pub mod Spreading
 pub mod Recurring
+pub mod Steps

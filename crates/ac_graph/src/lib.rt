@@ -4,6 +4,7 @@
 
 mod analysis;
 mod edges;
+pub mod laws;
 mod making;
 mod marks;
 mod moves;

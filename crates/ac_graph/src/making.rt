@@ -6,6 +6,7 @@ ghost use Rattle.ac_paths.specs.Going.{Pairing};
 ghost use Rattle.ac_paths.specs.Pairs.{In};
 ghost use Rattle.ac_graph.specs.Moves.{IsEdge, IsSite, dependences, pairing_of, start_of, starts_of, AreDistinct, AreTargets, AreRanks, AreReached, AreRecurrent, AreSites};
 ghost use Rattle.ac_graph.specs.Outlines.{AreOutlinesOf};
+ghost use Rattle.ac_graph.specs.Steps.{AreSources, BoundChains, HaveFlows, HaveOutputs, HoldMet};
 
 use crate::analysis::{chosen, ranks, recurring};
 use crate::edges::edges;
@@ -54,6 +55,11 @@ fn start_of(alloc: Global, output: usize) -> Result<Items<(Position, Position)>,
 /// cycle through pairs with one alone. Every cycle of moves holds such a pair: so each reachable pair has a rank, and each of
 /// its moves leads to a recurrence pair or to a pair of smaller rank.
 ///
+/// Where the flows are those of the pair's programs under its context, the edges are exactly their sources: an edge is there
+/// where at some valuation of the context some instance or element has a source in that assignment, or none. Then each pair
+/// of positions that steps reach from an output against itself, at any valuation and element and by any orders of arguments,
+/// is among the reachable ones, and more steps than its rank lead from it through a recurrence pair.
+///
 /// The only refusal is want of memory.
 pub fn graph(alloc: Global, pair: &Pair, left: &Flow, right: &Flow) -> Result<Graph, AllocError>
     ensures left { IfOk result (λ made. (p q : Position) → In (p, q) made.left_edges ↔ IsEdge left.now p q) }
@@ -63,6 +69,9 @@ pub fn graph(alloc: Global, pair: &Pair, left: &Flow, right: &Flow) -> Result<Gr
     ensures targets { IfOk result (λ made. AreTargets (dependences pair.now made.left_edges made.right_edges) made.reachable made.targets) }
     ensures recurrent { IfOk result (λ made. AreRecurrent (dependences pair.now made.left_edges made.right_edges) made.reachable made.recurrent) }
     ensures ranks { IfOk result (λ made. AreRanks (dependences pair.now made.left_edges made.right_edges) made.reachable made.recurrent made.ranks) }
+    ensures sources { HaveFlows pair.now left.now right.now → IfOk result (λ made. AreSources pair.now.left pair.now.context made.left_edges × AreSources pair.now.right pair.now.context made.right_edges) }
+    ensures met { HaveFlows pair.now left.now right.now → HaveOutputs pair.now pair.now.outputs → IfOk result (λ made. HoldMet pair.now pair.now.outputs made.reachable) }
+    ensures chains { HaveFlows pair.now left.now right.now → HaveOutputs pair.now pair.now.outputs → IfOk result (λ made. BoundChains pair.now pair.now.outputs made.reachable made.recurrent made.ranks) }
 {
     let both = both_of(alloc, pair)?;
     let left_edges = edges(alloc, left)?;

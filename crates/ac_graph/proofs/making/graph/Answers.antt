@@ -5,6 +5,7 @@ use Rattle.ac_graph.specs.Moves.{dependences, starts_of}
 use Rattle.ac_graph.specs.Ways.{IsGraph}
 use Rattle.ac_graph.proofs.GraphSteps.{graph_of, recurrent_are, ranks_are, recurring_at, marked_at, falling_at, reached_from}
 use Rattle.ac_graph.proofs.LawSteps.{calls_descend, edges_lead}
+use Rattle.ac_graph.proofs.Stepping.{left_flow, right_flow, edges_sourced, holds_met, chains_recur}
 use Rattle.ac_graph.proofs.making.graph.Goals as goal
 
 pub all_reached-requires : goal.all_reached-requires
@@ -64,3 +65,19 @@ returns-clause-ranks c =
     ranks_are d c.in_ok-both.both c.in_ok-starts.starts c.in_ok-pairs.field-0.pairs c.in_ok-recurrent.recurrent c.in_ok-pairs.field-0.next c.in_ok-marks.marks c.in_ok-ranks.ranks c.in_ok-both.ensures all marks recurrent
     (falling_at c.in_ok-pairs.field-0.next c.as_slice-8.result.now c.in_ok-marks.marks c.as_slice-9.result.now c.in_ok-ranks.ranks c.as_slice-8.ensures c.as_slice-9.ensures c.in_ok-ranks.ensures)
     (calls_descend c.args.pair.now.left c.args.pair.now.context) (edges_lead c.args.left.now c.in_ok-left_edges.left_edges c.in_ok-left_edges.ensures) (edges_lead c.args.right.now c.in_ok-right_edges.right_edges c.in_ok-right_edges.ensures)
+
+pub returns-clause-sources : goal.returns-clause-sources
+returns-clause-sources c = λ h. (
+  edges_sourced c.args.pair.now.left c.args.pair.now.context c.args.left.now c.in_ok-left_edges.left_edges (left_flow c.args.pair.now c.args.left.now c.args.right.now h) c.in_ok-left_edges.ensures,
+  edges_sourced c.args.pair.now.right c.args.pair.now.context c.args.right.now c.in_ok-right_edges.right_edges (right_flow c.args.pair.now c.args.left.now c.args.right.now h) c.in_ok-right_edges.ensures,
+)
+
+pub returns-clause-met : goal.returns-clause-met
+returns-clause-met c = λ h o.
+    holds_met c.args.pair.now c.args.left.now c.args.right.now c.in_ok-left_edges.left_edges c.in_ok-right_edges.right_edges c.args.pair.now.outputs c.in_ok-pairs.field-0.pairs
+    (record { flows = h; left_are = c.in_ok-left_edges.ensures; right_are = c.in_ok-right_edges.ensures }) o (returns-clause-reachable c)
+
+pub returns-clause-chains : goal.returns-clause-chains
+returns-clause-chains c = λ h o.
+    chains_recur c.args.pair.now c.args.left.now c.args.right.now c.in_ok-left_edges.left_edges c.in_ok-right_edges.right_edges c.args.pair.now.outputs
+    (record { flows = h; left_are = c.in_ok-left_edges.ensures; right_are = c.in_ok-right_edges.ensures }) o c.in_ok-pairs.field-0.pairs c.in_ok-recurrent.recurrent c.in_ok-ranks.ranks (returns-clause-ranks c)
