@@ -2,4 +2,4 @@ mod Random
 mod Listed
 mod Shifts
 mod Holding
-mod Making
+pub mod Making

@@ -1,0 +1,4 @@
+pub mod Faultless
+pub mod Numbers
+pub mod Loops
+pub mod Pairs
