@@ -10,8 +10,8 @@ use Rattle.ac_claims.specs.declared.types.Proof.{Proof}
 use Rattle.ac_report.specs.declared.types.Verdict.{Verdict}
 use Rattle.ac_report.specs.declared.types.Verdict.TheVariants.{Equal, Different, Unknown}
 use Rattle.ac_walk.specs.Verdicts.{AreVerdicts, equal_outputs}
-use Rattle.ac_words.specs.Commands.{prove, IsCommand}
-use Rattle.ac_top.specs.Answers.{FileReports, first_unread, first_too_long, second_unread, second_too_long, sources, TextReports, text_refused, text_not_lowered, text_lowered, OneFileReports, file_unread, file_too_long, text_of_file, Reports, no_form, of_prove, of_check, of_instance, of_flow, CheckReports, proof_unread, tested, accepted, too_long, too_deep, not_valid, HoldAPair, Puts, whole, part, nothing, Delivers, only_put, proof_first, proof_fails, proof_wants, Ends, reported, DoneMeansTheSame, DifferentMeansDifferent, AsksFor, AskForAProof, KeepsFiles, kept, proof_written, proof_spoilt}
+use Rattle.ac_commands.specs.Commands.{prove, check_of, instance_of, flow_of, gen_of, IsCommand}
+use Rattle.ac_top.specs.Answers.{FileReports, first_unread, first_too_long, second_unread, second_too_long, sources, TextReports, text_refused, text_not_lowered, text_lowered, OneFileReports, file_unread, file_too_long, text_of_file, Reports, no_form, of_command, CheckReports, proof_unread, tested, accepted, too_long, too_deep, not_valid, HoldAPair, Puts, whole, part, nothing, Delivers, only_put, proof_first, proof_fails, proof_wants, Ends, reported, DoneMeansTheSame, DifferentMeansDifferent, AsksFor, AskForAProof, KeepsFiles, kept, proof_written, proof_spoilt}
 use Rattle.ac_top.specs.Flows.{FlowReports, no_valuation, context_stopped, flow_stopped, flowed}
 use Rattle.ac_top.specs.Proving.{ProveReports, empty_context, compared, IsProofOf, IsFileOf, no_name, none_equal, whole_text, ShowsEqual}
 use Rattle.ac_top.specs.Reports.{Report, report as a_report, ProofFile}
@@ -23,6 +23,7 @@ use Rattle.ac_top.specs.Reads.{Fails}
 use Rattle.ac_top.specs.Stages.{file_of, written}
 use Rattle.ac_top.specs.declared.report.ProofFile.{ProofFile as File}
 use Rattle.ac_top.specs.declared.report.Report.{Report as Written}
+use Rattle.ac_top.proofs.Generating.{generated_none}
 use Rattle.ac_top.proofs.Headline.{of_files, done, different}
 
 -- each output that is equal is the same
@@ -110,13 +111,14 @@ module _ (words : List (List ℕ)) (files : Option Contents) (fails : List (List
   -- a report with a file is that of a command that asks for it
   pub asks : (r : Report) → Reports words files fails r → HasIt r → AsksFor words files file
   asks r (no_form h) e = absurd cc
-  asks r (of_prove a b budget name s is h) e =
+  asks r (of_command (prove a b budget name) s is h) e =
       asks_prove a b budget name is (of_pair a b (λ pair. Shown pair name file) (λ first second pair. ProveReports pair name) (λ first second pair u p k. shown pair name file u p k) s h e)
-  asks r (of_check a b p s is h) e =
+  asks r (of_command (check_of a b p) s is h) e =
       absurd ((of_pair a b (λ pair. ⊥) (λ first second pair. CheckReports files (λ count. fails (a ∷ b ∷ replicate count p) p) p pair) (λ first second pair u q k. check_none files (λ count. fails (a ∷ b ∷ replicate count p) p) p pair file u q k) s h e).is)
-  asks r (of_instance a b at limit s is h) e =
+  asks r (of_command (instance_of a b at limit) s is h) e =
       absurd ((of_pair a b (λ pair. ⊥) (λ first second pair. InstanceReports a b first second pair at limit) (λ first second pair u q k. instance_none a b first second pair at limit file u q k) s h e).is)
-  asks r (of_flow a s is h) e = absurd (flow_none files (fails [] a) a file s h e)
+  asks r (of_command (flow_of a) s is h) e = absurd (flow_none files (fails [] a) a file s h e)
+  asks r (of_command (gen_of seed stages) s is h) e = absurd (generated_none seed stages file s h e)
 
   -- of a report with a file no read failed, so it is one whatever is said of reads that fail
   module _ (also : List (List ℕ) → List ℕ → Type 0) where
@@ -129,12 +131,13 @@ module _ (words : List (List ℕ)) (files : Option Contents) (fails : List (List
 
     pub reports_too : (r : Report) → Reports words files fails r → HasIt r → Reports words files also r
     reports_too r (no_form h) e = absurd cc
-    reports_too r (of_prove a b budget name _ is h) e = of_prove a b budget name r is (files_too a b (λ first second pair. ProveReports pair name) r h e)
-    reports_too r (of_check a b p s is h) e =
+    reports_too r (of_command (prove a b budget name) _ is h) e = of_command (prove a b budget name) r is (files_too a b (λ first second pair. ProveReports pair name) r h e)
+    reports_too r (of_command (check_of a b p) s is h) e =
         absurd ((of_pair a b (λ pair. ⊥) (λ first second pair. CheckReports files (λ count. fails (a ∷ b ∷ replicate count p) p) p pair) (λ first second pair u q k. check_none files (λ count. fails (a ∷ b ∷ replicate count p) p) p pair file u q k) s h e).is)
-    reports_too r (of_instance a b at limit s is h) e =
+    reports_too r (of_command (instance_of a b at limit) s is h) e =
         absurd ((of_pair a b (λ pair. ⊥) (λ first second pair. InstanceReports a b first second pair at limit) (λ first second pair u q k. instance_none a b first second pair at limit file u q k) s h e).is)
-    reports_too r (of_flow a s is h) e = absurd (flow_none files (fails [] a) a file s h e)
+    reports_too r (of_command (flow_of a) s is h) e = absurd (flow_none files (fails [] a) a file s h e)
+    reports_too r (of_command (gen_of seed stages) s is h) e = absurd (generated_none seed stages file s h e)
 
 -- what a run leaves
 module _ (words : List (List ℕ)) (fails : List (List ℕ) → List ℕ → Type 0) (spoilt failed : Type 0) (files after : Option Contents) (before now : Option (List ℕ)) (r : Report) where

@@ -21,7 +21,7 @@ use Rattle.ac_instance.specs.declared.halt.Halt.{Halt}
 use Rattle.ac_instance.specs.declared.halt.Halt.TheVariants.{OutsideContext, TooLarge, Range, Wide, Memory}
 use Rattle.ac_instance.specs.declared.halt.Outcome.{Outcome}
 use Rattle.ac_instance.specs.declared.halt.Outcome.TheVariants.{Equal, Different}
-use Rattle.ac_words.specs.Valuations.{IsValuationWord, given_to}
+use Rattle.ac_commands.specs.Valuations.{IsValuationWord, given_to}
 use Rattle.ac_top.specs.Reports.{Report, report as a_report}
 use Rattle.ac_top.specs.Runs.{IsGiven, is_different, status_of, RunReports, outside, too_large, range, ran, InstanceReports, not_a_valuation, at_valuation, IsTheSameAt, EqualIsSame, IsReadyPair, HaltReports}
 use Rattle.ac_top.specs.Texts.{name_at, outcome_line, outcome_lines, too_large_line}

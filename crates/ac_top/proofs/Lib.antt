@@ -1,11 +1,12 @@
 pub mod Files
 pub mod Flowing
+pub mod Proving
+pub mod Generating
 pub mod Headline
 pub mod Delivering
 pub mod Extents
 pub mod Reading
 pub mod Instances
-pub mod Limits
 pub mod Lines
 pub mod Lowerings
 pub mod Pairs

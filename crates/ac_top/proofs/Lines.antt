@@ -27,3 +27,7 @@ one_more_accepted arrays (p ∷ ps) o =
 
 pub further_accepted : (arrays : List Array) (os : List ℕ) (i : ℕ) → i < length os → accepted_lines arrays (take (i + 1) os) ≡ accepted_lines arrays (take i os) ++ accepted_line (name_at arrays (slice_index_or os i 0))
 further_accepted arrays os i within = ap (accepted_lines arrays) (take_more os i 0 within) ∙ one_more_accepted arrays (take i os) (slice_index_or os i 0)
+
+-- the pieces of the line of a run, put together
+pub ran_text : (head found comma number tail : List ℕ) → head ++ found ++ comma ++ number ++ (tail ++ 10 ∷ []) ≡ head ++ found ++ comma ++ number ++ tail ++ 10 ∷ []
+ran_text head found comma number tail = sym (append_assoc (head ++ found ++ comma ++ number) tail (10 ∷ []))

@@ -20,9 +20,11 @@ use Rattle.ac_parse.specs.Program.{IsProgramOf}
 use Rattle.ac_parse.specs.Pairing.{IsPairOf, HasPairFault}
 use Rattle.ac_parse.specs.declared.faults.PairFault.TheVariants.{Signature, NoOutput}
 use Rattle.ac_parse.specs.declared.faults.SourceFault.{SourceFault}
-use Rattle.ac_words.specs.Commands.{Asked, prove, check_of, instance_of, flow_of, IsCommand, HasForm}
+use Rattle.ac_commands.specs.Commands.{Asked, prove, check_of, instance_of, flow_of, gen_of, IsCommand, HasForm}
 use Rattle.ac_flow.specs.declared.types.Flow.{Flow}
 use Rattle.ac_top.specs.Flows.{FlowReports, IsFlowOf}
+use Rattle.ac_generated.specs.Generated.{IsGeneratedPair}
+use Rattle.ac_top.specs.Generated.{GenReports}
 use Rattle.ac_top.specs.Reports.{Report, report, ProofFile}
 use Rattle.ac_top.specs.Runs.{InstanceReports, IsTheSameAt}
 use Rattle.ac_top.specs.Proving.{ProveReports, ShowsEqual, HasDifference}
@@ -128,15 +130,18 @@ pub data OneFileReports (files : Option Contents) (fails : Type 0) (a : List ℕ
   file_too_long : IfSome files (λ contents. IsTooBig contents a 65536) → OneFileReports files fails a (report status.Refused (too_long_line a))
   text_of_file : (bytes : List ℕ) (r : Report) → Holds files a bytes → TextReports a bytes r → OneFileReports files fails a r
 
--- what is reported of the words; `fails` says that in this run the read of a name failed after those of others
+-- what is reported of a command; `fails` says that in this run the read of a name failed after those of others
+abbrev pub CommandReports : Option Contents → (List (List ℕ) → List ℕ → Type 0) → Asked → Report → Type 0
+CommandReports files fails (prove a b budget proof) r = FileReports files fails a b (λ first second pair. ProveReports pair proof) r
+CommandReports files fails (check_of a b p) r = FileReports files fails a b (λ first second pair. CheckReports files (λ count. fails (a ∷ b ∷ replicate count p) p) p pair) r
+CommandReports files fails (instance_of a b at limit) r = FileReports files fails a b (λ first second pair. InstanceReports a b first second pair at limit) r
+CommandReports files fails (flow_of a) r = OneFileReports files (fails [] a) a r
+CommandReports files fails (gen_of seed stages) r = GenReports seed stages r
+
+-- what is reported of the words
 pub data Reports (words : List (List ℕ)) (files : Option Contents) (fails : List (List ℕ) → List ℕ → Type 0) : Report → Type 0 where
   no_form : ¬ (HasForm words) → Reports words files fails (report status.Usage usage_line)
-  of_prove : (a b : List ℕ) (budget : ℕ) (proof : Option (List ℕ)) (r : Report) → IsCommand words (prove a b budget proof) → FileReports files fails a b (λ first second pair. ProveReports pair proof) r → Reports words files fails r
-  of_check : (a b p : List ℕ) (r : Report) → IsCommand words (check_of a b p)
-      → FileReports files fails a b (λ first second pair. CheckReports files (λ count. fails (a ∷ b ∷ replicate count p) p) p pair) r → Reports words files fails r
-  of_instance : (a b : List ℕ) (at : Option (List ℕ)) (limit : ℕ) (r : Report) → IsCommand words (instance_of a b at limit)
-      → FileReports files fails a b (λ first second pair. InstanceReports a b first second pair at limit) r → Reports words files fails r
-  of_flow : (a : List ℕ) (r : Report) → IsCommand words (flow_of a) → OneFileReports files (fails [] a) a r → Reports words files fails r
+  of_command : (asked : Asked) (r : Report) → IsCommand words asked → CommandReports files fails asked r → Reports words files fails r
 
 -- what becomes of a report: its text is put whole, or a put failed in this run, or memory ran out and nothing is put
 pub data Puts (r : Report) (failed : Type 0) (before now : Option (List ℕ)) : Status → Type 0 where
@@ -196,20 +201,29 @@ pub record HoldsAProgram (files : Option Contents) (a : List ℕ) (Is : Program 
   pub is : Is program
 
 -- for `prove` each output is the same, for `check` each that the proof names, and for `instance` each is the same at the valuation; for
--- `flow` each read has its sources
+-- `flow` each read has its sources; and for `gen` the output of the pair of the seed is the same
 abbrev pub AreTheSame : Option Contents → Asked → Type 0
 AreTheSame files (prove a b budget proof) = HoldAPair files a b IsTheSame
 AreTheSame files (check_of a b p) = HoldAPair files a b (AreAccepted files p)
 AreTheSame files (instance_of a b at limit) = HoldAPair files a b (λ pair. IsTheSameAt pair at)
 AreTheSame files (flow_of a) = HoldsAProgram files a (λ program. (flow : Flow) × IsFlowOf program flow)
+AreTheSame files (gen_of seed stages) = (pair : Pair) × IsGeneratedPair seed stages pair × IsTheSame pair
 
 -- where all is done, a command was asked, and what it compares is the same, or what it tells is so
 abbrev pub DoneMeansTheSame : List (List ℕ) → Option Contents → Status → Type 0
 DoneMeansTheSame words files s = s ≡ status.Done → (asked : Asked) × IsCommand words asked × AreTheSame files asked
 
--- where `prove` finds an output different, the terms of both programs do not agree in some element of an output, at some valuation of the context
+-- for `prove` and `gen` the terms of both programs do not agree in some element of an output, at some valuation of the context
+abbrev pub AreDifferent : Option Contents → Asked → Type 0
+AreDifferent files (prove a b budget proof) = HoldAPair files a b HasDifference
+AreDifferent files (check_of a b p) = Unit {0}
+AreDifferent files (instance_of a b at limit) = Unit {0}
+AreDifferent files (flow_of a) = Unit {0}
+AreDifferent files (gen_of seed stages) = (pair : Pair) × IsGeneratedPair seed stages pair × HasDifference pair
+
+-- where something is different, what the command that was asked compares is
 abbrev pub DifferentMeansDifferent : List (List ℕ) → Option Contents → Status → Type 0
-DifferentMeansDifferent words files s = s ≡ status.Different → (a b : List ℕ) (budget : ℕ) (proof : Option (List ℕ)) → IsCommand words (prove a b budget proof) → HoldAPair files a b HasDifference
+DifferentMeansDifferent words files s = s ≡ status.Different → (asked : Asked) → IsCommand words asked → AreDifferent files asked
 
 -- the words ask for a proof in this file, and these bytes show which outputs of the pair are equal
 pub record AsksFor (words : List (List ℕ)) (files : Option Contents) (file : ProofFile) : Type 0 where

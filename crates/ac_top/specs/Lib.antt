@@ -1,3 +1,4 @@
+pub mod Generated
 pub mod Answers
 pub mod Codes
 pub mod Flows

@@ -12,7 +12,7 @@ use Rattle.ac_instance.specs.declared.halt.Outcome.{Outcome}
 use Rattle.ac_instance.specs.declared.halt.Outcome.TheVariants.{Equal, Different}
 use Rattle.ac_instance.specs.declared.halt.Side.{Side}
 use Rattle.ac_instance.specs.declared.halt.Side.TheVariants.{Left, Right}
-use Rattle.ac_words.specs.Valuations.{IsValuationWord}
+use Rattle.ac_commands.specs.Valuations.{IsValuationWord}
 use Rattle.ac_top.specs.Reports.{Report, report}
 use Rattle.ac_top.specs.Texts.{valuation_line, outside_context_line, too_large_line, range_line, outcome_lines}
 use Rattle.ac_top.specs.declared.status.Status.{Status}

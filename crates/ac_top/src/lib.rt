@@ -11,11 +11,14 @@
 //!
 //! `prove` compares the outputs of a pair at all valuations of its context, by the search of `ac_walk` (`prove`), and writes the file for the
 //! proof of what is equal before the text is put (`program`). `check` tests such a file, `instance` runs both programs of a pair at one
-//! valuation, and `flow` tells the sources of the reads of one file.
+//! valuation, `flow` tells the sources of the reads of one file, and `gen` proves and runs a pair that it makes itself (`generated`).
+//!
+//! The words of the command line are read by the library clap (`ac_commands`).
 #![tactic(auto)]
 
 mod check;
 mod flows;
+mod generated;
 mod halts;
 mod lowering;
 mod places;

@@ -1,20 +1,85 @@
-ghost use Rattle.std.specs.Prelude.{◌≡◌, None, IfOk};
+ghost use Rattle.std.specs.Prelude.{◌≡◌, None, map, IfOk};
+ghost use Rattle.std.specs.List.{AllByRecursion};
+ghost use Rattle.std.specs.Str.{IsUtf8};
 ghost use Rattle.ac_port.specs.Counts.{Rose};
-ghost use Rattle.ac_words.specs.Commands.{spelled};
-ghost use Rattle.ac_top.specs.Answers.{Reports, Puts, Delivers, Ends, DoneMeansTheSame, DifferentMeansDifferent, KeepsFiles, AskForAProof};
+ghost use Rattle.ac_commands.specs.Commands.{spelled, asked_by};
+ghost use Rattle.ac_commands.specs.Laws.{IsInRange};
+ghost use Rattle.ac_top.specs.Answers.{Reports, CommandReports, Puts, Delivers, Ends, DoneMeansTheSame, DifferentMeansDifferent, KeepsFiles, AskForAProof};
 ghost use Rattle.ac_top.specs.Reads.{Fails};
 ghost use Rattle.ac_top.specs.Reports.{report as a_report};
 ghost use Rattle.ac_top.specs.Stages.{written};
 ghost use Rattle.ac_top.specs.Texts as text;
 
 use crate::flows::report_flow;
+use crate::generated::report_generated;
 use crate::report::{Report, report_files};
 use crate::runs::Task;
 use crate::status::Status;
 use crate::texts::{usage_line, write_fault_line};
+use ac_commands::{Command, command_of, texts_of};
 use ac_port::{Files, Sink, SinkStop, WriteStop};
-use ac_words::{Command, command_of};
 use std::alloc::{AllocError, Global};
+
+/// The report of a faulty command line.
+fn usage(alloc: Global) -> Result<Report, AllocError>
+    ensures { IfOk result (λ r. written r ≡ a_report Status.Usage text.usage_line) }
+{
+    Ok(Report {
+        status: Status::Usage,
+        text: usage_line(alloc)?,
+        proof: None,
+    })
+}
+
+/// What is reported of a command.
+fn report_command<F: Files>(
+    alloc: Global,
+    command: &Command<'_>,
+    files: &mut F,
+) -> Result<Report, AllocError>
+    requires { IsInRange (asked_by command.now) }
+    ensures report { IfOk result (λ r. CommandReports (F.contents files.old) (Fails F.read_makes F.read_faults files.old files.new) (asked_by command.now) (written r)) }
+    ensures same { F.contents files.new ≡ F.contents files.old }
+    ensures same_writes { F.write_faults files.new ≡ F.write_faults files.old }
+{
+    match *command {
+        Command::Prove {
+            left,
+            right,
+            budget,
+            proof,
+        } => report_files(alloc, files, left, right, &Task::Prove { budget, proof }),
+        Command::Instance {
+            left,
+            right,
+            at,
+            limit,
+        } => report_files(alloc, files, left, right, &Task::Instance { at, limit }),
+        Command::Check { left, right, proof } => {
+            report_files(alloc, files, left, right, &Task::Check { proof })
+        }
+        Command::Flow { file } => report_flow(alloc, files, file),
+        Command::Gen { seed, size } => report_generated(alloc, seed, size),
+    }
+}
+
+/// What is reported of words in UTF-8.
+fn report_texts<F: Files>(
+    alloc: Global,
+    texts: &[&str],
+    files: &mut F,
+) -> Result<Report, AllocError>
+    requires { AllByRecursion IsUtf8 (map (λ s. s.now) texts.now) }
+    ensures report { IfOk result (λ r. Reports (map (λ s. s.now) texts.now) (F.contents files.old) (Fails F.read_makes F.read_faults files.old files.new) (written r)) }
+    ensures same { F.contents files.new ≡ F.contents files.old }
+    ensures same_writes { F.write_faults files.new ≡ F.write_faults files.old }
+{
+    let found = command_of(alloc, texts)?;
+    match found {
+        Some(command) => report_command(alloc, &command, files),
+        None => usage(alloc),
+    }
+}
 
 /// What is reported of the words.
 fn report<F: Files>(alloc: Global, words: &[Vec<u8>], files: &mut F) -> Result<Report, AllocError>
@@ -22,32 +87,10 @@ fn report<F: Files>(alloc: Global, words: &[Vec<u8>], files: &mut F) -> Result<R
     ensures same { F.contents files.new ≡ F.contents files.old }
     ensures same_writes { F.write_faults files.new ≡ F.write_faults files.old }
 {
-    match command_of(words) {
-        Some(
-            Command::Prove {
-                left,
-                right,
-                budget,
-                proof,
-            },
-        ) => report_files(alloc, files, left, right, &Task::Prove { budget, proof }),
-        Some(
-            Command::Instance {
-                left,
-                right,
-                at,
-                limit,
-            },
-        ) => report_files(alloc, files, left, right, &Task::Instance { at, limit }),
-        Some(Command::Check { left, right, proof }) => {
-            report_files(alloc, files, left, right, &Task::Check { proof })
-        }
-        Some(Command::Flow { file }) => report_flow(alloc, files, file),
-        None => Ok(Report {
-            status: Status::Usage,
-            text: usage_line(alloc)?,
-            proof: None,
-        }),
+    let found = texts_of(alloc, words)?;
+    match found {
+        Some(texts) => report_texts(alloc, texts.as_slice(), files),
+        None => usage(alloc),
     }
 }
 
@@ -100,9 +143,12 @@ fn deliver<F: Files, S: Sink>(alloc: Global, files: &mut F, out: &mut S, report:
 /// at all valuations of their context; where some output is equal it first writes the file P, which proves those that are.
 /// `check A B P` tests the proof file P against both, read in parts of 65,536 bytes, of at most 67,108,864 bytes in all and nested at most
 /// 10,000 deep; `instance A B [--at N=5,M=3] [--limit n]` runs both at one valuation; `flow A` tells where each read of a file has
-/// its value from; any other words are a faulty command line. Each output of the pair has a line of `prove`, `X equal`, `X different ..` or `X unknown
-/// ..`, and one of `instance`; of `check` each output that an accepted proof names has a line `X accepted`, and a proof that is not accepted
-/// the line that says which of its lines is refused by which rule.
+/// its value from; `gen SEED SIZE` makes a pair of that many stages from the seed, proves it with the default budget and runs it at N=1000.
+/// Options stand in any order that clap allows; any other words, and a request for help, are a faulty command line.
+///
+/// Each output of the pair has a line of `prove`, `X equal`, `X different ..` or `X unknown ..`, and one of `instance`; of `check` each output
+/// that an accepted proof names has a line `X accepted`, and a proof that is not accepted the line that says which of its lines is refused by
+/// which rule. `gen` has the line that says which pair it is, the lines of `prove`, and one of the run.
 ///
 /// A read fault of a file is answered only where the files' count of faults rose in the read of that file, and a write fault only
 /// where their count of write faults or the sink's count rose in this call.

@@ -3,7 +3,7 @@ ghost use Rattle.std.specs.Prelude.{◌≡◌, ◌≤◌, ℤ, List, length, map
 ghost use Rattle.ac_syntax.specs.Small.{IsSmallPair};
 ghost use Rattle.ac_instance.specs.Answers.{IsReadyAt};
 ghost use Rattle.ac_instance.specs.declared.halt.Halt.TheVariants.{Wide};
-ghost use Rattle.ac_words.specs.Valuations.{IsValuationWord};
+ghost use Rattle.ac_commands.specs.Valuations.{IsValuationWord};
 ghost use Rattle.ac_top.specs.Reports.{report as a_report};
 ghost use Rattle.ac_top.specs.Runs.{valuation_word, IsGiven, status_of, IsReadyPair, RunReports, InstanceReports, HaltReports};
 ghost use Rattle.ac_top.specs.Stages.{written};
@@ -15,9 +15,9 @@ use crate::halts::{
 };
 use crate::report::{Report, refused};
 use crate::status::Status;
+use ac_commands::valuation;
 use ac_instance::{Halt, Outcome, Side, instance};
 use ac_syntax::tree::Pair;
-use ac_words::valuation;
 use std::alloc::{AllocError, Global};
 
 /// A source file: its name and its bytes.
@@ -59,7 +59,7 @@ fn halted(text: Vec<u8>) -> Report
 }
 
 /// What is reported of a halt of the runs of two files.
-fn report_halt(
+pub fn report_halt(
     alloc: Global,
     left: &Named<'_>,
     right: &Named<'_>,

@@ -1,6 +1,6 @@
 use Rattle.std.proofs.Common.{refl}
 use Rattle.ac_port.specs.Counts.{Rose}
-use Rattle.ac_words.specs.Commands.{spelled}
+use Rattle.ac_commands.specs.Commands.{spelled}
 use Rattle.ac_top.specs.Answers.{no_memory, kept}
 use Rattle.ac_top.proofs.Delivering.{ends, leaves, tells_the_same, tells_different, no_writes}
 use Rattle.ac_top.proofs.program.run.Goals as goal

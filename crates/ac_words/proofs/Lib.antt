@@ -1,5 +1,0 @@
-mod Values
-mod Reading
-mod Numerals
-mod Lists
-pub mod Determined
