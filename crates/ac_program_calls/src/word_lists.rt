@@ -1,7 +1,7 @@
 //! Calls on the words of a command line.
 use crate::arguments::{names, push_bytes};
 use ac_case_text::{CaseStop, Words};
-use ac_words::{Command, command_of, valuation};
+use ac_commands::{Command, command_of, texts_of, valuation};
 use std::alloc::{AllocError, Global};
 use std::fmt::Write;
 
@@ -71,8 +71,11 @@ fn show_at(out: &mut String, at: Option<&[u8]>) -> Result<(), AllocError> {
 }
 
 fn show_command(alloc: Global, words: &mut Words<'_>, out: &mut String) -> Result<(), CaseStop> {
-    let texts = all_quoted(alloc, words)?;
-    match command_of(&texts) {
+    let quoted = all_quoted(alloc, words)?;
+    let Some(texts) = texts_of(alloc, &quoted)? else {
+        return Ok(out.push_str("no form")?);
+    };
+    match command_of(alloc, &texts)? {
         None => Ok(out.push_str("no form")?),
         Some(command) => Ok(show_asked(out, &command)?),
     }
@@ -109,6 +112,7 @@ fn show_asked(out: &mut String, command: &Command<'_>) -> Result<(), AllocError>
             out.push_str("flow of ")?;
             push_bytes(out, file)
         }
+        Command::Gen { seed, size } => Ok(write!(out, "gen of seed {seed}, {size} stages")?),
     }
 }
 
