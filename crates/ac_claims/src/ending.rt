@@ -17,6 +17,7 @@ use ac_paths::path::{Path, Programs};
 use ac_paths::places::{CellForms, initial_cell, number_at};
 use ac_paths::standing::made_and_stand;
 use ac_poly::types::Model;
+use ac_standing::NormalForms;
 use ac_syntax::tree::{Kind, Position};
 use std::alloc::{AllocError, Global};
 
@@ -38,7 +39,13 @@ pub(crate) fn same_position(first: &Position, second: &Position) -> bool
 
 /// Whether a path ends at a claim: a step of the pair was taken, the positions are the claim's, and its rows stand.
 #[tactic(auto, using(ac_paths::proofs::Moduli::moduli_steps))]
-fn hits(alloc: Global, params: usize, path: &Path, claim: &Claim) -> Result<bool, AllocError>
+fn hits(
+    alloc: Global,
+    params: usize,
+    path: &Path,
+    claim: &Claim,
+    forms: &mut NormalForms,
+) -> Result<bool, AllocError>
     requires path { HaveModuli path.now.conj.rows }
     requires claim { HaveModuli claim.now.rows }
     ensures { IfOk result (λ answer. answer ≡ hits params path.now (Some claim.now)) }
@@ -51,7 +58,7 @@ fn hits(alloc: Global, params: usize, path: &Path, claim: &Claim) -> Result<bool
     }
     let columns = columns_of_both(alloc, params, &path.left, &path.right)?;
     let rows = moved_rows(alloc, columns.as_slice(), claim.rows.as_slice())?;
-    made_and_stand(alloc, path.conj.rows.as_slice(), &rows)
+    made_and_stand(alloc, path.conj.rows.as_slice(), &rows, forms)
 }
 
 /// Whether a path ends at the claim with a number.
@@ -62,6 +69,7 @@ pub(crate) fn is_hit(
     claims: &[Claim],
     claim: usize,
     path: &Path,
+    forms: &mut NormalForms,
 ) -> Result<bool, AllocError>
     requires path { HaveModuli path.now.conj.rows }
     requires claims { RowsHaveModuli claims.now }
@@ -70,7 +78,7 @@ pub(crate) fn is_hit(
     if claim >= claims.len() {
         return Ok(false);
     }
-    hits(alloc, programs.left.params, path, &claims[claim])
+    hits(alloc, programs.left.params, path, &claims[claim], forms)
 }
 
 /// The equality of the numbers at both positions of a path, if there are two.
@@ -99,12 +107,17 @@ fn equal_numbers(
 }
 
 /// Whether a path ends at two numbers whose equality stands.
-pub(crate) fn is_number(alloc: Global, programs: &Programs, path: &Path) -> Result<bool, AllocError>
+pub(crate) fn is_number(
+    alloc: Global,
+    programs: &Programs,
+    path: &Path,
+    forms: &mut NormalForms,
+) -> Result<bool, AllocError>
     requires { HaveModuli path.now.conj.rows }
     ensures { IfOk result (λ answer. answer ≡ is_number (pairing programs.now) path.now) }
 {
     let rows = equal_numbers(alloc, programs, path)?;
-    made_and_stand(alloc, path.conj.rows.as_slice(), &rows)
+    made_and_stand(alloc, path.conj.rows.as_slice(), &rows, forms)
 }
 
 /// Whether an array of a model is an input.
@@ -165,10 +178,11 @@ pub(crate) fn is_initial(
     alloc: Global,
     programs: &Programs,
     path: &Path,
+    forms: &mut NormalForms,
 ) -> Result<bool, AllocError>
     requires { HaveModuli path.now.conj.rows }
     ensures { IfOk result (λ answer. answer ≡ is_initial (pairing programs.now) path.now) }
 {
     let rows = equal_cells(alloc, programs, path)?;
-    made_and_stand(alloc, path.conj.rows.as_slice(), &rows)
+    made_and_stand(alloc, path.conj.rows.as_slice(), &rows, forms)
 }

@@ -17,6 +17,7 @@ use ac_items::Items;
 use ac_paths::copies::copy_of;
 use ac_paths::killing::{case_width, chosen, is_killed};
 use ac_paths::path::{CopyNumbers, Path, Programs};
+use ac_standing::NormalForms;
 use std::alloc::Global;
 
 /// A copy with some choices to come; without any it is to kill what was assumed.
@@ -25,6 +26,7 @@ fn settle(
     params: usize,
     path: Path,
     choosing: Choosing,
+    forms: &mut NormalForms,
     due: &mut Items<Entry>,
 ) -> Result<Items<Row>, TakeStop>
     requires path { IsWellMade path.conj }
@@ -41,6 +43,7 @@ fn settle(
         path.conj.rows.as_slice(),
         &choosing.assumed,
         &choosing.copy,
+        forms,
     )?;
     ends_if(killed, choosing.line, Rule::Killed, path)
 }
@@ -53,6 +56,7 @@ pub(crate) fn take_killed(
     choices: usize,
     line: u64,
     path: Path,
+    forms: &mut NormalForms,
     due: &mut Items<Entry>,
 ) -> Result<Items<Row>, TakeStop>
     requires left { HasModuli programs.now.left.now }
@@ -77,7 +81,7 @@ pub(crate) fn take_killed(
         assumed,
         copy,
     };
-    settle(alloc, programs.left.params, path, choosing, due)
+    settle(alloc, programs.left.params, path, choosing, forms, due)
 }
 
 /// A choice of a copy.
@@ -88,6 +92,7 @@ fn take_choice(
     line: u64,
     path: Path,
     choosing: Choosing,
+    forms: &mut NormalForms,
     due: &mut Items<Entry>,
 ) -> Result<Items<Row>, TakeStop>
     requires path { IsWellMade path.conj }
@@ -114,7 +119,7 @@ fn take_choice(
         assumed,
         copy,
     };
-    settle(alloc, params, path, behind, due)
+    settle(alloc, params, path, behind, forms, due)
 }
 
 /// An item where a choice of a copy is due; one that is no choice leaves what is due.
@@ -125,6 +130,7 @@ pub(crate) fn choose(
     line: u64,
     path: Path,
     choosing: Choosing,
+    forms: &mut NormalForms,
     due: &mut Items<Entry>,
 ) -> Result<Items<Row>, TakeStop>
     requires path { IsWellMade path.conj }
@@ -133,7 +139,9 @@ pub(crate) fn choose(
     ensures { Settles (choose params item.now line choosing.line choosing.left path choosing.assumed choosing.copy (dues path.conj.rows due.old)) due.new result }
 {
     match item {
-        Item::Choice(choice) => take_choice(alloc, params, choice, line, path, choosing, due),
+        Item::Choice(choice) => take_choice(
+            alloc, params, choice, line, path, choosing, forms, due,
+        ),
         _ => awaits(due, path, Awaited::Choosing(choosing)),
     }
 }

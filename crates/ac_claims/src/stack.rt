@@ -22,6 +22,7 @@ use crate::types::Claim;
 use ac_forms::Row;
 use ac_items::Items;
 use ac_paths::path::{Branch, Path, Programs};
+use ac_standing::NormalForms;
 use std::alloc::{AllocError, Global};
 use std::marker::Model;
 
@@ -34,6 +35,8 @@ use std::marker::Model;
 pub struct Stack {
     alloc: Global,
     ongoing: Items<Ongoing>,
+    /// The normal forms of the rows of the last path that ended.
+    forms: NormalForms,
 }
 
 impl Model for Stack {
@@ -57,6 +60,7 @@ impl Stack {
         Stack {
             alloc,
             ongoing: Items::new(alloc),
+            forms: NormalForms::new(alloc),
         }
     }
 
@@ -95,7 +99,15 @@ impl Stack {
         ensures exact { Answers (take_item (pairing programs.now) claims.now item.now line self.old) self.new result }
         ensures formed { AreDueFormed programs.now.left.now.params self.new }
     {
-        match take_last(alloc, programs, claims, item, line, &mut self.ongoing) {
+        match take_last(
+            alloc,
+            programs,
+            claims,
+            item,
+            line,
+            &mut self.forms,
+            &mut self.ongoing,
+        ) {
             Ok(()) => Ok(None),
             Err(TakeStop::Refused(refusal)) => {
                 self.ongoing = Items::new(alloc);
@@ -129,6 +141,7 @@ fn take_last(
     claims: &[Claim],
     item: &Item,
     line: u64,
+    forms: &mut NormalForms,
     ongoing: &mut Items<Ongoing>,
 ) -> Result<(), TakeStop>
     requires left { HasModuli programs.now.left.now }
@@ -144,7 +157,16 @@ fn take_last(
     };
     let Ongoing { rows, entries } = plan;
     let mut entries = entries;
-    match advance(alloc, programs, claims, item, line, rows, &mut entries) {
+    match advance(
+        alloc,
+        programs,
+        claims,
+        item,
+        line,
+        rows,
+        forms,
+        &mut entries,
+    ) {
         Ok(rows) => {
             keep(ongoing, rows, entries)?;
             Ok(())
@@ -179,6 +201,7 @@ fn advance(
     item: &Item,
     line: u64,
     rows: Items<Row>,
+    forms: &mut NormalForms,
     due: &mut Items<Entry>,
 ) -> Result<Items<Row>, TakeStop>
     requires left { HasModuli programs.now.left.now }
@@ -199,6 +222,7 @@ fn advance(
                 line,
                 path,
                 entry.awaited,
+                forms,
                 due,
             )
         }
@@ -215,6 +239,7 @@ fn take_entry(
     line: u64,
     path: Path,
     awaited: Awaited,
+    forms: &mut NormalForms,
     due: &mut Items<Entry>,
 ) -> Result<Items<Row>, TakeStop>
     requires left { HasModuli programs.now.left.now }
@@ -226,16 +251,27 @@ fn take_entry(
     ensures { Settles (take_item (pairing programs.now) claims.now item.now line (due_at path awaited ++ dues path.conj.rows due.old)) due.new result }
 {
     match awaited {
-        Awaited::Plan => taken(alloc, programs, claims, item, line, path, due),
-        Awaited::Side(row) => take_side(alloc, programs, claims, item, line, path, row, due),
+        Awaited::Plan => taken(alloc, programs, claims, item, line, path, forms, due),
+        Awaited::Side(row) => take_side(alloc, programs, claims, item, line, path, row, forms, due),
         Awaited::Classes(classes) => {
-            take_class(alloc, programs, claims, item, line, path, classes, due)
+            take_class(
+                alloc, programs, claims, item, line, path, classes, forms, due,
+            )
         }
         Awaited::Branches(left) => {
-            take_branch(alloc, programs, claims, item, line, path, left, due)
+            take_branch(alloc, programs, claims, item, line, path, left, forms, due)
         }
         Awaited::Choosing(choosing) => {
-            choose(alloc, programs.left.params, item, line, path, choosing, due)
+            choose(
+                alloc,
+                programs.left.params,
+                item,
+                line,
+                path,
+                choosing,
+                forms,
+                due,
+            )
         }
     }
 }
@@ -249,6 +285,7 @@ fn take_side(
     line: u64,
     path: Path,
     row: Row,
+    forms: &mut NormalForms,
     due: &mut Items<Entry>,
 ) -> Result<Items<Row>, TakeStop>
     requires left { HasModuli programs.now.left.now }
@@ -259,7 +296,7 @@ fn take_side(
     ensures { Settles (take_item (pairing programs.now) claims.now item.now line (PlanAt (at_rows path (with_row path.conj row)) ∷ dues path.conj.rows due.old)) due.new result }
 {
     let path = longer(path, row)?;
-    taken(alloc, programs, claims, item, line, path, due)
+    taken(alloc, programs, claims, item, line, path, forms, due)
 }
 
 /// Takes an item at the first of some classes.
@@ -271,6 +308,7 @@ fn take_class(
     line: u64,
     path: Path,
     classes: Classes,
+    forms: &mut NormalForms,
     due: &mut Items<Entry>,
 ) -> Result<Items<Row>, TakeStop>
     requires left { HasModuli programs.now.left.now }
@@ -282,7 +320,7 @@ fn take_class(
     ensures { Settles (take_item (pairing programs.now) claims.now item.now line (classes_of path classes ++ dues path.conj.rows due.old)) due.new result }
 {
     let next = first_class(alloc, path, classes, due)?;
-    taken(alloc, programs, claims, item, line, next, due)
+    taken(alloc, programs, claims, item, line, next, forms, due)
 }
 
 /// Takes an item at the first of some branches.
@@ -294,6 +332,7 @@ fn take_branch(
     line: u64,
     path: Path,
     left: Items<Branch>,
+    forms: &mut NormalForms,
     due: &mut Items<Entry>,
 ) -> Result<Items<Row>, TakeStop>
     requires left { HasModuli programs.now.left.now }
@@ -305,5 +344,5 @@ fn take_branch(
     ensures { Settles (take_item (pairing programs.now) claims.now item.now line (branches_of path left ++ dues path.conj.rows due.old)) due.new result }
 {
     let next = first_branch(path, left, due)?;
-    taken(alloc, programs, claims, item, line, next, due)
+    taken(alloc, programs, claims, item, line, next, forms, due)
 }

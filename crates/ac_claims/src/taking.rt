@@ -24,6 +24,7 @@ use ac_cert::{Absurd, End, Rule, apply_onto, rows_of_sides};
 use ac_forms::{Form, Row};
 use ac_items::Items;
 use ac_paths::path::{CopyNumbers, Path, Programs};
+use ac_standing::NormalForms;
 use std::alloc::Global;
 
 /// A step.
@@ -102,12 +103,13 @@ fn take_hit(
     claim: usize,
     line: u64,
     path: Path,
+    forms: &mut NormalForms,
 ) -> Result<Items<Row>, TakeStop>
     requires path { IsWellMade path.conj }
     requires claims { RowsHaveModuli claims.now }
     ensures { (due : List Entry) → AreEntries path.conj.rows due → Settles (take_at (pairing programs.now) claims.now (item.Hit claim) line path (dues path.conj.rows due)) due result }
 {
-    let holds = is_hit(alloc, programs, claims, claim, &path)?;
+    let holds = is_hit(alloc, programs, claims, claim, &path, forms)?;
     ends_if(holds, line, Rule::Hit, path)
 }
 
@@ -117,11 +119,12 @@ fn take_number(
     programs: &Programs,
     line: u64,
     path: Path,
+    forms: &mut NormalForms,
 ) -> Result<Items<Row>, TakeStop>
     requires { IsWellMade path.conj }
     ensures { (claims : List Claim) (due : List Entry) → AreEntries path.conj.rows due → Settles (take_at (pairing programs.now) claims item.Number line path (dues path.conj.rows due)) due result }
 {
-    let holds = is_number(alloc, programs, &path)?;
+    let holds = is_number(alloc, programs, &path, forms)?;
     ends_if(holds, line, Rule::Number, path)
 }
 
@@ -131,11 +134,12 @@ fn take_initial(
     programs: &Programs,
     line: u64,
     path: Path,
+    forms: &mut NormalForms,
 ) -> Result<Items<Row>, TakeStop>
     requires { IsWellMade path.conj }
     ensures { (claims : List Claim) (due : List Entry) → AreEntries path.conj.rows due → Settles (take_at (pairing programs.now) claims item.Initial line path (dues path.conj.rows due)) due result }
 {
-    let holds = is_initial(alloc, programs, &path)?;
+    let holds = is_initial(alloc, programs, &path, forms)?;
     ends_if(holds, line, Rule::Initial, path)
 }
 
@@ -148,6 +152,7 @@ pub(crate) fn taken(
     item: &Item,
     line: u64,
     path: Path,
+    forms: &mut NormalForms,
     due: &mut Items<Entry>,
 ) -> Result<Items<Row>, TakeStop>
     requires left { HasModuli programs.now.left.now }
@@ -163,9 +168,9 @@ pub(crate) fn taken(
         Item::Residue(modulus, form) => take_residue(alloc, modulus, form, line, path, due),
         Item::Go { order, cases } => take_go(alloc, programs, *order, *cases, line, path, due),
         Item::Absurd(row) => take_absurd(alloc, *row, line, path),
-        Item::Hit(claim) => take_hit(alloc, programs, claims, *claim, line, path),
-        Item::Number => take_number(alloc, programs, line, path),
-        Item::Initial => take_initial(alloc, programs, line, path),
+        Item::Hit(claim) => take_hit(alloc, programs, claims, *claim, line, path, forms),
+        Item::Number => take_number(alloc, programs, line, path, forms),
+        Item::Initial => take_initial(alloc, programs, line, path, forms),
         Item::Killed {
             stmt,
             piece,
@@ -179,7 +184,7 @@ pub(crate) fn taken(
                 after: *after,
                 before: *before,
             };
-            take_killed(alloc, programs, &numbers, *choices, line, path, due)
+            take_killed(alloc, programs, &numbers, *choices, line, path, forms, due)
         }
         _ => awaits(due, path, Awaited::Plan),
     }

@@ -11,6 +11,7 @@ use crate::standing::made_and_stand;
 use ac_cert::{Choice, StepStop};
 use ac_forms::{Conj, Row};
 use ac_items::Items;
+use ac_standing::NormalForms;
 use std::alloc::{AllocError, Global};
 
 /// The number of the columns of an assumed source.
@@ -143,7 +144,7 @@ fn ends_before(columns: usize, rows: &[Row]) -> bool
 }
 
 /// Whether what is left of a copy has none of its columns and stands among the rows of the path. Then no point of the path
-/// has the source that was assumed.
+/// has the source that was assumed. The normal forms of the rows are kept in `forms` from one question to the next.
 #[tactic(auto, using(crate::proofs::Moduli::moduli_steps))]
 pub fn is_killed(
     alloc: Global,
@@ -151,6 +152,7 @@ pub fn is_killed(
     rows: &[Row],
     assumed: &Assumed,
     left: &Conj,
+    forms: &mut NormalForms,
 ) -> Result<bool, AllocError>
     requires rows { HaveModuli rows.now }
     requires left { IsWellMade left.now }
@@ -162,5 +164,5 @@ pub fn is_killed(
     }
     let columns = case_columns(alloc, params, assumed)?;
     let moved = moved_rows(alloc, columns.as_slice(), left.rows.as_slice())?;
-    made_and_stand(alloc, rows, &moved)
+    made_and_stand(alloc, rows, &moved, forms)
 }

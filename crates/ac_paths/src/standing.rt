@@ -4,24 +4,26 @@ ghost use Rattle.ac_forms.specs.Rows.{HaveModuli};
 ghost use Rattle.ac_paths.specs.Made.{HaveIf};
 ghost use Rattle.ac_paths.specs.Standing.{made_and_stand};
 
-use ac_forms::{Row, all_stand};
+use ac_forms::Row;
 use ac_items::Items;
+use ac_standing::NormalForms;
 use std::alloc::{AllocError, Global};
 
 /// Whether rows that were made all stand among rows: the normal form of each, made in `i128`, says nothing or is that of one of
 /// them. An absurd row never stands, and a row without a normal form in `i128` equals none. Where the rows were not made they
-/// do not stand.
+/// do not stand. The normal forms of `rows` are taken from `forms` where the last rows asked about with it began alike, and kept there.
 pub fn made_and_stand(
     alloc: Global,
     rows: &[Row],
     made: &Option<Items<Row>>,
+    forms: &mut NormalForms,
 ) -> Result<bool, AllocError>
     requires rows { HaveModuli rows.now }
     requires made { HaveIf made.now }
     ensures { IfOk result (λ answer. answer ≡ made_and_stand rows.now made.now) }
 {
     match made {
-        Some(wanted) => all_stand(alloc, rows, wanted.as_slice()),
+        Some(wanted) => forms.all_stand(alloc, rows, wanted.as_slice()),
         None => Ok(false),
     }
 }
