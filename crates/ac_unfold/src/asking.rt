@@ -3,6 +3,7 @@
 use crate::grafting::moved_plan;
 use crate::node::Node;
 use crate::types::UnfoldStop;
+use crate::witness::continued;
 use ac_claims::types::Plan;
 use ac_forms::{Conj, Row, stands};
 use ac_omega::{Decided, Decision, Stop, settle, settle_point};
@@ -100,6 +101,32 @@ pub(crate) fn freely(answer: Result<Answer, UnfoldStop>) -> Result<Option<Answer
         Ok(answer) => Ok(Some(answer)),
         Err(UnfoldStop::Memory(want)) => Err(UnfoldStop::Memory(want)),
         Err(_) => Ok(None),
+    }
+}
+
+/// What comes of a question before it is unfolded.
+#[derive(Drop)]
+pub(crate) enum Opened {
+    /// It has no point; where plans are made, the plan that shows it.
+    Empty(Option<Plan>),
+    /// It may have one: the node, with a point of its question where one is known.
+    On(Node),
+}
+
+/// A node whose question may have a point. It is not asked where the point that is known goes on to it.
+pub(crate) fn open_question(
+    alloc: Global,
+    node: Node,
+    budget: u64,
+    making: bool,
+) -> Result<Opened, UnfoldStop> {
+    if let Some(point) = continued(alloc, &node.question.conj, node.known.as_slice())? {
+        return Ok(Opened::On(node.knowing(point)));
+    }
+    match freely(asked(alloc, &node, budget, making))? {
+        Some(Answer::Empty(plan)) => Ok(Opened::Empty(plan)),
+        Some(Answer::Point(point)) => Ok(Opened::On(node.knowing(point))),
+        None => Ok(Opened::On(node)),
     }
 }
 

@@ -13,5 +13,6 @@ mod placing;
 mod starting;
 pub mod types;
 mod unfolding;
+mod witness;
 
 pub use starting::{broken_paths, claim_trees};

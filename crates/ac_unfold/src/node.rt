@@ -9,13 +9,14 @@ use ac_paths::going::onto;
 use ac_paths::path::{Branch, Path, Seat, at_rows};
 use std::alloc::{AllocError, Global};
 
-/// A question with its pair of positions, where it stands on the path of its plan, and the pairs from the start on, the last one
-/// its own.
+/// A question with its pair of positions, where it stands on the path of its plan, the pairs from the start on, the last one
+/// its own, and a point of a question before it, over its first columns: without numbers where none is known.
 #[derive(Debug, Drop)]
 pub(crate) struct Node {
     pub question: Path,
     pub placing: Placing,
     pub trail: Items<(Seat, Seat)>,
+    pub known: Items<i128>,
 }
 
 /// Rows behind others.
@@ -55,6 +56,7 @@ impl Node {
             question: path,
             placing,
             trail,
+            known: Items::new(alloc),
         })
     }
 
@@ -64,7 +66,24 @@ impl Node {
             question: self.question.copy(alloc)?,
             placing: self.placing.copy(alloc)?,
             trail: Items::from_slice(alloc, self.trail.as_slice())?,
+            known: Items::from_slice(alloc, self.known.as_slice())?,
         })
+    }
+
+    /// The same with a point of its question.
+    pub(crate) fn knowing(self, point: Vec<i128>) -> Node {
+        let Node {
+            question,
+            placing,
+            trail,
+            known: _,
+        } = self;
+        Node {
+            question,
+            placing,
+            trail,
+            known: Items::from(point),
+        }
     }
 
     /// Behind a branch of a step of the pair.
@@ -73,6 +92,7 @@ impl Node {
             question,
             mut placing,
             mut trail,
+            known,
         } = self.copy(alloc)?;
         placing.grow(branch.columns, branch.rows.len())?;
         trail.push((branch.left, branch.right))?;
@@ -80,6 +100,7 @@ impl Node {
             question: onto(question, branch)?,
             placing,
             trail,
+            known,
         })
     }
 
@@ -89,6 +110,7 @@ impl Node {
             question,
             mut placing,
             trail,
+            known,
         } = self.copy(alloc)?;
         let rows = with_rows(alloc, &question.conj, part.rows.as_slice())?.rows;
         let columns = column_after(question.conj.columns, part.question_columns)?;
@@ -102,6 +124,7 @@ impl Node {
             question: at_rows(&question, Conj { columns, rows }),
             placing,
             trail,
+            known,
         })
     }
 
@@ -116,6 +139,7 @@ impl Node {
             question,
             placing,
             trail,
+            known,
         } = self.copy(alloc)?;
         let rows = with_rows(alloc, &question.conj, rows)?.rows;
         let columns = column_after(question.conj.columns, columns)?;
@@ -123,6 +147,7 @@ impl Node {
             question: at_rows(&question, Conj { columns, rows }),
             placing,
             trail,
+            known,
         })
     }
 

@@ -3,7 +3,7 @@ ghost use Rattle.std.specs.Prelude.{◌≡◌, IfOk, IfSome};
 ghost use Rattle.std.specs.List.{AllByRecursion};
 ghost use Rattle.ac_unfold.specs.Paths.{IsPath, ArePlansOf};
 
-use crate::asking::{Answer, asked, freely};
+use crate::asking::{Opened, open_question};
 use crate::ends::Search;
 use crate::finding::Finds;
 use crate::node::Node;
@@ -51,10 +51,9 @@ fn unfold_at(
         return Err(UnfoldStop::Memory(AllocError));
     };
     let node = Node::start(alloc, path)?;
-    let answer = asked(alloc, &node, search.budget, search.making);
-    match freely(answer)? {
-        Some(Answer::Empty(plan)) => Ok(plan),
-        Some(Answer::Point(_)) | None => visit(alloc, search, node, finds, MOST_DEEP),
+    match open_question(alloc, node, search.budget, search.making)? {
+        Opened::Empty(plan) => Ok(plan),
+        Opened::On(node) => visit(alloc, search, node, finds, MOST_DEEP),
     }
 }
 

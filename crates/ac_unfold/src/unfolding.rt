@@ -1,6 +1,6 @@
 //! The recursion of an unfolding: a pair by its kinds, the cases of a read, and what kills a case.
 
-use crate::asking::{Answer, asked, found, freely, stands_in};
+use crate::asking::{Answer, Opened, found, freely, open_question, stands_in};
 use crate::branching::{Part, parts_of};
 use crate::course::Course;
 use crate::ends::{Search, mismatch, refuted, rows_or, stand, too_wide};
@@ -8,6 +8,7 @@ use crate::finding::Finds;
 use crate::grafting::plan_of;
 use crate::node::{Node, with_rows};
 use crate::types::{Setting, UnfoldStop};
+use crate::witness::continued;
 use ac_cert::Choice;
 use ac_claims::types::{Claim, Kill, Plan, PlanNext};
 use ac_flow::types::{Case, Flow, ReadFlow};
@@ -304,9 +305,9 @@ fn enter(
     if !search.making {
         return remainders(alloc, search, &node, case, finds, room - 1);
     }
-    match freely(asked(alloc, &node, search.budget, true))? {
-        Some(Answer::Empty(plan)) => Ok(plan),
-        Some(Answer::Point(_)) | None => kills(alloc, search, node, case, 0, finds, room - 1),
+    match open_question(alloc, node, search.budget, true)? {
+        Opened::Empty(plan) => Ok(plan),
+        Opened::On(node) => kills(alloc, search, node, case, 0, finds, room - 1),
     }
 }
 
@@ -345,9 +346,9 @@ fn remainders(
     }
     for rest in case.pieces.as_slice() {
         let child = at_remainder(alloc, search, node, &rest.conj)?;
-        match freely(found(alloc, &child.question.conj, search.budget))? {
-            Some(Answer::Empty(_)) => {}
-            Some(Answer::Point(_)) | None => {
+        match open_question(alloc, child, search.budget, false)? {
+            Opened::Empty(_) => {}
+            Opened::On(child) => {
                 let _none = visit(alloc, search, child, finds, room - 1)?;
             }
         }
@@ -377,6 +378,9 @@ fn is_apart(
     rows: &[Row],
 ) -> Result<bool, UnfoldStop> {
     let both = with_rows(alloc, &node.question.conj, rows)?;
+    if continued(alloc, &both, node.known.as_slice())?.is_some() {
+        return Ok(false);
+    }
     match freely(found(alloc, &both, search.budget))? {
         Some(Answer::Empty(_)) => Ok(true),
         Some(Answer::Point(_)) | None => Ok(false),
@@ -548,9 +552,9 @@ fn outside_of(
     if room == 0 {
         return Err(finds.stop(alloc));
     }
-    match freely(asked(alloc, &node, search.budget, true))? {
-        Some(Answer::Empty(plan)) => Ok(plan),
-        Some(Answer::Point(_)) | None => {
+    match open_question(alloc, node, search.budget, true)? {
+        Opened::Empty(plan) => Ok(plan),
+        Opened::On(node) => {
             kills(
                 alloc,
                 search,
