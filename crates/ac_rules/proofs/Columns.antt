@@ -2,10 +2,11 @@
 use Rattle.std.proofs.Common.{◌≡◌, ℕ, zero, suc, ◌+◌, ◌-◌, ◌<◌, ◌≤◌, ℤ, pos, ◌+ℤ◌, ◌*ℤ◌, List, [], ◌∷◌, ◌++◌, Bool, true, false, length, take, get_or, arith, refl, ◌∙◌}
 use Rattle.ac_syntax.specs.Turns.{innermost}
 use Rattle.std.specs.Prelude.{Option, Some, None, if◌then◌else◌, cond}
+use Rattle.std.specs.List.{list_all}
 use Rattle.std.proofs.lemmas.Int.{ints}
 use Rattle.std.proofs.lemmas.List.{take_more, take_all}
 use Rattle.std.proofs.lemmas.List.Folds.{list_all_more, list_all_at}
-use Rattle.ac_rules.specs.Forms.{is_small, all_small, plus_times, times}
+use Rattle.ac_rules.specs.Forms.{plus_times, times}
 
 pub length-plus_times : (k : ℤ) (xs ys : List ℤ) → length (plus_times k xs ys) ≡ length xs
 length-plus_times k [] ys = refl
@@ -24,41 +25,43 @@ get_or-plus_times k (x ∷ xs) (y ∷ ys) (suc i) h = get_or-plus_times k xs ys 
 
 pub ruleset columns = (length-plus_times, get_or-plus_times)
 
--- the number where it is within the limit
-abbrev pub tested : ℤ → Option ℤ
-tested z = if is_small z then Some z else None
+-- numbers that pass a test
+module _ (passes : ℤ → Bool) where
+  -- the number where it passes
+  abbrev pub tested : ℤ → Option ℤ
+  tested z = if passes z then Some z else None
 
-abbrev pub tested_all : List ℤ → Option (List ℤ)
-tested_all w = if all_small w then Some w else None
+  abbrev pub tested_all : List ℤ → Option (List ℤ)
+  tested_all w = if list_all passes w then Some w else None
 
-tested_cases : (v z : ℤ) (b : Bool) → is_small v ≡ b → Some z ≡ cond b (Some v) None → (z ≡ v) × (is_small v ≡ true)
-tested_cases v z true e h = (cc, e)
-tested_cases v z false e h = absurd cc
+  tested_cases : (v z : ℤ) (b : Bool) → passes v ≡ b → Some z ≡ cond b (Some v) None → (z ≡ v) × (passes v ≡ true)
+  tested_cases v z true e h = (cc, e)
+  tested_cases v z false e h = absurd cc
 
-not_cases : (v : ℤ) (b : Bool) → is_small v ≡ b → None ≡ cond b (Some v) None → is_small v ≡ false
-not_cases v true e h = absurd cc
-not_cases v false e h = e
+  not_cases : (v : ℤ) (b : Bool) → passes v ≡ b → None ≡ cond b (Some v) None → passes v ≡ false
+  not_cases v true e h = absurd cc
+  not_cases v false e h = e
 
--- one number more is within the limit
-pub small_more : (w done new : List ℤ) (i : ℕ) (v z : ℤ) → i < length w → get_or w i (pos 0) ≡ v → Some z ≡ tested v
-    → done ≡ take i w → all_small done ≡ true → new ≡ done ++ z ∷ [] → (new ≡ take (i + 1) w) × (all_small new ≡ true)
-small_more w done new i v z h g o d s n =
-    let t = tested_cases v z (is_small v) refl o in
-    let e : new ≡ take (i + 1) w = rw (take_more w i (pos 0) h, g, ← t.0, ← d) n in
-    let a = list_all_more is_small w i (pos 0) h in
-    (e, rw e (a ∙ rw (g, ← d, s, t.1) refl))
+  -- one number more passes
+  pub passed_more : (w done new : List ℤ) (i : ℕ) (v z : ℤ) → i < length w → get_or w i (pos 0) ≡ v → Some z ≡ tested v
+      → done ≡ take i w → list_all passes done ≡ true → new ≡ done ++ z ∷ [] → (new ≡ take (i + 1) w) × (list_all passes new ≡ true)
+  passed_more w done new i v z h g o d s n =
+      let t = tested_cases v z (passes v) refl o in
+      let e : new ≡ take (i + 1) w = rw (take_more w i (pos 0) h, g, ← t.0, ← d) n in
+      let a = list_all_more passes w i (pos 0) h in
+      (e, rw e (a ∙ rw (g, ← d, s, t.1) refl))
 
--- one number passes the limit
-pub small_not : (w : List ℤ) (i : ℕ) (v : ℤ) → i < length w → get_or w i (pos 0) ≡ v → None ≡ tested v → None ≡ tested_all w
-small_not w i v h g o =
-    let f : all_small w ≡ false = list_all_at is_small w i (pos 0) h (rw g (not_cases v (is_small v) refl o)) in
-    rw f refl
+  -- one number does not
+  pub passed_not : (w : List ℤ) (i : ℕ) (v : ℤ) → i < length w → get_or w i (pos 0) ≡ v → None ≡ tested v → None ≡ tested_all w
+  passed_not w i v h g o =
+      let f : list_all passes w ≡ false = list_all_at passes w i (pos 0) h (rw g (not_cases v (passes v) refl o)) in
+      rw f refl
 
-pub small_all : (w done : List ℤ) (i : ℕ) → length w ≤ i → done ≡ take i w → all_small done ≡ true → Some done ≡ tested_all w
-small_all w done i h d s =
-    let e : done ≡ w = d ∙ take_all i w h in
-    let t : all_small w ≡ true = rw (← e) s in
-    rw (t, e) refl
+  pub passed_all : (w done : List ℤ) (i : ℕ) → length w ≤ i → done ≡ take i w → list_all passes done ≡ true → Some done ≡ tested_all w
+  passed_all w done i h d s =
+      let e : done ≡ w = d ∙ take_all i w h in
+      let t : list_all passes w ≡ true = rw (← e) s in
+      rw (t, e) refl
 
 pub length-times : (k : ℤ) (xs : List ℤ) → length (times k xs) ≡ length xs
 length-times k [] = refl

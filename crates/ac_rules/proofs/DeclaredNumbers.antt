@@ -143,7 +143,7 @@ locals_below names scope body n (d ∷ ds) k a h = by (is_loop_name body d) (λ 
     by true again h = (tt, again (k + 1) (a + 0) (omega arith))
     by false again h = (omega arith, again (k + 1) (a + 1) (omega arith))
 
-counted : (names : List Entry) (scope : Scope) (ds : List Declared) (k : ℕ) → length (arrays_from names scope Input is_whole k ds) ≡ input_count ds
+pub counted : (names : List Entry) (scope : Scope) (ds : List Declared) (k : ℕ) → length (arrays_from names scope Input is_whole k ds) ≡ input_count ds
 counted names scope [] k = refl
 counted names scope (d ∷ ds) k = by (is_whole d) (counted names scope ds (k + 1)) ∙ sym (sum_by-cons (λ (d : Declared). cond (not (is_whole d)) 1 0) d ds)
   where

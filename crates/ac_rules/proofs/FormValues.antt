@@ -15,7 +15,7 @@ use Rattle.ac_grammar.specs.declared.tree.Operator.TheVariants.{Add, Subtract, M
 use Rattle.ac_rules.specs.declared.form.Affine.{Affine}
 use Rattle.ac_rules.specs.declared.form.Collected.{Collected}
 use Rattle.ac_rules.specs.declared.form.Collected.TheVariants.{Known, Large, Unknown}
-use Rattle.ac_rules.specs.Forms.{is_within, is_constant, plus_times, times, sum_form, multiple_form, indicator, unit, zeros, constant_form, parameter_form, iterator_form, limited, sum_of, product_of, negative_of}
+use Rattle.ac_rules.specs.Forms.{are_kept, is_constant, plus_times, times, sum_form, multiple_form, indicator, unit, zeros, constant_form, parameter_form, iterator_form, limited, sum_of, product_of, negative_of}
 use Rattle.ac_rules.specs.IndexExpressions.{form_of}
 use Rattle.ac_rules.specs.WrittenValues.{on_both, operated}
 use Rattle.ac_rules.specs.Laws.{form_value}
@@ -150,7 +150,7 @@ module _ (p : Point) where
   limited_case f constant false v h = tt
 
   limited_agrees : (f : Affine) (constant : Bool) (v : Option ℤ) → v ≡ Some (form_value p f) → Agrees (limited f constant) v
-  limited_agrees f constant v h = limited_case f constant (is_within f) v h
+  limited_agrees f constant v h = limited_case f constant (are_kept f) v h
 
   large_agrees : (b c : Bool) (v : Option ℤ) → Agrees (cond b (Large c) Unknown) v
   large_agrees true c v = tt

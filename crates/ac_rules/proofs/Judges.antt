@@ -24,7 +24,7 @@ use Rattle.ac_rules.specs.declared.scope.Meaning.TheVariants.{Parameter, Iterato
 use Rattle.ac_rules.specs.declared.scope.Scope.{Scope}
 use Rattle.ac_rules.specs.Faults.{earlier, broken, broken_where, rule_broken}
 use Rattle.ac_rules.specs.Meanings.{meaning, is_array, read_rule, call_rule, word_broken}
-use Rattle.ac_rules.specs.Forms.{constant_form, is_known, is_large}
+use Rattle.ac_rules.specs.Forms.{constant_form, is_within, is_known, is_large}
 use Rattle.ac_rules.specs.IndexExpressions.{is_long, judged_number, judged_decimal, with_part, gathered, no_parts, name_form, judged_name, judged_other, judged_variable, judged_access, judged_negative, judged_group, form_of, is_not_affine, joined, chained, judged_chain, judged}
 use Rattle.ac_rules.specs.Comparisons.{whole_broken, form_or_zero, placed_form, index_expr, index, difference_form, difference, compared_form, compared, comparison}
 use Rattle.ac_rules.proofs.Absent.{neither, not_where, each_map}
@@ -44,7 +44,7 @@ neither_is false b h = (refl, h)
 number_case : (ps xs : ℕ) (n : Numeral) (b : Bool) → is_long n ≡ b
     → Shaped ps xs (cond b (Large true) (Known (constant_form ps xs (pos n.number)))) × (cond b (broken (Limit Literal) n.place) None ≡ None → b ≡ false → IsKnown (cond b (Large true) (Known (constant_form ps xs (pos n.number)))))
 number_case ps xs n true e = (tt, (λ h k. absurd cc))
-number_case ps xs n false e = (constant_shaped ps xs (pos n.number) (number_small n.number e), (λ h k. tt))
+number_case ps xs n false e = let s = constant_shaped ps xs (pos n.number) (number_small n.number e) in ((s.0, s.1), (λ h k. s.2))
 
 pub number_judges : (scope : Scope) (n : Numeral) → Judges scope.params (length scope.iterators) (judged_number scope n)
 number_judges scope n = number_case scope.params (length scope.iterators) n (is_long n) refl
@@ -53,8 +53,8 @@ decimal_judges : (ps xs : ℕ) (word : Word) → Judges ps xs (judged_decimal wo
 decimal_judges ps xs word = (tt, (λ h k. absurd cc))
 
 pub name_shaped : (scope : Scope) (m : Meaning) → Shaped scope.params (length scope.iterators) (name_form scope m)
-name_shaped scope (Parameter k) = parameter_shaped scope.params (length scope.iterators) k
-name_shaped scope (Iterator k) = iterator_shaped scope.params (length scope.iterators) k
+name_shaped scope (Parameter k) = let s = parameter_shaped scope.params (length scope.iterators) k in (s.0, s.1)
+name_shaped scope (Iterator k) = let s = iterator_shaped scope.params (length scope.iterators) k in (s.0, s.1)
 name_shaped scope (Array number dimensions) = tt
 name_shaped scope LoopName = tt
 name_shaped scope OwnStart = tt
@@ -64,14 +64,14 @@ unnamed : (a : Option Broken) (rule : Rule) (place : Place) {X : Type 0} → ear
 unnamed a rule place h = let n = neither a (rule_broken (Some rule) place) h in absurd cc
 
 name_known : (scope : Scope) (m : Meaning) (word : Word) → is_array m ≡ false → earlier (word_broken word) (rule_broken (read_rule m 0) word.place) ≡ None → IsKnown (name_form scope m)
-name_known scope (Parameter k) word a h = tt
-name_known scope (Iterator k) word a h = tt
+name_known scope (Parameter k) word a h = (parameter_shaped scope.params (length scope.iterators) k).2
+name_known scope (Iterator k) word a h = (iterator_shaped scope.params (length scope.iterators) k).2
 name_known scope (Array number dimensions) word a h = absurd cc
 name_known scope LoopName word a h = unnamed (word_broken word) _ word.place h
 name_known scope OwnStart word a h = unnamed (word_broken word) _ word.place h
 name_known scope Nothing word a h = unnamed (word_broken word) _ word.place h
 
-name_judges : (scope : Scope) (m : Meaning) (word : Word) → is_array m ≡ false → Judges scope.params (length scope.iterators) (judged_name scope m word)
+pub name_judges : (scope : Scope) (m : Meaning) (word : Word) → is_array m ≡ false → Judges scope.params (length scope.iterators) (judged_name scope m word)
 name_judges scope m word a = (name_shaped scope m, (λ h k. name_known scope m word a h))
 
 variable_judges : (ps xs : ℕ) (word : Word) → Judges ps xs (judged_variable word)
@@ -211,7 +211,11 @@ whole_known ps xs j h b =
     h.1 n.0 (not_where j.large (Limit Coefficient) j.place n.1)
 
 form_fits : (scope : Scope) (place : Place) (c : Collected) → Shaped scope.params (length scope.iterators) c → Fits scope.params (length scope.iterators) (placed_form place (form_or_zero scope c))
-form_fits scope place (Known f) h = record { params = h.0; iters = h.1 }
+form_fits scope place (Known f) h = by (is_within f)
+  where
+    by : (b : Bool) → Fits scope.params (length scope.iterators) (placed_form place (cond b f (constant_form scope.params (length scope.iterators) (pos 0))))
+    by true = record { params = h.0; iters = h.1 }
+    by false = let z = constant_shaped scope.params (length scope.iterators) (pos 0) refl in record { params = z.0; iters = z.1 }
 form_fits scope place (Large c) h = let z = constant_shaped scope.params (length scope.iterators) (pos 0) refl in record { params = z.0; iters = z.1 }
 form_fits scope place Unknown h = let z = constant_shaped scope.params (length scope.iterators) (pos 0) refl in record { params = z.0; iters = z.1 }
 

@@ -27,3 +27,9 @@ pub mod FormValues
 pub mod NumberedNames
 pub mod WrittenExpressions
 pub mod WrittenConditions
+pub mod WrittenParts
+pub mod WrittenTerms
+pub mod WrittenPrograms
+pub mod DeclaredOnce
+pub mod KnownNames
+pub mod UsedNames

@@ -27,7 +27,7 @@ use Rattle.ac_rules.specs.Faults.{earlier, broken_where, rule_broken}
 use Rattle.ac_rules.specs.Meanings.{meaning, word_broken}
 use Rattle.ac_rules.specs.Comparisons.{whole_broken, form_or_zero, placed_form, index, index_broken, compared, comparison, rel_of, condition, condition_broken}
 use Rattle.ac_rules.specs.Values.{array_number}
-use Rattle.ac_rules.specs.Statements.{inside, in_start, loop_rule, step_broken, step_number, may_bound, is_endless, head_broken, assigned_value, statement_broken, statements_broken, stmt, stmts}
+use Rattle.ac_rules.specs.Statements.{inside, in_start, loop_rule, step_broken, step_number, form_bounds, may_bound, is_endless, head_broken, assigned_value, statement_broken, statements_broken, stmt, stmts}
 use Rattle.ac_rules.specs.Numbers.{has_conditions}
 use Rattle.ac_rules.proofs.Absent.{neither, none_of, not_where, each, each_map, each_of_map, in_rest, in_front, both_true}
 use Rattle.ac_rules.proofs.Collecting.{IsKnown}
@@ -37,33 +37,38 @@ use Rattle.ac_rules.proofs.Stepping.{broken-loop, broken-branch, stmt-loop, stmt
 use Rattle.ac_rules.proofs.Trees.{every_statement}
 
 -- a comparison that may bound the iterator and has a form bounds it
-bounds_of : (scope : Scope) (step : ℤ) (relation : Relation) (place : Place) (c : Collected) → IsKnown c → may_bound step relation c ≡ true
+bounds_of : (scope : Scope) (step : ℤ) (relation : Relation) (place : Place) (c : Collected) → IsKnown c → form_bounds step relation c ≡ true
     → bounds step (record { form = placed_form place (form_or_zero scope c); rel = rel_of relation }) ≡ true
-bounds_of scope step relation place (Known f) k h = h
+bounds_of scope step relation place (Known f) k h = rw k h
 bounds_of scope step relation place (Large c) k h = absurd k
 bounds_of scope step relation place Unknown k h = absurd k
+
+within_bounds : (b c : Bool) → b ≡ false → (b || c) ≡ true → c ≡ true
+within_bounds true c h k = absurd cc
+within_bounds false c h k = k
 
 -- of a condition in which no rule is broken
 abbrev HasBound : List Entry → Scope → ℤ → List Part → Type 0
 HasBound names scope step parts = (bound : Comparison) × Contains (condition names scope parts) bound × (length bound.form.iters ≡ length scope.iterators) × (bounds step bound ≡ true)
 
-bound_case : (names : List Entry) (scope : Scope) (step : ℤ) (part : Part) (parts : List Part) (b c : Bool) → may_bound step part.relation (compared names scope part).form ≡ b
+bound_case : (names : List Entry) (scope : Scope) (step : ℤ) (part : Part) (parts : List Part) (b c : Bool) → may_bound step part.relation (compared names scope part) ≡ b
     → whole_broken (compared names scope part) ≡ None → (b || c) ≡ true → (c ≡ true → HasBound names scope step parts) → HasBound names scope step (part ∷ parts)
 bound_case names scope step part parts true c e w k rest =
     let j = compared names scope part in (
       comparison names scope part,
       in_front (comparison names scope part) (condition names scope parts),
       (comparison_fits names scope part).iters,
-      bounds_of scope step part.relation j.place j.form (whole_known scope.params (length scope.iterators) j (compared_judges names scope part) w) e,
+      bounds_of scope step part.relation j.place j.form (whole_known scope.params (length scope.iterators) j (compared_judges names scope part) w)
+          (within_bounds j.large (form_bounds step part.relation j.form) (not_where j.large (Limit which.Coefficient) j.place (neither j.broken _ w).1) e),
     )
 bound_case names scope step part parts false c e w k rest =
     let r = rest k in (r.0, in_rest (comparison names scope part) (condition names scope parts) r.0 r.1, r.2, r.3)
 
 bound_in : (names : List Entry) (scope : Scope) (step : ℤ) (parts : List Part) → AllByRecursion (λ part. whole_broken (compared names scope part) ≡ None) parts
-    → list_any (λ part. may_bound step part.relation (compared names scope part).form) parts ≡ true → HasBound names scope step parts
+    → list_any (λ part. may_bound step part.relation (compared names scope part)) parts ≡ true → HasBound names scope step parts
 bound_in names scope step [] h k = absurd cc
 bound_in names scope step (part ∷ parts) h k =
-    bound_case names scope step part parts (may_bound step part.relation (compared names scope part).form) (list_any (λ part. may_bound step part.relation (compared names scope part).form) parts) refl h.0 k
+    bound_case names scope step part parts (may_bound step part.relation (compared names scope part)) (list_any (λ part. may_bound step part.relation (compared names scope part)) parts) refl h.0 k
     (bound_in names scope step parts h.1)
 
 not_false : (b : Bool) → not b ≡ false → b ≡ true
@@ -79,8 +84,8 @@ more name is = omega arith
 bounded : (names : List Entry) (scope : Scope) (name : List ℕ) (step : Step) (parts : List Part) → is_endless names (inside scope name) step parts ≡ false → condition_broken names (inside scope name) parts ≡ None
     → Bounded (length scope.iterators) (step_number step) (record { parts = condition names (inside scope name) parts })
 bounded names scope name step parts h k =
-    let e = neither_is (step.by.number == 0) (not (list_any (λ part. may_bound (step_number step) part.relation (compared names (inside scope name) part).form) parts)) h in
-    let b = bound_in names (inside scope name) (step_number step) parts (none_in names (inside scope name) parts k) (not_false (list_any (λ part. may_bound (step_number step) part.relation (compared names (inside scope name) part).form) parts) e.1) in
+    let e = neither_is (step.by.number == 0) (not (list_any (λ part. may_bound (step_number step) part.relation (compared names (inside scope name) part)) parts)) h in
+    let b = bound_in names (inside scope name) (step_number step) parts (none_in names (inside scope name) parts k) (not_false (list_any (λ part. may_bound (step_number step) part.relation (compared names (inside scope name) part)) parts) e.1) in
     record { bound = b.0; stands = b.1; innermost = b.2 ∙ more name scope.iterators; ends = b.3 }
 
 head_parts : (a b c d e : Option Broken) → earlier (earlier a b) (earlier c (earlier d e)) ≡ None → (b ≡ None) × (d ≡ None)

@@ -1,5 +1,5 @@
 -- Index expressions within the limits, with a coefficient for each of few parameters and few loops around.
-use Rattle.std.proofs.Common.{◌≡◌, ◌≤◌, ℤ, pos, true, List, [], ◌∷◌, length, map, refl, sym, subst, arith}
+use Rattle.std.proofs.Common.{◌≡◌, ◌≤◌, ℤ, pos, Bool, true, false, cond, List, [], ◌∷◌, length, map, refl, sym, subst, arith}
 use Rattle.std.specs.Prelude.{◌&&◌}
 use Rattle.std.specs.List.{AllByRecursion}
 use Rattle.std.proofs.lemmas.Bool.Decides.{nat_tests}
@@ -13,7 +13,7 @@ use Rattle.ac_rules.specs.declared.form.Affine.{Affine}
 use Rattle.ac_rules.specs.declared.form.Collected.{Collected}
 use Rattle.ac_rules.specs.declared.form.Collected.TheVariants.{Known, Large, Unknown}
 use Rattle.ac_rules.specs.declared.index.Judged.{Judged}
-use Rattle.ac_rules.specs.Forms.{is_small, all_small}
+use Rattle.ac_rules.specs.Forms.{is_small, all_small, is_within, constant_form}
 use Rattle.ac_rules.specs.Comparisons.{form_or_zero, placed_form, index_expr, index, compared, comparison, condition}
 use Rattle.ac_rules.specs.IndexExpressions.{judged}
 use Rattle.ac_rules.proofs.Absent.{both_true, each, each_map}
@@ -44,7 +44,11 @@ module _ (scope : Scope) (few : Few scope) where
       }
 
   small_collected : (place : Place) (c : Collected) → Shaped scope.params (length scope.iterators) c → IsSmallForm (placed_form place (form_or_zero scope c))
-  small_collected place (Known f) h = small_known place f h
+  small_collected place (Known f) h = by (is_within f) refl
+    where
+      by : (b : Bool) → is_within f ≡ b → IsSmallForm (placed_form place (cond b f (constant_form scope.params (length scope.iterators) (pos 0))))
+      by true e = small_known place f (h.0, h.1, e)
+      by false e = small_known place _ (constant_shaped scope.params (length scope.iterators) (pos 0) refl)
   small_collected place (Large constant) h = small_known place _ (constant_shaped scope.params (length scope.iterators) (pos 0) refl)
   small_collected place Unknown h = small_known place _ (constant_shaped scope.params (length scope.iterators) (pos 0) refl)
 

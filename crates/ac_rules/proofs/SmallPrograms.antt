@@ -42,7 +42,7 @@ behind (b ∷ bs) es name h = by (pointwise nat_eq b.name name) h (behind bs es 
     by false h k = k h
 
 -- a name is itself
-same_name : (name : List ℕ) → pointwise nat_eq name name ≡ true
+pub same_name : (name : List ℕ) → pointwise nat_eq name name ≡ true
 same_name name = by (pointwise nat_eq name name) refl
   where
     by : (b : Bool) → pointwise nat_eq name name ≡ b → b ≡ true
@@ -66,7 +66,7 @@ whole_few d p a place h e = by (is_whole d) e
     by true e = let n : nat_lt 3 p ≡ false = not_where (nat_lt 3 p) (Limit which.Parameters) place e in grind (arith, nat_tests)
     by false e = omega (arith, h)
 
-names_none : (names : List Entry) (scope : Scope) (k : ℕ) (d : Declared) → declared_broken names scope k d ≡ None
+pub names_none : (names : List Entry) (scope : Scope) (k : ℕ) (d : Declared) → declared_broken names scope k d ≡ None
     → (is_declared (take k names) d.name.name ≡ false) × (count_broken (declared_meaning names d.name.name) d.name.place ≡ None)
 names_none names scope k d h =
     let a = neither (name_broken names k d) (earlier (dimensions_broken d.extents) (extents_broken (take k names) scope d.extents)) h in

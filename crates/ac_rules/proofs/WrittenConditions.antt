@@ -11,7 +11,7 @@ use Rattle.ac_rules.specs.declared.form.Collected.{Collected}
 use Rattle.ac_rules.specs.declared.form.Collected.TheVariants.{Known, Large, Unknown}
 use Rattle.ac_rules.specs.declared.scope.Entry.{Entry}
 use Rattle.ac_rules.specs.declared.scope.Scope.{Scope}
-use Rattle.ac_rules.specs.Forms.{is_within}
+use Rattle.ac_rules.specs.Forms.{are_kept}
 use Rattle.ac_rules.specs.IndexExpressions.{judged}
 use Rattle.ac_rules.specs.Comparisons.{whole_broken, margin, difference_form, difference, compared_form, rel_of, compared, comparison}
 use Rattle.ac_rules.specs.WrittenValues.{integer_of, expression_value, IsRelated}
@@ -70,7 +70,7 @@ module _ (p : Point) where
 
   difference_tells : (ps xs : ℕ) (strict : Bool) (a b : Collected) (v w : Option ℤ) → Shaped ps xs a → Shaped ps xs b → Agrees p a v → Agrees p b w → Tells (IsDifference strict v w) (difference strict a b)
   difference_tells ps xs strict (Known f) (Known g) v w s t h l =
-      tells_case (IsDifference strict v w) (difference_form strict f g) false (is_within (difference_form strict f g))
+      tells_case (IsDifference strict v w) (difference_form strict f g) false (are_kept (difference_form strict f g))
       (form_value p f, form_value p g, h, l, value-difference strict f g (s.0 ∙ sym t.0) (s.1 ∙ sym t.1))
   difference_tells ps xs strict (Known f) (Large d) v w s t h l = tt
   difference_tells ps xs strict (Known f) Unknown v w s t h l = tt
@@ -102,12 +102,12 @@ comparisons_hold names scope p a o part f h =
     (judges names scope part.left).0 (judges names scope part.right).0 (expressions_agree names scope p a o part.left) (expressions_agree names scope p a o part.right))
 
 -- a comparison that breaks no rule holds in the program as it is written
-comparison_holds_as : (names : List Entry) (scope : Scope) (p : Point) → AreNumbered scope.params names → IsPointOf scope p → (part : Part) → whole_broken (compared names scope part) ≡ None
+pub comparison_holds_as : (names : List Entry) (scope : Scope) (p : Point) → AreNumbered scope.params names → IsPointOf scope p → (part : Part) → whole_broken (compared names scope part) ≡ None
     → IsCompared (integer_of names scope p) part (comparison_holds p (comparison names scope part) ≡ true)
 comparison_holds_as names scope p a o part b =
     let j = compared names scope part in
     let k = the_known j.form (whole_known scope.params (length scope.iterators) j (compared_judges names scope part) b) in
-    subst (λ z. IsCompared (integer_of names scope p) part (rel_holds (rel_of part.relation) z ≡ true)) (index_is p scope j k.0 k.1) (comparisons_hold names scope p a o part k.0 k.1)
+    subst (λ z. IsCompared (integer_of names scope p) part (rel_holds (rel_of part.relation) z ≡ true)) (index_is p scope j k.0 k.1 k.2) (comparisons_hold names scope p a o part k.0 k.1)
 
 same_value : (v : Option ℤ) (x y : ℤ) → v ≡ Some x → v ≡ Some y → x ≡ y
 same_value v x y h k = let e : Some x ≡ Some y = sym h ∙ k in cc

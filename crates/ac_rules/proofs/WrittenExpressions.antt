@@ -19,7 +19,7 @@ use Rattle.ac_rules.specs.declared.scope.Entry.{Entry}
 use Rattle.ac_rules.specs.declared.scope.Meaning.{Meaning}
 use Rattle.ac_rules.specs.declared.scope.Meaning.TheVariants.{Parameter, Iterator, Array, LoopName, OwnStart, Nothing}
 use Rattle.ac_rules.specs.declared.scope.Scope.{Scope}
-use Rattle.ac_rules.specs.Forms.{constant_form}
+use Rattle.ac_rules.specs.Forms.{constant_form, is_within}
 use Rattle.ac_rules.specs.Meanings.{meaning, is_array, read_rule}
 use Rattle.ac_rules.specs.IndexExpressions.{is_long, judged_number, name_form, judged_name, judged_other, judged_variable, judged_access, gathered, no_parts, joined, chained, judged_chain, judged}
 use Rattle.ac_rules.specs.Comparisons.{index_expr, placed_form, form_or_zero}
@@ -37,27 +37,27 @@ module _ (integer : List ℕ → Option ℤ) where
   unfolding expression_value
   value-number n = search (rules, the_lemmas)
 
-  value-decimal : (word : Word) → expression_value integer (Decimal word) ≡ None
+  pub value-decimal : (word : Word) → expression_value integer (Decimal word) ≡ None
   unfolding expression_value
   value-decimal word = search (rules, the_lemmas)
 
-  value-access : (name : Word) (subs : List Expr) → expression_value integer (Access name subs) ≡ cond (length subs == 0) (integer name.name) None
+  pub value-access : (name : Word) (subs : List Expr) → expression_value integer (Access name subs) ≡ cond (length subs == 0) (integer name.name) None
   unfolding expression_value
   value-access name subs = search (rules, the_lemmas, length-map)
 
-  value-call : (name : Word) (args : List Expr) → expression_value integer (Call name args) ≡ None
+  pub value-call : (name : Word) (args : List Expr) → expression_value integer (Call name args) ≡ None
   unfolding expression_value
   value-call name args = search (rules, the_lemmas)
 
-  value-negative : (operand : Expr) (place : Place) → expression_value integer (Negative operand place) ≡ option_map neg_ℤ (expression_value integer operand)
+  pub value-negative : (operand : Expr) (place : Place) → expression_value integer (Negative operand place) ≡ option_map neg_ℤ (expression_value integer operand)
   unfolding expression_value
   value-negative operand place = search (rules, the_lemmas)
 
-  value-group : (inner : Expr) (place : Place) → expression_value integer (Group inner place) ≡ expression_value integer inner
+  pub value-group : (inner : Expr) (place : Place) → expression_value integer (Group inner place) ≡ expression_value integer inner
   unfolding expression_value
   value-group inner place = search (rules, the_lemmas)
 
-  value-chain : (operands : List Expr) (operators : List Operator) → expression_value integer (Chain operands operators) ≡ chain_value (map (expression_value integer) operands) operators
+  pub value-chain : (operands : List Expr) (operators : List Operator) → expression_value integer (Chain operands operators) ≡ chain_value (map (expression_value integer) operands) operators
   unfolding expression_value
   value-chain operands operators = search (rules, the_lemmas)
 
@@ -65,10 +65,10 @@ number_case : (p : Point) (ps xs n : ℕ) (b : Bool) → Agrees p (cond b (Large
 number_case p ps xs n true = tt
 number_case p ps xs n false = ap (λ z. Some z) (sym (value-constant p ps xs (pos n)))
 
-number_agrees : (p : Point) (scope : Scope) (n : Numeral) → Agrees p (judged_number scope n).form (Some (pos n.number))
+pub number_agrees : (p : Point) (scope : Scope) (n : Numeral) → Agrees p (judged_number scope n).form (Some (pos n.number))
 number_agrees p scope n = number_case p scope.params (length scope.iterators) n.number (is_long n)
 
-name_agrees : (p : Point) (scope : Scope) → IsPointOf scope p → (m : Meaning) → IsIn scope m → Agrees p (name_form scope m) (meant_integer p m)
+pub name_agrees : (p : Point) (scope : Scope) → IsPointOf scope p → (m : Meaning) → IsIn scope m → Agrees p (name_form scope m) (meant_integer p m)
 name_agrees p scope o (Parameter k) h =
     let s = stands_at p.params k (subst (λ n. k < n) (sym o.0) h) in
     s.1 ∙ ap (λ z. Some z) (sym (value-parameter p scope.params (length scope.iterators) k s.0 o.0 s.1))
@@ -133,24 +133,24 @@ module _ (names : List Entry) (scope : Scope) (p : Point) (a : AreNumbered scope
       (λ inner place h. agree_by (Group inner place) _ _ (judged-group names scope inner place) (value-group (integer_of names scope p) inner place) h)
       (λ operands operators h. agree_by (Chain operands operators) _ _ (judged-chain names scope operands operators) (value-chain (integer_of names scope p) operands operators) (chain_agrees operands operators h))
 
-pub the_known : (c : Collected) → IsKnown c → (f : Affine) × (c ≡ Known f)
-the_known (Known f) h = (f, refl)
+pub the_known : (c : Collected) → IsKnown c → (f : Affine) × (c ≡ Known f) × (is_within f ≡ true)
+the_known (Known f) h = (f, refl, h)
 the_known (Large c) h = absurd h
 the_known Unknown h = absurd h
 
-known_agrees : (p : Point) (c : Collected) (f : Affine) (v : Option ℤ) → c ≡ Known f → Agrees p c v → v ≡ Some (form_value p f)
+pub known_agrees : (p : Point) (c : Collected) (f : Affine) (v : Option ℤ) → c ≡ Known f → Agrees p c v → v ≡ Some (form_value p f)
 known_agrees p c f v h k = subst (λ c. Agrees p c v) h k
 
 pub forms_have_values : FormsHaveValues
 forms_have_values names scope p a o e f h = known_agrees p (judged names scope e).form f (expression_value (integer_of names scope p) e) h (expressions_agree names scope p a o e)
 
-index_case : (p : Point) (scope : Scope) (place : Place) (c : Collected) (f : Affine) → c ≡ Known f → form_value p f ≡ index_value p (placed_form place (form_or_zero scope c))
-index_case p scope place c f h = rw h refl
+index_case : (p : Point) (scope : Scope) (place : Place) (c : Collected) (f : Affine) → c ≡ Known f → is_within f ≡ true → form_value p f ≡ index_value p (placed_form place (form_or_zero scope c))
+index_case p scope place c f h w = rw (h, w) refl
 
-pub index_is : (p : Point) (scope : Scope) (j : Judged) (f : Affine) → j.form ≡ Known f → form_value p f ≡ index_value p (index_expr scope j)
-index_is p scope j f h = index_case p scope j.place j.form f h
+pub index_is : (p : Point) (scope : Scope) (j : Judged) (f : Affine) → j.form ≡ Known f → is_within f ≡ true → form_value p f ≡ index_value p (index_expr scope j)
+index_is p scope j f h w = index_case p scope j.place j.form f h w
 
 pub indices_have_values : IndicesHaveValues
 indices_have_values names scope p a o e b =
     let k = the_known (judged names scope e).form (whole_known scope.params (length scope.iterators) (judged names scope e) (judges names scope e) b) in
-    forms_have_values names scope p a o e k.0 k.1 ∙ ap (λ z. Some z) (index_is p scope (judged names scope e) k.0 k.1)
+    forms_have_values names scope p a o e k.0 k.1 ∙ ap (λ z. Some z) (index_is p scope (judged names scope e) k.0 k.1 k.2)

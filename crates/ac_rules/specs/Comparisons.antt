@@ -1,5 +1,5 @@
 -- Index expressions and comparisons as they stand in a program, and what the rules say of them.
-use Rattle.std.specs.Prelude.{Bool, true, false, ◌||◌, if◌then◌else◌, List, [], ◌∷◌, map, length, ℤ, pos, negsuc, ◌+ℤ◌, ◌*ℤ◌, Option, None}
+use Rattle.std.specs.Prelude.{Bool, true, false, ◌||◌, if◌then◌else◌, List, [], ◌∷◌, map, length, ℤ, pos, negsuc, ◌+ℤ◌, ◌*ℤ◌, Option, Some, None}
 use Rattle.ac_syntax.specs.declared.tree.Place.{Place}
 use Rattle.ac_syntax.specs.declared.tree.IndexExpr.{IndexExpr}
 use Rattle.ac_syntax.specs.declared.tree.Rel.{Rel}
@@ -19,7 +19,7 @@ use Rattle.ac_rules.specs.declared.form.Collected.{Collected}
 use Rattle.ac_rules.specs.declared.form.Collected.TheVariants.{Known, Large, Unknown}
 use Rattle.ac_rules.specs.declared.index.Judged.{Judged}
 use Rattle.ac_rules.specs.Faults.{earlier, broken_where}
-use Rattle.ac_rules.specs.Forms.{plus_times, constant_form, limited, is_large}
+use Rattle.ac_rules.specs.Forms.{plus_times, constant_form, is_within, limited, is_large}
 use Rattle.ac_rules.specs.IndexExpressions.{judged}
 
 -- the first of several
@@ -34,14 +34,20 @@ first_of cs = first_from None cs
 abbrev pub whole_broken : Judged → Option Broken
 whole_broken j = earlier j.broken (broken_where j.large (Limit Coefficient) j.place)
 
--- the form, or 0 where there is none
+-- the form, or 0 where there is none within the limit
 abbrev pub form_or_zero : Scope → Collected → Affine
-form_or_zero scope (Known f) = f
+form_or_zero scope (Known f) = if is_within f then f else constant_form scope.params (length scope.iterators) (pos 0)
 form_or_zero scope (Large constant) = constant_form scope.params (length scope.iterators) (pos 0)
 form_or_zero scope Unknown = constant_form scope.params (length scope.iterators) (pos 0)
 
 abbrev pub placed_form : Place → Affine → IndexExpr
 placed_form place f = record { konst = f.constant; params = f.params; iters = f.iters; place = place }
+
+-- the index expression of a form within the limit, where there is one
+abbrev pub known_index : Place → Collected → Option IndexExpr
+known_index place (Known f) = if is_within f then Some (placed_form place f) else None
+known_index place (Large constant) = None
+known_index place Unknown = None
 
 abbrev pub index_expr : Scope → Judged → IndexExpr
 index_expr scope j = placed_form j.place (form_or_zero scope j.form)

@@ -1,12 +1,12 @@
 -- Affine forms: a constant, a coefficient for each integer parameter and one for each iterator, the outermost first.
-use Rattle.std.specs.Prelude.{ℕ, ◌==◌, nat_le, Bool, true, false, ◌&&◌, ◌||◌, List, [], ◌∷◌, map, ℤ, pos, negsuc, ◌+ℤ◌, ◌*ℤ◌, unsigned_abs, if◌then◌else◌, replicate}
+use Rattle.std.specs.Prelude.{ℕ, ◌==◌, nat_le, Bool, true, false, not, ◌&&◌, ◌||◌, List, [], ◌∷◌, map, ℤ, pos, negsuc, ◌+ℤ◌, ◌*ℤ◌, unsigned_abs, if◌then◌else◌, replicate}
 use Rattle.std.specs.List.{list_all, range_with_len}
 use Rattle.ac_syntax.specs.Index.{is_zero}
 use Rattle.ac_rules.specs.declared.form.Affine.{Affine}
 use Rattle.ac_rules.specs.declared.form.Collected.{Collected}
 use Rattle.ac_rules.specs.declared.form.Collected.TheVariants.{Known, Large, Unknown}
 
--- a number that a form may have
+-- a number that an index expression may have
 abbrev pub is_small : ℤ → Bool
 is_small z = nat_le (unsigned_abs z) 2147483648
 
@@ -15,6 +15,16 @@ all_small cs = list_all is_small cs
 
 abbrev pub is_within : Affine → Bool
 is_within f = is_small f.constant && all_small f.params && all_small f.iters
+
+-- a number that is kept: at most 2^126 in absolute value
+abbrev pub is_kept : ℤ → Bool
+is_kept z = nat_le (unsigned_abs z) 85070591730234615865843651857942052864
+
+abbrev pub all_kept : List ℤ → Bool
+all_kept cs = list_all is_kept cs
+
+abbrev pub are_kept : Affine → Bool
+are_kept f = is_kept f.constant && all_kept f.params && all_kept f.iters
 
 -- no parameter and no iterator counts
 abbrev pub is_constant : Affine → Bool
@@ -59,8 +69,8 @@ parameter_form ps xs k = record { constant = pos 0; params = unit ps k; iters = 
 abbrev pub iterator_form : ℕ → ℕ → ℕ → Affine
 iterator_form ps xs k = record { constant = pos 0; params = zeros ps; iters = unit xs k }
 
--- What is collected of an expression. Where a number passes the limit, all that is kept is whether the expression counts
--- as constant: a large expression does where each of its parts does. Nothing is known where a rule is broken inside.
+-- What is collected of an expression: its form. Where a number of it is not kept, all that is known is whether the expression counts
+-- as constant: such an expression does where each of its parts does. Nothing is known where a rule is broken inside.
 abbrev pub counts_as_constant : Collected → Bool
 counts_as_constant (Known f) = is_constant f
 counts_as_constant (Large constant) = constant
@@ -71,13 +81,14 @@ is_known (Known f) = true
 is_known (Large constant) = true
 is_known Unknown = false
 
+-- a number passes the limit of an index expression
 abbrev pub is_large : Collected → Bool
-is_large (Known f) = false
+is_large (Known f) = not (is_within f)
 is_large (Large constant) = true
 is_large Unknown = false
 
 abbrev pub limited : Affine → Bool → Collected
-limited f constant = if is_within f then Known f else Large constant
+limited f constant = if are_kept f then Known f else Large constant
 
 -- a + k b, where k is 1 or -1
 abbrev pub sum_of : ℤ → Collected → Collected → Collected

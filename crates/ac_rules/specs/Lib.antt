@@ -11,3 +11,6 @@ pub mod Files
 pub mod Numbers
 pub mod WrittenValues
 pub mod Laws
+pub mod WrittenTerms
+pub mod LawsOfPrograms
+pub mod LawsOfNames

@@ -27,6 +27,7 @@ use Rattle.ac_rules.specs.declared.scope.Entry.{Entry}
 use Rattle.ac_rules.specs.declared.scope.Scope.{Scope}
 use Rattle.ac_rules.specs.declared.form.Collected.{Collected}
 use Rattle.ac_rules.specs.declared.form.Collected.TheVariants.{Known, Large, Unknown}
+use Rattle.ac_rules.specs.declared.index.Judged.{Judged}
 use Rattle.ac_rules.specs.Faults.{earlier, broken_where, rule_broken}
 use Rattle.ac_rules.specs.Meanings.{meaning, declared_meaning, iterator_number, word_broken, misused_unless}
 use Rattle.ac_rules.specs.IndexExpressions.{is_long}
@@ -84,15 +85,19 @@ step_broken names scope name step = earlier (earlier (step_word_broken names sco
 abbrev pub step_number : Step → ℤ
 step_number step = if step.down then neg_ℤ (pos step.by.number) else pos step.by.number
 
--- a comparison that bounds the iterator in the direction of the step; one that breaks a rule might
-abbrev pub may_bound : ℤ → Relation → Collected → Bool
-may_bound step relation (Known f) = bounds_by (rel_of relation) (innermost f.iters *ℤ step)
-may_bound step relation (Large constant) = true
-may_bound step relation Unknown = true
+-- a form that bounds the iterator in the direction of the step
+abbrev pub form_bounds : ℤ → Relation → Collected → Bool
+form_bounds step relation (Known f) = bounds_by (rel_of relation) (innermost f.iters *ℤ step)
+form_bounds step relation (Large constant) = true
+form_bounds step relation Unknown = true
+
+-- a comparison that does; one that breaks a rule, or has a part beyond the limit, might
+abbrev pub may_bound : ℤ → Relation → Judged → Bool
+may_bound step relation j = j.large || form_bounds step relation j.form
 
 abbrev pub is_endless : List Entry → Scope → Step → List Part → Bool
 is_endless names scope step cond =
-    (step.by.number == 0) || not (list_any (λ part. may_bound (step_number step) part.relation (compared names scope part).form) cond)
+    (step.by.number == 0) || not (list_any (λ part. may_bound (step_number step) part.relation (compared names scope part)) cond)
 
 -- what is broken in a loop but for its body
 abbrev pub head_broken : List Entry → Scope → Bool → Word → Expr → List Part → Step → Place → Option Broken

@@ -1,14 +1,14 @@
-ghost use Rattle.std.specs.Prelude.{◌≡◌, ◌+ℤ◌, ◌*ℤ◌, ◌++◌, negsuc, false, map, IfOk, Some, None, if◌then◌else◌};
-ghost use Rattle.ac_rules.specs.Forms.{is_small, limited};
-ghost use Rattle.ac_rules.specs.Comparisons.{first_from, first_of, whole_broken, form_or_zero, index_expr, index, index_broken, margin, difference_form, difference, compared_form, rel_of, compared_forms, compared, comparison, condition, condition_broken};
+ghost use Rattle.std.specs.Prelude.{◌≡◌, ◌+ℤ◌, ◌*ℤ◌, ◌++◌, length, pos, negsuc, false, map, IfOk, Some, None, if◌then◌else◌};
+ghost use Rattle.ac_rules.specs.Forms.{is_kept, limited, constant_form};
+ghost use Rattle.ac_rules.specs.Comparisons.{first_from, first_of, whole_broken, known_index, placed_form, index_expr, index, index_broken, margin, difference_form, difference, compared_form, rel_of, compared_forms, compared, comparison, condition, condition_broken};
 
 use crate::fault::{Broken, Rule, Which, broken_where, earlier};
-use crate::form::{Affine, Collected, constant_form, small, sums};
+use crate::form::{Affine, Collected, kept, sums};
 use crate::index::{Judged, judge};
 use crate::scope::{Entry, Scope};
 use ac_grammar::tree::{Expr, Part, Relation};
 use ac_items::Items;
-use ac_syntax::tree::{Comparison, IndexExpr, Rel};
+use ac_syntax::tree::{Comparison, IndexExpr, Place, Rel};
 use std::alloc::{AllocError, Global};
 
 impl Judged {
@@ -20,28 +20,38 @@ impl Judged {
         earlier(self.broken, broken_where(self.large, limit, self.place))
     }
 
-    /// The index expression, of 0 where it has no form.
+    /// The index expression, of 0 where it has no form within the limit.
     pub fn into_index(self, alloc: Global, scope: &Scope) -> Result<IndexExpr, AllocError>
         ensures { IfOk result (λ e. e ≡ index_expr scope.now self) }
     {
-        let place = self.place;
-        let form = self.form.or_zero(alloc, scope)?;
-        Ok(IndexExpr {
-            konst: form.constant,
-            params: form.params,
-            iters: form.iters,
-            place,
-        })
+        let found = self.form.index(alloc, self.place)?;
+        match found {
+            Some(index) => Ok(index),
+            None => zero_index(alloc, scope, self.place),
+        }
     }
 }
 
+/// The index expression of 0.
+fn zero_index(alloc: Global, scope: &Scope, place: Place) -> Result<IndexExpr, AllocError>
+    ensures { IfOk result (λ e. e ≡ placed_form place (constant_form scope.now.params (length scope.now.iterators) (pos 0))) }
+{
+    Ok(IndexExpr {
+        konst: 0,
+        params: Items::from(Vec::from_elem(alloc, 0, scope.params)?),
+        iters: Items::from(Vec::from_elem(alloc, 0, scope.iterators.len())?),
+        place,
+    })
+}
+
 impl Collected {
-    fn or_zero(self, alloc: Global, scope: &Scope) -> Result<Affine, AllocError>
-        ensures { IfOk result (λ form. form ≡ form_or_zero scope.now self) }
+    /// The index expression, where there is a form within the limit.
+    fn index(&self, alloc: Global, place: Place) -> Result<Option<IndexExpr>, AllocError>
+        ensures { IfOk result (λ index. index ≡ known_index place self.now) }
     {
         match self {
-            Collected::Known(form) => Ok(form),
-            _ => constant_form(alloc, scope.params, scope.iterators.len(), 0),
+            Collected::Known(form) => form.index(alloc, place),
+            _ => Ok(None),
         }
     }
 
@@ -62,15 +72,29 @@ impl Collected {
     }
 }
 
-/// `x - y`, less 1 where `strict`; none exactly where that passes the limit.
-fn less_number(x: i64, strict: bool, y: i64) -> Option<i64>
-    ensures { result ≡ (if is_small ((x +ℤ (negsuc 0 *ℤ y)) +ℤ margin strict) then Some ((x +ℤ (negsuc 0 *ℤ y)) +ℤ margin strict) else None) }
+/// `x - y - 1`; none exactly where that is not kept.
+fn less_one(x: i128, y: i128) -> Option<i128>
+    ensures { result ≡ (if is_kept ((x +ℤ (negsuc 0 *ℤ y)) +ℤ negsuc 0) then Some ((x +ℤ (negsuc 0 *ℤ y)) +ℤ negsuc 0) else None) }
 {
     let difference = x.checked_sub(y)?;
+    kept(difference.checked_sub(1)?)
+}
+
+/// `x - y`; none exactly where that is not kept.
+fn less_none(x: i128, y: i128) -> Option<i128>
+    ensures { result ≡ (if is_kept ((x +ℤ (negsuc 0 *ℤ y)) +ℤ pos 0) then Some ((x +ℤ (negsuc 0 *ℤ y)) +ℤ pos 0) else None) }
+{
+    kept(x.checked_sub(y)?)
+}
+
+/// `x - y`, less 1 where `strict`; none exactly where that is not kept.
+fn less_number(x: i128, strict: bool, y: i128) -> Option<i128>
+    ensures { result ≡ (if is_kept ((x +ℤ (negsuc 0 *ℤ y)) +ℤ margin strict) then Some ((x +ℤ (negsuc 0 *ℤ y)) +ℤ margin strict) else None) }
+{
     if strict {
-        small(difference.checked_sub(1)?)
+        less_one(x, y)
     } else {
-        small(difference)
+        less_none(x, y)
     }
 }
 

@@ -1,62 +1,82 @@
 ghost use Rattle.std.specs.Prelude.{◌≡◌, [], slice_index_or, ◌+ℤ◌, ◌*ℤ◌, pos, negsuc, Some, None, IfOk, if◌then◌else◌};
 ghost use Rattle.std.specs.List.{list_all};
 ghost use Rattle.ac_syntax.specs.Index.{is_zero};
-ghost use Rattle.ac_rules.specs.Forms.{is_small, all_small, is_within, is_constant, plus_times, times, sum_form, multiple_form, indicator, unit, zeros, constant_form, parameter_form, iterator_form, counts_as_constant, is_known, is_large, limited, sum_of, known_product, large_product, product_of, negative_of, signed};
+ghost use Rattle.ac_rules.specs.Comparisons.{placed_form};
+ghost use Rattle.ac_rules.specs.Forms.{is_small, all_small, is_within, is_kept, all_kept, are_kept, is_constant, plus_times, times, sum_form, multiple_form, indicator, unit, zeros, constant_form, parameter_form, iterator_form, counts_as_constant, is_known, is_large, limited, sum_of, known_product, large_product, product_of, negative_of, signed};
 
 use ac_items::Items;
+use ac_syntax::tree::{IndexExpr, Place};
 use std::alloc::{AllocError, Global};
 
 /// An affine form: a constant, a coefficient for each integer parameter, and one for each iterator, the outermost first.
 #[derive(Debug, Drop)]
 pub struct Affine {
-    pub constant: i64,
-    pub params: Items<i64>,
-    pub iters: Items<i64>,
+    pub constant: i128,
+    pub params: Items<i128>,
+    pub iters: Items<i128>,
 }
 
 /// What is collected of an expression.
 #[derive(Debug, Drop)]
 pub enum Collected {
-    /// Its form; no number of the expression passes the limit.
+    /// Its form, in exact numbers of at most 2^126 in absolute value.
     Known(Affine),
-    /// Some number passes the limit; whether the expression counts as constant.
+    /// Some number passes that; whether the expression counts as constant.
     Large(bool),
     /// A rule is broken inside.
     Unknown,
 }
 
-/// The number, where it is within the limit.
-pub fn small(z: i64) -> Option<i64>
+/// Whether the number is within the limit of an index expression.
+fn is_small(z: i128) -> bool
+    ensures { result ≡ is_small z }
+{
+    z.unsigned_abs() <= 2147483648
+}
+
+/// The number, where it is within the limit of an index expression.
+fn small(z: i128) -> Option<i64>
     ensures { result ≡ (if is_small z then Some z else None) }
 {
     if z.unsigned_abs() <= 2147483648 {
+        Some(z as i64)
+    } else {
+        None
+    }
+}
+
+/// The number, where it is kept: where its absolute value is at most 2^126.
+pub fn kept(z: i128) -> Option<i128>
+    ensures { result ≡ (if is_kept z then Some z else None) }
+{
+    if z.unsigned_abs() <= 85070591730234615865843651857942052864 {
         Some(z)
     } else {
         None
     }
 }
 
-/// `x + y`, or `x - y` where `down`; none exactly where that passes the limit.
-fn sum(x: i64, down: bool, y: i64) -> Option<i64>
-    ensures { result ≡ (if is_small (x +ℤ signed down *ℤ y) then Some (x +ℤ signed down *ℤ y) else None) }
+/// `x + y`, or `x - y` where `down`; none exactly where that is not kept.
+fn sum(x: i128, down: bool, y: i128) -> Option<i128>
+    ensures { result ≡ (if is_kept (x +ℤ signed down *ℤ y) then Some (x +ℤ signed down *ℤ y) else None) }
 {
     let sum = if down {
         x.checked_sub(y)?
     } else {
         x.checked_add(y)?
     };
-    small(sum)
+    kept(sum)
 }
 
-/// `k x`; none exactly where that passes the limit.
-fn product(k: i64, x: i64) -> Option<i64>
-    ensures { result ≡ (if is_small (k *ℤ x) then Some (k *ℤ x) else None) }
+/// `k x`; none exactly where that is not kept.
+fn product(k: i128, x: i128) -> Option<i128>
+    ensures { result ≡ (if is_kept (k *ℤ x) then Some (k *ℤ x) else None) }
 {
-    small(k.checked_mul(x)?)
+    kept(k.checked_mul(x)?)
 }
 
 /// A coefficient, 0 where the list has none.
-pub fn coefficient(xs: &[i64], at: usize) -> i64
+pub fn coefficient(xs: &[i128], at: usize) -> i128
     ensures { result ≡ slice_index_or xs.now at (pos 0) }
 {
     match xs.get(at) {
@@ -65,15 +85,15 @@ pub fn coefficient(xs: &[i64], at: usize) -> i64
     }
 }
 
-/// Column by column the first plus the second, or less it where `down`; none exactly where a number passes the limit.
+/// Column by column the first plus the second, or less it where `down`; none exactly where a number is not kept.
 #[tactic(auto, using(crate::proofs::Columns::columns))]
 pub fn sums(
     alloc: Global,
-    xs: &[i64],
+    xs: &[i128],
     down: bool,
-    ys: &[i64],
-) -> Result<Option<Items<i64>>, AllocError>
-    ensures { IfOk result (λ sums. sums ≡ (if all_small (plus_times (signed down) xs.now ys.now) then Some (plus_times (signed down) xs.now ys.now) else None)) }
+    ys: &[i128],
+) -> Result<Option<Items<i128>>, AllocError>
+    ensures { IfOk result (λ sums. sums ≡ (if all_kept (plus_times (signed down) xs.now ys.now) then Some (plus_times (signed down) xs.now ys.now) else None)) }
 {
     let mut sums = Items::new(alloc);
     for i in 0..xs.len() {
@@ -85,10 +105,10 @@ pub fn sums(
     Ok(Some(sums))
 }
 
-/// `k` times each; none exactly where a number passes the limit.
+/// `k` times each; none exactly where a number is not kept.
 #[tactic(auto, using(crate::proofs::Columns::columns))]
-fn products(alloc: Global, k: i64, xs: &[i64]) -> Result<Option<Items<i64>>, AllocError>
-    ensures { IfOk result (λ products. products ≡ (if all_small (times k xs.now) then Some (times k xs.now) else None)) }
+fn products(alloc: Global, k: i128, xs: &[i128]) -> Result<Option<Items<i128>>, AllocError>
+    ensures { IfOk result (λ products. products ≡ (if all_kept (times k xs.now) then Some (times k xs.now) else None)) }
 {
     let mut products = Items::new(alloc);
     for x in xs {
@@ -100,7 +120,33 @@ fn products(alloc: Global, k: i64, xs: &[i64]) -> Result<Option<Items<i64>>, All
     Ok(Some(products))
 }
 
-fn all_zero(xs: &[i64]) -> bool
+/// The numbers of an index expression; none exactly where one passes the limit.
+#[tactic(auto, using(crate::proofs::Columns::columns))]
+fn narrowed(alloc: Global, xs: &[i128]) -> Result<Option<Items<i64>>, AllocError>
+    ensures { IfOk result (λ numbers. numbers ≡ (if all_small xs.now then Some xs.now else None)) }
+{
+    let mut numbers = Items::new(alloc);
+    for x in xs {
+        let Some(z) = small(*x) else {
+            return Ok(None);
+        };
+        numbers.push(z)?;
+    }
+    Ok(Some(numbers))
+}
+
+fn all_small(xs: &[i128]) -> bool
+    ensures { result ≡ all_small xs.now }
+{
+    for x in xs {
+        if !is_small(*x) {
+            return false;
+        }
+    }
+    true
+}
+
+fn all_zero(xs: &[i128]) -> bool
     ensures { result ≡ list_all is_zero xs.now }
 {
     for x in xs {
@@ -111,20 +157,20 @@ fn all_zero(xs: &[i64]) -> bool
     true
 }
 
-fn zeros(alloc: Global, n: usize) -> Result<Items<i64>, AllocError>
+fn zeros(alloc: Global, n: usize) -> Result<Items<i128>, AllocError>
     ensures { IfOk result (λ xs. xs ≡ zeros n) }
 {
     Ok(Items::from(Vec::from_elem(alloc, 0, n)?))
 }
 
-fn indicator(j: usize, k: usize) -> i64
+fn indicator(j: usize, k: usize) -> i128
     ensures { result ≡ indicator k j }
 {
     if j == k { 1 } else { 0 }
 }
 
 /// So many numbers, 1 in the place `k` and 0 in all others.
-fn unit(alloc: Global, n: usize, k: usize) -> Result<Items<i64>, AllocError>
+fn unit(alloc: Global, n: usize, k: usize) -> Result<Items<i128>, AllocError>
     ensures { IfOk result (λ xs. xs ≡ unit n k) }
 {
     let mut numbers = Items::new(alloc);
@@ -140,6 +186,36 @@ impl Affine {
         ensures { result ≡ is_constant self.now }
     {
         all_zero(self.params.as_slice()) && all_zero(self.iters.as_slice())
+    }
+
+    /// Whether each number is within the limit of an index expression.
+    fn is_within(&self) -> bool
+        ensures { result ≡ is_within self.now }
+    {
+        is_small(self.constant)
+            && all_small(self.params.as_slice())
+            && all_small(self.iters.as_slice())
+    }
+
+    /// The form as an index expression; none exactly where a number passes the limit.
+    pub fn index(&self, alloc: Global, place: Place) -> Result<Option<IndexExpr>, AllocError>
+        ensures { IfOk result (λ index. index ≡ (if is_within self.now then Some (placed_form place self.now) else None)) }
+    {
+        let Some(konst) = small(self.constant) else {
+            return Ok(None);
+        };
+        let Some(params) = narrowed(alloc, self.params.as_slice())? else {
+            return Ok(None);
+        };
+        let Some(iters) = narrowed(alloc, self.iters.as_slice())? else {
+            return Ok(None);
+        };
+        Ok(Some(IndexExpr {
+            konst,
+            params,
+            iters,
+            place,
+        }))
     }
 
     /// The form plus another, or less it where `down`.
@@ -171,7 +247,7 @@ impl Affine {
     }
 
     /// `k` times the form.
-    fn times(&self, alloc: Global, k: i64, constant: bool) -> Result<Collected, AllocError>
+    fn times(&self, alloc: Global, k: i128, constant: bool) -> Result<Collected, AllocError>
         ensures { IfOk result (λ collected. collected ≡ limited (multiple_form k self.now) constant) }
     {
         let Some(number) = product(k, self.constant) else {
@@ -209,7 +285,7 @@ pub fn constant_form(
     alloc: Global,
     params: usize,
     iters: usize,
-    number: i64,
+    number: i128,
 ) -> Result<Affine, AllocError>
     ensures { IfOk result (λ form. form ≡ constant_form params iters number) }
 {
@@ -252,7 +328,7 @@ pub fn iterator_form(
     })
 }
 
-/// The product where a side is large and both sides are known, by whether they count as constant.
+/// The product where a number of a side is not kept and both sides are known, by whether they count as constant.
 fn large_product(left: bool, right: bool) -> Collected
     ensures { result ≡ large_product left right }
 {
@@ -285,13 +361,14 @@ impl Collected {
         }
     }
 
-    /// Whether a number passes the limit.
+    /// Whether a number passes the limit of an index expression.
     pub fn is_large(&self) -> bool
         ensures { result ≡ is_large self.now }
     {
         match self {
+            Collected::Known(form) => !form.is_within(),
             Collected::Large(_) => true,
-            Collected::Known(_) | Collected::Unknown => false,
+            Collected::Unknown => false,
         }
     }
 

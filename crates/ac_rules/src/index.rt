@@ -54,7 +54,7 @@ impl Scope {
         let form = if large {
             Collected::Large(true)
         } else {
-            let number = i64::from(numeral.number);
+            let number = i128::from(numeral.number);
             Collected::Known(constant_form(alloc, self.params, self.iterators.len(), number)?)
         };
         Ok(Judged {

@@ -3,7 +3,7 @@ ghost use Rattle.ac_syntax.specs.Turns.{bounds_by, innermost};
 ghost use Rattle.ac_syntax.specs.Nodes.{size};
 ghost use Rattle.ac_syntax.specs.declared.tree.Stmt.TheVariants.{For};
 ghost use Rattle.ac_rules.specs.Comparisons.{first_of, compared, index, condition};
-ghost use Rattle.ac_rules.specs.Statements.{inside, in_start, is_running, untyped_rule, loop_rule, other_rule, step_word_broken, source_broken, step_broken, step_number, may_bound, is_endless, head_broken, target_rule, extra_nodes, assigned_value, assignment_broken, statement_broken, statements_broken, targets, all_targets, stmt, stmts};
+ghost use Rattle.ac_rules.specs.Statements.{inside, in_start, is_running, untyped_rule, loop_rule, other_rule, step_word_broken, source_broken, step_broken, step_number, form_bounds, may_bound, is_endless, head_broken, target_rule, extra_nodes, assigned_value, assignment_broken, statement_broken, statements_broken, targets, all_targets, stmt, stmts};
 
 use crate::comparison::{
     build_condition, build_index, build_indices, check_condition, check_index, compare, rel_of,
@@ -11,7 +11,7 @@ use crate::comparison::{
 use crate::declare::is_declared;
 use crate::fault::{Broken, Rule, Which, broken_where, earlier, rule_broken};
 use crate::form::{Collected, coefficient};
-use crate::index::is_long;
+use crate::index::{Judged, is_long};
 use crate::measure::{Measured, check_access, measure};
 use crate::scope::{Entry, Meaning, Scope, declared_meaning, iterator_number, word_broken};
 use crate::value::{apply, array_number, build_read, build_value};
@@ -182,13 +182,13 @@ fn step_number(step: &Step) -> i64
 
 /// The coefficient of the innermost iterator.
 #[tactic(auto, using(crate::proofs::Columns::innermost_at))]
-fn innermost(iters: &[i64]) -> i64
+fn innermost(iters: &[i128]) -> i128
     ensures { result ≡ innermost iters.now }
 {
     coefficient(iters, iters.len().saturating_sub(1))
 }
 
-fn bounds_by(rel: Rel, coefficient: i64, step: i64) -> bool
+fn bounds_by(rel: Rel, coefficient: i128, step: i64) -> bool
     ensures { result ≡ bounds_by rel (coefficient *ℤ step) }
 {
     match rel {
@@ -198,9 +198,9 @@ fn bounds_by(rel: Rel, coefficient: i64, step: i64) -> bool
 }
 
 impl Collected {
-    /// Whether a comparison of this form bounds the innermost iterator; one that breaks a rule might.
-    fn may_bound(&self, step: i64, relation: Relation) -> bool
-        ensures { result ≡ may_bound step relation self.now }
+    /// Whether a comparison of this form bounds the innermost iterator; one without a form might.
+    fn bounds(&self, step: i64, relation: Relation) -> bool
+        ensures { result ≡ form_bounds step relation self.now }
     {
         match self {
             Collected::Known(form) => {
@@ -208,6 +208,15 @@ impl Collected {
             }
             _ => true,
         }
+    }
+}
+
+impl Judged {
+    /// Whether a comparison bounds the innermost iterator; one that breaks a rule, or has a part beyond the limit, might.
+    fn may_bound(&self, step: i64, relation: Relation) -> bool
+        ensures { result ≡ may_bound step relation self.now }
+    {
+        self.large || self.form.bounds(step, relation)
     }
 }
 
@@ -225,7 +234,7 @@ fn is_endless(
     }
     for part in cond {
         let it = compare(alloc, names, scope, part)?;
-        if it.form.may_bound(step_number(step), part.relation) {
+        if it.may_bound(step_number(step), part.relation) {
             return Ok(false);
         }
     }

@@ -5,4 +5,4 @@ use Rattle.ac_rules.specs.Statements.{may_bound, step_number}
 use Rattle.ac_rules.proofs.statement.is_endless.Given as goal
 
 abbrev pub invariant-loop-part : goal.invariant-loop-part
-invariant-loop-part l = list_any (λ part. may_bound (step_number l.step) part.relation (compared l.names l.scope part).form) (take l.part-index l.cond) ≡ false
+invariant-loop-part l = list_any (λ part. may_bound (step_number l.step) part.relation (compared l.names l.scope part)) (take l.part-index l.cond) ≡ false
