@@ -1,12 +1,10 @@
 -- From the lexer, the grammar and the rules to the answers on a text.
-use Rattle.std.proofs.Common.{◌≡◌, ◌≤◌, ℕ, List, map, length, refl, sym, ap, subst, ◌∙◌, Option, Some, None}
+use Rattle.std.proofs.Common.{◌≡◌, ℕ, List, length, refl, sym, ap, subst, ◌∙◌, Option, Some, None}
 use Rattle.std.specs.Prelude.{Result, Ok, Err, IfErr}
 use Rattle.std.specs.Result.{IsErrAnd}
 use Rattle.std.proofs.lemmas.Option.{none-some}
-use Rattle.std.specs.declared.alloc.AllocError.{AllocError}
 use Rattle.ac_syntax.specs.Ready.{ReadyProgram}
 use Rattle.ac_syntax.specs.Small.{IsSmallProgram}
-use Rattle.ac_syntax.specs.declared.tree.Place.{Place}
 use Rattle.ac_syntax.specs.declared.tree.Program.{Program}
 use Rattle.ac_lex.specs.Lexemes.{Lexeme}
 use Rattle.ac_lex.specs.Tokens.{AreTokens}
@@ -25,11 +23,14 @@ use Rattle.ac_rules.specs.declared.fault.RuleFault.{RuleFault}
 use Rattle.ac_rules.specs.declared.fault.RuleFault.TheVariants as rules
 use Rattle.ac_rules.specs.Files.{file_broken, program_of, IsAnswer}
 use Rattle.ac_rules.proofs.ReadyPrograms.{ready_program}
+use Rattle.ac_rules.specs.LawsOfPrograms.{DoesAs}
 use Rattle.ac_rules.proofs.SmallPrograms.{small_program}
+use Rattle.ac_rules.proofs.UsedNames.{none_is_undeclared}
+use Rattle.ac_rules.proofs.WrittenPrograms.{programs_do_as_written}
 use Rattle.ac_parse.specs.declared.faults.SourceFault.{SourceFault}
-use Rattle.ac_parse.specs.Program.{IsShort, IsText, IsProgramOf}
+use Rattle.ac_parse.specs.Program.{IsShort, IsProgramOf}
 use Rattle.ac_parse.specs.Answers.{HasSourceFault, no_tokens, no_file, too_deep, breaks_a_rule, no_memory, IsOnlyProgram}
-use Rattle.ac_parse.specs.Laws.{HasOneProgram, ProgramsAreReady, ProgramsAreSmall}
+use Rattle.ac_parse.specs.Laws.{HasOneProgram, ProgramsAreReady, ProgramsAreSmall, ProgramsDoAsTexts}
 use Rattle.ac_parse.proofs.Conditions.{file_conditions}
 use Rattle.ac_parse.specs.Stages.{of_lexer, of_grammar, of_rules, IsTokensAnswer, has_program, is_no_file, is_too_deep, breaks, lacks_memory}
 
@@ -117,3 +118,6 @@ ready bytes program h = subst ReadyProgram (sym h.is) (ready_program h.file h.ru
 
 pub small : ProgramsAreSmall
 small bytes program h = subst IsSmallProgram (sym h.is) (small_program h.file h.rules)
+
+pub does_as_text : ProgramsDoAsTexts
+does_as_text bytes program h = (subst (DoesAs h.file) (sym h.is) (programs_do_as_written h.file h.rules), none_is_undeclared h.file h.rules)

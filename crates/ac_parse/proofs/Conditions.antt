@@ -1,5 +1,5 @@
 -- Each branch of a file of the grammar has a comparison in its condition.
-use Rattle.std.proofs.Common.{◌≡◌, ◌<◌, ◌+◌, arith, ℕ, Bool, true, Option, List, [], ◌∷◌, ◌++◌, map, length, refl, rules, ap, ◌∙◌, sym, subst}
+use Rattle.std.proofs.Common.{◌≡◌, ◌<◌, ◌+◌, arith, ℕ, Bool, true, Option, List, [], ◌∷◌, map, length, refl, rules, ap, ◌∙◌, sym, subst}
 use Rattle.std.specs.Prelude.{◌&&◌, nat_lt}
 use Rattle.std.specs.List.{list_all}
 use Rattle.std.proofs.lemmas.List.Folds.{list_all-append}
@@ -16,8 +16,8 @@ use Rattle.ac_grammar.specs.declared.tree.Statement.{Statement, the_lemmas}
 use Rattle.ac_grammar.specs.declared.tree.Statement.TheVariants.{Loop, Branch, Assign}
 use Rattle.ac_grammar.specs.declared.tree.File.{File}
 use Rattle.ac_grammar.specs.Grammar.{IsCond, one_part, next_part, IsPart, comparison, nested}
-use Rattle.ac_grammar.specs.StatementsGrammar.{IsAssignment, assignment, IsStatement, empty, block, loop, branch, branch_with_else, assign, IsStatements, no_statement, a_statement}
-use Rattle.ac_grammar.specs.FileGrammar.{IsFunction, function, IsFile, file}
+use Rattle.ac_grammar.specs.StatementsGrammar.{assignment, IsStatement, empty, block, loop, branch, branch_with_else, assign, IsStatements, no_statement, a_statement}
+use Rattle.ac_grammar.specs.FileGrammar.{function, IsFile, file}
 use Rattle.ac_rules.specs.Numbers.{has_conditions, HasConditions}
 
 more : (m n : ℕ) → 0 < m → 0 < m + n

@@ -1,5 +1,5 @@
 -- A text has one fault at most.
-use Rattle.std.proofs.Common.{◌≡◌, ◌≤◌, ◌<◌, ℕ, List, length, arith, refl, sym, ap, subst, ◌∙◌, Option, Some, None, false, true}
+use Rattle.std.proofs.Common.{◌≡◌, ◌<◌, ℕ, List, length, arith, refl, sym, ap, subst, ◌∙◌, Some, None, false}
 use Rattle.ac_syntax.specs.declared.tree.Place.{Place}
 use Rattle.ac_lex.specs.Lexemes.{Lexeme}
 use Rattle.ac_lex.specs.Pieces.{Why}
@@ -17,7 +17,7 @@ use Rattle.ac_rules.specs.declared.fault.Broken.{Broken}
 use Rattle.ac_rules.specs.Files.{file_broken}
 use Rattle.ac_parse.specs.declared.faults.SourceFault.{SourceFault}
 use Rattle.ac_parse.specs.declared.faults.SourceFault.TheVariants.{Lex, Syntax, Limit}
-use Rattle.ac_parse.specs.Program.{IsShort, IsText, IsProgramOf}
+use Rattle.ac_parse.specs.Program.{IsShort, IsText}
 use Rattle.ac_parse.specs.Answers.{lex_fault, rule_fault, HasSourceFault, too_long, no_tokens, no_file, too_deep, breaks_a_rule, no_memory, is_memory}
 use Rattle.ac_parse.specs.Laws.{HasOneSourceFault, HasNotBoth}
 use Rattle.ac_parse.proofs.Composing.{none_is_some}

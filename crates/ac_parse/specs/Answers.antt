@@ -17,7 +17,7 @@ use Rattle.ac_rules.specs.declared.fault.Broken.{Broken}
 use Rattle.ac_rules.specs.Files.{file_broken}
 use Rattle.ac_parse.specs.declared.faults.SourceFault.{SourceFault}
 use Rattle.ac_parse.specs.declared.faults.SourceFault.TheVariants.{Lex, Syntax, NotAffine, Undeclared, Misused, Duplicate, Endless, Limit, Memory}
-use Rattle.ac_parse.specs.Program.{IsShort, IsText, IsProgramOf}
+use Rattle.ac_parse.specs.Program.{IsShort, IsText}
 
 -- a fault of the lexer, by its kind and place
 abbrev pub lex_fault : Why → Place → LexFault

@@ -3,6 +3,9 @@ use Rattle.std.specs.Prelude.{◌≡◌, ℕ, List, false}
 use Rattle.ac_syntax.specs.Ready.{ReadyProgram}
 use Rattle.ac_syntax.specs.Small.{IsSmallProgram}
 use Rattle.ac_syntax.specs.declared.tree.Program.{Program}
+use Rattle.ac_rules.specs.Files.{names_of}
+use Rattle.ac_rules.specs.LawsOfNames.{UsesDeclared}
+use Rattle.ac_rules.specs.LawsOfPrograms.{DoesAs}
 use Rattle.ac_parse.specs.Answers.{HasSourceFault, is_memory}
 use Rattle.ac_parse.specs.Program.{IsProgramOf}
 use Rattle.ac_parse.specs.declared.faults.SourceFault.{SourceFault}
@@ -26,3 +29,7 @@ ProgramsAreReady = (bytes : List ℕ) (program : Program) → IsProgramOf bytes 
 -- and its numbers are at most 2^31 in absolute value
 abbrev pub ProgramsAreSmall : Type 0
 ProgramsAreSmall = (bytes : List ℕ) (program : Program) → IsProgramOf bytes program → IsSmallProgram program
+
+-- it does what the file of the text says, and that file uses no name that it does not declare
+abbrev pub ProgramsDoAsTexts : Type 0
+ProgramsDoAsTexts = (bytes : List ℕ) (program : Program) → (is : IsProgramOf bytes program) → DoesAs is.file program × UsesDeclared (names_of is.file) is.file

@@ -1,4 +1,4 @@
-ghost use Rattle.ac_parse.specs.Laws.{HasOneProgram, HasOneSourceFault, HasNotBoth, ProgramsAreReady, ProgramsAreSmall};
+ghost use Rattle.ac_parse.specs.Laws.{HasOneProgram, HasOneSourceFault, HasNotBoth, ProgramsAreReady, ProgramsAreSmall, ProgramsDoAsTexts};
 
 /// What the bytes of a text determine: their program, or else their first fault.
 pub fn programs_are_determined()
@@ -12,4 +12,11 @@ pub fn programs_are_determined()
 pub fn programs_are_ready()
     ensures ready { ProgramsAreReady }
     ensures small { ProgramsAreSmall }
+{}
+
+/// The program of a text does what the text says: its loops, branches and assignments are those of the text, in order, each with
+/// the start, the condition, the step, the cell and the value that are written there. Each name that the text uses is declared in
+/// it or is that of a loop that runs there.
+pub fn programs_do_as_texts()
+    ensures does { ProgramsDoAsTexts }
 {}

@@ -14,6 +14,6 @@ mod signature;
 
 pub use ac_rules::fault::Which;
 pub use faults::{PairFault, SourceFault};
-pub use laws::{programs_are_determined, programs_are_ready};
+pub use laws::{programs_are_determined, programs_are_ready, programs_do_as_texts};
 pub use pairing::pair;
 pub use parsing::parse;

@@ -1,6 +1,6 @@
-use Rattle.std.proofs.Common.{◌≡◌, map, subst, sym, ap, ◌∙◌}
+use Rattle.std.proofs.Common.{map, subst, sym}
 use Rattle.std.specs.Prelude.{IfErr}
-use Rattle.ac_lex.specs.Lexemes.{lexeme_of, lexemes}
+use Rattle.ac_lex.specs.Lexemes.{lexeme_of}
 use Rattle.ac_lex.specs.Tokens.{AreTokens}
 use Rattle.ac_parse.specs.Answers.{HasSourceFault}
 use Rattle.ac_parse.specs.Stages.{of_lexer}

@@ -1,5 +1,4 @@
-use Rattle.std.proofs.Common.{◌≡◌, map, subst, sym, ap, ◌∙◌}
-use Rattle.std.specs.Prelude.{None}
+use Rattle.std.proofs.Common.{◌≡◌, map, ap, ◌∙◌}
 use Rattle.ac_lex.specs.Lexemes.{lexeme_of}
 use Rattle.ac_rules.specs.Files.{file_broken, program_of}
 use Rattle.ac_parse.specs.Answers.{IsOnlyProgram}
