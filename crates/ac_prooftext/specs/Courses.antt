@@ -54,6 +54,11 @@ IsReady c = IsSteady c.stepper
 abbrev pub IsWanting : Checker → Type 0
 IsWanting c = c.want ≡ true
 
+-- an answer that there was no memory
+abbrev pub TellsWant : Result (Vec ℕ Global) CheckFault → Type 0
+TellsWant (Err (Memory e)) = Unit {0}
+TellsWant _ = ⊥
+
 -- what a further piece of the text leads to: it is too deep, or its lines are taken
 abbrev pub GoesOn : Pairing → List ℕ → List ℕ → LineReader → Stepper → List ℕ → List ℕ → LineReader → Stepper → Type 0
 GoesOn g outputs line r s piece line' r' s' =

@@ -117,7 +117,7 @@ fn judged(stepper: Stepper<'_>) -> Result<Vec<usize>, CheckFault>
 }
 
 impl<'a> Checker<'a> {
-    ghost use Rattle.ac_prooftext.specs.Courses.{IsFed, IsReady, IsWanting};
+    ghost use Rattle.ac_prooftext.specs.Courses.{IsFed, IsReady, IsWanting, TellsWant};
 
     /// The check of a proof for a pair, before the first byte. The models are those of the pair's programs under its context.
     pub fn new(alloc: Global, pair: &'a Pair, left: &'a Model, right: &'a Model) -> Checker<'a>
@@ -125,6 +125,7 @@ impl<'a> Checker<'a> {
         requires models { AreModels pair.now left.now right.now }
         ensures fed { IsFed (pairing_of pair.now left.now right.now) pair.now.outputs [] result }
         ensures ready { IsReady result }
+        ensures going { ¬ (IsWanting result) }
     {
         Checker {
             alloc,
@@ -148,6 +149,7 @@ impl<'a> Checker<'a> {
         requires { IsReady self.old }
         ensures fed { OnOk result ((g : Pairing) (outputs text : List ℕ) → IsFed g outputs text self.old → IsFed g outputs (text ++ piece.now) self.new) }
         ensures again { OnOk result (¬ (IsWanting self.old)) }
+        ensures going { OnOk result (¬ (IsWanting self.new)) }
         ensures want { OnErr result (IsWanting self.new) }
         ensures ready { IsReady self.new }
     {
@@ -176,9 +178,10 @@ impl<'a> Checker<'a> {
     /// The answer on the stream, however it was cut. In this order: `TooLong` exactly where it has more than 67,108,864 bytes;
     /// `TooDeep` exactly where more than 10,000 branches are open on one path before its first fault as a text; `Refused` with the
     /// rule `text` exactly where it is no spelling of a proof; else the outputs, or the first line that is refused, as the check
-    /// of the proof spelled has them. `Memory` where there was no memory.
+    /// of the proof spelled has them. `Memory` where there was no memory, now or before.
     pub fn finish(self) -> Result<Vec<usize>, CheckFault>
-        ensures { (g : Pairing) (outputs text : List ℕ) → IsFed g outputs text self.entry → IsAnswer g outputs text result }
+        ensures want { IsWanting self.entry → TellsWant result }
+        ensures answer { (g : Pairing) (outputs text : List ℕ) → IsFed g outputs text self.entry → IsAnswer g outputs text result }
     {
         if self.want {
             return Err(CheckFault::Memory(AllocError));
