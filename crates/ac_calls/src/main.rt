@@ -20,7 +20,8 @@ fn answer(
     Ok(
         calls.answer(alloc, call, words, out)?
             || ac_program_calls::answer(alloc, call, words, out)?
-            || ac_search_calls::answer(alloc, call, words, out)?,
+            || ac_search_calls::answer(alloc, call, words, out)?
+            || ac_proof_calls::answer(alloc, call, words, out)?,
     )
 }
 

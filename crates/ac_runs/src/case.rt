@@ -20,7 +20,10 @@ pub struct Case {
 }
 
 /// The pieces, in bytes, in which a proof file is read once more, and the longest file that is read so.
-static PIECES: [(usize, usize); 2] = [(1, 4_096), (7, 65_536)];
+static PIECES: [(usize, usize); 3] = [(1, 4_096), (7, 65_536), (1_000, 1_048_576)];
+
+/// Of a changed file that has more bytes than one of these no more is told than the first that it exceeds.
+static LENGTHS: [usize; 2] = [65_536, 4_096];
 
 /// What a command line came to at first.
 #[derive(Drop)]
@@ -94,6 +97,17 @@ impl Case {
         Ok(all)
     }
 
+    /// What a changed file holds; of a long one that it is.
+    fn push_content(&self, out: &mut Vec<u8>, bytes: &[u8]) -> Result<(), AllocError> {
+        for length in &LENGTHS {
+            if bytes.len() > *length {
+                let line = format!(in self.alloc; "more than {} bytes", length)?;
+                return push_line(out, line.as_bytes());
+            }
+        }
+        push_bytes(out, bytes)
+    }
+
     /// The files that do not hold what they held.
     fn push_changes(&self, out: &mut Vec<u8>, held: &[Held]) -> Result<(), AllocError> {
         for file in held {
@@ -102,7 +116,7 @@ impl Case {
             if now != before {
                 out.extend_from_slice(b"changed ")?;
                 push_line(out, file.name.as_slice())?;
-                push_bytes(out, now.unwrap_or(b""))?;
+                self.push_content(out, now.unwrap_or(b""))?;
             }
         }
         Ok(())

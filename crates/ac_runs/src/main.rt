@@ -30,8 +30,9 @@
 //! - `failing read`, `failing write` or `failing put` and a number let that call fail; calls of each kind are numbered from 0
 //!   through the case.
 //! - `run` and words is a command line. Its answer is the status, the text that was put, and each file of the case or named by
-//!   the words that does not hold what it held, with its bytes. Where they say `check` and no call of the case is to fail, the proof
-//!   file is read twice more, in pieces of 1 byte (up to 4,096 bytes) and of 7 bytes (up to 65,536); a line says where the answer is not the same.
+//!   the words that does not hold what it held, with its bytes, or with a line that it has more than 4,096 or more than 65,536. Where
+//!   they say `check` and no call of the case is to fail, the proof file is read again in pieces of 1 byte (up to 4,096 bytes), of
+//!   7 (up to 65,536) and of 1,000 (up to 1,048,576); a line says where the answer is not the same.
 //! - `relay NAME limit N` reads a file of at most N bytes and puts what it read; its answer ends with all that was put in the
 //!   case. `part NAME FROM ROOM` reads a part of a file, from a place on and of so many bytes at most. `write NAME WORD` writes a file. `get NAME` looks into a file without a read.
 //! - `code of` and a status asks for its exit code, and `equal outputs N` for the status of N equal outputs.
