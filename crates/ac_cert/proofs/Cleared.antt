@@ -1,5 +1,5 @@
 -- What is read at a point without a column is the same at all points that differ there alone.
-use Rattle.std.proofs.Common.{◌≡◌, ℕ, zero, suc, ℤ, pos, neg_ℤ, List, [], ◌∷◌, set, Option, Some, None, Bool, true, false, ◌&&◌, cond, Result, Ok, Err, IfOk, refl, sym, ap, ◌∙◌}
+use Rattle.std.proofs.Common.{◌≡◌, ℕ, zero, suc, ℤ, pos, neg_ℤ, int_div, List, [], ◌∷◌, set, Option, Some, None, Bool, true, false, ◌&&◌, cond, Result, Ok, Err, IfOk, refl, sym, ap, ◌∙◌}
 use Rattle.std.specs.Int.{int_div_euclid}
 use Rattle.ac_forms.specs.Affine.{Affine, coef, value_at}
 use Rattle.ac_forms.specs.Fits.{fits}
@@ -74,16 +74,16 @@ pub solved_same : (z : ℕ) (o : Option Row) (p q : List ℤ) → AreSame z p q 
 solved_same z None p q e = refl
 solved_same z (Some (Ge f)) p q e = refl
 solved_same z (Some (Div m f)) p q e = refl
-solved_same z (Some (Eq f)) p q e = ap (λ (v : ℤ). against (coef z f) (int_div_euclid v (size_of (coef z f)))) (rest-same z f p q e)
+solved_same z (Some (Eq f)) p q e = ap (λ (v : ℤ). int_div (neg_ℤ v) (coef z f)) (rest-same z f p q e)
 
 pub solved_fits_same : (z : ℕ) (o : Option Row) (p q : List ℤ) → AreSame z p q → solved_fits z o p ≡ solved_fits z o q
 solved_fits_same z None p q e = refl
 solved_fits_same z (Some (Ge f)) p q e = refl
 solved_fits_same z (Some (Div m f)) p q e = refl
-solved_fits_same z (Some (Eq f)) p q e = by (can-same z f p q e) (solved_same z (Some (Eq f)) p q e)
+solved_fits_same z (Some (Eq f)) p q e = by (can-same z f p q e) (rest-same z f p q e) (solved_same z (Some (Eq f)) p q e)
   where
-    by : {a b : Bool} {v w : ℤ} → a ≡ b → v ≡ w → (a && (fits (size_of (coef z f)) && fits v)) ≡ (b && (fits (size_of (coef z f)) && fits w))
-    by {a} {b} {v} {w} h g = rw (h, g) refl
+    by : {a b : Bool} {v w s t : ℤ} → a ≡ b → v ≡ w → s ≡ t → (a && (fits (neg_ℤ v) && fits s)) ≡ (b && (fits (neg_ℤ w) && fits t))
+    by {a} {b} {v} {w} {s} {t} h g i = rw (h, g, i) refl
 
 -- a point that was cleared
 pub is_cleared : (p q : List ℤ) (z : ℕ) → q ≡ set p z (pos 0) → set q z (pos 0) ≡ q

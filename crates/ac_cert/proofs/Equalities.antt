@@ -1,13 +1,13 @@
 -- An equality that replaces its column in the other rows: a point of what is left goes back, and each point goes on.
-use Rattle.std.proofs.Common.{◌≡◌, ◌↔◌, ℕ, zero, suc, ◌<◌, ℤ, pos, negsuc, ◌+ℤ◌, ◌*ℤ◌, neg_ℤ, true, false, not, List, [], ◌∷◌, map, length, set, slice_get, Option, Some, None, unsigned_abs, arith, refl, ◌∙◌}
-use Rattle.std.specs.Int.{int_div_euclid}
+use Rattle.std.proofs.Common.{◌≡◌, ◌↔◌, ℕ, zero, suc, ◌<◌, ℤ, pos, negsuc, ◌+ℤ◌, ◌*ℤ◌, neg_ℤ, int_div, int_rem, true, false, not, List, [], ◌∷◌, map, length, set, slice_get, Option, Some, None, unsigned_abs, arith, refl, ap, ◌∙◌}
+use Rattle.std.specs.Int.{◌∣◌}
 use Rattle.std.specs.Int.Signed.{lt_z}
 use Rattle.std.specs.Ordering.{int_eq}
-use Rattle.std.proofs.lemmas.Int.{ints, unsigned_abs-mul}
+use Rattle.std.proofs.lemmas.Int.{ints, unsigned_abs-mul, quot-rem}
+use Rattle.std.proofs.lemmas.Nat.Gcd.{mod-eq-zero_of_dvd}
 use Rattle.std.proofs.Math.Nat.{dvd_of_mul-dvd-mul_left, mul-dvd-mul_left}
-use Rattle.ac_integers.proofs.Floor.{floor_exact}
 use Rattle.ac_integers.proofs.Multiples.{multiple_from}
-use Rattle.ac_integers.proofs.Products.{mul-le-mul_ℤ, le_of_mul-le_ℤ, mul-neg_ℤ, neg-mul_ℤ}
+use Rattle.ac_integers.proofs.Products.{mul-le-mul_ℤ, le_of_mul-le_ℤ, mul-neg_ℤ, neg-mul_ℤ, mul_comm_ℤ}
 use Rattle.ac_integers.proofs.Residues.{zero_factor}
 use Rattle.ac_forms.specs.Affine.{Affine, coef, value_at}
 use Rattle.ac_forms.specs.Rows.{form_of, Holds, Meets}
@@ -92,15 +92,27 @@ equality-free z i (Some (Ge f)) rows e = absurd cc
 equality-free z i (Some (Div m f)) rows e = absurd cc
 equality-free z i (Some (Eq g)) rows e = free-append z (map (replaced_row z g) (others i rows)) (Div (size_of (coef z g)) (without z g) ∷ []) (all-free z g (others i rows)) (coef-without z g, tt)
 
+size-neg : (a : ℤ) → unsigned_abs (neg_ℤ a) ≡ unsigned_abs a
+size-neg (pos zero) = refl
+size-neg (pos (suc n)) = refl
+size-neg (negsuc n) = refl
+
+-- a quotient without remainder
+exact-rest : (a c : ℤ) → unsigned_abs c ∣ unsigned_abs a → int_rem a c ≡ pos 0
+exact-rest (pos a) c d = ap pos (mod-eq-zero_of_dvd (unsigned_abs c) d)
+exact-rest (negsuc a) c d = ap (λ n. neg_ℤ (pos n)) (mod-eq-zero_of_dvd (unsigned_abs c) d)
+
+exact-quotient : (a c : ℤ) → unsigned_abs c ∣ unsigned_abs a → c *ℤ int_div a c ≡ a
+exact-quotient a c d = let e = exact-rest a c d in mul_comm_ℤ c (int_div a c) ∙ omega (arith, ints, quot-rem a c, e)
+
 -- the equality holds where the column is solved for
-solved-zero : (z : ℕ) (g : Affine) (q : List ℤ) → z < length q → 0 < unsigned_abs (coef z g) → Holds (Div (size_of (coef z g)) (without z g)) q
-    → value_at g (set q z (against (coef z g) (int_div_euclid (value_at (without z g) q) (size_of (coef z g))))) ≡ pos 0
-solved-zero z g q l s d =
-    let x = int_div_euclid (value_at (without z g) q) (size_of (coef z g)) in
-    let e = value-split g q z (against (coef z g) x) l in
-    let f = floor_exact (value_at (without z g) q) (unsigned_abs (coef z g)) s d in
-    let o = against-times (coef z g) x in
-    e ∙ rw o (omega (arith, ints, f))
+solved-zero : (z : ℕ) (g : Affine) (q : List ℤ) → z < length q → Holds (Div (size_of (coef z g)) (without z g)) q
+    → value_at g (set q z (int_div (neg_ℤ (value_at (without z g) q)) (coef z g))) ≡ pos 0
+solved-zero z g q l d =
+    let r = value_at (without z g) q in
+    let e = value-split g q z (int_div (neg_ℤ r) (coef z g)) l in
+    let o = exact-quotient (neg_ℤ r) (coef z g) (rw (size-neg r) d) in
+    e ∙ rw o (omega (arith, ints))
 
 pub equality-lifts : (z i : ℕ) (o : Option Row) (rows : List Row) (q : List ℤ) → z < length q → slice_get rows i ≡ o → is_equality_of z o ≡ true → Meets (by_equality z i o rows) q → Meets rows (set q z (solved z o q))
 equality-lifts z i None rows q l is e h = absurd cc
@@ -110,8 +122,8 @@ equality-lifts z i (Some (Eq g)) rows q l is e h =
     let made = map (replaced_row z g) (others i rows) in
     let d = meets-second made (Div (size_of (coef z g)) (without z g) ∷ []) q h in
     let s = size-positive z g e in
-    let v = against (coef z g) (int_div_euclid (value_at (without z g) q) (size_of (coef z g))) in
-    let zero = solved-zero z g q l s d.0 in
+    let v = int_div (neg_ℤ (value_at (without z g) q)) (coef z g) in
+    let zero = solved-zero z g q l d.0 in
     let on = (meets-free made q z v l (all-free z g (others i rows))).1 (meets-first made (Div (size_of (coef z g)) (without z g) ∷ []) q h) in
     rw (value-rest g q z l) (others-meet rows i (Eq g) (set q z v) is zero ((replaced-meet z g (others i rows) (set q z v) s zero).1 on))
 

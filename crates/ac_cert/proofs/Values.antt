@@ -1,6 +1,7 @@
 -- The numbers that bounds of a column allow at a point, row by row.
-use Rattle.std.proofs.Common.{◌≡◌, ℕ, zero, suc, ◌+◌, ◌<◌, ◌≤◌, ◌⊎◌, inl, inr, ℤ, pos, negsuc, neg_ℤ, ◌≤ℤ◌, List, [], ◌∷◌, ◌++◌, length, get_or, drop, set, Option, Some, None, Bool, true, false, not, ◌&&◌, cond, refl, sym, ap, ◌∙◌, arith}
-use Rattle.std.specs.Int.{int_div_euclid, int_max, int_min}
+use Rattle.std.proofs.Common.{◌≡◌, ℕ, zero, suc, ◌+◌, ◌<◌, ◌≤◌, ◌⊎◌, inl, inr, ℤ, pos, negsuc, neg_ℤ, ◌≤ℤ◌, List, [], ◌∷◌, ◌++◌, length, get_or, drop, set, Option, Some, None, Bool, true, false, not, ◌&&◌, cond, refl, sym, ap, ◌∙◌, arith, ◌≢◌, FitsSigned, to_z, of_z}
+use Rattle.ac_integers.proofs.Bits.{again_128}
+use Rattle.std.specs.Int.{w128, IsNonZero, int_div_euclid, int_max, int_min}
 use Rattle.std.specs.Int.Signed.{lt_z}
 use Rattle.std.specs.Ordering.{int_eq}
 use Rattle.std.proofs.lemmas.Int.{ints}
@@ -29,13 +30,20 @@ high_divisor z f e = by (coef z f) e
     by : (c : ℤ) → lt_z c (pos 0) ≡ true → pos 1 ≤ℤ neg_ℤ c
     by c e = grind (arith, ints, e)
 
-pub size_divisor : (z : ℕ) (f : Affine) → has_column z (Eq f) ≡ true → pos 1 ≤ℤ size_of (coef z f)
-size_divisor z f e = by (coef z f) e
+pub has_divisor : (z : ℕ) (f : Affine) → has_column z (Eq f) ≡ true → coef z f ≢ pos 0
+has_divisor z f e = by (coef z f) e
   where
-    by : (c : ℤ) → not (int_eq c (pos 0)) ≡ true → pos 1 ≤ℤ size_of c
+    by : (c : ℤ) → not (int_eq c (pos 0)) ≡ true → c ≢ pos 0
     by (pos zero) e = absurd cc
-    by (pos (suc n)) e = omega (arith, ints)
-    by (negsuc n) e = omega (arith, ints)
+    by (pos (suc n)) e = λ h. absurd cc
+    by (negsuc n) e = λ h. absurd cc
+
+pub is_divisor : (c : ℤ) → FitsSigned w128 c → c ≢ pos 0 → IsNonZero w128 c
+is_divisor c f h = by (of_z w128 c) refl
+  where
+    by : (n : ℕ) → of_z w128 c ≡ n → IsNonZero w128 c
+    by zero e = absurd (h (sym (again_128 c f) ∙ ap (to_z w128) e))
+    by (suc n) e = rw e (omega arith)
 
 -- one row in front of others
 low-fits : (z : ℕ) (r : Row) (rs : List Row) (p : List ℤ) → low_values_fit z (r ∷ rs) p ≡ (low_values_fit z (r ∷ []) p && low_values_fit z rs p)

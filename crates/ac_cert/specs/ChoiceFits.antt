@@ -102,9 +102,9 @@ high_values_fit z (Div m f ∷ rs) p = high_values_fit z rs p
 abbrev pub between_fits : ℕ → List Row → List ℤ → Bool
 between_fits z rows p = cond (is_none (lows z rows)) (high_values_fit z rows p) (low_values_fit z rows p)
 
--- the value of the equality without the column, the absolute value of its coefficient, and the number that replaces the column
+-- e, -e and -e / c for the equality c z + e = 0
 abbrev pub solved_fits : ℕ → Option Row → List ℤ → Bool
-solved_fits z (Some (Eq g)) p = can_evaluate g (set p z (pos 0)) && (fits (size_of (coef z g)) && fits (solved z (Some (Eq g)) p))
+solved_fits z (Some (Eq g)) p = can_evaluate g (set p z (pos 0)) && (fits (neg_ℤ (rest_at z g p)) && fits (solved z (Some (Eq g)) p))
 solved_fits z _ p = true
 
 -- the numbers of a point that is lifted

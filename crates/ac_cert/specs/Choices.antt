@@ -1,5 +1,5 @@
 -- The choices of elimination (W. Pugh, The Omega test, 1991): where each is legal, which rows it leaves, and how a point of these goes back.
-use Rattle.std.specs.Prelude.{ℕ, suc, Bool, true, false, not, ◌&&◌, cond, nat_lt, ℤ, pos, negsuc, ◌+ℤ◌, ◌-ℤ◌, ◌*ℤ◌, neg_ℤ, int_le, unsigned_abs, List, [], ◌∷◌, ◌++◌, map, take, drop, set, get_or, slice_get, Option, Some}
+use Rattle.std.specs.Prelude.{ℕ, suc, Bool, true, false, not, ◌&&◌, cond, nat_lt, ℤ, pos, negsuc, ◌+ℤ◌, ◌-ℤ◌, ◌*ℤ◌, neg_ℤ, int_div, int_le, unsigned_abs, List, [], ◌∷◌, ◌++◌, map, take, drop, set, get_or, slice_get, Option, Some}
 use Rattle.std.specs.Int.{int_div_euclid, int_max, int_min}
 use Rattle.std.specs.Int.Signed.{lt_z}
 use Rattle.std.specs.Ordering.{int_eq}
@@ -163,7 +163,7 @@ between [] [] = pos 0
 
 -- `-e / c` for the equality c z + e = 0
 abbrev pub solved : ℕ → Option Row → List ℤ → ℤ
-solved z (Some (Eq g)) p = against (coef z g) (int_div_euclid (rest_at z g p) (size_of (coef z g)))
+solved z (Some (Eq g)) p = int_div (neg_ℤ (rest_at z g p)) (coef z g)
 solved z _ p = pos 0
 
 -- the point of the conjunction that a point of the choice's result goes back to

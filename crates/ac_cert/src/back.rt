@@ -1,4 +1,4 @@
-ghost use Rattle.std.specs.Prelude.{◌≡◌, ◌≤◌, [], ◌∷◌, ◌&&◌, true, cond, Some, None, IfOk, ℤ, pos, neg_ℤ, ◌+ℤ◌, ◌*ℤ◌, length, set, get_or, slice_get};
+ghost use Rattle.std.specs.Prelude.{◌≡◌, ◌≢◌, ◌≤◌, int_div, [], ◌∷◌, ◌&&◌, true, cond, Some, None, IfOk, ℤ, pos, neg_ℤ, ◌+ℤ◌, ◌*ℤ◌, length, set, get_or, slice_get};
 ghost use Rattle.std.specs.Int.{int_div_euclid};
 ghost use Rattle.ac_forms.specs.Affine.{value_at, coef};
 ghost use Rattle.ac_forms.specs.Fits.{fits};
@@ -13,7 +13,7 @@ ghost use Rattle.ac_cert.specs.Extremes.{greater, lesser, greatest_from, least_f
 
 use crate::choose::Choice;
 use crate::column::{is_high, is_low, set_number};
-use crate::replace::{against, product, size, sum};
+use crate::replace::{product, sum};
 use ac_forms::{Conj, Form, FormStop, Row, Wide, coefficient};
 use std::alloc::{AllocError, Global};
 
@@ -187,8 +187,25 @@ fn between(z: usize, rows: &[Row], point: &[i128]) -> Result<i128, Wide>
     }
 }
 
+/// The same number with the other sign, if it is one of `i128`.
+#[tactic(auto, using(ac_integers::proofs::Bits::again_128, crate::proofs::Fitting::fits_true, crate::proofs::Fitting::fits_false))]
+fn negated(number: &i128) -> Option<i128>
+    ensures { result ≡ cond (fits (neg_ℤ number.now)) (Some (neg_ℤ number.now)) None }
+{
+    number.checked_neg()
+}
+
+/// A number over another that is not 0, rounded toward 0, if that is a number of `i128`.
+#[tactic(auto, using(ac_integers::proofs::Bits::again_128, crate::proofs::Values::is_divisor, crate::proofs::Fitting::fits_true, crate::proofs::Fitting::fits_false))]
+fn quotient(number: &i128, divisor: &i128) -> Option<i128>
+    requires { divisor.now ≢ pos 0 }
+    ensures { result ≡ cond (fits (int_div number.now divisor.now)) (Some (int_div number.now divisor.now)) None }
+{
+    number.checked_div(*divisor)
+}
+
 /// The number that replaces the column by an equality: `-e / c` for `c z + e = 0`.
-#[tactic(auto, using(ac_integers::proofs::Bits::again_128, crate::proofs::Values::size_divisor))]
+#[tactic(auto, using(ac_integers::proofs::Bits::again_128, crate::proofs::Values::has_divisor))]
 fn solution(z: usize, equality: &Form, point: &[i128]) -> Option<i128>
     requires within { length equality.now.coefs ≤ length point.now }
     requires has { has_column z (Eq equality.now) ≡ true }
@@ -198,11 +215,7 @@ fn solution(z: usize, equality: &Form, point: &[i128]) -> Option<i128>
     let Some(rest) = value(equality, point) else {
         return None;
     };
-    let coef = equality.coef(z);
-    let Some(size) = size(&coef) else {
-        return None;
-    };
-    against(&coef, &rest.div_euclid(size))
+    quotient(&negated(&rest)?, &equality.coef(z))
 }
 
 /// The same for the equality at a place.

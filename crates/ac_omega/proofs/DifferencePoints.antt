@@ -1,6 +1,7 @@
 -- Forms of differences at points whose coordinates are small, and points that go back along a choice.
 use Rattle.std.proofs.Common.{◌≡◌, inl, inr, ℕ, zero, suc, ◌+◌, ◌*◌, ◌<◌, ◌≤◌, ◌^◌, cond, Bool, true, false, ◌&&◌, ℤ, pos, negsuc, ◌+ℤ◌, ◌*ℤ◌, neg_ℤ, List, [], ◌∷◌, length, set, get_or, Some, arith, refl, ap, sym, subst, mul-le-mul_left}
-use Rattle.std.specs.Prelude.{unsigned_abs}
+use Rattle.std.specs.Prelude.{unsigned_abs, int_div}
+use Rattle.std.proofs.Math.Nat.{div-one}
 use Rattle.std.specs.Int.{w128, int_div_euclid, int_max, int_min}
 use Rattle.std.proofs.lemmas.Int.{ints, clamps, unsigned_abs-mul, fits_signed_from_abs}
 use Rattle.std.proofs.lemmas.List.{length-set}
@@ -11,14 +12,14 @@ use Rattle.ac_forms.specs.Tests.{can_evaluate}
 use Rattle.ac_forms.specs.declared.row.Row.{Row}
 use Rattle.ac_forms.specs.declared.row.Row.TheVariants.{Eq, Div, Ge}
 use Rattle.ac_cert.specs.Bounds.{is_low, is_high, is_none, lows}
-use Rattle.ac_cert.specs.Choices.{size_of, against, rest_at, low_values, high_values, greatest, least, between, solved}
+use Rattle.ac_cert.specs.Choices.{rest_at, low_values, high_values, greatest, least, between, solved}
 use Rattle.ac_cert.specs.ChoiceFits.{low_values_fit, high_values_fit, between_fits, solved_fits}
 use Rattle.ac_cert.proofs.Fitting.{evaluate_true}
 use Rattle.ac_cert.proofs.OneColumn.{value-rest}
 use Rattle.ac_omega.proofs.DifferenceForms.{unit-at, weight, weight-two}
 use Rattle.ac_omega.proofs.DifferenceRows.{IsOver, IsRow, Each, by-one}
 use Rattle.ac_omega.proofs.DifferenceNormals.{fits-within, both-true}
-use Rattle.ac_omega.proofs.DifferenceChoices.{IsSign, sign-size}
+use Rattle.ac_omega.proofs.DifferenceChoices.{IsSign}
 use Rattle.ac_omega.proofs.DifferenceShadows.{low-one, high-one}
 
 -- each is from -v to v
@@ -191,14 +192,22 @@ between-back vars b v z rs p h l w room =
     let hs = highs-allowed vars b v z rs p h l w room in
     set-back (between_fits z rs p) v b z _ p (cond-fits (is_none (lows z rs)) _ _ hs.fits ls.fits) (between-within (v + b) _ _ ls.within hs.within) w
 
-against-within : (c x : ℤ) (n : ℕ) → IsSign c → unsigned_abs x ≤ n → unsigned_abs (against c x) ≤ n
-against-within c x n (inl e) h = subst (λ (y : ℤ). unsigned_abs (against y x) ≤ n) (sym e) (rw (abs-neg x) h)
-against-within c x n (inr e) h = subst (λ (y : ℤ). unsigned_abs (against y x) ≤ n) (sym e) h
+quotient-within : (x c : ℤ) (n : ℕ) → IsSign c → unsigned_abs x ≤ n → unsigned_abs (int_div x c) ≤ n
+quotient-within x c n (inl e) h = subst (λ (y : ℤ). unsigned_abs (int_div x y) ≤ n) (sym e) (by x h)
+  where
+    by : (x : ℤ) → unsigned_abs x ≤ n → unsigned_abs (int_div x (pos 1)) ≤ n
+    by (pos a) h = omega (arith, ints, div-one a)
+    by (negsuc a) h = omega (arith, ints, div-one (suc a))
+quotient-within x c n (inr e) h = subst (λ (y : ℤ). unsigned_abs (int_div x y) ≤ n) (sym e) (by x h)
+  where
+    by : (x : ℤ) → unsigned_abs x ≤ n → unsigned_abs (int_div x (negsuc 0)) ≤ n
+    by (pos a) h = omega (arith, ints, div-one a)
+    by (negsuc a) h = omega (arith, ints, div-one (suc a))
 
 pub solved-back : (vars : List ℕ) (b v z : ℕ) (g : Affine) (p : List ℤ) → IsOver vars b g → IsSign (coef z g) → z < length p → AreWithin v p → v + v + b < 2 ^ 127 → GoesBack (solved_fits z (Some (Eq g)) p) (v + b) p (set p z (solved z (Some (Eq g)) p))
 solved-back vars b v z g p o s l w room =
-    let q : unsigned_abs (int_div_euclid (rest_at z g p) (size_of (coef z g))) ≤ v + b = rw (sign-size (coef z g) s, by-one (rest_at z g p)) (rest-within vars b v z g p o s l w) in
-    let k : unsigned_abs (solved z (Some (Eq g)) p) ≤ v + b = against-within (coef z g) _ (v + b) s q in
+    let r : unsigned_abs (neg_ℤ (rest_at z g p)) ≤ v + b = rw (abs-neg (rest_at z g p)) (rest-within vars b v z g p o s l w) in
+    let k : unsigned_abs (solved z (Some (Eq g)) p) ≤ v + b = quotient-within (neg_ℤ (rest_at z g p)) (coef z g) (v + b) s r in
     let c = evaluate_true g (set p z (pos 0)) (can-evaluate vars b v g (set p z (pos 0)) o (within-set v p z (pos 0) (zero-within v) w) room) in
-    let t : fits (size_of (coef z g)) ≡ true = ap (λ (x : ℤ). fits x) (sign-size (coef z g) s) in
+    let t : fits (neg_ℤ (rest_at z g p)) ≡ true = fits-within (neg_ℤ (rest_at z g p)) (v + b) r (omega arith) in
     set-back (solved_fits z (Some (Eq g)) p) v b z _ p (both-true _ _ c (both-true _ _ t (fits-within (solved z (Some (Eq g)) p) (v + b) k (omega arith)))) k w

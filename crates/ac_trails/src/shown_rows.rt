@@ -1,5 +1,6 @@
 //! Rows that stand on the path, and the steps to what is left of them in normal form.
-ghost use Rattle.std.specs.Prelude.{◌≡◌, ◌≤◌, ◌^◌, ℕ, pos, negsuc, List, OnOk, IfOk, IfSome, IfNone};
+ghost use Rattle.std.specs.Prelude.{◌≡◌, ◌≤◌, ◌^◌, ℕ, pos, negsuc, List, OnOk, IfOk, IfSome, IfNone, IsErr};
+ghost use Rattle.ac_integers.specs.Gcd.{content};
 ghost use Rattle.ac_forms.specs.Affine.{Affine};
 ghost use Rattle.ac_forms.specs.Fits.{Fits};
 ghost use Rattle.ac_forms.specs.NormalRows.{normal_ge};
@@ -25,8 +26,11 @@ pub(crate) fn narrow(number: u128) -> Option<i128>
 }
 
 impl Trail {
-    /// What is left of the row `form >= 0` at place x: the place where its normal form stands, or an absurd row.
+    /// What is left of the row `form >= 0` at place x: the place where its normal form stands, or an absurd row. Where the
+    /// content of the coefficients is 2^127, which is no number of `i128` (each is 0 or -2^127 then, so no row in normal form is
+    /// like that), the answer is want of memory.
     pub fn show_inequality(&mut self, x: usize, form: &Form) -> Result<usize, AllocError>
+        ensures wide { 2 ^ 127 ≤ content form.now.coefs → IsErr result }
         ensures base { OnOk result (IsSameBase self.old self.new) }
         ensures shows { IfOk result (λ i. (start path : Conj) (names : List ℕ) → Reaches self.old start path → StandsAt names path x (Ge form.now) → Shows self.new start path names i (normal_ge form.now)) }
     {
