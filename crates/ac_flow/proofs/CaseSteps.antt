@@ -1,6 +1,6 @@
 -- A case: its copies, its kills, and what stops it.
-use Rattle.std.proofs.Common.{◌≡◌, ◌⊎◌, inl, inr, ℕ, zero, suc, ◌+◌, ◌<◌, ◌≤◌, List, [], ◌∷◌, ◌++◌, map, length, Option, Some, None, refl, sym, ap, ◌∙◌, subst, arith}
-use Rattle.std.specs.Prelude.{Result, Ok, Err, IfErr, slice_get, option_and_then, option_map}
+use Rattle.std.proofs.Common.{◌≡◌, ◌⊎◌, inl, inr, ℕ, suc, ◌+◌, ◌≤◌, List, [], ◌∷◌, ◌++◌, map, length, Option, Some, None, refl, sym, ap, ◌∙◌, subst, arith}
+use Rattle.std.specs.Prelude.{slice_get, option_and_then, option_map}
 use Rattle.std.specs.List.{Contains}
 use Rattle.std.proofs.lemmas.List.Elements.{Contains-append_left, Contains-append_right}
 use Rattle.ac_forms.specs.Rows.{AreRowsOver}
@@ -10,9 +10,9 @@ use Rattle.ac_omega.specs.declared.piece.Piece.{Piece}
 use Rattle.ac_poly.specs.declared.types.Model.{Model}
 use Rattle.ac_poly.specs.declared.types.StmtModel.{StmtModel}
 use Rattle.ac_claims.specs.declared.types.Kill.{Kill}
-use Rattle.ac_kills.specs.Causes.{IsKillRow, AreKillRows, CutStops, IfFull}
+use Rattle.ac_kills.specs.Causes.{AreKillRows, IfFull}
 use Rattle.ac_kills.specs.Cuts.{AllHavePoints}
-use Rattle.ac_kills.specs.Remaining.{AreFound, AllKills, AllOver, AreKillsOf, AllKillsOf, IsWalkOf, CopyStops}
+use Rattle.ac_kills.specs.Remaining.{AllKills, AllOver, AreKillsOf, AllKillsOf}
 use Rattle.ac_kills.specs.declared.cut.CutStop.{CutStop}
 use Rattle.ac_kills.specs.declared.cut.CutStop.TheVariants.{Overflow, Spent, Full, Memory}
 use Rattle.ac_kills.proofs.Remains.{found-over}
@@ -27,10 +27,12 @@ use Rattle.ac_paths.specs.declared.path.CopyNumbers.{CopyNumbers}
 use Rattle.ac_paths.specs.declared.path.Seat.{Seat}
 use Rattle.ac_paths.proofs.InBranches.{made-wide}
 use Rattle.ac_flow.specs.Cases.{Reads, CanRead, ArePiecesOver, AreParts, IsFoundFor, AllFound, IsCaseOf, IsSourceCase, IsInitialCase, kills_of}
-use Rattle.ac_flow.specs.Stopping.{UnformedStops, CopyOfStops, KillsStop, IsKillPiece, AreKillPieces, PieceStops, CutCaseStops, UnlessMemory, CaseStops, SourceStops}
-use Rattle.ac_flow.specs.Stops.{plain}
+use Rattle.ac_flow.specs.Stopping.{UnformedStops, CopyOfStops, KillsStop, AreKillPieces, PieceStops, CutCaseStops, UnlessMemory, CaseStops, SourceStops}
+use Rattle.ac_flow.specs.Keeping.{AreGroups, AreCutCasesOf, AreOfWriting}
+use Rattle.ac_flow.specs.Stops.{plain, IfFilled}
 use Rattle.ac_flow.specs.declared.stop.CaseStop.{CaseStop}
-use Rattle.ac_flow.specs.Writings.{reading, rows_of, over, conj_of, writings, copies}
+use Rattle.ac_flow.specs.declared.stop.CaseStop.TheVariants as case
+use Rattle.ac_flow.specs.Writings.{reading, rows_of, over, conj_of, writings}
 use Rattle.ac_flow.specs.declared.types.Case.{Case}
 use Rattle.ac_flow.specs.declared.types.Remainder.{Remainder}
 use Rattle.ac_flow.proofs.CopySteps.{conj_behind}
@@ -181,6 +183,33 @@ cut_stop_case budget m r source columns rows a ws us found given e ea ew eu h eg
       stops = s (kill_rows found) (subst (AllKillsOf (kill_rows found)) (sym eg) (all-own (kill_rows found) found (λ kill y. y)));
     }))
 
+-- what is kept of a case are cut cases of what is assumed
+pub kept_case : (budget : ℕ) (m : Model) (r : Reads) (source : Option Seat) (columns : ℕ) (rows : List Row) (a : Assumed) (ws us : List CopyNumbers) (found given : List (List Piece)) (kept : List Conj) → a ≡ reading m r.position r.count source → ws ≡ writings m r.position r.array source → us ≡ ws
+    → AllFound budget m a us found → given ≡ found → ((ks : List (List Row)) → AllKillsOf ks given → AreGroups m columns rows ks r.pieces kept) → AreCutCasesOf budget m r source columns rows kept
+kept_case budget m r source columns rows a ws us found given kept ea ew eu h eg s =
+    let b = reading m r.position r.count source in
+    let all : AllFound budget m b (writings m r.position r.array source) found = subst (λ (x : List CopyNumbers). AllFound budget m b x found) (eu ∙ ew) (subst (λ (x : Assumed). AllFound budget m x us found) ea h) in
+    record {
+      kills = kill_rows found;
+      found = all-pieces budget m b (writings m r.position r.array source) (writings m r.position r.array source) found (λ w k. k) all;
+      groups = s (kill_rows found) (subst (AllKillsOf (kill_rows found)) (sym eg) (all-own (kill_rows found) found (λ kill y. y)));
+    }
+
+-- a fact of what is kept follows from another
+pub filled_map : (e : CaseStop) (P Q : List Conj → Type 0) → ((kept : List Conj) → P kept → Q kept) → IfFilled e P → IfFilled e Q
+filled_map (case.Overflow q) P Q f h = tt
+filled_map (case.Spent q k) P Q f h = tt
+filled_map (case.Full kept) P Q f h = f kept h
+filled_map (case.Memory x) P Q f h = tt
+
+pub filled_case : (budget : ℕ) (m : Model) (r : Reads) (source : Option Seat) (columns : ℕ) (rows : List Row) (a : Assumed) (ws us : List CopyNumbers) (found given : List (List Piece)) (room : ℕ) (e : CaseStop) → a ≡ reading m r.position r.count source → ws ≡ writings m r.position r.array source → us ≡ ws
+    → AllFound budget m a us found → given ≡ found → IfFilled e (λ kept. (length kept ≡ room + 1) × AllHavePoints kept) → ((ks : List (List Row)) → AllKillsOf ks given → IfFilled e (AreGroups m columns rows ks r.pieces))
+    → IfFilled e (λ kept. (length kept ≡ room + 1) × AllHavePoints kept × AreCutCasesOf budget m r source columns rows kept)
+filled_case budget m r source columns rows a ws us found given room (case.Overflow q) ea ew eu h eg f s = tt
+filled_case budget m r source columns rows a ws us found given room (case.Spent q k) ea ew eu h eg f s = tt
+filled_case budget m r source columns rows a ws us found given room (case.Full kept) ea ew eu h eg f s = (f.0, f.1, kept_case budget m r source columns rows a ws us found given kept ea ew eu h eg s)
+filled_case budget m r source columns rows a ws us found given room (case.Memory x) ea ew eu h eg f s = tt
+
 -- elimination is never full
 copy_not_full : (budget : ℕ) (m : Model) (a : Assumed) (w : CopyNumbers) (e : CutStop) (P : Type 0) → (UnformedStops m a w e ⊎ CopyOfStops budget m a w e) → IfFull e P
 copy_not_full budget m a w (Overflow c) P h = tt
@@ -264,6 +293,14 @@ source_stops budget m r w own a o stmt first seat given x ea e i is f s g h =
     subst (λ (z : Seat). CaseStops budget m r (Some z) own.columns own.rows x) j (subst (λ (y : List Row). CaseStops budget m r (Some seat) own.columns y x) g h) in
     unless_memory x (SourceStops budget m r w x) (inr (stmt, own, is, ap (λ (b : Assumed). conj_of m b w) (sym ea) ∙ sym e ∙ i, k))
 
+pub source_kept : (budget : ℕ) (m : Model) (r : Reads) (w : CopyNumbers) (own : Conj) (a : Assumed) (o : Option Conj) (stmt : StmtModel) (first : ℕ) (seat : Seat) (given : List Row) (kept : List Conj) → a ≡ reading m r.position r.count None → o ≡ conj_of m a w → o ≡ Some own
+    → slice_get m.stmts w.stmt ≡ Some stmt → first ≡ m.params + r.count → seat ≡ root first w.stmt stmt → given ≡ own.rows → AreCutCasesOf budget m r (Some seat) own.columns given kept → AreOfWriting budget m r w kept
+source_kept budget m r w own a o stmt first seat given kept ea e i is f s g h =
+    let j : seat ≡ root (m.params + r.count) w.stmt stmt = s ∙ ap (λ n. root n w.stmt stmt) f in
+    let k : AreCutCasesOf budget m r (Some (root (m.params + r.count) w.stmt stmt)) own.columns own.rows kept =
+    subst (λ (z : Seat). AreCutCasesOf budget m r (Some z) own.columns own.rows kept) j (subst (λ (y : List Row). AreCutCasesOf budget m r (Some seat) own.columns y kept) g h) in
+    inr (stmt, own, is, ap (λ (b : Assumed). conj_of m b w) (sym ea) ∙ sym e ∙ i, k)
+
 pub unformed_stops : (budget : ℕ) (m : Model) (r : Reads) (w : CopyNumbers) (a : Assumed) (e : CutStop) → a ≡ reading m r.position r.count None → UnformedStops m a w e → UnlessMemory e (SourceStops budget m r w e)
 unformed_stops budget m r w a e ea h = unless_memory e (SourceStops budget m r w e) (inl (subst (λ (b : Assumed). UnformedStops m b w e) ea h))
 
@@ -283,3 +320,7 @@ initial_is m r columns left kills case e h c = subst (IsInitialCase m r) (sym c)
 
 pub initial_stops : (budget : ℕ) (m : Model) (r : Reads) (columns : ℕ) (e : CutStop) → columns ≡ m.params + r.count → CaseStops budget m r None columns [] e → CaseStops budget m r None (m.params + r.count) [] e
 initial_stops budget m r columns x e h = subst (λ n. CaseStops budget m r None n [] x) e h
+
+pub initial_filled : (budget : ℕ) (m : Model) (r : Reads) (columns room : ℕ) (e : CaseStop) → columns ≡ m.params + r.count → IfFilled e (λ kept. (length kept ≡ room + 1) × AllHavePoints kept × AreCutCasesOf budget m r None columns [] kept)
+    → IfFilled e (λ kept. (length kept ≡ room + 1) × AllHavePoints kept × AreCutCasesOf budget m r None (m.params + r.count) [] kept)
+initial_filled budget m r columns room x e h = subst (λ n. IfFilled x (λ kept. (length kept ≡ room + 1) × AllHavePoints kept × AreCutCasesOf budget m r None n [] kept)) e h

@@ -1,6 +1,6 @@
 -- The parts of a writing's rows, and what they say at a point.
-use Rattle.std.proofs.Common.{◌≡◌, ℕ, zero, suc, ◌+◌, ◌<◌, ◌≤◌, ◌⊎◌, inl, inr, ℤ, List, [], ◌∷◌, ◌++◌, map, length, true, cond, Option, Some, None, refl, sym, ap, ◌∙◌, subst, arith, append_assoc, append-nil, length-append}
-use Rattle.std.specs.Prelude.{slice_get, nat_eq, option_and_then, option_map, ◌↔◌}
+use Rattle.std.proofs.Common.{◌≡◌, ℕ, zero, suc, ◌+◌, ◌<◌, inl, inr, ℤ, List, [], ◌∷◌, ◌++◌, map, length, true, cond, Option, Some, None, refl, sym, ap, ◌∙◌, subst, arith, append_assoc, length-append}
+use Rattle.std.specs.Prelude.{slice_get, nat_eq, option_and_then}
 use Rattle.std.specs.List.{flat_map, range_with_len}
 use Rattle.std.proofs.lemmas.Bool.{eqb-true}
 use Rattle.std.proofs.lemmas.Bool.Decides.{Decides-eqb}
@@ -16,10 +16,10 @@ use Rattle.ac_poly.specs.Laws.{values_at, cell_of}
 use Rattle.ac_poly.specs.Pieces.{Somewhere}
 use Rattle.ac_poly.specs.declared.types.Model.{Model}
 use Rattle.ac_poly.specs.declared.types.StmtModel.{StmtModel}
-use Rattle.ac_cert.proofs.Keeping.{bind-some, map-some, some-is, if-some}
+use Rattle.ac_cert.proofs.Keeping.{bind-some, some-is, if-some}
 use Rattle.ac_paths.specs.Columns.{base, columns_of, appended}
 use Rattle.ac_paths.specs.Coordinates.{width, levels_before}
-use Rattle.ac_paths.specs.Executions.{Execution, InstanceAt, At, Describes}
+use Rattle.ac_paths.specs.Executions.{Execution, InstanceAt, Describes}
 use Rattle.ac_paths.specs.Going.{root, case_rows}
 use Rattle.ac_paths.specs.Killing.{assignment_at, after_rows}
 use Rattle.ac_paths.specs.Pairs.{In}
@@ -32,7 +32,7 @@ use Rattle.ac_paths.proofs.Heres.{cell_with, read_cell}
 use Rattle.ac_paths.proofs.Branches.{in_left, in_right, in_map, in_flat_map, somewhere_of, stands_of_level, stands_all, level_in}
 use Rattle.ac_paths.proofs.InBranches.{in_get}
 use Rattle.ac_paths.proofs.ReadSteps.{CaseParts, case_parts, case_meets, picks_one, picks_two}
-use Rattle.ac_flow.specs.Writings.{alone, reading, levels_after, levels_after_of, numbers_to, afters, writing, writings_of, writings_at, writings_from, writings, rows_of}
+use Rattle.ac_flow.specs.Writings.{alone, reading, levels_after, levels_after_of, numbers_to, afters, writing, writings_of, writings_from, writings, rows_of}
 use Rattle.ac_flow.specs.Sources.{IsReading}
 use Rattle.ac_paths.specs.declared.path.CopyNumbers.{CopyNumbers}
 

@@ -1,8 +1,8 @@
 -- The conjunction of a writing.
-use Rattle.std.proofs.Common.{◌≡◌, ℕ, ◌+◌, ◌≤◌, ◌⊎◌, inl, inr, List, [], ◌++◌, Option, Some, None, refl, sym, ap, ◌∙◌, subst, arith}
+use Rattle.std.proofs.Common.{◌≡◌, ℕ, ◌+◌, ◌≤◌, ◌⊎◌, inr, List, [], ◌++◌, Option, Some, None, refl, sym, ap, ◌∙◌, subst, arith}
 use Rattle.std.specs.Prelude.{Result, Ok, Err, IfErr, slice_get, option_and_then, option_map, unwrap_or}
 use Rattle.ac_forms.specs.Renaming.{rows_renaming}
-use Rattle.ac_forms.specs.Rows.{AreRowsOver, HaveModuli, IsWellMade}
+use Rattle.ac_forms.specs.Rows.{HaveModuli, IsWellMade}
 use Rattle.ac_kills.specs.Remaining.{AreFound, IsWalkOf, CopyStops}
 use Rattle.ac_kills.specs.declared.cut.CutStop.{CutStop}
 use Rattle.ac_omega.specs.declared.piece.Piece.{Piece}
@@ -10,7 +10,7 @@ use Rattle.ac_forms.specs.declared.conj.Conj.{Conj}
 use Rattle.ac_forms.specs.declared.row.Row.{Row}
 use Rattle.ac_poly.specs.declared.types.Model.{Model}
 use Rattle.ac_poly.specs.declared.types.StmtModel.{StmtModel}
-use Rattle.ac_cert.proofs.Keeping.{bind-some, map-some, some-is}
+use Rattle.ac_cert.proofs.Keeping.{bind-some, map-some}
 use Rattle.ac_paths.specs.Coordinates.{width}
 use Rattle.ac_paths.specs.Formed.{HasModuli}
 use Rattle.ac_paths.specs.Columns.{base, columns_of}

@@ -1,19 +1,20 @@
 -- What the loop over the pieces of a reader keeps.
-use Rattle.std.proofs.Common.{◌≡◌, ◌⊎◌, inl, inr, ℕ, zero, suc, ◌+◌, ◌-◌, ◌<◌, ◌≤◌, List, [], ◌∷◌, ◌++◌, map, take, length, get_or, refl, sym, ap, ◌∙◌, subst, arith, append_assoc, append-nil, length-append}
-use Rattle.std.proofs.lemmas.List.{take_more, take_all, length-take-le, length-map}
+use Rattle.std.proofs.Common.{◌≡◌, ℕ, zero, suc, ◌+◌, ◌-◌, ◌<◌, ◌≤◌, List, [], ◌∷◌, ◌++◌, map, take, drop, length, get_or, refl, sym, ap, ◌∙◌, subst, arith, append_assoc, append-nil, length-append}
+use Rattle.std.proofs.lemmas.List.{take_more, take_all, length-take-le, length-map, take-append-drop}
 use Rattle.ac_forms.specs.Rows.{AreRowsOver, IsWellMade}
 use Rattle.ac_forms.specs.declared.conj.Conj.{Conj}
 use Rattle.ac_forms.specs.declared.row.Row.{Row}
 use Rattle.ac_omega.specs.declared.piece.Piece.{Piece}
 use Rattle.ac_poly.specs.declared.types.Model.{Model}
-use Rattle.ac_kills.specs.Causes.{CutStops, IfFull}
-use Rattle.ac_kills.specs.Cuts.{AllHavePoints}
+use Rattle.ac_kills.specs.Causes.{AreCutCases, CutStops, IfFull}
+use Rattle.ac_kills.specs.Cuts.{AllHavePoints, NoneMeet}
+use Rattle.ac_sets.specs.Unions.{ArePieces}
 use Rattle.ac_kills.specs.Remaining.{AllKillsOf, IsCut}
 use Rattle.ac_kills.specs.declared.cut.CutStop.{CutStop}
 use Rattle.ac_kills.specs.declared.cut.CutStop.TheVariants.{Overflow, Spent, Full, Memory}
 use Rattle.ac_paths.proofs.Moving.{made-both}
-use Rattle.ac_paths.specs.Pairs.{In}
 use Rattle.ac_flow.specs.Cases.{AreParts, ArePiecesOver, case_conj, remainder, conj_of_remainder}
+use Rattle.ac_flow.specs.Keeping.{AreGroups}
 use Rattle.ac_flow.specs.Stopping.{PieceStops}
 use Rattle.ac_flow.specs.Stops.{plain, IfFilled, IsStopOf}
 use Rattle.ac_flow.specs.declared.stop.CaseStop.{CaseStop}
@@ -32,11 +33,45 @@ case_stops budget m columns rows piece c ks e i h = subst (λ (x : Conj). CutSto
 
 pub ruleset one_steps = (case_made, case_cut, case_stops)
 
-pub record PartsSoFar (m : Model) (columns : ℕ) (rows : List Row) (kills : List (List Piece)) (pieces : List (List Row)) (d : ℕ) (out : List Remainder) : Type 0 where
-  pub value : AreParts m columns rows kills 0 (take d pieces) out
+-- ---- the groups of the pieces of a reader
 
-pub parts_start : (m : Model) (columns : ℕ) (rows : List Row) (kills : List (List Piece)) (pieces : List (List Row)) (out : List Remainder) → out ≡ [] → PartsSoFar m columns rows kills pieces 0 out
-parts_start m columns rows kills pieces out e = record { value = e }
+groups_none : (m : Model) (columns : ℕ) (rows : List Row) (ks qs : List (List Row)) → AreGroups m columns rows ks qs []
+groups_none m columns rows ks [] = refl
+groups_none m columns rows ks (q ∷ qs) = ([], [], refl, tt, tt, (λ p l. tt), groups_none m columns rows ks qs)
+
+pub no_groups : (m : Model) (columns : ℕ) (rows : List Row) (ks qs : List (List Row)) (kept : List Conj) → kept ≡ [] → AreGroups m columns rows ks qs kept
+no_groups m columns rows ks qs kept e = subst (AreGroups m columns rows ks qs) (sym e) (groups_none m columns rows ks qs)
+
+groups_snoc : (m : Model) (columns : ℕ) (rows : List Row) (ks qs : List (List Row)) (q : List Row) (kept group : List Conj) → AreGroups m columns rows ks qs kept → AreCutCases (case_conj m columns rows q).rows ks group → ArePieces columns group → NoneMeet columns group → AreGroups m columns rows ks (qs ++ q ∷ []) (kept ++ group)
+groups_snoc m columns rows ks [] q kept group e a w n = (group, [], ap (λ (x : List Conj). x ++ group) e ∙ sym (append-nil group), a, w, n, refl)
+groups_snoc m columns rows ks (p ∷ qs) q kept group (first, rest, e, b, v, o, h) a w n =
+    (first, rest ++ group, ap (λ (x : List Conj). x ++ group) e ∙ append_assoc first rest group, b, v, o, groups_snoc m columns rows ks qs q rest group h a w n)
+
+-- none in the pieces behind
+groups_behind : (m : Model) (columns : ℕ) (rows : List Row) (ks qs ps : List (List Row)) (kept : List Conj) → AreGroups m columns rows ks qs kept → AreGroups m columns rows ks (qs ++ ps) kept
+groups_behind m columns rows ks [] ps kept e = no_groups m columns rows ks ps kept e
+groups_behind m columns rows ks (q ∷ qs) ps kept (first, rest, e, b, v, o, h) = (first, rest, e, b, v, o, groups_behind m columns rows ks qs ps rest h)
+
+taken : (pieces : List (List Row)) (d : ℕ) (q : List Row) → d < length pieces → q ≡ get_or pieces d q → take (d + 1) pieces ≡ take d pieces ++ q ∷ []
+taken pieces d q l e = rw e (take_more pieces d q l)
+
+conjs_as : (d : ℕ) (group : List Conj) → map conj_of_remainder (map (remainder d) group) ≡ group
+conjs_as d [] = refl
+conjs_as d (c ∷ group) = ap (λ (cs : List Conj). c ∷ cs) (conjs_as d group)
+
+conjs_behind : (d : ℕ) (out : List Remainder) (group : List Conj) → map conj_of_remainder (out ++ map (remainder d) group) ≡ map conj_of_remainder out ++ group
+conjs_behind d [] group = conjs_as d group
+conjs_behind d (x ∷ out) group = ap (λ (cs : List Conj). x.conj ∷ cs) (conjs_behind d out group)
+
+-- ---- what is kept so far
+
+pub record PartsSoFar (m : Model) (columns : ℕ) (rows : List Row) (kills : List (List Piece)) (room : ℕ) (pieces : List (List Row)) (d : ℕ) (out : List Remainder) : Type 0 where
+  pub value : AreParts m columns rows kills 0 (take d pieces) out
+  pub groups : (ks : List (List Row)) → AllKillsOf ks kills → AreGroups m columns rows ks (take d pieces) (map conj_of_remainder out)
+  pub within : length out ≤ room
+
+pub parts_start : (m : Model) (columns : ℕ) (rows : List Row) (kills : List (List Piece)) (room : ℕ) (pieces : List (List Row)) (out : List Remainder) → out ≡ [] → PartsSoFar m columns rows kills room pieces 0 out
+parts_start m columns rows kills room pieces out e = record { value = e; groups = λ ks a. ap (map conj_of_remainder) e; within = subst (λ (x : List Remainder). length x ≤ room) (sym e) (omega arith) }
 
 parts_snoc : (m : Model) (columns : ℕ) (rows : List Row) (kills : List (List Piece)) (d : ℕ) (qs : List (List Row)) (q : List Row) (rs : List Remainder) (group : List Conj) → AreParts m columns rows kills d qs rs → IsCut (case_conj m columns rows q) kills group
     → AreParts m columns rows kills d (qs ++ q ∷ []) (rs ++ map (remainder (d + length qs)) group)
@@ -52,17 +87,34 @@ parts_snoc m columns rows kills d (p ∷ qs) q rs group (first, rest, e, i, h) c
       subst (λ j. AreParts m columns rows kills (suc d) (qs ++ q ∷ []) (rest ++ map (remainder j) group)) z (parts_snoc m columns rows kills (suc d) qs q rest group h c),
     )
 
-pub parts_next : (m : Model) (columns : ℕ) (rows : List Row) (kills : List (List Piece)) (pieces : List (List Row)) (d : ℕ) (q given : List Row) (out new : List Remainder) (group : List Conj) → PartsSoFar m columns rows kills pieces d out → d < length pieces → q ≡ get_or pieces d q → given ≡ q
-    → IsCut (case_conj m columns rows given) kills group → new ≡ out ++ map (remainder d) group → PartsSoFar m columns rows kills pieces (d + 1) new
-parts_next m columns rows kills pieces d q given out new group h l e g c n = record {
+-- one group more
+groups_next : (m : Model) (columns : ℕ) (rows : List Row) (kills : List (List Piece)) (room : ℕ) (pieces ks : List (List Row)) (d : ℕ) (q given : List Row) (out : List Remainder) (group : List Conj) → PartsSoFar m columns rows kills room pieces d out → AllKillsOf ks kills → d < length pieces → q ≡ get_or pieces d q
+    → given ≡ q → AreCutCases (case_conj m columns rows given).rows ks group → ArePieces columns group → NoneMeet columns group → AreGroups m columns rows ks (take (d + 1) pieces) (map conj_of_remainder out ++ group)
+groups_next m columns rows kills room pieces ks d q given out group h a l e g c w n =
+    subst (λ (x : List (List Row)). AreGroups m columns rows ks x (map conj_of_remainder out ++ group)) (sym (taken pieces d q l e))
+    (groups_snoc m columns rows ks (take d pieces) q (map conj_of_remainder out) group (h.groups ks a) (subst (λ (x : List Row). AreCutCases (case_conj m columns rows x).rows ks group) g c) w n)
+
+within_next : (room d : ℕ) (out new : List Remainder) (group : List Conj) → length out ≤ room → length group ≤ room - length out → new ≡ out ++ map (remainder d) group → length new ≤ room
+within_next room d out new group l m e = omega (arith, l, m, ap (λ (x : List Remainder). length x) e, length-append out (map (remainder d) group), length-map group (remainder d))
+
+pub parts_next : (m : Model) (columns : ℕ) (rows : List Row) (kills : List (List Piece)) (room : ℕ) (pieces : List (List Row)) (d left : ℕ) (q given : List Row) (out new : List Remainder) (group : List Conj) → PartsSoFar m columns rows kills room pieces d out → d < length pieces → q ≡ get_or pieces d q → given ≡ q
+    → IsCut (case_conj m columns rows given) kills group → ((ks : List (List Row)) → AllKillsOf ks kills → AreCutCases (case_conj m columns rows given).rows ks group) → left ≡ room - length out → length group ≤ left → new ≡ out ++ map (remainder d) group
+    → PartsSoFar m columns rows kills room pieces (d + 1) new
+parts_next m columns rows kills room pieces d left q given out new group h l e g c asked w fits n = record {
+  within = within_next room d out new group h.within (subst (λ k. length group ≤ k) w fits) n;
+  groups = λ ks a. subst (AreGroups m columns rows ks (take (d + 1) pieces)) (sym (ap (map conj_of_remainder) n ∙ conjs_behind d out group))
+      (groups_next m columns rows kills room pieces ks d q given out group h a l e g (asked ks a) c.made c.apart);
   value = subst (AreParts m columns rows kills 0 (take (d + 1) pieces)) (sym n)
       (subst (λ j. AreParts m columns rows kills 0 (take (d + 1) pieces) (out ++ map (remainder j) group)) (let z : 0 + length (take d pieces) ≡ d = omega (arith, length-take-le d pieces (omega (arith, l))) in z)
       (subst (λ (x : List (List Row)). AreParts m columns rows kills 0 x (out ++ map (remainder (0 + length (take d pieces))) group)) (sym (rw e (take_more pieces d q l)))
       (parts_snoc m columns rows kills 0 (take d pieces) q out group h.value (subst (λ (x : List Row). IsCut (case_conj m columns rows x) kills group) g c))));
 }
 
-pub parts_end : (m : Model) (columns : ℕ) (rows : List Row) (kills : List (List Piece)) (pieces : List (List Row)) (d : ℕ) (out : List Remainder) → PartsSoFar m columns rows kills pieces d out → length pieces ≤ d → AreParts m columns rows kills 0 pieces out
-parts_end m columns rows kills pieces d out h l = subst (λ (x : List (List Row)). AreParts m columns rows kills 0 x out) (take_all d pieces l) h.value
+pub parts_end : (m : Model) (columns : ℕ) (rows : List Row) (kills : List (List Piece)) (room : ℕ) (pieces : List (List Row)) (d : ℕ) (out : List Remainder) → PartsSoFar m columns rows kills room pieces d out → length pieces ≤ d → AreParts m columns rows kills 0 pieces out
+parts_end m columns rows kills room pieces d out h l = subst (λ (x : List (List Row)). AreParts m columns rows kills 0 x out) (take_all d pieces l) h.value
+
+pub groups_end : (m : Model) (columns : ℕ) (rows : List Row) (kills : List (List Piece)) (room : ℕ) (pieces ks : List (List Row)) (d : ℕ) (out : List Remainder) → PartsSoFar m columns rows kills room pieces d out → length pieces ≤ d → AllKillsOf ks kills → AreGroups m columns rows ks pieces (map conj_of_remainder out)
+groups_end m columns rows kills room pieces ks d out h l a = subst (λ (x : List (List Row)). AreGroups m columns rows ks x (map conj_of_remainder out)) (take_all d pieces l) (h.groups ks a)
 
 pub piece_over : (columns : ℕ) (pieces : List (List Row)) (d : ℕ) (q given : List Row) → ArePiecesOver columns pieces → d < length pieces → q ≡ get_or pieces d q → given ≡ q → AreRowsOver columns given
 piece_over columns [] d q given w l e g = absurd (omega (arith, l))
@@ -91,20 +143,34 @@ parts_have m columns rows kills d [] rs e = subst (λ (x : List Remainder). AllH
 parts_have m columns rows kills d (q ∷ qs) rs (group, rest, e, c, h) =
     subst (λ (x : List Remainder). AllHavePoints (map conj_of_remainder x)) (sym e) (subst AllHavePoints (sym (conjs_of d group rest)) (have-append group (map conj_of_remainder rest) c.each (parts_have m columns rows kills (suc d) qs rest h)))
 
-pub filled_have : (m : Model) (columns : ℕ) (rows : List Row) (kills : List (List Piece)) (pieces : List (List Row)) (d : ℕ) (out : List Remainder) (group kept : List Conj) → PartsSoFar m columns rows kills pieces d out → AllHavePoints group → kept ≡ group ++ map conj_of_remainder out → AllHavePoints kept
-filled_have m columns rows kills pieces d out group kept h a e = subst AllHavePoints (sym e) (have-append group (map conj_of_remainder out) a (parts_have m columns rows kills 0 (take d pieces) out h.value))
+filled_have : (m : Model) (columns : ℕ) (rows : List Row) (kills : List (List Piece)) (room : ℕ) (pieces : List (List Row)) (d : ℕ) (out : List Remainder) (group kept : List Conj) → PartsSoFar m columns rows kills room pieces d out → AllHavePoints group → kept ≡ map conj_of_remainder out ++ group → AllHavePoints kept
+filled_have m columns rows kills room pieces d out group kept h a e = subst AllHavePoints (sym e) (have-append (map conj_of_remainder out) group (parts_have m columns rows kills 0 (take d pieces) out h.value) a)
 
-filled_more : (room : ℕ) (out : List Remainder) (group kept : List Conj) → room - length out < length group → kept ≡ group ++ map conj_of_remainder out → room < length kept
-filled_more room out group kept l e = omega (arith, l, ap (λ (x : List Conj). length x) e, length-append group (map conj_of_remainder out), length-map out conj_of_remainder)
+filled_count : (room : ℕ) (out : List Remainder) (group kept : List Conj) → length out ≤ room → length group ≡ (room - length out) + 1 → kept ≡ map conj_of_remainder out ++ group → length kept ≡ room + 1
+filled_count room out group kept w l e = omega (arith, w, l, ap (λ (x : List Conj). length x) e, length-append (map conj_of_remainder out) group, length-map out conj_of_remainder)
 
-pub filled_full : (m : Model) (columns : ℕ) (rows : List Row) (kills : List (List Piece)) (pieces : List (List Row)) (d room : ℕ) (out : List Remainder) (group : List Conj) (stop : CutStop) (e : CaseStop) → PartsSoFar m columns rows kills pieces d out → AllHavePoints group → IfFull stop (room - length out < length group)
-    → IsStopOf stop e → IfFilled e (λ kept. kept ≡ group ++ map conj_of_remainder out) → IfFilled e (λ kept. (room < length kept) × AllHavePoints kept)
-filled_full m columns rows kills pieces d room out group stop (case.Overflow c) h a l s f = tt
-filled_full m columns rows kills pieces d room out group stop (case.Spent c k) h a l s f = tt
-filled_full m columns rows kills pieces d room out group stop (case.Full kept) h a l s f =
-    let r : room - length out < length group = subst (λ (x : CutStop). IfFull x (room - length out < length group)) s l in
-    (filled_more room out group kept r f, filled_have m columns rows kills pieces d out group kept h a f)
-filled_full m columns rows kills pieces d room out group stop (case.Memory e) h a l s f = tt
+pub filled_full : (m : Model) (columns : ℕ) (rows : List Row) (kills : List (List Piece)) (room : ℕ) (pieces : List (List Row)) (d left : ℕ) (out : List Remainder) (group : List Conj) (stop : CutStop) (e : CaseStop) → PartsSoFar m columns rows kills room pieces d out → AllHavePoints group → left ≡ room - length out
+    → IfFull stop ((length group ≡ left + 1) × NoneMeet columns group × ArePieces columns group) → IsStopOf stop e → IfFilled e (λ kept. kept ≡ map conj_of_remainder out ++ group) → IfFilled e (λ kept. (length kept ≡ room + 1) × AllHavePoints kept)
+filled_full m columns rows kills room pieces d left out group stop (case.Overflow c) h a w l s f = tt
+filled_full m columns rows kills room pieces d left out group stop (case.Spent c k) h a w l s f = tt
+filled_full m columns rows kills room pieces d left out group stop (case.Full kept) h a w l s f =
+    let r : (length group ≡ left + 1) × NoneMeet columns group × ArePieces columns group = subst (λ (x : CutStop). IfFull x ((length group ≡ left + 1) × NoneMeet columns group × ArePieces columns group)) s l in
+    (filled_count room out group kept h.within (r.0 ∙ ap (λ n. n + 1) w) f, filled_have m columns rows kills room pieces d out group kept h a f)
+filled_full m columns rows kills room pieces d left out group stop (case.Memory e) h a w l s f = tt
+
+-- the groups before, that of the stop, and none in the pieces behind
+pub filled_groups : (m : Model) (columns : ℕ) (rows : List Row) (kills : List (List Piece)) (room : ℕ) (pieces ks : List (List Row)) (d left : ℕ) (q given : List Row) (out : List Remainder) (group : List Conj) (stop : CutStop) (e : CaseStop) → PartsSoFar m columns rows kills room pieces d out → AllKillsOf ks kills
+    → d < length pieces → q ≡ get_or pieces d q → given ≡ q → IfFull stop ((length group ≡ left + 1) × NoneMeet columns group × ArePieces columns group) → IfFull stop (AreCutCases (case_conj m columns rows given).rows ks group) → IsStopOf stop e → IfFilled e (λ kept. kept ≡ map conj_of_remainder out ++ group)
+    → IfFilled e (AreGroups m columns rows ks pieces)
+filled_groups m columns rows kills room pieces ks d left q given out group stop (case.Overflow c) h a l i g n b s f = tt
+filled_groups m columns rows kills room pieces ks d left q given out group stop (case.Spent c k) h a l i g n b s f = tt
+filled_groups m columns rows kills room pieces ks d left q given out group stop (case.Full kept) h a l i g n b s f =
+    let r : (length group ≡ left + 1) × NoneMeet columns group × ArePieces columns group = subst (λ (x : CutStop). IfFull x ((length group ≡ left + 1) × NoneMeet columns group × ArePieces columns group)) s n in
+    let c : AreCutCases (case_conj m columns rows given).rows ks group = subst (λ (x : CutStop). IfFull x (AreCutCases (case_conj m columns rows given).rows ks group)) s b in
+    subst (AreGroups m columns rows ks pieces) (sym f)
+    (subst (λ (x : List (List Row)). AreGroups m columns rows ks x (map conj_of_remainder out ++ group)) (take-append-drop (d + 1) pieces)
+    (groups_behind m columns rows ks (take (d + 1) pieces) (drop (d + 1) pieces) (map conj_of_remainder out ++ group) (groups_next m columns rows kills room pieces ks d q given out group h a l i g c r.2 r.1)))
+filled_groups m columns rows kills room pieces ks d left q given out group stop (case.Memory e) h a l i g n b s f = tt
 
 pub stopped_at : (budget : ℕ) (m : Model) (columns : ℕ) (rows : List Row) (pieces ks : List (List Row)) (d : ℕ) (q given : List Row) (stop : CutStop) (e : CaseStop) → d < length pieces → q ≡ get_or pieces d q → given ≡ q → CutStops budget (case_conj m columns rows given).rows ks stop → IsStopOf stop e
     → PieceStops budget m columns rows pieces ks (plain e)

@@ -1,6 +1,6 @@
 -- For each case of a reading exactly the instances whose source it is.
-use Rattle.std.proofs.Common.{◌≡◌, ◌↔◌, ◌⊎◌, inl, inr, ℕ, zero, suc, ◌+◌, ◌<◌, ◌≤◌, ℤ, List, [], ◌∷◌, ◌++◌, map, length, Option, Some, None, refl, sym, ap, ◌∙◌, subst, arith, append_assoc, append-nil, length-append}
-use Rattle.std.specs.Prelude.{slice_get, option_and_then, option_map}
+use Rattle.std.proofs.Common.{◌≡◌, ◌↔◌, inl, inr, ℕ, ◌+◌, ℤ, List, [], ◌∷◌, ◌++◌, map, length, Option, Some, None, refl, sym, ap, ◌∙◌, subst, arith, append_assoc, append-nil, length-append}
+use Rattle.std.specs.Prelude.{slice_get, option_map}
 use Rattle.ac_forms.specs.Negation.{InSome, InNone}
 use Rattle.ac_forms.specs.Rows.{Meets, AreRowsOver}
 use Rattle.ac_forms.specs.declared.conj.Conj.{Conj}
@@ -14,7 +14,7 @@ use Rattle.ac_poly.specs.declared.types.StmtModel.{StmtModel}
 use Rattle.ac_cert.proofs.Keeping.{bind-some, map-some, some-is, Meets-append}
 use Rattle.ac_paths.specs.Columns.{all_of}
 use Rattle.ac_paths.specs.Coordinates.{width}
-use Rattle.ac_paths.specs.Executions.{Execution, InstanceAt, Describes}
+use Rattle.ac_paths.specs.Executions.{Execution, Describes}
 use Rattle.ac_paths.specs.Going.{root}
 use Rattle.ac_paths.specs.Killing.{case_width, after_rows}
 use Rattle.ac_paths.specs.Pairs.{In}
@@ -22,12 +22,12 @@ use Rattle.ac_paths.specs.Places.{cell_read}
 use Rattle.ac_paths.specs.declared.path.CopyNumbers.{CopyNumbers}
 use Rattle.ac_paths.specs.declared.places.CellForms.{CellForms}
 use Rattle.ac_paths.proofs.InBranches.{made-wide}
-use Rattle.ac_flow.specs.Cases.{Reads, CanRead, IsCaseOf, IsSourceCase, IsInitialCase, AreCases, conj_of_remainder}
-use Rattle.ac_flow.specs.Flows.{IsLeft, MeetsCase, CaseIsTheSource, HasCase}
-use Rattle.ac_flow.specs.Sources.{IsReading, IsSource, NoCopy, HasRows}
+use Rattle.ac_flow.specs.Cases.{Reads, CanRead, IsSourceCase, IsInitialCase, AreCases, conj_of_remainder}
+use Rattle.ac_flow.specs.Flows.{IsLeft, CaseIsTheSource, HasCase}
+use Rattle.ac_flow.specs.Sources.{IsReading, IsSource}
 use Rattle.ac_flow.specs.Writings.{alone, reading, writing, rows_of, over, conj_of, writings, copies}
 use Rattle.ac_flow.specs.declared.types.Case.{Case}
-use Rattle.ac_flow.proofs.CopyParts.{Parts, parts_of}
+use Rattle.ac_flow.proofs.CopyParts.{parts_of}
 use Rattle.ac_flow.proofs.Leaving.{left_is}
 use Rattle.ac_flow.proofs.Sourcing.{no_copy, the_source_has_rows}
 

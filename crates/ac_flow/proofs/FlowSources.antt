@@ -1,10 +1,10 @@
 -- What the flow of a lowered program says of its executions.
-use Rattle.std.proofs.Common.{◌≡◌, ◌⊎◌, inl, inr, ℕ, ◌+◌, ℤ, List, [], ◌∷◌, length, None, refl, sym, ap, ◌∙◌, subst}
+use Rattle.std.proofs.Common.{◌≡◌, inl, inr, ℤ, List, [], ◌∷◌, None, refl, sym, subst}
 use Rattle.ac_forms.specs.Rows.{Meets}
 use Rattle.ac_syntax.specs.Algebra.{Cell}
 use Rattle.ac_syntax.specs.Trace.{Entry}
 use Rattle.ac_syntax.specs.declared.tree.Position.{Position}
-use Rattle.ac_poly.specs.Model.{model_of, PiecesAreApart}
+use Rattle.ac_poly.specs.Model.{PiecesAreApart}
 use Rattle.ac_poly.proofs.PiecesApart.{pieces_are_apart}
 use Rattle.ac_poly.specs.declared.types.Model.{Model}
 use Rattle.ac_paths.specs.Executions.{Execution, Describes, execution}

@@ -1,5 +1,5 @@
 -- What the loops over reads and outputs keep.
-use Rattle.std.proofs.Common.{◌≡◌, ◌⊎◌, inl, inr, ℕ, zero, suc, ◌+◌, ◌<◌, ◌≤◌, List, [], ◌∷◌, ◌++◌, take, length, get_or, refl, sym, ap, ◌∙◌, subst, arith, append_assoc, append-nil}
+use Rattle.std.proofs.Common.{◌≡◌, inl, inr, ℕ, zero, suc, ◌+◌, ◌<◌, ◌≤◌, List, [], ◌∷◌, ◌++◌, take, length, get_or, sym, ap, ◌∙◌, subst, arith, append_assoc, append-nil}
 use Rattle.std.proofs.lemmas.List.{take_more, take_all, length-take-le}
 use Rattle.ac_forms.specs.Affine.{Affine}
 use Rattle.ac_poly.specs.declared.types.Model.{Model}
@@ -8,7 +8,7 @@ use Rattle.ac_poly.specs.declared.types.StmtModel.{StmtModel}
 use Rattle.ac_paths.specs.Pairs.{In}
 use Rattle.ac_paths.proofs.Branches.{in_left, in_right}
 use Rattle.ac_flow.specs.Cases.{Reads}
-use Rattle.ac_flow.specs.Readers.{read_at, reads_from, reads_of_all, output_at, outputs_from, AreFlows, Grows, StopsAt, StopsAmong}
+use Rattle.ac_flow.specs.Readers.{read_at, reads_from, reads_of_all, output_at, outputs_from, AreFlows, Grows, StopsAmong}
 use Rattle.ac_flow.specs.declared.types.FlowStop.{FlowStop}
 use Rattle.ac_flow.specs.declared.types.ReadFlow.{ReadFlow}
 

@@ -1,7 +1,6 @@
 -- What is left of a case is where no copy has a point, so where what is assumed is the source.
-use Rattle.std.proofs.Common.{◌≡◌, ◌↔◌, ◌⊎◌, inl, inr, ℕ, zero, suc, ◌+◌, ◌<◌, ◌≤◌, ℤ, List, [], ◌∷◌, ◌++◌, map, length, Option, Some, None, refl, sym, ap, ◌∙◌, subst, arith, append_assoc, append-nil, length-append}
-use Rattle.std.specs.Prelude.{slice_get}
-use Rattle.ac_forms.specs.Negation.{Extends, InSome, InNone}
+use Rattle.std.proofs.Common.{◌≡◌, ◌↔◌, ◌⊎◌, inl, inr, ℕ, suc, ℤ, List, [], ◌∷◌, ◌++◌, map, length, refl, sym, ap, ◌∙◌, subst, arith}
+use Rattle.ac_forms.specs.Negation.{InSome, InNone}
 use Rattle.ac_forms.specs.Rows.{Meets, AreRowsOver}
 use Rattle.ac_forms.specs.declared.conj.Conj.{Conj}
 use Rattle.ac_forms.specs.declared.row.Row.{Row}
@@ -9,7 +8,7 @@ use Rattle.ac_omega.specs.declared.piece.Piece.{Piece}
 use Rattle.ac_poly.specs.Pieces.{Somewhere}
 use Rattle.ac_poly.specs.declared.types.Model.{Model}
 use Rattle.ac_cert.proofs.Keeping.{Meets-append}
-use Rattle.ac_kills.specs.Remaining.{AllKills, IsCut}
+use Rattle.ac_kills.specs.Remaining.{AllKills}
 use Rattle.ac_kills.proofs.Remains.{remains}
 use Rattle.ac_paths.proofs.Moving.{meets-parts, meets-both}
 use Rattle.ac_flow.specs.Cases.{AreParts, ArePiecesOver, case_conj, remainder, conj_of_remainder}

@@ -1,9 +1,9 @@
 -- The rows of a lowered program are over its own columns.
-use Rattle.std.proofs.Common.{◌≡◌, ℕ, zero, suc, ◌+◌, ◌-◌, ◌<◌, ◌≤◌, max, ℤ, pos, negsuc, List, [], ◌∷◌, ◌++◌, length, replicate, Some, refl, sym, ap, ◌∙◌, subst, arith, length-append}
+use Rattle.std.proofs.Common.{◌≡◌, ℕ, zero, suc, ◌+◌, ◌-◌, ◌≤◌, ℤ, pos, negsuc, List, [], ◌∷◌, length, replicate, Some, refl, sym, subst, arith, length-append}
 use Rattle.std.specs.Prelude.{slice_get}
 use Rattle.std.specs.List.{AllByRecursion}
 use Rattle.std.proofs.lemmas.List.{length-replicate}
-use Rattle.ac_forms.specs.Affine.{Affine, column_form, combined}
+use Rattle.ac_forms.specs.Affine.{Affine, column_form}
 use Rattle.ac_forms.specs.Rows.{AreRowsOver}
 use Rattle.ac_forms.specs.declared.row.Row.{Row}
 use Rattle.ac_poly.specs.Columns.{AreOver}
@@ -13,11 +13,10 @@ use Rattle.ac_poly.specs.declared.types.StmtModel.{StmtModel}
 use Rattle.ac_poly.proofs.Columns.{has_columns}
 use Rattle.ac_poly.proofs.Values.{length-mix}
 use Rattle.ac_paths.specs.Coordinates.{width}
-use Rattle.ac_paths.specs.Formed.{HasModuli}
 use Rattle.ac_paths.specs.Places.{extent_rows}
 use Rattle.ac_paths.proofs.Described.{models_describe}
 use Rattle.ac_flow.specs.Cases.{Reads, CanRead, ArePiecesOver}
-use Rattle.ac_flow.specs.Readers.{IsLowered, IsOver, elements_of}
+use Rattle.ac_flow.specs.Readers.{IsLowered, IsOver}
 
 zeros : (n : ℕ) → (z : List ℤ) × (length z ≡ n)
 zeros zero = ([], refl)

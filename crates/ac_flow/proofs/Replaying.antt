@@ -1,5 +1,5 @@
 -- The choices of a kill, replayed on the copy that it names, leave its rows.
-use Rattle.std.proofs.Common.{◌≡◌, ◌⊎◌, inl, inr, ℕ, zero, suc, ◌+◌, ◌-◌, ◌<◌, ◌≤◌, nat_le, Bool, true, false, cond, ◌&&◌, ◌||◌, ◌==◌, List, [], ◌∷◌, ◌++◌, map, length, Option, Some, None, refl, sym, ap, ◌∙◌, subst, arith}
+use Rattle.std.proofs.Common.{◌≡◌, ℕ, zero, suc, ◌+◌, ◌-◌, ◌≤◌, nat_le, Bool, true, false, cond, ◌&&◌, ◌||◌, ◌==◌, List, [], ◌∷◌, ◌++◌, map, length, Option, Some, None, refl, sym, ap, ◌∙◌, subst, arith}
 use Rattle.std.specs.Prelude.{slice_get, option_and_then, option_map}
 use Rattle.std.specs.List.{range_with_len}
 use Rattle.ac_forms.specs.NormalForm.{normal_conj}
@@ -15,23 +15,22 @@ use Rattle.ac_cert.specs.declared.choose.Choice.{Choice}
 use Rattle.ac_cert.specs.declared.choose.Choice.TheVariants as choice
 use Rattle.ac_cert.proofs.Keeping.{bind-some, map-some, if-some}
 use Rattle.ac_kills.specs.Kills.{columns_from}
-use Rattle.ac_kills.specs.Remaining.{AreFound, AllKills}
+use Rattle.ac_kills.specs.Remaining.{AllKills}
 use Rattle.ac_omega.specs.Projection.{is_among}
-use Rattle.ac_omega.specs.Replays.{replayed, IsReached, AreReached, AreOver}
+use Rattle.ac_omega.specs.Replays.{replayed, AreReached, AreOver}
 use Rattle.ac_omega.specs.declared.piece.Piece.{Piece}
 use Rattle.ac_poly.specs.declared.types.Model.{Model}
 use Rattle.ac_poly.specs.declared.types.StmtModel.{StmtModel}
 use Rattle.ac_paths.specs.Columns.{all_of}
 use Rattle.ac_paths.specs.Coordinates.{width}
-use Rattle.ac_paths.specs.Killing.{case_width, with_own_columns, normal_of, copy_by, copy_of, copy_rows, by_column, taken_legally, chosen, all_chosen, ends_before}
+use Rattle.ac_paths.specs.Killing.{case_width, with_own_columns, normal_of, copy_by, copy_rows, by_column, taken_legally, chosen, all_chosen, ends_before}
 use Rattle.ac_paths.specs.declared.path.Assumed.{Assumed}
 use Rattle.ac_paths.specs.declared.path.CopyNumbers.{CopyNumbers}
 use Rattle.ac_paths.specs.declared.path.Seat.{Seat}
 use Rattle.ac_paths.proofs.Moving.{all-cons}
-use Rattle.ac_flow.specs.Cases.{Reads, IsCaseOf, kill_of, kills_of}
-use Rattle.ac_flow.specs.Replaying.{IsReplayed, AllReplayed, KillsAreReplayed}
-use Rattle.ac_flow.specs.Writings.{alone, reading, rows_of, over, conj_of, writings, copies}
-use Rattle.ac_flow.specs.declared.types.Remainder.{Remainder}
+use Rattle.ac_flow.specs.Cases.{Reads, kill_of, kills_of}
+use Rattle.ac_flow.specs.Replaying.{AllReplayed, KillsAreReplayed}
+use Rattle.ac_flow.specs.Writings.{alone, reading, rows_of, over, conj_of, writings}
 
 -- ---- choices by their own columns
 

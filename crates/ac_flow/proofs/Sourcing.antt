@@ -1,14 +1,14 @@
 -- Where no copy has a point, what is assumed is the source.
-use Rattle.std.proofs.Common.{◌≡◌, ◌↔◌, ℕ, zero, suc, ◌+◌, ◌<◌, ◌≤◌, ◌⊎◌, inl, inr, ℤ, List, [], ◌∷◌, ◌++◌, map, length, nat_lt, Bool, true, false, Option, Some, None, refl, sym, ap, ◌∙◌, subst, arith, append_assoc, append-nil, length-append}
-use Rattle.std.specs.Prelude.{slice_get, option_and_then, option_map}
+use Rattle.std.proofs.Common.{◌≡◌, ◌↔◌, ℕ, ◌+◌, ◌<◌, ◌≤◌, ◌⊎◌, inl, inr, ℤ, List, [], ◌∷◌, ◌++◌, map, length, nat_lt, Bool, true, false, Option, Some, None, refl, sym, ap, ◌∙◌, subst, arith, append_assoc, append-nil, length-append}
+use Rattle.std.specs.Prelude.{slice_get, option_map}
 use Rattle.std.specs.List.{range_with_len}
 use Rattle.ac_forms.specs.Negation.{Extends, InNone}
 use Rattle.ac_forms.specs.Renaming.{picked}
 use Rattle.ac_forms.specs.Rows.{Meets}
 use Rattle.ac_forms.specs.declared.conj.Conj.{Conj}
 use Rattle.ac_forms.specs.declared.row.Row.{Row}
-use Rattle.ac_syntax.specs.Algebra.{Cell, same_cell, target}
-use Rattle.ac_syntax.specs.Source.{Writer, Stands, source}
+use Rattle.ac_syntax.specs.Algebra.{Cell}
+use Rattle.ac_syntax.specs.Source.{Writer, source}
 use Rattle.ac_syntax.specs.Trace.{Entry}
 use Rattle.ac_syntax.specs.declared.tree.Position.{Position}
 use Rattle.ac_syntax.proofs.Sources.{source_stands, source_last, source_none, one_place}
@@ -24,14 +24,14 @@ use Rattle.ac_paths.specs.Pairs.{In}
 use Rattle.ac_paths.specs.Places.{cell_read}
 use Rattle.ac_paths.specs.declared.places.CellForms.{CellForms}
 use Rattle.ac_paths.specs.declared.path.Seat.{Seat}
-use Rattle.ac_paths.proofs.Moving.{all-cons, meets-parts}
+use Rattle.ac_paths.proofs.Moving.{meets-parts}
 use Rattle.ac_paths.proofs.Branches.{in_map, in_all, stands_all}
 use Rattle.ac_paths.proofs.InBranches.{all_among}
 use Rattle.ac_paths.proofs.OnPaths.{pick_new}
 use Rattle.ac_flow.specs.Writings.{reading, writings, rows_of, over, conj_of, copies}
 use Rattle.ac_flow.specs.Sources.{IsReading, IsSource, NoCopy, NoCopyIsTheSource, HasRows, TheSourceHasRows}
 use Rattle.ac_paths.specs.declared.path.CopyNumbers.{CopyNumbers}
-use Rattle.ac_flow.proofs.CopyParts.{block, Parts, parts_of, Shown, Written, written, later_than, Later, later_none, later_some, There, there}
+use Rattle.ac_flow.proofs.CopyParts.{block, Parts, parts_of, Shown, Written, written, later_than, later_none, later_some, There, there}
 
 -- ---- members of lists of copies
 

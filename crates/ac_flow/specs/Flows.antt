@@ -1,6 +1,5 @@
 -- What a flow says: for each case exactly the instances whose source it is.
-use Rattle.std.specs.Prelude.{ℕ, ◌+◌, ◌≡◌, ◌↔◌, ◌⊎◌, ◌++◌, List, map, length, ℤ, Option, Some, None, slice_get}
-use Rattle.std.specs.List.{Contains}
+use Rattle.std.specs.Prelude.{ℕ, ◌≡◌, ◌↔◌, ◌++◌, List, map, length, ℤ, Some, None, slice_get}
 use Rattle.ac_forms.specs.Negation.{InSome}
 use Rattle.ac_forms.specs.Rows.{Meets}
 use Rattle.ac_forms.specs.declared.conj.Conj.{Conj}

@@ -2,6 +2,7 @@ pub mod Writings
 pub mod Sources
 pub mod Cases
 pub mod Stopping
+pub mod Keeping
 pub mod Stops
 pub mod Readers
 pub mod Flows

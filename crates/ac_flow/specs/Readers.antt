@@ -1,9 +1,8 @@
 -- The reads and outputs of a program, and its flow.
-use Rattle.std.specs.Prelude.{ℕ, suc, ◌+◌, ◌≡◌, ◌⊎◌, ◌<◌, List, [], ◌∷◌, ◌++◌, length, Option, Some, None, cond, slice_get}
-use Rattle.std.specs.List.{AllByRecursion}
+use Rattle.std.specs.Prelude.{ℕ, suc, ◌+◌, ◌≡◌, ◌⊎◌, ◌≤◌, List, [], ◌∷◌, ◌++◌, length, Some, None, cond, slice_get}
+use Rattle.std.specs.List.{AllByRecursion, flat_map}
 use Rattle.ac_forms.specs.Affine.{Affine}
 use Rattle.ac_forms.specs.Rows.{AreRowsOver}
-use Rattle.ac_forms.specs.declared.conj.Conj.{Conj}
 use Rattle.ac_syntax.specs.Ready.{ReadyProgram, FitParts}
 use Rattle.ac_syntax.specs.declared.tree.Cond.{Cond}
 use Rattle.ac_syntax.specs.declared.tree.Position.{Position}
@@ -15,14 +14,14 @@ use Rattle.ac_poly.specs.declared.types.Model.{Model}
 use Rattle.ac_poly.specs.declared.types.NodeModel.{NodeModel}
 use Rattle.ac_poly.specs.declared.types.NodeModel.TheVariants.{Number, Read, Call}
 use Rattle.ac_poly.specs.declared.types.StmtModel.{StmtModel}
-use Rattle.ac_kills.specs.Cuts.{AllHavePoints}
 use Rattle.ac_kills.specs.declared.cut.CutStop.TheVariants as cut
 use Rattle.ac_claims.specs.ProofFaults.{is_output_array}
 use Rattle.ac_paths.specs.Coordinates.{width}
 use Rattle.ac_paths.specs.Formed.{HasModuli}
 use Rattle.ac_paths.specs.Pairs.{In}
 use Rattle.ac_paths.specs.Places.{extent_rows}
-use Rattle.ac_flow.specs.Cases.{Reads, AreCases}
+use Rattle.ac_flow.specs.Cases.{Reads, AreCases, conjs_of}
+use Rattle.ac_flow.specs.Keeping.{AreTooMany}
 use Rattle.ac_flow.specs.Stopping.{ReadStops}
 use Rattle.ac_flow.specs.Writings.{over, writings}
 use Rattle.ac_flow.specs.declared.stop.CaseStop.{CaseStop}
@@ -62,9 +61,9 @@ outputs_from m o (extents ∷ rest) = output_at m o extents ++ outputs_from m (s
 abbrev pub readers : Model → List Reads
 readers m = reads_of_all 0 m.stmts ++ outputs_from m 0 m.extents
 
--- the flow of one of them
+-- the flow of one of them, with at most 4,096 pieces
 abbrev pub IsFlowOf : Model → Reads → ReadFlow → Type 0
-IsFlowOf m r f = (f.position ≡ r.position) × AreCases m r (writings m r.position r.array None) f.cases
+IsFlowOf m r f = (f.position ≡ r.position) × AreCases m r (writings m r.position r.array None) f.cases × (length (flat_map conjs_of f.cases) ≤ 4096)
 
 -- one flow for each of them
 abbrev pub AreFlows : Model → List Reads → List ReadFlow → Type 0
@@ -86,11 +85,11 @@ flow_stop_of position (case.Spent q k) = flow.Spent q k
 flow_stop_of position (case.Full kept) = flow.Pieces position kept
 flow_stop_of position (case.Memory e) = flow.Memory e
 
--- a read or an output stops the flow, or the rows of an output's elements cannot be formed
+-- a read or an output stops the flow: one of its questions, or one piece too many
 abbrev pub StopsAt : ℕ → Model → Reads → FlowStop → Type 0
 StopsAt budget m r (flow.Overflow q) = ReadStops budget m r (cut.Overflow q)
 StopsAt budget m r (flow.Spent q k) = ReadStops budget m r (cut.Spent q k)
-StopsAt budget m r (flow.Pieces position kept) = (position ≡ r.position) × (4096 < length kept) × AllHavePoints kept
+StopsAt budget m r (flow.Pieces position kept) = (position ≡ r.position) × AreTooMany budget m r kept
 StopsAt budget m r (flow.Memory e) = Unit {0}
 
 abbrev pub IsContextOverflow : Model → FlowStop → Type 0

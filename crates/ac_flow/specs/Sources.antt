@@ -1,5 +1,5 @@
 -- Where no copy has a point, what is assumed for a read or an output is its source.
-use Rattle.std.specs.Prelude.{ℕ, ◌+◌, ◌≡◌, ◌↔◌, List, ◌++◌, length, ℤ, Option, Some, None, slice_get}
+use Rattle.std.specs.Prelude.{ℕ, ◌+◌, ◌≡◌, ◌↔◌, List, ◌++◌, length, ℤ, Some, None, slice_get}
 use Rattle.ac_forms.specs.Negation.{InNone}
 use Rattle.ac_forms.specs.Rows.{Meets}
 use Rattle.ac_forms.specs.declared.conj.Conj.{Conj}

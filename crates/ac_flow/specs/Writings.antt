@@ -1,5 +1,5 @@
 -- What writes the cell of a read or an output before it: its assignment, a piece and a level, and its rows.
-use Rattle.std.specs.Prelude.{ℕ, suc, ◌+◌, ◌≡◌, ◌++◌, List, [], ◌∷◌, map, length, ℤ, Option, Some, None, option_and_then, option_map, cond, nat_eq, slice_get}
+use Rattle.std.specs.Prelude.{ℕ, suc, ◌+◌, ◌++◌, List, [], ◌∷◌, map, length, Option, Some, None, option_and_then, option_map, cond, nat_eq, slice_get}
 use Rattle.std.specs.List.{flat_map, range_with_len}
 use Rattle.ac_forms.specs.declared.conj.Conj.{Conj}
 use Rattle.ac_forms.specs.declared.row.Row.{Row}
@@ -8,7 +8,7 @@ use Rattle.ac_syntax.specs.declared.tree.Position.{Position}
 use Rattle.ac_poly.specs.declared.types.Model.{Model}
 use Rattle.ac_poly.specs.declared.types.StmtModel.{StmtModel}
 use Rattle.ac_paths.specs.Coordinates.{width, levels_before}
-use Rattle.ac_paths.specs.Going.{Pairing, root}
+use Rattle.ac_paths.specs.Going.{Pairing}
 use Rattle.ac_paths.specs.Killing.{assignment_at, copy_rows, case_width}
 use Rattle.ac_paths.specs.Places.{levels_to}
 use Rattle.ac_paths.specs.declared.path.Assumed.{Assumed}

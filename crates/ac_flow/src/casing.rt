@@ -1,11 +1,12 @@
 //! The cases of a read or an output, one for each writing before it and one for the initial contents.
-ghost use Rattle.std.specs.Prelude.{◌≡◌, ◌+◌, ◌<◌, [], length, IfOk, IfErr, None, Some, option_copied, slice_get};
+ghost use Rattle.std.specs.Prelude.{◌≡◌, ◌+◌, ◌≤◌, [], length, map, IfOk, IfErr, None, Some, option_copied, slice_get};
 ghost use Rattle.ac_forms.specs.Rows.{AreRowsOver};
 ghost use Rattle.ac_kills.specs.Causes.{IfFull};
 ghost use Rattle.ac_kills.specs.Cuts.{AllHavePoints};
 ghost use Rattle.ac_paths.specs.Going.{root};
 ghost use Rattle.ac_paths.specs.Killing.{case_width, with_own_columns};
-ghost use Rattle.ac_flow.specs.Cases.{seen, CanRead, IsCaseOf, IsSourceCase, IsInitialCase};
+ghost use Rattle.ac_flow.specs.Cases.{seen, CanRead, IsCaseOf, IsSourceCase, IsInitialCase, conj_of_remainder, conjs_of};
+ghost use Rattle.ac_flow.specs.Keeping.{AreCutCasesOf, AreOfWriting};
 ghost use Rattle.ac_flow.specs.Stopping.{CaseStops, SourceStops, UnlessMemory};
 ghost use Rattle.ac_flow.specs.Stops.{plain, IfFilled};
 ghost use Rattle.ac_flow.specs.Writings.{reading};
@@ -79,7 +80,9 @@ fn case_of(
     requires rows { AreRowsOver columns rows.now }
     ensures case { IfOk result (λ parts. IsCaseOf m.now (seen reader.now) source columns rows.now parts.left parts.kills) }
     ensures stops { IfErr result (λ e. CaseStops budget m.now (seen reader.now) source columns rows.now (plain e)) }
-    ensures full { IfErr result (λ e. IfFilled e (λ kept. (room < length kept) × AllHavePoints kept)) }
+    ensures kept { IfOk result (λ parts. AreCutCasesOf budget m.now (seen reader.now) source columns rows.now (map conj_of_remainder parts.left)) }
+    ensures within { IfOk result (λ parts. length parts.left ≤ room) }
+    ensures full { IfErr result (λ e. IfFilled e (λ kept. (length kept ≡ room + 1) × AllHavePoints kept × AreCutCasesOf budget m.now (seen reader.now) source columns rows.now kept)) }
 {
     let assumed = reading(m, reader, source);
     let copies = writings(alloc, m, &reader.position, reader.array, &assumed.source)?;
@@ -134,7 +137,9 @@ pub(crate) fn source_case(
     requires read { CanRead m.now (seen reader.now) }
     ensures case { IfOk result (IsSourceCase m.now (seen reader.now) numbers.now) }
     ensures stops { IfErr result (λ e. UnlessMemory (plain e) (SourceStops budget m.now (seen reader.now) numbers.now (plain e))) }
-    ensures full { IfErr result (λ e. IfFilled e (λ kept. (room < length kept) × AllHavePoints kept)) }
+    ensures kept { IfOk result (λ case. AreOfWriting budget m.now (seen reader.now) numbers.now (conjs_of case)) }
+    ensures within { IfOk result (λ case. length case.pieces ≤ room) }
+    ensures full { IfErr result (λ e. IfFilled e (λ kept. (length kept ≡ room + 1) × AllHavePoints kept × AreOfWriting budget m.now (seen reader.now) numbers.now kept)) }
 {
     let alone = reading(m, reader, None);
     let Some(own) = conj_of(alloc, m, &alone, numbers)? else {
@@ -176,7 +181,8 @@ pub(crate) fn initial_case(
     requires read { CanRead m.now (seen reader.now) }
     ensures case { IfOk result (IsInitialCase m.now (seen reader.now)) }
     ensures stops { IfErr result (λ e. CaseStops budget m.now (seen reader.now) None (m.now.params + reader.now.count) [] (plain e)) }
-    ensures full { IfErr result (λ e. IfFilled e (λ kept. (room < length kept) × AllHavePoints kept)) }
+    ensures within { IfOk result (λ case. length case.pieces ≤ room) }
+    ensures full { IfErr result (λ e. IfFilled e (λ kept. (length kept ≡ room + 1) × AllHavePoints kept × AreCutCasesOf budget m.now (seen reader.now) None (m.now.params + reader.now.count) [] kept)) }
 {
     let columns = column_after(m.params, reader.count)?;
     match case_of(alloc, m, budget, room, reader, None, columns, &[]) {

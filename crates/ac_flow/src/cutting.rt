@@ -1,11 +1,13 @@
 //! What is left of a case in each piece of its reader.
-ghost use Rattle.std.specs.Prelude.{◌≡◌, ◌++◌, ◌<◌, [], List, length, map, OnOk, IfOk, IfErr};
+ghost use Rattle.std.specs.Prelude.{◌≡◌, ◌+◌, ◌≤◌, ◌++◌, [], List, length, map, OnOk, IfOk, IfErr};
 ghost use Rattle.ac_forms.specs.Rows.{AreRowsOver};
 ghost use Rattle.ac_forms.specs.declared.row.Row.{Row};
-ghost use Rattle.ac_kills.specs.Causes.{CutStops, IfFull};
-ghost use Rattle.ac_kills.specs.Cuts.{AllHavePoints};
+ghost use Rattle.ac_sets.specs.Unions.{ArePieces};
+ghost use Rattle.ac_kills.specs.Causes.{AreCutCases, CutStops, IfFull};
+ghost use Rattle.ac_kills.specs.Cuts.{AllHavePoints, NoneMeet};
 ghost use Rattle.ac_kills.specs.Remaining.{AllKillsOf, AllOver, IsCut};
 ghost use Rattle.ac_flow.specs.Cases.{AreParts, ArePiecesOver, case_conj, remainder, conj_of_remainder};
+ghost use Rattle.ac_flow.specs.Keeping.{AreGroups};
 ghost use Rattle.ac_flow.specs.Stopping.{PieceStops};
 ghost use Rattle.ac_flow.specs.Stops.{plain, IfFilled, IsStopOf};
 
@@ -79,7 +81,10 @@ fn cut_piece(
     requires empty { kept.old ≡ [] }
     ensures cut { OnOk result (IsCut (case_conj m.now columns rows.now piece.now) kills.now kept.new) }
     ensures stops { (ks : List (List Row)) → AllKillsOf ks kills.now → IfErr result (CutStops budget (case_conj m.now columns rows.now piece.now).rows ks) }
-    ensures full { IfErr result (λ e. IfFull e (room < length kept.new)) }
+    ensures asked { (ks : List (List Row)) → AllKillsOf ks kills.now → OnOk result (AreCutCases (case_conj m.now columns rows.now piece.now).rows ks kept.new) }
+    ensures within { OnOk result (length kept.new ≤ room) }
+    ensures full { IfErr result (λ e. IfFull e ((length kept.new ≡ room + 1) × NoneMeet columns kept.new × ArePieces columns kept.new)) }
+    ensures filled { (ks : List (List Row)) → AllKillsOf ks kills.now → IfErr result (λ e. IfFull e (AreCutCases (case_conj m.now columns rows.now piece.now).rows ks kept.new)) }
     ensures have { AllHavePoints kept.new }
 {
     let conj = case_conj(alloc, m, columns, rows, piece)?;
@@ -97,22 +102,43 @@ pub(crate) fn push_conjs(kept: &mut Items<Conj>, left: Items<Remainder>) -> Resu
     Ok(())
 }
 
+/// Adds conjunctions.
+pub(crate) fn push_group(kept: &mut Items<Conj>, group: Items<Conj>) -> Result<(), AllocError>
+    ensures { OnOk result (kept.new ≡ kept.old ++ group) }
+{
+    for conj in group.into_vec() {
+        kept.push(conj)?;
+    }
+    Ok(())
+}
+
+/// What is left of the case before, and then the group.
+fn joined(
+    alloc: Global,
+    left: Items<Remainder>,
+    group: Items<Conj>,
+) -> Result<Items<Conj>, AllocError>
+    ensures { IfOk result (λ kept. kept ≡ map conj_of_remainder left ++ group) }
+{
+    let mut kept = Items::new(alloc);
+    push_conjs(&mut kept, left)?;
+    push_group(&mut kept, group)?;
+    Ok(kept)
+}
+
 /// The stop of a cut, with what is left of the case before it.
-fn stopped(stop: CutStop, group: Items<Conj>, left: Items<Remainder>) -> CaseStop
+fn stopped(alloc: Global, stop: CutStop, group: Items<Conj>, left: Items<Remainder>) -> CaseStop
     ensures same { IsStopOf stop result }
-    ensures full { IfFilled result (λ kept. kept ≡ group ++ map conj_of_remainder left) }
+    ensures full { IfFilled result (λ kept. kept ≡ map conj_of_remainder left ++ group) }
 {
     match stop {
         CutStop::Overflow(question) => CaseStop::Overflow(question),
         CutStop::Spent { question, cost } => CaseStop::Spent { question, cost },
         CutStop::Memory(want) => CaseStop::Memory(want),
-        CutStop::Full => {
-            let mut kept = group;
-            match push_conjs(&mut kept, left) {
-                Ok(()) => CaseStop::Full(kept),
-                Err(want) => CaseStop::Memory(want),
-            }
-        }
+        CutStop::Full => match joined(alloc, left, group) {
+            Ok(kept) => CaseStop::Full(kept),
+            Err(want) => CaseStop::Memory(want),
+        },
     }
 }
 
@@ -134,7 +160,10 @@ pub(crate) fn cut_pieces(
     requires over { AllOver columns kills.now }
     ensures parts { IfOk result (AreParts m.now columns rows.now kills.now 0 pieces.now) }
     ensures stops { (ks : List (List Row)) → AllKillsOf ks kills.now → IfErr result (λ e. PieceStops budget m.now columns rows.now pieces.now ks (plain e)) }
-    ensures full { IfErr result (λ e. IfFilled e (λ kept. (room < length kept) × AllHavePoints kept)) }
+    ensures groups { (ks : List (List Row)) → AllKillsOf ks kills.now → IfOk result (λ left. AreGroups m.now columns rows.now ks pieces.now (map conj_of_remainder left)) }
+    ensures within { IfOk result (λ left. length left ≤ room) }
+    ensures full { IfErr result (λ e. IfFilled e (λ kept. (length kept ≡ room + 1) × AllHavePoints kept)) }
+    ensures filled { (ks : List (List Row)) → AllKillsOf ks kills.now → IfErr result (λ e. IfFilled e (AreGroups m.now columns rows.now ks pieces.now)) }
 {
     let mut out = Items::new(alloc);
     for d in 0..pieces.len() {
@@ -155,7 +184,7 @@ pub(crate) fn cut_pieces(
                 Ok(()) => {}
                 Err(want) => return Err(CaseStop::Memory(want)),
             },
-            Err(stop) => return Err(stopped(stop, group, out)),
+            Err(stop) => return Err(stopped(alloc, stop, group, out)),
         }
     }
     Ok(out)

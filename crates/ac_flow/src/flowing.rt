@@ -267,7 +267,9 @@ fn flows(alloc: Global, m: &Model, budget: u64) -> Result<Items<ReadFlow>, FlowS
 /// `Overflow` only where a number of a question leaves `i128`: a case's rows with further rows from its kills, a copy whose
 /// coordinates are eliminated, or rows that cannot be formed, of which those before are shown. `Spent` only where the running
 /// cost of such a question exceeds the budget. Questions go to the economical elimination first, and to the full one where that
-/// stops; a stop is the full one's. `Pieces` only where more than 4,096 pieces of one read or output are kept.
+/// stops; a stop is the full one's. `Pieces` only with 4,097 pieces of one read or output: each of them is the rows of a case in
+/// a piece of the reader with further rows from the case's kills, has a point, and has none in common with the others of that
+/// case in that piece.
 pub fn flow(alloc: Global, m: &Model, limits: &Limits) -> Result<Flow, FlowStop>
     requires { IsLowered m.now }
     ensures cases { IfOk result (λ f. AreFlows m.now (readers m.now) f.reads) }

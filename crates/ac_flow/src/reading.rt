@@ -1,8 +1,8 @@
 //! The cases of one read or output.
-ghost use Rattle.std.specs.Prelude.{◌≡◌, ◌++◌, ◌-◌, ◌<◌, length, None, OnOk, IfOk, IfErr};
+ghost use Rattle.std.specs.Prelude.{◌≡◌, ◌≤◌, ◌++◌, ◌-◌, length, None, OnOk, IfOk, IfErr};
 ghost use Rattle.std.specs.List.{flat_map};
-ghost use Rattle.ac_kills.specs.Cuts.{AllHavePoints};
 ghost use Rattle.ac_flow.specs.Cases.{seen, CanRead, AreCases, conjs_of};
+ghost use Rattle.ac_flow.specs.Keeping.{AreTooMany};
 ghost use Rattle.ac_flow.specs.Readers.{flow_stop_of, IsFlowOf, StopsAt};
 ghost use Rattle.ac_flow.specs.Stopping.{UnlessMemory, ReadStops};
 ghost use Rattle.ac_flow.specs.Stops.{plain, IfFilled};
@@ -10,7 +10,7 @@ ghost use Rattle.ac_flow.specs.Writings.{writings};
 
 use crate::cases::Reader;
 use crate::casing::{initial_case, source_case};
-use crate::cutting::push_conjs;
+use crate::cutting::{push_conjs, push_group};
 use crate::stop::CaseStop;
 use crate::types::{Case, FlowStop, ReadFlow};
 use crate::writings::writings;
@@ -34,19 +34,26 @@ fn push_cases(kept: &mut Items<Conj>, cases: Items<Case>) -> Result<(), AllocErr
     Ok(())
 }
 
+/// What is left of the cases before, and then the group.
+fn joined(alloc: Global, cases: Items<Case>, group: Items<Conj>) -> Result<Items<Conj>, AllocError>
+    ensures { IfOk result (λ kept. kept ≡ flat_map conjs_of cases ++ group) }
+{
+    let mut kept = Items::new(alloc);
+    push_cases(&mut kept, cases)?;
+    push_group(&mut kept, group)?;
+    Ok(kept)
+}
+
 /// The stop of a case, with what is left of the cases before it.
-fn stopped_behind(stop: CaseStop, cases: Items<Case>) -> CaseStop
+fn stopped_behind(alloc: Global, stop: CaseStop, cases: Items<Case>) -> CaseStop
     ensures same { UnlessMemory (plain result) (plain result ≡ plain stop) }
-    ensures full { IfFilled result (λ kept. IfFilled stop (λ group. kept ≡ group ++ flat_map conjs_of cases)) }
+    ensures full { IfFilled result (λ kept. IfFilled stop (λ group. kept ≡ flat_map conjs_of cases ++ group)) }
 {
     match stop {
-        CaseStop::Full(group) => {
-            let mut kept = group;
-            match push_cases(&mut kept, cases) {
-                Ok(()) => CaseStop::Full(kept),
-                Err(want) => CaseStop::Memory(want),
-            }
-        }
+        CaseStop::Full(group) => match joined(alloc, cases, group) {
+            Ok(kept) => CaseStop::Full(kept),
+            Err(want) => CaseStop::Memory(want),
+        },
         CaseStop::Overflow(question) => CaseStop::Overflow(question),
         CaseStop::Spent { question, cost } => CaseStop::Spent { question, cost },
         CaseStop::Memory(want) => CaseStop::Memory(want),
@@ -70,7 +77,8 @@ fn read_cases(
     requires { CanRead m.now (seen reader.now) }
     ensures cases { IfOk result (AreCases m.now (seen reader.now) (writings m.now reader.now.position reader.now.array None)) }
     ensures stops { IfErr result (λ e. ReadStops budget m.now (seen reader.now) (plain e)) }
-    ensures full { IfErr result (λ e. IfFilled e (λ kept. (MOST < length kept) × AllHavePoints kept)) }
+    ensures within { IfOk result (λ cases. length (flat_map conjs_of cases) ≤ MOST) }
+    ensures full { IfErr result (λ e. IfFilled e (AreTooMany budget m.now (seen reader.now))) }
 {
     let before = writings(alloc, m, &reader.position, reader.array, &None)?;
     let sources = before.as_slice();
@@ -85,7 +93,7 @@ fn read_cases(
                     Err(want) => return Err(CaseStop::Memory(want)),
                 }
             }
-            Err(stop) => return Err(stopped_behind(stop, cases)),
+            Err(stop) => return Err(stopped_behind(alloc, stop, cases)),
         }
     }
     match initial_case(alloc, m, budget, room, reader) {
@@ -93,7 +101,7 @@ fn read_cases(
             Ok(()) => Ok(cases),
             Err(want) => Err(CaseStop::Memory(want)),
         },
-        Err(stop) => Err(stopped_behind(stop, cases)),
+        Err(stop) => Err(stopped_behind(alloc, stop, cases)),
     }
 }
 

@@ -68,11 +68,12 @@ pub enum FlowStop {
         /// The first running cost above the budget.
         cost: u64,
     },
-    /// More than 4,096 pieces of one read or output.
+    /// One piece more than the 4,096 that a read or an output may have.
     Pieces {
         /// The read or output.
         position: Position,
-        /// The pieces, each of which has a point: those of the cases before and of the one under way.
+        /// The pieces: those of the cases before, and those of the case under way as far as it was cut. Each has a point, and
+        /// no two of one case within one piece of the reader have one in common.
         kept: Items<Conj>,
     },
     /// There was no memory.

@@ -1,10 +1,9 @@
 -- No point is in two pieces.
-use Rattle.std.proofs.Common.{◌≡◌, ◌↔◌, ◌⊎◌, inl, inr, ℕ, zero, suc, ◌+◌, ◌<◌, ◌≤◌, ℤ, pos, negsuc, ◌+ℤ◌, ◌*ℤ◌, ◌≤ℤ◌, List, [], ◌∷◌, ◌++◌, append_assoc, length, map, Bool, true, false, cond, refl, sym, ap, ◌∙◌, subst, arith}
-use Rattle.std.specs.Prelude.{neg_ℤ, ◌-ℤ◌}
+use Rattle.std.proofs.Common.{◌≡◌, inl, inr, ℕ, ◌≤◌, ℤ, negsuc, List, [], ◌∷◌, ◌++◌, length, map, Bool, true, false, cond, sym, ap, ◌∙◌, subst, arith}
 use Rattle.std.proofs.lemmas.Int.{ints}
-use Rattle.ac_forms.specs.Affine.{Affine, value_at, shifted}
-use Rattle.ac_forms.specs.Negation.{negation, Extends, InSome, InNone, AreApart, above, below, opposite, piece, with_column}
-use Rattle.ac_forms.specs.Rows.{form_of, Holds, Meets, IsRowOver, AreRowsOver, IsWellMade}
+use Rattle.ac_forms.specs.Affine.{Affine}
+use Rattle.ac_forms.specs.Negation.{negation, Extends, InSome, InNone, AreApart, above, below, opposite, piece}
+use Rattle.ac_forms.specs.Rows.{Holds, IsRowOver, AreRowsOver, IsWellMade}
 use Rattle.ac_forms.specs.declared.conj.Conj.{Conj}
 use Rattle.ac_forms.specs.declared.row.Row.{Row}
 use Rattle.ac_forms.specs.declared.row.Row.TheVariants.{Eq, Div, Ge}
@@ -12,9 +11,9 @@ use Rattle.ac_forms.proofs.Values.{value_at-append, value_at-scaled, value_at-sh
 use Rattle.ac_sets.specs.Ends.{is_among}
 use Rattle.ac_sets.specs.Unions.{ArePieces}
 use Rattle.ac_sets.proofs.Commons.{Over-more, InSome-front, InSome-back, InSome-split}
-use Rattle.ac_kills.specs.Cuts.{extended, row_parts, after_row, parts_outside, Sieved, AreKept, ArePartlyKept, Cuts, CutsAll, AreCut, AreAllCut, ArePartlyCut, NoneMeet}
+use Rattle.ac_kills.specs.Cuts.{extended, row_parts, after_row, parts_outside, Sieved, Cuts, CutsAll, ArePartlyCut, NoneMeet}
 use Rattle.ac_kills.proofs.Cutting.{over-new}
-use Rattle.ac_kills.proofs.Points.{outside-points, outside-pieces, sieved-points, some-split, meets-first, cut-points, cuts-points, all-new-meets, row-parts-points, row-parts-pieces, new-meets, holds-first}
+use Rattle.ac_kills.proofs.Points.{outside-points, outside-pieces, sieved-points, some-split, cut-points, cuts-points, all-new-meets, row-parts-points, row-parts-pieces, new-meets, holds-first}
 
 none-of : (p : List ℤ) (cs : List Conj) → (¬ InSome p cs) → InNone p cs
 none-of p [] h = tt

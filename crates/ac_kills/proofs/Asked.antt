@@ -1,5 +1,5 @@
 -- The questions of cutting are cut cases.
-use Rattle.std.proofs.Common.{◌≡◌, ◌⊎◌, inl, inr, ℕ, zero, suc, ◌+◌, ◌<◌, ◌≤◌, List, [], ◌∷◌, ◌++◌, append_assoc, append-nil, length, map, get_or, Bool, true, false, cond, refl, sym, ap, ◌∙◌, subst, arith}
+use Rattle.std.proofs.Common.{◌≡◌, ◌⊎◌, inl, inr, ℕ, zero, suc, ◌<◌, List, [], ◌∷◌, ◌++◌, append_assoc, append-nil, length, map, get_or, Bool, true, false, cond, refl, sym, ap, ◌∙◌, subst, arith}
 use Rattle.std.specs.List.{Contains}
 use Rattle.std.specs.Prelude.{Result, Ok, Err, IfErr}
 use Rattle.ac_forms.specs.Negation.{negation, NegationFits}
@@ -7,7 +7,7 @@ use Rattle.ac_forms.specs.declared.conj.Conj.{Conj}
 use Rattle.ac_forms.specs.declared.row.Row.{Row}
 use Rattle.ac_sets.specs.Ends.{is_among}
 use Rattle.ac_kills.specs.Causes.{IsKillRow, IsFurther, Itself, OfNegation, AreFurther, IsCutCase, AreKillRows, AreCutCases, IsTooWide, CostsTooMuch, StopsOn, CutStops, IfFull}
-use Rattle.ac_kills.specs.Cuts.{with_new, with_all_new, extended, after_row, row_parts, parts_outside, HasPoint, Sieved, AreKept, ArePartlyKept, Cuts, CutsAll, AreCut, AreAllCut, ArePartlyCut, AllHavePoints}
+use Rattle.ac_kills.specs.Cuts.{with_new, with_all_new, extended, after_row, row_parts, parts_outside, Sieved, AreKept, ArePartlyKept, Cuts, CutsAll, AreCut, ArePartlyCut, AllHavePoints}
 use Rattle.ac_kills.specs.declared.cut.CutStop.{CutStop}
 use Rattle.ac_kills.specs.declared.cut.CutStop.TheVariants.{Overflow, Spent, Full, Memory}
 
@@ -145,6 +145,13 @@ full_map (Overflow c) P Q f h = tt
 full_map (Spent c k) P Q f h = tt
 full_map Full P Q f h = f h
 full_map (Memory e) P Q f h = tt
+
+pub if_both : {A : Type 0} (r : Result A CutStop) (P Q R : Type 0) → (P → Q → R) → IfErr r (λ e. IfFull e P) → IfErr r (λ e. IfFull e Q) → IfErr r (λ e. IfFull e R)
+if_both (Ok x) P Q R f a b = tt
+if_both (Err (Overflow c)) P Q R f a b = tt
+if_both (Err (Spent c k)) P Q R f a b = tt
+if_both (Err Full) P Q R f a b = f a b
+if_both (Err (Memory e)) P Q R f a b = tt
 
 cases-front : (base : List Row) (kills : List (List Row)) (cs : List Conj) (c : Conj) (ds : List Conj) → AreCutCases base kills (cs ++ c ∷ ds) → AreCutCases base kills cs × IsCutCase base kills c
 cases-front base kills [] c ds a = (tt, a.0)

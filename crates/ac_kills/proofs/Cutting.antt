@@ -1,15 +1,15 @@
 -- The loops by which a conjunction is cut.
-use Rattle.std.proofs.Common.{◌≡◌, ◌⊎◌, inl, inr, ℕ, zero, suc, ◌+◌, ◌-◌, ◌<◌, ◌≤◌, ℤ, List, [], ◌∷◌, ◌++◌, append_assoc, append-nil, length, map, take, drop, drop_of_length-le, get_or, Bool, true, false, cond, refl, sym, ap, ◌∙◌, subst, arith}
-use Rattle.std.proofs.lemmas.List.{drop_more, length-append, length-map, take_more, take-append-drop}
+use Rattle.std.proofs.Common.{◌≡◌, ◌⊎◌, inl, inr, ℕ, zero, suc, ◌+◌, ◌<◌, ◌≤◌, List, [], ◌∷◌, ◌++◌, append_assoc, append-nil, length, map, take, drop, drop_of_length-le, get_or, Bool, true, false, cond, refl, sym, ap, ◌∙◌, subst, arith}
+use Rattle.std.proofs.lemmas.List.{drop_more, length-append, take_more, take-append-drop}
 use Rattle.ac_forms.specs.Negation.{negation}
-use Rattle.ac_forms.specs.Rows.{Holds, Meets, IsRowOver, AreRowsOver, IsWellMade}
+use Rattle.ac_forms.specs.Rows.{IsRowOver, AreRowsOver, IsWellMade}
 use Rattle.ac_forms.specs.declared.conj.Conj.{Conj}
 use Rattle.ac_forms.specs.declared.row.Row.{Row}
 use Rattle.ac_forms.specs.declared.row.Row.TheVariants.{Eq, Div, Ge}
 use Rattle.ac_cert.proofs.Keeping.{made-push}
 use Rattle.ac_sets.specs.Ends.{is_among}
 use Rattle.ac_sets.specs.Unions.{ArePieces}
-use Rattle.ac_sets.proofs.Commons.{Over-both, Over-more}
+use Rattle.ac_sets.proofs.Commons.{Over-more}
 use Rattle.ac_sets.proofs.Outsides.{outside-made}
 use Rattle.ac_kills.specs.Causes.{IsCutCase, AreKillRows}
 use Rattle.ac_kills.proofs.Asked.{after-case, kill-row-at}
@@ -68,7 +68,10 @@ have-push old new part e h a = subst AllHavePoints (sym e) (by old a)
 pub have-same : (old new : List Conj) → new ≡ old → AllHavePoints old → AllHavePoints new
 have-same old new e a = subst AllHavePoints (sym e) a
 
-pub ruleset push_steps = (have-push, have-same)
+pub one-more : (old new : List Conj) (part : Conj) (room : ℕ) → new ≡ old ++ part ∷ [] → length old ≤ room → room < length new → length new ≡ room + 1
+one-more old new part room e l m = omega (arith, l, m, ap (λ (x : List Conj). length x) e, length-append old (part ∷ []))
+
+pub ruleset push_steps = (have-push, have-same, one-more)
 
 pub kept-one : (part : Conj) (old new : List Conj) → HasPoint part → new ≡ old ++ part ∷ [] → AreKept (part ∷ []) old new
 kept-one part old new h e = record { more = part ∷ []; is = e; sieved = inr ([], refl, h, refl) }
@@ -122,37 +125,47 @@ part-made c r parts i d part w v all m e is =
 
 -- ---- the parts of a row's negation
 
-pub record FailingHalfway (c : Conj) (parts old kept : List Conj) (i : ℕ) : Type 0 where
+pub record FailingHalfway (c : Conj) (parts : List Conj) (room : ℕ) (old kept : List Conj) (i : ℕ) : Type 0 where
   pub done : AreKept (map (extended c) (take i parts)) old kept
+  pub within : length old ≤ room → length kept ≤ room
 
-pub failing_start : (c : Conj) (parts old kept : List Conj) → kept ≡ old → FailingHalfway c parts old kept 0
-failing_start c parts old kept e = record { done = kept-none old kept e }
+pub same-fits : (room : ℕ) (old kept : List Conj) → kept ≡ old → length old ≤ room → length kept ≤ room
+same-fits room old kept e l = subst (λ (x : List Conj). length x ≤ room) (sym e) l
+
+pub none-fits : (room : ℕ) (kept : List Conj) → kept ≡ [] → length kept ≤ room
+none-fits room kept e = same-fits room [] kept e (omega arith)
+
+pub failing_start : (c : Conj) (parts : List Conj) (room : ℕ) (old kept : List Conj) → kept ≡ old → FailingHalfway c parts room old kept 0
+failing_start c parts room old kept e = record { done = kept-none old kept e; within = same-fits room old kept e }
 
 map-append : {A B : Type 0} (f : A → B) (xs ys : List A) → map f (xs ++ ys) ≡ map f xs ++ map f ys
 map-append f [] ys = refl
 map-append f (x ∷ xs) ys = ap (λ zs. f x ∷ zs) (map-append f xs ys)
 
-pub failing_step : (c : Conj) (parts old kept new : List Conj) (i : ℕ) (d part : Conj) → FailingHalfway c parts old kept i → i < length parts → d ≡ get_or parts i d → part ≡ record { columns = d.columns; rows = with_all_new c.rows d.rows }
-    → AreKept (part ∷ []) kept new → FailingHalfway c parts old new (i + 1)
-failing_step c parts old kept new i d part h m e is k =
+failing-more : (c : Conj) (parts : List Conj) (room : ℕ) (old kept new : List Conj) (i : ℕ) (d part : Conj) → FailingHalfway c parts room old kept i → i < length parts → d ≡ get_or parts i d → part ≡ record { columns = d.columns; rows = with_all_new c.rows d.rows }
+    → AreKept (part ∷ []) kept new → AreKept (map (extended c) (take (i + 1) parts)) old new
+failing-more c parts room old kept new i d part h m e is k =
     let next : take (i + 1) parts ≡ take i parts ++ d ∷ [] = rw e (take_more parts i d m) in
     let mapped : map (extended c) (take i parts) ++ part ∷ [] ≡ map (extended c) (take (i + 1) parts) =
     ap (λ (x : Conj). map (extended c) (take i parts) ++ x ∷ []) is ∙ sym (map-append (extended c) (take i parts) (d ∷ [])) ∙ ap (map (extended c)) (sym next) in
-    record { done = subst (λ (xs : List Conj). AreKept xs old new) mapped (kept-append (map (extended c) (take i parts)) (part ∷ []) old kept new h.done k) }
+    subst (λ (xs : List Conj). AreKept xs old new) mapped (kept-append (map (extended c) (take i parts)) (part ∷ []) old kept new h.done k)
 
-pub failing_full : (c : Conj) (parts old kept new : List Conj) (i : ℕ) (d part : Conj) (r : Row) → FailingHalfway c parts old kept i → i < length parts → d ≡ get_or parts i d → part ≡ record { columns = d.columns; rows = with_all_new c.rows d.rows }
+pub failing_step : (c : Conj) (parts : List Conj) (room : ℕ) (old kept new : List Conj) (i : ℕ) (d part : Conj) → FailingHalfway c parts room old kept i → i < length parts → d ≡ get_or parts i d → part ≡ record { columns = d.columns; rows = with_all_new c.rows d.rows }
+    → AreKept (part ∷ []) kept new → (length kept ≤ room → length new ≤ room) → FailingHalfway c parts room old new (i + 1)
+failing_step c parts room old kept new i d part h m e is k w = record { done = failing-more c parts room old kept new i d part h m e is k; within = λ l. w (h.within l) }
+
+pub failing_full : (c : Conj) (parts : List Conj) (room : ℕ) (old kept new : List Conj) (i : ℕ) (d part : Conj) (r : Row) → FailingHalfway c parts room old kept i → i < length parts → d ≡ get_or parts i d → part ≡ record { columns = d.columns; rows = with_all_new c.rows d.rows }
     → AreKept (part ∷ []) kept new → parts ≡ negation c.columns r → ArePartlyKept (map (extended c) (negation c.columns r)) old new
-failing_full c parts old kept new i d part r h m e is k all =
-    let s = failing_step c parts old kept new i d part h m e is k in
+failing_full c parts room old kept new i d part r h m e is k all =
     subst (λ (xs : List Conj). ArePartlyKept (map (extended c) xs) old new) all (record {
       done = map (extended c) (take (i + 1) parts);
       rest = map (extended c) (drop (i + 1) parts);
       split = sym (map-append (extended c) (take (i + 1) parts) (drop (i + 1) parts)) ∙ ap (map (extended c)) (take-append-drop (i + 1) parts);
-      kept = s.done;
+      kept = failing-more c parts room old kept new i d part h m e is k;
     })
 
-pub failing_end : (c : Conj) (parts old kept : List Conj) (r : Row) (i : ℕ) → FailingHalfway c parts old kept i → length parts ≤ i → parts ≡ negation c.columns r → AreKept (map (extended c) (negation c.columns r)) old kept
-failing_end c parts old kept r i h l e =
+pub failing_end : (c : Conj) (parts : List Conj) (room : ℕ) (old kept : List Conj) (r : Row) (i : ℕ) → FailingHalfway c parts room old kept i → length parts ≤ i → parts ≡ negation c.columns r → AreKept (map (extended c) (negation c.columns r)) old kept
+failing_end c parts room old kept r i h l e =
     subst (λ (xs : List Conj). AreKept (map (extended c) xs) old kept) (take_whole parts i l ∙ e) h.done
 
 pub ruleset failing_steps = (failing_start, failing_step, failing_end, part-made)
@@ -178,21 +191,23 @@ pub ruleset row_steps = (row_among, row_new, row_partly, after_among, after_new)
 
 -- ---- all rows
 
-pub record OutsideHalfway (c : Conj) (rs : List Row) (here : Conj) (old kept : List Conj) (i : ℕ) : Type 0 where
+pub record OutsideHalfway (c : Conj) (rs : List Row) (room : ℕ) (here : Conj) (old kept : List Conj) (i : ℕ) : Type 0 where
   pub parts : List Conj
   pub split : parts ++ parts_outside here (drop i rs) ≡ parts_outside c rs
   pub done : AreKept parts old kept
   pub columns : here.columns ≡ c.columns
   pub made : IsWellMade here
+  pub within : length old ≤ room → length kept ≤ room
   pub asked : (base : List Row) (kills : List (List Row)) → IsCutCase base kills c → AreKillRows kills rs → IsCutCase base kills here
 
-pub outside_start : (c : Conj) (rs : List Row) (here : Conj) (old kept : List Conj) → IsWellMade c → here ≡ c → kept ≡ old → OutsideHalfway c rs here old kept 0
-outside_start c rs here old kept w e k = record {
+pub outside_start : (c : Conj) (rs : List Row) (room : ℕ) (here : Conj) (old kept : List Conj) → IsWellMade c → here ≡ c → kept ≡ old → OutsideHalfway c rs room here old kept 0
+outside_start c rs room here old kept w e k = record {
   parts = [];
   split = ap (λ (d : Conj). parts_outside d rs) e;
   done = kept-none old kept k;
   columns = ap (λ (d : Conj). d.columns) e;
   made = subst IsWellMade (sym e) w;
+  within = same-fits room old kept k;
   asked = λ base kills a b. subst (IsCutCase base kills) (sym e) a;
 }
 
@@ -201,9 +216,10 @@ row-over n [] i r w m e = absurd (omega (arith, m))
 row-over n (s ∷ rs) zero r w m e = rw e w.0
 row-over n (s ∷ rs) (suc i) r w m e = row-over n rs i r w.1 (omega (arith, m)) e
 
-pub outside_step : (c : Conj) (rs : List Row) (here next : Conj) (old kept new : List Conj) (i : ℕ) (r : Row) → OutsideHalfway c rs here old kept i → AreRowsOver c.columns rs → i < length rs → r ≡ get_or rs i r
-    → next ≡ after_row here r → AreKept (row_parts here r) kept new → OutsideHalfway c rs next old new (i + 1)
-outside_step c rs here next old kept new i r h w m e after k = record {
+pub outside_step : (c : Conj) (rs : List Row) (room : ℕ) (here next : Conj) (old kept new : List Conj) (i : ℕ) (r : Row) → OutsideHalfway c rs room here old kept i → AreRowsOver c.columns rs → i < length rs → r ≡ get_or rs i r
+    → next ≡ after_row here r → AreKept (row_parts here r) kept new → (length kept ≤ room → length new ≤ room) → OutsideHalfway c rs room next old new (i + 1)
+outside_step c rs room here next old kept new i r h w m e after k fits = record {
+  within = λ l. fits (h.within l);
   parts = h.parts ++ row_parts here r;
   split = append_assoc h.parts (row_parts here r) (parts_outside next (drop (i + 1) rs))
       ∙ ap (λ (d : Conj). h.parts ++ (row_parts here r ++ parts_outside d (drop (i + 1) rs))) after
@@ -215,19 +231,19 @@ outside_step c rs here next old kept new i r h w m e after k = record {
   asked = λ base kills a b. subst (IsCutCase base kills) (sym after) (after-case base kills here r (h.asked base kills a b) (kill-row-at kills rs i r b m e));
 }
 
-pub outside_full : (c : Conj) (rs : List Row) (here : Conj) (old kept new : List Conj) (i : ℕ) (r : Row) → OutsideHalfway c rs here old kept i → i < length rs → r ≡ get_or rs i r → ArePartlyKept (row_parts here r) kept new → ArePartlyKept (parts_outside c rs) old new
-outside_full c rs here old kept new i r h m e k =
+pub outside_full : (c : Conj) (rs : List Row) (room : ℕ) (here : Conj) (old kept new : List Conj) (i : ℕ) (r : Row) → OutsideHalfway c rs room here old kept i → i < length rs → r ≡ get_or rs i r → ArePartlyKept (row_parts here r) kept new → ArePartlyKept (parts_outside c rs) old new
+outside_full c rs room here old kept new i r h m e k =
     let more = parts_outside (after_row here r) (drop (i + 1) rs) in
     let whole : h.parts ++ (row_parts here r ++ more) ≡ parts_outside c rs = ap (λ (xs : List Row). h.parts ++ parts_outside here xs) (sym (row-at rs i r m e)) ∙ h.split in
     subst (λ (xs : List Conj). ArePartlyKept xs old new) whole (partly-behind h.parts (row_parts here r) more old kept new h.done k)
 
-pub outside_end : (c : Conj) (rs : List Row) (here : Conj) (old kept : List Conj) (i : ℕ) → OutsideHalfway c rs here old kept i → length rs ≤ i → AreKept (parts_outside c rs) old kept
-outside_end c rs here old kept i h l =
+pub outside_end : (c : Conj) (rs : List Row) (room : ℕ) (here : Conj) (old kept : List Conj) (i : ℕ) → OutsideHalfway c rs room here old kept i → length rs ≤ i → AreKept (parts_outside c rs) old kept
+outside_end c rs room here old kept i h l =
     let e : h.parts ≡ parts_outside c rs = sym (append-nil h.parts) ∙ ap (λ (xs : List Row). h.parts ++ parts_outside here xs) (sym (drop_of_length-le rs l)) ∙ h.split in
     subst (λ (xs : List Conj). AreKept xs old kept) e h.done
 
-pub outside_row : (c : Conj) (rs : List Row) (here : Conj) (old kept : List Conj) (i : ℕ) (r : Row) → OutsideHalfway c rs here old kept i → AreRowsOver c.columns rs → i < length rs → r ≡ get_or rs i r → IsRowOver here.columns r
-outside_row c rs here old kept i r h w m e = subst (λ (n : ℕ). IsRowOver n r) (sym h.columns) (row-over c.columns rs i r w m e)
+pub outside_row : (c : Conj) (rs : List Row) (room : ℕ) (here : Conj) (old kept : List Conj) (i : ℕ) (r : Row) → OutsideHalfway c rs room here old kept i → AreRowsOver c.columns rs → i < length rs → r ≡ get_or rs i r → IsRowOver here.columns r
+outside_row c rs room here old kept i r h w m e = subst (λ (n : ℕ). IsRowOver n r) (sym h.columns) (row-over c.columns rs i r w m e)
 
 pub ruleset outside_steps = (outside_start, outside_step, outside_end, outside_row)
 
@@ -248,12 +264,13 @@ inside-made c inside kill w v e = subst IsWellMade (sym e) (over-all-new c.colum
 
 pub ruleset cut_steps = (cut_whole, cut_parts, inside-made)
 
-pub record AllHalfway (pieces : List Conj) (kill : List Row) (old kept : List Conj) (i : ℕ) : Type 0 where
+pub record AllHalfway (pieces : List Conj) (kill : List Row) (room : ℕ) (old kept : List Conj) (i : ℕ) : Type 0 where
   pub done : AreAllCut (take i pieces) kill old kept
   pub have : AllHavePoints pieces → AllHavePoints old → AllHavePoints kept
+  pub within : length old ≤ room → length kept ≤ room
 
-pub all_start : (pieces : List Conj) (kill : List Row) (old kept : List Conj) → kept ≡ old → AllHalfway pieces kill old kept 0
-all_start pieces kill old kept e = record { done = record { more = []; is = e ∙ sym (append-nil old); cut = refl }; have = λ a b. subst AllHavePoints (sym e) b }
+pub all_start : (pieces : List Conj) (kill : List Row) (room : ℕ) (old kept : List Conj) → kept ≡ old → AllHalfway pieces kill room old kept 0
+all_start pieces kill room old kept e = record { done = record { more = []; is = e ∙ sym (append-nil old); cut = refl }; have = λ a b. subst AllHavePoints (sym e) b; within = same-fits room old kept e }
 
 cuts-append : (xs : List Conj) (c : Conj) (kill : List Row) (ks ls : List Conj) → CutsAll xs kill ks → Cuts c kill ls → CutsAll (xs ++ c ∷ []) kill (ks ++ ls)
 cuts-append [] c kill ks ls a b = (ls, [], ap (λ (zs : List Conj). zs ++ ls) a ∙ sym (append-nil ls), b, refl)
@@ -264,9 +281,9 @@ point-at [] i c w m e = absurd (omega (arith, m))
 point-at (d ∷ cs) zero c w m e = rw e w.0
 point-at (d ∷ cs) (suc i) c w m e = point-at cs i c w.1 (omega (arith, m)) e
 
-pub all_step : (pieces : List Conj) (kill : List Row) (old kept new : List Conj) (i : ℕ) (c : Conj) → AllHalfway pieces kill old kept i → i < length pieces → c ≡ get_or pieces i c → AreCut c kill kept new
-    → (HasPoint c → AllHavePoints kept → AllHavePoints new) → AllHalfway pieces kill old new (i + 1)
-all_step pieces kill old kept new i c h m e k more =
+pub all_step : (pieces : List Conj) (kill : List Row) (room : ℕ) (old kept new : List Conj) (i : ℕ) (c : Conj) → AllHalfway pieces kill room old kept i → i < length pieces → c ≡ get_or pieces i c → AreCut c kill kept new
+    → (HasPoint c → AllHavePoints kept → AllHavePoints new) → (length kept ≤ room → length new ≤ room) → AllHalfway pieces kill room old new (i + 1)
+all_step pieces kill room old kept new i c h m e k more fits =
     let next : take (i + 1) pieces ≡ take i pieces ++ c ∷ [] = rw e (take_more pieces i c m) in
     record {
       done = subst (λ (xs : List Conj). AreAllCut xs kill old new) (sym next) (record {
@@ -275,10 +292,11 @@ all_step pieces kill old kept new i c h m e k more =
         cut = cuts-append (take i pieces) c kill h.done.more k.more h.done.cut k.cut;
       });
       have = λ a b. more (point-at pieces i c a m e) (h.have a b);
+      within = λ l. fits (h.within l);
     }
 
-pub all_full : (pieces : List Conj) (kill : List Row) (old kept new : List Conj) (i : ℕ) (c : Conj) → AllHalfway pieces kill old kept i → i < length pieces → c ≡ get_or pieces i c → AreCut c kill kept new ⊎ ArePartlyKept (parts_outside c kill) kept new → ArePartlyCut pieces kill old new
-all_full pieces kill old kept new i c h m e k = record {
+pub all_full : (pieces : List Conj) (kill : List Row) (room : ℕ) (old kept new : List Conj) (i : ℕ) (c : Conj) → AllHalfway pieces kill room old kept i → i < length pieces → c ≡ get_or pieces i c → AreCut c kill kept new ⊎ ArePartlyKept (parts_outside c kill) kept new → ArePartlyCut pieces kill old new
+all_full pieces kill room old kept new i c h m e k = record {
   before = take i pieces;
   at = c;
   behind = drop (i + 1) pieces;
@@ -291,8 +309,8 @@ all_full pieces kill old kept new i c h m e k = record {
     conj-at : (cs : List Conj) (i : ℕ) (c : Conj) → i < length cs → c ≡ get_or cs i c → drop i cs ≡ c ∷ drop (i + 1) cs
     conj-at cs i c m e = rw e (drop_more cs i c m)
 
-pub all_end : (pieces : List Conj) (kill : List Row) (old kept : List Conj) (i : ℕ) → AllHalfway pieces kill old kept i → length pieces ≤ i → AreAllCut pieces kill old kept
-all_end pieces kill old kept i h l = subst (λ (xs : List Conj). AreAllCut xs kill old kept) (take_whole pieces i l) h.done
+pub all_end : (pieces : List Conj) (kill : List Row) (room : ℕ) (old kept : List Conj) (i : ℕ) → AllHalfway pieces kill room old kept i → length pieces ≤ i → AreAllCut pieces kill old kept
+all_end pieces kill room old kept i h l = subst (λ (xs : List Conj). AreAllCut xs kill old kept) (take_whole pieces i l) h.done
 
 pub all_made : (n : ℕ) (pieces : List Conj) (i : ℕ) (c : Conj) → ArePieces n pieces → i < length pieces → c ≡ get_or pieces i c → IsWellMade c
 all_made n pieces i c w m e = (pieces-at n pieces i c w m e).1

@@ -1,27 +1,25 @@
 -- What is left of pieces outside a kill piece are their points that do not meet it.
-use Rattle.std.proofs.Common.{◌≡◌, ◌↔◌, ◌⊎◌, inl, inr, ℕ, zero, suc, ◌+◌, ◌-◌, ◌<◌, ◌≤◌, ℤ, pos, ◌≤ℤ◌, List, [], ◌∷◌, ◌++◌, append_assoc, length, map, take, drop, Bool, true, false, cond, refl, sym, ap, ◌∙◌, subst, arith}
+use Rattle.std.proofs.Common.{◌≡◌, ◌↔◌, ◌⊎◌, inl, inr, ℕ, ◌+◌, ◌-◌, ◌≤◌, ℤ, pos, List, [], ◌∷◌, ◌++◌, append_assoc, length, map, take, drop, Bool, true, false, cond, refl, sym, ap, ◌∙◌, subst, arith}
 use Rattle.std.proofs.lemmas.Int.{ints, by_lt_z}
-use Rattle.std.proofs.lemmas.List.{length-append, length-take-le, length-drop, take-append-drop}
+use Rattle.std.proofs.lemmas.List.{length-append, length-take-le, take-append-drop}
 use Rattle.std.specs.Prelude.{unsigned_abs, Result, Ok, Err, IfOk, OnOk}
 use Rattle.ac_integers.specs.Multiple.{divides, IsMultiple}
 use Rattle.ac_integers.proofs.Divisors.{divides-true, divides-false}
 use Rattle.ac_forms.specs.Affine.{value_at}
 use Rattle.ac_forms.specs.Negation.{negation, Extends, InSome}
-use Rattle.ac_forms.specs.Rows.{form_of, Holds, Meets, IsRowOver, AreRowsOver, IsWellMade}
+use Rattle.ac_forms.specs.Rows.{Holds, Meets, IsRowOver, AreRowsOver, IsWellMade}
 use Rattle.ac_forms.specs.declared.conj.Conj.{Conj}
 use Rattle.ac_forms.specs.declared.row.Row.{Row}
 use Rattle.ac_forms.specs.declared.row.Row.TheVariants.{Eq, Div, Ge}
 use Rattle.ac_forms.proofs.Negations.{complement}
 use Rattle.ac_forms.proofs.Joining.{either_of}
 use Rattle.ac_forms.specs.Orders.{row_eq}
-use Rattle.ac_forms.proofs.Values.{value_at-append}
-use Rattle.ac_cert.specs.Points.{IsPoint}
-use Rattle.ac_cert.proofs.Keeping.{Meets-append, Meets-push, made-push}
+use Rattle.ac_cert.proofs.Keeping.{Meets-append, Meets-push}
 use Rattle.ac_sets.specs.Ends.{is_among}
 use Rattle.ac_sets.specs.EndLaw.{same-row}
 use Rattle.ac_sets.specs.Unions.{ArePieces}
-use Rattle.ac_sets.proofs.Commons.{Meets-front, Meets-back, Meets-both, Meets-cut, Over-more, InSome-front, InSome-back, InSome-split}
-use Rattle.ac_kills.specs.Cuts.{with_new, with_all_new, extended, row_parts, after_row, parts_outside, HasPoint, Sieved, Cuts, CutsAll, AreAllCut, AllHavePoints, IsLeft}
+use Rattle.ac_sets.proofs.Commons.{Meets-front, Meets-back, Meets-cut, Over-more, InSome-front, InSome-back, InSome-split}
+use Rattle.ac_kills.specs.Cuts.{with_new, with_all_new, extended, row_parts, after_row, parts_outside, HasPoint, Sieved, ArePartlyKept, Cuts, AreCut, CutsAll, AreAllCut, ArePartlyCut, AllHavePoints, IsLeft}
 use Rattle.ac_kills.proofs.Cutting.{over-new, over-all-new, negation-made}
 
 -- ---- rows added where they do not stand
@@ -242,6 +240,37 @@ cut-pieces n c kill kept low w v (inr s) = fewer c.columns n kept low (sieved-pi
 pub cuts-pieces : (n : ℕ) (pieces : List Conj) (kill : List Row) (kept : List Conj) → ArePieces n pieces → AreRowsOver n kill → CutsAll pieces kill kept → ArePieces n kept
 cuts-pieces n [] kill kept w v e = subst (ArePieces n) (sym e) tt
 cuts-pieces n (c ∷ cs) kill kept w v (first, rest, e, f, s) = subst (ArePieces n) (sym e) (pieces-append n first rest (cut-pieces n c kill first w.0 w.1 v f) (cuts-pieces n cs kill rest w.2 v s))
+
+pieces-part : (n : ℕ) (cs ds : List Conj) → ArePieces n (cs ++ ds) → ArePieces n cs
+pieces-part n [] ds a = tt
+pieces-part n (c ∷ cs) ds a = (a.0, a.1, pieces-part n cs ds a.2)
+
+pieces-at : (n : ℕ) (cs : List Conj) (c : Conj) (ds : List Conj) → ArePieces n (cs ++ c ∷ ds) → (n ≤ c.columns) × IsWellMade c
+pieces-at n [] c ds a = (a.0, a.1)
+pieces-at n (b ∷ bs) c ds a = pieces-at n bs c ds a.2
+
+fewer-columns : (m n : ℕ) (cs : List Conj) → n ≤ m → ArePieces m cs → ArePieces n cs
+fewer-columns m n [] l a = tt
+fewer-columns m n (c ∷ cs) l a = (omega (arith, l, a.0), a.1, fewer-columns m n cs l a.2)
+
+-- where only some of them are cut
+pub partly-pieces : (n : ℕ) (pieces : List Conj) (kill : List Row) (old new : List Conj) → old ≡ [] → ArePieces n pieces → AreRowsOver n kill → ArePartlyCut pieces kill old new → ArePieces n new
+partly-pieces n pieces kill old new none w v k = by k.last
+  where
+    made : ArePieces n (k.before ++ k.at ∷ k.behind)
+    made = subst (ArePieces n) (sym k.split) w
+
+    at : (n ≤ k.at.columns) × IsWellMade k.at
+    at = pieces-at n k.before k.at k.behind made
+
+    mid : ArePieces n k.mid
+    mid = subst (ArePieces n) (sym (k.all.is ∙ ap (λ (xs : List Conj). xs ++ k.all.more) none)) (cuts-pieces n k.before kill k.all.more (pieces-part n k.before (k.at ∷ k.behind) made) v k.all.cut)
+
+    by : AreCut k.at kill k.mid new ⊎ ArePartlyKept (parts_outside k.at kill) k.mid new → ArePieces n new
+    by (inl c) = subst (ArePieces n) (sym c.is) (pieces-append n k.mid c.more mid (cut-pieces n k.at kill c.more at.0 at.1 v c.cut))
+    by (inr c) =
+        let done = pieces-part k.at.columns c.done c.rest (subst (ArePieces k.at.columns) (sym c.split) (outside-pieces k.at kill at.1 (Over-more n k.at.columns kill at.0 v))) in
+        subst (ArePieces n) (sym c.kept.is) (pieces-append n k.mid c.kept.more mid (fewer-columns k.at.columns n c.kept.more at.0 (sieved-pieces k.at.columns c.done c.kept.more done c.kept.sieved)))
 
 pub is_left : (n : ℕ) (pieces : List Conj) (kill : List Row) (kept : List Conj) → ArePieces n pieces → AreRowsOver n kill → CutsAll pieces kill kept → IsLeft n pieces kill kept
 is_left n pieces kill kept w v s = record {

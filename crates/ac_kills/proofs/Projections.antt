@@ -1,25 +1,18 @@
 -- The pieces that are left of a copy are its projection.
-use Rattle.std.proofs.Common.{◌≡◌, ◌↔◌, ◌⊎◌, inl, inr, ℕ, zero, suc, ◌+◌, ◌-◌, ◌<◌, ◌≤◌, ℤ, pos, ◌+ℤ◌, ◌*ℤ◌, List, [], ◌∷◌, ◌++◌, length, map, take, drop, replicate, get_or, Bool, true, false, cond, ◌||◌, ◌==◌, refl, sym, ap, ◌∙◌, subst, arith}
+use Rattle.std.proofs.Common.{◌≡◌, ◌↔◌, inl, inr, ℕ, zero, suc, ◌+◌, ◌-◌, ◌<◌, ◌≤◌, ℤ, pos, List, [], ◌∷◌, ◌++◌, length, take, drop, replicate, get_or, Bool, true, false, ◌||◌, ◌==◌, refl, sym, ap, ◌∙◌, subst, arith}
 use Rattle.std.specs.Prelude.{Result, Ok, Err, IfOk, nat_lt}
 use Rattle.std.specs.List.{range_with_len}
-use Rattle.std.proofs.lemmas.Int.{ints}
-use Rattle.std.proofs.lemmas.List.{length-append, length-replicate, length-take-le, length-drop, take-append-drop}
+use Rattle.std.proofs.lemmas.List.{length-append, length-replicate, take-append-drop}
 use Rattle.std.proofs.Math.ListN.{get_or-append}
-use Rattle.ac_integers.specs.Dot.{dot}
-use Rattle.ac_integers.specs.Multiple.{IsMultiple}
-use Rattle.ac_forms.specs.Affine.{value_at}
 use Rattle.ac_forms.specs.Negation.{Extends}
-use Rattle.ac_forms.specs.Rows.{Holds, Meets, AreRowsOver, IsWellMade}
+use Rattle.ac_forms.specs.Rows.{Meets}
 use Rattle.ac_forms.specs.declared.conj.Conj.{Conj}
-use Rattle.ac_forms.specs.declared.row.Row.{Row}
-use Rattle.ac_forms.specs.declared.row.Row.TheVariants.{Eq, Div, Ge}
 use Rattle.ac_sets.proofs.Commons.{Meets-cut}
 use Rattle.ac_cert.proofs.Keeping.{Meets-append}
 use Rattle.ac_omega.specs.Either.{EliminatesEither}
 use Rattle.ac_trails.specs.declared.strategy.Strategy.TheVariants.{Full, Economical}
-use Rattle.ac_omega.specs.Columns.{AreColumns}
 use Rattle.ac_omega.specs.Elimination.{pieces_of}
-use Rattle.ac_omega.specs.Projection.{is_among, DiffersIn, HoldsFor, SomeHolds, AllGone}
+use Rattle.ac_omega.specs.Projection.{is_among, HoldsFor, SomeHolds}
 use Rattle.ac_omega.specs.declared.pieces.Stop.{Stop}
 use Rattle.ac_omega.specs.declared.piece.Piece.{Piece}
 use Rattle.ac_omega.specs.Replays.{AreReached, HaveAllFrom, AreOver}

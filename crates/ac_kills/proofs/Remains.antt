@@ -1,33 +1,36 @@
 -- The loops over the kill pieces of a copy, and over the kills of a case.
-use Rattle.std.proofs.Common.{◌≡◌, ◌↔◌, ◌⊎◌, inl, inr, ℕ, zero, suc, ◌+◌, ◌<◌, ◌≤◌, ℤ, List, [], ◌∷◌, ◌++◌, length, take, get_or, refl, sym, ap, ◌∙◌, subst, arith}
-use Rattle.std.specs.Prelude.{Result, Ok, Err, IfOk}
+use Rattle.std.proofs.Common.{◌≡◌, ◌↔◌, ◌⊎◌, inl, inr, ℕ, zero, suc, ◌+◌, ◌<◌, ◌≤◌, ℤ, List, [], ◌∷◌, ◌++◌, length, take, get_or, sym, ap, ◌∙◌, subst, arith}
+use Rattle.std.specs.Prelude.{Result, IfErr}
 use Rattle.std.proofs.lemmas.List.{take_more}
-use Rattle.ac_forms.specs.Negation.{Extends, InSome, InNone}
-use Rattle.ac_forms.specs.Rows.{Holds, Meets, AreRowsOver, IsWellMade}
+use Rattle.ac_forms.specs.Negation.{InSome, InNone, AreApart}
+use Rattle.ac_forms.specs.Rows.{Meets, AreRowsOver, IsWellMade}
 use Rattle.ac_forms.specs.declared.conj.Conj.{Conj}
 use Rattle.ac_forms.specs.declared.row.Row.{Row}
-use Rattle.ac_cert.specs.Points.{IsPoint}
 use Rattle.ac_sets.specs.Unions.{ArePieces}
 use Rattle.ac_sets.proofs.Commons.{Meets-cut}
 use Rattle.ac_omega.specs.Projection.{SomeHolds}
 use Rattle.ac_omega.specs.declared.piece.Piece.{Piece}
 use Rattle.ac_kills.specs.Cuts.{HasPoint, AllHavePoints, NoneMeet, IsLeft}
 use Rattle.ac_omega.specs.Replays.{AreOver}
-use Rattle.ac_kills.specs.Causes.{AreKillRows, AreCutCases}
+use Rattle.ac_kills.specs.Causes.{AreKillRows, AreCutCases, IfFull}
+use Rattle.ac_kills.specs.declared.cut.CutStop.{CutStop}
+use Rattle.ac_kills.proofs.Asked.{if_both}
 use Rattle.ac_kills.proofs.Stops.{itself-case}
-use Rattle.ac_kills.specs.Remaining.{AreKillsOf, AllKillsOf, AllOver, AreFound, AllKills, SomeKill, IsLeftBy, IsStart, IsCut, IsRemaining}
-use Rattle.ac_kills.proofs.Cutting.{take_whole}
+use Rattle.ac_kills.specs.Remaining.{AreKillsOf, AllKillsOf, AllOver, AllKills, SomeKill, IsLeftBy, IsStart, IsCut, IsRemaining}
+use Rattle.ac_kills.proofs.Cutting.{take_whole, same-fits}
 use Rattle.ac_kills.proofs.Points.{holds-either}
 
 -- ---- one copy
 
-pub record ByHalfway (n : ℕ) (pieces : List Conj) (found : List Piece) (kept : List Conj) (i : ℕ) : Type 0 where
+pub record ByHalfway (n room : ℕ) (pieces : List Conj) (found : List Piece) (kept : List Conj) (i : ℕ) : Type 0 where
   pub by : IsLeftBy n pieces (take i found) kept
   pub asked : (base : List Row) (kills : List (List Row)) → AreCutCases base kills pieces → AreKillsOf kills found → AreCutCases base kills kept
   pub apart : NoneMeet n pieces → NoneMeet n kept
+  pub within : length pieces ≤ room → length kept ≤ room
 
-pub by_start : (n : ℕ) (pieces : List Conj) (found : List Piece) (kept : List Conj) → ArePieces n pieces → kept ≡ pieces → ByHalfway n pieces found kept 0
-by_start n pieces found kept w e = record {
+pub by_start : (n room : ℕ) (pieces : List Conj) (found : List Piece) (kept : List Conj) → ArePieces n pieces → kept ≡ pieces → ByHalfway n room pieces found kept 0
+by_start n room pieces found kept w e = record {
+  within = same-fits room pieces kept e;
   by = record {
     made = subst (ArePieces n) (sym e) w;
     points = λ p l. ((λ h. (subst (InSome p) e h, (λ x. x))), (λ h. subst (InSome p) (sym e) h.0));
@@ -50,9 +53,10 @@ some-snoc (y ∷ ys) x p =
       (λ h. elim h [ inl a ↦ elim a [ inl c ↦ inl c | inr d ↦ inr (r.1 (inl d)) ] | inr b ↦ inr (r.1 (inr b)) ]),
     )
 
-pub by_step : (n : ℕ) (pieces : List Conj) (found : List Piece) (kept next : List Conj) (i : ℕ) (x : Piece) → ByHalfway n pieces found kept i → i < length found → x ≡ get_or found i x
-    → ArePieces n next → IsLeft n kept x.rest.rows next → ((base : List Row) (kills : List (List Row)) → AreCutCases base kills kept → AreKillRows kills x.rest.rows → AreCutCases base kills next) → (NoneMeet n kept → NoneMeet n next) → ByHalfway n pieces found next (i + 1)
-by_step n pieces found kept next i x h m e made left cases apart = record {
+pub by_step : (n room : ℕ) (pieces : List Conj) (found : List Piece) (kept next : List Conj) (i : ℕ) (x : Piece) → ByHalfway n room pieces found kept i → i < length found → x ≡ get_or found i x
+    → ArePieces n next → IsLeft n kept x.rest.rows next → ((base : List Row) (kills : List (List Row)) → AreCutCases base kills kept → AreKillRows kills x.rest.rows → AreCutCases base kills next) → (NoneMeet n kept → NoneMeet n next) → length next ≤ room → ByHalfway n room pieces found next (i + 1)
+by_step n room pieces found kept next i x h m e made left cases apart fits = record {
+  within = λ l. fits;
   apart = λ a. apart (h.apart a);
   asked = λ base kills a b. cases base kills (h.asked base kills a b) (kills-at kills found i x b m e);
   by = subst (λ (xs : List Piece). IsLeftBy n pieces xs next) (sym more) (record {
@@ -69,19 +73,19 @@ by_step n pieces found kept next i x h m e made left cases apart = record {
     more = rw e (take_more found i x m)
 
 -- the same, where the pieces and the rows are handed on
-pub by_step_as : (n : ℕ) (pieces : List Conj) (found : List Piece) (kept next given : List Conj) (rows : List Row) (i : ℕ) (x : Piece) → ByHalfway n pieces found kept i → i < length found → x ≡ get_or found i x → given ≡ kept → rows ≡ x.rest.rows
-    → ArePieces n next → IsLeft n given rows next → ((base : List Row) (kills : List (List Row)) → AreCutCases base kills given → AreKillRows kills rows → AreCutCases base kills next) → (NoneMeet n given → NoneMeet n next) → ByHalfway n pieces found next (i + 1)
-by_step_as n pieces found kept next given rows i x h m e a b made left cases apart =
-    by_step n pieces found kept next i x h m e made
+pub by_step_as : (n room : ℕ) (pieces : List Conj) (found : List Piece) (kept next given : List Conj) (rows : List Row) (i : ℕ) (x : Piece) → ByHalfway n room pieces found kept i → i < length found → x ≡ get_or found i x → given ≡ kept → rows ≡ x.rest.rows
+    → ArePieces n next → IsLeft n given rows next → ((base : List Row) (kills : List (List Row)) → AreCutCases base kills given → AreKillRows kills rows → AreCutCases base kills next) → (NoneMeet n given → NoneMeet n next) → length next ≤ room → ByHalfway n room pieces found next (i + 1)
+by_step_as n room pieces found kept next given rows i x h m e a b made left cases apart fits =
+    by_step n room pieces found kept next i x h m e made
     (subst (λ (rs : List Row). IsLeft n kept rs next) b (subst (λ (cs : List Conj). IsLeft n cs rows next) a left))
     (λ base kills u v. cases base kills (subst (AreCutCases base kills) (sym a) u) (subst (AreKillRows kills) (sym b) v))
-    (λ u. apart (subst (NoneMeet n) (sym a) u))
+    (λ u. apart (subst (NoneMeet n) (sym a) u)) fits
 
-pub by_end : (n : ℕ) (pieces : List Conj) (found : List Piece) (kept : List Conj) (i : ℕ) → ByHalfway n pieces found kept i → length found ≤ i → IsLeftBy n pieces found kept
-by_end n pieces found kept i h l = subst (λ (xs : List Piece). IsLeftBy n pieces xs kept) (take_whole found i l) h.by
+pub by_end : (n room : ℕ) (pieces : List Conj) (found : List Piece) (kept : List Conj) (i : ℕ) → ByHalfway n room pieces found kept i → length found ≤ i → IsLeftBy n pieces found kept
+by_end n room pieces found kept i h l = subst (λ (xs : List Piece). IsLeftBy n pieces xs kept) (take_whole found i l) h.by
 
-pub by_made : (n : ℕ) (pieces : List Conj) (found : List Piece) (kept : List Conj) (i : ℕ) → ByHalfway n pieces found kept i → ArePieces n kept
-by_made n pieces found kept i h = h.by.made
+pub by_made : (n room : ℕ) (pieces : List Conj) (found : List Piece) (kept : List Conj) (i : ℕ) → ByHalfway n room pieces found kept i → ArePieces n kept
+by_made n room pieces found kept i h = h.by.made
 
 pub by_over : (n : ℕ) (found : List Piece) (i : ℕ) (x : Piece) → AreOver n found → i < length found → x ≡ get_or found i x → AreRowsOver n x.rest.rows
 by_over n [] i x w m e = absurd (omega (arith, m))
@@ -113,6 +117,20 @@ start_without case pieces empty e = subst (IsStart case) (sym e) (record {
   apart = λ p l. tt;
 })
 
+-- of the case alone, where there is no more room
+alone-apart : (n : ℕ) (case : Conj) (old new : List Conj) → old ≡ [] → new ≡ old ++ case ∷ [] → NoneMeet n new
+alone-apart n case old new none e p l = subst (AreApart p) (sym (e ∙ ap (λ (x : List Conj). x ++ case ∷ []) none)) ((λ x. tt), tt)
+
+alone-made : (case copy : Conj) (old new : List Conj) → old ≡ [] → IsWellMade case → copy ≡ case → new ≡ old ++ copy ∷ [] → ArePieces case.columns new
+alone-made case copy old new none w same e = subst (ArePieces case.columns) (sym (e ∙ ap (λ (x : List Conj). x ++ copy ∷ []) none ∙ ap (λ (x : Conj). x ∷ []) same)) (omega arith, w, tt)
+
+pub alone-full : {A : Type 0} (r : Result A CutStop) (room : ℕ) (case copy : Conj) (old new : List Conj) → IsWellMade case → copy ≡ case → old ≡ [] → IfErr r (λ e. IfFull e (length new ≡ room + 1)) → IfErr r (λ e. IfFull e ((room < length new) × (new ≡ old ++ copy ∷ [])))
+    → IfErr r (λ e. IfFull e ((length new ≡ room + 1) × NoneMeet case.columns new × ArePieces case.columns new))
+alone-full r room case copy old new w same none a b = if_both r _ _ _ (λ n k. (n, alone-apart case.columns copy old new none k.1, alone-made case copy old new none w same k.1)) a b
+
+pub alone-cases : (kills : List (List Row)) (case copy : Conj) (old new : List Conj) → old ≡ [] → copy ≡ case → new ≡ old ++ copy ∷ [] → AreCutCases case.rows kills new
+alone-cases kills case copy old new none same e = subst (AreCutCases case.rows kills) (sym (e ∙ ap (λ (x : List Conj). x ++ copy ∷ []) none ∙ ap (λ (x : Conj). x ∷ []) same)) (itself-case kills case, tt)
+
 pub ruleset start_steps = (start_with, start_without)
 
 -- ---- all kills
@@ -125,15 +143,17 @@ some-kill-snoc (y ∷ ys) k p =
       (λ h. elim h [ inl a ↦ elim a [ inl c ↦ inl c | inr d ↦ inr (r.1 (inl d)) ] | inr b ↦ inr (r.1 (inr b)) ]),
     )
 
-pub record CutHalfway (case : Conj) (kills : List (List Piece)) (pieces : List Conj) (i : ℕ) : Type 0 where
+pub record CutHalfway (case : Conj) (kills : List (List Piece)) (room : ℕ) (pieces : List Conj) (i : ℕ) : Type 0 where
+  pub within : length pieces ≤ room
   pub asked : (rows : List (List Row)) → AllKillsOf rows kills → AreCutCases case.rows rows pieces
   pub apart : NoneMeet case.columns pieces
   pub made : ArePieces case.columns pieces
   pub points : (p : List ℤ) → length p ≡ case.columns → InSome p pieces ↔ (Meets case.rows p × ¬ SomeKill (take i kills) p)
   pub each : AllHavePoints pieces
 
-pub cut_start : (case : Conj) (kills : List (List Piece)) (pieces : List Conj) → IsStart case pieces → CutHalfway case kills pieces 0
-cut_start case kills pieces s = record {
+pub cut_start : (case : Conj) (kills : List (List Piece)) (room : ℕ) (pieces : List Conj) → IsStart case pieces → length pieces ≤ room → CutHalfway case kills room pieces 0
+cut_start case kills room pieces s fits = record {
+  within = fits;
   asked = λ rows a. s.asked rows;
   apart = s.apart;
   made = s.made;
@@ -146,9 +166,10 @@ kills-of-at rows [] i x w m e = absurd (omega (arith, m))
 kills-of-at rows (k ∷ ks) zero x w m e = rw e w.0
 kills-of-at rows (k ∷ ks) (suc i) x w m e = kills-of-at rows ks i x w.1 (omega (arith, m)) e
 
-pub cut_step : (case : Conj) (kills : List (List Piece)) (pieces next : List Conj) (i : ℕ) (found given : List Piece) → CutHalfway case kills pieces i → i < length kills → found ≡ get_or kills i found → given ≡ found
-    → IsLeftBy case.columns pieces given next → ((base : List Row) (ks : List (List Row)) → AreCutCases base ks pieces → AreKillsOf ks given → AreCutCases base ks next) → (NoneMeet case.columns pieces → NoneMeet case.columns next) → CutHalfway case kills next (i + 1)
-cut_step case kills pieces next i found given h m e same left cases apart = record {
+pub cut_step : (case : Conj) (kills : List (List Piece)) (room : ℕ) (pieces next : List Conj) (i : ℕ) (found given : List Piece) → CutHalfway case kills room pieces i → i < length kills → found ≡ get_or kills i found → given ≡ found
+    → IsLeftBy case.columns pieces given next → ((base : List Row) (ks : List (List Row)) → AreCutCases base ks pieces → AreKillsOf ks given → AreCutCases base ks next) → (NoneMeet case.columns pieces → NoneMeet case.columns next) → (length pieces ≤ room → length next ≤ room) → CutHalfway case kills room next (i + 1)
+cut_step case kills room pieces next i found given h m e same left cases apart fits = record {
+  within = fits h.within;
   apart = apart h.apart;
   asked = λ rows a. cases case.rows rows (h.asked rows a) (subst (AreKillsOf rows) (sym same) (kills-of-at rows kills i found a m e));
   made = left.made;
@@ -190,8 +211,8 @@ some-kill-either (k ∷ ks) p = elim (some-either k p) [
   | inr a ↦ elim (some-kill-either ks p) [ inl b ↦ inl (inr b) | inr b ↦ inr (λ h. elim h [ inl x ↦ a x | inr x ↦ b x ]) ]
 ]
 
-pub cut_end : (case : Conj) (kills : List (List Piece)) (pieces : List Conj) (i : ℕ) → CutHalfway case kills pieces i → length kills ≤ i → IsCut case kills pieces
-cut_end case kills pieces i h l = record {
+pub cut_end : (case : Conj) (kills : List (List Piece)) (room : ℕ) (pieces : List Conj) (i : ℕ) → CutHalfway case kills room pieces i → length kills ≤ i → IsCut case kills pieces
+cut_end case kills room pieces i h l = record {
   made = h.made;
   points = points;
   each = h.each;
@@ -205,8 +226,8 @@ cut_end case kills pieces i h l = record {
     points : (p : List ℤ) → length p ≡ case.columns → InSome p pieces ↔ (Meets case.rows p × ¬ SomeKill kills p)
     points p e = subst (λ (ks : List (List Piece)). InSome p pieces ↔ (Meets case.rows p × ¬ SomeKill ks p)) all (h.points p e)
 
-pub cut_made : (case : Conj) (kills : List (List Piece)) (pieces : List Conj) (i : ℕ) → CutHalfway case kills pieces i → ArePieces case.columns pieces
-cut_made case kills pieces i h = h.made
+pub cut_made : (case : Conj) (kills : List (List Piece)) (room : ℕ) (pieces : List Conj) (i : ℕ) → CutHalfway case kills room pieces i → ArePieces case.columns pieces
+cut_made case kills room pieces i h = h.made
 
 pub cut_over : (first : ℕ) (kills : List (List Piece)) (i : ℕ) (found given : List Piece) → AllOver first kills → i < length kills → found ≡ get_or kills i found → given ≡ found → AreOver first given
 cut_over first [] i found given w m e f = absurd (omega (arith, m))

@@ -1,10 +1,8 @@
 -- Why a case stops.
-use Rattle.std.proofs.Common.{◌≡◌, ◌⊎◌, inl, inr, ℕ, zero, suc, ◌+◌, ◌<◌, ◌≤◌, List, [], ◌∷◌, ◌++◌, append-nil, length, map, get_or, refl, sym, ap, ◌∙◌, subst, arith}
-use Rattle.std.specs.List.{Contains}
-use Rattle.std.proofs.lemmas.List.Elements.{Contains-append_left, Contains-append_right}
+use Rattle.std.proofs.Common.{ℕ, List, [], append-nil, sym}
 use Rattle.ac_forms.specs.declared.conj.Conj.{Conj}
 use Rattle.ac_forms.specs.declared.row.Row.{Row}
-use Rattle.ac_kills.specs.Causes.{IsKillRow, IsFurther, Itself, OfNegation, AreFurther, IsCutCase, AreKillRows, AreCutCases, StopsOn, CutStops}
+use Rattle.ac_kills.specs.Causes.{IsCutCase, StopsOn, CutStops}
 use Rattle.ac_kills.specs.declared.cut.CutStop.{CutStop}
 use Rattle.ac_kills.proofs.Asked.{on_case}
 

@@ -1,5 +1,5 @@
 -- The questions that cutting asks, and when one of them stops it.
-use Rattle.std.specs.Prelude.{◌≡◌, ◌⊎◌, ℕ, ◌<◌, List, [], ◌∷◌, ◌++◌, false}
+use Rattle.std.specs.Prelude.{◌≡◌, ◌⊎◌, ℕ, List, [], ◌∷◌, ◌++◌, false}
 use Rattle.std.specs.List.{Contains}
 use Rattle.ac_forms.specs.Negation.{negation, NegationFits}
 use Rattle.ac_forms.specs.declared.conj.Conj.{Conj}

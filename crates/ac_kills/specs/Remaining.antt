@@ -1,8 +1,7 @@
 -- What is left of a case where no copy has a point, and the kills that cover the rest.
-use Rattle.std.specs.List.{Contains}
-use Rattle.std.specs.Prelude.{◌≡◌, ◌⊎◌, ◌↔◌, ℕ, ◌≤◌, ℤ, List, [], ◌∷◌, length}
+use Rattle.std.specs.Prelude.{◌≡◌, ◌⊎◌, ◌↔◌, ℕ, ℤ, List, [], ◌∷◌, length}
 use Rattle.ac_forms.specs.Negation.{InSome, InNone}
-use Rattle.ac_forms.specs.Rows.{Meets, IsWellMade}
+use Rattle.ac_forms.specs.Rows.{Meets}
 use Rattle.ac_forms.specs.declared.conj.Conj.{Conj}
 use Rattle.ac_sets.specs.Unions.{ArePieces}
 use Rattle.ac_omega.specs.Projection.{SomeHolds}
@@ -17,7 +16,7 @@ use Rattle.ac_omega.specs.Elimination.{pieces_of}
 use Rattle.ac_trails.specs.declared.strategy.Strategy.{Strategy}
 use Rattle.ac_trails.specs.declared.strategy.Strategy.TheVariants.{Full as Fully, Economical}
 use Rattle.ac_omega.specs.Sweep.{Pieces, Wide, Spent as Costly}
-use Rattle.ac_kills.specs.Causes.{AreKillRows, AreCutCases, CutStops}
+use Rattle.ac_kills.specs.Causes.{AreKillRows, AreCutCases}
 use Rattle.ac_kills.specs.declared.cut.CutStop.{CutStop}
 use Rattle.ac_kills.specs.declared.cut.CutStop.TheVariants.{Overflow, Spent, Full, Memory}
 

@@ -1,4 +1,4 @@
-ghost use Rattle.std.specs.Prelude.{◌≡◌, ◌≤◌, ◌<◌, [], length, List, IfOk, IfErr, OnOk};
+ghost use Rattle.std.specs.Prelude.{◌≡◌, ◌+◌, ◌≤◌, [], length, List, IfOk, IfErr, OnOk};
 ghost use Rattle.ac_forms.specs.Rows.{IsWellMade};
 ghost use Rattle.ac_forms.specs.declared.conj.Conj.{Conj};
 ghost use Rattle.ac_forms.specs.declared.row.Row.{Row};
@@ -8,7 +8,7 @@ ghost use Rattle.ac_kills.specs.Cuts.{AllHavePoints, NoneMeet};
 ghost use Rattle.ac_omega.specs.Replays.{AreOver};
 ghost use Rattle.ac_kills.specs.Remaining.{AreKillsOf, AllKillsOf, AllOver, IsLeftBy, IsStart, IsCut};
 
-use crate::cut::{CutStop, cut_all, has_point};
+use crate::cut::{CutStop, cut_all, has_point, push_kept};
 use ac_forms::Conj;
 use ac_items::Items;
 use ac_omega::Piece;
@@ -30,9 +30,10 @@ fn cut_by_pieces(
     ensures stops { (base : List Row) (kills : List (List Row)) → AreCutCases base kills kept.old → AreKillsOf kills found.now → IfErr result (CutStops budget base kills) }
     ensures asked { (base : List Row) (kills : List (List Row)) → AreCutCases base kills kept.old → AreKillsOf kills found.now → OnOk result (AreCutCases base kills kept.new) }
     ensures apart { NoneMeet columns kept.old → OnOk result (NoneMeet columns kept.new) }
-    ensures full { NoneMeet columns kept.old → IfErr result (λ e. IfFull e ((room < length kept.new) × NoneMeet columns kept.new)) }
+    ensures full { NoneMeet columns kept.old → IfErr result (λ e. IfFull e ((length kept.new ≡ room + 1) × NoneMeet columns kept.new × ArePieces columns kept.new)) }
     ensures filled { (base : List Row) (kills : List (List Row)) → AreCutCases base kills kept.old → AreKillsOf kills found.now → IfErr result (λ e. IfFull e (AreCutCases base kills kept.new)) }
     ensures have { AllHavePoints kept.old → AllHavePoints kept.new }
+    ensures within { length kept.old ≤ room → OnOk result (length kept.new ≤ room) }
 {
     for piece in found {
         let mut next = Items::new(alloc);
@@ -56,19 +57,24 @@ fn cut_by_pieces(
 
 /// The case, if it has a point.
 #[tactic(auto, using(crate::proofs::Remains::start_steps))]
-fn start(alloc: Global, budget: u64, case: &Conj, pieces: &mut Items<Conj>) -> Result<(), CutStop>
+fn start(
+    alloc: Global,
+    budget: u64,
+    room: usize,
+    case: &Conj,
+    pieces: &mut Items<Conj>,
+) -> Result<(), CutStop>
     requires made { IsWellMade case.now }
     requires empty { pieces.old ≡ [] }
     ensures start { OnOk result (IsStart case.now pieces.new) }
     ensures stops { (kills : List (List Row)) → IfErr result (CutStops budget case.now.rows kills) }
-    ensures full { IfErr result (λ e. IfFull e ⊥) }
+    ensures full { IfErr result (λ e. IfFull e ((length pieces.new ≡ room + 1) × NoneMeet case.now.columns pieces.new × ArePieces case.now.columns pieces.new)) }
+    ensures filled { (kills : List (List Row)) → IfErr result (λ e. IfFull e (AreCutCases case.now.rows kills pieces.new)) }
     ensures have { AllHavePoints pieces.new }
+    ensures within { OnOk result (length pieces.new ≤ room) }
 {
     match has_point(alloc, case, budget) {
-        Ok(true) => {
-            pieces.push(case.copy(alloc)?)?;
-            Ok(())
-        }
+        Ok(true) => push_kept(room, case.copy(alloc)?, pieces),
         Ok(false) => Ok(()),
         Err(stop) => Err(stop),
     }
@@ -78,7 +84,8 @@ fn start(alloc: Global, budget: u64, case: &Conj, pieces: &mut Items<Conj>) -> R
 /// pieces have a point in common, and each has one.
 ///
 /// A question is the case's rows with further rows, each of a kill piece or of a part of the negation of such a row, and none
-/// twice. A kill piece that doesn't meet what is left is passed over. `Full` where more pieces are kept than there is room for.
+/// twice. A kill piece that doesn't meet what is left is passed over. `Full` with the first piece for which there is no room: it
+/// and those before are kept.
 #[tactic(auto, using(crate::proofs::Remains::cut_steps))]
 pub fn cut_case(
     alloc: Global,
@@ -94,11 +101,12 @@ pub fn cut_case(
     ensures cut { OnOk result (IsCut case.now kills.now pieces.new) }
     ensures asked { (rows : List (List Row)) → AllKillsOf rows kills.now → OnOk result (AreCutCases case.now.rows rows pieces.new) }
     ensures stops { (rows : List (List Row)) → AllKillsOf rows kills.now → IfErr result (CutStops budget case.now.rows rows) }
-    ensures full { IfErr result (λ e. IfFull e ((room < length pieces.new) × NoneMeet case.now.columns pieces.new)) }
+    ensures full { IfErr result (λ e. IfFull e ((length pieces.new ≡ room + 1) × NoneMeet case.now.columns pieces.new × ArePieces case.now.columns pieces.new)) }
     ensures filled { (rows : List (List Row)) → AllKillsOf rows kills.now → IfErr result (λ e. IfFull e (AreCutCases case.now.rows rows pieces.new)) }
     ensures have { AllHavePoints pieces.new }
+    ensures within { OnOk result (length pieces.new ≤ room) }
 {
-    match start(alloc, budget, case, pieces) {
+    match start(alloc, budget, room, case, pieces) {
         Ok(()) => {}
         Err(stop) => return Err(stop),
     }

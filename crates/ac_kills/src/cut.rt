@@ -1,4 +1,4 @@
-ghost use Rattle.std.specs.Prelude.{◌≡◌, ◌≤◌, ◌<◌, ◌++◌, ◌∷◌, [], ◌↔◌, ℕ, length, map, cond, true, false, IfOk, IfErr, OnOk, List, ◌⊎◌};
+ghost use Rattle.std.specs.Prelude.{◌≡◌, ◌+◌, ◌≤◌, ◌<◌, ◌++◌, ◌∷◌, [], ◌↔◌, ℕ, length, map, cond, true, false, IfOk, IfErr, OnOk, List, ◌⊎◌};
 ghost use Rattle.ac_kills.specs.Causes.{IsKillRow, IsCutCase, AreKillRows, AreCutCases, StopsOn, CutStops, IfFull};
 ghost use Rattle.ac_forms.specs.declared.conj.Conj.{Conj};
 ghost use Rattle.ac_forms.specs.declared.row.Row.{Row};
@@ -115,6 +115,8 @@ fn keep(
     ensures stops { IfErr result (StopsOn budget part) }
     ensures full { IfErr result (λ e. IfFull e ((room < length kept.new) × AreKept (part ∷ []) kept.old kept.new)) }
     ensures have { AllHavePoints kept.old → AllHavePoints kept.new }
+    ensures within { length kept.old ≤ room → OnOk result (length kept.new ≤ room) }
+    ensures one_more { length kept.old ≤ room → IfErr result (λ e. IfFull e (length kept.new ≡ room + 1)) }
 {
     match has_point(alloc, &part, budget) {
         Ok(true) => push_kept(room, part, kept),
@@ -125,11 +127,13 @@ fn keep(
 
 /// Keeps a part that has a point.
 #[tactic(auto, using(crate::proofs::Cutting::push_steps))]
-fn push_kept(room: usize, part: Conj, kept: &mut Items<Conj>) -> Result<(), CutStop>
+pub(crate) fn push_kept(room: usize, part: Conj, kept: &mut Items<Conj>) -> Result<(), CutStop>
     ensures kept { OnOk result (kept.new ≡ kept.old ++ part ∷ []) }
     ensures stops { (budget : ℕ) (q : Conj) → IfErr result (StopsOn budget q) }
     ensures full { IfErr result (λ e. IfFull e ((room < length kept.new) × (kept.new ≡ kept.old ++ part ∷ []))) }
     ensures have { HasPoint part → AllHavePoints kept.old → AllHavePoints kept.new }
+    ensures within { OnOk result (length kept.new ≤ room) }
+    ensures one_more { length kept.old ≤ room → IfErr result (λ e. IfFull e (length kept.new ≡ room + 1)) }
 {
     kept.push(part)?;
     if kept.len() > room {
@@ -154,6 +158,8 @@ fn keep_failing(
     ensures stops { (base : List Row) (kills : List (List Row)) → IsCutCase base kills here.now → IsKillRow kills row.now → IfErr result (CutStops budget base kills) }
     ensures full { IfErr result (λ e. IfFull e ((room < length kept.new) × ArePartlyKept (map (extended here.now) (negation here.now.columns row.now)) kept.old kept.new)) }
     ensures have { AllHavePoints kept.old → AllHavePoints kept.new }
+    ensures within { length kept.old ≤ room → OnOk result (length kept.new ≤ room) }
+    ensures one_more { length kept.old ≤ room → IfErr result (λ e. IfFull e (length kept.new ≡ room + 1)) }
 {
     let parts = match row.negate(alloc, here.columns) {
         Ok(parts) => parts,
@@ -187,6 +193,8 @@ fn cut_by_row(
     ensures stops { (base : List Row) (kills : List (List Row)) → IsCutCase base kills here.old → IsKillRow kills row.now → IfErr result (CutStops budget base kills) }
     ensures full { IfErr result (λ e. IfFull e ((room < length kept.new) × ArePartlyKept (row_parts here.old row.now) kept.old kept.new)) }
     ensures have { AllHavePoints kept.old → AllHavePoints kept.new }
+    ensures within { length kept.old ≤ room → OnOk result (length kept.new ≤ room) }
+    ensures one_more { length kept.old ≤ room → IfErr result (λ e. IfFull e (length kept.new ≡ room + 1)) }
 {
     if is_among(here.rows.as_slice(), row) {
         return Ok(());
@@ -215,6 +223,8 @@ fn keep_outside(
     ensures stops { (base : List Row) (kills : List (List Row)) → IsCutCase base kills conj.now → AreKillRows kills kill.now → IfErr result (CutStops budget base kills) }
     ensures full { IfErr result (λ e. IfFull e ((room < length kept.new) × ArePartlyKept (parts_outside conj.now kill.now) kept.old kept.new)) }
     ensures have { AllHavePoints kept.old → AllHavePoints kept.new }
+    ensures within { length kept.old ≤ room → OnOk result (length kept.new ≤ room) }
+    ensures one_more { length kept.old ≤ room → IfErr result (λ e. IfFull e (length kept.new ≡ room + 1)) }
 {
     let mut here = conj.copy(alloc)?;
     for row in kill {
@@ -242,6 +252,8 @@ fn cut(
     ensures stops { (base : List Row) (kills : List (List Row)) → IsCutCase base kills conj.now → AreKillRows kills kill.now → IfErr result (CutStops budget base kills) }
     ensures full { IfErr result (λ e. IfFull e ((room < length kept.new) × (AreCut conj.now kill.now kept.old kept.new ⊎ ArePartlyKept (parts_outside conj.now kill.now) kept.old kept.new))) }
     ensures have { HasPoint conj.now → AllHavePoints kept.old → AllHavePoints kept.new }
+    ensures within { length kept.old ≤ room → OnOk result (length kept.new ≤ room) }
+    ensures one_more { length kept.old ≤ room → IfErr result (λ e. IfFull e (length kept.new ≡ room + 1)) }
 {
     let inside = extended(alloc, conj, conj.columns, kill)?;
     match has_point(alloc, &inside, budget) {
@@ -251,8 +263,8 @@ fn cut(
     }
 }
 
-/// What is left of several conjunctions outside a kill piece. Each question is a cut case where they are; where there is no
-/// more room, more than so many pieces are kept.
+/// What is left of several conjunctions outside a kill piece. Each question is a cut case where they are. `Full` with the first
+/// piece for which there is no room: it and those before are kept.
 pub fn cut_all(
     alloc: Global,
     budget: u64,
@@ -270,7 +282,8 @@ pub fn cut_all(
     ensures stops { (base : List Row) (kills : List (List Row)) → AreCutCases base kills pieces.now → AreKillRows kills kill.now → IfErr result (CutStops budget base kills) }
     ensures asked { (base : List Row) (kills : List (List Row)) → AreCutCases base kills pieces.now → AreKillRows kills kill.now → OnOk result (AreCutCases base kills kept.new) }
     ensures apart { NoneMeet columns pieces.now → OnOk result (NoneMeet columns kept.new) }
-    ensures full { NoneMeet columns pieces.now → IfErr result (λ e. IfFull e ((room < length kept.new) × NoneMeet columns kept.new)) }
+    ensures within { OnOk result (length kept.new ≤ room) }
+    ensures full { NoneMeet columns pieces.now → IfErr result (λ e. IfFull e ((length kept.new ≡ room + 1) × NoneMeet columns kept.new × ArePieces columns kept.new)) }
     ensures filled { (base : List Row) (kills : List (List Row)) → AreCutCases base kills pieces.now → AreKillRows kills kill.now → IfErr result (λ e. IfFull e (AreCutCases base kills kept.new)) }
     ensures have { AllHavePoints pieces.now → AllHavePoints kept.new }
 {
@@ -294,6 +307,8 @@ fn cut_each(
     ensures stops { (base : List Row) (kills : List (List Row)) → AreCutCases base kills pieces.now → AreKillRows kills kill.now → IfErr result (CutStops budget base kills) }
     ensures full { IfErr result (λ e. IfFull e ((room < length kept.new) × ArePartlyCut pieces.now kill.now kept.old kept.new)) }
     ensures have { AllHavePoints pieces.now → AllHavePoints kept.old → AllHavePoints kept.new }
+    ensures within { length kept.old ≤ room → OnOk result (length kept.new ≤ room) }
+    ensures one_more { length kept.old ≤ room → IfErr result (λ e. IfFull e (length kept.new ≡ room + 1)) }
 {
     for conj in pieces {
         match cut(alloc, budget, room, conj, kill, kept) {

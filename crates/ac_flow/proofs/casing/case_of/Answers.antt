@@ -1,7 +1,7 @@
-use Rattle.std.proofs.Common.{sym, ◌∙◌}
-use Rattle.ac_flow.specs.Cases.{seen}
+use Rattle.std.proofs.Common.{sym, ◌∙◌, map}
+use Rattle.ac_flow.specs.Cases.{seen, conj_of_remainder}
 use Rattle.ac_flow.specs.Stops.{plain}
-use Rattle.ac_flow.proofs.CaseSteps.{context_over, pieces_over, kills_over, wide_enough, wide_as, writings_as, same_length, case_is, cut_stop_case}
+use Rattle.ac_flow.proofs.CaseSteps.{context_over, pieces_over, kills_over, wide_enough, wide_as, writings_as, same_length, case_is, cut_stop_case, kept_case, filled_case}
 use Rattle.ac_flow.proofs.casing.case_of.Goals as goal
 
 pub cut_pieces-requires-clause-context : goal.cut_pieces-requires-clause-context
@@ -29,3 +29,13 @@ returns-clause-case c =
     c.in_ok-kills.kills c.reading-assumed.ensures c.requires.wide
     (writings_as c.args.m.now (seen c.args.reader.now) c.args.source c.reading-assumed.result c.in_ok-copies.copies c.reading-assumed.ensures c.in_ok-copies.ensures) c.as_slice.ensures c.as_slice-3.ensures c.in-Ok.ensures.found c.as_slice-2.ensures c.as_slice-4.ensures
     c.in-Ok-cut_pieces.ensures.parts c.in_ok-kills.ensures
+
+pub returns-in-Err-cut_pieces-clause-full : goal.returns-in-Err-cut_pieces-clause-full
+returns-in-Err-cut_pieces-clause-full c =
+    filled_case c.args.budget c.args.m.now (seen c.args.reader.now) c.args.source c.args.columns c.args.rows.now c.reading-assumed.result c.in_ok-copies.copies c.as_slice.result.now c.in-Ok.found c.as_slice-2.result.now c.args.room c.in-Err-cut_pieces.stop c.reading-assumed.ensures
+    (writings_as c.args.m.now (seen c.args.reader.now) c.args.source c.reading-assumed.result c.in_ok-copies.copies c.reading-assumed.ensures c.in_ok-copies.ensures) c.as_slice.ensures c.in-Ok.ensures.found c.as_slice-2.ensures c.in-Err-cut_pieces.ensures.full c.in-Err-cut_pieces.ensures.filled
+
+pub returns-clause-kept : goal.returns-clause-kept
+returns-clause-kept c =
+    kept_case c.args.budget c.args.m.now (seen c.args.reader.now) c.args.source c.args.columns c.args.rows.now c.reading-assumed.result c.in_ok-copies.copies c.as_slice.result.now c.in-Ok.found c.as_slice-2.result.now (map conj_of_remainder c.in-Ok-cut_pieces.left) c.reading-assumed.ensures
+    (writings_as c.args.m.now (seen c.args.reader.now) c.args.source c.reading-assumed.result c.in_ok-copies.copies c.reading-assumed.ensures c.in_ok-copies.ensures) c.as_slice.ensures c.in-Ok.ensures.found c.as_slice-2.ensures c.in-Ok-cut_pieces.ensures.groups

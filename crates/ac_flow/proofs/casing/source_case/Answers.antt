@@ -1,7 +1,7 @@
-use Rattle.std.proofs.Common.{sym, refl}
-use Rattle.ac_flow.specs.Cases.{seen}
+use Rattle.std.proofs.Common.{sym, refl, map}
+use Rattle.ac_flow.specs.Cases.{seen, conj_of_remainder}
 use Rattle.ac_flow.specs.Stops.{plain}
-use Rattle.ac_flow.proofs.CaseSteps.{source_rows, source_is, source_stops}
+use Rattle.ac_flow.proofs.CaseSteps.{source_rows, source_is, source_stops, source_kept, filled_map}
 use Rattle.ac_flow.proofs.casing.source_case.Goals as goal
 
 pub case_of-requires-clause-rows : goal.case_of-requires-clause-rows
@@ -16,3 +16,17 @@ pub returns-clause-stops : goal.returns-clause-stops
 returns-clause-stops c =
     source_stops c.args.budget c.args.m.now (seen c.args.reader.now) c.args.numbers.now c.in-Some.own c.reading-alone.result c.in_ok-own.field-0 c.in-Some-stmt_of.stmt.now c.in_ok-column_after.field-0 c.root-source.result c.as_slice.result.now (plain c.in-Err.stop) c.reading-alone.ensures c.in_ok-own.ensures c.in-Some.is
     (sym c.in-Some-stmt_of.ensures) c.in_ok-column_after.ensures c.root-source.ensures c.as_slice.ensures c.in-Err.ensures.stops
+
+pub returns-in-Ok-clause-kept : goal.returns-in-Ok-clause-kept
+returns-in-Ok-clause-kept c =
+    source_kept c.args.budget c.args.m.now (seen c.args.reader.now) c.args.numbers.now c.in-Some.own c.reading-alone.result c.in_ok-own.field-0 c.in-Some-stmt_of.stmt.now c.in_ok-column_after.field-0 c.root-source.result c.as_slice.result.now (map conj_of_remainder c.in-Ok.parts.left) c.reading-alone.ensures c.in_ok-own.ensures c.in-Some.is
+    (sym c.in-Some-stmt_of.ensures) c.in_ok-column_after.ensures c.root-source.ensures c.as_slice.ensures c.in-Ok.ensures.kept
+
+pub returns-clause-full : goal.returns-clause-full
+returns-clause-full c =
+    filled_map c.in-Err.stop _ _ (λ kept k. (
+      k.0,
+      k.1,
+      source_kept c.args.budget c.args.m.now (seen c.args.reader.now) c.args.numbers.now c.in-Some.own c.reading-alone.result c.in_ok-own.field-0 c.in-Some-stmt_of.stmt.now c.in_ok-column_after.field-0 c.root-source.result c.as_slice.result.now kept c.reading-alone.ensures c.in_ok-own.ensures c.in-Some.is
+          (sym c.in-Some-stmt_of.ensures) c.in_ok-column_after.ensures c.root-source.ensures c.as_slice.ensures k.2,
+    )) c.in-Err.ensures.full

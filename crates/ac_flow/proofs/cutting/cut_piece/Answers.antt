@@ -1,7 +1,9 @@
-use Rattle.std.proofs.Common.{subst}
-use Rattle.std.specs.Prelude.{IfErr}
+use Rattle.std.proofs.Common.{◌≡◌, ◌+◌, length, subst}
+use Rattle.std.specs.Prelude.{IfErr, OnOk}
 use Rattle.ac_forms.specs.declared.conj.Conj.{Conj}
-use Rattle.ac_kills.specs.Causes.{CutStops}
+use Rattle.ac_kills.specs.Causes.{AreCutCases, CutStops, IfFull}
+use Rattle.ac_kills.specs.Cuts.{NoneMeet}
+use Rattle.ac_sets.specs.Unions.{ArePieces}
 use Rattle.ac_flow.proofs.CutSteps.{case_made}
 use Rattle.ac_flow.proofs.cutting.cut_piece.Goals as goal
 
@@ -10,3 +12,12 @@ cut_case-requires-clause-case c = case_made c.args.m.now c.args.columns c.args.r
 
 pub returns-clause-stops : goal.returns-clause-stops
 returns-clause-stops c = λ ks a. subst (λ (x : Conj). IfErr c.cut_case.result (CutStops c.args.budget x.rows ks)) c.in_ok-conj.ensures (c.cut_case.ensures.stops ks a)
+
+pub returns-clause-asked : goal.returns-clause-asked
+returns-clause-asked c = λ ks a. subst (λ (x : Conj). OnOk c.cut_case.result (AreCutCases x.rows ks c.cut_case.new.pieces)) c.in_ok-conj.ensures (c.cut_case.ensures.asked ks a)
+
+pub returns-clause-full : goal.returns-clause-full
+returns-clause-full c = subst (λ (x : Conj). IfErr c.cut_case.result (λ e. IfFull e ((length c.cut_case.new.pieces ≡ c.args.room + 1) × NoneMeet x.columns c.cut_case.new.pieces × ArePieces x.columns c.cut_case.new.pieces))) c.in_ok-conj.ensures c.cut_case.ensures.full
+
+pub returns-clause-filled : goal.returns-clause-filled
+returns-clause-filled c = λ ks a. subst (λ (x : Conj). IfErr c.cut_case.result (λ e. IfFull e (AreCutCases x.rows ks c.cut_case.new.pieces))) c.in_ok-conj.ensures (c.cut_case.ensures.filled ks a)

@@ -1,6 +1,5 @@
-use Rattle.std.proofs.Common.{ℕ, ◌-◌, ◌<◌, length, ap, ◌∙◌, subst}
-use Rattle.ac_kills.specs.Causes.{IfFull}
-use Rattle.ac_flow.proofs.CutSteps.{piece_over, stopped_at, piece_memory, filled_full, parts_next}
+use Rattle.std.proofs.Common.{◌-◌, ap, ◌∙◌}
+use Rattle.ac_flow.proofs.CutSteps.{piece_over, stopped_at, piece_memory, filled_full, filled_groups, groups_end, parts_next}
 use Rattle.ac_flow.proofs.cutting.cut_pieces.Goals as goal
 
 pub cut_piece-requires-clause-piece : goal.cut_piece-requires-clause-piece
@@ -16,10 +15,21 @@ returns-in-Err-clause-stops c = λ ks a.
 
 pub returns-in-Err-clause-full : goal.returns-in-Err-clause-full
 returns-in-Err-clause-full c =
-    filled_full c.args.m.now c.args.columns c.args.rows.now c.args.kills.now c.args.pieces.now c.loop-d.d c.args.room c.loop-d.out c.cut_piece.new.kept c.in-Err.stop c.stopped.result c.loop-d.invariant c.in-Err.ensures.have
-    (subst (λ (k : ℕ). IfFull c.in-Err.stop (k < length c.cut_piece.new.kept)) (c.saturating_sub-left.ensures ∙ ap (λ n. c.args.room - n) c.len.ensures) c.in-Err.ensures.full) c.stopped.ensures.same c.stopped.ensures.full
+    filled_full c.args.m.now c.args.columns c.args.rows.now c.args.kills.now c.args.room c.args.pieces.now c.loop-d.d c.saturating_sub-left.result c.loop-d.out c.cut_piece.new.kept c.in-Err.stop c.stopped.result c.loop-d.invariant c.in-Err.ensures.have
+    (c.saturating_sub-left.ensures ∙ ap (λ n. c.args.room - n) c.len.ensures) c.in-Err.ensures.full c.stopped.ensures.same c.stopped.ensures.full
+
+pub returns-in-Err-clause-filled : goal.returns-in-Err-clause-filled
+returns-in-Err-clause-filled c = λ ks a.
+    filled_groups c.args.m.now c.args.columns c.args.rows.now c.args.kills.now c.args.room c.args.pieces.now ks c.loop-d.d c.saturating_sub-left.result c.index-pieces-d.result c.as_slice.result.now c.loop-d.out c.cut_piece.new.kept c.in-Err.stop c.stopped.result c.loop-d.invariant a
+    c.loop-d-test.true c.index-pieces-d.is c.as_slice.ensures c.in-Err.ensures.full (c.in-Err.ensures.filled ks a) c.stopped.ensures.same c.stopped.ensures.full
+
+pub returns-clause-groups : goal.returns-clause-groups
+returns-clause-groups c = λ ks a. groups_end c.args.m.now c.args.columns c.args.rows.now c.args.kills.now c.args.room c.args.pieces.now ks c.loop-d.d c.loop-d.out c.loop-d.invariant c.loop-d-test.false a
+
+pub returns-clause-within : goal.returns-clause-within
+returns-clause-within c = c.loop-d.invariant.within
 
 pub loop-d-preserved : goal.loop-d-preserved
 loop-d-preserved c =
-    parts_next c.args.m.now c.args.columns c.args.rows.now c.args.kills.now c.args.pieces.now c.loop-d.d c.index-pieces-d.result c.as_slice.result.now c.loop-d.out c.push_remainders.new.out c.cut_piece.new.kept c.loop-d.invariant c.loop-d-test.true
-    c.index-pieces-d.is c.as_slice.ensures c.in-Ok.ensures.cut c.in-Ok-push_remainders.ensures
+    parts_next c.args.m.now c.args.columns c.args.rows.now c.args.kills.now c.args.room c.args.pieces.now c.loop-d.d c.saturating_sub-left.result c.index-pieces-d.result c.as_slice.result.now c.loop-d.out c.push_remainders.new.out c.cut_piece.new.kept c.loop-d.invariant c.loop-d-test.true
+    c.index-pieces-d.is c.as_slice.ensures c.in-Ok.ensures.cut c.in-Ok.ensures.asked (c.saturating_sub-left.ensures ∙ ap (λ n. c.args.room - n) c.len.ensures) c.in-Ok.ensures.within c.in-Ok-push_remainders.ensures

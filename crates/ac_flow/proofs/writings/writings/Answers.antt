@@ -1,4 +1,4 @@
-use Rattle.std.proofs.Common.{◌<◌, length, get_or, subst, sym, arith}
+use Rattle.std.proofs.Common.{◌<◌, length, get_or, subst, arith}
 use Rattle.ac_poly.specs.declared.types.StmtModel.{StmtModel}
 use Rattle.std.specs.Prelude.{List, ◌≡◌}
 use Rattle.ac_flow.proofs.WritingSteps.{all_next}

@@ -1,8 +1,9 @@
 use Rattle.std.proofs.Common.{sym, subst}
 use Rattle.ac_kills.specs.Cuts.{AllHavePoints}
-use Rattle.ac_kills.proofs.Asked.{cuts-cases, partly-cases, full_map, if_err}
+use Rattle.ac_kills.proofs.Asked.{cuts-cases, partly-cases, full_map, if_err, if_both}
 use Rattle.ac_kills.proofs.Aparts.{cuts-apart, partly-apart}
-use Rattle.ac_kills.proofs.Points.{is_left, cuts-pieces, on_ok, cuts-of}
+use Rattle.ac_kills.proofs.Cutting.{none-fits}
+use Rattle.ac_kills.proofs.Points.{is_left, partly-pieces, cuts-pieces, on_ok, cuts-of}
 use Rattle.ac_kills.proofs.cut.cut_all.Goals as goal
 
 pub returns-clause-made : goal.returns-clause-made
@@ -26,7 +27,15 @@ returns-clause-apart c = λ a.
 
 pub returns-clause-full : goal.returns-clause-full
 returns-clause-full c = λ a.
-    if_err c.cut_each.result _ _ (λ e. full_map e _ _ (λ k. (k.0, partly-apart c.args.columns c.args.pieces.now c.args.kill.now c.args.kept.now c.cut_each.new.kept c.requires.empty c.requires.made c.requires.kill a k.1))) c.cut_each.ensures.full
+    if_both c.cut_each.result _ _ _ (λ n k. (
+      n,
+      partly-apart c.args.columns c.args.pieces.now c.args.kill.now c.args.kept.now c.cut_each.new.kept c.requires.empty c.requires.made c.requires.kill a k.1,
+      partly-pieces c.args.columns c.args.pieces.now c.args.kill.now c.args.kept.now c.cut_each.new.kept c.requires.empty c.requires.made c.requires.kill k.1,
+    ))
+    (c.cut_each.ensures.one_more (none-fits c.args.room c.args.kept.now c.requires.empty)) c.cut_each.ensures.full
+
+pub returns-clause-within : goal.returns-clause-within
+returns-clause-within c = c.cut_each.ensures.within (none-fits c.args.room c.args.kept.now c.requires.empty)
 
 pub returns-clause-filled : goal.returns-clause-filled
 returns-clause-filled c = λ base kills a f.

@@ -4,7 +4,7 @@ use Rattle.ac_kills.proofs.Asked.{full_map, kept_have, on_case, contains_at, par
 use Rattle.ac_forms.specs.declared.conj.Conj.{Conj}
 use Rattle.ac_forms.specs.declared.row.Row.{Row}
 use Rattle.ac_kills.specs.Cuts.{with_all_new}
-use Rattle.ac_kills.proofs.Cutting.{part-made, failing_full}
+use Rattle.ac_kills.proofs.Cutting.{part-made, failing_step, failing_full}
 use Rattle.ac_kills.proofs.cut.keep_failing.Goals as goal
 
 rows_as : Conj → Conj → List Row → Conj
@@ -38,6 +38,18 @@ unfolding rows_as
 returns-in-Err-clause-full c =
     full_map c.in-Err.stop _ _ (λ k. (
       k.0,
-      failing_full c.args.here.now c.deref-part-items.result.now c.args.kept.now c.loop-part.kept c.keep.new.kept c.loop-part.part-index c.part-item.result c.in_ok-part.part c.args.row.now c.loop-part.invariant
+      failing_full c.args.here.now c.deref-part-items.result.now c.args.room c.args.kept.now c.loop-part.kept c.keep.new.kept c.loop-part.part-index c.part-item.result c.in_ok-part.part c.args.row.now c.loop-part.invariant
           c.loop-part-test.true c.part-item.is (c.in_ok-part.ensures ∙ ap (rows_as c.args.here.now c.part-item.result) c.as_slice.ensures) k.1 (c.deref-part-items.ensures.value ∙ c.in-Ok.ensures.exact.1),
     )) c.in-Err.ensures.full
+
+pub returns-in-Err-clause-one_more : goal.returns-in-Err-clause-one_more
+returns-in-Err-clause-one_more c = λ l. c.in-Err.ensures.one_more (c.loop-part.invariant.within l)
+
+pub returns-clause-within : goal.returns-clause-within
+returns-clause-within c = c.loop-part.invariant.within
+
+pub loop-part-preserved : goal.loop-part-preserved
+unfolding rows_as
+loop-part-preserved c =
+    failing_step c.args.here.now c.deref-part-items.result.now c.args.room c.args.kept.now c.loop-part.kept c.keep.new.kept c.loop-part.part-index c.part-item.result c.in_ok-part.part c.loop-part.invariant
+    c.loop-part-test.true c.part-item.is (c.in_ok-part.ensures ∙ ap (rows_as c.args.here.now c.part-item.result) c.as_slice.ensures) c.in-Ok-keep.ensures.kept c.in-Ok-keep.ensures.within
