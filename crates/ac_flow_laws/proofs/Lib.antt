@@ -1,0 +1,10 @@
+pub mod OwnColumns
+pub mod NormalRows
+pub mod RowsThere
+pub mod KillParts
+pub mod OnPaths
+pub mod Acceptance
+pub mod KillPoints
+pub mod Readings
+pub mod Stepping
+pub mod InPieces
