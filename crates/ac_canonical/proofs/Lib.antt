@@ -1,0 +1,12 @@
+pub mod Spelling
+pub mod SpelledStatements
+pub mod SpelledPrograms
+pub mod Pieces
+pub mod Apart
+pub mod Numerals
+pub mod Tokens
+pub mod Forms
+pub mod Values
+pub mod Statements
+pub mod PragmaLines
+pub mod Programs

@@ -1,0 +1,13 @@
+pub mod Tokens
+pub mod Terminals
+pub mod Rows
+pub mod Forms
+pub mod Conditions
+pub mod Depths
+pub mod Calls
+pub mod Values
+pub mod Lines
+pub mod Statements
+pub mod Declarations
+pub mod Pragmas
+pub mod Files
