@@ -1,0 +1,10 @@
+pub mod Spelling
+pub mod Terminals
+pub mod Expressions
+pub mod Statements
+pub mod Declarations
+pub mod Values
+pub mod Readings
+pub mod NamedStatements
+pub mod BuiltStatements
+pub mod Programs

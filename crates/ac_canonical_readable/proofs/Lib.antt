@@ -1,0 +1,11 @@
+pub mod Columns
+pub mod Forms
+pub mod Rows
+pub mod Values
+pub mod Scopes
+pub mod Plain
+pub mod Declarations
+pub mod Assignments
+pub mod Listed
+pub mod Statements
+pub mod Programs

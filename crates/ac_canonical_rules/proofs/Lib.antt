@@ -1,0 +1,9 @@
+pub mod Sums
+pub mod Forms
+pub mod Conditions
+pub mod Values
+pub mod Statements
+pub mod Declarations
+pub mod Shapes
+pub mod Pragmas
+pub mod Programs

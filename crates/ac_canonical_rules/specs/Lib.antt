@@ -1,0 +1,5 @@
+pub mod Places
+pub mod Columns
+pub mod Readable
+pub mod Programs
+pub mod Laws
