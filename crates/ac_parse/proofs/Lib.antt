@@ -2,3 +2,4 @@ pub mod Assigning
 pub mod Composing
 pub mod Conditions
 pub mod OneSourceFault
+pub mod ReadBack
