@@ -1,0 +1,3 @@
+pub mod Models
+pub mod Programs
+pub mod Questions
