@@ -1,0 +1,78 @@
+-- What stands at a placed position, by the model.
+use Rattle.std.proofs.Common.{◌≡◌, ℕ, ◌+◌, ◌++◌, ℤ, List, map, length, Option, Some, None, refl, sym, ap, ◌∙◌, subst}
+use Rattle.std.specs.Prelude.{slice_get}
+use Rattle.ac_syntax.specs.Nodes.{node_of}
+use Rattle.ac_syntax.specs.Spot.{Spot, AtNode, Reads as SpotReads, an_output}
+use Rattle.ac_syntax.specs.Where.{element}
+use Rattle.ac_syntax.specs.declared.tree.Position.{Position}
+use Rattle.ac_syntax.specs.declared.tree.Position.TheVariants.{Output, Node, InitialOutput, InitialNode}
+use Rattle.ac_syntax.specs.declared.tree.Value.{Value}
+use Rattle.ac_syntax.specs.declared.tree.Value.TheVariants.{Number, Access, Call'}
+use Rattle.ac_poly.specs.Nodes.{roots}
+use Rattle.ac_poly.specs.declared.types.Model.{Model}
+use Rattle.ac_poly.specs.declared.types.NodeModel.{NodeModel}
+use Rattle.ac_poly.specs.declared.types.NodeModel.TheVariants.{Number as Constant, Read, Call as Applied}
+use Rattle.ac_cert.proofs.Keeping.{bind-some, some-is}
+use Rattle.ac_paths.specs.Executions.{Execution, At, Describes}
+use Rattle.ac_paths.specs.Pairs.{Placed, IsReader as Reads, CallPlace}
+use Rattle.ac_paths.specs.Places.{CallAt, call_at, call_of, node_at}
+use Rattle.ac_paths.proofs.Heres.{node_model, reading}
+use Rattle.ac_graph.specs.Moves.{IsReader}
+use Rattle.ac_setting.specs.Programs.{coordinate_count, extent_count, counter_count}
+
+-- as many coordinates as the model gives the position
+pub at_width : (m : Model) (params : List ℤ) (x : Execution) → Describes m params x → (P : Position) (at : List ℤ) (s : Spot) → At x P at s → length at ≡ coordinate_count m P
+unfolding At
+at_width m params x d (Output o) at s h = let e = d.elements o at h.0 in e.count ∙ ap extent_count (sym e.is)
+at_width m params x d (Node k j) at s (w, i, v, n, is) =
+    let e = d.entry w i.stands in ap length (sym i.coords) ∙ e.width ∙ ap counter_count (sym e.is) ∙ ap (λ (n : ℕ). counter_count (slice_get m.stmts n)) i.stmt
+at_width m params x d (InitialOutput o) at s h = let e = d.elements o at h.0 in e.count ∙ ap extent_count (sym e.is)
+at_width m params x d (InitialNode k j) at s (w, i, a, b, c, n, is) =
+    let e = d.entry w i.stands in ap length (sym i.coords) ∙ e.width ∙ ap counter_count (sym e.is) ∙ ap (λ (n : ℕ). counter_count (slice_get m.stmts n)) i.stmt
+
+-- a read or an output of the model is one of the program
+pub reads_there : (m : Model) (params : List ℤ) (x : Execution) → Describes m params x → (a : Placed x) (P : Position) → a.position ≡ P → IsReader m P → Reads x a
+reads_there m params x d a P p r =
+    let rd = reading m params x d P a.at r.0 a.spot r.1 (subst (λ (z : Position). At x z a.at a.spot) p a.here) in
+    (rd.read, rd.before, rd.reads)
+
+-- and so is a call
+abbrev pub CallThere : (x : Execution) → Placed x → CallAt → Type 0
+CallThere x a call = (c : CallPlace x a) × (record { symbol = c.symbol; args = map (Node c.stmt) c.arguments } ≡ call)
+
+called : (m : Model) (params : List ℤ) (x : Execution) → Describes m params x → (a : Placed x) (P : Position) (at : List ℤ) (call : CallAt) → a.position ≡ P → call_at m P ≡ Some call → At x P at a.spot → CallThere x a call
+unfolding At
+called m params x d a (Output o) at call p e h = absurd cc
+called m params x d a (Node k j) at call p e (w, i, v, n, is) = by v n is
+  where
+    b : (node : NodeModel) × (node_at m k j ≡ Some node) × (call_of k node ≡ Some call)
+    b = bind-some (node_at m k j) (call_of k) call e
+
+    by : (v : Value) → node_of w.entry.value j ≡ Some v → a.spot ≡ AtNode w v → CallThere x a call
+    by (Number form) n is =
+        let sh = node_model m params x d k j at w (Number form) b.0 i n b.1 in
+        let o : b.0 ≡ Constant sh.0 = some-is b.0 (Constant sh.0) sh.1 in
+        let q : None ≡ Some call = ap (call_of k) (sym o) ∙ b.2 in
+        absurd cc
+    by (Access array subs place) n is =
+        let sh = node_model m params x d k j at w (Access array subs place) b.0 i n b.1 in
+        let o : b.0 ≡ Read array sh.0 = some-is b.0 (Read array sh.0) sh.1 in
+        let q : None ≡ Some call = ap (call_of k) (sym o) ∙ b.2 in
+        absurd cc
+    by (Call' f count args place) n is =
+        let sh : Some b.0 ≡ Some (Applied f (roots args (j + 1))) = node_model m params x d k j at w (Call' f count args place) b.0 i n b.1 in
+        let o : b.0 ≡ Applied f (roots args (j + 1)) = some-is b.0 (Applied f (roots args (j + 1))) sh in
+        (record { stmt = k; node = j; writer = w; value = Call' f count args place; symbol = f; arguments = roots args (j + 1); position_is = p; spot_is = is; is_call = (refl, refl) }, some-is _ call (ap (call_of k) (sym o) ∙ b.2))
+called m params x d a (InitialOutput o) at call p e h = absurd cc
+called m params x d a (InitialNode k j) at call p e h = absurd cc
+
+pub call_there : (m : Model) (params : List ℤ) (x : Execution) → Describes m params x → (a : Placed x) (P : Position) (call : CallAt) → a.position ≡ P → call_at m P ≡ Some call → CallThere x a call
+call_there m params x d a P call p e = called m params x d a P a.at call p e (subst (λ (z : Position). At x z a.at a.spot) p a.here)
+
+-- an output of an execution reads
+pub output_reads : (x : Execution) (a : Placed x) (o : ℕ) → a.position ≡ Output o → Reads x a
+unfolding At
+output_reads x a o p = by (subst (λ (z : Position). At x z a.at a.spot) p a.here)
+  where
+    by : At x (Output o) a.at a.spot → Reads x a
+    by h = (element o a.at, x.trace, subst (λ (s : Spot). SpotReads x.trace s (element o a.at) x.trace) (sym h.1) (an_output (element o a.at)))
