@@ -1,0 +1,102 @@
+-- When a proof stops at the recurrence pairs: behind a first step its plans go on from other pairs alone.
+use Rattle.std.specs.Prelude.{ℕ, ◌+◌, ◌≡◌, ℤ, pos, negsuc, List, [], ◌∷◌, Bool, true, false, ◌&&◌, cond, Some}
+use Rattle.ac_forms.specs.Affine.{Affine}
+use Rattle.ac_forms.specs.declared.conj.Conj.{Conj}
+use Rattle.ac_forms.specs.declared.row.Row.{Row}
+use Rattle.ac_forms.specs.declared.row.Row.TheVariants.{Ge}
+use Rattle.ac_syntax.specs.declared.tree.Order.{Order}
+use Rattle.ac_syntax.specs.declared.tree.Pair.{Pair}
+use Rattle.ac_syntax.specs.declared.tree.Position.{Position}
+use Rattle.ac_poly.specs.Model.{model_of}
+use Rattle.ac_cert.specs.Accepted.{after_steps}
+use Rattle.ac_cert.specs.Rules.{both_sides, class}
+use Rattle.ac_cert.specs.declared.types.Step.{Step}
+use Rattle.ac_paths.specs.Going.{Pairing, at_rows, branches}
+use Rattle.ac_paths.specs.Pairs.{In}
+use Rattle.ac_paths.specs.declared.path.Path.{Path}
+use Rattle.ac_claims.specs.Ending.{same_position}
+use Rattle.ac_claims.specs.ProofFaults.{DuePlan, due_from}
+use Rattle.ac_claims.specs.Soundness.{pairing_of}
+use Rattle.ac_claims.specs.declared.types.Claim.{Claim}
+use Rattle.ac_claims.specs.declared.types.ClaimTree.{ClaimTree}
+use Rattle.ac_claims.specs.declared.types.Plan.{Plan}
+use Rattle.ac_claims.specs.declared.types.PlanNext.{PlanNext, Split', Residue', Go', Row_of-Plan, end_of-Plan, more_of-Plan}
+use Rattle.ac_claims.specs.declared.types.PlanNext.TheVariants.{Absurd, Killed, Hit, SameNumber, SameInitial}
+use Rattle.ac_claims.specs.declared.types.Proof.{Proof}
+use Rattle.ac_widen.specs.Claims.{IsClaimRow}
+use Rattle.ac_widen.specs.Combinations.{Each}
+use Rattle.ac_setting.specs.Programs.{order_at}
+
+-- ---- plans
+
+-- the pair of positions of a path
+abbrev pub key_at : Path → Position × Position
+key_at h = (h.left.position, h.right.position)
+
+-- a plan may go on from the pair of a path: no step was taken yet, or the pair is no recurrence pair
+abbrev pub MayGoOn : (Position × Position → Bool) → Path → Type 0
+MayGoOn recurrent h = h.gone ≡ true → recurrent (key_at h) ≡ false
+
+abbrev pub programs_of : Pair → Pairing
+programs_of pair = pairing_of pair (model_of pair.left pair.context) (model_of pair.right pair.context)
+
+-- what holds of the rows behind steps
+abbrev pub Behind : List Step → Conj → (Conj → Type 0) → Type 0
+Behind steps c P = (d : Conj) → after_steps steps c ≡ Some d → P d
+
+abbrev mutual
+  -- behind its steps a plan stops at recurrence pairs: there it neither goes on nor ends at a number or an initial cell, which leaves
+  -- the claim of the pair, a row that no point meets, and a copy that kills. Its steps take arguments as the order says
+  pub Stops : Pair → (Position × Position → Order) → (Position × Position → Bool) → PlanNext → Path → Type 0
+  Stops pair order recurrent (Split' f p s l q t r) h =
+      (a b : Conj) → both_sides f h.conj ≡ Some (a, b) → Behind s a (λ d. Stops pair order recurrent l (at_rows h d)) × Behind t b (λ d. Stops pair order recurrent r (at_rows h d))
+  Stops pair order recurrent (Residue' m f shape all) h = ClassesStop pair order recurrent all m f 0 h
+  Stops pair order recurrent (Go' taken shape all) h =
+      MayGoOn recurrent h × (taken ≡ order_at pair (key_at h) (order (key_at h))) × ((hs : List Path) → branches (programs_of pair) taken h ≡ Some hs → CasesStop pair order recurrent all hs)
+  Stops pair order recurrent (Absurd i) h = Unit {0}
+  Stops pair order recurrent (Killed kill) h = Unit {0}
+  Stops pair order recurrent (Hit c) h = Unit {0}
+  Stops pair order recurrent SameNumber h = MayGoOn recurrent h
+  Stops pair order recurrent SameInitial h = MayGoOn recurrent h
+
+  -- the plans stop in the classes of the form, from class i on
+  pub ClassesStop : Pair → (Position × Position → Order) → (Position × Position → Bool) → {w : _} → Row_of-Plan w → ℤ → Affine → ℕ → Path → Type 0
+  ClassesStop pair order recurrent end_of-Plan m f i h = Unit {0}
+  ClassesStop pair order recurrent (more_of-Plan s t rest) m f i h = Behind s (class m f (pos i) h.conj) (λ d. Stops pair order recurrent t (at_rows h d)) × ClassesStop pair order recurrent rest m f (i + 1) h
+
+  -- the plans stop on the paths of their cases
+  pub CasesStop : Pair → (Position × Position → Order) → (Position × Position → Bool) → {w : _} → Row_of-Plan w → List Path → Type 0
+  CasesStop pair order recurrent end_of-Plan hs = Unit {0}
+  CasesStop pair order recurrent (more_of-Plan s t rest) [] = Unit {0}
+  CasesStop pair order recurrent (more_of-Plan s t rest) (h ∷ hs) = Behind s h.conj (λ d. Stops pair order recurrent t (at_rows h d)) × CasesStop pair order recurrent rest hs
+
+abbrev pub PlanStops : Pair → (Position × Position → Order) → (Position × Position → Bool) → Plan → Path → Type 0
+PlanStops pair order recurrent t h = Behind t.steps h.conj (λ d. Stops pair order recurrent t.next (at_rows h d))
+
+-- ---- proofs
+
+-- the pair of positions of a claim
+abbrev pub key_of : Claim → Position × Position
+key_of c = (c.left, c.right)
+
+-- each tree stops on the path that is due for it
+abbrev pub TreesStop : Pair → (Position × Position → Order) → (Position × Position → Bool) → List ClaimTree → List DuePlan → Type 0
+TreesStop pair order recurrent [] ds = Unit {0}
+TreesStop pair order recurrent (t ∷ ts) [] = Unit {0}
+TreesStop pair order recurrent (t ∷ ts) (d ∷ ds) = ((h : Path) → d.path ≡ Some h → PlanStops pair order recurrent t.tree h) × TreesStop pair order recurrent ts ds
+
+-- a proof stops at the recurrence pairs: its trees do, and a recurrence pair has one claim at most, of claim rows
+pub record IsStopping (pair : Pair) (order : Position × Position → Order) (recurrent : Position × Position → Bool) (template : Position × Position → List Row) (proof : Proof) : Type 0 where
+  pub trees : TreesStop pair order recurrent proof.trees.items (due_from (programs_of pair) 0 proof.claims)
+  pub alone : (c d : Claim) → In c proof.claims → In d proof.claims → recurrent (key_of c) ≡ true → key_of c ≡ key_of d → c ≡ d
+  pub rows : (c : Claim) → In c proof.claims → recurrent (key_of c) ≡ true → Each (IsClaimRow (template (key_of c))) c.rows
+
+-- ---- claims
+
+abbrev pub same_key : Position × Position → Position × Position → Bool
+same_key j k = same_position j.0 k.0 && same_position j.1 k.1
+
+-- the rows of the first claim of a pair; of a pair that has none, a row that no point meets
+abbrev pub claim_at : List Claim → Position × Position → List Row
+claim_at [] key = Ge (record { konst = negsuc 0; coefs = [] }) ∷ []
+claim_at (c ∷ cs) key = cond (same_key (key_of c) key) c.rows (claim_at cs key)
