@@ -1,5 +1,5 @@
-//! Calls on what the search widens by, as cases of text: hulls of points, template rows, orders of sites, and the graph of a
-//! pair of programs.
+//! Calls on what the search widens by, as cases of text: hulls of points, template rows, orders of sites, the graph of a
+//! pair of programs, and the sources of a program's reads at a valuation.
 //!
 //! Columns are `c0`, `c1` and so on. A point is `(3, -1)`, with a number for each column. A program is a quoted text, and where
 //! a pair is wanted, one text alone stands for the program against itself.
@@ -8,11 +8,13 @@
 mod arguments;
 mod graphs;
 mod hulls;
+mod instances;
 mod orders;
 mod positions;
 mod shown;
 mod sources;
 mod templates;
+mod traced;
 
 use ac_case_text::{CaseStop, Words};
 use std::alloc::Global;
@@ -28,6 +30,7 @@ pub fn answer(
         hulls::answer(alloc, call, words, out)?
             || templates::answer(alloc, call, words, out)?
             || graphs::answer(alloc, call, words, out)?
-            || orders::answer(alloc, call, words, out)?,
+            || orders::answer(alloc, call, words, out)?
+            || traced::answer(alloc, call, words, out)?,
     )
 }

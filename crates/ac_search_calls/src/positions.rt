@@ -17,7 +17,7 @@ pub(crate) fn key(position: &Position) -> Key {
     }
 }
 
-fn push_key(out: &mut String, key: &Key) -> Result<(), AllocError> {
+pub(crate) fn push_key(out: &mut String, key: &Key) -> Result<(), AllocError> {
     let (kind, number, node) = *key;
     match kind {
         0 => write!(out, "O{number}")?,

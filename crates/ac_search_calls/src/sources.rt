@@ -18,7 +18,7 @@ use std::alloc::Global;
 const LIMITS: Limits = Limits { budget: 50_000 };
 
 /// The program of the next quoted text.
-fn program(alloc: Global, words: &mut Words<'_>) -> Result<Program, CaseStop>
+pub(crate) fn program(alloc: Global, words: &mut Words<'_>) -> Result<Program, CaseStop>
     ensures { IfOk result ReadyProgram }
 {
     let text = words.quoted(alloc)?;
@@ -83,7 +83,25 @@ fn flow_of(alloc: Global, program: &Program, context: &Cond) -> Result<Flow, Cas
         return Err(CaseStop::Malformed("a context over the parameters"));
     }
     let model = lowered(alloc, program, context)?;
-    match flow(alloc, &model, &LIMITS) {
+    flow_of_model(alloc, &model)
+}
+
+/// The integer points of a program under its own context, which is to be over its parameters.
+pub(crate) fn lowered_alone(alloc: Global, program: &Program) -> Result<Model, CaseStop>
+    requires { ReadyProgram program.now }
+    ensures { IfOk result IsLowered }
+{
+    if !fit_parts(program.params.len(), program.context.parts.as_slice()) {
+        return Err(CaseStop::Malformed("a context over the parameters"));
+    }
+    lowered(alloc, program, &program.context)
+}
+
+/// The sources of a lowered program.
+pub(crate) fn flow_of_model(alloc: Global, model: &Model) -> Result<Flow, CaseStop>
+    requires { IsLowered model.now }
+{
+    match flow(alloc, model, &LIMITS) {
         Ok(flow) => Ok(flow),
         Err(FlowStop::Memory(want)) => Err(CaseStop::Memory(want)),
         Err(_) => Err(CaseStop::Malformed("a program of which the flow is found")),
