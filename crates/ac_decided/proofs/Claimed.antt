@@ -1,5 +1,5 @@
 -- Of which pairs the claims of a proof are, and the rows of the claim of a pair.
-use Rattle.std.proofs.Common.{◌≡◌, ◌⊎◌, inl, inr, ℕ, zero, suc, ◌&&◌, ℤ, negsuc, List, [], ◌∷◌, Bool, true, false, cond, Some, refl, sym, ap, ◌∙◌, subst, arith}
+use Rattle.std.proofs.Common.{◌≡◌, ◌⊎◌, inl, inr, ℕ, zero, suc, ◌+◌, ◌&&◌, ℤ, negsuc, List, [], ◌∷◌, Bool, true, false, cond, Some, refl, sym, ap, ◌∙◌, subst, arith}
 use Rattle.std.specs.Prelude.{slice_get, nat_eq}
 use Rattle.std.proofs.lemmas.Int.{ints}
 use Rattle.std.proofs.lemmas.Bool.{eq-eqb}
@@ -17,22 +17,50 @@ use Rattle.ac_claims.proofs.Plans.{position_is}
 use Rattle.ac_widen.specs.Claims.{IsClaimRow}
 use Rattle.ac_widen.specs.Combinations.{Each}
 use Rattle.ac_setting.specs.Programs.{PairAt}
-use Rattle.ac_decided.specs.Stopping.{key_of, same_key, claim_at}
+use Rattle.ac_decided.specs.Stopping.{key_of, same_key, claim_at, claims_of}
 use Rattle.ac_decided.proofs.Handled.{not_both}
 
--- some claim is of the pair
-pub record IsClaimed (pair : Pair) (cs : List Claim) (key : Position × Position) (p : List ℤ) : Type 0 where
+-- some claim of the part is of the pair
+pub record IsClaimed (pair : Pair) (part : ℕ → Bool) (cs : List Claim) (key : Position × Position) (p : List ℤ) : Type 0 where
   pub number : ℕ
   pub claim : Claim
   pub is : slice_get cs number ≡ Some claim
+  pub within : part number ≡ true
   pub key_is : key_of claim ≡ key
   pub there : PairAt pair key p
   pub meets : Meets claim.rows p
 
-pub get_in : {A : Type 0} (xs : List A) (i : ℕ) (x : A) → slice_get xs i ≡ Some x → In x xs
-get_in [] i x e = absurd cc
-get_in (y ∷ xs) zero x e = inl cc
-get_in (y ∷ xs) (suc i) x e = inr (get_in xs i x e)
+-- a claim with a number of the part is among its claims, and each of these has one
+pub claim_within : (part : ℕ → Bool) (j : ℕ) (cs : List Claim) (i : ℕ) (c : Claim) → slice_get cs i ≡ Some c → part (j + i) ≡ true → In c (claims_of part j cs)
+claim_within part j [] i c e m = absurd cc
+claim_within part j (d ∷ cs) zero c e m =
+    let z : j + 0 ≡ j = omega arith in
+    let q : c ≡ d = cc in
+    by (part j) (ap part (sym z) ∙ m) q
+  where
+    by : (b : Bool) → b ≡ true → c ≡ d → In c (cond b (d ∷ claims_of part (j + 1) cs) (claims_of part (j + 1) cs))
+    by true e q = inl q
+    by false e q = absurd cc
+claim_within part j (d ∷ cs) (suc i) c e m =
+    let z : j + suc i ≡ (j + 1) + i = omega arith in
+    by (part j) (claim_within part (j + 1) cs i c e (ap part (sym z) ∙ m))
+  where
+    by : (b : Bool) → In c (claims_of part (j + 1) cs) → In c (cond b (d ∷ claims_of part (j + 1) cs) (claims_of part (j + 1) cs))
+    by true n = inr n
+    by false n = n
+
+pub within_claim : (part : ℕ → Bool) (j : ℕ) (cs : List Claim) (c : Claim) → In c (claims_of part j cs) → (i : ℕ) × (slice_get cs i ≡ Some c) × (part (j + i) ≡ true)
+within_claim part j [] c n = absurd n
+within_claim part j (d ∷ cs) c n = by (part j) refl n (within_claim part (j + 1) cs c)
+  where
+    onward : (i : ℕ) × (slice_get cs i ≡ Some c) × (part ((j + 1) + i) ≡ true) → (i : ℕ) × (slice_get (d ∷ cs) i ≡ Some c) × (part (j + i) ≡ true)
+    onward r = let z : j + suc r.0 ≡ (j + 1) + r.0 = omega arith in (suc r.0, r.1, ap part z ∙ r.2)
+
+    by : (b : Bool) → part j ≡ b → In c (cond b (d ∷ claims_of part (j + 1) cs) (claims_of part (j + 1) cs)) → (In c (claims_of part (j + 1) cs) → (i : ℕ) × (slice_get cs i ≡ Some c) × (part ((j + 1) + i) ≡ true))
+        → (i : ℕ) × (slice_get (d ∷ cs) i ≡ Some c) × (part (j + i) ≡ true)
+    by true q (inl e) next = let z : j + 0 ≡ j = omega arith in (0, ap Some (sym e), ap part z ∙ q)
+    by true q (inr n) next = onward (next n)
+    by false q n next = onward (next n)
 
 true_both : (a b : Bool) → a ≡ true → b ≡ true → (a && b) ≡ true
 true_both a b e f = rw (e, f) refl
@@ -76,11 +104,10 @@ claim_rows (c ∷ cs) key template h = by (same_key (key_of c) key) refl (claim_
     by false q next = next
 
 -- a point that meets them meets the rows of a claim of the pair
-pub claim_met : (cs : List Claim) (key : Position × Position) (p : List ℤ) → Meets (claim_at cs key) p → (i : ℕ) × (c : Claim) × (slice_get cs i ≡ Some c) × (key_of c ≡ key) × Meets c.rows p
+pub claim_met : (cs : List Claim) (key : Position × Position) (p : List ℤ) → Meets (claim_at cs key) p → (c : Claim) × In c cs × (key_of c ≡ key) × Meets c.rows p
 claim_met [] key p m = absurd (never_holds p m.0)
 claim_met (c ∷ cs) key p m = by (same_key (key_of c) key) refl m (claim_met cs key p)
   where
-    by : (b : Bool) → same_key (key_of c) key ≡ b → Meets (cond b c.rows (claim_at cs key)) p → (Meets (claim_at cs key) p → (i : ℕ) × (d : Claim) × (slice_get cs i ≡ Some d) × (key_of d ≡ key) × Meets d.rows p)
-        → (i : ℕ) × (d : Claim) × (slice_get (c ∷ cs) i ≡ Some d) × (key_of d ≡ key) × Meets d.rows p
-    by true q m next = (0, c, refl, key_is (key_of c) key q, m)
-    by false q m next = let r = next m in (suc r.0, r.1, r.2, r.3, r.4)
+    by : (b : Bool) → same_key (key_of c) key ≡ b → Meets (cond b c.rows (claim_at cs key)) p → (Meets (claim_at cs key) p → (d : Claim) × In d cs × (key_of d ≡ key) × Meets d.rows p) → (d : Claim) × In d (c ∷ cs) × (key_of d ≡ key) × Meets d.rows p
+    by true q m next = (c, inl refl, key_is (key_of c) key q, m)
+    by false q m next = let r = next m in (r.0, inr r.1, r.2, r.3)

@@ -1,5 +1,5 @@
 -- The claims of a valid proof that stops at the recurrence pairs stand, so that no obligation is a mismatch.
-use Rattle.std.proofs.Common.{◌≡◌, inl, inr, ℕ, zero, suc, ◌+◌, List, [], ◌∷◌, length, Some, ap, ◌∙◌, subst}
+use Rattle.std.proofs.Common.{◌≡◌, sym, inl, inr, ℕ, zero, suc, ◌+◌, List, [], ◌∷◌, length, Some, ap, ◌∙◌, subst, arith}
 use Rattle.std.specs.Prelude.{slice_get}
 use Rattle.std.specs.List.{AllByRecursion}
 use Rattle.ac_forms.specs.Rows.{HaveModuli}
@@ -18,10 +18,10 @@ use Rattle.ac_widen.specs.Combinations.{Each}
 use Rattle.ac_widen.proofs.Standing.{stands_no_mismatch}
 use Rattle.ac_setting.specs.Programs.{setting}
 use Rattle.ac_setting.proofs.Lawful.{pairs_are_a_setting, search_decides_pairs}
-use Rattle.ac_decided.specs.Stopping.{claim_at, programs_of}
+use Rattle.ac_decided.specs.Stopping.{claim_at, claims_of, programs_of}
 use Rattle.ac_decided.specs.Statements.{StoppedProofsDecide, StoppedProofsStand, SearchesSayEqual}
 use Rattle.ac_decided.proofs.Handled.{claims_stand}
-use Rattle.ac_decided.proofs.Claimed.{IsClaimed, claim_rows, claim_met}
+use Rattle.ac_decided.proofs.Claimed.{IsClaimed, claim_rows, claim_met, within_claim}
 use Rattle.ac_decided.proofs.Trees.{claimed_handled}
 use Rattle.ac_decided.proofs.Outputs.{output_claimed}
 
@@ -31,7 +31,7 @@ moduli_at (d ∷ cs) h zero c e = let s : d ≡ c = cc in subst (λ (y : Claim).
 moduli_at (d ∷ cs) h (suc i) c e = moduli_at cs h.1 i c e
 
 pub stopped_proofs_stand : StoppedProofsStand
-stopped_proofs_stand pair order recurrent template proof d outputs named =
+stopped_proofs_stand pair order recurrent template part proof d outputs named =
     let g = programs_of pair in
     let valid : IsValidProof g pair.outputs proof = subst (λ (n : Model). IsValidProof (pairing_of pair (model_of pair.left pair.context) n) pair.outputs proof) d.models.right_is (subst (λ (n : Model). IsValidProof (pairing_of pair n d.right) pair.outputs proof) d.models.left_is d.valid) in
     let first = 4 + head_lines proof.heads in
@@ -45,18 +45,18 @@ stopped_proofs_stand pair order recurrent template proof d outputs named =
     let c = first-none outs trees b.1 in
     let moduli = moduli_at proof.claims d.moduli in
     let paired = d.recurring.edges.flows.paired in
-    claims_stand (setting pair outputs recurrent template) order (claim_at proof.claims) (IsClaimed pair proof.claims)
-    (claimed_handled pair outputs order recurrent template proof.claims d.stops.alone moduli paired first (k + length proof.outputs) proof.trees.items b.0 c.1 d.stops.trees)
+    claims_stand (setting pair outputs recurrent template) order (claim_at (claims_of part 0 proof.claims)) (IsClaimed pair part proof.claims)
+    (claimed_handled pair outputs order recurrent template part proof.claims d.stops.alone moduli paired first (k + length proof.outputs) proof.trees.items b.0 c.1 d.stops.trees)
     (pairs_are_a_setting pair outputs recurrent template d.recurring)
-    (λ key rec. claim_rows proof.claims key (template key) (λ x n e. subst (λ (z : Position × Position). Each (IsClaimRow (template z)) x.rows) e (d.stops.rows x n (ap recurrent e ∙ rec))))
+    (λ key rec. claim_rows (claims_of part 0 proof.claims) key (template key) (λ x n e. subst (λ (z : Position × Position). Each (IsClaimRow (template z)) x.rows) e (d.stops.rows x n (ap recurrent e ∙ rec))))
     (λ key p s. elim s [
-      | inl o ↦ output_claimed pair proof.claims paired moduli proof.outputs k c.0 outputs named key p o
-      | inr m ↦ (let r = claim_met proof.claims key p m.2 in record { number = r.0; claim = r.1; is = r.2; key_is = r.3; there = m.1; meets = r.4 })
+      | inl o ↦ output_claimed pair part proof.claims paired moduli proof.outputs k c.0 outputs named key p o
+      | inr m ↦ (let r = claim_met (claims_of part 0 proof.claims) key p m.2 in let w = within_claim part 0 proof.claims r.0 r.1 in let z : 0 + w.0 ≡ w.0 = omega arith in record { number = w.0; claim = r.0; is = w.1; within = ap part (sym z) ∙ w.2; key_is = r.2; there = m.1; meets = r.3 })
     ])
 
 pub stopped_proofs_decide : StoppedProofsDecide
-stopped_proofs_decide pair order recurrent template proof d outputs named =
-    stands_no_mismatch (setting pair outputs recurrent template) (pairs_are_a_setting pair outputs recurrent template d.recurring) order (claim_at proof.claims) (stopped_proofs_stand pair order recurrent template proof d outputs named)
+stopped_proofs_decide pair order recurrent template part proof d outputs named =
+    stands_no_mismatch (setting pair outputs recurrent template) (pairs_are_a_setting pair outputs recurrent template d.recurring) order (claim_at (claims_of part 0 proof.claims)) (stopped_proofs_stand pair order recurrent template part proof d outputs named)
 
 pub searches_say_equal : SearchesSayEqual
-searches_say_equal pair order recurrent template proof d outputs named s = (search_decides_pairs pair outputs recurrent template d.recurring s).1 (order, stopped_proofs_decide pair order recurrent template proof d outputs named)
+searches_say_equal pair order recurrent template part proof d outputs named s = (search_decides_pairs pair outputs recurrent template d.recurring s).1 (order, stopped_proofs_decide pair order recurrent template part proof d outputs named)

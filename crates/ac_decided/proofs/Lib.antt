@@ -6,3 +6,4 @@ pub mod Plans
 pub mod Trees
 pub mod Outputs
 pub mod Deciding
+pub mod Sanity

@@ -1,5 +1,5 @@
 -- The claim of an output that stands is of each of its pairs.
-use Rattle.std.proofs.Common.{◌≡◌, inl, inr, ℕ, ◌+◌, ◌&&◌, ℤ, List, [], ◌∷◌, ◌++◌, true, Option, Some, None, refl, sym, ap, ◌∙◌, subst, arith, length}
+use Rattle.std.proofs.Common.{◌≡◌, Bool, inl, inr, ℕ, ◌+◌, ◌&&◌, ℤ, List, [], ◌∷◌, ◌++◌, true, Option, Some, None, refl, sym, ap, ◌∙◌, subst, arith, length}
 use Rattle.std.specs.Prelude.{slice_get, nat_eq, option_map}
 use Rattle.std.specs.List.{list_any}
 use Rattle.ac_forms.specs.Renaming.{picked}
@@ -106,9 +106,9 @@ element_meets g c s e hm dl dr ml mr =
     all-hold s.given c.rows p s.stand (moduli_of cols s.given made) hm meets
 
 -- an output that stands is claimed at each element
-stands_claimed : (pair : Pair) (cs : List Claim) (t : ArePaired pair) (moduli : (i : ℕ) (c : Claim) → slice_get cs i ≡ Some c → HaveModuli c.rows) (outputs : List ℕ) (key : Position × Position) (p : List ℤ) (h : IsOutputPair pair outputs key p)
-    (i : ℕ) (c : Claim) → slice_get cs i ≡ Some c → c.left ≡ Output h.output → c.right ≡ Output h.output → Stood (programs_of pair) c → IsClaimed pair cs key p
-stands_claimed pair cs t moduli outputs key p h i c ic lo ro s =
+stands_claimed : (pair : Pair) (part : ℕ → Bool) (cs : List Claim) (t : ArePaired pair) (moduli : (i : ℕ) (c : Claim) → slice_get cs i ≡ Some c → HaveModuli c.rows) (outputs : List ℕ) (key : Position × Position) (p : List ℤ) (h : IsOutputPair pair outputs key p)
+    (i : ℕ) (c : Claim) → slice_get cs i ≡ Some c → part i ≡ true → c.left ≡ Output h.output → c.right ≡ Output h.output → Stood (programs_of pair) c → IsClaimed pair part cs key p
+stands_claimed pair part cs t moduli outputs key p h i c ic within lo ro s =
     let params = h.there.params in
     let g = judged pair cs t moduli params h.there.compared in
     let e = h.there.a.at in
@@ -124,7 +124,7 @@ stands_claimed pair cs t moduli outputs key p h i c ic lo ro s =
     let at : params ++ (e ++ e) ≡ p = ap (λ (z : List ℤ). params ++ (e ++ z)) h.one_element ∙ sym h.there.placed.point_is in
     let kl : c.left ≡ key.0 = sym lk ∙ h.there.placed.left_is in
     let kr : c.right ≡ key.1 = sym rk ∙ h.there.placed.right_is in
-    record { number = i; claim = c; is = ic; key_is = λ n. (kl n, kr n); there = h.there; meets = subst (Meets c.rows) at meets }
+    record { number = i; claim = c; is = ic; within = within; key_is = λ n. (kl n, kr n); there = h.there; meets = subst (Meets c.rows) at meets }
 
 -- an output that the proof names stands
 named_stands : (g : Pairing) (all : List ℕ) (cs : List Claim) (os : List (ℕ × ℕ)) (k : ℕ) → outputs_fault g all cs os k ≡ None → (o i : ℕ) → In (o, i) os → output_stands g all o (slice_get cs i) ≡ true
@@ -137,17 +137,17 @@ named_stands g all cs (x ∷ os) k e o i (inr n) =
     named_stands g all cs os (k + 1) f.1 o i n
 
 -- each output pair of an output that the proof names is claimed
-pub output_claimed : (pair : Pair) (cs : List Claim) (t : ArePaired pair) (moduli : (i : ℕ) (c : Claim) → slice_get cs i ≡ Some c → HaveModuli c.rows) (os : List (ℕ × ℕ)) (k : ℕ) → outputs_fault (programs_of pair) pair.outputs cs os k ≡ None
-    → (outputs : List ℕ) → ((o : ℕ) → In o outputs → (i : ℕ) × In (o, i) os) → (key : Position × Position) (p : List ℤ) → IsOutputPair pair outputs key p → IsClaimed pair cs key p
-output_claimed pair cs t moduli os k e outputs named key p h =
+pub output_claimed : (pair : Pair) (part : ℕ → Bool) (cs : List Claim) (t : ArePaired pair) (moduli : (i : ℕ) (c : Claim) → slice_get cs i ≡ Some c → HaveModuli c.rows) (os : List (ℕ × ℕ)) (k : ℕ) → outputs_fault (programs_of pair) pair.outputs cs os k ≡ None
+    → (outputs : List ℕ) → ((o : ℕ) → In o outputs → (i : ℕ) × In (o, i) os × (part i ≡ true)) → (key : Position × Position) (p : List ℤ) → IsOutputPair pair outputs key p → IsClaimed pair part cs key p
+output_claimed pair part cs t moduli os k e outputs named key p h =
     let n = named h.output h.among in
-    by n.0 (slice_get cs n.0) refl (named_stands (programs_of pair) pair.outputs cs os k e h.output n.0 n.1)
+    by n.0 (slice_get cs n.0) n.2 refl (named_stands (programs_of pair) pair.outputs cs os k e h.output n.0 n.1)
   where
-    by : (i : ℕ) (c : Option Claim) → slice_get cs i ≡ c → output_stands (programs_of pair) pair.outputs h.output c ≡ true → IsClaimed pair cs key p
-    by i None q e = absurd cc
-    by i (Some c) q e =
+    by : (i : ℕ) (c : Option Claim) → part i ≡ true → slice_get cs i ≡ c → output_stands (programs_of pair) pair.outputs h.output c ≡ true → IsClaimed pair part cs key p
+    by i None w q e = absurd cc
+    by i (Some c) w q e =
         let g = programs_of pair in
         let a = both_of (list_any (nat_eq h.output) pair.outputs) (same_position c.left (Output h.output) && (same_position c.right (Output h.output) && asks_no_more g c (domain g.left c.left) (domain g.right c.right))) e in
         let b = both_of (same_position c.left (Output h.output)) (same_position c.right (Output h.output) && asks_no_more g c (domain g.left c.left) (domain g.right c.right)) a.1 in
         let d = both_of (same_position c.right (Output h.output)) (asks_no_more g c (domain g.left c.left) (domain g.right c.right)) b.1 in
-        stands_claimed pair cs t moduli outputs key p h i c q (position_is c.left (Output h.output) b.0) (position_is c.right (Output h.output) d.0) (stood g c d.1)
+        stands_claimed pair part cs t moduli outputs key p h i c q w (position_is c.left (Output h.output) b.0) (position_is c.right (Output h.output) d.0) (stood g c d.1)

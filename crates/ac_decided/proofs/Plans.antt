@@ -61,11 +61,11 @@ use Rattle.ac_claims.specs.declared.types.PlanNext.TheVariants.{Absurd, Killed, 
 use Rattle.ac_claims.proofs.Plans.{position_is, unless_none, none_if}
 use Rattle.ac_graph.specs.Steps.{IsCompared, comparison}
 use Rattle.ac_setting.specs.Programs.{order_at, setting}
-use Rattle.ac_decided.specs.Stopping.{key_at, key_of, claim_at, MayGoOn, Behind, Stops, ClassesStop, CasesStop, PlanStops}
+use Rattle.ac_decided.specs.Stopping.{key_at, key_of, claim_at, claims_of, MayGoOn, Behind, Stops, ClassesStop, CasesStop, PlanStops}
 use Rattle.ac_decided.proofs.Handled.{Handled, goes, stops, shares}
 use Rattle.ac_decided.proofs.Found.{point_at, step_at, mismatch_at, pair_at, number_rests, start_rests, no_step}
 use Rattle.ac_decided.proofs.Branches.{branches_gone, branches_in, go_apart}
-use Rattle.ac_decided.proofs.Claimed.{IsClaimed, get_in, claim_is}
+use Rattle.ac_decided.proofs.Claimed.{IsClaimed, claim_within, claim_is}
 
 -- ---- the parts of a plan's fault
 
@@ -133,14 +133,14 @@ same_point g params h p q i l e =
 
 -- ---- plans
 
-module _ (pair : Pair) (outputs : List ℕ) (order : Position × Position → Order) (recurrent : Position × Position → Bool) (template : Position × Position → List Row) (cs : List Claim)
-    (alone : (c d : Claim) → In c cs → In d cs → recurrent (key_of c) ≡ true → key_of c ≡ key_of d → c ≡ d) (moduli : (i : ℕ) (c : Claim) → slice_get cs i ≡ Some c → HaveModuli c.rows)
+module _ (pair : Pair) (outputs : List ℕ) (order : Position × Position → Order) (recurrent : Position × Position → Bool) (template : Position × Position → List Row) (part : ℕ → Bool) (cs : List Claim)
+    (alone : (c d : Claim) → In c (claims_of part 0 cs) → In d (claims_of part 0 cs) → recurrent (key_of c) ≡ true → key_of c ≡ key_of d → c ≡ d) (moduli : (i : ℕ) (c : Claim) → slice_get cs i ≡ Some c → HaveModuli c.rows)
     (params : List ℤ) (compared : IsCompared pair params) where
   abbrev On : Compared
   On = comparison pair params compared
 
   abbrev Held : Bool → Position × Position → List ℤ → Type 0
-  Held = Handled (setting pair outputs recurrent template) order (claim_at cs) (IsClaimed pair cs)
+  Held = Handled (setting pair outputs recurrent template) order (claim_at (claims_of part 0 cs)) (IsClaimed pair part cs)
 
   abbrev Good : Path → Type 0
   Good h = (p : List ℤ) (s t : Spot) → OnPath On h p s t → Held h.gone (key_at h) (point_at params h p)
@@ -190,8 +190,8 @@ module _ (pair : Pair) (outputs : List ℕ) (order : Position × Position → Or
       by (negsuc r) l k at q = absurd (omega (arith, ints, l))
 
   -- a hit: at a recurrence pair the pair meets its claim, elsewhere it takes the claim
-  hit_good : (h : Path) (c : ℕ) → InPath On h → is_hit On.pairing h (slice_get cs c) ≡ true → Good h
-  hit_good h c i e = by (slice_get cs c) refl e
+  hit_good : (h : Path) (c : ℕ) → InPath On h → part c ≡ true → is_hit On.pairing h (slice_get cs c) ≡ true → Good h
+  hit_good h c i within e = by (slice_get cs c) refl e
     where
       by : (o : Option Claim) → slice_get cs c ≡ o → is_hit On.pairing h o ≡ true → Good h
       by None q e = absurd cc
@@ -201,8 +201,8 @@ module _ (pair : Pair) (outputs : List ℕ) (order : Position × Position → Or
           let l = both_of (same_position h.left.position d.left) (same_position h.right.position d.right && made_and_stand h.conj.rows (rows_renaming ks d.rows)) b.1 in
           let r = both_of (same_position h.right.position d.right) (made_and_stand h.conj.rows (rows_renaming ks d.rows)) l.1 in
           let st = stand_hold h (rows_renaming ks d.rows) i.made r.1 in
-          let within = rows-within ks d.rows st.0 h.conj.columns (both_columns On h i) (moduli c d q) st.1 in
-          let m = st.2 (moduli_of h.conj.columns st.0 within) p a.point in
+          let made = rows-within ks d.rows st.0 h.conj.columns (both_columns On h i) (moduli c d q) st.1 in
+          let m = st.2 (moduli_of h.conj.columns st.0 made) p a.point in
           let x = picked (columns_of h.left) p in
           let y = picked (columns_of h.right) p in
           let on : Meets d.rows (point_at params h p) = subst (Meets d.rows) (picks_two On.pairing.params params h.left h.right p x y a.starts refl refl) ((rows-value ks d.rows st.0 p st.1).0 m) in
@@ -210,11 +210,12 @@ module _ (pair : Pair) (outputs : List ℕ) (order : Position × Position → Or
           let pr = position_is h.right.position d.right r.0 in
           let key : key_of d ≡ key_at h = λ j. (sym pl j, sym pr j) in
           let at = pair_at pair params compared h p s t a in
+          let mine : In d (claims_of part 0 cs) = claim_within part 0 cs c d q (let z : 0 + c ≡ c = omega arith in ap part z ∙ within) in
           subst (λ z. Held z (key_at h) (point_at params h p)) (sym b.0)
           (elim (two_cases (recurrent (key_at h))) [
             | inl rec ↦ stops (key_at h) (point_at params h p) rec (subst (λ (rows : List Row). Meets rows (point_at params h p))
-                (sym (claim_is cs d (key_at h) (get_in cs c d q) key (λ z n k. sym (alone d z (get_in cs c d q) n (ap recurrent key ∙ rec) (key ∙ sym k))))) on)
-            | inr not ↦ shares (key_at h) (point_at params h p) not (record { number = c; claim = d; is = q; key_is = key; there = at; meets = on })
+                (sym (claim_is (claims_of part 0 cs) d (key_at h) mine key (λ z n k. sym (alone d z mine n (ap recurrent key ∙ rec) (key ∙ sym k))))) on)
+            | inr not ↦ shares (key_at h) (point_at params h p) not (record { number = c; claim = d; is = q; within = within; key_is = key; there = at; meets = on })
           ])
 
   -- numbers of equal value are a match, and nothing steps from them
@@ -296,10 +297,10 @@ module _ (pair : Pair) (outputs : List ℕ) (order : Position × Position → Or
 
   -- a plan behind its steps
   abbrev IsGood : PlanNext → Type 0
-  IsGood x = (h : Path) (k : ℕ) → InPath On h → Stops pair order recurrent x h → next_fault On.pairing cs x h k ≡ None → Good h
+  IsGood x = (h : Path) (k : ℕ) → InPath On h → Stops pair order recurrent part x h → next_fault On.pairing cs x h k ≡ None → Good h
 
-  behind : (ss : List Step) (x : PlanNext) → IsGood x → (h : Path) (k : ℕ) → InPath On h → Behind ss h.conj (λ d. Stops pair order recurrent x (at_rows h d)) → steps_fault ss (λ c. next_fault On.pairing cs x (at_rows h c)) h.conj k ≡ None → Good h
-  behind ss x good h k i st e = steps_good ss (λ c. next_fault On.pairing cs x (at_rows h c)) (λ d. Stops pair order recurrent x (at_rows h d)) h h.conj k i st e (λ d j z f i'. good (at_rows h d) j i' z f)
+  behind : (ss : List Step) (x : PlanNext) → IsGood x → (h : Path) (k : ℕ) → InPath On h → Behind ss h.conj (λ d. Stops pair order recurrent part x (at_rows h d)) → steps_fault ss (λ c. next_fault On.pairing cs x (at_rows h c)) h.conj k ≡ None → Good h
+  behind ss x good h k i st e = steps_good ss (λ c. next_fault On.pairing cs x (at_rows h c)) (λ d. Stops pair order recurrent part x (at_rows h d)) h h.conj k i st e (λ d j z f i'. good (at_rows h d) j i' z f)
 
   mutual
     next_good : (x : PlanNext) → IsGood x
@@ -315,11 +316,11 @@ module _ (pair : Pair) (outputs : List ℕ) (order : Position × Position → Or
         go_good taken h b.0 i b.1 st.1 st.0 (λ c n. cases_good all b.0 (k + 1) (branches_in On taken h b.0 i b.1) (st.2 b.0 b.1) b.2 b.3 c n)
     next_good (Absurd j) h k i st e = λ p s t a. absurd (absurd_sound j h.conj p (no-refusal (absurd_refusal j h.conj) k e) a.point)
     next_good (Killed kill) h k i st e = λ p s t a. absurd (kill_empty On h h.last kill k i refl e p s t a)
-    next_good (Hit c) h k i st e = hit_good h c i (unless_none (is_hit On.pairing h (slice_get cs c)) k rule.Hit e)
+    next_good (Hit c) h k i st e = hit_good h c i st (unless_none (is_hit On.pairing h (slice_get cs c)) k rule.Hit e)
     next_good SameNumber h k i st e = number_good h i st (unless_none (is_number On.pairing h) k rule.Number e)
     next_good SameInitial h k i st e = initial_good h i st (unless_none (is_initial On.pairing h) k rule.Initial e)
 
-    row_good : {w : _} (all : Row_of-Plan w) (m : ℤ) (f : Affine) (first : ℕ) (h : Path) (k : ℕ) → InPath On h → ClassesStop pair order recurrent all m f first h → pos 1 ≤ℤ m → nat_le (length f.coefs) h.conj.columns ≡ true
+    row_good : {w : _} (all : Row_of-Plan w) (m : ℤ) (f : Affine) (first : ℕ) (h : Path) (k : ℕ) → InPath On h → ClassesStop pair order recurrent part all m f first h → pos 1 ≤ℤ m → nat_le (length f.coefs) h.conj.columns ≡ true
         → classes_fault On.pairing cs all m f first h k ≡ None → (r : ℕ) → r < count_of all → Good (at_rows h (class m f (pos (first + r)) h.conj))
     row_good end_of-Plan m f first h k i st l w e r lt = absurd (omega (arith, lt))
     row_good (more_of-Plan s t rest) m f first h k i st l w e zero lt =
@@ -331,7 +332,7 @@ module _ (pair : Pair) (outputs : List ℕ) (order : Position × Position → Or
         let z : first + 1 + r ≡ first + suc r = omega arith in
         subst (λ j. Good (at_rows h (class m f (pos j) h.conj))) z (row_good rest m f (first + 1) h (k + (length s + line_count t)) i st.1 l w n.1 r (omega (arith, lt)))
 
-    cases_good : {w : _} (all : Row_of-Plan w) (hs : List Path) (k : ℕ) → ((c : Path) → In c hs → InPath On c) → CasesStop pair order recurrent all hs → count_of all ≡ length hs → cases_fault On.pairing cs all hs k ≡ None
+    cases_good : {w : _} (all : Row_of-Plan w) (hs : List Path) (k : ℕ) → ((c : Path) → In c hs → InPath On c) → CasesStop pair order recurrent part all hs → count_of all ≡ length hs → cases_fault On.pairing cs all hs k ≡ None
         → (c : Path) → In c hs → Good c
     cases_good end_of-Plan [] k i st n e c m = absurd m
     cases_good end_of-Plan (h ∷ hs) k i st n e c m = absurd (omega (arith, n))
@@ -343,5 +344,5 @@ module _ (pair : Pair) (outputs : List ℕ) (order : Position × Position → Or
         let f = first-none (steps_fault s (λ c. next_fault On.pairing cs t (at_rows h c)) h.conj k) (cases_fault On.pairing cs rest hs (k + (length s + line_count t))) e in
         cases_good rest hs (k + (length s + line_count t)) (λ d o. i d (inr o)) st.1 (omega (arith, n)) f.1 c m
 
-  pub plan_handles : (t : Plan) (h : Path) (k : ℕ) → InPath On h → PlanStops pair order recurrent t h → plan_fault On.pairing cs t h k ≡ None → Good h
+  pub plan_handles : (t : Plan) (h : Path) (k : ℕ) → InPath On h → PlanStops pair order recurrent part t h → plan_fault On.pairing cs t h k ≡ None → Good h
   plan_handles t h k i st e = behind t.steps t.next (next_good t.next) h k i st e

@@ -33,7 +33,7 @@ use Rattle.ac_claims.proofs.Plans.{none_if, unless_none}
 use Rattle.ac_claims.proofs.Trees.{domain_point, domain_moduli, start_point, pieces_meet, pieces_made}
 use Rattle.ac_graph.specs.Steps.{IsCompared, comparison}
 use Rattle.ac_setting.specs.Programs.{setting}
-use Rattle.ac_decided.specs.Stopping.{key_of, claim_at, programs_of, PlanStops, TreesStop}
+use Rattle.ac_decided.specs.Stopping.{key_of, claim_at, claims_of, programs_of, PlanStops, TreesStop}
 use Rattle.ac_decided.proofs.Handled.{Handled}
 use Rattle.ac_decided.proofs.Claimed.{IsClaimed}
 use Rattle.ac_decided.proofs.Found.{point_at}
@@ -52,32 +52,32 @@ judged pair cs t moduli params c = record {
 -- ---- the plan for what is due
 
 -- a plan without fault that stops, for what is due
-record Shown (pair : Pair) (order : Position × Position → Order) (recurrent : Position × Position → Bool) (cs : List Claim) (d : DuePlan) : Type 0 where
+record Shown (pair : Pair) (order : Position × Position → Order) (recurrent : Position × Position → Bool) (part : ℕ → Bool) (cs : List Claim) (d : DuePlan) : Type 0 where
   pub plan : Plan
   pub path : Path
   pub line : ℕ
   pub is : d.path ≡ Some path
   pub fine : plan_fault (programs_of pair) cs plan path line ≡ None
-  pub stops : PlanStops pair order recurrent plan path
+  pub stops : PlanStops pair order recurrent part plan path
 
-tree_shown : (pair : Pair) (order : Position × Position → Order) (recurrent : Position × Position → Bool) (cs : List Claim) (t : ClaimTree) (d : DuePlan) (k : ℕ) (o : Option Path) → d.path ≡ o → tree_fault_at (programs_of pair) cs t o k ≡ None
-    → ((h : Path) → d.path ≡ Some h → PlanStops pair order recurrent t.tree h) → Shown pair order recurrent cs d
-tree_shown pair order recurrent cs t d k None q e st = absurd cc
-tree_shown pair order recurrent cs t d k (Some h) q e st = record { plan = t.tree; path = h; line = k + 1; is = q; fine = e; stops = st h q }
+tree_shown : (pair : Pair) (order : Position × Position → Order) (recurrent : Position × Position → Bool) (part : ℕ → Bool) (cs : List Claim) (t : ClaimTree) (d : DuePlan) (k : ℕ) (o : Option Path) → d.path ≡ o → tree_fault_at (programs_of pair) cs t o k ≡ None
+    → part d.claim ≡ true → (part d.claim ≡ true → (h : Path) → d.path ≡ Some h → PlanStops pair order recurrent part t.tree h) → Shown pair order recurrent part cs d
+tree_shown pair order recurrent part cs t d k None q e m st = absurd cc
+tree_shown pair order recurrent part cs t d k (Some h) q e m st = record { plan = t.tree; path = h; line = k + 1; is = q; fine = e; stops = st m h q }
 
-all_shown : (pair : Pair) (order : Position × Position → Order) (recurrent : Position × Position → Bool) (cs : List Claim) (ts : List ClaimTree) (ds : List DuePlan) (k : ℕ) → trees_fault (programs_of pair) cs ts ds k ≡ None → TreesStop pair order recurrent ts ds
-    → (d : DuePlan) → In d ds → Shown pair order recurrent cs d
-all_shown pair order recurrent cs [] [] k e st d m = absurd m
-all_shown pair order recurrent cs [] (d ∷ ds) k e st c m = absurd cc
-all_shown pair order recurrent cs (t ∷ ts) [] k e st d m = absurd cc
-all_shown pair order recurrent cs (t ∷ ts) (d ∷ ds) k e st c (inl i) =
+all_shown : (pair : Pair) (order : Position × Position → Order) (recurrent : Position × Position → Bool) (part : ℕ → Bool) (cs : List Claim) (ts : List ClaimTree) (ds : List DuePlan) (k : ℕ) → trees_fault (programs_of pair) cs ts ds k ≡ None → TreesStop pair order recurrent part ts ds
+    → (d : DuePlan) → In d ds → part d.claim ≡ true → Shown pair order recurrent part cs d
+all_shown pair order recurrent part cs [] [] k e st d m w = absurd m
+all_shown pair order recurrent part cs [] (d ∷ ds) k e st c m w = absurd cc
+all_shown pair order recurrent part cs (t ∷ ts) [] k e st d m w = absurd cc
+all_shown pair order recurrent part cs (t ∷ ts) (d ∷ ds) k e st c (inl i) w =
     let b = none_if (is_due t d) (first_fault_of (tree_fault_at (programs_of pair) cs t d.path k) (trees_fault (programs_of pair) cs ts ds (k + (1 + plan_lines t.tree)))) (k, rule.Tree) e in
     let f = first-none (tree_fault_at (programs_of pair) cs t d.path k) (trees_fault (programs_of pair) cs ts ds (k + (1 + plan_lines t.tree))) b.1 in
-    subst (λ (y : DuePlan). Shown pair order recurrent cs y) (sym i) (tree_shown pair order recurrent cs t d k d.path refl f.0 st.0)
-all_shown pair order recurrent cs (t ∷ ts) (d ∷ ds) k e st c (inr m) =
+    subst (λ (y : DuePlan). Shown pair order recurrent part cs y) (sym i) (tree_shown pair order recurrent part cs t d k d.path refl f.0 (subst (λ (y : DuePlan). part y.claim ≡ true) i w) st.0)
+all_shown pair order recurrent part cs (t ∷ ts) (d ∷ ds) k e st c (inr m) w =
     let b = none_if (is_due t d) (first_fault_of (tree_fault_at (programs_of pair) cs t d.path k) (trees_fault (programs_of pair) cs ts ds (k + (1 + plan_lines t.tree)))) (k, rule.Tree) e in
     let f = first-none (tree_fault_at (programs_of pair) cs t d.path k) (trees_fault (programs_of pair) cs ts ds (k + (1 + plan_lines t.tree))) b.1 in
-    all_shown pair order recurrent cs ts ds (k + (1 + plan_lines t.tree)) f.1 st.1 c m
+    all_shown pair order recurrent part cs ts ds (k + (1 + plan_lines t.tree)) f.1 st.1 c m w
 
 in_numbered : {A : Type 0} (x : A) (k : ℕ) (xs : List A) → In x xs → (j : ℕ) × In {A = ℕ × A} (j, x) (numbered k xs)
 in_numbered x k [] h = absurd h
@@ -85,14 +85,14 @@ in_numbered x k (y ∷ xs) (inl e) = (k, inl (λ i. (k, e i)))
 in_numbered x k (y ∷ xs) (inr h) = let r = in_numbered x (k + 1) xs h in (r.0, inr r.1)
 
 -- what is due for two pieces of a claim
-due_here : (g : Pairing) (i : ℕ) (c : Claim) (a b : Domain) (l r : List Row) → In l a.pieces → In r b.pieces → (d : DuePlan) × In d (due_at g i c (Some a) (Some b)) × (d.path ≡ start g c a b l r)
+due_here : (g : Pairing) (i : ℕ) (c : Claim) (a b : Domain) (l r : List Row) → In l a.pieces → In r b.pieces → (d : DuePlan) × In d (due_at g i c (Some a) (Some b)) × (d.path ≡ start g c a b l r) × (d.claim ≡ i)
 due_here g i c a b l r m n =
     let x = in_numbered l 0 a.pieces m in
     let y = in_numbered r 0 b.pieces n in
     let d : DuePlan = record { claim = i; left_piece = x.0; right_piece = y.0; path = start g c a b l r } in
     let inner : In d (map (λ (s : ℕ × List Row). record { claim = i; left_piece = x.0; right_piece = s.0; path = start g c a b l s.1 }) (numbered 0 b.pieces)) =
     in_map (λ (s : ℕ × List Row). record { claim = i; left_piece = x.0; right_piece = s.0; path = start g c a b l s.1 }) (y.0, r) (numbered 0 b.pieces) y.1 in
-    (d, in_flat_map (λ (l : ℕ × List Row). map (λ (r : ℕ × List Row). record { claim = i; left_piece = l.0; right_piece = r.0; path = start g c a b l.1 r.1 }) (numbered 0 b.pieces)) (x.0, l) (numbered 0 a.pieces) d x.1 inner, refl)
+    (d, in_flat_map (λ (l : ℕ × List Row). map (λ (r : ℕ × List Row). record { claim = i; left_piece = l.0; right_piece = r.0; path = start g c a b l.1 r.1 }) (numbered 0 b.pieces)) (x.0, l) (numbered 0 a.pieces) d x.1 inner, refl, refl)
 
 due_among : (g : Pairing) (first j i : ℕ) (cs : List Claim) (c : Claim) (a b : Domain) (d : DuePlan) → slice_get cs j ≡ Some c → first + j ≡ i → domain g.left c.left ≡ Some a → domain g.right c.right ≡ Some b
     → In d (due_at g i c (Some a) (Some b)) → In d (due_from g first cs)
@@ -141,11 +141,11 @@ rows_over n (r ∷ rows) k e h =
 moved : {A B : Type 0} (P : A → B → Type 0) (k k' : A) (p p' : B) → k ≡ k' → p ≡ p' → P k p → P k' p'
 moved P k k' p p' e f h = subst (λ z. P z p') e (subst (λ z. P k z) f h)
 
-module _ (pair : Pair) (outputs : List ℕ) (order : Position × Position → Order) (recurrent : Position × Position → Bool) (template : Position × Position → List Row) (cs : List Claim)
-    (alone : (c d : Claim) → In c cs → In d cs → recurrent (key_of c) ≡ true → key_of c ≡ key_of d → c ≡ d) (moduli : (i : ℕ) (c : Claim) → slice_get cs i ≡ Some c → HaveModuli c.rows) (t : ArePaired pair)
-    (k j : ℕ) (ts : List ClaimTree) (ec : claims_fault (programs_of pair) cs k ≡ None) (et : trees_fault (programs_of pair) cs ts (due_from (programs_of pair) 0 cs) j ≡ None) (st : TreesStop pair order recurrent ts (due_from (programs_of pair) 0 cs)) where
+module _ (pair : Pair) (outputs : List ℕ) (order : Position × Position → Order) (recurrent : Position × Position → Bool) (template : Position × Position → List Row) (part : ℕ → Bool) (cs : List Claim)
+    (alone : (c d : Claim) → In c (claims_of part 0 cs) → In d (claims_of part 0 cs) → recurrent (key_of c) ≡ true → key_of c ≡ key_of d → c ≡ d) (moduli : (i : ℕ) (c : Claim) → slice_get cs i ≡ Some c → HaveModuli c.rows) (t : ArePaired pair)
+    (k j : ℕ) (ts : List ClaimTree) (ec : claims_fault (programs_of pair) cs k ≡ None) (et : trees_fault (programs_of pair) cs ts (due_from (programs_of pair) 0 cs) j ≡ None) (st : TreesStop pair order recurrent part ts (due_from (programs_of pair) 0 cs)) where
   -- each pair of a claim is handled
-  pub claimed_handled : (key : Position × Position) (p : List ℤ) → IsClaimed pair cs key p → Handled (setting pair outputs recurrent template) order (claim_at cs) (IsClaimed pair cs) false key p
+  pub claimed_handled : (key : Position × Position) (p : List ℤ) → IsClaimed pair part cs key p → Handled (setting pair outputs recurrent template) order (claim_at (claims_of part 0 cs)) (IsClaimed pair part cs) false key p
   claimed_handled key p claimed =
       let params = claimed.there.params in
       let g = judged pair cs t moduli params claimed.there.compared in
@@ -168,7 +168,7 @@ module _ (pair : Pair) (outputs : List ℕ) (order : Position × Position → Or
       let py = domain_point g.on.pairing.right params g.on.right g.on.describes_right c.right y u b f.right_is hy in
       let dh = due_here g.on.pairing i c a b px.piece py.piece px.among py.among in
       let da = due_among g.on.pairing 0 i i cs c a b dh.0 claimed.is (omega arith) f.left_is f.right_is dh.1 in
-      let sh = all_shown pair order recurrent cs ts (due_from (programs_of pair) 0 cs) j et st dh.0 da in
+      let sh = all_shown pair order recurrent part cs ts (due_from (programs_of pair) 0 cs) j et st dh.0 da (ap part dh.3 ∙ claimed.within) in
       let due : start g.on.pairing c a b px.piece py.piece ≡ Some sh.path = ◌∙◌ {c = Some sh.path} (sym dh.2) sh.is in
       let begin = map-some (piece_rows g.on.pairing c a b px.piece py.piece) (λ rows. record {
         conj = record { columns = start_columns g.on.pairing a b; rows = c.rows ++ (g.on.pairing.left.context ++ rows) };
@@ -203,8 +203,8 @@ module _ (pair : Pair) (outputs : List ℕ) (order : Position × Position → Or
         right = subst (λ (z : List ℤ). At g.on.right c.right z u) (sym sp.right) hy;
         last = tt;
       } in
-      let held : Handled (setting pair outputs recurrent template) order (claim_at cs) (IsClaimed pair cs) false (key_of c) (point_at params start_path p') =
-      plan_handles pair outputs order recurrent template cs alone moduli params claimed.there.compared sh.plan start_path sh.line in_path (subst (λ (y : Path). PlanStops pair order recurrent sh.plan y) {x = sh.path} {y = start_path} begin.2 sh.stops)
+      let held : Handled (setting pair outputs recurrent template) order (claim_at (claims_of part 0 cs)) (IsClaimed pair part cs) false (key_of c) (point_at params start_path p') =
+      plan_handles pair outputs order recurrent template part cs alone moduli params claimed.there.compared sh.plan start_path sh.line in_path (subst (λ (y : Path). PlanStops pair order recurrent part sh.plan y) {x = sh.path} {y = start_path} begin.2 sh.stops)
       (subst (λ (y : Path). plan_fault (programs_of pair) cs sh.plan y sh.line ≡ None) {x = sh.path} {y = start_path} begin.2 sh.fine) p' s u on_path in
       let at : point_at params start_path p' ≡ p = (λ n. params ++ (sp.left n ++ sp.right n)) ∙ sym claimed.there.placed.point_is in
-      moved (Handled (setting pair outputs recurrent template) order (claim_at cs) (IsClaimed pair cs) false) (key_of c) key (point_at params start_path p') p claimed.key_is at held
+      moved (Handled (setting pair outputs recurrent template) order (claim_at (claims_of part 0 cs)) (IsClaimed pair part cs) false) (key_of c) key (point_at params start_path p') p claimed.key_is at held

@@ -1,4 +1,4 @@
--- What a valid proof that stops at the recurrence pairs decides.
+-- What a valid proof decides of a part that stops at the recurrence pairs.
 use Rattle.std.specs.Prelude.{ℕ, ◌≡◌, List, Bool, true}
 use Rattle.ac_forms.specs.declared.row.Row.{Row}
 use Rattle.ac_syntax.specs.declared.tree.Order.{Order}
@@ -14,36 +14,36 @@ use Rattle.ac_widen.specs.Obligations.{HasMismatch}
 use Rattle.ac_widen.specs.Refutations.{Decided, is_equal}
 use Rattle.ac_setting.specs.Programs.{setting}
 use Rattle.ac_setting.specs.Statements.{AreRecurring}
-use Rattle.ac_decided.specs.Stopping.{IsStopping, claim_at}
+use Rattle.ac_decided.specs.Stopping.{IsStopping, claim_at, claims_of}
 
--- a valid proof that stops at recurrence pairs of its two programs, under an order of the arguments
-pub record IsStoppedProof (pair : Pair) (order : Position × Position → Order) (recurrent : Position × Position → Bool) (template : Position × Position → List Row) (proof : Proof) : Type 0 where
+-- a valid proof, with a part that stops at recurrence pairs of the two programs, under an order of the arguments
+pub record IsStoppedProof (pair : Pair) (order : Position × Position → Order) (recurrent : Position × Position → Bool) (template : Position × Position → List Row) (part : ℕ → Bool) (proof : Proof) : Type 0 where
   pub left : Model
   pub right : Model
   pub models : AreModels pair left right
   pub moduli : ClaimsHaveModuli proof
   pub recurring : AreRecurring pair recurrent
   pub valid : IsValidProof (pairing_of pair left right) pair.outputs proof
-  pub stops : IsStopping pair order recurrent template proof
+  pub stops : IsStopping pair order recurrent template part proof
 
--- each of the outputs is named by the proof
-abbrev pub AreNamed : Proof → List ℕ → Type 0
-AreNamed proof outputs = (o : ℕ) → In o outputs → (i : ℕ) × In (o, i) proof.outputs
+-- the proof names each of the outputs with a claim of the part
+abbrev pub AreNamed : Proof → (ℕ → Bool) → List ℕ → Type 0
+AreNamed proof part outputs = (o : ℕ) → In o outputs → (i : ℕ) × In (o, i) proof.outputs × (part i ≡ true)
 
--- of any outputs that the proof names no obligation is a mismatch
+-- of any outputs that the proof names with claims of the part no obligation is a mismatch
 abbrev pub StoppedProofsDecide : Type 0
 StoppedProofsDecide =
-    (pair : Pair) (order : Position × Position → Order) (recurrent : Position × Position → Bool) (template : Position × Position → List Row) (proof : Proof) → IsStoppedProof pair order recurrent template proof
-    → (outputs : List ℕ) → AreNamed proof outputs → ¬ (HasMismatch (setting pair outputs recurrent template) order)
+    (pair : Pair) (order : Position × Position → Order) (recurrent : Position × Position → Bool) (template : Position × Position → List Row) (part : ℕ → Bool) (proof : Proof) → IsStoppedProof pair order recurrent template part proof
+    → (outputs : List ℕ) → AreNamed proof part outputs → ¬ (HasMismatch (setting pair outputs recurrent template) order)
 
--- and the claims of the proof stand
+-- and the claims of the part stand
 abbrev pub StoppedProofsStand : Type 0
 StoppedProofsStand =
-    (pair : Pair) (order : Position × Position → Order) (recurrent : Position × Position → Bool) (template : Position × Position → List Row) (proof : Proof) → IsStoppedProof pair order recurrent template proof
-    → (outputs : List ℕ) → AreNamed proof outputs → Stand (setting pair outputs recurrent template) order (claim_at proof.claims)
+    (pair : Pair) (order : Position × Position → Order) (recurrent : Position × Position → Bool) (template : Position × Position → List Row) (part : ℕ → Bool) (proof : Proof) → IsStoppedProof pair order recurrent template part proof
+    → (outputs : List ℕ) → AreNamed proof part outputs → Stand (setting pair outputs recurrent template) order (claim_at (claims_of part 0 proof.claims))
 
 -- and a search over the orders of the sites, which ends with claims that stand or with refuted orders, says equal
 abbrev pub SearchesSayEqual : Type 0
 SearchesSayEqual =
-    (pair : Pair) (order : Position × Position → Order) (recurrent : Position × Position → Bool) (template : Position × Position → List Row) (proof : Proof) → IsStoppedProof pair order recurrent template proof
-    → (outputs : List ℕ) → AreNamed proof outputs → (d : Decided (setting pair outputs recurrent template)) → is_equal d ≡ true
+    (pair : Pair) (order : Position × Position → Order) (recurrent : Position × Position → Bool) (template : Position × Position → List Row) (part : ℕ → Bool) (proof : Proof) → IsStoppedProof pair order recurrent template part proof
+    → (outputs : List ℕ) → AreNamed proof part outputs → (d : Decided (setting pair outputs recurrent template)) → is_equal d ≡ true

@@ -1,4 +1,4 @@
--- When a proof stops at the recurrence pairs: behind a first step its plans go on from other pairs alone.
+-- When a part of a proof stops at the recurrence pairs: behind a first step its plans go on from other pairs alone.
 use Rattle.std.specs.Prelude.{ℕ, ◌+◌, ◌≡◌, ℤ, pos, negsuc, List, [], ◌∷◌, Bool, true, false, ◌&&◌, cond, Some}
 use Rattle.ac_forms.specs.Affine.{Affine}
 use Rattle.ac_forms.specs.declared.conj.Conj.{Conj}
@@ -46,32 +46,33 @@ Behind steps c P = (d : Conj) → after_steps steps c ≡ Some d → P d
 
 abbrev mutual
   -- behind its steps a plan stops at recurrence pairs: there it neither goes on nor ends at a number or an initial cell, which leaves
-  -- the claim of the pair, a row that no point meets, and a copy that kills. Its steps take arguments as the order says
-  pub Stops : Pair → (Position × Position → Order) → (Position × Position → Bool) → PlanNext → Path → Type 0
-  Stops pair order recurrent (Split' f p s l q t r) h =
-      (a b : Conj) → both_sides f h.conj ≡ Some (a, b) → Behind s a (λ d. Stops pair order recurrent l (at_rows h d)) × Behind t b (λ d. Stops pair order recurrent r (at_rows h d))
-  Stops pair order recurrent (Residue' m f shape all) h = ClassesStop pair order recurrent all m f 0 h
-  Stops pair order recurrent (Go' taken shape all) h =
-      MayGoOn recurrent h × (taken ≡ order_at pair (key_at h) (order (key_at h))) × ((hs : List Path) → branches (programs_of pair) taken h ≡ Some hs → CasesStop pair order recurrent all hs)
-  Stops pair order recurrent (Absurd i) h = Unit {0}
-  Stops pair order recurrent (Killed kill) h = Unit {0}
-  Stops pair order recurrent (Hit c) h = Unit {0}
-  Stops pair order recurrent SameNumber h = MayGoOn recurrent h
-  Stops pair order recurrent SameInitial h = MayGoOn recurrent h
+  -- the claim of the pair, a row that no point meets, and a copy that kills. Its steps take arguments as the order says, and its claims
+  -- are of the part
+  pub Stops : Pair → (Position × Position → Order) → (Position × Position → Bool) → (ℕ → Bool) → PlanNext → Path → Type 0
+  Stops pair order recurrent part (Split' f p s l q t r) h =
+      (a b : Conj) → both_sides f h.conj ≡ Some (a, b) → Behind s a (λ d. Stops pair order recurrent part l (at_rows h d)) × Behind t b (λ d. Stops pair order recurrent part r (at_rows h d))
+  Stops pair order recurrent part (Residue' m f shape all) h = ClassesStop pair order recurrent part all m f 0 h
+  Stops pair order recurrent part (Go' taken shape all) h =
+      MayGoOn recurrent h × (taken ≡ order_at pair (key_at h) (order (key_at h))) × ((hs : List Path) → branches (programs_of pair) taken h ≡ Some hs → CasesStop pair order recurrent part all hs)
+  Stops pair order recurrent part (Absurd i) h = Unit {0}
+  Stops pair order recurrent part (Killed kill) h = Unit {0}
+  Stops pair order recurrent part (Hit c) h = part c ≡ true
+  Stops pair order recurrent part SameNumber h = MayGoOn recurrent h
+  Stops pair order recurrent part SameInitial h = MayGoOn recurrent h
 
   -- the plans stop in the classes of the form, from class i on
-  pub ClassesStop : Pair → (Position × Position → Order) → (Position × Position → Bool) → {w : _} → Row_of-Plan w → ℤ → Affine → ℕ → Path → Type 0
-  ClassesStop pair order recurrent end_of-Plan m f i h = Unit {0}
-  ClassesStop pair order recurrent (more_of-Plan s t rest) m f i h = Behind s (class m f (pos i) h.conj) (λ d. Stops pair order recurrent t (at_rows h d)) × ClassesStop pair order recurrent rest m f (i + 1) h
+  pub ClassesStop : Pair → (Position × Position → Order) → (Position × Position → Bool) → (ℕ → Bool) → {w : _} → Row_of-Plan w → ℤ → Affine → ℕ → Path → Type 0
+  ClassesStop pair order recurrent part end_of-Plan m f i h = Unit {0}
+  ClassesStop pair order recurrent part (more_of-Plan s t rest) m f i h = Behind s (class m f (pos i) h.conj) (λ d. Stops pair order recurrent part t (at_rows h d)) × ClassesStop pair order recurrent part rest m f (i + 1) h
 
   -- the plans stop on the paths of their cases
-  pub CasesStop : Pair → (Position × Position → Order) → (Position × Position → Bool) → {w : _} → Row_of-Plan w → List Path → Type 0
-  CasesStop pair order recurrent end_of-Plan hs = Unit {0}
-  CasesStop pair order recurrent (more_of-Plan s t rest) [] = Unit {0}
-  CasesStop pair order recurrent (more_of-Plan s t rest) (h ∷ hs) = Behind s h.conj (λ d. Stops pair order recurrent t (at_rows h d)) × CasesStop pair order recurrent rest hs
+  pub CasesStop : Pair → (Position × Position → Order) → (Position × Position → Bool) → (ℕ → Bool) → {w : _} → Row_of-Plan w → List Path → Type 0
+  CasesStop pair order recurrent part end_of-Plan hs = Unit {0}
+  CasesStop pair order recurrent part (more_of-Plan s t rest) [] = Unit {0}
+  CasesStop pair order recurrent part (more_of-Plan s t rest) (h ∷ hs) = Behind s h.conj (λ d. Stops pair order recurrent part t (at_rows h d)) × CasesStop pair order recurrent part rest hs
 
-abbrev pub PlanStops : Pair → (Position × Position → Order) → (Position × Position → Bool) → Plan → Path → Type 0
-PlanStops pair order recurrent t h = Behind t.steps h.conj (λ d. Stops pair order recurrent t.next (at_rows h d))
+abbrev pub PlanStops : Pair → (Position × Position → Order) → (Position × Position → Bool) → (ℕ → Bool) → Plan → Path → Type 0
+PlanStops pair order recurrent part t h = Behind t.steps h.conj (λ d. Stops pair order recurrent part t.next (at_rows h d))
 
 -- ---- proofs
 
@@ -79,17 +80,23 @@ PlanStops pair order recurrent t h = Behind t.steps h.conj (λ d. Stops pair ord
 abbrev pub key_of : Claim → Position × Position
 key_of c = (c.left, c.right)
 
--- each tree stops on the path that is due for it
-abbrev pub TreesStop : Pair → (Position × Position → Order) → (Position × Position → Bool) → List ClaimTree → List DuePlan → Type 0
-TreesStop pair order recurrent [] ds = Unit {0}
-TreesStop pair order recurrent (t ∷ ts) [] = Unit {0}
-TreesStop pair order recurrent (t ∷ ts) (d ∷ ds) = ((h : Path) → d.path ≡ Some h → PlanStops pair order recurrent t.tree h) × TreesStop pair order recurrent ts ds
+-- each tree of a claim of the part stops on the path that is due for it
+abbrev pub TreesStop : Pair → (Position × Position → Order) → (Position × Position → Bool) → (ℕ → Bool) → List ClaimTree → List DuePlan → Type 0
+TreesStop pair order recurrent part [] ds = Unit {0}
+TreesStop pair order recurrent part (t ∷ ts) [] = Unit {0}
+TreesStop pair order recurrent part (t ∷ ts) (d ∷ ds) = (part d.claim ≡ true → (h : Path) → d.path ≡ Some h → PlanStops pair order recurrent part t.tree h) × TreesStop pair order recurrent part ts ds
 
--- a proof stops at the recurrence pairs: its trees do, and a recurrence pair has one claim at most, of claim rows
-pub record IsStopping (pair : Pair) (order : Position × Position → Order) (recurrent : Position × Position → Bool) (template : Position × Position → List Row) (proof : Proof) : Type 0 where
-  pub trees : TreesStop pair order recurrent proof.trees.items (due_from (programs_of pair) 0 proof.claims)
-  pub alone : (c d : Claim) → In c proof.claims → In d proof.claims → recurrent (key_of c) ≡ true → key_of c ≡ key_of d → c ≡ d
-  pub rows : (c : Claim) → In c proof.claims → recurrent (key_of c) ≡ true → Each (IsClaimRow (template (key_of c))) c.rows
+-- the claims of the part, from claim i on
+abbrev pub claims_of : (ℕ → Bool) → ℕ → List Claim → List Claim
+claims_of part i [] = []
+claims_of part i (c ∷ cs) = cond (part i) (c ∷ claims_of part (i + 1) cs) (claims_of part (i + 1) cs)
+
+-- a part of a proof, some of its claims by their numbers, stops at the recurrence pairs: the trees do, and a recurrence pair has one
+-- claim at most there, of claim rows
+pub record IsStopping (pair : Pair) (order : Position × Position → Order) (recurrent : Position × Position → Bool) (template : Position × Position → List Row) (part : ℕ → Bool) (proof : Proof) : Type 0 where
+  pub trees : TreesStop pair order recurrent part proof.trees.items (due_from (programs_of pair) 0 proof.claims)
+  pub alone : (c d : Claim) → In c (claims_of part 0 proof.claims) → In d (claims_of part 0 proof.claims) → recurrent (key_of c) ≡ true → key_of c ≡ key_of d → c ≡ d
+  pub rows : (c : Claim) → In c (claims_of part 0 proof.claims) → recurrent (key_of c) ≡ true → Each (IsClaimRow (template (key_of c))) c.rows
 
 -- ---- claims
 
