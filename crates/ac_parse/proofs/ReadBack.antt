@@ -1,7 +1,6 @@
 -- The canonical text of the program of a text has the same program.
-use Rattle.std.proofs.Common.{◌≡◌, ℕ, List, refl, sym, subst}
+use Rattle.std.proofs.Common.{◌≡◌, List, refl, sym, subst}
 use Rattle.ac_syntax.specs.Text.{program_text}
-use Rattle.ac_syntax.specs.declared.tree.Program.{Program}
 use Rattle.ac_lex.specs.Lexemes.{Lexeme}
 use Rattle.ac_lex.proofs.LawLemmas.{one_list}
 use Rattle.ac_grammar.specs.FileGrammar.{IsFile}
@@ -16,7 +15,6 @@ use Rattle.ac_canonical_rules.proofs.Programs.{programs_are_read_back}
 use Rattle.ac_canonical_names.proofs.Programs.{programs_have_names}
 use Rattle.ac_canonical_readable.proofs.Programs.{programs_are_readable}
 use Rattle.ac_parse.specs.Laws.{CanonicalTextsAreReadBack}
-use Rattle.ac_parse.specs.Program.{IsProgramOf}
 
 pub read_back : CanonicalTextsAreReadBack
 read_back bytes program h file text =

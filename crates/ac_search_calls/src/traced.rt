@@ -88,7 +88,14 @@ fn show_all(
         }
         push_key(out, &key(&read.position))?;
         let all = instances(alloc, model, executions, values, &read.position)?;
-        show_read(alloc, model.stmts.len(), read, executions, all.as_slice(), out)?;
+        show_read(
+            alloc,
+            model.stmts.len(),
+            read,
+            executions,
+            all.as_slice(),
+            out,
+        )?;
     }
     Ok(())
 }
@@ -192,7 +199,9 @@ fn is_found(
                     last = None;
                 }
             }
-            Some(stmt) => found_in(alloc, case, stmt, executions, instance, &mut found, &mut last)?,
+            Some(stmt) => found_in(
+                alloc, case, stmt, executions, instance, &mut found, &mut last,
+            )?,
         }
     }
     Ok(found == 1 && last == source_at(executions, instance))
@@ -210,11 +219,7 @@ fn found_in(
 ) -> Result<(), CaseStop> {
     for (number, execution) in executions.iter().enumerate() {
         if execution.stmt == stmt as u64 {
-            let point = followed(
-                alloc,
-                instance.at.as_slice(),
-                execution.counters.as_slice(),
-            )?;
+            let point = followed(alloc, instance.at.as_slice(), execution.counters.as_slice())?;
             if holds(case, point.as_slice())? {
                 *found = found.saturating_add(1);
                 *last = Some(number);

@@ -1,5 +1,5 @@
 -- What stands at a placed position, by the model.
-use Rattle.std.proofs.Common.{◌≡◌, ℕ, ◌+◌, ◌++◌, ℤ, List, map, length, Option, Some, None, refl, sym, ap, ◌∙◌, subst}
+use Rattle.std.proofs.Common.{◌≡◌, ℕ, ◌+◌, ℤ, List, map, length, Some, None, refl, sym, ap, ◌∙◌, subst}
 use Rattle.std.specs.Prelude.{slice_get}
 use Rattle.ac_syntax.specs.Nodes.{node_of}
 use Rattle.ac_syntax.specs.Spot.{Spot, AtNode, Reads as SpotReads, an_output}

@@ -6,8 +6,7 @@ use Rattle.std.proofs.lemmas.Bool.{eq-eqb}
 use Rattle.std.proofs.lemmas.Bool.Decides.{Decides-eqb}
 use Rattle.std.proofs.lemmas.List.{length-append}
 use Rattle.std.proofs.lemmas.Slice.Eq.{slice_eq-Decides}
-use Rattle.ac_forms.specs.declared.row.Row.{Row}
-use Rattle.ac_syntax.specs.Algebra.{Cell, integers, value_of}
+use Rattle.ac_syntax.specs.Algebra.{integers, value_of}
 use Rattle.ac_syntax.specs.Index.{index_value}
 use Rattle.ac_syntax.specs.Spot.{value_at}
 use Rattle.ac_syntax.specs.Trace.{trace_of}
@@ -21,18 +20,15 @@ use Rattle.ac_forms.proofs.Joining.{both_of}
 use Rattle.ac_cert.proofs.Keeping.{some-is}
 use Rattle.ac_poly.specs.Model.{model_of}
 use Rattle.ac_paths.specs.Executions.{execution}
-use Rattle.ac_paths.specs.Going.{Pairing, same_symbol}
-use Rattle.ac_paths.specs.OnPaths.{Compared}
-use Rattle.ac_paths.specs.Pairs.{Placed, StepsTo, IsMismatch, AreNumbers, AreOneInput}
+use Rattle.ac_paths.specs.Going.{same_symbol}
+use Rattle.ac_paths.specs.Pairs.{StepsTo}
 use Rattle.ac_paths.specs.Places.{CallAt, call_at}
 use Rattle.ac_paths.proofs.CallSteps.{symbol_is}
-use Rattle.ac_graph.specs.Moves.{Dependences, Moves, LeftMove, RightMove, ArgumentMove, IsRecurrent, IsRoot, IsSite, dependences, pairing_of}
-use Rattle.ac_graph.specs.Steps.{IsCompared, comparison, LeftPlaced, RightPlaced}
+use Rattle.ac_graph.specs.Moves.{Dependences, Moves, IsRecurrent, IsRoot, IsSite, dependences, pairing_of}
+use Rattle.ac_graph.specs.Steps.{comparison}
 use Rattle.ac_graph.specs.Ways.{Leads, one, more}
-use Rattle.ac_widen.specs.Refutations.{Decided}
-use Rattle.ac_widen.specs.Setting.{Setting, IsLawful}
 use Rattle.ac_widen.proofs.Refuting.{equal_exactly}
-use Rattle.ac_setting.specs.Programs.{PairAt, IsPlaced, IsOutputPair, IsMismatchPair, IsStepPair, coordinate_count, point_width, is_site_key, may_swap, order_at, setting}
+use Rattle.ac_setting.specs.Programs.{PairAt, IsOutputPair, IsMismatchPair, coordinate_count, point_width, is_site_key, may_swap, order_at, setting}
 use Rattle.ac_setting.specs.Statements.{AreRecurring, PairsAreASetting, SearchDecidesPairs, SitesAreDeclared, MatchesAgree}
 use Rattle.ac_setting.proofs.Calls.{at_width, reads_there, call_there, output_reads}
 
