@@ -1,0 +1,15 @@
+use Rattle.std.proofs.Common.{◌∙◌, sym, refl}
+use Rattle.ac_derived.proofs.Listing.{on_true}
+use Rattle.ac_derived.proofs.Stepping.{left_steps}
+use Rattle.ac_derived.proofs.steps.left_step.Goals as goal
+
+pub returns : goal.returns
+returns c =
+    let k = c.args.checked.now in
+    let r = c.requires.checked in
+    let s = c.args.from.now in
+    let t = c.args.to.now in
+    on_true c.leads.result
+    (λ l order. left_steps k.pair.now k.left.now k.right.now k.left_flow.now r.paired r.models r.left_sources s.params.now s.left s.left_at.now s.right s.right_at.now c.requires.from (sym c.in_ok-reads.ensures ∙ c.if-not-branch.false)
+    t.params.now t.left t.left_at.now t.right t.right_at.now (c.if-not-same_numbers.ensures refl) (c.if-not-same_position.ensures refl) (c.if-not-same_numbers-2.ensures refl) l order)
+    c.leads.ensures
