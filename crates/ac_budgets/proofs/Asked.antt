@@ -7,18 +7,18 @@ use Rattle.ac_forms.specs.Tests.{rows_fit}
 use Rattle.ac_forms.specs.declared.conj.Conj.{Conj}
 use Rattle.ac_forms.specs.declared.row.Row.{Row}
 use Rattle.ac_forms.specs.declared.row.Row.TheVariants.{Eq, Div, Ge}
-use Rattle.ac_trails.specs.declared.strategy.Strategy.{Strategy}
+use Rattle.ac_refutations.specs.declared.strategy.Strategy.{Strategy}
 use Rattle.ac_omega.specs.Answers.{parts, saturated}
 use Rattle.ac_omega.specs.Decisions.{walk_of, IsWide, IsSpent, IsLarge}
 use Rattle.ac_omega.specs.Differences.{AreDifferences, AreAllDifferences}
 use Rattle.ac_omega.specs.Elimination.{eliminating, elimination, normal_of, pieces_of}
 use Rattle.ac_omega.specs.Maxima.{nothing_met, with_rows, with_form}
 use Rattle.ac_omega.specs.declared.extent.Maxima.{Maxima}
-use Rattle.ac_omega.specs.Projection.{AllGone}
+use Rattle.ac_omega.specs.Projection.{AllEmpty}
 use Rattle.ac_omega.specs.Replays.{AreOver}
 use Rattle.ac_omega.specs.Searching.{columns_to}
 use Rattle.ac_omega.specs.Sweep as whole
-use Rattle.ac_omega.specs.Walk.{Walked, Gone, Found, Spent, Wide, entered, walk}
+use Rattle.ac_omega.specs.Walk.{Walked, Empty, Found, Spent, Wide, entered, walk}
 use Rattle.ac_omega.specs.declared.piece.Piece.{Piece}
 use Rattle.ac_omega.specs.declared.pieces.Stop.TheVariants as stop
 use Rattle.ac_omega.proofs.AllColumns.{all-below}
@@ -29,7 +29,7 @@ use Rattle.ac_omega.proofs.DifferenceWalks.{cost, cost-step, grown, normal-stand
 use Rattle.ac_omega.proofs.DifferencePaths.{Frame, Stage, walk-comes}
 use Rattle.ac_omega.proofs.DifferenceQuestions.{below, length-below, question-raw, grown-upto, grown-sixty, cube-is}
 use Rattle.ac_omega.proofs.DifferenceSweeps.{differences-eliminate, differences-left}
-use Rattle.ac_omega.proofs.Gones.{all-gone}
+use Rattle.ac_omega.proofs.Empties.{all-gone}
 use Rattle.ac_omega.proofs.Replays.{result-over}
 use Rattle.ac_omega.proofs.Sweeps.{into-parts, sweep-done}
 use Rattle.ac_kills.specs.Kills.{columns_from}
@@ -125,9 +125,9 @@ never-spent strategy budget k q enough h (j, e, m) =
     let c : budget < 0 + cost 22 = comes-as strategy budget q (Spent j) h e in
     omega (arith, c, last-cost, enough)
 
-pub gone-cost : (strategy : Strategy) (budget k : ℕ) (s : Maxima) (q : Conj) → AreNarrow 22 (2 ^ 48) q.rows → walk_of strategy budget q ≡ Gone k s → k ≤ 24334
+pub gone-cost : (strategy : Strategy) (budget k : ℕ) (s : Maxima) (q : Conj) → AreNarrow 22 (2 ^ 48) q.rows → walk_of strategy budget q ≡ Empty k s → k ≤ 24334
 gone-cost strategy budget k s q h e =
-    let c : k ≤ 0 + cost 22 = (comes-as strategy budget q (Gone k s) h e).0 in
+    let c : k ≤ 0 + cost 22 = (comes-as strategy budget q (Empty k s) h e).0 in
     omega (arith, c, last-cost)
 
 few-times : (a b n : ℕ) → a ≤ 1 → b ≤ n → a * b ≤ n
@@ -140,7 +140,7 @@ most-rooms = lit≤ tt
 
 pub never-large : (strategy : Strategy) (budget : ℕ) (q : Conj) → AreNarrow 22 (2 ^ 48) q.rows → IsLarge (walk_of strategy budget q) → ⊥
 never-large strategy budget q h (k, s, e, l) =
-    let a = (comes-as strategy budget q (Gone k s) h e).1 in
+    let a = (comes-as strategy budget q (Empty k s) h e).1 in
     let m = few-times s.factor s.number (2 ^ 120) a.factor (omega (arith, a.number, most-rooms)) in
     omega (arith, l, m)
 
@@ -176,7 +176,7 @@ all-narrow : (n b c : ℕ) (ps : List Piece) → b ≤ c → AreOver n ps → Ar
 all-narrow n b c [] l o d = tt
 all-narrow n b c (p ∷ ps) l o d = (record { over = o.0; differences = rows-more b c p.rest.rows l d.0 }, all-narrow n b c ps l o.1 d.1)
 
-gone : (strategy : Strategy) (vars : List ℕ) (budget cost : ℕ) (q : Conj) (ps : List Piece) → pieces_of strategy vars budget q ≡ whole.Pieces (parts ps) cost → AllGone vars ps
+gone : (strategy : Strategy) (vars : List ℕ) (budget cost : ℕ) (q : Conj) (ps : List Piece) → pieces_of strategy vars budget q ≡ whole.Pieces (parts ps) cost → AllEmpty vars ps
 gone strategy vars budget cost q ps e =
     let t = into-parts (normal_of q) (λ c. whole.sweep (elimination strategy vars) (budget + 1) budget [] c 0) (parts ps) cost e in
     all-gone strategy vars ps (sweep-done (elimination strategy vars) (budget + 1) budget [] t.0 0 cost (parts ps) t.2)

@@ -10,8 +10,8 @@ use Rattle.ac_poly.specs.Columns.{CanBound}
 use Rattle.ac_poly.specs.Model.{CellsHaveDimensions}
 use Rattle.ac_poly.specs.declared.types.Model.{Model}
 use Rattle.ac_cert.proofs.Keeping.{some-is}
-use Rattle.ac_trails.specs.declared.strategy.Strategy.{Strategy}
-use Rattle.ac_trails.specs.declared.strategy.Strategy.TheVariants.{Full as Fully, Economical}
+use Rattle.ac_refutations.specs.declared.strategy.Strategy.{Strategy}
+use Rattle.ac_refutations.specs.declared.strategy.Strategy.TheVariants.{Full as Fully, Economical}
 use Rattle.ac_kills.specs.Causes.{IsKillRow, IsFurther, Itself, OfNegation, AreFurther, IsCutCase, CutStops}
 use Rattle.ac_kills.specs.Remaining.{AreLeftBy, IsWalkOf, CopyStops}
 use Rattle.ac_kills.specs.declared.cut.CutStop.{CutStop}

@@ -2,7 +2,7 @@
 ghost use Rattle.std.specs.Prelude.{◌≡◌, ℕ, ◌≤◌, ◌^◌, length};
 ghost use Rattle.ac_forms.specs.declared.conj.Conj.{Conj};
 ghost use Rattle.ac_omega.specs.Decisions.{walk_of, IsWide, IsSpent, IsLarge};
-ghost use Rattle.ac_omega.specs.Walk.{Gone};
+ghost use Rattle.ac_omega.specs.Walk.{Empty};
 ghost use Rattle.ac_omega.specs.declared.extent.Maxima.{Maxima};
 ghost use Rattle.ac_syntax.specs.Dimensions.{HasDimensions};
 ghost use Rattle.ac_syntax.specs.Ready.{ReadyProgram, FitParts};
@@ -17,8 +17,8 @@ ghost use Rattle.ac_budgets.specs.Programs.{IsOfDifferences};
 ghost use Rattle.ac_budgets.specs.Questions.{IsQuestion, IsSmallQuestion};
 
 use ac_poly::types::Model;
+use ac_refutations::Strategy;
 use ac_syntax::tree::{Cond, Program};
-use ac_trails::Strategy;
 
 /// The flow of a model of differences, with numbers of at most 2^33 by their absolute value, is stopped by no question
 /// where the budget is at least 24,334, as the default one of 50,000 is: each question has at most 22 columns, so that it
@@ -39,7 +39,7 @@ pub fn questions_of_differences_are_small(m: &Model, budget: u64, strategy: Stra
     requires dimensions { CellsHaveDimensions m.now }
     requires differences { HasDifferences (2 ^ 33) m.now }
     ensures rows { (q : Conj) → IsQuestion budget m.now q → IsSmallQuestion q }
-    ensures cost { (q : Conj) (k : ℕ) (s : Maxima) → IsQuestion budget m.now q → walk_of strategy budget q ≡ Gone k s → k ≤ 24334 }
+    ensures cost { (q : Conj) (k : ℕ) (s : Maxima) → IsQuestion budget m.now q → walk_of strategy budget q ≡ Empty k s → k ≤ 24334 }
     ensures never_wide { (q : Conj) → IsQuestion budget m.now q → IsWide q (walk_of strategy budget q) → ⊥ }
     ensures never_spent { (q : Conj) (k : ℕ) → 24334 ≤ budget → IsQuestion budget m.now q → IsSpent k (walk_of strategy budget q) → ⊥ }
     ensures never_large { (q : Conj) → IsQuestion budget m.now q → IsLarge (walk_of strategy budget q) → ⊥ }

@@ -15,17 +15,17 @@ use Rattle.ac_grammar.specs.declared.tree.Expr.{Expr}
 use Rattle.ac_grammar.specs.declared.tree.Statement.{Statement}
 use Rattle.ac_grammar.specs.declared.tree.Statement.TheVariants as statement
 use Rattle.ac_grammar.specs.StatementsGrammar.{IsStatements}
-use Rattle.ac_rules.specs.declared.fault.Which.TheVariants as which
-use Rattle.ac_rules.specs.declared.fault.Rule.TheVariants.{Endless, Limit}
-use Rattle.ac_rules.specs.declared.scope.Entry.{Entry}
-use Rattle.ac_rules.specs.declared.scope.Scope.{Scope}
-use Rattle.ac_rules.specs.Faults.{earlier, broken_where, rule_broken}
-use Rattle.ac_rules.specs.Meanings.{meaning, word_broken}
-use Rattle.ac_rules.specs.IndexExpressions.{is_long}
-use Rattle.ac_rules.specs.Comparisons.{index, index_broken, condition, condition_broken}
+use Rattle.ac_affine.specs.declared.fault.Which.TheVariants as which
+use Rattle.ac_affine.specs.declared.fault.Rule.TheVariants.{Endless, Limit}
+use Rattle.ac_affine.specs.declared.scope.Entry.{Entry}
+use Rattle.ac_affine.specs.declared.scope.Scope.{Scope}
+use Rattle.ac_affine.specs.Faults.{earlier, broken_where, rule_broken}
+use Rattle.ac_affine.specs.Meanings.{meaning, word_broken}
+use Rattle.ac_affine.specs.IndexExpressions.{is_long}
+use Rattle.ac_affine.specs.Comparisons.{index, index_broken, condition, condition_broken}
 use Rattle.ac_rules.specs.Values.{array_number}
 use Rattle.ac_rules.specs.Statements.{inside, in_start, loop_rule, step_broken, step_number, is_endless, head_broken, assigned_value, statement_broken, statements_broken, stmt, stmts}
-use Rattle.ac_rules.proofs.Absent.{NoneBroken, neither, none_of, not_where}
+use Rattle.ac_affine.proofs.Absent.{NoneBroken, neither, none_of, not_where}
 use Rattle.ac_rules.proofs.Stepping.{broken-loop, broken-branch, stmt-loop, stmt-branch, stmt-assign}
 use Rattle.ac_canonical_tree.specs.Names.{HasSome}
 use Rattle.ac_canonical_names.specs.Spelled.{AreSpelled}

@@ -10,7 +10,7 @@ use Rattle.ac_grammar.specs.declared.tree.Pragma.TheVariants.{Context, Commutati
 use Rattle.ac_grammar.specs.DeclarationsGrammar.{IsRun, no_item, an_item, IsNext, next_item, IsList, items, IsDeclared, declared, IsParameter, parameter, IsParameters, no_parameter, void, parameters, IsDeclaration, declaration, IsDeclarations, no_declaration, a_declaration}
 use Rattle.ac_grammar.specs.FileGrammar.{IsSymbol, a_symbol, IsPragma, context, commutative, output}
 use Rattle.ac_rules.specs.Files.{commutative_words}
-use Rattle.ac_rules.proofs.Absent.{each_append}
+use Rattle.ac_affine.proofs.Absent.{each_append}
 use Rattle.ac_canonical_names.specs.Spelled.{AreSpelled}
 use Rattle.ac_canonical_names.proofs.Terminals.{IsNamed, is_named, IsNamedSymbol, symbol_named}
 use Rattle.ac_canonical_names.proofs.Expressions.{front_spelled, rest_spelled}

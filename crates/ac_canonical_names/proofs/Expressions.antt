@@ -15,7 +15,7 @@ use Rattle.ac_grammar.specs.declared.links.Links.{Links}
 use Rattle.ac_grammar.specs.Words.{place_of, word_of, numeral_of}
 use Rattle.ac_grammar.specs.Chains.{chain_of}
 use Rattle.ac_grammar.specs.Grammar.{IsExpr, sum, Terms, one_term, next_term, IsTerm, product, Factors, one_factor, next_factor, IsUnary, negative, primary, IsPrimary, number, decimal, access, call, group, Arguments, no_argument, some_arguments, ArgumentList, one_argument, next_argument, IsCond, one_part, next_part, IsPart, comparison, nested}
-use Rattle.ac_rules.proofs.Absent.{each_append}
+use Rattle.ac_affine.proofs.Absent.{each_append}
 use Rattle.ac_canonical_names.specs.Spelled.{AreSpelled}
 use Rattle.ac_canonical_names.proofs.Terminals.{IsNamed, is_named, IsConstant, constant_is}
 

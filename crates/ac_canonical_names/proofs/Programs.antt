@@ -20,21 +20,22 @@ use Rattle.ac_grammar.specs.declared.tree.Pragma.{Pragma}
 use Rattle.ac_grammar.specs.declared.tree.Pragma.TheVariants.{Context, Commutative, Output}
 use Rattle.ac_grammar.specs.declared.tree.File.{File}
 use Rattle.ac_grammar.specs.FileGrammar.{IsPragma, IsFunction, function, IsFile, file}
-use Rattle.ac_rules.specs.declared.fault.Rule.{Rule}
-use Rattle.ac_rules.specs.declared.scope.Entry.{Entry}
-use Rattle.ac_rules.specs.declared.scope.Meaning.{Meaning}
-use Rattle.ac_rules.specs.declared.scope.Meaning.TheVariants as means
-use Rattle.ac_rules.specs.declared.scope.Scope.{Scope}
-use Rattle.ac_rules.specs.Faults.{rule_broken}
-use Rattle.ac_rules.specs.Meanings.{declared_meaning}
+use Rattle.ac_affine.specs.declared.fault.Rule.{Rule}
+use Rattle.ac_affine.specs.declared.scope.Entry.{Entry}
+use Rattle.ac_affine.specs.declared.scope.Meaning.{Meaning}
+use Rattle.ac_affine.specs.declared.scope.Meaning.TheVariants as means
+use Rattle.ac_affine.specs.declared.scope.Scope.{Scope}
+use Rattle.ac_affine.specs.Faults.{rule_broken}
+use Rattle.ac_affine.specs.Meanings.{declared_meaning}
 use Rattle.ac_rules.specs.Values.{array_number}
 use Rattle.ac_rules.specs.Declarations.{is_whole, is_loop_name, param_count, input_count, fixed_scope, array_of, arrays_from, param_names}
 use Rattle.ac_rules.specs.Statements.{statements_broken, stmts}
 use Rattle.ac_rules.specs.Numbers.{IsSlotOf}
 use Rattle.ac_rules.specs.Files.{output_words, has_output_line, output_rule, output_broken, pragma_broken, output_numbers, body_scope, arrays_under, commutative_words, names_of, file_broken, program_of}
-use Rattle.ac_rules.proofs.Absent.{NoneBroken, neither, none_of, each_append, each_map, each_further}
+use Rattle.ac_affine.proofs.Absent.{NoneBroken, neither, none_of, each_append, each_map, each_further}
 use Rattle.ac_rules.proofs.ArraysUsed.{has_declared}
-use Rattle.ac_rules.proofs.DeclaredNumbers.{MeansBelow, NamesBelow, names_below, declared_has}
+use Rattle.ac_affine.proofs.NumberedMeanings.{declared_has}
+use Rattle.ac_rules.proofs.DeclaredNumbers.{MeansBelow, NamesBelow, names_below}
 use Rattle.ac_rules.proofs.SmallPrograms.{small_program}
 use Rattle.ac_canonical.specs.Words.{IsWord, IsDeclared, IsThere, IsCommutative, HasWords}
 use Rattle.ac_canonical_tree.specs.Names.{IsName, NamesArray, IsSymbolName, HasArrayNames, HasInput, HasSlotName, HaveOutputs, HasNames}

@@ -12,16 +12,16 @@ use Rattle.ac_grammar.specs.declared.tree.Operator.{Operator}
 use Rattle.ac_grammar.specs.declared.tree.Operator.TheVariants.{Add, Subtract, Multiply, Divide, Remainder}
 use Rattle.ac_grammar.specs.declared.tree.Expr.{Expr}
 use Rattle.ac_grammar.specs.Grammar.{IsExpr}
-use Rattle.ac_rules.specs.declared.fault.Broken.{Broken}
-use Rattle.ac_rules.specs.declared.scope.Entry.{Entry}
-use Rattle.ac_rules.specs.declared.scope.Meaning.{Meaning}
-use Rattle.ac_rules.specs.declared.scope.Scope.{Scope}
-use Rattle.ac_rules.specs.Meanings.{meaning, is_array, read_rule}
-use Rattle.ac_rules.specs.IndexExpressions.{judged_name}
-use Rattle.ac_rules.specs.Comparisons.{index_expr, index}
+use Rattle.ac_affine.specs.declared.fault.Broken.{Broken}
+use Rattle.ac_affine.specs.declared.scope.Entry.{Entry}
+use Rattle.ac_affine.specs.declared.scope.Meaning.{Meaning}
+use Rattle.ac_affine.specs.declared.scope.Scope.{Scope}
+use Rattle.ac_affine.specs.Meanings.{meaning, is_array, read_rule}
+use Rattle.ac_affine.specs.IndexExpressions.{judged_name}
+use Rattle.ac_affine.specs.Comparisons.{index_expr, index}
 use Rattle.ac_rules.specs.Values.{Reading, number, other, reading, value_place, value_of, symbol, operator_name, array_number, access_broken, read_of, access_reading, call_reading, negative_reading, group_reading, applied_values, joined_reading, chained_reading, chain_reading, value}
 use Rattle.ac_rules.specs.Statements.{assigned_value}
-use Rattle.ac_rules.proofs.Absent.{each_further, each_map}
+use Rattle.ac_affine.proofs.Absent.{each_further, each_map}
 use Rattle.ac_rules.proofs.Readings.{reading-number, reading-decimal, reading-access, reading-call, reading-negative, reading-group, reading-chain}
 use Rattle.ac_canonical.specs.Words.{IsOperator}
 use Rattle.ac_canonical.specs.Words as words

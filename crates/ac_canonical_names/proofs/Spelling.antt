@@ -4,7 +4,7 @@ use Rattle.ac_lex.specs.declared.tokens.TokenKind.{TokenKind}
 use Rattle.ac_lex.specs.Lexemes.{Lexeme}
 use Rattle.ac_lex.specs.Pieces.{Piece, IsPiece, IsToken, a_word, a_number, a_decimal, a_mark}
 use Rattle.ac_lex.specs.Tokens.{Sequence, the_end, next, PieceStep, passes, gives, FileStep, piece_step, skipped, affine_pragma}
-use Rattle.ac_rules.proofs.Absent.{each_append}
+use Rattle.ac_affine.proofs.Absent.{each_append}
 use Rattle.ac_canonical_names.specs.Spelled.{IsSpelledAs, IsSpelled, AreSpelled}
 use Rattle.ac_canonical_names.specs.Laws.{TokensAreSpelled}
 

@@ -16,7 +16,7 @@ use Rattle.ac_grammar.specs.declared.tree.Statement.TheVariants as statement
 use Rattle.ac_grammar.specs.Words.{place_of, word_of}
 use Rattle.ac_grammar.specs.Grammar.{IsExpr}
 use Rattle.ac_grammar.specs.StatementsGrammar.{IsAssignment, assignment, IsHeader, header, IsStatement, empty, block, loop, branch, branch_with_else, assign, IsStatements, no_statement, a_statement}
-use Rattle.ac_rules.proofs.Absent.{each_append}
+use Rattle.ac_affine.proofs.Absent.{each_append}
 use Rattle.ac_canonical_names.specs.Spelled.{AreSpelled}
 use Rattle.ac_canonical_names.proofs.Terminals.{IsNamed, is_named}
 use Rattle.ac_canonical_names.proofs.Expressions.{front_spelled, rest_spelled, HasPart, cond_has_part}

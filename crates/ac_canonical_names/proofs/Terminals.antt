@@ -17,7 +17,7 @@ use Rattle.ac_grammar.specs.declared.terminal.Terminal.TheVariants as t
 use Rattle.ac_grammar.specs.declared.tree.Operator.TheVariants.{Add, Subtract, Multiply, Divide, Remainder}
 use Rattle.ac_grammar.specs.Terminals.{marks, words, look_up, if_spelling, terminal_by, terminal, is_name}
 use Rattle.ac_grammar.specs.PragmasReading.{is_symbol}
-use Rattle.ac_rules.proofs.Absent.{both_true}
+use Rattle.ac_affine.proofs.Absent.{both_true}
 use Rattle.ac_canonical.specs.Words.{IsWord, IsCommutative, called, operated}
 use Rattle.ac_canonical.specs.Words as operator
 use Rattle.ac_canonical_tree.specs.Names.{IsName, IsSymbolName}

@@ -16,16 +16,16 @@ use Rattle.ac_grammar.specs.declared.tree.Step.{Step}
 use Rattle.ac_grammar.specs.declared.tree.Expr.{Expr}
 use Rattle.ac_grammar.specs.declared.tree.Statement.{Statement}
 use Rattle.ac_grammar.specs.declared.tree.Statement.TheVariants.{Loop, Branch, Assign}
-use Rattle.ac_rules.specs.declared.fault.Which.TheVariants as which
-use Rattle.ac_rules.specs.declared.fault.Rule.TheVariants.{Limit}
-use Rattle.ac_rules.specs.declared.scope.Entry.{Entry}
-use Rattle.ac_rules.specs.declared.scope.Scope.{Scope}
-use Rattle.ac_rules.specs.Faults.{broken}
+use Rattle.ac_affine.specs.declared.fault.Which.TheVariants as which
+use Rattle.ac_affine.specs.declared.fault.Rule.TheVariants.{Limit}
+use Rattle.ac_affine.specs.declared.scope.Entry.{Entry}
+use Rattle.ac_affine.specs.declared.scope.Scope.{Scope}
+use Rattle.ac_affine.specs.Faults.{broken}
 use Rattle.ac_rules.specs.Files.{assignments_broken}
 use Rattle.ac_rules.specs.Statements.{inside, targets, all_targets, stmt, stmts}
-use Rattle.ac_rules.proofs.Absent.{each}
+use Rattle.ac_affine.proofs.Absent.{each}
 use Rattle.ac_rules.proofs.Stepping.{targets-loop, targets-branch, targets-assign, stmt-loop, stmt-branch, stmt-assign}
-use Rattle.ac_rules.proofs.Trees.{every_statement}
+use Rattle.ac_affine.proofs.Trees.{every_statement}
 use Rattle.ac_canonical_rules.specs.Programs.{assignments, assignments_in, all_assignments}
 use Rattle.ac_canonical_readable.proofs.Declarations.{none_at}
 

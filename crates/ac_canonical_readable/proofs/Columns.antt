@@ -13,25 +13,25 @@ use Rattle.ac_grammar.specs.declared.tree.Relation.{Relation}
 use Rattle.ac_grammar.specs.declared.tree.Relation.TheVariants.{Less, AtMost, Greater, AtLeast, Equal}
 use Rattle.ac_grammar.specs.declared.tree.Part.{Part}
 use Rattle.ac_grammar.specs.declared.tree.Expr.{Expr}
-use Rattle.ac_rules.specs.declared.fault.Broken.{Broken}
-use Rattle.ac_rules.specs.declared.fault.Rule.TheVariants.{NotAffine}
-use Rattle.ac_rules.specs.declared.form.Affine.{Affine}
-use Rattle.ac_rules.specs.declared.form.Collected.{Collected}
-use Rattle.ac_rules.specs.declared.form.Collected.TheVariants.{Known, Large, Unknown}
-use Rattle.ac_rules.specs.declared.index.Judged.{Judged}
-use Rattle.ac_rules.specs.declared.index.Parts.{Parts}
-use Rattle.ac_rules.specs.declared.scope.Entry.{Entry}
-use Rattle.ac_rules.specs.declared.scope.Meaning.{Meaning}
-use Rattle.ac_rules.specs.declared.scope.Meaning.TheVariants.{Parameter, Iterator, Array, LoopName, OwnStart, Nothing}
-use Rattle.ac_rules.specs.declared.scope.Scope.{Scope}
-use Rattle.ac_rules.specs.Faults.{earlier, broken_where}
-use Rattle.ac_rules.specs.Meanings.{meaning, is_array, is_reserved, read_rule, word_broken}
-use Rattle.ac_rules.specs.Forms.{is_constant, plus_times, times, sum_form, multiple_form, indicator, zeros, constant_form, limited, sum_of, product_of, negative_of, signed, are_kept}
-use Rattle.ac_rules.specs.IndexExpressions.{is_long, judged_number, gathered, no_parts, name_form, judged_name, judged_other, judged_variable, judged_access, judged_negative, form_of, is_not_affine, joined, chained, judged_chain, judged}
-use Rattle.ac_rules.specs.Comparisons.{difference_form, difference, compared_form, compared}
-use Rattle.ac_rules.proofs.Absent.{neither, not_where, each_map}
-use Rattle.ac_rules.proofs.Judging.{judged-number, judged-decimal, judged-access, judged-call, judged-negative, judged-group, judged-chain}
-use Rattle.ac_rules.proofs.Trees.{every_expr}
+use Rattle.ac_affine.specs.declared.fault.Broken.{Broken}
+use Rattle.ac_affine.specs.declared.fault.Rule.TheVariants.{NotAffine}
+use Rattle.ac_affine.specs.declared.form.Affine.{Affine}
+use Rattle.ac_affine.specs.declared.form.Collected.{Collected}
+use Rattle.ac_affine.specs.declared.form.Collected.TheVariants.{Known, Large, Unknown}
+use Rattle.ac_affine.specs.declared.index.Judged.{Judged}
+use Rattle.ac_affine.specs.declared.index.Parts.{Parts}
+use Rattle.ac_affine.specs.declared.scope.Entry.{Entry}
+use Rattle.ac_affine.specs.declared.scope.Meaning.{Meaning}
+use Rattle.ac_affine.specs.declared.scope.Meaning.TheVariants.{Parameter, Iterator, Array, LoopName, OwnStart, Nothing}
+use Rattle.ac_affine.specs.declared.scope.Scope.{Scope}
+use Rattle.ac_affine.specs.Faults.{earlier, broken_where}
+use Rattle.ac_affine.specs.Meanings.{meaning, is_array, is_reserved, read_rule, word_broken}
+use Rattle.ac_affine.specs.Forms.{is_constant, plus_times, times, sum_form, multiple_form, indicator, zeros, constant_form, limited, sum_of, product_of, negative_of, signed, are_kept}
+use Rattle.ac_affine.specs.IndexExpressions.{is_long, judged_number, gathered, no_parts, name_form, judged_name, judged_other, judged_variable, judged_access, judged_negative, form_of, is_not_affine, joined, chained, judged_chain, judged}
+use Rattle.ac_affine.specs.Comparisons.{difference_form, difference, compared_form, compared}
+use Rattle.ac_affine.proofs.Absent.{neither, not_where, each_map}
+use Rattle.ac_affine.proofs.Judging.{judged-number, judged-decimal, judged-access, judged-call, judged-negative, judged-group, judged-chain}
+use Rattle.ac_affine.proofs.Trees.{every_expr}
 use Rattle.ac_canonical_rules.specs.Columns.{Stands}
 
 -- ---- numbers other than 0

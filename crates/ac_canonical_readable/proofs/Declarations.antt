@@ -14,18 +14,18 @@ use Rattle.ac_syntax.specs.declared.tree.Slot.TheVariants as slot
 use Rattle.ac_grammar.specs.declared.tree.Declared.{Declared}
 use Rattle.ac_grammar.specs.declared.tree.Extent.{Extent}
 use Rattle.ac_grammar.specs.declared.tree.Statement.{Statement}
-use Rattle.ac_rules.specs.declared.fault.Which.TheVariants as which
-use Rattle.ac_rules.specs.declared.fault.Rule.TheVariants.{Limit}
-use Rattle.ac_rules.specs.declared.scope.Entry.{Entry}
-use Rattle.ac_rules.specs.declared.scope.Meaning.{Meaning}
-use Rattle.ac_rules.specs.declared.scope.Meaning.TheVariants as means
-use Rattle.ac_rules.specs.declared.scope.Scope.{Scope}
-use Rattle.ac_rules.specs.Faults.{earlier, broken}
-use Rattle.ac_rules.specs.Comparisons.{index, index_broken}
+use Rattle.ac_affine.specs.declared.fault.Which.TheVariants as which
+use Rattle.ac_affine.specs.declared.fault.Rule.TheVariants.{Limit}
+use Rattle.ac_affine.specs.declared.scope.Entry.{Entry}
+use Rattle.ac_affine.specs.declared.scope.Meaning.{Meaning}
+use Rattle.ac_affine.specs.declared.scope.Meaning.TheVariants as means
+use Rattle.ac_affine.specs.declared.scope.Scope.{Scope}
+use Rattle.ac_affine.specs.Faults.{earlier, broken}
+use Rattle.ac_affine.specs.Comparisons.{index, index_broken}
 use Rattle.ac_rules.specs.Declarations.{is_whole, is_loop_name, entry, count, param_entries, local_entries, fixed_scope, is_declared, count_broken, dimensions_broken, extents_broken, name_broken, declared_broken, each_declared_broken, array_of, arrays_from, slots_from, param_names}
 use Rattle.ac_rules.specs.LawsOfNames.{IsNamed}
-use Rattle.ac_rules.specs.Meanings.{declared_meaning, is_reserved, word_broken}
-use Rattle.ac_rules.proofs.Absent.{NoneBroken, neither, none_of, not_where}
+use Rattle.ac_affine.specs.Meanings.{declared_meaning, is_reserved, word_broken}
+use Rattle.ac_affine.proofs.Absent.{NoneBroken, neither, none_of, not_where}
 use Rattle.ac_rules.proofs.SmallPrograms.{names_none}
 use Rattle.ac_canonical_rules.specs.Readable.{FitScope}
 use Rattle.ac_canonical_rules.specs.Programs.{IsFew, DeclarationsFit, FitsArray, SlotsFit, LocalsFit}

@@ -8,23 +8,23 @@ use Rattle.ac_syntax.specs.Text as text
 use Rattle.ac_syntax.specs.declared.tree.Place.{Place}
 use Rattle.ac_grammar.specs.declared.tree.Expr.{Expr}
 use Rattle.ac_grammar.specs.declared.tree.Part.{Part}
-use Rattle.ac_rules.specs.declared.fault.Which.TheVariants.{Coefficient}
-use Rattle.ac_rules.specs.declared.fault.Rule.TheVariants.{Limit}
-use Rattle.ac_rules.specs.declared.form.Affine.{Affine}
-use Rattle.ac_rules.specs.declared.form.Collected.{Collected}
-use Rattle.ac_rules.specs.declared.form.Collected.TheVariants.{Known, Large, Unknown}
-use Rattle.ac_rules.specs.declared.index.Judged.{Judged}
-use Rattle.ac_rules.specs.declared.scope.Entry.{Entry}
-use Rattle.ac_rules.specs.declared.scope.Meaning.{Meaning}
-use Rattle.ac_rules.specs.declared.scope.Meaning.TheVariants.{Parameter, Iterator}
-use Rattle.ac_rules.specs.declared.scope.Scope.{Scope}
-use Rattle.ac_rules.specs.Faults.{broken_where}
-use Rattle.ac_rules.specs.Forms.{is_small, all_small, is_within, constant_form}
-use Rattle.ac_rules.specs.IndexExpressions.{judged}
-use Rattle.ac_rules.specs.Comparisons.{whole_broken, form_or_zero, placed_form, index_expr, index, index_broken, compared, condition, condition_broken}
-use Rattle.ac_rules.proofs.Absent.{NoneBroken, neither, none_of, both_true}
-use Rattle.ac_rules.proofs.Collecting.{Shaped, IsKnown}
-use Rattle.ac_rules.proofs.Judges.{Judges, judges, compared_judges, whole_known}
+use Rattle.ac_affine.specs.declared.fault.Which.TheVariants.{Coefficient}
+use Rattle.ac_affine.specs.declared.fault.Rule.TheVariants.{Limit}
+use Rattle.ac_affine.specs.declared.form.Affine.{Affine}
+use Rattle.ac_affine.specs.declared.form.Collected.{Collected}
+use Rattle.ac_affine.specs.declared.form.Collected.TheVariants.{Known, Large, Unknown}
+use Rattle.ac_affine.specs.declared.index.Judged.{Judged}
+use Rattle.ac_affine.specs.declared.scope.Entry.{Entry}
+use Rattle.ac_affine.specs.declared.scope.Meaning.{Meaning}
+use Rattle.ac_affine.specs.declared.scope.Meaning.TheVariants.{Parameter, Iterator}
+use Rattle.ac_affine.specs.declared.scope.Scope.{Scope}
+use Rattle.ac_affine.specs.Faults.{broken_where}
+use Rattle.ac_affine.specs.Forms.{is_small, all_small, is_within, constant_form}
+use Rattle.ac_affine.specs.IndexExpressions.{judged}
+use Rattle.ac_affine.specs.Comparisons.{whole_broken, form_or_zero, placed_form, index_expr, index, index_broken, compared, condition, condition_broken}
+use Rattle.ac_affine.proofs.Absent.{NoneBroken, neither, none_of, both_true}
+use Rattle.ac_affine.proofs.Collecting.{Shaped, IsKnown}
+use Rattle.ac_affine.proofs.Judges.{Judges, judges, compared_judges, whole_known}
 use Rattle.ac_canonical_rules.specs.Columns.{Stands, NameColumns, FitsScope}
 use Rattle.ac_canonical_rules.specs.Readable.{FitScope, PartsFitScope}
 use Rattle.ac_canonical_readable.specs.Carrying.{Carries}

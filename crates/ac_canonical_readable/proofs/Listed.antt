@@ -12,14 +12,14 @@ use Rattle.ac_grammar.specs.declared.tree.Declared.{Declared}
 use Rattle.ac_grammar.specs.declared.tree.Extent.{Extent}
 use Rattle.ac_grammar.specs.declared.tree.File.{File}
 use Rattle.ac_grammar.specs.declared.tree.Statement.{Statement}
-use Rattle.ac_rules.specs.declared.scope.Entry.{Entry}
-use Rattle.ac_rules.specs.declared.scope.Meaning.TheVariants as means
-use Rattle.ac_rules.specs.declared.scope.Scope.{Scope}
-use Rattle.ac_rules.specs.Comparisons.{index}
+use Rattle.ac_affine.specs.declared.scope.Entry.{Entry}
+use Rattle.ac_affine.specs.declared.scope.Meaning.TheVariants as means
+use Rattle.ac_affine.specs.declared.scope.Scope.{Scope}
+use Rattle.ac_affine.specs.Comparisons.{index}
 use Rattle.ac_rules.specs.Declarations.{is_whole, is_loop_name, entry, count, param_count, input_count, param_entries, local_entries, each_declared_broken, array_of, arrays_from, slots_from, param_names}
 use Rattle.ac_rules.specs.Files.{names_of}
 use Rattle.ac_rules.specs.LawsOfNames.{declared_names}
-use Rattle.ac_rules.proofs.Absent.{NoneBroken}
+use Rattle.ac_affine.proofs.Absent.{NoneBroken}
 use Rattle.ac_canonical_tree.specs.Trees.{locals}
 use Rattle.ac_canonical_rules.specs.Programs.{slot_entry, entry_at, entries_from}
 use Rattle.ac_canonical_readable.proofs.Declarations.{none_more, get_seam}

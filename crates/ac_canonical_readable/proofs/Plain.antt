@@ -5,12 +5,12 @@ use Rattle.std.specs.List.{AllByRecursion, IsDistinct}
 use Rattle.std.specs.Cmp.Lexicographic.{pointwise}
 use Rattle.std.proofs.lemmas.Bool.Decides.{Decides-eqb}
 use Rattle.std.proofs.lemmas.Slice.Eq.{slice_eq-Decides}
-use Rattle.ac_rules.specs.declared.scope.Entry.{Entry}
-use Rattle.ac_rules.specs.declared.scope.Meaning.{Meaning}
-use Rattle.ac_rules.specs.declared.scope.Meaning.TheVariants as means
+use Rattle.ac_affine.specs.declared.scope.Entry.{Entry}
+use Rattle.ac_affine.specs.declared.scope.Meaning.{Meaning}
+use Rattle.ac_affine.specs.declared.scope.Meaning.TheVariants as means
 use Rattle.ac_rules.specs.Declarations.{is_declared}
-use Rattle.ac_rules.specs.Meanings.{declared_meaning}
-use Rattle.ac_rules.proofs.Judges.{neither_is}
+use Rattle.ac_affine.specs.Meanings.{declared_meaning}
+use Rattle.ac_affine.proofs.Judges.{neither_is}
 use Rattle.ac_rules.proofs.SmallPrograms.{same_name}
 use Rattle.ac_canonical_readable.proofs.Scopes.{IsKept}
 

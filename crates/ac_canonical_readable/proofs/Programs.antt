@@ -18,20 +18,21 @@ use Rattle.ac_grammar.specs.declared.tree.Pragma.TheVariants.{Context, Commutati
 use Rattle.ac_grammar.specs.declared.tree.Statement.{Statement}
 use Rattle.ac_grammar.specs.declared.tree.Word.{Word}
 use Rattle.ac_grammar.specs.FileGrammar.{IsFunction, function, IsFile, file}
-use Rattle.ac_rules.specs.declared.scope.Entry.{Entry}
-use Rattle.ac_rules.specs.declared.scope.Meaning.{Meaning}
-use Rattle.ac_rules.specs.declared.scope.Meaning.TheVariants as means
-use Rattle.ac_rules.specs.declared.scope.Scope.{Scope}
-use Rattle.ac_rules.specs.Faults.{rule_broken}
+use Rattle.ac_affine.specs.declared.scope.Entry.{Entry}
+use Rattle.ac_affine.specs.declared.scope.Meaning.{Meaning}
+use Rattle.ac_affine.specs.declared.scope.Meaning.TheVariants as means
+use Rattle.ac_affine.specs.declared.scope.Scope.{Scope}
+use Rattle.ac_affine.specs.Faults.{rule_broken}
 use Rattle.ac_rules.specs.Declarations.{is_whole, is_loop_name, param_count, input_count, param_entries, local_entries, fixed_scope, each_declared_broken, arrays_from}
-use Rattle.ac_rules.specs.Laws.{IsNumbered}
+use Rattle.ac_affine.specs.Laws.{IsNumbered}
 use Rattle.ac_rules.specs.LawsOfNames.{IsNamed}
-use Rattle.ac_rules.specs.Meanings.{declared_meaning, iterator_number, is_reserved, word_broken}
+use Rattle.ac_affine.specs.Meanings.{declared_meaning, iterator_number, is_reserved, word_broken}
 use Rattle.ac_rules.specs.Statements.{statements_broken, stmts}
 use Rattle.ac_rules.specs.Values.{array_number}
 use Rattle.ac_rules.specs.Files.{context_parts, commutative_words, output_words, has_output_line, output_rule, output_broken, pragma_broken, output_numbers, output_line, body_scope, context_under, names_of, file_broken, program_of}
-use Rattle.ac_rules.proofs.Absent.{NoneBroken, neither, none_of, both_true, each_append, each_map}
-use Rattle.ac_rules.proofs.DeclaredNumbers.{counted, declared_has}
+use Rattle.ac_affine.proofs.Absent.{NoneBroken, neither, none_of, both_true, each_append, each_map}
+use Rattle.ac_affine.proofs.NumberedMeanings.{declared_has}
+use Rattle.ac_rules.proofs.DeclaredNumbers.{counted}
 use Rattle.ac_rules.proofs.DeclaredOnce.{declared_once, names_mean_their_own}
 use Rattle.ac_rules.proofs.NumberedNames.{files_are_numbered}
 use Rattle.ac_rules.proofs.WrittenPrograms.{context_none}

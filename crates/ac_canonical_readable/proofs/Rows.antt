@@ -13,9 +13,9 @@ use Rattle.ac_syntax.specs.declared.tree.Value.TheVariants.{Number, Access, Call
 use Rattle.ac_syntax.specs.declared.tree.Stmt.{Stmt, Row_of-Stmt, end_of-Stmt, more_of-Stmt, items-the_row-Stmt}
 use Rattle.ac_syntax.specs.declared.tree.Stmt as of_stmt
 use Rattle.ac_syntax.specs.declared.tree.Stmt.TheVariants as s
-use Rattle.ac_rules.specs.declared.scope.Meaning.TheVariants.{Nothing}
-use Rattle.ac_rules.specs.declared.scope.Entry.{Entry}
-use Rattle.ac_rules.specs.declared.scope.Scope.{Scope}
+use Rattle.ac_affine.specs.declared.scope.Meaning.TheVariants.{Nothing}
+use Rattle.ac_affine.specs.declared.scope.Entry.{Entry}
+use Rattle.ac_affine.specs.declared.scope.Scope.{Scope}
 use Rattle.ac_rules.specs.Statements.{inside, in_start}
 use Rattle.ac_rules.specs.Values.{placed}
 use Rattle.ac_canonical_tree.specs.Names.{count}

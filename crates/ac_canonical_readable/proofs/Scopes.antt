@@ -8,13 +8,13 @@ use Rattle.std.proofs.lemmas.List.{length-append}
 use Rattle.ac_syntax.specs.Text.{array_name}
 use Rattle.ac_syntax.specs.Text as text
 use Rattle.ac_syntax.specs.declared.tree.Program.{Program}
-use Rattle.ac_rules.specs.declared.scope.Entry.{Entry}
-use Rattle.ac_rules.specs.declared.scope.Meaning.{Meaning}
-use Rattle.ac_rules.specs.declared.scope.Meaning.TheVariants as means
-use Rattle.ac_rules.specs.declared.scope.Scope.{Scope}
+use Rattle.ac_affine.specs.declared.scope.Entry.{Entry}
+use Rattle.ac_affine.specs.declared.scope.Meaning.{Meaning}
+use Rattle.ac_affine.specs.declared.scope.Meaning.TheVariants as means
+use Rattle.ac_affine.specs.declared.scope.Scope.{Scope}
 use Rattle.ac_rules.specs.Declarations.{is_declared}
 use Rattle.ac_rules.specs.LawsOfNames.{IsNamed}
-use Rattle.ac_rules.specs.Meanings.{declared_meaning, iterator_number, is_starting, meaning_behind, meaning}
+use Rattle.ac_affine.specs.Meanings.{declared_meaning, iterator_number, is_starting, meaning_behind, meaning}
 use Rattle.ac_rules.specs.Statements.{inside}
 use Rattle.ac_canonical_readable.specs.Carrying.{Carries}
 

@@ -20,27 +20,27 @@ use Rattle.ac_grammar.specs.declared.tree.Expr.{Expr}
 use Rattle.ac_grammar.specs.declared.tree.Statement.{Statement}
 use Rattle.ac_grammar.specs.declared.tree.Statement.TheVariants as statement
 use Rattle.ac_grammar.specs.StatementsGrammar.{IsStatements}
-use Rattle.ac_rules.specs.declared.fault.Which.TheVariants as which
-use Rattle.ac_rules.specs.declared.fault.Rule.TheVariants.{Duplicate, Endless, Limit}
-use Rattle.ac_rules.specs.declared.form.Collected.{Collected}
-use Rattle.ac_rules.specs.declared.form.Collected.TheVariants.{Known, Large, Unknown}
-use Rattle.ac_rules.specs.declared.index.Judged.{Judged}
-use Rattle.ac_rules.specs.declared.scope.Entry.{Entry}
-use Rattle.ac_rules.specs.declared.scope.Meaning.{Meaning}
-use Rattle.ac_rules.specs.declared.scope.Meaning.TheVariants as means
-use Rattle.ac_rules.specs.declared.scope.Scope.{Scope}
-use Rattle.ac_rules.specs.Faults.{earlier, broken_where, rule_broken}
-use Rattle.ac_rules.specs.Forms.{constant_form}
-use Rattle.ac_rules.specs.Meanings.{meaning, declared_meaning, word_broken}
-use Rattle.ac_rules.specs.IndexExpressions.{is_long}
-use Rattle.ac_rules.specs.Comparisons.{whole_broken, form_or_zero, placed_form, index_expr, index, index_broken, rel_of, compared, comparison, condition, condition_broken}
+use Rattle.ac_affine.specs.declared.fault.Which.TheVariants as which
+use Rattle.ac_affine.specs.declared.fault.Rule.TheVariants.{Duplicate, Endless, Limit}
+use Rattle.ac_affine.specs.declared.form.Collected.{Collected}
+use Rattle.ac_affine.specs.declared.form.Collected.TheVariants.{Known, Large, Unknown}
+use Rattle.ac_affine.specs.declared.index.Judged.{Judged}
+use Rattle.ac_affine.specs.declared.scope.Entry.{Entry}
+use Rattle.ac_affine.specs.declared.scope.Meaning.{Meaning}
+use Rattle.ac_affine.specs.declared.scope.Meaning.TheVariants as means
+use Rattle.ac_affine.specs.declared.scope.Scope.{Scope}
+use Rattle.ac_affine.specs.Faults.{earlier, broken_where, rule_broken}
+use Rattle.ac_affine.specs.Forms.{constant_form}
+use Rattle.ac_affine.specs.Meanings.{meaning, declared_meaning, word_broken}
+use Rattle.ac_affine.specs.IndexExpressions.{is_long}
+use Rattle.ac_affine.specs.Comparisons.{whole_broken, form_or_zero, placed_form, index_expr, index, index_broken, rel_of, compared, comparison, condition, condition_broken}
 use Rattle.ac_rules.specs.Declarations.{is_declared}
 use Rattle.ac_rules.specs.Values.{array_number, read_of, access_broken, value_broken}
 use Rattle.ac_rules.specs.Statements.{inside, in_start, is_running, untyped_rule, loop_rule, step_broken, step_number, form_bounds, may_bound, is_endless, head_broken, target_rule, assigned_value, statement_broken, statements_broken, stmt, stmts}
-use Rattle.ac_rules.proofs.Absent.{NoneBroken, neither, none_of, not_where}
+use Rattle.ac_affine.proofs.Absent.{NoneBroken, neither, none_of, not_where}
 use Rattle.ac_rules.proofs.ArraysRead.{rule_holds}
-use Rattle.ac_rules.proofs.Collecting.{IsKnown}
-use Rattle.ac_rules.proofs.Judges.{Judges, neither_is, compared_judges, whole_known}
+use Rattle.ac_affine.proofs.Collecting.{IsKnown}
+use Rattle.ac_affine.proofs.Judges.{Judges, neither_is, compared_judges, whole_known}
 use Rattle.ac_rules.proofs.Stepping.{broken-loop, broken-branch, broken-assign, stmt-loop, stmt-branch, stmt-assign}
 use Rattle.ac_canonical_rules.specs.Readable.{ArrayStands, FitsLoop, IsReadable, IsReadableStmt}
 use Rattle.ac_canonical_names.specs.Spelled.{AreSpelled}

@@ -2,9 +2,9 @@
 use Rattle.std.specs.Prelude.{◌≡◌, ℕ, List, length, Some, slice_get}
 use Rattle.ac_syntax.specs.Text.{array_name}
 use Rattle.ac_syntax.specs.Text as text
-use Rattle.ac_rules.specs.declared.scope.Meaning.TheVariants.{Parameter, Iterator, Array, Nothing}
-use Rattle.ac_rules.specs.declared.scope.Entry.{Entry}
-use Rattle.ac_rules.specs.declared.scope.Scope.{Scope}
+use Rattle.ac_affine.specs.declared.scope.Meaning.TheVariants.{Parameter, Iterator, Array, Nothing}
+use Rattle.ac_affine.specs.declared.scope.Entry.{Entry}
+use Rattle.ac_affine.specs.declared.scope.Scope.{Scope}
 use Rattle.ac_canonical_rules.specs.Columns.{Stands}
 
 -- each name that stands for something at a place of a file stands for the same at a place of a canonical text, and is what the text

@@ -7,9 +7,9 @@ use Rattle.ac_grammar.specs.declared.tree.Expr.{Expr}
 use Rattle.ac_grammar.specs.declared.tree.Part.{Part}
 use Rattle.ac_grammar.specs.declared.tree.File.{File}
 use Rattle.ac_grammar.specs.FileGrammar.{IsFile}
-use Rattle.ac_rules.specs.declared.scope.Entry.{Entry}
-use Rattle.ac_rules.specs.declared.scope.Scope.{Scope}
-use Rattle.ac_rules.specs.Comparisons.{index, index_broken, condition, condition_broken}
+use Rattle.ac_affine.specs.declared.scope.Entry.{Entry}
+use Rattle.ac_affine.specs.declared.scope.Scope.{Scope}
+use Rattle.ac_affine.specs.Comparisons.{index, index_broken, condition, condition_broken}
 use Rattle.ac_rules.specs.Files.{file_broken, program_of}
 use Rattle.ac_canonical_rules.specs.Columns.{FitsScope}
 use Rattle.ac_canonical_rules.specs.Readable.{PartsFitScope}

@@ -8,18 +8,18 @@ use Rattle.ac_syntax.specs.declared.tree.IndexExpr.{IndexExpr}
 use Rattle.ac_syntax.specs.Text as text
 use Rattle.ac_grammar.specs.declared.tree.Expr.{Expr}
 use Rattle.ac_grammar.specs.declared.tree.Part.{Part}
-use Rattle.ac_rules.specs.declared.fault.Broken.{Broken}
-use Rattle.ac_rules.specs.declared.form.Affine.{Affine}
-use Rattle.ac_rules.specs.declared.form.Collected.{Collected}
-use Rattle.ac_rules.specs.declared.form.Collected.TheVariants.{Known}
-use Rattle.ac_rules.specs.declared.scope.Entry.{Entry}
-use Rattle.ac_rules.specs.declared.scope.Scope.{Scope}
-use Rattle.ac_rules.specs.declared.index.Judged.{Judged}
-use Rattle.ac_rules.specs.Faults.{earlier}
-use Rattle.ac_rules.specs.Forms.{plus_times, zeros, constant_form, is_within}
-use Rattle.ac_rules.specs.IndexExpressions.{judged}
-use Rattle.ac_rules.specs.Comparisons.{first_of, first_from, whole_broken, index, index_broken, difference_form, compared_form, compared_forms, compared, rel_of, comparison, condition, condition_broken}
-use Rattle.ac_rules.proofs.Absent.{NoneBroken}
+use Rattle.ac_affine.specs.declared.fault.Broken.{Broken}
+use Rattle.ac_affine.specs.declared.form.Affine.{Affine}
+use Rattle.ac_affine.specs.declared.form.Collected.{Collected}
+use Rattle.ac_affine.specs.declared.form.Collected.TheVariants.{Known}
+use Rattle.ac_affine.specs.declared.scope.Entry.{Entry}
+use Rattle.ac_affine.specs.declared.scope.Scope.{Scope}
+use Rattle.ac_affine.specs.declared.index.Judged.{Judged}
+use Rattle.ac_affine.specs.Faults.{earlier}
+use Rattle.ac_affine.specs.Forms.{plus_times, zeros, constant_form, is_within}
+use Rattle.ac_affine.specs.IndexExpressions.{judged}
+use Rattle.ac_affine.specs.Comparisons.{first_of, first_from, whole_broken, index, index_broken, difference_form, compared_form, compared_forms, compared, rel_of, comparison, condition, condition_broken}
+use Rattle.ac_affine.proofs.Absent.{NoneBroken}
 use Rattle.ac_canonical_tree.specs.Trees.{Each, IsFormTree, IsComparisonTree, relation}
 use Rattle.ac_canonical_rules.specs.Places.{forms_without_places, comparison_without_place, parts_without_places}
 use Rattle.ac_canonical_rules.specs.Columns.{FitsScope}

@@ -17,14 +17,14 @@ use Rattle.ac_syntax.specs.Text.{whole_scope, name_or_none}
 use Rattle.ac_grammar.specs.declared.tree.Extent.{Extent}
 use Rattle.ac_grammar.specs.declared.tree.Declared.{Declared}
 use Rattle.ac_grammar.specs.declared.tree.Statement.{Statement}
-use Rattle.ac_rules.specs.declared.scope.Meaning.{Meaning}
-use Rattle.ac_rules.specs.declared.scope.Meaning.TheVariants as means
-use Rattle.ac_rules.specs.declared.scope.Entry.{Entry}
-use Rattle.ac_rules.specs.declared.scope.Scope.{Scope}
-use Rattle.ac_rules.specs.Meanings.{declared_meaning, is_reserved}
-use Rattle.ac_rules.specs.Comparisons.{index, index_broken}
+use Rattle.ac_affine.specs.declared.scope.Meaning.{Meaning}
+use Rattle.ac_affine.specs.declared.scope.Meaning.TheVariants as means
+use Rattle.ac_affine.specs.declared.scope.Entry.{Entry}
+use Rattle.ac_affine.specs.declared.scope.Scope.{Scope}
+use Rattle.ac_affine.specs.Meanings.{declared_meaning, is_reserved}
+use Rattle.ac_affine.specs.Comparisons.{index, index_broken}
 use Rattle.ac_rules.specs.Declarations.{runs, is_whole, is_loop_name, entry, count, param_entries, local_entries, param_count, input_count, fixed_scope, is_declared, count_broken, extents_broken, name_broken, declared_broken, each_declared_broken, array_of, arrays_from, slots_from, param_names}
-use Rattle.ac_rules.proofs.Absent.{NoneBroken}
+use Rattle.ac_affine.proofs.Absent.{NoneBroken}
 use Rattle.ac_canonical_tree.specs.Trees.{Each, IsExtentTree, IsDeclaredTree, has_dimensions, IsParameterTree, IsInputTree, IsSlotTree}
 use Rattle.ac_canonical_rules.specs.Places.{forms_without_places, array_without_places}
 use Rattle.ac_canonical_rules.specs.Readable.{FitScope}

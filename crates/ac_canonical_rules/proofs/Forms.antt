@@ -17,27 +17,27 @@ use Rattle.ac_grammar.specs.declared.tree.Operator.TheVariants.{Add, Multiply}
 use Rattle.ac_grammar.specs.declared.tree.Expr.{Expr}
 use Rattle.ac_grammar.specs.declared.tree.Expr.TheVariants as expr
 use Rattle.ac_grammar.specs.Chains.{chain_of}
-use Rattle.ac_rules.specs.declared.form.Affine.{Affine}
-use Rattle.ac_rules.specs.declared.form.Collected.{Collected}
-use Rattle.ac_rules.specs.declared.form.Collected.TheVariants.{Known}
-use Rattle.ac_rules.specs.declared.scope.Entry.{Entry}
-use Rattle.ac_rules.specs.declared.scope.Meaning.{Meaning}
-use Rattle.ac_rules.specs.declared.scope.Meaning.TheVariants.{Parameter, Iterator}
-use Rattle.ac_rules.specs.declared.scope.Scope.{Scope}
-use Rattle.ac_rules.specs.declared.index.Judged.{Judged}
-use Rattle.ac_rules.specs.Forms.{is_small, all_small, is_within, is_kept, all_kept, are_kept, is_constant, sum_form, multiple_form, zeros, constant_form, parameter_form, iterator_form, is_known, is_large, limited, negative_of}
-use Rattle.ac_rules.specs.Meanings.{meaning, is_array, read_rule, is_reserved}
-use Rattle.ac_rules.specs.declared.fault.Rule.TheVariants.{NotAffine}
-use Rattle.ac_rules.specs.declared.fault.Broken.{Broken}
-use Rattle.ac_rules.specs.Faults.{earlier, broken_where}
-use Rattle.ac_rules.specs.IndexExpressions.{form_of, judged, judged_number, judged_negative, name_form, joined, chained}
-use Rattle.ac_rules.specs.Comparisons.{whole_broken, index_expr}
+use Rattle.ac_affine.specs.declared.form.Affine.{Affine}
+use Rattle.ac_affine.specs.declared.form.Collected.{Collected}
+use Rattle.ac_affine.specs.declared.form.Collected.TheVariants.{Known}
+use Rattle.ac_affine.specs.declared.scope.Entry.{Entry}
+use Rattle.ac_affine.specs.declared.scope.Meaning.{Meaning}
+use Rattle.ac_affine.specs.declared.scope.Meaning.TheVariants.{Parameter, Iterator}
+use Rattle.ac_affine.specs.declared.scope.Scope.{Scope}
+use Rattle.ac_affine.specs.declared.index.Judged.{Judged}
+use Rattle.ac_affine.specs.Forms.{is_small, all_small, is_within, is_kept, all_kept, are_kept, is_constant, sum_form, multiple_form, zeros, constant_form, parameter_form, iterator_form, is_known, is_large, limited, negative_of}
+use Rattle.ac_affine.specs.Meanings.{meaning, is_array, read_rule, is_reserved}
+use Rattle.ac_affine.specs.declared.fault.Rule.TheVariants.{NotAffine}
+use Rattle.ac_affine.specs.declared.fault.Broken.{Broken}
+use Rattle.ac_affine.specs.Faults.{earlier, broken_where}
+use Rattle.ac_affine.specs.IndexExpressions.{form_of, judged, judged_number, judged_negative, name_form, joined, chained}
+use Rattle.ac_affine.specs.Comparisons.{whole_broken, index_expr}
 use Rattle.ac_rules.specs.Values.{reading, number, negative_reading, chained_reading}
-use Rattle.ac_rules.proofs.Absent.{both_true}
+use Rattle.ac_affine.proofs.Absent.{both_true}
 use Rattle.ac_rules.proofs.Readings.{reading-number, reading-access, reading-negative, reading-chain}
-use Rattle.ac_rules.proofs.Collecting.{Shaped}
-use Rattle.ac_rules.proofs.Judges.{judges}
-use Rattle.ac_rules.proofs.Judging.{judged-number, judged-access, judged-negative, judged-chain}
+use Rattle.ac_affine.proofs.Collecting.{Shaped}
+use Rattle.ac_affine.proofs.Judges.{judges}
+use Rattle.ac_affine.proofs.Judging.{judged-number, judged-access, judged-negative, judged-chain}
 use Rattle.ac_canonical_tree.specs.Trees.{Each, IsNameTree, IsNumberTree, IsIntegerTree, Summand, summand, products, summands, IsProductTree, IsSummandTree, IsSumTree, IsFormTree}
 use Rattle.ac_canonical_rules.specs.Places.{form_without_place}
 use Rattle.ac_canonical_rules.specs.Columns.{Stands, NameColumns, FitsScope}

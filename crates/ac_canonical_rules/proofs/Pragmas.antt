@@ -9,15 +9,15 @@ use Rattle.ac_syntax.specs.Text as text
 use Rattle.ac_syntax.specs.Text.{array_name}
 use Rattle.ac_grammar.specs.declared.tree.Word.{Word}
 use Rattle.ac_grammar.specs.declared.tree.Pragma.{Pragma}
-use Rattle.ac_rules.specs.declared.fault.Broken.{Broken}
-use Rattle.ac_rules.specs.declared.scope.Meaning.TheVariants as means
-use Rattle.ac_rules.specs.declared.scope.Entry.{Entry}
-use Rattle.ac_rules.specs.declared.scope.Scope.{Scope}
-use Rattle.ac_rules.specs.Meanings.{declared_meaning, is_reserved, word_broken}
-use Rattle.ac_rules.specs.Comparisons.{condition}
+use Rattle.ac_affine.specs.declared.fault.Broken.{Broken}
+use Rattle.ac_affine.specs.declared.scope.Meaning.TheVariants as means
+use Rattle.ac_affine.specs.declared.scope.Entry.{Entry}
+use Rattle.ac_affine.specs.declared.scope.Scope.{Scope}
+use Rattle.ac_affine.specs.Meanings.{declared_meaning, is_reserved, word_broken}
+use Rattle.ac_affine.specs.Comparisons.{condition}
 use Rattle.ac_rules.specs.Values.{array_number}
 use Rattle.ac_rules.specs.Files.{context_parts, commutative_words, output_words, has_output_line, output_broken, pragma_broken, output_numbers}
-use Rattle.ac_rules.proofs.Absent.{NoneBroken}
+use Rattle.ac_affine.proofs.Absent.{NoneBroken}
 use Rattle.ac_canonical_tree.specs.Trees.{Each, IsWordOf, AreContext, AreCommutative, AreOutput}
 use Rattle.ac_canonical_rules.specs.Places.{parts_without_places}
 use Rattle.ac_canonical_rules.specs.Readable.{PartsFitScope}

@@ -13,11 +13,11 @@ use Rattle.ac_syntax.specs.Text as text
 use Rattle.ac_syntax.specs.Text.{whole_scope}
 use Rattle.ac_grammar.specs.declared.tree.Statement.{Statement}
 use Rattle.ac_grammar.specs.declared.tree.File.{File}
-use Rattle.ac_rules.specs.declared.scope.Entry.{Entry}
-use Rattle.ac_rules.specs.declared.scope.Scope.{Scope}
-use Rattle.ac_rules.specs.Faults.{earlier}
-use Rattle.ac_rules.specs.Meanings.{is_reserved, word_broken}
-use Rattle.ac_rules.specs.Comparisons.{first_of, condition}
+use Rattle.ac_affine.specs.declared.scope.Entry.{Entry}
+use Rattle.ac_affine.specs.declared.scope.Scope.{Scope}
+use Rattle.ac_affine.specs.Faults.{earlier}
+use Rattle.ac_affine.specs.Meanings.{is_reserved, word_broken}
+use Rattle.ac_affine.specs.Comparisons.{first_of, condition}
 use Rattle.ac_rules.specs.Declarations.{runs, is_whole, is_loop_name, param_entries, local_entries, param_count, fixed_scope, each_declared_broken, arrays_from, slots_from, param_names}
 use Rattle.ac_rules.specs.Statements.{all_targets, statement_broken, statements_broken, stmts}
 use Rattle.ac_rules.specs.Files.{body_scope, context_parts, commutative_words, output_line, assignments_broken, declarations_broken, body_broken, pragma_broken, pragmas_broken, broken_under, arrays_under, body_under, context_under, program_under, names_of, file_broken, program_of}

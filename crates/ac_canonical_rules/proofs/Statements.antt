@@ -25,18 +25,18 @@ use Rattle.ac_grammar.specs.declared.tree.Part.{Part}
 use Rattle.ac_grammar.specs.declared.tree.Step.{Step}
 use Rattle.ac_grammar.specs.declared.tree.Statement.{Statement}
 use Rattle.ac_grammar.specs.declared.tree.Statement.TheVariants as statement
-use Rattle.ac_rules.specs.declared.fault.Which.TheVariants as which
-use Rattle.ac_rules.specs.declared.fault.Rule.TheVariants.{Endless, Limit}
-use Rattle.ac_rules.specs.declared.fault.Broken.{Broken}
-use Rattle.ac_rules.specs.declared.scope.Entry.{Entry}
-use Rattle.ac_rules.specs.declared.scope.Scope.{Scope}
-use Rattle.ac_rules.specs.declared.scope.Meaning.TheVariants as means
-use Rattle.ac_rules.specs.Faults.{earlier, broken_where, rule_broken}
-use Rattle.ac_rules.specs.Meanings.{meaning, is_reserved, word_broken}
-use Rattle.ac_rules.specs.Comparisons.{index, index_broken, rel_of, compared, condition, condition_broken}
+use Rattle.ac_affine.specs.declared.fault.Which.TheVariants as which
+use Rattle.ac_affine.specs.declared.fault.Rule.TheVariants.{Endless, Limit}
+use Rattle.ac_affine.specs.declared.fault.Broken.{Broken}
+use Rattle.ac_affine.specs.declared.scope.Entry.{Entry}
+use Rattle.ac_affine.specs.declared.scope.Scope.{Scope}
+use Rattle.ac_affine.specs.declared.scope.Meaning.TheVariants as means
+use Rattle.ac_affine.specs.Faults.{earlier, broken_where, rule_broken}
+use Rattle.ac_affine.specs.Meanings.{meaning, is_reserved, word_broken}
+use Rattle.ac_affine.specs.Comparisons.{index, index_broken, rel_of, compared, condition, condition_broken}
 use Rattle.ac_rules.specs.Values.{reading, value}
 use Rattle.ac_rules.specs.Statements.{inside, in_start, loop_rule, step_broken, step_number, may_bound, is_endless, head_broken, statement_broken, statements_broken, stmt, stmts}
-use Rattle.ac_rules.proofs.Absent.{NoneBroken}
+use Rattle.ac_affine.proofs.Absent.{NoneBroken}
 use Rattle.ac_rules.proofs.Stepping.{broken-loop, broken-branch, broken-assign, stmt-loop, stmt-branch, stmt-assign}
 use Rattle.ac_canonical_tree.specs.Trees.{Each, IsWordOf, IsFormTree, IsComparisonTree, IsConditionTree, IsStepTree, IsValueTree, IsStatementTree, AreStatementTrees}
 use Rattle.ac_canonical_rules.specs.Places.{nowhere, form_without_place, forms_without_places, parts_without_places, condition_without_places, value_without_places, values_without_places, stmt_without_places, stmts_without_places}

@@ -3,8 +3,8 @@ use Rattle.std.proofs.Common.{◌≡◌, ℕ, zero, suc, ◌+◌, ◌<◌, List,
 use Rattle.std.specs.List.{range_with_len}
 use Rattle.std.proofs.lemmas.Int.{ints}
 use Rattle.std.proofs.lemmas.Bool.Decides.{nat_tests}
-use Rattle.ac_rules.specs.Forms.{plus_times, times, indicator, zeros, all_small, is_small}
-use Rattle.ac_rules.proofs.Absent.{both_true}
+use Rattle.ac_affine.specs.Forms.{plus_times, times, indicator, zeros, all_small, is_small}
+use Rattle.ac_affine.proofs.Absent.{both_true}
 
 zero_times : (c : ℤ) → c *ℤ pos 0 ≡ pos 0
 zero_times c = omega (arith, ints)

@@ -14,15 +14,15 @@ use Rattle.ac_grammar.specs.declared.tree.Operator.{Operator}
 use Rattle.ac_grammar.specs.declared.tree.Operator.TheVariants.{Add, Subtract, Multiply, Divide, Remainder}
 use Rattle.ac_grammar.specs.declared.tree.Expr.{Expr}
 use Rattle.ac_grammar.specs.declared.tree.Expr.TheVariants as expr
-use Rattle.ac_rules.specs.declared.scope.Entry.{Entry}
-use Rattle.ac_rules.specs.declared.scope.Scope.{Scope}
-use Rattle.ac_rules.specs.declared.scope.Meaning.{Meaning}
-use Rattle.ac_rules.specs.declared.scope.Meaning.TheVariants as means
-use Rattle.ac_rules.specs.Forms.{is_within}
-use Rattle.ac_rules.specs.Meanings.{meaning, read_rule, is_reserved}
-use Rattle.ac_rules.specs.Comparisons.{index, index_broken, index_expr}
+use Rattle.ac_affine.specs.declared.scope.Entry.{Entry}
+use Rattle.ac_affine.specs.declared.scope.Scope.{Scope}
+use Rattle.ac_affine.specs.declared.scope.Meaning.{Meaning}
+use Rattle.ac_affine.specs.declared.scope.Meaning.TheVariants as means
+use Rattle.ac_affine.specs.Forms.{is_within}
+use Rattle.ac_affine.specs.Meanings.{meaning, read_rule, is_reserved}
+use Rattle.ac_affine.specs.Comparisons.{index, index_broken, index_expr}
 use Rattle.ac_rules.specs.Values.{Reading, number, other, reading, value_of, reading_broken, symbol, operator_name, placed, access_broken, call_reading, negative_reading, group_reading, joined_reading, value_place}
-use Rattle.ac_rules.proofs.Absent.{NoneBroken}
+use Rattle.ac_affine.proofs.Absent.{NoneBroken}
 use Rattle.ac_rules.proofs.Readings.{reading-decimal, reading-access, reading-call, reading-negative, reading-group, reading-chain}
 use Rattle.ac_canonical_tree.specs.Trees.{Each, IsWordOf, IsFormTree, sign, IsCallTree, negation, operation, decimal, function, IsValueTree, AreValueTrees}
 use Rattle.ac_canonical_tree.specs.Names.{count}

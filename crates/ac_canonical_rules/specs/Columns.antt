@@ -5,11 +5,11 @@ use Rattle.ac_syntax.specs.declared.tree.IndexExpr.{IndexExpr}
 use Rattle.ac_syntax.specs.Small.{IsSmall}
 use Rattle.ac_syntax.specs.Text.{is_other_than_zero}
 use Rattle.ac_syntax.specs.Text as text
-use Rattle.ac_rules.specs.declared.scope.Meaning.{Meaning}
-use Rattle.ac_rules.specs.declared.scope.Meaning.TheVariants.{Parameter, Iterator}
-use Rattle.ac_rules.specs.declared.scope.Entry.{Entry}
-use Rattle.ac_rules.specs.declared.scope.Scope.{Scope}
-use Rattle.ac_rules.specs.Meanings.{meaning, is_reserved}
+use Rattle.ac_affine.specs.declared.scope.Meaning.{Meaning}
+use Rattle.ac_affine.specs.declared.scope.Meaning.TheVariants.{Parameter, Iterator}
+use Rattle.ac_affine.specs.declared.scope.Entry.{Entry}
+use Rattle.ac_affine.specs.declared.scope.Scope.{Scope}
+use Rattle.ac_affine.specs.Meanings.{meaning, is_reserved}
 
 -- a name that stands for this, and is no reserved word
 pub record Stands (names : List Entry) (scope : Scope) (name : List ℕ) (m : Meaning) : Type 0 where

@@ -10,9 +10,9 @@ use Rattle.ac_grammar.specs.declared.tree.Expr.{Expr}
 use Rattle.ac_grammar.specs.declared.tree.Part.{Part}
 use Rattle.ac_grammar.specs.declared.tree.Statement.{Statement}
 use Rattle.ac_grammar.specs.declared.tree.File.{File}
-use Rattle.ac_rules.specs.declared.scope.Entry.{Entry}
-use Rattle.ac_rules.specs.declared.scope.Scope.{Scope}
-use Rattle.ac_rules.specs.Comparisons.{index, index_broken, condition, condition_broken}
+use Rattle.ac_affine.specs.declared.scope.Entry.{Entry}
+use Rattle.ac_affine.specs.declared.scope.Scope.{Scope}
+use Rattle.ac_affine.specs.Comparisons.{index, index_broken, condition, condition_broken}
 use Rattle.ac_rules.specs.Values.{value, value_broken}
 use Rattle.ac_rules.specs.Statements.{statement_broken, stmt}
 use Rattle.ac_rules.specs.Files.{file_broken, program_of}

@@ -14,10 +14,10 @@ use Rattle.ac_syntax.specs.Small.{IsSmall}
 use Rattle.ac_syntax.specs.Turns.{bounds}
 use Rattle.ac_syntax.specs.Text.{is_other_than_zero, array_name, is_operator, is_decimal}
 use Rattle.ac_syntax.specs.Text as text
-use Rattle.ac_rules.specs.declared.scope.Meaning.TheVariants.{Array, Nothing}
-use Rattle.ac_rules.specs.declared.scope.Entry.{Entry}
-use Rattle.ac_rules.specs.declared.scope.Scope.{Scope}
-use Rattle.ac_rules.specs.Meanings.{is_reserved}
+use Rattle.ac_affine.specs.declared.scope.Meaning.TheVariants.{Array, Nothing}
+use Rattle.ac_affine.specs.declared.scope.Entry.{Entry}
+use Rattle.ac_affine.specs.declared.scope.Scope.{Scope}
+use Rattle.ac_affine.specs.Meanings.{is_reserved}
 use Rattle.ac_rules.specs.Declarations.{is_declared}
 use Rattle.ac_rules.specs.Statements.{inside, in_start, is_running}
 use Rattle.ac_canonical_tree.specs.Names.{count}

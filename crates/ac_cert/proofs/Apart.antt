@@ -94,17 +94,6 @@ residue-apart x m f kids R c is h =
 pub step-is_onto : (s : Step) (c d : Conj) → after_step s c ≡ Some d → IsOnto c d
 step-is_onto s c d e = let on = step-onto s c d e in record { more = on.more; rows = on.rows; columns = on.columns }
 
-take-front : {A : Type 0} (xs ys : List A) → take (length xs) (xs ++ ys) ≡ xs
-take-front [] ys = refl
-take-front (x ∷ xs) ys = ap (λ (zs : List _). x ∷ zs) (take-front xs ys)
-
-pub back-is : (c d e : Conj) (columns count : ℕ) → e ≡ first_of columns count d → IsOnto c d → c.columns ≡ columns → length c.rows ≡ count → e ≡ c
-back-is c d e columns count is on n k =
-    is ∙ ap (λ (rs : List Row). first_of columns count (over columns rs)) on.rows ∙ ap (λ (j : ℕ). over columns (take j (c.rows ++ on.more))) (sym k) ∙ ap (λ (rs : List Row). over columns rs) (take-front c.rows on.more) ∙ ap (λ (j : ℕ). over j c.rows) (sym n)
-  where
-    over : ℕ → List Row → Conj
-    over n rows = record { columns = n; rows = rows }
-
 -- ---- rows of a branch
 
 record SideRows (f : Affine) (columns : ℕ) (s : Row × Row) : Type 0 where

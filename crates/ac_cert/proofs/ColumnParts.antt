@@ -9,7 +9,8 @@ use Rattle.ac_forms.specs.Rows.{form_of, Holds, Meets}
 use Rattle.ac_forms.specs.declared.row.Row.{Row}
 use Rattle.ac_forms.specs.declared.row.Row.TheVariants.{Eq, Div, Ge}
 use Rattle.ac_cert.specs.declared.column.Bound.{Bound}
-use Rattle.ac_cert.specs.Bounds.{has_column, without, is_low, is_high, low_bound, high_bound, lows, highs, frees, only_bounds}
+use Rattle.ac_cert.specs.Bounds.{without, is_low, is_high, low_bound, high_bound, lows, highs, rows_without, only_bounds}
+use Rattle.ac_forms.specs.Columns.{has_column}
 use Rattle.ac_cert.proofs.Truths.{and-true}
 use Rattle.ac_cert.proofs.OneColumn.{AreFree, value-split, value-free, holds-free, has-not, coef-without}
 
@@ -29,7 +30,7 @@ HaveSizes (b ∷ bs) = (pos 1 ≤ℤ b.size) × HaveSizes bs
 
 -- the rows hold where the column is v
 pub record Parts (z : ℕ) (rows : List Row) (p : List ℤ) (v : ℤ) : Type 0 where
-  pub free : Meets (frees z rows) p
+  pub free : Meets (rows_without z rows) p
   pub low : AllAbove (lows z rows) p v
   pub high : AllBelow (highs z rows) p v
 
@@ -54,7 +55,7 @@ not_below_zero b = grind (arith, ints)
 
 -- a row, by its coefficient of the column
 part-ge : (k : ℤ) (f : Affine) (z : ℕ) (rs : List Row) (p : List ℤ) (v : ℤ) → z < length p → coef z f ≡ k → pos 0 ≤ℤ value_at f (set p z v) → Parts z rs p v
-    → Meets (free_part k (Ge f) (frees z rs)) p × AllAbove (low_part k (without z f) (lows z rs)) p v × AllBelow (high_part k (without z f) (highs z rs)) p v
+    → Meets (free_part k (Ge f) (rows_without z rs)) p × AllAbove (low_part k (without z f) (lows z rs)) p v × AllBelow (high_part k (without z f) (highs z rs)) p v
 part-ge (pos zero) f z rs p v l e h g = let u = value-free f p z v l e in ((rw (← u) h, g.free), g.low, g.high)
 part-ge (pos (suc b)) f z rs p v l e h g = let u = rw e at (value-split f p z v l) in rw (not_zero b, above_zero b, not_below_zero b) (g.free, (rw (← u) h, g.low), g.high)
 part-ge (negsuc a) f z rs p v l e h g =
@@ -63,7 +64,7 @@ part-ge (negsuc a) f z rs p v l e h g =
     (g.free, g.low, (omega (arith, ints, u, n), g.high))
 
 join-ge : (k : ℤ) (f : Affine) (z : ℕ) (rs : List Row) (p : List ℤ) (v : ℤ) → z < length p → coef z f ≡ k
-    → Meets (free_part k (Ge f) (frees z rs)) p → AllAbove (low_part k (without z f) (lows z rs)) p v → AllBelow (high_part k (without z f) (highs z rs)) p v
+    → Meets (free_part k (Ge f) (rows_without z rs)) p → AllAbove (low_part k (without z f) (lows z rs)) p v → AllBelow (high_part k (without z f) (highs z rs)) p v
     → (pos 0 ≤ℤ value_at f (set p z v)) × Parts z rs p v
 join-ge (pos zero) f z rs p v l e x y w = (rw (value-free f p z v l e) x.0, record { free = x.1; low = y; high = w })
 join-ge (pos (suc b)) f z rs p v l e x y w =
@@ -86,12 +87,12 @@ keeps : (b : Bool) (r : Row) (rs : List Row) (p : List ℤ) → not b ≡ true �
 keeps true r rs p e h = absurd cc
 keeps false r rs p e h = h
 
-part-kept : (r : Row) (z : ℕ) (rs : List Row) (p : List ℤ) (v : ℤ) → z < length p → not (has_column z r) ≡ true → Holds r (set p z v) → Meets (frees z rs) p → Meets (frees z (r ∷ rs)) p
-part-kept r z rs p v l e h g = kept (has_column z r) r (frees z rs) p e ((holds-free r p z v l (has-not z r e)).0 h) g
+part-kept : (r : Row) (z : ℕ) (rs : List Row) (p : List ℤ) (v : ℤ) → z < length p → not (has_column z r) ≡ true → Holds r (set p z v) → Meets (rows_without z rs) p → Meets (rows_without z (r ∷ rs)) p
+part-kept r z rs p v l e h g = kept (has_column z r) r (rows_without z rs) p e ((holds-free r p z v l (has-not z r e)).0 h) g
 
-join-kept : (r : Row) (z : ℕ) (rs : List Row) (p : List ℤ) (v : ℤ) → z < length p → not (has_column z r) ≡ true → Meets (frees z (r ∷ rs)) p → Holds r (set p z v) × Meets (frees z rs) p
+join-kept : (r : Row) (z : ℕ) (rs : List Row) (p : List ℤ) (v : ℤ) → z < length p → not (has_column z r) ≡ true → Meets (rows_without z (r ∷ rs)) p → Holds r (set p z v) × Meets (rows_without z rs) p
 join-kept r z rs p v l e h =
-    let k = keeps (has_column z r) r (frees z rs) p e h in
+    let k = keeps (has_column z r) r (rows_without z rs) p e h in
     ((holds-free r p z v l (has-not z r e)).1 k.0, k.1)
 
 pub parts : (z : ℕ) (rows : List Row) (p : List ℤ) (v : ℤ) → z < length p → only_bounds z rows ≡ true → Meets rows (set p z v) → Parts z rows p v
@@ -123,9 +124,9 @@ free-row : (z : ℕ) (b : Bool) (r : Row) (rs : List Row) → (not b ≡ true �
 free-row z true r rs e f = f
 free-row z false r rs e f = (e refl, f)
 
-pub frees-free : (z : ℕ) (rows : List Row) → AreFree z (frees z rows)
-frees-free z [] = tt
-frees-free z (r ∷ rs) = free-row z (has_column z r) r (frees z rs) (has-not z r) (frees-free z rs)
+pub rows_without-free : (z : ℕ) (rows : List Row) → AreFree z (rows_without z rows)
+rows_without-free z [] = tt
+rows_without-free z (r ∷ rs) = free-row z (has_column z r) r (rows_without z rs) (has-not z r) (rows_without-free z rs)
 
 -- sizes are at least 1
 low-size : (k : ℤ) (f : Affine) (bs : List Bound) → HaveSizes bs → HaveSizes (low_part k f bs)

@@ -12,7 +12,8 @@ use Rattle.ac_forms.specs.declared.row.Row.{Row}
 use Rattle.ac_forms.specs.declared.row.Row.TheVariants.{Eq, Div, Ge}
 use Rattle.ac_cert.specs.declared.column.Bound.{Bound}
 use Rattle.ac_cert.specs.declared.choose.Choice.TheVariants as choice
-use Rattle.ac_cert.specs.Bounds.{has_column, without, is_low, low_bound, lows, highs, frees, only_bounds, greatest_size, last_splinter}
+use Rattle.ac_cert.specs.Bounds.{without, is_low, low_bound, lows, highs, rows_without, only_bounds, greatest_size, last_splinter}
+use Rattle.ac_forms.specs.Columns.{has_column}
 use Rattle.ac_cert.specs.Choices.{is_equality_of, left_by, shadows_with, shadows, splinter}
 use Rattle.ac_cert.specs.Splinters.{IsOnSplinter}
 use Rattle.ac_cert.proofs.OneColumn.{value-split, meets-free, meets-both}
@@ -29,16 +30,16 @@ pub covers-residue : (z m : ℕ) (rows : List Row) (p : List ℤ) (v : ℤ) → 
     → (r : ℕ) × (r < m) × (w : ℤ) × Meets (left_by (choice.Residue z (pos m) (pos r)) rows) (set p z w)
 covers-residue z m rows p v l e h = residue-covers rows p z m v l (omega arith) h
 
-frees-meet : (z : ℕ) (rows : List Row) (p : List ℤ) → Meets rows p → Meets (frees z rows) p
-frees-meet z [] p h = tt
-frees-meet z (r ∷ rs) p h = by (has_column z r) (frees-meet z rs p h.1)
+rows_without-meet : (z : ℕ) (rows : List Row) (p : List ℤ) → Meets rows p → Meets (rows_without z rows) p
+rows_without-meet z [] p h = tt
+rows_without-meet z (r ∷ rs) p h = by (has_column z r) (rows_without-meet z rs p h.1)
   where
-    by : (t : Bool) → Meets (frees z rs) p → Meets (cond t (frees z rs) (r ∷ frees z rs)) p
+    by : (t : Bool) → Meets (rows_without z rs) p → Meets (cond t (rows_without z rs) (r ∷ rows_without z rs)) p
     by true g = g
     by false g = (h.0, g)
 
 pub covers-drop : (z : ℕ) (rows : List Row) (p : List ℤ) → Meets rows p → Meets (left_by (choice.Drop z) rows) p
-covers-drop z rows p h = frees-meet z rows p h
+covers-drop z rows p h = rows_without-meet z rows p h
 
 -- sizes up to the greatest
 AreAtMost : ℤ → List Bound → Type 0
@@ -161,6 +162,6 @@ pub covers-bounds : (z : ℕ) (rows : List Row) (p : List ℤ) (v : ℤ) → z <
 covers-bounds z rows p v l o h =
     let g = parts z rows p v l o h in
     elim (shadow-or-splinter z (highs z rows) rows p v l (high-sizes z rows) g.high h) [
-      | inl s ↦ inl ((meets-free (left_by (choice.Shadow z) rows) p z v l (left-free (choice.Shadow z) rows o refl)).1 (meets-both (frees z rows) (shadows (lows z rows) (highs z rows)) p g.free s))
+      | inl s ↦ inl ((meets-free (left_by (choice.Shadow z) rows) p z v l (left-free (choice.Shadow z) rows o refl)).1 (meets-both (rows_without z rows) (shadows (lows z rows) (highs z rows)) p g.free s))
       | inr w ↦ inr (on-splinter z rows (set p z v) h w)
     ]

@@ -11,7 +11,7 @@ use Rattle.ac_forms.specs.declared.row.Row.{Row}
 use Rattle.ac_forms.specs.declared.row.Row.TheVariants.{Eq, Div, Ge}
 use Rattle.ac_forms.proofs.Values.{value_at-combined}
 use Rattle.ac_cert.specs.declared.column.Bound.{Bound}
-use Rattle.ac_cert.specs.Bounds.{is_low, is_high, low_bound, high_bound, lows, highs, frees, only_bounds, is_none}
+use Rattle.ac_cert.specs.Bounds.{is_low, is_high, low_bound, high_bound, lows, highs, rows_without, only_bounds, is_none}
 use Rattle.ac_cert.specs.Choices.{shadow_form, shadows_with, shadows, low_values, high_values, greatest, least, between}
 use Rattle.ac_cert.proofs.OneColumn.{value-rest, meets-first, meets-second}
 use Rattle.ac_cert.proofs.ColumnParts.{AllAbove, AllBelow, HaveSizes, joined, low-sizes, high-sizes}
@@ -150,7 +150,7 @@ high-values-are z (Eq f ∷ rs) p l = high-values-are z rs p l
 high-values-are z (Div m f ∷ rs) p l = high-values-are z rs p l
 
 -- where the rows without the column and the dark shadow hold, the number between the bounds is one for the column
-pub between-lifts : (z : ℕ) (rows : List Row) (q : List ℤ) → z < length q → only_bounds z rows ≡ true → Meets (frees z rows) q → Meets (shadows (lows z rows) (highs z rows)) q
+pub between-lifts : (z : ℕ) (rows : List Row) (q : List ℤ) → z < length q → only_bounds z rows ≡ true → Meets (rows_without z rows) q → Meets (shadows (lows z rows) (highs z rows)) q
     → Meets rows (set q z (between (low_values z rows q) (high_values z rows q)))
 between-lifts z rows q l o f s =
     let b = between-meets (lows z rows) (highs z rows) q (low-sizes z rows) (high-sizes z rows) s in

@@ -14,7 +14,8 @@ use Rattle.ac_forms.specs.Rows.{form_of, Holds, Meets}
 use Rattle.ac_forms.specs.declared.row.Row.{Row}
 use Rattle.ac_forms.specs.declared.row.Row.TheVariants.{Eq, Div, Ge}
 use Rattle.ac_forms.proofs.Values.{value_at-combined}
-use Rattle.ac_cert.specs.Bounds.{has_column, without}
+use Rattle.ac_cert.specs.Bounds.{without}
+use Rattle.ac_forms.specs.Columns.{has_column}
 use Rattle.ac_cert.specs.Choices.{size_of, against, replaced, replaced_row, others, by_equality, is_equality_of, solved}
 use Rattle.ac_cert.proofs.Keeping.{row-holds}
 use Rattle.ac_cert.proofs.OneColumn.{AreFree, value-split, value-rest, value-free, meets-free, meets-both, meets-first, meets-second, meets-others, others-meet, free-append, coef-without, coef-combined}

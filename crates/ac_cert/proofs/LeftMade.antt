@@ -1,6 +1,6 @@
 -- What a choice leaves is well made, and so is the normal form of rows that are.
-use Rattle.std.proofs.Common.{◌≡◌, ℕ, zero, suc, ◌<◌, ◌≤◌, ◌==◌, ℤ, pos, negsuc, ◌-ℤ◌, ◌*ℤ◌, ◌≤ℤ◌, List, [], ◌∷◌, ◌++◌, length, take, drop, map, set, Option, Some, None, Bool, true, false, not, ◌&&◌, nat_lt, cond, slice_get, refl, arith}
-use Rattle.std.specs.Prelude.{unsigned_abs, int_le}
+use Rattle.std.proofs.Common.{◌≡◌, ℕ, zero, suc, ◌<◌, ◌≤◌, ◌==◌, ℤ, pos, negsuc, ◌-ℤ◌, ◌*ℤ◌, ◌≤ℤ◌, List, [], ◌∷◌, ◌++◌, length, take, drop, map, set, Option, Some, None, Bool, true, false, not, ◌&&◌, nat_lt, cond, slice_get, refl, sym, subst, arith}
+use Rattle.std.specs.Prelude.{unsigned_abs, int_le, IfSome}
 use Rattle.std.specs.Int.{int_div_euclid, int_rem_euclid}
 use Rattle.std.specs.List.{dedup, dedup_from}
 use Rattle.std.specs.Ordering.{int_eq, is_gt}
@@ -27,9 +27,11 @@ use Rattle.ac_forms.proofs.Twins.{rows_fit-is}
 use Rattle.ac_cert.specs.declared.column.Bound.{Bound}
 use Rattle.ac_cert.specs.declared.choose.Choice.{Choice}
 use Rattle.ac_cert.specs.declared.choose.Choice.TheVariants as choice
-use Rattle.ac_cert.specs.Bounds.{has_column, is_low, is_high, lows, highs, frees}
-use Rattle.ac_cert.specs.Choices.{column_of, are_absurd, is_equality_of, allows, is_legal, size_of, against, replaced_row, others, by_equality, spread_row, shadows_with, shadows, splinter, left_by}
-use Rattle.ac_cert.specs.ChoiceFits.{raw}
+use Rattle.ac_cert.specs.Bounds.{is_low, is_high, lows, highs, rows_without}
+use Rattle.ac_forms.specs.Columns.{has_column}
+use Rattle.ac_cert.specs.Choices.{column_of, are_absurd, is_equality_of, allows, is_legal, size_of, against, replaced_row, others, by_equality, substitute_residue_row, shadows_with, shadows, splinter, left_by}
+use Rattle.ac_cert.specs.ChoiceFits.{raw, choice_fits}
+use Rattle.ac_cert.specs.LeftRows.{AreBoundsOver}
 use Rattle.ac_cert.proofs.Keeping.{row-made, made-push}
 use Rattle.ac_cert.proofs.Truths.{and-true, test-false}
 
@@ -135,11 +137,11 @@ mix-within k (x ∷ xs) l [] (suc n) v w = omega (arith, mix-within k xs l [] n 
 mix-within k (x ∷ xs) l (y ∷ ys) zero v w = absurd (omega arith)
 mix-within k (x ∷ xs) l (y ∷ ys) (suc n) v w = omega (arith, mix-within k xs l ys n (omega arith) (omega arith))
 
-frees-made : (n z : ℕ) (rs : List Row) → AreRowsOver n rs → AreRowsOver n (frees z rs)
-frees-made n z [] h = tt
-frees-made n z (r ∷ rs) h = rows-cond n (has_column z r) (frees z rs) (r ∷ frees z rs) (frees-made n z rs h.1) (h.0, frees-made n z rs h.1)
+pub rows_without-made : (n z : ℕ) (rs : List Row) → AreRowsOver n rs → AreRowsOver n (rows_without z rs)
+rows_without-made n z [] h = tt
+rows_without-made n z (r ∷ rs) h = rows-cond n (has_column z r) (rows_without z rs) (r ∷ rows_without z rs) (rows_without-made n z rs h.1) (h.0, rows_without-made n z rs h.1)
 
-append-made : (n : ℕ) (xs ys : List Row) → AreRowsOver n xs → AreRowsOver n ys → AreRowsOver n (xs ++ ys)
+pub append-made : (n : ℕ) (xs ys : List Row) → AreRowsOver n xs → AreRowsOver n ys → AreRowsOver n (xs ++ ys)
 append-made n [] ys h g = g
 append-made n (x ∷ xs) ys h g = (h.0, append-made n xs ys h.1 g)
 
@@ -186,37 +188,33 @@ equality-made n z i (Some (Eq g)) rs h e t =
     append-made n _ _ (all-replaced n z g (others i rs) w s (append-made n (take i rs) (drop (suc i) rs) (take-made n i rs h) (drop-made n (suc i) rs h))) ((set-within n z g.coefs (pos 0) w, s), tt)
 
 -- by a residue
-spread-made : (n z : ℕ) (m q : ℤ) (r : Row) → IsRowOver n r → IsRowOver n (spread_row z m q r)
-spread-made n z m q (Ge f) h = (set-within n z f.coefs (coef z f *ℤ m) h.0, tt)
-spread-made n z m q (Eq f) h = (set-within n z f.coefs (coef z f *ℤ m) h.0, tt)
-spread-made n z m q (Div k f) h = (set-within n z f.coefs (coef z f *ℤ m) h.0, h.1)
+substitute_residue-made : (n z : ℕ) (m q : ℤ) (r : Row) → IsRowOver n r → IsRowOver n (substitute_residue_row z m q r)
+substitute_residue-made n z m q (Ge f) h = (set-within n z f.coefs (coef z f *ℤ m) h.0, tt)
+substitute_residue-made n z m q (Eq f) h = (set-within n z f.coefs (coef z f *ℤ m) h.0, tt)
+substitute_residue-made n z m q (Div k f) h = (set-within n z f.coefs (coef z f *ℤ m) h.0, h.1)
 
-all-spread : (n z : ℕ) (m q : ℤ) (rs : List Row) → AreRowsOver n rs → AreRowsOver n (map (spread_row z m q) rs)
-all-spread n z m q [] h = tt
-all-spread n z m q (r ∷ rs) h = (spread-made n z m q r h.0, all-spread n z m q rs h.1)
+all-substitute_residue : (n z : ℕ) (m q : ℤ) (rs : List Row) → AreRowsOver n rs → AreRowsOver n (map (substitute_residue_row z m q) rs)
+all-substitute_residue n z m q [] h = tt
+all-substitute_residue n z m q (r ∷ rs) h = (substitute_residue-made n z m q r h.0, all-substitute_residue n z m q rs h.1)
 
 -- by shadows
-abbrev AreBoundsOver : ℕ → List Bound → Type 0
-AreBoundsOver n [] = Unit {0}
-AreBoundsOver n (b ∷ bs) = (length b.rest.coefs ≤ n) × AreBoundsOver n bs
-
 bounds-cond : (n : ℕ) (t : Bool) (b : Bound) (bs : List Bound) → length b.rest.coefs ≤ n → AreBoundsOver n bs → AreBoundsOver n (cond t (b ∷ bs) bs)
 bounds-cond n true b bs h g = (h, g)
 bounds-cond n false b bs h g = g
 
-lows-made : (n z : ℕ) (rs : List Row) → AreRowsOver n rs → AreBoundsOver n (lows z rs)
+pub lows-made : (n z : ℕ) (rs : List Row) → AreRowsOver n rs → AreBoundsOver n (lows z rs)
 lows-made n z [] h = tt
 lows-made n z (Ge f ∷ rs) h = bounds-cond n (is_low z f) _ (lows z rs) (set-within n z f.coefs (pos 0) h.0.0) (lows-made n z rs h.1)
 lows-made n z (Eq f ∷ rs) h = lows-made n z rs h.1
 lows-made n z (Div m f ∷ rs) h = lows-made n z rs h.1
 
-highs-made : (n z : ℕ) (rs : List Row) → AreRowsOver n rs → AreBoundsOver n (highs z rs)
+pub highs-made : (n z : ℕ) (rs : List Row) → AreRowsOver n rs → AreBoundsOver n (highs z rs)
 highs-made n z [] h = tt
 highs-made n z (Ge f ∷ rs) h = bounds-cond n (is_high z f) _ (highs z rs) (set-within n z f.coefs (pos 0) h.0.0) (highs-made n z rs h.1)
 highs-made n z (Eq f ∷ rs) h = highs-made n z rs h.1
 highs-made n z (Div m f ∷ rs) h = highs-made n z rs h.1
 
-shadows_with-made : (n : ℕ) (low : Bound) (hs : List Bound) → length low.rest.coefs ≤ n → AreBoundsOver n hs → AreRowsOver n (shadows_with low hs)
+pub shadows_with-made : (n : ℕ) (low : Bound) (hs : List Bound) → length low.rest.coefs ≤ n → AreBoundsOver n hs → AreRowsOver n (shadows_with low hs)
 shadows_with-made n low [] h g = tt
 shadows_with-made n low (b ∷ hs) h g = ((mix-within b.size low.rest.coefs low.size b.rest.coefs n h g.0, tt), shadows_with-made n low hs h g.1)
 
@@ -231,10 +229,10 @@ splinter-made n i k (Some (Div m f)) rs h e = h
 splinter-made n i k (Some (Ge f)) rs h e = made-push n rs (Eq (record { konst = f.konst -ℤ k; coefs = f.coefs })) h ((row-made n rs i (Ge f) h e).0, tt)
 
 left_by-made : (n : ℕ) (h : Choice) (rs : List Row) → allows h rs ≡ true → AreRowsOver n rs → AreRowsOver n (left_by h rs)
-left_by-made n (choice.Drop z) rs a w = frees-made n z rs w
+left_by-made n (choice.Drop z) rs a w = rows_without-made n z rs w
 left_by-made n (choice.Equal z i) rs a w = equality-made n z i (slice_get rs i) rs w refl a
-left_by-made n (choice.Residue z m r) rs a w = all-spread n z m r rs w
-left_by-made n (choice.Shadow z) rs a w = append-made n (frees z rs) _ (frees-made n z rs w) (shadows-made n (lows z rs) (highs z rs) (lows-made n z rs w) (highs-made n z rs w))
+left_by-made n (choice.Residue z m r) rs a w = all-substitute_residue n z m r rs w
+left_by-made n (choice.Shadow z) rs a w = append-made n (rows_without z rs) _ (rows_without-made n z rs w) (shadows-made n (lows z rs) (highs z rs) (lows-made n z rs w) (highs-made n z rs w))
 left_by-made n (choice.Splinter z i k) rs a w = splinter-made n i k (slice_get rs i) rs w refl
 
 pub legal-allows : (h : Choice) (c : Conj) → is_legal h c ≡ true → (nat_lt (column_of h) c.columns ≡ true) × (allows h c.rows ≡ true)
@@ -242,3 +240,11 @@ legal-allows h c e = let a = and-true (not (are_absurd c.rows)) (nat_lt (column_
 
 pub raw_made : (h : Choice) (c : Conj) → is_legal h c ≡ true → IsWellMade c → IsWellMade (raw h c)
 raw_made h c e w = left_by-made c.columns h c.rows (legal-allows h c e).1 w
+
+-- rows that are exactly what a choice leaves
+pub left_over : (h : Choice) (c : Conj) (o : Option (List Row)) → is_legal h c ≡ true → IsWellMade c → o ≡ cond (choice_fits h c.rows) (Some (left_by h c.rows)) None → IfSome o (λ rows. AreRowsOver c.columns rows)
+left_over h c o e w s = subst (λ (p : Option (List Row)). IfSome p (λ rows. AreRowsOver c.columns rows)) (sym s) (by (choice_fits h c.rows))
+  where
+    by : (b : Bool) → IfSome (cond b (Some (left_by h c.rows)) None) (λ rows. AreRowsOver c.columns rows)
+    by true = raw_made h c e w
+    by false = tt

@@ -20,7 +20,10 @@ pub mod Soundness
 pub mod EveryNumber
 pub mod Making
 pub mod Parts
+pub mod Places
+pub mod Composing
 pub mod LeftMade
+pub mod LeftRows
 pub mod Values
 pub mod Cleared
 pub mod GoingBack

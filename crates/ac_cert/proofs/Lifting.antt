@@ -14,16 +14,16 @@ use Rattle.ac_cert.specs.declared.column.Bound.{Bound}
 use Rattle.ac_cert.specs.declared.choose.Choice.{Choice}
 use Rattle.ac_cert.specs.declared.choose.Choice.TheVariants as choice
 use Rattle.ac_cert.specs.Points.{IsPoint}
-use Rattle.ac_cert.specs.Bounds.{lows, highs, frees, only_bounds, is_one_sided}
+use Rattle.ac_cert.specs.Bounds.{lows, highs, rows_without, only_bounds, is_one_sided}
 use Rattle.ac_cert.specs.Choices.{column_of, removes, are_absurd, allows, is_legal, left_by, lifted, shadow_form, shadows_with, shadows, splinter, low_values, high_values, between, solved}
 use Rattle.ac_cert.specs.ChoiceFits.{choice_fits, raw, after_choice}
 use Rattle.ac_cert.proofs.Keeping.{if-some, some-is}
 use Rattle.ac_cert.proofs.Truths.{and-true}
 use Rattle.ac_cert.proofs.OneColumn.{AreFree, meets-free, meets-first, meets-second, free-append, coef-combined}
-use Rattle.ac_cert.proofs.ColumnParts.{AreApart, frees-free, lows-apart, highs-apart}
+use Rattle.ac_cert.proofs.ColumnParts.{AreApart, rows_without-free, lows-apart, highs-apart}
 use Rattle.ac_cert.proofs.DarkShadows.{between-lifts, one-sided}
 use Rattle.ac_cert.proofs.Equalities.{equality-free, equality-lifts}
-use Rattle.ac_cert.proofs.Spreads.{spread-lifts}
+use Rattle.ac_cert.proofs.Spreads.{substitute_residue-lifts}
 
 -- what a legal choice's condition says
 pub legal-allows : (h : Choice) (c : Conj) → is_legal h c ≡ true → allows h c.rows ≡ true
@@ -55,9 +55,9 @@ lifted-meets (choice.Drop z) rows q e l h =
     let b = and-true (only_bounds z rows) (is_one_sided z rows) e in
     between-lifts z rows q l b.0 h (one-sided (lows z rows) (highs z rows) q b.1)
 lifted-meets (choice.Equal z i) rows q e l h = equality-lifts z i (slice_get rows i) rows q l refl e h
-lifted-meets (choice.Residue z m r) rows q e l h = spread-lifts rows q z m r l h
+lifted-meets (choice.Residue z m r) rows q e l h = substitute_residue-lifts rows q z m r l h
 lifted-meets (choice.Shadow z) rows q e l h =
-    between-lifts z rows q l e (meets-first (frees z rows) (shadows (lows z rows) (highs z rows)) q h) (meets-second (frees z rows) (shadows (lows z rows) (highs z rows)) q h)
+    between-lifts z rows q l e (meets-first (rows_without z rows) (shadows (lows z rows) (highs z rows)) q h) (meets-second (rows_without z rows) (shadows (lows z rows) (highs z rows)) q h)
 lifted-meets (choice.Splinter z i k) rows q e l h = splinter-meets k (slice_get rows i) rows q h
 
 pub lifts : (h : Choice) (c : Conj) (q : List ℤ) → is_legal h c ≡ true → length q ≡ c.columns → Meets (left_by h c.rows) q → IsPoint c (lifted h c.rows q)
@@ -98,11 +98,11 @@ shadows-free z [] hs e f = tt
 shadows-free z (low ∷ ls) hs e f = free-append z (shadows_with low hs) (shadows ls hs) (shadows_with-free z low hs e.0 f) (shadows-free z ls hs e.1 f)
 
 pub left-free : (h : Choice) (rows : List Row) → allows h rows ≡ true → removes h ≡ true → AreFree (column_of h) (left_by h rows)
-left-free (choice.Drop z) rows e r = frees-free z rows
+left-free (choice.Drop z) rows e r = rows_without-free z rows
 left-free (choice.Equal z i) rows e r = equality-free z i (slice_get rows i) rows e
 left-free (choice.Residue z m k) rows e r = absurd cc
 left-free (choice.Shadow z) rows e r =
-    free-append z (frees z rows) (shadows (lows z rows) (highs z rows)) (frees-free z rows) (shadows-free z (lows z rows) (highs z rows) (lows-apart z rows) (highs-apart z rows))
+    free-append z (rows_without z rows) (shadows (lows z rows) (highs z rows)) (rows_without-free z rows) (shadows-free z (lows z rows) (highs z rows) (lows-apart z rows) (highs-apart z rows))
 left-free (choice.Splinter z i k) rows e r = absurd cc
 
 -- then the rows that are left hold whatever the column's number is

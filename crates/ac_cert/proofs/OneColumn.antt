@@ -8,7 +8,8 @@ use Rattle.ac_forms.specs.Affine.{Affine, coef, combined, value_at}
 use Rattle.ac_forms.specs.Rows.{form_of, Holds, Meets}
 use Rattle.ac_forms.specs.declared.row.Row.{Row}
 use Rattle.ac_forms.specs.declared.row.Row.TheVariants.{Eq, Div, Ge}
-use Rattle.ac_cert.specs.Bounds.{has_column, without}
+use Rattle.ac_cert.specs.Bounds.{without}
+use Rattle.ac_forms.specs.Columns.{has_column}
 use Rattle.ac_cert.specs.Choices.{rest_at, others}
 
 -- the column's own product taken out

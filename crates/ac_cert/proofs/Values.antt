@@ -11,7 +11,8 @@ use Rattle.ac_forms.specs.Fits.{fits}
 use Rattle.ac_forms.specs.Tests.{can_evaluate}
 use Rattle.ac_forms.specs.declared.row.Row.{Row}
 use Rattle.ac_forms.specs.declared.row.Row.TheVariants.{Eq, Div, Ge}
-use Rattle.ac_cert.specs.Bounds.{has_column, is_low, is_high, is_none, lows}
+use Rattle.ac_cert.specs.Bounds.{is_low, is_high, is_none, lows}
+use Rattle.ac_forms.specs.Columns.{has_column}
 use Rattle.ac_cert.specs.Choices.{size_of, rest_at, low_values, high_values, greatest, least, between}
 use Rattle.ac_cert.specs.ChoiceFits.{low_values_fit, high_values_fit, between_fits}
 use Rattle.ac_cert.specs.Extremes.{greater, lesser, greatest_from, least_from}

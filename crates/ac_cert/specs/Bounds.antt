@@ -2,16 +2,11 @@
 use Rattle.std.specs.Prelude.{ℕ, Bool, true, false, not, ◌&&◌, ◌||◌, cond, ℤ, pos, ◌-ℤ◌, ◌*ℤ◌, neg_ℤ, List, [], ◌∷◌, set}
 use Rattle.std.specs.Int.{int_div_euclid, int_max}
 use Rattle.std.specs.Int.Signed.{lt_z}
-use Rattle.std.specs.Ordering.{int_eq}
 use Rattle.ac_forms.specs.Affine.{Affine, coef}
-use Rattle.ac_forms.specs.Rows.{form_of}
+use Rattle.ac_forms.specs.Columns.{has_column}
 use Rattle.ac_forms.specs.declared.row.Row.{Row}
 use Rattle.ac_forms.specs.declared.row.Row.TheVariants.{Eq, Div, Ge}
 use Rattle.ac_cert.specs.declared.column.Bound.{Bound}
-
--- the row has the column
-abbrev pub has_column : ℕ → Row → Bool
-has_column z r = not (int_eq (coef z (form_of r)) (pos 0))
 
 -- the form without the column
 abbrev pub without : ℕ → Affine → Affine
@@ -47,9 +42,9 @@ highs z (Eq f ∷ rs) = highs z rs
 highs z (Div m f ∷ rs) = highs z rs
 
 -- the rows without the column
-abbrev pub frees : ℕ → List Row → List Row
-frees z [] = []
-frees z (r ∷ rs) = cond (has_column z r) (frees z rs) (r ∷ frees z rs)
+abbrev pub rows_without : ℕ → List Row → List Row
+rows_without z [] = []
+rows_without z (r ∷ rs) = cond (has_column z r) (rows_without z rs) (r ∷ rows_without z rs)
 
 -- only `Ge` rows have the column
 abbrev pub only_bounds : ℕ → List Row → Bool

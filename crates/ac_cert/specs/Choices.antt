@@ -11,7 +11,8 @@ use Rattle.ac_forms.specs.declared.row.Row.TheVariants.{Eq, Div, Ge}
 use Rattle.ac_cert.specs.declared.column.Bound.{Bound}
 use Rattle.ac_cert.specs.declared.choose.Choice.{Choice}
 use Rattle.ac_cert.specs.declared.choose.Choice.TheVariants as choice
-use Rattle.ac_cert.specs.Bounds.{has_column, without, is_low, is_high, lows, highs, frees, only_bounds, is_one_sided}
+use Rattle.ac_cert.specs.Bounds.{without, is_low, is_high, lows, highs, rows_without, only_bounds, is_one_sided}
+use Rattle.ac_forms.specs.Columns.{has_column}
 
 -- the column that goes
 abbrev pub column_of : Choice → ℕ
@@ -93,13 +94,13 @@ by_equality z i (Some (Eq g)) rows = map (replaced_row z g) (others i rows) ++ D
 by_equality z i _ rows = rows
 
 -- the form at `m z + r` in place of the column z
-abbrev pub spread : ℕ → ℤ → ℤ → Affine → Affine
-spread z m r f = record { konst = f.konst +ℤ coef z f *ℤ r; coefs = set f.coefs z (coef z f *ℤ m) }
+abbrev pub substitute_residue : ℕ → ℤ → ℤ → Affine → Affine
+substitute_residue z m r f = record { konst = f.konst +ℤ coef z f *ℤ r; coefs = set f.coefs z (coef z f *ℤ m) }
 
-abbrev pub spread_row : ℕ → ℤ → ℤ → Row → Row
-spread_row z m r (Ge f) = Ge (spread z m r f)
-spread_row z m r (Eq f) = Eq (spread z m r f)
-spread_row z m r (Div n f) = Div n (spread z m r f)
+abbrev pub substitute_residue_row : ℕ → ℤ → ℤ → Row → Row
+substitute_residue_row z m r (Ge f) = Ge (substitute_residue z m r f)
+substitute_residue_row z m r (Eq f) = Eq (substitute_residue z m r f)
+substitute_residue_row z m r (Div n f) = Div n (substitute_residue z m r f)
 
 -- the dark shadow of a lower row b z + e >= 0 and an upper row -a z + f >= 0: a e + b f - (a - 1) (b - 1)
 abbrev pub shadow_form : Bound → Bound → Affine
@@ -123,10 +124,10 @@ splinter k _ rows = rows
 
 -- the rows that a choice leaves, not yet in normal form
 abbrev pub left_by : Choice → List Row → List Row
-left_by (choice.Drop z) rows = frees z rows
+left_by (choice.Drop z) rows = rows_without z rows
 left_by (choice.Equal z i) rows = by_equality z i (slice_get rows i) rows
-left_by (choice.Residue z m r) rows = map (spread_row z m r) rows
-left_by (choice.Shadow z) rows = frees z rows ++ shadows (lows z rows) (highs z rows)
+left_by (choice.Residue z m r) rows = map (substitute_residue_row z m r) rows
+left_by (choice.Shadow z) rows = rows_without z rows ++ shadows (lows z rows) (highs z rows)
 left_by (choice.Splinter z i k) rows = splinter k (slice_get rows i) rows
 
 -- the value of the form at the point without the column

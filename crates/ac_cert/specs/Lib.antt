@@ -10,6 +10,7 @@ pub mod Accepted
 pub mod StepRows
 pub mod Bounds
 pub mod Choices
+pub mod LeftRows
 pub mod ChoiceFits
 pub mod Splinters
 pub mod Extremes

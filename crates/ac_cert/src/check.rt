@@ -71,7 +71,7 @@ pub fn walk(alloc: Global, conj: Conj, steps: &[Step], node: u64) -> Result<(Con
 }
 
 /// A conjunction's first columns and rows. It takes no memory.
-pub(crate) fn first_of(conj: Conj, columns: usize, count: usize) -> Conj
+fn first_of(conj: Conj, columns: usize, count: usize) -> Conj
     ensures { result ≡ first_of columns count conj }
 {
     let mut rows = conj.rows.into_vec();

@@ -1,8 +1,9 @@
 ghost use Rattle.std.specs.Prelude.{◌≡◌, [], ◌∷◌, ◌++◌, true, not, cond, Some, None, IfOk, set};
-ghost use Rattle.ac_cert.specs.Bounds.{has_column, without, is_low, is_high, lows, highs, frees, only_bounds, is_none, is_one_sided};
+ghost use Rattle.ac_cert.specs.Bounds.{without, is_low, is_high, lows, highs, rows_without, only_bounds, is_none, is_one_sided};
+ghost use Rattle.ac_forms.specs.Columns.{has_column};
 ghost use Rattle.ac_cert.specs.ChoiceFits.{sizes_fit};
 
-use ac_forms::{Form, Row};
+use ac_forms::{Form, Row, has_column};
 use ac_items::Items;
 use std::alloc::{AllocError, Global};
 
@@ -13,14 +14,6 @@ pub struct Bound {
     pub size: i128,
     /// The form without the column.
     pub rest: Form,
-}
-
-/// Whether a row has the column.
-#[tactic(auto, using(ac_integers::proofs::Bits::again_128))]
-pub(crate) fn has_column(z: usize, row: &Row) -> bool
-    ensures { result ≡ has_column z row.now }
-{
-    row.form().coef(z) != 0
 }
 
 /// Whether the form of a `Ge` row bounds the column from below.
@@ -146,7 +139,7 @@ pub(crate) fn highs(
 
 /// Adds a copy of a row without the column.
 fn keep_free(alloc: Global, z: usize, row: &Row, kept: &mut Items<Row>) -> Result<(), AllocError>
-    ensures { IfOk result (λ _. kept.new ≡ kept.old ++ frees z (row.now ∷ [])) }
+    ensures { IfOk result (λ _. kept.new ≡ kept.old ++ rows_without z (row.now ∷ [])) }
 {
     if has_column(z, row) {
         return Ok(());
@@ -155,8 +148,8 @@ fn keep_free(alloc: Global, z: usize, row: &Row, kept: &mut Items<Row>) -> Resul
 }
 
 /// The rows without the column.
-pub(crate) fn frees(alloc: Global, z: usize, rows: &[Row]) -> Result<Items<Row>, AllocError>
-    ensures { IfOk result (λ made. made ≡ frees z rows.now) }
+pub(crate) fn rows_without(alloc: Global, z: usize, rows: &[Row]) -> Result<Items<Row>, AllocError>
+    ensures { IfOk result (λ made. made ≡ rows_without z rows.now) }
 {
     let mut made = Items::new(alloc);
     for row in rows {

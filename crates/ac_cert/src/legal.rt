@@ -1,13 +1,13 @@
 ghost use Rattle.std.specs.Prelude.{◌≡◌, [], ◌∷◌, slice_get, unsigned_abs, pos, int_le, ◌&&◌, true, not};
 ghost use Rattle.std.specs.Int.Signed.{lt_z};
 ghost use Rattle.ac_forms.specs.declared.row.Row.TheVariants.{Eq};
-ghost use Rattle.ac_cert.specs.Bounds.{has_column};
+ghost use Rattle.ac_forms.specs.Columns.{has_column};
 ghost use Rattle.ac_integers.specs.Multiple.{divides};
 ghost use Rattle.ac_cert.specs.Choices.{column_of, are_absurd, is_equality_of, is_lower_row, is_common_multiple, allows, is_legal};
 
 use crate::choose::Choice;
-use crate::column::{has_column, is_low, is_one_sided, only_bounds};
-use ac_forms::{Conj, Form, Row};
+use crate::column::{is_low, is_one_sided, only_bounds};
+use ac_forms::{Conj, Form, Row, has_column};
 
 impl Choice {
     /// The column that goes.

@@ -1,12 +1,10 @@
-//! A path of rows that grows and is cut back, without a copy: what each branch puts on it.
-ghost use Rattle.std.specs.Prelude.{◌≡◌, ◌⊎◌, ℤ, List, pos, ◌≤ℤ◌, length, IfOk, cond, Some, None};
+//! A path of rows that grows without a copy: what each branch puts on it.
+ghost use Rattle.std.specs.Prelude.{◌≡◌, ◌⊎◌, ℤ, List, pos, ◌≤ℤ◌, IfOk, cond, Some, None};
 ghost use Rattle.ac_forms.specs.Rows.{Holds, IsRowOver, IsWellMade};
 ghost use Rattle.ac_forms.specs.declared.conj.Conj.{Conj};
-ghost use Rattle.ac_cert.specs.Apart.{IsOnto};
-ghost use Rattle.ac_cert.specs.Rules.{class_row, first_of, has_class, side_rows, with_row};
+ghost use Rattle.ac_cert.specs.Rules.{class_row, has_class, side_rows, with_row};
 ghost use Rattle.ac_cert.specs.Stops.{MadeBy};
 
-use crate::check::first_of;
 use crate::steps::{class_row, has_class, push, side_rows};
 use crate::types::{EndStop, Rule};
 use ac_forms::{Conj, Form, Row};
@@ -68,13 +66,4 @@ fn one_more(path: Conj, row: Row) -> Result<Conj, AllocError>
     ensures made { IfOk result (λ longer. IsWellMade longer) }
 {
     push(path, row)
-}
-
-/// The path cut back to its first columns and rows, without a copy: what was put on a path goes, and the path is what it
-/// was.
-pub fn cut_back(path: Conj, columns: usize, count: usize) -> Conj
-    ensures exact { result ≡ first_of columns count path }
-    ensures back { (c : Conj) → IsOnto c path → c.columns ≡ columns → length c.rows ≡ count → result ≡ c }
-{
-    first_of(path, columns, count)
 }

@@ -2,7 +2,7 @@ ghost use Rattle.std.specs.Prelude.{◌≡◌, ◌<◌, ◌++◌, cond, Some, No
 ghost use Rattle.ac_forms.specs.Affine.{coef};
 ghost use Rattle.ac_forms.specs.Fits.{fits};
 ghost use Rattle.ac_forms.specs.declared.row.Row.TheVariants.{Eq};
-ghost use Rattle.ac_cert.specs.Choices.{size_of, against, replaced, replaced_row, others, by_equality, spread, spread_row};
+ghost use Rattle.ac_cert.specs.Choices.{size_of, against, replaced, replaced_row, others, by_equality, substitute_residue, substitute_residue_row};
 ghost use Rattle.ac_cert.specs.ChoiceFits.{replaced_fits, replaced_row_fits, all_replaced_fit, equality_fits, spread_fits, spread_row_fits, all_spread_fit};
 
 use crate::column::{with_numbers, without};
@@ -190,14 +190,14 @@ pub(crate) fn by_equality(
 
 /// A form at `m z + r` in place of the column z.
 #[tactic(auto, using(ac_integers::proofs::Bits::again_128))]
-fn spread(
+fn substitute_residue(
     alloc: Global,
     z: usize,
     m: &i128,
     r: &i128,
     form: &Form,
 ) -> Result<Option<Form>, AllocError>
-    ensures { IfOk result (λ made. made ≡ cond (spread_fits m.now r.now (coef z form.now) form.now.konst) (Some (spread z m.now r.now form.now)) None) }
+    ensures { IfOk result (λ made. made ≡ cond (spread_fits m.now r.now (coef z form.now) form.now.konst) (Some (substitute_residue z m.now r.now form.now)) None) }
 {
     let coef = form.coef(z);
     let Some(multiple) = product(&coef, m) else {
@@ -214,16 +214,16 @@ fn spread(
 
 /// A row at `m z + r` in place of the column z.
 #[tactic(auto, using(ac_integers::proofs::Bits::again_128))]
-fn spread_row(
+fn substitute_residue_row(
     alloc: Global,
     z: usize,
     m: &i128,
     r: &i128,
     row: &Row,
 ) -> Result<Option<Row>, AllocError>
-    ensures { IfOk result (λ made. made ≡ cond (spread_row_fits z m.now r.now row.now) (Some (spread_row z m.now r.now row.now)) None) }
+    ensures { IfOk result (λ made. made ≡ cond (spread_row_fits z m.now r.now row.now) (Some (substitute_residue_row z m.now r.now row.now)) None) }
 {
-    let Some(form) = spread(alloc, z, m, r, row.form())? else {
+    let Some(form) = substitute_residue(alloc, z, m, r, row.form())? else {
         return Ok(None);
     };
     match row {
@@ -235,18 +235,18 @@ fn spread_row(
 
 /// The rows at `m z + r` in place of the column z.
 #[tactic(auto, using(ac_integers::proofs::Bits::again_128))]
-pub(crate) fn spread_rows(
+pub(crate) fn substitute_residue_rows(
     alloc: Global,
     z: usize,
     m: &i128,
     r: &i128,
     rows: &[Row],
 ) -> Result<Option<Items<Row>>, AllocError>
-    ensures { IfOk result (λ made. made ≡ cond (all_spread_fit z m.now r.now rows.now) (Some (map (spread_row z m.now r.now) rows.now)) None) }
+    ensures { IfOk result (λ made. made ≡ cond (all_spread_fit z m.now r.now rows.now) (Some (map (substitute_residue_row z m.now r.now) rows.now)) None) }
 {
     let mut made = Items::new(alloc);
     for row in rows {
-        let Some(row) = spread_row(alloc, z, m, r, row)? else {
+        let Some(row) = substitute_residue_row(alloc, z, m, r, row)? else {
             return Ok(None);
         };
         made.push(row)?;

@@ -1,10 +1,13 @@
-ghost use Rattle.std.specs.Prelude.{◌≡◌, ◌++◌, ◌&&◌, cond, Some, None, IfOk, slice_get, pos, ◌≤ℤ◌, ◌-ℤ◌};
+ghost use Rattle.std.specs.Prelude.{◌≡◌, ◌++◌, ◌&&◌, cond, Some, None, IfOk, IfSome, slice_get, pos, ◌≤ℤ◌, ◌-ℤ◌};
 ghost use Rattle.ac_forms.specs.Fits.{fits};
-ghost use Rattle.ac_cert.specs.Bounds.{frees, lows, highs};
+ghost use Rattle.ac_forms.specs.Rows.{IsWellMade, AreRowsOver};
+ghost use Rattle.ac_cert.specs.Bounds.{rows_without, lows, highs};
 ghost use Rattle.ac_cert.specs.Choices.{shadow_form, shadows_with, shadows, splinter};
 ghost use Rattle.ac_cert.specs.ChoiceFits.{sizes_fit, shadow_fits, shadows_fit_with, shadows_fit, splinter_fits, ArePositive};
+ghost use Rattle.ac_cert.specs.LeftRows.{normal_of, AreBoundsOver};
 
-use crate::column::{Bound, frees, highs, lows};
+use crate::column::{Bound, highs, lows, rows_without};
+use crate::normal::{ROOM, within};
 use crate::numbers::combination;
 use crate::replace::product;
 use ac_forms::{Conj, Form, Row};
@@ -69,43 +72,54 @@ fn shadows_with(
     Ok(Some(made))
 }
 
-/// Those of all lower and upper rows, in order, behind other rows.
+/// Rows that stand for those of all lower and upper rows, in order, behind other rows. Where many come together, what is formed
+/// so far is brought into normal form, so that not all of them are held at once.
 #[tactic(auto, using(ac_integers::proofs::Bits::again_128, crate::proofs::Parts::positive_at))]
 fn shadows(
     alloc: Global,
+    columns: usize,
     lows: &[Bound],
     highs: &[Bound],
     made: Items<Row>,
 ) -> Result<Option<Items<Row>>, AllocError>
-    requires lows { ArePositive lows.now }
-    requires highs { ArePositive highs.now }
-    ensures { IfOk result (λ after. after ≡ cond (shadows_fit lows.now highs.now) (Some (made ++ shadows lows.now highs.now)) None) }
+    requires lows { ArePositive lows.now × AreBoundsOver columns lows.now }
+    requires highs { ArePositive highs.now × AreBoundsOver columns highs.now }
+    requires over { AreRowsOver columns made }
+    ensures normal { IfOk result (λ after. normal_of after ≡ normal_of (cond (shadows_fit lows.now highs.now) (Some (made ++ shadows lows.now highs.now)) None)) }
+    ensures over { IfOk result (λ after. IfSome after (λ rows. AreRowsOver columns rows)) }
 {
     let mut made = made;
+    let mut room = ROOM;
     for low in lows {
         let Some(more) = shadows_with(alloc, low, highs, made)? else {
             return Ok(None);
         };
-        made = more;
+        let Some(left) = within(alloc, columns, more, &mut room)? else {
+            return Ok(None);
+        };
+        made = left;
     }
     Ok(Some(made))
 }
 
-/// The rows without the column, and the dark shadows of its lower and upper rows.
+/// Rows that stand for those without the column and the dark shadows of its lower and upper rows.
 #[tactic(auto, using(crate::proofs::Parts::lows_positive, crate::proofs::Parts::highs_positive))]
 pub(crate) fn shadowed(
     alloc: Global,
     z: usize,
-    rows: &[Row],
+    conj: &Conj,
 ) -> Result<Option<Items<Row>>, AllocError>
-    ensures { IfOk result (λ made. made ≡ cond (sizes_fit (highs z rows.now) && shadows_fit (lows z rows.now) (highs z rows.now)) (Some (frees z rows.now ++ shadows (lows z rows.now) (highs z rows.now))) None) }
+    requires { IsWellMade conj.now }
+    ensures normal { IfOk result (λ made. normal_of made ≡ normal_of (cond (sizes_fit (highs z conj.now.rows) && shadows_fit (lows z conj.now.rows) (highs z conj.now.rows)) (Some (rows_without z conj.now.rows ++ shadows (lows z conj.now.rows) (highs z conj.now.rows))) None)) }
+    ensures over { IfOk result (λ made. IfSome made (λ rows. AreRowsOver conj.now.columns rows)) }
 {
+    let rows = conj.rows.as_slice();
     let Some(highs) = highs(alloc, z, rows)? else {
         return Ok(None);
     };
     let lows = lows(alloc, z, rows)?;
-    let made = frees(alloc, z, rows)?;
-    shadows(alloc, lows.as_slice(), highs.as_slice(), made)
+    let made = rows_without(alloc, z, rows)?;
+    shadows(alloc, conj.columns, lows.as_slice(), highs.as_slice(), made)
 }
 
 /// The rows, and that the lower row at a place is worth k; where no `Ge` row is there, the rows alone.

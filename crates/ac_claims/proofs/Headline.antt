@@ -33,7 +33,7 @@ use Rattle.ac_paths.specs.Going.{Pairing}
 use Rattle.ac_paths.specs.Places.{element_forms}
 use Rattle.ac_claims.specs.PlanFaults.{fault_unless}
 use Rattle.ac_claims.specs.ProofFaults.{Domain, domain, is_point, head_lines, heads_fault, claims_fault, claim_lines, left_seat, right_seat, start_columns, piece_rows, output_rows, all_stand_among, asks_by, asks_no_more, output_stands, outputs_fault, due_from, trees_fault, IsValidProof}
-use Rattle.ac_claims.specs.Soundness.{ArePaired, pairing_of, ClaimsHaveModuli, ValidProofsNameSameOutputs}
+use Rattle.ac_claims.specs.Soundness.{ArePaired, pairing_of, ClaimsHaveModuli, TermsAgree, ValidProofsHaveAgreeingTerms, ValidProofsNameSameOutputs}
 use Rattle.ac_forms.specs.Standing.{all_stand}
 use Rattle.ac_claims.specs.declared.types.Claim.{Claim}
 use Rattle.ac_claims.specs.declared.types.Proof.{Proof}
@@ -152,7 +152,7 @@ element_meets g c s e hm dl dr ml mr =
     all-hold s.given c.rows p s.stand (moduli_of cols s.given made) hm meets
 
 -- equal extents have the same elements
-in_extents : (params : List ℤ) (es fs : List IndexExpr) (at : List ℤ) → map (index_value (point params [])) fs ≡ map (index_value (point params [])) es → InExtents (point params []) es at → InExtents (point params []) fs at
+pub in_extents : (params : List ℤ) (es fs : List IndexExpr) (at : List ℤ) → map (index_value (point params [])) fs ≡ map (index_value (point params [])) es → InExtents (point params []) es at → InExtents (point params []) fs at
 in_extents params [] [] [] q h = tt
 in_extents params [] [] (x ∷ at) q h = absurd h
 in_extents params [] (f ∷ fs) at q h = absurd cc
@@ -168,11 +168,11 @@ at_output : (x : Execution) (o : ℕ) (e : List ℤ) → x.inside o e → At x (
 unfolding At
 at_output x o e h = (h, refl)
 
--- where the claims hold, an output that stands is the same
-stands_same : (pair : Pair) (proof : Proof) (t : ArePaired pair) (m : ClaimsHaveModuli proof)
+-- where the claims hold, the terms of an output that stands agree
+stands_agree : (pair : Pair) (proof : Proof) (t : ArePaired pair) (m : ClaimsHaveModuli proof)
     → ((params : List ℤ) (v : IsValuation pair params) → Valid (runs_of (setting pair proof t m params v)) (Claimed (setting pair proof t m params v)))
-    → (o i : ℕ) (c : Claim) → slice_get proof.claims i ≡ Some c → c.left ≡ Output o → c.right ≡ Output o → list_any (nat_eq o) pair.outputs ≡ true → Stood (pairing_of pair (left_of pair) (right_of pair)) c → SameOutput pair o
-stands_same pair proof t m valid o i c ic lo ro out s params v e inside =
+    → (o i : ℕ) (c : Claim) → slice_get proof.claims i ≡ Some c → c.left ≡ Output o → c.right ≡ Output o → list_any (nat_eq o) pair.outputs ≡ true → Stood (pairing_of pair (left_of pair) (right_of pair)) c → TermsAgree pair o
+stands_agree pair proof t m valid o i c ic lo ro out s params v e inside =
     let g = setting pair proof t m params v in
     let dl : domain (left_of pair) (Output o) ≡ Some s.left = subst (λ (P : Position). domain (left_of pair) P ≡ Some s.left) lo s.left_is in
     let dr : domain (right_of pair) (Output o) ≡ Some s.right = subst (λ (P : Position). domain (right_of pair) P ≡ Some s.right) ro s.right_is in
@@ -189,33 +189,32 @@ stands_same pair proof t m valid o i c ic lo ro out s params v e inside =
     let ml = domain_moduli (left_of pair) params g.on.left g.on.describes_left c.left s.left s.left_piece s.left_is (subst (In s.left_piece) (sym s.left_pieces) (inl refl)) in
     let mr = domain_moduli (right_of pair) params g.on.right g.on.describes_right c.right s.right s.right_piece s.right_is (subst (In s.right_piece) (sym s.right_pieces) (inl refl)) in
     let meets = element_meets g c s e (moduli_at proof.claims m i c ic) pl pr ml mr in
-    let agree = claims_hold (runs_of g) (Claimed g) (valid params v) (AtEnd (element o e)) (AtEnd (element o e)) (i, c, ic, e, e, hl', hr', meets) in
-    same_from_terms (input_at pair.left.arrays) (swaps_of pair.commutative) pair.left.body pair.right.body params (element o e) agree
+    claims_hold (runs_of g) (Claimed g) (valid params v) (AtEnd (element o e)) (AtEnd (element o e)) (i, c, ic, e, e, hl', hr', meets)
 
-output_same : (pair : Pair) (proof : Proof) (t : ArePaired pair) (m : ClaimsHaveModuli proof)
+output_agrees : (pair : Pair) (proof : Proof) (t : ArePaired pair) (m : ClaimsHaveModuli proof)
     → ((params : List ℤ) (v : IsValuation pair params) → Valid (runs_of (setting pair proof t m params v)) (Claimed (setting pair proof t m params v)))
-    → (o i : ℕ) → output_stands (pairing_of pair (left_of pair) (right_of pair)) pair.outputs o (slice_get proof.claims i) ≡ true → SameOutput pair o
-output_same pair proof t m valid o i e = by (slice_get proof.claims i) refl e
+    → (o i : ℕ) → output_stands (pairing_of pair (left_of pair) (right_of pair)) pair.outputs o (slice_get proof.claims i) ≡ true → TermsAgree pair o
+output_agrees pair proof t m valid o i e = by (slice_get proof.claims i) refl e
   where
-    by : (c : Option Claim) → slice_get proof.claims i ≡ c → output_stands (pairing_of pair (left_of pair) (right_of pair)) pair.outputs o c ≡ true → SameOutput pair o
+    by : (c : Option Claim) → slice_get proof.claims i ≡ c → output_stands (pairing_of pair (left_of pair) (right_of pair)) pair.outputs o c ≡ true → TermsAgree pair o
     by None q e = absurd cc
     by (Some c) q e =
         let g = pairing_of pair (left_of pair) (right_of pair) in
         let a = both_of (list_any (nat_eq o) pair.outputs) (same_position c.left (Output o) && (same_position c.right (Output o) && asks_no_more g c (domain g.left c.left) (domain g.right c.right))) e in
         let b = both_of (same_position c.left (Output o)) (same_position c.right (Output o) && asks_no_more g c (domain g.left c.left) (domain g.right c.right)) a.1 in
         let d = both_of (same_position c.right (Output o)) (asks_no_more g c (domain g.left c.left) (domain g.right c.right)) b.1 in
-        stands_same pair proof t m valid o i c q (position_is c.left (Output o) b.0) (position_is c.right (Output o) d.0) a.0 (stood g c d.1)
+        stands_agree pair proof t m valid o i c q (position_is c.left (Output o) b.0) (position_is c.right (Output o) d.0) a.0 (stood g c d.1)
 
-outputs_same : (pair : Pair) (proof : Proof) (t : ArePaired pair) (m : ClaimsHaveModuli proof)
+outputs_agree : (pair : Pair) (proof : Proof) (t : ArePaired pair) (m : ClaimsHaveModuli proof)
     → ((params : List ℤ) (v : IsValuation pair params) → Valid (runs_of (setting pair proof t m params v)) (Claimed (setting pair proof t m params v)))
-    → (os : List (ℕ × ℕ)) (k : ℕ) → outputs_fault (pairing_of pair (left_of pair) (right_of pair)) pair.outputs proof.claims os k ≡ None → AllByRecursion (λ (o : ℕ × ℕ). SameOutput pair o.0) os
-outputs_same pair proof t m valid [] k e = tt
-outputs_same pair proof t m valid (o ∷ os) k e =
+    → (os : List (ℕ × ℕ)) (k : ℕ) → outputs_fault (pairing_of pair (left_of pair) (right_of pair)) pair.outputs proof.claims os k ≡ None → AllByRecursion (λ (o : ℕ × ℕ). TermsAgree pair o.0) os
+outputs_agree pair proof t m valid [] k e = tt
+outputs_agree pair proof t m valid (o ∷ os) k e =
     let g = pairing_of pair (left_of pair) (right_of pair) in
     let f = first-none (fault_unless (output_stands g pair.outputs o.0 (slice_get proof.claims o.1)) k rule.Output) (outputs_fault g pair.outputs proof.claims os (k + 1)) e in
-    (output_same pair proof t m valid o.0 o.1 (unless_none (output_stands g pair.outputs o.0 (slice_get proof.claims o.1)) k rule.Output f.0), outputs_same pair proof t m valid os (k + 1) f.1)
+    (output_agrees pair proof t m valid o.0 o.1 (unless_none (output_stands g pair.outputs o.0 (slice_get proof.claims o.1)) k rule.Output f.0), outputs_agree pair proof t m valid os (k + 1) f.1)
 
-with_models : (pair : Pair) (proof : Proof) → ArePaired pair → ClaimsHaveModuli proof → IsValidProof (pairing_of pair (left_of pair) (right_of pair)) pair.outputs proof → AllByRecursion (λ (o : ℕ × ℕ). SameOutput pair o.0) proof.outputs
+with_models : (pair : Pair) (proof : Proof) → ArePaired pair → ClaimsHaveModuli proof → IsValidProof (pairing_of pair (left_of pair) (right_of pair)) pair.outputs proof → AllByRecursion (λ (o : ℕ × ℕ). TermsAgree pair o.0) proof.outputs
 with_models pair proof t m e =
     let g = pairing_of pair (left_of pair) (right_of pair) in
     let first = 4 + head_lines proof.heads in
@@ -227,8 +226,16 @@ with_models pair proof t m e =
     let h = first-none (heads_fault g proof.heads) (first_fault_of claims (first_fault_of outputs trees)) a.1 in
     let b = first-none claims (first_fault_of outputs trees) h.1 in
     let c = first-none outputs trees b.1 in
-    outputs_same pair proof t m (λ params v. all_valid (setting pair proof t m params v) first (k + length proof.outputs) proof.trees.items b.0 c.1) proof.outputs k c.0
+    outputs_agree pair proof t m (λ params v. all_valid (setting pair proof t m params v) first (k + length proof.outputs) proof.trees.items b.0 c.1) proof.outputs k c.0
 
--- THE theorem: a valid proof names only outputs that are the same
+-- THE theorem: a valid proof names only outputs whose terms agree
+pub valid_proofs_have_agreeing_terms : ValidProofsHaveAgreeingTerms
+valid_proofs_have_agreeing_terms pair left right proof t a m e = with_models pair proof t m (subst (λ (n : Model). IsValidProof (pairing_of pair (left_of pair) n) pair.outputs proof) a.right_is (subst (λ (n : Model). IsValidProof (pairing_of pair n right) pair.outputs proof) a.left_is e))
+
+-- and so outputs that are the same
+all_same : (pair : Pair) (os : List (ℕ × ℕ)) → AllByRecursion (λ (o : ℕ × ℕ). TermsAgree pair o.0) os → AllByRecursion (λ (o : ℕ × ℕ). SameOutput pair o.0) os
+all_same pair [] h = tt
+all_same pair (o ∷ os) h = ((λ params v e inside. same_from_terms (input_at pair.left.arrays) (swaps_of pair.commutative) pair.left.body pair.right.body params (element o.0 e) (h.0 params v e inside)), all_same pair os h.1)
+
 pub valid_proofs_name_same_outputs : ValidProofsNameSameOutputs
-valid_proofs_name_same_outputs pair left right proof t a m e = with_models pair proof t m (subst (λ (n : Model). IsValidProof (pairing_of pair (left_of pair) n) pair.outputs proof) a.right_is (subst (λ (n : Model). IsValidProof (pairing_of pair n right) pair.outputs proof) a.left_is e))
+valid_proofs_name_same_outputs pair left right proof t a m e = all_same pair proof.outputs (valid_proofs_have_agreeing_terms pair left right proof t a m e)

@@ -1,7 +1,8 @@
 -- The claims of outputs.
-use Rattle.std.proofs.Common.{◌≡◌, ◌≢◌, ℕ, zero, suc, ◌<◌, ◌≤◌, List, [], ◌∷◌, ◌++◌, length, Bool, true, false, ◌&&◌, Option, Some, None, slice_get, refl, sym, ap, ◌∙◌, subst, arith, inl}
+use Rattle.std.proofs.Common.{◌≡◌, ◌≢◌, ℕ, zero, suc, ◌<◌, ◌≤◌, List, [], ◌∷◌, ◌++◌, length, Bool, true, false, ◌&&◌, ◌||◌, Option, Some, None, slice_get, refl, sym, ap, ◌∙◌, subst, arith, inl}
 use Rattle.std.specs.Prelude.{nat_eq, option_map, get_or}
 use Rattle.std.specs.List.{list_any}
+use Rattle.std.proofs.lemmas.Bool.{eq-eqb, eqb-true}
 use Rattle.std.proofs.lemmas.Option.{slice_get_read, slice_get_past}
 use Rattle.ac_forms.specs.Rows.{HaveModuli, AreRowsOver}
 use Rattle.ac_forms.specs.declared.row.Row.{Row}
@@ -131,6 +132,20 @@ and_both true true true d = refl
 and_both true true false d = refl
 and_both true false c d = refl
 and_both false b c d = refl
+
+-- a number is among some where one of them is equal to it
+pub other_way : (o : ℕ) (xs : List ℕ) → list_any (λ y. nat_eq y o) xs ≡ list_any (nat_eq o) xs
+other_way o [] = refl
+other_way o (x ∷ xs) = ap (λ b. b || list_any (λ y. nat_eq y o) xs) (turned x o) ∙ ap (λ b. nat_eq o x || b) (other_way o xs)
+  where
+    by : (x y : ℕ) (a b : Bool) → nat_eq x y ≡ a → nat_eq y x ≡ b → a ≡ b
+    by x y true true e f = refl
+    by x y false false e f = refl
+    by x y true false e f = sym (eq-eqb y x (sym (eqb-true x y e))) ∙ f
+    by x y false true e f = sym e ∙ eq-eqb x y (sym (eqb-true y x f))
+
+    turned : (x y : ℕ) → nat_eq x y ≡ nat_eq y x
+    turned x y = by x y (nat_eq x y) (nat_eq y x) refl refl
 
 pub stands_by : (g : Pairing) (outputs : List ℕ) (o : ℕ) (c : Claim) → output_stands g outputs o (Some c) ≡ ((list_any (nat_eq o) outputs && (same_position c.left (Output o) && same_position c.right (Output o))) && asks_of g c (single (domain g.left c.left)) (single (domain g.right c.right)))
 stands_by g outputs o c =

@@ -3,7 +3,7 @@ use Rattle.std.specs.Prelude.{ℕ, ◌≡◌, List, [], ℤ, length, map, true, 
 use Rattle.std.specs.List.{AllByRecursion, list_any}
 use Rattle.ac_forms.specs.Rows.{HaveModuli}
 use Rattle.ac_syntax.specs.Index.{point, index_value}
-use Rattle.ac_syntax.specs.Outputs.{SameOutput, extents_at, swaps_of}
+use Rattle.ac_syntax.specs.Outputs.{IsElement, IsValuation, SameOutput, SameTermsAt, extents_at, swaps_of}
 use Rattle.ac_syntax.specs.Ready.{ReadyProgram, FitParts}
 use Rattle.ac_syntax.specs.declared.tree.Pair.{Pair}
 use Rattle.ac_poly.specs.Model.{model_of}
@@ -35,6 +35,17 @@ pairing_of pair left right = record { params = left.params; left = left; right =
 abbrev pub ClaimsHaveModuli : Proof → Type 0
 ClaimsHaveModuli proof = AllByRecursion (λ (c : Claim). HaveModuli c.rows) proof.claims
 
+-- at each valuation of the context both programs leave terms that agree in each element of the output
+abbrev pub TermsAgree : Pair → ℕ → Type 0
+TermsAgree pair output = (params : List ℤ) → IsValuation pair params → (e : List ℤ) → IsElement pair params output e → SameTermsAt pair params output e
+
+-- a valid proof names only outputs whose terms agree
+abbrev pub ValidProofsHaveAgreeingTerms : Type 0
+ValidProofsHaveAgreeingTerms =
+    (pair : Pair) (left right : Model) (proof : Proof) → ArePaired pair → AreModels pair left right → ClaimsHaveModuli proof → IsValidProof (pairing_of pair left right) pair.outputs proof
+    → AllByRecursion (λ (o : ℕ × ℕ). TermsAgree pair o.0) proof.outputs
+
+-- so these outputs are the same
 abbrev pub ValidProofsNameSameOutputs : Type 0
 ValidProofsNameSameOutputs =
     (pair : Pair) (left right : Model) (proof : Proof) → ArePaired pair → AreModels pair left right → ClaimsHaveModuli proof → IsValidProof (pairing_of pair left right) pair.outputs proof

@@ -88,18 +88,6 @@ fn asks_no_more(alloc: Global, programs: &Programs, claim: &Claim) -> Result<boo
     }
 }
 
-/// Whether an array is one of some.
-fn is_among(array: usize, outputs: &[usize]) -> bool
-    ensures { result ≡ list_any (nat_eq array) outputs.now }
-{
-    for output in outputs {
-        if array == *output {
-            return true;
-        }
-    }
-    false
-}
-
 /// Whether a position is that of an output.
 fn is_output(position: &Position, array: usize) -> bool
     ensures { result ≡ same_position position.now (Output array) }
@@ -111,10 +99,11 @@ fn is_output(position: &Position, array: usize) -> bool
 }
 
 /// Whether a claim says of an output of the pair, on both sides, that it is the same.
+#[tactic(auto, using(crate::proofs::OutputSteps::other_way))]
 fn is_named_by(outputs: &[usize], array: usize, claim: &Claim) -> bool
     ensures { result ≡ (list_any (nat_eq array) outputs.now && (same_position claim.now.left (Output array) && same_position claim.now.right (Output array))) }
 {
-    is_among(array, outputs) && is_output(&claim.left, array) && is_output(&claim.right, array)
+    outputs.contains(&array) && is_output(&claim.left, array) && is_output(&claim.right, array)
 }
 
 /// Whether an array is an output of the pair, and the claim with a number says that it is the same and asks no more than it

@@ -26,17 +26,28 @@ take_whole [] (suc n) e = refl
 take_whole (x ∷ xs) zero e = absurd (omega (arith, e))
 take_whole (x ∷ xs) (suc n) e = ap (λ ys. x ∷ ys) (take_whole xs n (omega (arith, e)))
 
--- one more weight
-pub blend_more : (es : List (EntryOf Key)) (key : Key) (ws : List (ℕ × ℤ)) (w : ℕ × ℤ) (p : List ℤ) (sum : ℤ) (point : List ℤ) (new : ℤ) (made : List ℤ) → 1 ≤ length ws → w ≡ get_or ws 0 (0, pos 0) → StandsAt es w.0 key p
-    → IsBlend es key (take (length ws - 1) (drop 1 ws)) sum point → new ≡ w.1 +ℤ sum → made ≡ mix w.1 p (pos 1) point → IsBlend es key ws new made
-blend_more es key [] w p sum point new made l e s h a b = absurd (omega arith)
-blend_more es key (v ∷ ws) w p sum point new made l e s h a b =
+-- the first weight, and those behind it
+abbrev pub first : List (ℕ × ℤ) → ℕ × ℤ
+first ws = get_or ws 0 (0, pos 0)
+
+abbrev pub behind : List (ℕ × ℤ) → List (ℕ × ℤ)
+behind ws = take (length ws - 1) (drop 1 ws)
+
+-- the sum with the first weight: of numbers, and of points
+abbrev pub WithFirst : List (ℕ × ℤ) → List ℤ → ℤ → List ℤ → ℤ → List ℤ → Type 0
+WithFirst ws p sum point new made = (new ≡ (first ws).1 +ℤ sum) × (made ≡ mix (first ws).1 p (pos 1) point)
+
+-- the sum of the points behind the first one, with the first one, is that of all
+pub blend_first : (es : List (EntryOf Key)) (key : Key) (ws : List (ℕ × ℤ)) (p : List ℤ) (sum : ℤ) (point : List ℤ) → 1 ≤ length ws → StandsAt es (first ws).0 key p → IsBlend es key (behind ws) sum point
+    → (new : ℤ) (made : List ℤ) → WithFirst ws p sum point new made → IsBlend es key ws new made
+blend_first es key [] p sum point l s h new made w = absurd (omega arith)
+blend_first es key (v ∷ ws) p sum point l s h new made w =
     let k : IsBlend es key ws sum point = subst (λ (us : List (ℕ × ℤ)). IsBlend es key us sum point) (take_whole ws (length (v ∷ ws) - 1) (omega arith)) h in
     record {
       points = p ∷ k.points;
-      weighs = (subst (λ (x : ℕ × ℤ). StandsAt es x.0 key p) e s, k.weighs);
-      sum_is = a ∙ (λ i. (e i).1 +ℤ k.sum_is i);
-      point_is = b ∙ (λ i. mix (e i).1 p (pos 1) (k.point_is i));
+      weighs = (s, k.weighs);
+      sum_is = w.0 ∙ (λ i. v.1 +ℤ k.sum_is i);
+      point_is = w.1 ∙ (λ i. mix v.1 p (pos 1) (k.point_is i));
     }
 
 weighs_length : (es : List (EntryOf Key)) (key : Key) (ws : List (ℕ × ℤ)) (ps : List (List ℤ)) → Weighs es key ws ps → length (numbers_of ws) ≡ length ps

@@ -1,6 +1,8 @@
 -- Tests of lists, item by item.
-use Rattle.std.proofs.Common.{◌≡◌, inl, inr, ℕ, zero, suc, ◌+◌, ◌<◌, ◌≤◌, ℤ, List, [], ◌∷◌, length, take, get_or, Some, Result, Bool, true, refl, sym, ap, ◌∙◌, subst, arith, add-one}
-use Rattle.std.specs.Prelude.{slice_get, option_map}
+use Rattle.std.proofs.Common.{◌≡◌, inl, inr, ℕ, zero, suc, ◌+◌, ◌<◌, ◌≤◌, ℤ, List, [], ◌∷◌, length, take, get_or, Some, Result, Bool, true, false, refl, sym, ap, ◌∙◌, subst, arith, add-one}
+use Rattle.std.specs.Prelude.{slice_get, option_map, nat_eq, ◌||◌}
+use Rattle.std.specs.List.{list_any}
+use Rattle.std.proofs.lemmas.Bool.{eqb-true}
 use Rattle.std.specs.Result.{IfOk}
 use Rattle.std.proofs.lemmas.Result.{IfOk-weaker}
 use Rattle.std.proofs.lemmas.Option.{slice_get_read, slice_get-map}
@@ -8,10 +10,10 @@ use Rattle.ac_forms.specs.Affine.{Affine, value_at}
 use Rattle.ac_forms.specs.Rows.{Holds, Meets}
 use Rattle.ac_forms.specs.declared.row.Row.{Row}
 use Rattle.ac_poly.specs.Laws.{values_at}
-use Rattle.ac_poly.specs.Pieces.{Somewhere}
 use Rattle.ac_cert.proofs.Keeping.{some-is}
 use Rattle.ac_paths.specs.Pairs.{In}
 use Rattle.ac_widen.specs.Combinations.{Each}
+use Rattle.ac_forms.specs.Pieces.{IsInSome}
 
 -- the first items, and one more
 pub each_step : {A : Type 0} (P : A → Type 0) (xs : List A) (i : ℕ) (x : A) → Each P (take i xs) → i < length xs → x ≡ get_or xs i x → P x → Each P (take (i + 1) xs)
@@ -41,7 +43,7 @@ meet_end (s ∷ rs) p (suc i) h l = (h.0, meet_end rs p i h.1 (omega arith))
 pub ruleset meet_steps = (meet_start, meet_step, meet_end)
 
 -- one of several pieces
-pub somewhere : (qs : List (List Row)) (p : List ℤ) (i : ℕ) (q : List Row) → i < length qs → q ≡ get_or qs i q → Meets q p → Somewhere qs p
+pub somewhere : (qs : List (List Row)) (p : List ℤ) (i : ℕ) (q : List Row) → i < length qs → q ≡ get_or qs i q → Meets q p → IsInSome Meets qs p
 somewhere [] p i q l e h = absurd (omega arith)
 somewhere (s ∷ qs) p zero q l e h = inl (subst (λ (x : List Row). Meets x p) e h)
 somewhere (s ∷ qs) p (suc i) q l e h = inr (somewhere qs p i q (omega arith) e h)
@@ -55,16 +57,20 @@ values_differ p q fs gs k f g l e m d n h =
     let b : slice_get (values_at q gs) k ≡ Some (value_at g q) = slice_get-map (λ (z : Affine). value_at z q) gs k ∙ ap (option_map (λ (z : Affine). value_at z q)) y in
     n (some-is (value_at f p) (value_at g q) (sym a ∙ ap (λ (vs : List ℤ). slice_get vs k) h ∙ b))
 
+-- a number that one of the numbers is equal to
+pub any_in : (n : ℕ) (xs : List ℕ) → list_any (λ y. nat_eq y n) xs ≡ true → In n xs
+any_in n [] e = absurd cc
+any_in n (x ∷ xs) e = by (nat_eq x n) refl e (any_in n xs)
+  where
+    by : (b : Bool) → nat_eq x n ≡ b → (b || list_any (λ y. nat_eq y n) xs) ≡ true → (list_any (λ y. nat_eq y n) xs ≡ true → In n xs) → In n (x ∷ xs)
+    by true f e further = inl (sym (eqb-true x n f))
+    by false f e further = inr (further e)
+
 -- an item of a list
 pub in_at : {A : Type 0} (xs : List A) (i : ℕ) (x : A) → i < length xs → x ≡ get_or xs i x → In x xs
 in_at [] i x l e = absurd (omega arith)
 in_at (y ∷ xs) zero x l e = inl e
 in_at (y ∷ xs) (suc i) x l e = inr (in_at xs i x (omega arith) e)
-
-pub in_get : {A : Type 0} (xs : List A) (i : ℕ) (d : A) → i < length xs → In (get_or xs i d) xs
-in_get [] i d l = absurd (omega arith)
-in_get (y ∷ xs) zero d l = inl refl
-in_get (y ∷ xs) (suc i) d l = inr (in_get xs i d (omega arith))
 
 -- where a test that was true shows one thing, it shows what follows
 pub on_true : {E P Q : Type 0} (r : Result Bool E) → (P → Q) → IfOk r (λ b. b ≡ true → P) → IfOk r (λ b. b ≡ true → Q)

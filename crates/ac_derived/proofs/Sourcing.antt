@@ -1,5 +1,6 @@
 -- A read or an output goes where its flow leads.
-use Rattle.std.proofs.Common.{◌≡◌, inl, inr, ℕ, zero, suc, ◌<◌, ◌++◌, ℤ, List, [], ◌∷◌, length, get_or, Option, None, refl, sym, ap, ◌∙◌, subst, arith, append-nil}
+use Rattle.std.proofs.Common.{◌≡◌, inl, inr, ℕ, zero, suc, ◌<◌, ℤ, List, [], ◌∷◌, ◌++◌, length, get_or, Option, None, refl, sym, ap, ◌∙◌, subst, arith}
+use Rattle.ac_forms.specs.Negation.{HasExtension}
 use Rattle.ac_forms.specs.Rows.{Meets}
 use Rattle.ac_syntax.specs.Algebra.{Cell}
 use Rattle.ac_syntax.specs.Ready.{ReadyProgram, FitParts}
@@ -24,13 +25,11 @@ use Rattle.ac_flow.specs.declared.types.Remainder.{Remainder}
 use Rattle.ac_graph.proofs.Standing.{reader_there}
 use Rattle.ac_derived.specs.Following.{Follows, LeadsTo}
 
--- a point of a piece without further columns
-pub left_there : (pieces : List Remainder) (p : List ℤ) (i : ℕ) (r : Remainder) → i < length pieces → r ≡ get_or pieces i r → r.conj.columns ≡ length p → Meets r.conj.rows p → IsLeft pieces p
-left_there [] p i r l e c h = absurd (omega arith)
-left_there (x ∷ pieces) p zero r l e c h =
-    let n : p ++ [] ≡ p = append-nil p in
-    inl ([], ap (λ (q : List ℤ). length q) n ∙ sym c ∙ ap (λ (y : Remainder). y.conj.columns) e, subst (Meets x.conj.rows) (sym n) (subst (λ (y : Remainder). Meets y.conj.rows p) e h))
-left_there (x ∷ pieces) p (suc i) r l e c h = inr (left_there pieces p i r (omega arith) e c h)
+-- a point of a piece
+pub left_there : (pieces : List Remainder) (p : List ℤ) (i : ℕ) (r : Remainder) → i < length pieces → r ≡ get_or pieces i r → HasExtension r.conj p → IsLeft pieces p
+left_there [] p i r l e h = absurd (omega arith)
+left_there (x ∷ pieces) p zero r l e h = inl (subst (λ (y : Remainder). HasExtension y.conj p) e h)
+left_there (x ∷ pieces) p (suc i) r l e h = inr (left_there pieces p i r (omega arith) e h)
 
 -- where it goes
 pub record GoesTo (x : Execution) (a : Placed x) (to : Position) (to_at : List ℤ) : Type 0 where

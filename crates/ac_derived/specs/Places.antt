@@ -5,11 +5,11 @@ use Rattle.ac_forms.specs.Rows.{Meets}
 use Rattle.ac_syntax.specs.declared.tree.Position.{Position}
 use Rattle.ac_syntax.specs.declared.tree.Position.TheVariants.{Output, Node, InitialOutput, InitialNode}
 use Rattle.ac_poly.specs.Columns.{element_rows}
-use Rattle.ac_poly.specs.Pieces.{Somewhere}
 use Rattle.ac_poly.specs.declared.types.Model.{Model}
 use Rattle.ac_poly.specs.declared.types.NodeModel.TheVariants.{Read}
 use Rattle.ac_poly.specs.declared.types.StmtModel.{StmtModel}
 use Rattle.ac_paths.specs.Coordinates.{width}
+use Rattle.ac_forms.specs.Pieces.{IsInSome}
 
 -- an element of an array
 pub record IsElement (m : Model) (params : List ℤ) (array : ℕ) (at : List ℤ) : Type 0 where
@@ -22,7 +22,7 @@ pub record IsElement (m : Model) (params : List ℤ) (array : ℕ) (at : List �
 pub record IsInstance (m : Model) (params : List ℤ) (number : ℕ) (at : List ℤ) (stmt : StmtModel) : Type 0 where
   pub is : slice_get m.stmts number ≡ Some stmt
   pub count : length at ≡ width stmt
-  pub piece : Somewhere stmt.pieces (params ++ at)
+  pub piece : IsInSome Meets stmt.pieces (params ++ at)
 
 -- a node of its value, and one that reads
 pub record IsNode (m : Model) (params : List ℤ) (number node : ℕ) (at : List ℤ) : Type 0 where

@@ -196,8 +196,8 @@ fn is_last(alloc: Global, checked: &Checked<'_>, entry: &Entry) -> Result<bool, 
 /// one, the entries are a derivation whose last entry is a mismatch. So each such order has a mismatch.
 ///
 /// Entries are tested one by one at their points, with rows and forms in `i128` and without a search; false says nothing: also
-/// where a number of a test leaves `i128`, a piece of a case has further columns, or the partial order leaves a site open
-/// through which an entry steps. The only refusal is want of memory.
+/// where a number of a test leaves `i128`, a further number of a point in a piece of a case is not found, or the partial order leaves a
+/// site open through which an entry steps. The only refusal is want of memory.
 pub fn refutes(
     alloc: Global,
     checked: &Checked<'_>,

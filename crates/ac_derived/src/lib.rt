@@ -9,6 +9,7 @@ mod orders;
 mod outputs;
 mod pairs;
 mod places;
+mod quotients;
 mod rows;
 mod same;
 mod sources;

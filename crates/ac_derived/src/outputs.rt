@@ -1,24 +1,11 @@
 //! Whether a pair of positions is an output against itself, at one element.
 ghost use Rattle.std.specs.Prelude.{◌≡◌, true};
-ghost use Rattle.ac_paths.specs.Pairs.{In};
 ghost use Rattle.ac_setting.specs.Programs.{IsOutputPair};
 ghost use Rattle.ac_derived.specs.Checks.{IsSeen, key_of, point_of};
 
 use crate::pairs::{Checked, Seen};
 use crate::same::{same_numbers, same_position};
 use ac_syntax::tree::Position;
-
-/// Whether a number is seen to be among those.
-fn is_among(numbers: &[usize], number: usize) -> bool
-    ensures { result ≡ true → In number numbers.now }
-{
-    for item in numbers {
-        if *item == number {
-            return true;
-        }
-    }
-    false
-}
 
 /// Whether a pair is seen to be that output on both sides, at one element.
 fn is_output_of(checked: &Checked<'_>, output: usize, seen: &Seen<'_>) -> bool
@@ -35,7 +22,7 @@ fn is_output_of(checked: &Checked<'_>, output: usize, seen: &Seen<'_>) -> bool
     if !same_numbers(seen.left_at, seen.right_at) {
         return false;
     }
-    is_among(checked.outputs, output)
+    checked.outputs.contains(&output)
 }
 
 /// Whether a pair is seen to be an output that is compared, on both sides, at one element.

@@ -4,7 +4,7 @@ ghost use Rattle.std.specs.Prelude.{◌≡◌, true, IfSome};
 ghost use Rattle.ac_forms.specs.Affine.{value_at};
 ghost use Rattle.ac_forms.specs.Rows.{Holds, Meets};
 ghost use Rattle.ac_poly.specs.Laws.{values_at};
-ghost use Rattle.ac_poly.specs.Pieces.{Somewhere};
+ghost use Rattle.ac_forms.specs.Pieces.{IsInSome};
 
 use ac_forms::{Form, Row, Wide};
 use ac_items::Items;
@@ -51,7 +51,7 @@ pub(crate) fn meets(rows: &[Row], point: &[i128]) -> bool
 /// Whether a point is seen to meet one of the pieces.
 #[tactic(auto, using(crate::proofs::Listing::somewhere))]
 pub(crate) fn in_some(pieces: &[Items<Row>], point: &[i128]) -> bool
-    ensures { result ≡ true → Somewhere pieces.now point.now }
+    ensures { result ≡ true → IsInSome Meets pieces.now point.now }
 {
     for piece in pieces {
         if meets(piece.as_slice(), point) {

@@ -5,7 +5,7 @@ ghost use Rattle.ac_flow.specs.Flows.{IsLeft};
 ghost use Rattle.ac_derived.specs.Following.{FollowsInitial, FollowsSource, Follows, FollowsIn, LeadsTo};
 
 use crate::places::joined;
-use crate::rows::meets;
+use crate::quotients::lies_in;
 use crate::same::{same_numbers, same_position};
 use ac_flow::types::{Case, Flow, Remainder};
 use ac_poly::types::Model;
@@ -39,16 +39,15 @@ fn initial_of(position: &Position) -> Position
 }
 
 /// Whether a point is seen to lie in one of the pieces of a case.
-#[tactic(auto, using(crate::proofs::Sourcing::left_there))]
-fn is_left(pieces: &[Remainder], point: &[i128]) -> bool
-    ensures { result ≡ true → IsLeft pieces.now point.now }
+fn is_left(alloc: Global, pieces: &[Remainder], point: &[i128]) -> Result<bool, AllocError>
+    ensures { IfOk result (λ found. found ≡ true → IsLeft pieces.now point.now) }
 {
     for piece in pieces {
-        if piece.conj.columns == point.len() && meets(piece.conj.rows.as_slice(), point) {
-            return true;
+        if lies_in(alloc, &piece.conj, point)? {
+            return Ok(true);
         }
     }
-    false
+    Ok(false)
 }
 
 /// Whether it goes there by a case of the initial contents.
@@ -63,7 +62,7 @@ fn follows_initial(alloc: Global, case: &Case, going: &Going<'_>) -> Result<bool
         return Ok(false);
     }
     let point = joined(alloc, going.params, going.at)?;
-    Ok(is_left(case.pieces.as_slice(), point.as_slice()))
+    is_left(alloc, case.pieces.as_slice(), point.as_slice())
 }
 
 /// Whether it goes there by a case of an assignment.
@@ -92,7 +91,7 @@ fn follows_source(
     }
     let coordinates = joined(alloc, going.at, going.to_at)?;
     let point = joined(alloc, going.params, coordinates.as_slice())?;
-    Ok(is_left(case.pieces.as_slice(), point.as_slice()))
+    is_left(alloc, case.pieces.as_slice(), point.as_slice())
 }
 
 /// Whether it goes there by a case.

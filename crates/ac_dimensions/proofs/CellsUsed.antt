@@ -17,22 +17,22 @@ use Rattle.ac_grammar.specs.declared.tree.Expr.{Expr}
 use Rattle.ac_grammar.specs.declared.tree.File.{File}
 use Rattle.ac_grammar.specs.declared.tree.Statement.{Statement}
 use Rattle.ac_grammar.specs.declared.tree.Statement.TheVariants.{Loop, Branch, Assign}
-use Rattle.ac_rules.specs.declared.scope.Entry.{Entry}
-use Rattle.ac_rules.specs.declared.scope.Scope.{Scope}
-use Rattle.ac_rules.specs.declared.scope.Meaning.{Meaning}
-use Rattle.ac_rules.specs.declared.scope.Meaning.TheVariants as means
-use Rattle.ac_rules.specs.Comparisons.{index}
-use Rattle.ac_rules.specs.Meanings.{meaning}
+use Rattle.ac_affine.specs.declared.scope.Entry.{Entry}
+use Rattle.ac_affine.specs.declared.scope.Scope.{Scope}
+use Rattle.ac_affine.specs.declared.scope.Meaning.{Meaning}
+use Rattle.ac_affine.specs.declared.scope.Meaning.TheVariants as means
+use Rattle.ac_affine.specs.Comparisons.{index}
+use Rattle.ac_affine.specs.Meanings.{meaning}
 use Rattle.ac_rules.specs.Declarations.{param_count}
 use Rattle.ac_rules.specs.Values.{array_number, read_of, value}
 use Rattle.ac_rules.specs.Statements.{target_rule, assigned_value, assignment_broken, statement_broken, stmt, stmts, inside}
 use Rattle.ac_rules.specs.Files.{body_scope, arrays_under, names_of, file_broken, program_of}
 use Rattle.ac_rules.proofs.Stepping.{broken-loop, broken-branch, broken-assign, stmt-loop, stmt-branch, stmt-assign}
 use Rattle.ac_dimensions.proofs.Meant.{MeansIn, NamesIn, meaning-in, names-in, cell-of}
-use Rattle.ac_rules.proofs.Absent.{NoneBroken, each, neither, none_of}
+use Rattle.ac_affine.proofs.Absent.{NoneBroken, each, neither, none_of}
 use Rattle.ac_rules.proofs.ArraysRead.{rule_holds}
 use Rattle.ac_dimensions.proofs.CellsRead.{access_reads, applied_reads, value_read}
-use Rattle.ac_rules.proofs.Trees.{every_statement}
+use Rattle.ac_affine.proofs.Trees.{every_statement}
 
 row_used : (arrays : List Array) (m : _) (k : Row_of-Stmt m) → AllByRecursion (UsesCells arrays) (items-the_row-Stmt m k) → EachUsesCells arrays k
 unfolding UsesCells

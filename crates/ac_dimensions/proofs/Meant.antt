@@ -8,14 +8,14 @@ use Rattle.ac_syntax.specs.declared.tree.Array.{Array}
 use Rattle.ac_syntax.specs.declared.tree.Program.{Program}
 use Rattle.ac_grammar.specs.declared.tree.Expr.{Expr}
 use Rattle.ac_grammar.specs.declared.tree.File.{File}
-use Rattle.ac_rules.specs.declared.scope.Entry.{Entry}
-use Rattle.ac_rules.specs.declared.scope.Meaning.{Meaning}
-use Rattle.ac_rules.specs.declared.scope.Meaning.TheVariants as means
-use Rattle.ac_rules.specs.declared.scope.Scope.{Scope}
-use Rattle.ac_rules.specs.Comparisons.{index}
+use Rattle.ac_affine.specs.declared.scope.Entry.{Entry}
+use Rattle.ac_affine.specs.declared.scope.Meaning.{Meaning}
+use Rattle.ac_affine.specs.declared.scope.Meaning.TheVariants as means
+use Rattle.ac_affine.specs.declared.scope.Scope.{Scope}
+use Rattle.ac_affine.specs.Comparisons.{index}
 use Rattle.ac_rules.specs.Files.{arrays_under, names_of, program_of}
 use Rattle.ac_rules.specs.LawsOfNames.{IsNamed}
-use Rattle.ac_rules.specs.Meanings.{declared_meaning, iterator_number, is_starting, meaning_behind, meaning, misused_unless}
+use Rattle.ac_affine.specs.Meanings.{declared_meaning, iterator_number, is_starting, meaning_behind, meaning, misused_unless}
 use Rattle.ac_rules.proofs.DeclaredOnce.{names_mean_their_own}
 
 -- the array with the number has so many extents

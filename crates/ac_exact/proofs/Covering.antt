@@ -14,7 +14,7 @@ use Rattle.ac_forms.specs.declared.row.Row.TheVariants.{Eq, Div, Ge}
 use Rattle.ac_forms.proofs.Values.{value_at-combined}
 use Rattle.ac_cert.specs.declared.column.Bound.{Bound}
 use Rattle.ac_cert.specs.declared.choose.Choice.TheVariants as choice
-use Rattle.ac_cert.specs.Bounds.{without, is_low, low_bound, lows, highs, frees, only_bounds, last_splinter}
+use Rattle.ac_cert.specs.Bounds.{without, is_low, low_bound, lows, highs, rows_without, only_bounds, last_splinter}
 use Rattle.ac_cert.specs.Choices.{left_by, shadow_form, shadows_with, shadows, splinter}
 use Rattle.ac_cert.proofs.OneColumn.{value-split, meets-free, meets-both, meets-first, meets-second}
 use Rattle.ac_cert.proofs.ColumnParts.{AllBelow, HaveSizes, parts, high-sizes}
@@ -105,26 +105,26 @@ low-positive : (c : ℤ) → lt_z (pos 0) c ≡ true → pos 1 ≤ℤ c
 low-positive c e = grind (arith, ints, e)
 
 -- one lower row: its dark shadows hold, or it is on a splinter
-one-row : (need : Needs) (z : ℕ) (f : Affine) (frees : List Row) (hs : List Bound) (rows : List Row) (p : List ℤ) (v : ℤ) → z < length p → Meets frees p → pos 1 ≤ℤ need f → SufficesFor frees (low_bound z f) (need f) hs → HaveSizes hs → AllBelow hs p v → is_low z f ≡ true → pos 0 ≤ℤ value_at f (set p z v)
+one-row : (need : Needs) (z : ℕ) (f : Affine) (rows_without : List Row) (hs : List Bound) (rows : List Row) (p : List ℤ) (v : ℤ) → z < length p → Meets rows_without p → pos 1 ≤ℤ need f → SufficesFor rows_without (low_bound z f) (need f) hs → HaveSizes hs → AllBelow hs p v → is_low z f ≡ true → pos 0 ≤ℤ value_at f (set p z v)
     → Meets (shadows_with (low_bound z f) hs) p ⊎ IsWorth need z (Ge f ∷ rows) (set p z v)
-one-row need z f frees hs rows p v l m la k s high e h =
+one-row need z f rows_without hs rows p v l m la k s high e h =
     let n = as_pos (value_at f (set p z v)) h in
     let b = low-positive (coef z f) e in
     let is : coef z f *ℤ v +ℤ value_at (without z f) p ≡ pos n.0 = sym (value-split f p z v l) ∙ n.1 in
     by_lt_z (need f *ℤ pos n.0) ((need f -ℤ pos 1) *ℤ (coef z f -ℤ pos 1))
     (λ below. inr (record { place = zero; form = f; worth = n.0; at = refl; low = e; within = up-to-last (need f) (coef z f) n.0 la b below; is = n.1 }))
-    (λ past. inl (all-past frees (need f) (low_bound z f) hs p n.0 v m k b s is high past))
+    (λ past. inl (all-past rows_without (need f) (low_bound z f) hs p n.0 v m k b s is high past))
 
-all-rows : (need : Needs) (z : ℕ) (frees : List Row) (hs : List Bound) (rows : List Row) (p : List ℤ) (v : ℤ) → z < length p → Meets frees p → ((f : Affine) → is_low z f ≡ true → (pos 1 ≤ℤ need f) × SufficesFor frees (low_bound z f) (need f) hs) → HaveSizes hs → AllBelow hs p v → Meets rows (set p z v)
+all-rows : (need : Needs) (z : ℕ) (rows_without : List Row) (hs : List Bound) (rows : List Row) (p : List ℤ) (v : ℤ) → z < length p → Meets rows_without p → ((f : Affine) → is_low z f ≡ true → (pos 1 ≤ℤ need f) × SufficesFor rows_without (low_bound z f) (need f) hs) → HaveSizes hs → AllBelow hs p v → Meets rows (set p z v)
     → Meets (shadows (lows z rows) hs) p ⊎ IsWorth need z rows (set p z v)
-all-rows need z frees hs [] p v l m k s high h = inl tt
-all-rows need z frees hs (Eq f ∷ rows) p v l m k s high h = elim (all-rows need z frees hs rows p v l m k s high h.1) [ inl x ↦ inl x | inr w ↦ inr (worth-later need z (Eq f) rows (set p z v) w) ]
-all-rows need z frees hs (Div n f ∷ rows) p v l m k s high h = elim (all-rows need z frees hs rows p v l m k s high h.1) [ inl x ↦ inl x | inr w ↦ inr (worth-later need z (Div n f) rows (set p z v) w) ]
-all-rows need z frees hs (Ge f ∷ rows) p v l m k s high h = elim (all-rows need z frees hs rows p v l m k s high h.1) [ inl x ↦ by (is_low z f) refl x | inr w ↦ inr (worth-later need z (Ge f) rows (set p z v) w) ]
+all-rows need z rows_without hs [] p v l m k s high h = inl tt
+all-rows need z rows_without hs (Eq f ∷ rows) p v l m k s high h = elim (all-rows need z rows_without hs rows p v l m k s high h.1) [ inl x ↦ inl x | inr w ↦ inr (worth-later need z (Eq f) rows (set p z v) w) ]
+all-rows need z rows_without hs (Div n f ∷ rows) p v l m k s high h = elim (all-rows need z rows_without hs rows p v l m k s high h.1) [ inl x ↦ inl x | inr w ↦ inr (worth-later need z (Div n f) rows (set p z v) w) ]
+all-rows need z rows_without hs (Ge f ∷ rows) p v l m k s high h = elim (all-rows need z rows_without hs rows p v l m k s high h.1) [ inl x ↦ by (is_low z f) refl x | inr w ↦ inr (worth-later need z (Ge f) rows (set p z v) w) ]
   where
     by : (t : Bool) → is_low z f ≡ t → Meets (shadows (lows z rows) hs) p → Meets (shadows (cond t (low_bound z f ∷ lows z rows) (lows z rows)) hs) p ⊎ IsWorth need z (Ge f ∷ rows) (set p z v)
     by false e x = inl x
-    by true e x = elim (one-row need z f frees hs rows p v l m (k f e).0 (k f e).1 s high e h.0) [ inl y ↦ inl (meets-both (shadows_with (low_bound z f) hs) (shadows (lows z rows) hs) p y x) | inr w ↦ inr w ]
+    by true e x = elim (one-row need z f rows_without hs rows p v l m (k f e).0 (k f e).1 s high e h.0) [ inl y ↦ inl (meets-both (shadows_with (low_bound z f) hs) (shadows (lows z rows) hs) p y x) | inr w ↦ inr w ]
 
 splinter-at : (k : ℕ) (o : Option Row) (f : Affine) (rows : List Row) (p : List ℤ) → o ≡ Some (Ge f) → value_at f p ≡ pos k → Meets rows p → Meets (splinter (pos k) o rows) p
 splinter-at k o f rows p e is h = rw e (meets-both rows (Eq (record { konst = f.konst -ℤ pos k; coefs = f.coefs }) ∷ []) p h (omega (arith, ints, is), tt))
@@ -137,8 +137,8 @@ pub covers-needed : (need : Needs) (z : ℕ) (rows : List Row) (p : List ℤ) (v
     → Meets (left_by (choice.Shadow z) rows) (set p z v) ⊎ IsOnNeeded need z rows (set p z v)
 covers-needed need z rows p v l o k h =
     let g = parts z rows p v l o h in
-    elim (all-rows need z (frees z rows) (highs z rows) rows p v l g.free k (high-sizes z rows) g.high h) [
-      | inl s ↦ inl ((meets-free (left_by (choice.Shadow z) rows) p z v l (left-free (choice.Shadow z) rows o refl)).1 (meets-both (frees z rows) (shadows (lows z rows) (highs z rows)) p g.free s))
+    elim (all-rows need z (rows_without z rows) (highs z rows) rows p v l g.free k (high-sizes z rows) g.high h) [
+      | inl s ↦ inl ((meets-free (left_by (choice.Shadow z) rows) p z v l (left-free (choice.Shadow z) rows o refl)).1 (meets-both (rows_without z rows) (shadows (lows z rows) (highs z rows)) p g.free s))
       | inr w ↦ inr (on-splinter need z rows (set p z v) h w)
     ]
 
@@ -154,7 +154,7 @@ exactly-needed need z rows p l o k = (
     | inr w ↦ inr (h.0, w)
   ]),
   (λ h. elim h [
-    | inl s ↦ (_, between-lifts z rows p l o (meets-first (frees z rows) (shadows (lows z rows) (highs z rows)) p s) (meets-second (frees z rows) (shadows (lows z rows) (highs z rows)) p s))
+    | inl s ↦ (_, between-lifts z rows p l o (meets-first (rows_without z rows) (shadows (lows z rows) (highs z rows)) p s) (meets-second (rows_without z rows) (shadows (lows z rows) (highs z rows)) p s))
     | inr w ↦ (w.0, splinter-rows (pos w.1.worth) (slice_get rows w.1.place) rows (set p z w.0) w.1.form w.1.at w.1.meets)
   ]),
 )

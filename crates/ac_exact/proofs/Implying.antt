@@ -19,7 +19,7 @@ use Rattle.ac_forms.specs.declared.normal.NormalRow.TheVariants.{Kept, Dropped, 
 use Rattle.ac_forms.proofs.NormalLaws.{ge_keeps}
 use Rattle.ac_forms.proofs.Values.{value_at-added}
 use Rattle.ac_cert.specs.declared.column.Bound.{Bound}
-use Rattle.ac_cert.specs.Bounds.{is_none, low_bound, highs, frees, greatest_size}
+use Rattle.ac_cert.specs.Bounds.{is_none, low_bound, highs, rows_without, greatest_size}
 use Rattle.ac_cert.specs.Choices.{shadow_form}
 use Rattle.ac_cert.proofs.Truths.{and-true}
 use Rattle.std.specs.Int.{int_max}
@@ -120,12 +120,12 @@ implied-holds rs Dropped p e m = absurd cc
 implied-holds rs Absurd p e m = absurd cc
 
 -- a pair that passes loses nothing
-pub exact-loses-nothing : (z : ℕ) (rows : List Row) (low high : Bound) → is_exact z rows low high ≡ true → LosesNothing (frees z rows) low high
+pub exact-loses-nothing : (z : ℕ) (rows : List Row) (low high : Bound) → is_exact z rows low high ≡ true → LosesNothing (rows_without z rows) low high
 exact-loses-nothing z rows low high e = λ p m r.
     (ge_keeps (shadow_form low high) p).0
-    (elim (or-true (is_same_left (normal_ge (shadow_form low high)) (normal_ge (real_form low high))) (is_implied (frees z rows) (normal_ge (shadow_form low high))) e) [
+    (elim (or-true (is_same_left (normal_ge (shadow_form low high)) (normal_ge (real_form low high))) (is_implied (rows_without z rows) (normal_ge (shadow_form low high))) e) [
       | inl a ↦ same-holds (normal_ge (shadow_form low high)) (normal_ge (real_form low high)) p a ((ge_keeps (real_form low high) p).1 r)
-      | inr b ↦ implied-holds (frees z rows) (normal_ge (shadow_form low high)) p b m
+      | inr b ↦ implied-holds (rows_without z rows) (normal_ge (shadow_form low high)) p b m
     ])
 
 suffices-more : (rows : List Row) (low : Bound) (a c : ℤ) (hs : List Bound) → a ≤ℤ c → SufficesFor rows low a hs → SufficesFor rows low c hs
@@ -152,7 +152,7 @@ failing-suffices rows low passes (h ∷ hs) k = by (passes h) refl (failing-suff
 pub economical-suffices : (z : ℕ) (rows : List Row) → Suffices (economical z rows) z rows
 economical-suffices z rows f e = (
   failing-some (is_exact z rows (low_bound z f)) (highs z rows),
-  failing-suffices (frees z rows) (low_bound z f) (is_exact z rows (low_bound z f)) (highs z rows) (λ h k. exact-loses-nothing z rows (low_bound z f) h k),
+  failing-suffices (rows_without z rows) (low_bound z f) (is_exact z rows (low_bound z f)) (highs z rows) (λ h k. exact-loses-nothing z rows (low_bound z f) h k),
 )
 
 greatest-suffices : (rows : List Row) (low : Bound) (hs : List Bound) → SufficesFor rows low (greatest_size hs) hs
@@ -161,7 +161,7 @@ greatest-suffices rows low (h ∷ hs) = (inr (omega (arith, ints, clamps)), suff
 
 -- so does the greatest size of all upper rows, where there is one
 pub full-suffices : (z : ℕ) (rows : List Row) → is_none (highs z rows) ≡ false → Suffices (full z rows) z rows
-full-suffices z rows n f e = (some (highs z rows) (high-sizes z rows) n, greatest-suffices (frees z rows) (low_bound z f) (highs z rows))
+full-suffices z rows n f e = (some (highs z rows) (high-sizes z rows) n, greatest-suffices (rows_without z rows) (low_bound z f) (highs z rows))
   where
     some : (hs : List Bound) → HaveSizes hs → is_none hs ≡ false → pos 1 ≤ℤ greatest_size hs
     some [] s e = absurd cc

@@ -8,7 +8,7 @@ use Rattle.ac_forms.specs.Tests.{normal_fits}
 use Rattle.ac_forms.specs.declared.row.Row.{Row}
 use Rattle.ac_forms.specs.declared.row.Row.TheVariants.{Ge}
 use Rattle.ac_cert.specs.declared.column.Bound.{Bound}
-use Rattle.ac_cert.specs.Bounds.{without, low_bound, high_bound, frees}
+use Rattle.ac_cert.specs.Bounds.{without, low_bound, high_bound, rows_without}
 use Rattle.ac_cert.specs.ChoiceFits.{shadow_fits}
 use Rattle.ac_cert.specs.Choices.{shadow_form}
 use Rattle.ac_cert.proofs.Parts.{and-assoc}
@@ -46,7 +46,7 @@ left-made low high o s made is h m =
     rw e (rw t.1 at m)
 
 pub exact-made : (z : ℕ) (rows : List Row) (low high : Bound) (o : Option LeftShadows) (l : LeftShadows) (found : Bool) → o ≡ Some l → o ≡ cond (pair_fits low high) (Some (left low high)) None
-    → found ≡ (is_same_left l.dark l.real || is_implied (frees z rows) l.dark) → (pair_fits low high ≡ true) × (found ≡ is_exact z rows low high)
+    → found ≡ (is_same_left l.dark l.real || is_implied (rows_without z rows) l.dark) → (pair_fits low high ≡ true) × (found ≡ is_exact z rows low high)
 exact-made z rows low high o l found is h m =
     let t = some-is (pair_fits low high) o l (left low high) is h in
     (t.0, rw t.1 at m)

@@ -6,7 +6,7 @@ use Rattle.ac_forms.specs.declared.row.Row.{Row}
 use Rattle.ac_forms.specs.declared.row.Row.TheVariants.{Ge}
 use Rattle.ac_cert.specs.declared.column.Bound.{Bound}
 use Rattle.ac_cert.specs.declared.choose.Choice.TheVariants.{Splinter}
-use Rattle.ac_cert.specs.Bounds.{is_low, low_bound, highs, frees, last_splinter}
+use Rattle.ac_cert.specs.Bounds.{is_low, low_bound, highs, rows_without, last_splinter}
 use Rattle.ac_cert.specs.Choices.{left_by, shadow_form}
 
 -- the real shadow of a lower row b z + e >= 0 and an upper row -a z + f >= 0: a e + b f
@@ -32,7 +32,7 @@ SufficesFor rows low a (h ∷ hs) = (LosesNothing rows low h ⊎ (h.size ≤ℤ 
 
 -- so is that of each lower row, and it is at least 1
 abbrev pub Suffices : Needs → ℕ → List Row → Type 0
-Suffices need z rows = (f : Affine) → is_low z f ≡ true → (pos 1 ≤ℤ need f) × SufficesFor (frees z rows) (low_bound z f) (need f) (highs z rows)
+Suffices need z rows = (f : Affine) → is_low z f ≡ true → (pos 1 ≤ℤ need f) × SufficesFor (rows_without z rows) (low_bound z f) (need f) (highs z rows)
 
 -- how many numbers there are from 0 to a last one
 abbrev pub count_to : ℤ → ℕ

@@ -12,7 +12,7 @@ use Rattle.ac_forms.specs.declared.row.Row.TheVariants.{Eq, Div, Ge}
 use Rattle.ac_forms.specs.declared.normal.NormalRow.{NormalRow}
 use Rattle.ac_forms.specs.declared.normal.NormalRow.TheVariants.{Kept, Dropped, Absurd}
 use Rattle.ac_cert.specs.declared.column.Bound.{Bound}
-use Rattle.ac_cert.specs.Bounds.{low_bound, highs, frees, greatest_size}
+use Rattle.ac_cert.specs.Bounds.{low_bound, highs, rows_without, greatest_size}
 use Rattle.ac_cert.specs.ChoiceFits.{shadow_fits}
 use Rattle.ac_cert.specs.Choices.{shadow_form}
 use Rattle.ac_exact.specs.Exact.{real_form, Needs}
@@ -57,7 +57,7 @@ is_implied rs _ = false
 -- the pair is exact beside the rows: the same is left of its dark and its real shadow, or rows without the column imply the dark one
 abbrev pub is_exact : ℕ → List Row → Bound → Bound → Bool
 is_exact z rows low high =
-    is_same_left (normal_ge (shadow_form low high)) (normal_ge (real_form low high)) || is_implied (frees z rows) (normal_ge (shadow_form low high))
+    is_same_left (normal_ge (shadow_form low high)) (normal_ge (real_form low high)) || is_implied (rows_without z rows) (normal_ge (shadow_form low high))
 
 -- the greatest size of the upper bounds that do not pass a test, 1 where all pass
 abbrev pub greatest_failing : (Bound → Bool) → List Bound → ℤ

@@ -3,7 +3,8 @@ ghost use Rattle.std.specs.Prelude.{◌≡◌, ◌+ℤ◌, int_le, not, is_some,
 ghost use Rattle.std.specs.Ordering.{int_eq, is_eq};
 ghost use Rattle.ac_forms.specs.Affine.{plus, added};
 ghost use Rattle.ac_forms.specs.Orders.{columns_cmp};
-ghost use Rattle.ac_cert.specs.Bounds.{has_column, frees};
+ghost use Rattle.ac_cert.specs.Bounds.{rows_without};
+ghost use Rattle.ac_forms.specs.Columns.{has_column};
 ghost use Rattle.ac_exact.specs.Tests.{is_at_most, is_implied_by_one, is_implied_with, is_implied_by_two};
 ghost use Rattle.ac_exact.specs.Reasons.{ImpliesAt, ImpliesWith, ImplyAt};
 
@@ -86,7 +87,7 @@ fn is_free(z: usize, form: &Form) -> bool
 
 /// Whether a row without a column implies a form.
 fn implies(z: usize, row: &Row, wanted: &Form) -> bool
-    ensures { result ≡ is_implied_by_one (frees z (row.now ∷ [])) wanted.now }
+    ensures { result ≡ is_implied_by_one (rows_without z (row.now ∷ [])) wanted.now }
 {
     match row {
         Row::Ge(form) => is_free(z, form) && is_at_most(form, wanted),
@@ -96,7 +97,7 @@ fn implies(z: usize, row: &Row, wanted: &Form) -> bool
 
 /// Whether the sum of a form and a row without a column implies another form.
 fn implies_with(z: usize, first: &Form, row: &Row, wanted: &Form) -> bool
-    ensures { result ≡ is_implied_with first.now (frees z (row.now ∷ [])) wanted.now }
+    ensures { result ≡ is_implied_with first.now (rows_without z (row.now ∷ [])) wanted.now }
 {
     match row {
         Row::Ge(form) => is_free(z, form) && is_sum_at_most(first, form, wanted),
@@ -106,7 +107,7 @@ fn implies_with(z: usize, first: &Form, row: &Row, wanted: &Form) -> bool
 
 /// The place of the first row without a column that implies a form.
 pub(crate) fn implying_row(z: usize, rows: &[Row], wanted: &Form) -> Option<usize>
-    ensures found { is_some result ≡ is_implied_by_one (frees z rows.now) wanted.now }
+    ensures found { is_some result ≡ is_implied_by_one (rows_without z rows.now) wanted.now }
     ensures place { IfSome result (λ i. ImpliesAt z rows.now i wanted.now) }
 {
     for (i, row) in rows.iter().enumerate() {
@@ -119,7 +120,7 @@ pub(crate) fn implying_row(z: usize, rows: &[Row], wanted: &Form) -> Option<usiz
 
 /// The place of the first row without a column whose sum with a form implies another.
 fn second_row(z: usize, first: &Form, rows: &[Row], wanted: &Form) -> Option<usize>
-    ensures found { is_some result ≡ is_implied_with first.now (frees z rows.now) wanted.now }
+    ensures found { is_some result ≡ is_implied_with first.now (rows_without z rows.now) wanted.now }
     ensures place { IfSome result (λ i. ImpliesWith z first.now rows.now i wanted.now) }
 {
     for (i, row) in rows.iter().enumerate() {
@@ -132,7 +133,7 @@ fn second_row(z: usize, first: &Form, rows: &[Row], wanted: &Form) -> Option<usi
 
 /// The place of the first row without a column whose sum with a row implies a form, if the row does not have the column.
 fn beside(z: usize, row: &Row, rows: &[Row], wanted: &Form) -> Option<usize>
-    ensures found { is_some result ≡ is_implied_by_two (frees z (row.now ∷ [])) (frees z rows.now) wanted.now }
+    ensures found { is_some result ≡ is_implied_by_two (rows_without z (row.now ∷ [])) (rows_without z rows.now) wanted.now }
     ensures place { IfSome result (λ j. ImplyAt z (row.now ∷ []) rows.now 0 j wanted.now) }
 {
     let Row::Ge(form) = row else {
@@ -146,7 +147,7 @@ fn beside(z: usize, row: &Row, rows: &[Row], wanted: &Form) -> Option<usize>
 
 /// The places of two rows without a column whose sum implies a form.
 pub(crate) fn implying_rows(z: usize, rows: &[Row], wanted: &Form) -> Option<(usize, usize)>
-    ensures found { is_some result ≡ is_implied_by_two (frees z rows.now) (frees z rows.now) wanted.now }
+    ensures found { is_some result ≡ is_implied_by_two (rows_without z rows.now) (rows_without z rows.now) wanted.now }
     ensures place { IfSome result (λ p. ImplyAt z rows.now rows.now p.0 p.1 wanted.now) }
 {
     for (i, row) in rows.iter().enumerate() {

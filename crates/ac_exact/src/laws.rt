@@ -6,7 +6,7 @@ ghost use Rattle.ac_forms.specs.declared.normal.NormalRow.TheVariants.{Kept};
 ghost use Rattle.ac_forms.specs.declared.row.Row.{Row};
 ghost use Rattle.ac_cert.specs.declared.column.Bound.{Bound};
 ghost use Rattle.ac_cert.specs.declared.choose.Choice.TheVariants.{Shadow};
-ghost use Rattle.ac_cert.specs.Bounds.{frees, highs, is_none, only_bounds};
+ghost use Rattle.ac_cert.specs.Bounds.{rows_without, highs, is_none, only_bounds};
 ghost use Rattle.ac_cert.specs.Choices.{left_by};
 ghost use Rattle.ac_exact.specs.Exact.{HasNumber, HasSplinter, IsOnNeeded, LosesNothing, Needs, Suffices};
 ghost use Rattle.ac_exact.specs.Tests.{economical, full, is_exact};
@@ -24,7 +24,7 @@ pub fn needed_choices_cover(conj: &Conj, z: usize)
 /// A pair is exact where its dark shadow has the normal form of the real one, or one row without the column or the sum of
 /// two of them implies it: then it loses nothing. So the splinters for the other pairs suffice, and those for all pairs.
 pub fn exact_pairs_lose_nothing(z: usize)
-    ensures pair { (rows : List Row) (low high : Bound) → is_exact z rows low high ≡ true → LosesNothing (frees z rows) low high }
+    ensures pair { (rows : List Row) (low high : Bound) → is_exact z rows low high ≡ true → LosesNothing (rows_without z rows) low high }
     ensures economical { (rows : List Row) → Suffices (economical z rows) z rows }
     ensures full { (rows : List Row) → is_none (highs z rows) ≡ false → Suffices (full z rows) z rows }
 {}

@@ -7,7 +7,7 @@ ghost use Rattle.ac_forms.specs.Rows.{HasModulus};
 ghost use Rattle.ac_forms.specs.Standing.{normal_of};
 ghost use Rattle.ac_forms.specs.Stops.{MadeIff, MadeWhere};
 ghost use Rattle.ac_forms.specs.Tests.{normal_fits};
-ghost use Rattle.ac_cert.specs.Bounds.{without, is_low, is_high, low_bound, high_bound, frees};
+ghost use Rattle.ac_cert.specs.Bounds.{without, is_low, is_high, low_bound, high_bound, rows_without};
 ghost use Rattle.ac_cert.specs.ChoiceFits.{shadow_fits};
 ghost use Rattle.ac_cert.specs.Choices.{shadow_form};
 ghost use Rattle.ac_cert.specs.Rules.{combination};
@@ -223,7 +223,7 @@ fn is_same_left(first: &NormalRow, second: &NormalRow) -> bool
 
 /// Why rows without a column imply what is left of an inequality.
 fn implied(z: usize, rows: &[Row], left: &NormalRow) -> Option<Reason>
-    ensures found { is_some result ≡ is_implied (frees z rows.now) left.now }
+    ensures found { is_some result ≡ is_implied (rows_without z rows.now) left.now }
     ensures reason { IfSome result (λ r. IsImpliedBy z rows.now left.now r) }
 {
     let NormalRow::Kept(Row::Ge(wanted)) = left else {
@@ -238,7 +238,7 @@ fn implied(z: usize, rows: &[Row], left: &NormalRow) -> Option<Reason>
 
 /// Why a pair is exact beside rows, by what is left of its shadows.
 fn reason_for(z: usize, rows: &[Row], left: &LeftShadows) -> Option<Reason>
-    ensures found { is_some result ≡ (is_same_left left.now.dark left.now.real || is_implied (frees z rows.now) left.now.dark) }
+    ensures found { is_some result ≡ (is_same_left left.now.dark left.now.real || is_implied (rows_without z rows.now) left.now.dark) }
     ensures reason { IfSome result (λ r. IsLeftFor z rows.now left.now.dark left.now.real r) }
 {
     if is_same_left(&left.dark, &left.real) {

@@ -13,7 +13,6 @@ use Rattle.ac_syntax.specs.Trace.{Entry}
 use Rattle.ac_syntax.specs.declared.tree.Position.{Position}
 use Rattle.ac_syntax.proofs.Cells.{same_cell_refl, same_cell_is}
 use Rattle.ac_poly.specs.Laws.{values_at, cell_of}
-use Rattle.ac_poly.specs.Pieces.{Somewhere}
 use Rattle.ac_poly.specs.declared.types.Model.{Model}
 use Rattle.ac_poly.specs.declared.types.StmtModel.{StmtModel}
 use Rattle.ac_cert.proofs.Keeping.{bind-some, some-is, if-some}
@@ -29,12 +28,14 @@ use Rattle.ac_paths.specs.declared.path.Seat.{Seat}
 use Rattle.ac_paths.proofs.Moving.{rows-value, equal-values, appended-parts, meets-parts, meets-both}
 use Rattle.ac_paths.proofs.OnPaths.{pick_more, pick_new, range_in}
 use Rattle.ac_paths.proofs.Heres.{cell_with, read_cell}
-use Rattle.ac_paths.proofs.Branches.{in_left, in_right, in_map, in_flat_map, somewhere_of, stands_of_level, stands_all, level_in}
+use Rattle.ac_paths.proofs.Branches.{in_left, in_right, in_map, in_flat_map, stands_of_level, stands_all, level_in}
 use Rattle.ac_paths.proofs.InBranches.{in_get}
 use Rattle.ac_paths.proofs.ReadSteps.{CaseParts, case_parts, case_meets, picks_one, picks_two}
 use Rattle.ac_flow.specs.Writings.{alone, reading, levels_after, levels_after_of, numbers_to, afters, writing, writings_of, writings_from, writings, rows_of}
 use Rattle.ac_flow.specs.Sources.{IsReading}
 use Rattle.ac_paths.specs.declared.path.CopyNumbers.{CopyNumbers}
+use Rattle.ac_forms.specs.Pieces.{IsInSome}
+use Rattle.ac_forms.proofs.InPieces.{some-at}
 
 -- ---- blocks of numbers
 
@@ -45,7 +46,7 @@ block b x r k w lb lx =
 
 -- ---- lists
 
-pub somewhere_at : (qs : List (List Row)) (p : List ℤ) → Somewhere qs p → (k : ℕ) × (q : List Row) × (slice_get qs k ≡ Some q) × Meets q p
+pub somewhere_at : (qs : List (List Row)) (p : List ℤ) → IsInSome Meets qs p → (k : ℕ) × (q : List Row) × (slice_get qs k ≡ Some q) × Meets q p
 somewhere_at [] p h = absurd h
 somewhere_at (q ∷ qs) p (inl h) = (0, q, refl, h)
 somewhere_at (q ∷ qs) p (inr h) = let r = somewhere_at qs p h in (suc r.0, r.1, r.2, r.3)
@@ -155,7 +156,7 @@ written m params x d reader count source n w stmt rows at zs q cell before r is 
     let seat = (reading m reader count source).reader in
     let copy = root n w.stmt stmt in
     let says = case_says m.params params seat c.cell copy stmt c.piece c.level c.first q at zs (case_parts m.params seat c.cell copy stmt c.piece c.level c.first c.case) sh.params_at sh.reader_at sh.own_at h in
-    let inst = d.instance w.stmt stmt zs is long (somewhere_of stmt.pieces w.piece c.piece (params ++ zs) c.piece_is says.0) in
+    let inst = d.instance w.stmt stmt zs is long (some-at Meets stmt.pieces w.piece c.piece (params ++ zs) c.piece_is says.0) in
     let v = inst.0 in
     let iv = inst.1 in
     let stands = stands_of_level m params x d reader at r.spot cell before w.stmt zs v stmt w.before c.level r.here r.reads iv is c.level_is says.2 in
@@ -179,7 +180,7 @@ later_than m params x d seat (Some level) u stmt n rows q zs s v e b z is iv fu 
     let me' : Meets l.0 (params ++ (x.coords s.entry ++ x.coords v.entry)) =
     subst (λ (y : List ℤ). Meets l.0 (params ++ (y ++ x.coords v.entry))) (sym is.coords) (subst (λ (y : List ℤ). Meets l.0 (params ++ (picked (columns_of seat) q ++ y))) (z ∙ sym iv.coords) me) in
     let l1 : slice_get (levels_before (length params) s.entry.stmt f.0 v.entry.stmt stmt) level ≡ Some l.0 = (λ j. slice_get (levels_before (sym d.count j) (is.stmt j) f.0 (iv.stmt j) stmt) level) ∙ l.1 in
-    let some = somewhere_of (levels_before (length params) s.entry.stmt f.0 v.entry.stmt stmt) level l.0 (params ++ (x.coords s.entry ++ x.coords v.entry)) l1 me' in
+    let some = some-at Meets (levels_before (length params) s.entry.stmt f.0 v.entry.stmt stmt) level l.0 (params ++ (x.coords s.entry ++ x.coords v.entry)) l1 me' in
     (d.order s v f.0 stmt is.stands iv.stands (ap (slice_get m.stmts) is.stmt ∙ f.1) (ap (slice_get m.stmts) iv.stmt ∙ fu)).1 some
 
 -- levels after what is assumed that hold for the writer's instance

@@ -1,14 +1,14 @@
 -- For each case of a reading exactly the instances whose source it is.
 use Rattle.std.proofs.Common.{◌≡◌, ◌↔◌, inl, inr, ℕ, ◌+◌, ℤ, List, [], ◌∷◌, ◌++◌, map, length, Option, Some, None, refl, sym, ap, ◌∙◌, subst, arith, append_assoc, append-nil, length-append}
 use Rattle.std.specs.Prelude.{slice_get, option_map}
-use Rattle.ac_forms.specs.Negation.{InSome, InNone}
+use Rattle.ac_forms.specs.Negation.{HasExtension}
+use Rattle.ac_forms.specs.Pieces.{IsInSome, IsInNone}
 use Rattle.ac_forms.specs.Rows.{Meets, AreRowsOver}
 use Rattle.ac_forms.specs.declared.conj.Conj.{Conj}
 use Rattle.ac_forms.specs.declared.row.Row.{Row}
 use Rattle.ac_syntax.specs.Algebra.{Cell}
 use Rattle.ac_syntax.specs.Source.{Writer, source}
 use Rattle.ac_syntax.specs.Trace.{Entry}
-use Rattle.ac_poly.specs.Pieces.{Somewhere}
 use Rattle.ac_poly.specs.declared.types.Model.{Model}
 use Rattle.ac_poly.specs.declared.types.StmtModel.{StmtModel}
 use Rattle.ac_cert.proofs.Keeping.{bind-some, map-some, some-is, Meets-append}
@@ -39,7 +39,7 @@ pub record ReadHere (m : Model) (params : List ℤ) (x : Execution) (r : Reads) 
   pub array : r.array ≡ forms.array
   pub here : IsReading x r.position at cell before
   pub count : r.count ≡ length at
-  pub piece : Somewhere r.pieces (params ++ at)
+  pub piece : IsInSome Meets r.pieces (params ++ at)
   pub context : Meets m.context params
 
 -- ---- the writing of a case
@@ -96,8 +96,8 @@ source_case m params x r at cell before t can w case h ys long =
     let all : all_of (copies m (reading m r.position (length at) (Some (root (m.params + length at) w.stmt h.stmt))) t.forms.array) ≡ Some h.case_of.all =
     (λ i. all_of (copies m (reading m r.position (sym t.count i) (Some (root (m.params + sym t.count i) w.stmt h.stmt))) (sym t.array i))) ∙ h.case_of.made in
     let nc = (no_copy m params x t.describes r.position t.forms t.read).assumed at ys cell before w h.stmt h.own.rows h.case_of.all t.here h.is long f.rows in (
-      (λ l. let z = pts.0 (subst (λ q. InSome q (map conj_of_remainder case.pieces)) back l) in let me = subst (Meets h.own.rows) (sym back) z.0 in ((nc me all).1 (subst (λ q. InNone q h.case_of.all) (sym back) z.1), me)),
-      (λ me s. subst (λ q. InSome q (map conj_of_remainder case.pieces)) (sym back) (pts.1 (subst (Meets h.own.rows) back me, subst (λ q. InNone q h.case_of.all) back ((nc me all).0 s)))),
+      (λ l. let z = pts.0 (subst (λ q. IsInSome HasExtension (map conj_of_remainder case.pieces) q) back l) in let me = subst (Meets h.own.rows) (sym back) z.0 in ((nc me all).1 (subst (λ q. IsInNone HasExtension h.case_of.all q) (sym back) z.1), me)),
+      (λ me s. subst (λ q. IsInSome HasExtension (map conj_of_remainder case.pieces) q) (sym back) (pts.1 (subst (Meets h.own.rows) back me, subst (λ q. IsInNone HasExtension h.case_of.all q) back ((nc me all).0 s)))),
     )
   where
     context_wide : AreRowsOver (m.params + r.count) m.context
@@ -130,8 +130,8 @@ source_exact m params x r at cell before t can w case h = record {
 initial_exact : (m : Model) (params : List ℤ) (x : Execution) (r : Reads) (at : List ℤ) (cell : Cell) (before : List Entry) → ReadHere m params x r at cell before → CanRead m r → (case : Case) → IsInitialCase m r case → CaseIsTheSource m params x r.position at cell before case
 initial_exact m params x r at cell before t can case h = record {
   initial = λ e. (
-    (λ l. let z = pts.0 (subst (λ q. InSome q (map conj_of_remainder case.pieces)) (sym none) l) in nc.1 (subst (λ q. InNone q h.case_of.all) none z.1)),
-    (λ s. subst (λ q. InSome q (map conj_of_remainder case.pieces)) none (pts.1 (tt, subst (λ q. InNone q h.case_of.all) (sym none) (nc.0 s)))),
+    (λ l. let z = pts.0 (subst (λ q. IsInSome HasExtension (map conj_of_remainder case.pieces) q) (sym none) l) in nc.1 (subst (λ q. IsInNone HasExtension h.case_of.all q) none z.1)),
+    (λ s. subst (λ q. IsInSome HasExtension (map conj_of_remainder case.pieces) q) none (pts.1 (tt, subst (λ q. IsInNone HasExtension h.case_of.all q) (sym none) (nc.0 s)))),
   );
   assigned = λ u stmt ys e is long. absurd (let z : None ≡ Some u = sym h.source ∙ e in cc);
 }
@@ -142,12 +142,12 @@ initial_exact m params x r at cell before t can case h = record {
     lp : length (params ++ at) ≡ m.params + r.count
     lp = length-append params at ∙ (λ i. sym t.describes.count i + sym t.count i)
 
-    pts : InSome ((params ++ at) ++ []) (map conj_of_remainder case.pieces) ↔ (Meets [] ((params ++ at) ++ []) × InNone ((params ++ at) ++ []) h.case_of.all)
+    pts : IsInSome HasExtension (map conj_of_remainder case.pieces) ((params ++ at) ++ []) ↔ (Meets [] ((params ++ at) ++ []) × IsInNone HasExtension h.case_of.all ((params ++ at) ++ []))
     pts = left_is m (m.params + r.count) [] h.case_of.found h.case_of.all r.pieces case.pieces (m.params + r.count) (params ++ at) [] h.case_of.parts h.case_of.killed
         (made-wide m.context m.params (m.params + r.count) (omega arith) can.context) can.pieces lp
         (Meets-append m.context m.params params at (let c = t.describes.count in omega (arith, c)) can.context t.context) t.piece (ap (λ (q : List ℤ). length q) none ∙ lp)
 
-    nc : (source cell before ≡ None) ↔ InNone (params ++ at) h.case_of.all
+    nc : (source cell before ≡ None) ↔ IsInNone HasExtension h.case_of.all (params ++ at)
     nc = (no_copy m params x t.describes r.position t.forms t.read).initial at cell before h.case_of.all t.here ((λ i. all_of (copies m (reading m r.position (sym t.count i) None) (sym t.array i))) ∙ h.case_of.made)
 
 -- ---- all cases
@@ -182,7 +182,7 @@ has_case m params x r at cell before t can cases h = by (source cell before) ref
     by None e =
         let c = last_case m r (writings m r.position r.array None) cases h in
         let i = (initial_exact m params x r at cell before t can c.0 c.2).initial c.2.source in
-        record { case = c.0; among = c.1; more = []; left = subst (λ q. InSome q (map conj_of_remainder c.0.pieces)) (ap (λ (q : List ℤ). params ++ q) (sym (append-nil at))) (i.1 e) }
+        record { case = c.0; among = c.1; more = []; left = subst (λ q. IsInSome HasExtension (map conj_of_remainder c.0.pieces) q) (ap (λ (q : List ℤ). params ++ q) (sym (append-nil at))) (i.1 e) }
     by (Some u) e =
         let s = the_source_has_rows m params x t.describes r.position t.forms t.read at cell before u t.here e in
         let k : In s.writing (writings m r.position r.array None) = subst (λ a. In s.writing (writings m r.position a None)) (sym t.array) s.among in

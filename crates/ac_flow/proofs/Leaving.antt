@@ -1,11 +1,11 @@
 -- What is left of a case is where no copy has a point, so where what is assumed is the source.
 use Rattle.std.proofs.Common.{◌≡◌, ◌↔◌, ◌⊎◌, inl, inr, ℕ, suc, ℤ, List, [], ◌∷◌, ◌++◌, map, length, refl, sym, ap, ◌∙◌, subst, arith}
-use Rattle.ac_forms.specs.Negation.{InSome, InNone}
+use Rattle.ac_forms.specs.Negation.{HasExtension}
+use Rattle.ac_forms.specs.Pieces.{IsInSome, IsInNone}
 use Rattle.ac_forms.specs.Rows.{Meets, AreRowsOver}
 use Rattle.ac_forms.specs.declared.conj.Conj.{Conj}
 use Rattle.ac_forms.specs.declared.row.Row.{Row}
 use Rattle.ac_omega.specs.declared.piece.Piece.{Piece}
-use Rattle.ac_poly.specs.Pieces.{Somewhere}
 use Rattle.ac_poly.specs.declared.types.Model.{Model}
 use Rattle.ac_cert.proofs.Keeping.{Meets-append}
 use Rattle.ac_kills.specs.Remaining.{AllKills}
@@ -13,35 +13,27 @@ use Rattle.ac_kills.proofs.Remains.{remains}
 use Rattle.ac_paths.proofs.Moving.{meets-parts, meets-both}
 use Rattle.ac_flow.specs.Cases.{AreParts, ArePiecesOver, case_conj, remainder, conj_of_remainder}
 use Rattle.ac_flow.specs.declared.types.Remainder.{Remainder}
+use Rattle.ac_forms.proofs.InPieces.{some-append}
 
 -- the case's rows hold in some piece of the reader
 InSomePiece : Model → List Row → List (List Row) → List ℤ → Type 0
-InSomePiece m rows [] p = ⊥
-InSomePiece m rows (q ∷ qs) p = Meets (m.context ++ (q ++ rows)) p ⊎ InSomePiece m rows qs p
-
-some_append : (xs ys : List Conj) (p : List ℤ) → InSome p (xs ++ ys) ↔ (InSome p xs ⊎ InSome p ys)
-some_append [] ys p = ((λ h. inr h), (λ h. elim h [ inl a ↦ absurd a | inr b ↦ b ]))
-some_append (x ∷ xs) ys p =
-    let r = some_append xs ys p in (
-      (λ h. elim h [ inl a ↦ inl (inl a) | inr b ↦ elim (r.0 b) [ inl c ↦ inl (inr c) | inr d ↦ inr d ] ]),
-      (λ h. elim h [ inl a ↦ elim a [ inl c ↦ inl c | inr d ↦ inr (r.1 (inl d)) ] | inr b ↦ inr (r.1 (inr b)) ]),
-    )
+InSomePiece m rows qs p = IsInSome (λ (q : List Row). Meets (m.context ++ (q ++ rows))) qs p
 
 conjs_of : (d : ℕ) (group : List Conj) (rest : List Remainder) → map conj_of_remainder (map (remainder d) group ++ rest) ≡ group ++ map conj_of_remainder rest
 conjs_of d [] rest = refl
 conjs_of d (c ∷ group) rest = ap (λ (cs : List Conj). c ∷ cs) (conjs_of d group rest)
 
 left_points : (m : Model) (columns : ℕ) (rows : List Row) (found : List (List Piece)) (all : List Conj) (d : ℕ) (qs : List (List Row)) (rs : List Remainder) → AreParts m columns rows found d qs rs → AllKills columns all found → (p : List ℤ) → length p ≡ columns
-    → InSome p (map conj_of_remainder rs) ↔ (InSomePiece m rows qs p × InNone p all)
+    → IsInSome HasExtension (map conj_of_remainder rs) p ↔ (InSomePiece m rows qs p × IsInNone HasExtension all p)
 unfolding InSomePiece
-left_points m columns rows found all d [] rs e k p l = ((λ h. absurd (subst (λ (x : List Remainder). InSome p (map conj_of_remainder x)) e h)), (λ h. absurd h.0))
+left_points m columns rows found all d [] rs e k p l = ((λ h. absurd (subst (λ (x : List Remainder). IsInSome HasExtension (map conj_of_remainder x) p) e h)), (λ h. absurd h.0))
 left_points m columns rows found all d (q ∷ qs) rs (group, rest, e, c, h) k p l =
     let r = left_points m columns rows found all (suc d) qs rest h k p l in
     let b = (remains (case_conj m columns rows q) all found group c k).points p l in
     let f : map conj_of_remainder rs ≡ group ++ map conj_of_remainder rest = ap (map conj_of_remainder) e ∙ conjs_of d group rest in
-    let s = some_append group (map conj_of_remainder rest) p in (
-      (λ x. elim (s.0 (subst (InSome p) f x)) [ inl y ↦ let z = b.0 y in (inl z.0, z.1) | inr y ↦ let z = r.0 y in (inr z.0, z.1) ]),
-      (λ x. subst (InSome p) (sym f) (s.1 (elim x.0 [ inl y ↦ inl (b.1 (y, x.1)) | inr y ↦ inr (r.1 (y, x.1)) ]))),
+    let s = some-append HasExtension group (map conj_of_remainder rest) p in (
+      (λ x. elim (s.0 (subst (λ (cs : List Conj). IsInSome HasExtension cs p) f x)) [ inl y ↦ let z = b.0 y in (inl z.0, z.1) | inr y ↦ let z = r.0 y in (inr z.0, z.1) ]),
+      (λ x. subst (λ (cs : List Conj). IsInSome HasExtension cs p) (sym f) (s.1 (elim x.0 [ inl y ↦ inl (b.1 (y, x.1)) | inr y ↦ inr (r.1 (y, x.1)) ]))),
     )
 
 -- the rows of the source are among those of the case
@@ -52,7 +44,7 @@ own_meets m rows (q ∷ qs) p (inl h) = (meets-parts q rows p (meets-parts m.con
 own_meets m rows (q ∷ qs) p (inr h) = own_meets m rows qs p h
 
 -- and the case's rows hold where the context, a piece of the reader and the source's rows do
-in_piece : (m : Model) (rows : List Row) (n : ℕ) (qs : List (List Row)) (front more : List ℤ) → AreRowsOver n m.context → ArePiecesOver n qs → length front ≡ n → Meets m.context front → Somewhere qs front → Meets rows (front ++ more) → InSomePiece m rows qs (front ++ more)
+in_piece : (m : Model) (rows : List Row) (n : ℕ) (qs : List (List Row)) (front more : List ℤ) → AreRowsOver n m.context → ArePiecesOver n qs → length front ≡ n → Meets m.context front → IsInSome Meets qs front → Meets rows (front ++ more) → InSomePiece m rows qs (front ++ more)
 unfolding InSomePiece
 in_piece m rows n [] front more wc wq l c s h = absurd s
 in_piece m rows n (q ∷ qs) front more wc wq l c (inl s) h =
@@ -61,7 +53,7 @@ in_piece m rows n (q ∷ qs) front more wc wq l c (inr s) h = inr (in_piece m ro
 
 -- what is left of a case is where the source's rows hold and no copy has a point
 pub left_is : (m : Model) (columns : ℕ) (rows : List Row) (found : List (List Piece)) (all : List Conj) (qs : List (List Row)) (rs : List Remainder) (n : ℕ) (front more : List ℤ) → AreParts m columns rows found 0 qs rs → AllKills columns all found
-    → AreRowsOver n m.context → ArePiecesOver n qs → length front ≡ n → Meets m.context front → Somewhere qs front → length (front ++ more) ≡ columns → InSome (front ++ more) (map conj_of_remainder rs) ↔ (Meets rows (front ++ more) × InNone (front ++ more) all)
+    → AreRowsOver n m.context → ArePiecesOver n qs → length front ≡ n → Meets m.context front → IsInSome Meets qs front → length (front ++ more) ≡ columns → IsInSome HasExtension (map conj_of_remainder rs) (front ++ more) ↔ (Meets rows (front ++ more) × IsInNone HasExtension all (front ++ more))
 left_is m columns rows found all qs rs n front more parts killed wc wq l c s lp =
     let r = left_points m columns rows found all 0 qs rs parts killed (front ++ more) lp in
     ((λ h. let z = r.0 h in (own_meets m rows qs (front ++ more) z.0, z.1)), (λ h. r.1 (in_piece m rows n qs front more wc wq l c s h.0, h.1)))

@@ -8,7 +8,6 @@ use Rattle.ac_syntax.specs.Trace.{Entry}
 use Rattle.ac_syntax.specs.Spot.{Spot}
 use Rattle.ac_syntax.specs.Where.{At}
 use Rattle.ac_syntax.specs.declared.tree.Position.TheVariants.{Output, Node}
-use Rattle.ac_poly.specs.Pieces.{Somewhere}
 use Rattle.ac_poly.specs.declared.types.Model.{Model}
 use Rattle.ac_poly.specs.declared.types.NodeModel.{NodeModel}
 use Rattle.ac_poly.specs.declared.types.NodeModel.TheVariants.{Number, Read, Call}
@@ -24,6 +23,7 @@ use Rattle.ac_flow.specs.Cases.{Reads}
 use Rattle.ac_flow.specs.Readers.{read_at, reads_from, reads_of_all, output_at, outputs_from, readers}
 use Rattle.ac_flow.specs.Sources.{IsReading}
 use Rattle.ac_flow.proofs.Exact.{ReadHere}
+use Rattle.ac_forms.specs.Pieces.{IsInSome}
 
 -- a reader is a read of an assignment, or an output
 pub data IsReader (m : Model) : Reads → Type 0 where
@@ -73,15 +73,15 @@ is_reader m r h = by (in_either r (reads_of_all 0 m.stmts) (outputs_from m 0 m.e
     by (inr x) = outputs_reader m 0 m.extents (λ j q e. let z : j ≡ 0 + j = omega arith in subst (λ i. slice_get m.extents i ≡ Some q) z e) r x
 
 -- what stands at a read
-node_stands : (m : Model) (params : List ℤ) (x : Execution) → Describes m params x → (s k : ℕ) (stmt : StmtModel) (at : List ℤ) (spot : Spot) → slice_get m.stmts s ≡ Some stmt → At x (Node s k) at spot → (width stmt ≡ length at) × Somewhere stmt.pieces (params ++ at)
+node_stands : (m : Model) (params : List ℤ) (x : Execution) → Describes m params x → (s k : ℕ) (stmt : StmtModel) (at : List ℤ) (spot : Spot) → slice_get m.stmts s ≡ Some stmt → At x (Node s k) at spot → (width stmt ≡ length at) × IsInSome Meets stmt.pieces (params ++ at)
 unfolding At
 node_stands m params x d s k stmt at spot is (w, i, v, n, e) =
     let here : slice_get m.stmts w.entry.stmt ≡ Some stmt = ap (slice_get m.stmts) i.stmt ∙ is in
     let mo = d.entry w i.stands in
     let same : mo.stmt ≡ stmt = some-is mo.stmt stmt (sym mo.is ∙ here) in
-    (ap width (sym same) ∙ sym mo.width ∙ ap (λ (q : List ℤ). length q) i.coords, subst (λ (q : List ℤ). Somewhere stmt.pieces (params ++ q)) i.coords (d.piece w stmt i.stands here))
+    (ap width (sym same) ∙ sym mo.width ∙ ap (λ (q : List ℤ). length q) i.coords, subst (λ (q : List ℤ). IsInSome Meets stmt.pieces (params ++ q)) i.coords (d.piece w stmt i.stands here))
 
-output_stands : (m : Model) (params : List ℤ) (x : Execution) → Describes m params x → (o : ℕ) (extents : List Affine) (at : List ℤ) (spot : Spot) → slice_get m.extents o ≡ Some extents → At x (Output o) at spot → (length extents ≡ length at) × Somewhere (extent_rows m.params extents ∷ []) (params ++ at)
+output_stands : (m : Model) (params : List ℤ) (x : Execution) → Describes m params x → (o : ℕ) (extents : List Affine) (at : List ℤ) (spot : Spot) → slice_get m.extents o ≡ Some extents → At x (Output o) at spot → (length extents ≡ length at) × IsInSome Meets (extent_rows m.params extents ∷ []) (params ++ at)
 unfolding At
 output_stands m params x d o extents at spot is (inside, e) =
     let f = d.elements o at inside in

@@ -9,7 +9,7 @@ use Rattle.ac_syntax.specs.Trace.{Entry}
 use Rattle.ac_syntax.specs.declared.tree.Position.{Position}
 use Rattle.ac_syntax.specs.declared.tree.Position.TheVariants.{Output, Node, InitialOutput, InitialNode}
 use Rattle.ac_poly.specs.Model.{PiecesAreApart}
-use Rattle.ac_poly.specs.Pieces.{Somewhere, AtMostOne}
+use Rattle.ac_forms.specs.Pieces.{IsInOneAtMost}
 use Rattle.ac_poly.specs.declared.types.Model.{Model}
 use Rattle.ac_poly.specs.declared.types.StmtModel.{StmtModel}
 use Rattle.ac_poly.proofs.LevelRows.{levels_are_apart}
@@ -27,25 +27,21 @@ use Rattle.ac_flow.specs.Writings.{reading, writing}
 use Rattle.ac_flow.specs.declared.types.Case.{Case}
 use Rattle.ac_flow.proofs.CopyParts.{parts_of, case_says, block}
 use Rattle.ac_flow.proofs.Exact.{formed}
-
-somewhere_at : (qs : List (List Row)) (k : ℕ) (q : List Row) (p : List ℤ) → slice_get qs k ≡ Some q → Meets q p → Somewhere qs p
-somewhere_at [] k q p e h = absurd cc
-somewhere_at (r ∷ qs) zero q p e h = let i : r ≡ q = cc in inl (subst (λ (z : List Row). Meets z p) (sym i) h)
-somewhere_at (r ∷ qs) (suc k) q p e h = inr (somewhere_at qs k q p e h)
+use Rattle.ac_forms.proofs.InPieces.{some-at, none-or}
 
 -- of lists of rows of which a point meets at most one, it meets one with one number
-one_number : (qs : List (List Row)) (p : List ℤ) (k l : ℕ) (q r : List Row) → AtMostOne qs p → slice_get qs k ≡ Some q → slice_get qs l ≡ Some r → Meets q p → Meets r p → k ≡ l
+one_number : (qs : List (List Row)) (p : List ℤ) (k l : ℕ) (q r : List Row) → IsInOneAtMost Meets qs p → slice_get qs k ≡ Some q → slice_get qs l ≡ Some r → Meets q p → Meets r p → k ≡ l
 one_number [] p k l q r a e f h g = absurd cc
 one_number (x ∷ qs) p zero zero q r a e f h g = refl
-one_number (x ∷ qs) p zero (suc l) q r a e f h g = let i : x ≡ q = cc in absurd (a.0 (subst (λ (z : List Row). Meets z p) (sym i) h) (somewhere_at qs l r p f g))
-one_number (x ∷ qs) p (suc k) zero q r a e f h g = let i : x ≡ r = cc in absurd (a.0 (subst (λ (z : List Row). Meets z p) (sym i) g) (somewhere_at qs k q p e h))
+one_number (x ∷ qs) p zero (suc l) q r a e f h g = let i : x ≡ q = cc in absurd (none-or Meets qs p (a.0 (subst (λ (z : List Row). Meets z p) (sym i) h)) (some-at Meets qs l r p f g))
+one_number (x ∷ qs) p (suc k) zero q r a e f h g = let i : x ≡ r = cc in absurd (none-or Meets qs p (a.0 (subst (λ (z : List Row). Meets z p) (sym i) g)) (some-at Meets qs k q p e h))
 one_number (x ∷ qs) p (suc k) (suc l) q r a e f h g = ap suc (one_number qs p k l q r a.1 e f h g)
 
-levels_apart : (m : Model) (u : ℕ) (stmt : StmtModel) (reader : Position) (p : List ℤ) → AtMostOne (levels_to m u stmt reader) p
-levels_apart m u stmt (Output o) p = ((λ h. (λ x. x)), tt)
+levels_apart : (m : Model) (u : ℕ) (stmt : StmtModel) (reader : Position) (p : List ℤ) → IsInOneAtMost Meets (levels_to m u stmt reader) p
+levels_apart m u stmt (Output o) p = ((λ h. tt), tt)
 levels_apart m u stmt (Node s k) p = by (slice_get m.stmts s)
   where
-    by : (o : Option StmtModel) → AtMostOne (levels_at m u stmt s o) p
+    by : (o : Option StmtModel) → IsInOneAtMost Meets (levels_at m u stmt s o) p
     by (Some reader) = levels_are_apart m.params (m.params + width stmt) stmt.loops reader.loops (nat_lt u s) p
     by None = tt
 levels_apart m u stmt (InitialOutput o) p = tt

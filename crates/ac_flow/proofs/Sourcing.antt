@@ -2,7 +2,8 @@
 use Rattle.std.proofs.Common.{◌≡◌, ◌↔◌, ℕ, ◌+◌, ◌<◌, ◌≤◌, ◌⊎◌, inl, inr, ℤ, List, [], ◌∷◌, ◌++◌, map, length, nat_lt, Bool, true, false, Option, Some, None, refl, sym, ap, ◌∙◌, subst, arith, append_assoc, append-nil, length-append}
 use Rattle.std.specs.Prelude.{slice_get, option_map}
 use Rattle.std.specs.List.{range_with_len}
-use Rattle.ac_forms.specs.Negation.{Extends, InNone}
+use Rattle.ac_forms.specs.Negation.{HasExtension}
+use Rattle.ac_forms.specs.Pieces.{IsInNone}
 use Rattle.ac_forms.specs.Renaming.{picked}
 use Rattle.ac_forms.specs.Rows.{Meets}
 use Rattle.ac_forms.specs.declared.conj.Conj.{Conj}
@@ -35,13 +36,13 @@ use Rattle.ac_flow.proofs.CopyParts.{block, Parts, parts_of, Shown, Written, wri
 
 -- ---- members of lists of copies
 
-none_of : (p : List ℤ) (all : List Conj) → ((c : Conj) → In c all → Extends p c → ⊥) → InNone p all
+none_of : (p : List ℤ) (all : List Conj) → ((c : Conj) → In c all → HasExtension c p → ⊥) → IsInNone HasExtension all p
 none_of p [] h = tt
 none_of p (c ∷ cs) h = (h c (inl refl), none_of p cs (λ d k. h d (inr k)))
 
-not_in : (p : List ℤ) (all : List Conj) (c : Conj) → InNone p all → In c all → Extends p c → ⊥
+not_in : (p : List ℤ) (all : List Conj) (c : Conj) → IsInNone HasExtension all p → In c all → HasExtension c p → ⊥
 not_in p [] c n k x = absurd k
-not_in p (d ∷ all) c n (inl e) x = n.0 (subst (Extends p) e x)
+not_in p (d ∷ all) c n (inl e) x = n.0 (subst (λ (c : Conj). HasExtension c p) e x)
 not_in p (d ∷ all) c n (inr k) x = not_in p all c n.1 k x
 
 of_map : {A B : Type 0} (f : A → B) (y : B) (xs : List A) → In y (map f xs) → (x : A) × In x xs × (f x ≡ y)
@@ -128,7 +129,7 @@ the_source_has_rows m params x d reader forms e at cell before u r src =
     }
 
 no_copy_is_initial : (m : Model) (params : List ℤ) (x : Execution) (d : Describes m params x) (reader : Position) (forms : CellForms) → cell_read m reader ≡ Some forms → (at : List ℤ) (cell : Cell) (before : List Entry) (all : List Conj)
-    → IsReading x reader at cell before → all_of (copies m (reading m reader (length at) None) forms.array) ≡ Some all → (source cell before ≡ None) ↔ InNone (params ++ at) all
+    → IsReading x reader at cell before → all_of (copies m (reading m reader (length at) None) forms.array) ≡ Some all → (source cell before ≡ None) ↔ IsInNone HasExtension all (params ++ at)
 no_copy_is_initial m params x d reader forms e at cell before all r made = (none, λ h. by (source cell before) refl h)
   where
     p : List ℤ
@@ -143,17 +144,17 @@ no_copy_is_initial m params x d reader forms e at cell before all r made = (none
     lp : length p ≡ n
     lp = length-append params at ∙ ap (λ k. k + length at) (sym d.count) ∙ sym en
 
-    none : source cell before ≡ None → InNone p all
+    none : source cell before ≡ None → IsInNone HasExtension all p
     none i = none_of p all (λ c k h.
         let w = copy_of_conj m reader forms.array (length at) None all c made k in
-        let f = subst (Extends p) w.conj h in
+        let f = subst (λ (c : Conj). HasExtension c p) w.conj h in
         let l = long_enough p f.0 n (width w.stmt) lp f.1 in
         let c' = parts_of m reader (length at) None n w.writing w.stmt w.rows w.made in
         let first = (meets-parts c'.first c'.second (p ++ f.0) (subst (λ (y : List Row). Meets y (p ++ f.0)) c'.are f.2)).0 in
         let v = written m params x d reader (length at) None n w.writing w.stmt w.rows at f.0 (p ++ f.0) cell before r w.is l c' (shown_initial m params at f.0 w.writing.stmt n w.stmt d.count en l) first in
         source_none cell before v.writer i v.stands v.writes)
 
-    by : (o : Option Writer) → source cell before ≡ o → InNone p all → source cell before ≡ None
+    by : (o : Option Writer) → source cell before ≡ o → IsInNone HasExtension all p → source cell before ≡ None
     by None i h = i
     by (Some u) i h =
         let t = rows_of_source m params x d reader forms n e at cell before u en r i in
@@ -183,7 +184,7 @@ no_copy_is_the_source : (m : Model) (params : List ℤ) (x : Execution) (d : Des
     → IsReading x reader at cell before → slice_get m.stmts w.stmt ≡ Some stmt → length ys ≡ width stmt
     → rows_of m (reading m reader (length at) None) (m.params + length at) w stmt ≡ Some rows → Meets rows (params ++ (at ++ ys))
     → all_of (copies m (reading m reader (length at) (Some (root (m.params + length at) w.stmt stmt))) forms.array) ≡ Some all
-    → IsSource x cell before w.stmt ys ↔ InNone (params ++ (at ++ ys)) all
+    → IsSource x cell before w.stmt ys ↔ IsInNone HasExtension all (params ++ (at ++ ys))
 no_copy_is_the_source m params x d reader forms e at ys cell before w stmt rows all r is long made_rows here made = (none, some)
   where
     p : List ℤ
@@ -224,10 +225,10 @@ no_copy_is_the_source m params x d reader forms e at ys cell before w stmt rows 
     instance : (zs : List ℤ) (v : Writer) → InstanceAt x w.stmt ys v → InstanceAt x w.stmt (picked (columns_of seat) (p ++ zs)) v
     instance zs v i = record { stands = i.stands; stmt = i.stmt; coords = i.coords ∙ sym (at_source zs) }
 
-    none : IsSource x cell before w.stmt ys → InNone p all
+    none : IsSource x cell before w.stmt ys → IsInNone HasExtension all p
     none s = none_of p all (λ c k h.
         let f = copy_of_conj m reader forms.array (length at) (Some seat) all c made k in
-        let g = subst (Extends p) f.conj h in
+        let g = subst (λ (c : Conj). HasExtension c p) f.conj h in
         let l = long_enough p g.0 n (width f.stmt) lp g.1 in
         let c' = parts_of m reader (length at) (Some seat) n f.writing f.stmt f.rows f.made in
         let both = meets-parts c'.first c'.second (p ++ g.0) (subst (λ (y : List Row). Meets y (p ++ g.0)) c'.are g.2) in
@@ -238,7 +239,7 @@ no_copy_is_the_source m params x d reader forms e at ys cell before w stmt rows 
         omega (arith, lt, le))
 
     -- a later writer of the cell would be a copy
-    copy : (v : Writer) → source cell before ≡ Some v → length w0.writer.earlier < length v.earlier → InNone p all → ⊥
+    copy : (v : Writer) → source cell before ≡ Some v → length w0.writer.earlier < length v.earlier → IsInNone HasExtension all p → ⊥
     copy v src lt h =
         let s = source_stands cell before v src in
         let z = x.coords v.entry in
@@ -250,13 +251,13 @@ no_copy_is_the_source m params x d reader forms e at ys cell before w stmt rows 
         let c = conj_of_copy m reader forms.array (length at) (Some seat) all t.writing t.stmt made t.among t.is in
         not_in p all (over (n + width t.stmt) c.0) h c.2 (z, length-append p z ∙ (λ j. lp j + t.wide j), t.meets c.0 c.1)
 
-    last : (v : Writer) → source cell before ≡ Some v → InNone p all → (length w0.writer.earlier < length v.earlier) ⊎ (length w0.writer.earlier ≡ length v.earlier) → IsSource x cell before w.stmt ys
+    last : (v : Writer) → source cell before ≡ Some v → IsInNone HasExtension all p → (length w0.writer.earlier < length v.earlier) ⊎ (length w0.writer.earlier ≡ length v.earlier) → IsSource x cell before w.stmt ys
     last v src h (inl lt) = absurd (copy v src lt h)
     last v src h (inr eq) =
         let one = one_place w0.writer v w0.stands (source_stands cell before v src).0 eq in
         record { writer = w0.writer; found = src ∙ ap Some (sym one); instance = w0.instance }
 
-    some : InNone p all → IsSource x cell before w.stmt ys
+    some : IsInNone HasExtension all p → IsSource x cell before w.stmt ys
     some h = by (source cell before) refl
       where
         by : (o : Option Writer) → source cell before ≡ o → IsSource x cell before w.stmt ys

@@ -1,6 +1,5 @@
 -- What a flow says: for each case exactly the instances whose source it is.
 use Rattle.std.specs.Prelude.{ℕ, ◌≡◌, ◌↔◌, ◌++◌, List, map, length, ℤ, Some, None, slice_get}
-use Rattle.ac_forms.specs.Negation.{InSome}
 use Rattle.ac_forms.specs.Rows.{Meets}
 use Rattle.ac_forms.specs.declared.conj.Conj.{Conj}
 use Rattle.ac_syntax.specs.Algebra.{Cell}
@@ -23,10 +22,12 @@ use Rattle.ac_flow.specs.declared.types.Case.{Case}
 use Rattle.ac_flow.specs.declared.types.Flow.{Flow}
 use Rattle.ac_flow.specs.declared.types.ReadFlow.{ReadFlow}
 use Rattle.ac_flow.specs.declared.types.Remainder.{Remainder}
+use Rattle.ac_forms.specs.Negation.{HasExtension}
+use Rattle.ac_forms.specs.Pieces.{IsInSome}
 
 -- the point is in one of the pieces of a case
 abbrev pub IsLeft : List Remainder → List ℤ → Type 0
-IsLeft pieces p = InSome p (map conj_of_remainder pieces)
+IsLeft pieces p = IsInSome HasExtension (map conj_of_remainder pieces) p
 
 -- the rows of a case's source hold: the instance lies in its piece, writes the cell, and stands before the reader by its level
 pub record MeetsCase (m : Model) (reader : Position) (count u : ℕ) (case : Case) (p : List ℤ) : Type 0 where

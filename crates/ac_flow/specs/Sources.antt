@@ -1,6 +1,5 @@
 -- Where no copy has a point, what is assumed for a read or an output is its source.
 use Rattle.std.specs.Prelude.{ℕ, ◌+◌, ◌≡◌, ◌↔◌, List, ◌++◌, length, ℤ, Some, None, slice_get}
-use Rattle.ac_forms.specs.Negation.{InNone}
 use Rattle.ac_forms.specs.Rows.{Meets}
 use Rattle.ac_forms.specs.declared.conj.Conj.{Conj}
 use Rattle.ac_forms.specs.declared.row.Row.{Row}
@@ -21,6 +20,8 @@ use Rattle.ac_paths.specs.Places.{cell_read}
 use Rattle.ac_paths.specs.declared.places.CellForms.{CellForms}
 use Rattle.ac_flow.specs.Writings.{reading, rows_of, writings, copies}
 use Rattle.ac_paths.specs.declared.path.CopyNumbers.{CopyNumbers}
+use Rattle.ac_forms.specs.Negation.{HasExtension}
+use Rattle.ac_forms.specs.Pieces.{IsInNone}
 
 -- the position reads, at these coordinates, a cell behind these entries
 pub record IsReading (x : Execution) (reader : Position) (at : List ℤ) (cell : Cell) (before : List Entry) : Type 0 where
@@ -41,9 +42,9 @@ pub record NoCopy (m : Model) (params : List ℤ) (x : Execution) (reader : Posi
       → IsReading x reader at cell before → slice_get m.stmts w.stmt ≡ Some stmt → length ys ≡ width stmt
       → rows_of m (reading m reader (length at) None) (m.params + length at) w stmt ≡ Some rows → Meets rows (params ++ (at ++ ys))
       → all_of (copies m (reading m reader (length at) (Some (root (m.params + length at) w.stmt stmt))) forms.array) ≡ Some all
-      → IsSource x cell before w.stmt ys ↔ InNone (params ++ (at ++ ys)) all
+      → IsSource x cell before w.stmt ys ↔ IsInNone HasExtension all (params ++ (at ++ ys))
   pub initial : (at : List ℤ) (cell : Cell) (before : List Entry) (all : List Conj) → IsReading x reader at cell before
-      → all_of (copies m (reading m reader (length at) None) forms.array) ≡ Some all → (source cell before ≡ None) ↔ InNone (params ++ at) all
+      → all_of (copies m (reading m reader (length at) None) forms.array) ≡ Some all → (source cell before ≡ None) ↔ IsInNone HasExtension all (params ++ at)
 
 abbrev pub NoCopyIsTheSource : Type 0
 NoCopyIsTheSource = (p : Program) (m : Model) (params : List ℤ) (reader : Position) (forms : CellForms) → Describes m params (execution p m params) → cell_read m reader ≡ Some forms → NoCopy m params (execution p m params) reader forms

@@ -6,7 +6,7 @@ use Rattle.ac_forms.specs.declared.row.Row.{Row}
 use Rattle.ac_syntax.specs.Algebra.{Cell}
 use Rattle.ac_syntax.specs.Trace.{Entry}
 use Rattle.ac_poly.specs.Model.{model_of, PiecesAreApart}
-use Rattle.ac_poly.specs.Pieces.{Somewhere, AtMostOne}
+use Rattle.ac_forms.specs.Pieces.{IsInOneAtMost}
 use Rattle.ac_poly.specs.declared.types.Model.{Model}
 use Rattle.ac_poly.proofs.PiecesApart.{pieces_are_apart}
 use Rattle.ac_cert.proofs.Keeping.{Meets-append}
@@ -24,23 +24,19 @@ use Rattle.ac_flow.proofs.Linking.{IsReader, OfNode, OfOutput, is_reader}
 use Rattle.ac_flow.proofs.Overs.{is_over, can_read, can_read_elements}
 use Rattle.ac_flow_laws.specs.Steps.{MeetsInPiece, StartsInPiece, IsInOnePiece, CasesAreInPieces, FlowsAreOfReaders}
 use Rattle.ac_flow_laws.proofs.Stepping.{Reading, readings, found}
+use Rattle.ac_forms.proofs.InPieces.{some-at, none-or}
 
 -- ---- one piece
 
-pieces_apart : (m : Model) → PiecesAreApart m → (r : Reads) → IsReader m r → (p : List ℤ) → AtMostOne r.pieces p
+pieces_apart : (m : Model) → PiecesAreApart m → (r : Reads) → IsReader m r → (p : List ℤ) → IsInOneAtMost Meets r.pieces p
 pieces_apart m apart r (OfNode s k stmt array subs is e) p = apart s stmt p is
-pieces_apart m apart r (OfOutput o extents is) p = ((λ h s. s), tt)
+pieces_apart m apart r (OfOutput o extents is) p = ((λ h. tt), tt)
 
-in_some : (qs : List (List Row)) (k : ℕ) (q : List Row) (p : List ℤ) → slice_get qs k ≡ Some q → Meets q p → Somewhere qs p
-in_some [] k q p e h = absurd cc
-in_some (r ∷ qs) zero q p e h = let i : r ≡ q = cc in inl (subst (λ (z : List Row). Meets z p) (sym i) h)
-in_some (r ∷ qs) (suc k) q p e h = inr (in_some qs k q p e h)
-
-one_number : (qs : List (List Row)) (p : List ℤ) (k l : ℕ) (q r : List Row) → AtMostOne qs p → slice_get qs k ≡ Some q → slice_get qs l ≡ Some r → Meets q p → Meets r p → k ≡ l
+one_number : (qs : List (List Row)) (p : List ℤ) (k l : ℕ) (q r : List Row) → IsInOneAtMost Meets qs p → slice_get qs k ≡ Some q → slice_get qs l ≡ Some r → Meets q p → Meets r p → k ≡ l
 one_number [] p k l q r a e f h g = absurd cc
 one_number (x ∷ qs) p zero zero q r a e f h g = refl
-one_number (x ∷ qs) p zero (suc l) q r a e f h g = let i : x ≡ q = cc in absurd (a.0 (subst (λ (z : List Row). Meets z p) (sym i) h) (in_some qs l r p f g))
-one_number (x ∷ qs) p (suc k) zero q r a e f h g = let i : x ≡ r = cc in absurd (a.0 (subst (λ (z : List Row). Meets z p) (sym i) g) (in_some qs k q p e h))
+one_number (x ∷ qs) p zero (suc l) q r a e f h g = let i : x ≡ q = cc in absurd (none-or Meets qs p (a.0 (subst (λ (z : List Row). Meets z p) (sym i) h)) (some-at Meets qs l r p f g))
+one_number (x ∷ qs) p (suc k) zero q r a e f h g = let i : x ≡ r = cc in absurd (none-or Meets qs p (a.0 (subst (λ (z : List Row). Meets z p) (sym i) g)) (some-at Meets qs k q p e h))
 one_number (x ∷ qs) p (suc k) (suc l) q r a e f h g = ap suc (one_number qs p k l q r a.1 e f h g)
 
 -- ---- its rows, with the coordinates of a source behind

@@ -2,6 +2,7 @@
 -- and none of its kills.
 use Rattle.std.specs.Prelude.{ℕ, ◌+◌, ◌≡◌, ◌↔◌, ◌⊎◌, ◌++◌, ℤ, List, [], ◌∷◌, length, Some, None, slice_get}
 use Rattle.ac_forms.specs.Rows.{Meets}
+use Rattle.ac_forms.specs.Pieces.{IsInNone}
 use Rattle.ac_forms.specs.declared.conj.Conj.{Conj}
 use Rattle.ac_forms.specs.declared.row.Row.{Row}
 use Rattle.ac_syntax.specs.Ready.{ReadyProgram, FitParts}
@@ -43,8 +44,7 @@ pub record GoesToStart (x : Execution) (a : Placed x) : Type 0 where
 
 -- the point lies in none of the kills
 abbrev pub InNoKill : List (Conj × Kill) → List ℤ → Type 0
-InNoKill [] p = Unit {0}
-InNoKill (k ∷ ks) p = (¬ Meets k.0.rows p) × InNoKill ks p
+InNoKill ks p = IsInNone (λ (k : Conj × Kill). Meets k.0.rows) ks p
 
 -- a read or an output of a ready program, at its coordinates and a valuation of the context, with its flow
 pub record IsReadOf (p : Program) (context : Cond) (params : List ℤ) (r : Reads) (flow : ReadFlow) (a : Placed (execution p (model_of p context) params)) : Type 0 where

@@ -18,3 +18,7 @@ some-at Has (y ∷ ys) (suc i) x p e h = inr (some-at Has ys i x p e h)
 pub none-or : {A : Type 0} (Has : A → List ℤ → Type 0) (xs : List A) (p : List ℤ) → IsInNone Has xs p → IsInSome Has xs p → ⊥
 none-or Has [] p n h = h
 none-or Has (x ∷ xs) p n h = elim h [ inl a ↦ n.0 a | inr b ↦ none-or Has xs p n.1 b ]
+
+pub none-of : {A : Type 0} (Has : A → List ℤ → Type 0) (xs : List A) (p : List ℤ) → (¬ IsInSome Has xs p) → IsInNone Has xs p
+none-of Has [] p h = tt
+none-of Has (x ∷ xs) p h = ((λ a. h (inl a)), none-of Has xs p (λ b. h (inr b)))

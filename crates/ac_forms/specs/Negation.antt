@@ -1,5 +1,5 @@
 -- The negation of a row, as conjunctions of which no two have a point in common.
-use Rattle.std.specs.Prelude.{◌≡◌, ◌⊎◌, ℕ, ◌+◌, ◌-◌, ℤ, pos, negsuc, neg_ℤ, ◌+ℤ◌, ◌-ℤ◌, List, [], ◌∷◌, ◌++◌, length, replicate}
+use Rattle.std.specs.Prelude.{◌≡◌, ℕ, ◌+◌, ◌-◌, ℤ, pos, negsuc, neg_ℤ, ◌+ℤ◌, ◌-ℤ◌, List, [], ◌∷◌, ◌++◌, length, replicate}
 use Rattle.ac_forms.specs.Fits.{Fits}
 use Rattle.ac_forms.specs.Affine.{Affine, scaled, shifted, FormFits}
 use Rattle.ac_forms.specs.Rows.{Meets}
@@ -39,20 +39,5 @@ NegationFits (Div m f) = Fits (f.konst +ℤ negsuc 0) × FormFits (opposite f) �
 NegationFits (Ge f) = FormFits (opposite f) × Fits ((opposite f).konst +ℤ negsuc 0)
 
 -- the point, with numbers for the conjunction's further columns, meets the conjunction
-abbrev pub Extends : List ℤ → Conj → Type 0
-Extends p conj = (more : List ℤ) × (length (p ++ more) ≡ conj.columns) × Meets conj.rows (p ++ more)
-
--- the point extends to one of the conjunctions
-abbrev pub InSome : List ℤ → List Conj → Type 0
-InSome p [] = ⊥
-InSome p (c ∷ cs) = Extends p c ⊎ InSome p cs
-
--- the point extends to none of the conjunctions
-abbrev pub InNone : List ℤ → List Conj → Type 0
-InNone p [] = Unit {0}
-InNone p (c ∷ cs) = (¬ Extends p c) × InNone p cs
-
--- where the point extends to one of the conjunctions, it extends to no later one
-abbrev pub AreApart : List ℤ → List Conj → Type 0
-AreApart p [] = Unit {0}
-AreApart p (c ∷ cs) = (Extends p c → InNone p cs) × AreApart p cs
+abbrev pub HasExtension : Conj → List ℤ → Type 0
+HasExtension conj p = (more : List ℤ) × (length (p ++ more) ≡ conj.columns) × Meets conj.rows (p ++ more)

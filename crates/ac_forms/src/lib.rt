@@ -23,5 +23,5 @@ pub use normal::NormalRow;
 pub use present::{has_column, is_present};
 pub use rename::renamed_rows;
 pub use row::Row;
-pub use standing::{all_stand, is_among, kept_rows, stands, stands_among};
+pub use standing::{all_stand, is_among, kept_rows, stands};
 pub use stop::{FormStop, Wide};

@@ -1,7 +1,8 @@
 ghost use Rattle.std.specs.Prelude.{◌≡◌, ◌↔◌, ◌≤◌, ◌+◌, IfOk, ℤ, List, [], ◌∷◌, pos, negsuc, neg_ℤ, ◌+ℤ◌, ◌-ℤ◌, ◌≤ℤ◌, length};
 ghost use Rattle.ac_forms.specs.Affine.{FormFits, shifted};
 ghost use Rattle.ac_forms.specs.Fits.{Fits};
-ghost use Rattle.ac_forms.specs.Negation.{opposite, above, below, with_column, piece, negation, NegationFits, InSome, AreApart};
+ghost use Rattle.ac_forms.specs.Negation.{opposite, above, below, with_column, piece, negation, NegationFits, HasExtension};
+ghost use Rattle.ac_forms.specs.Pieces.{IsInSome, IsInOneAtMost};
 ghost use Rattle.ac_forms.specs.Rows.{Holds, IsRowOver};
 ghost use Rattle.ac_forms.specs.Stops.{MadeIff, MadeWhere};
 ghost use Rattle.ac_forms.specs.declared.row.Row.TheVariants.{Eq, Div, Ge};
@@ -20,8 +21,8 @@ impl Row {
     pub fn negate(&self, alloc: Global, columns: usize) -> Result<Vec<Conj>, FormStop>
         requires { IsRowOver columns self.now }
         ensures exact { MadeWhere result (NegationFits self.now) (λ pieces. pieces.items ≡ negation columns self.now) }
-        ensures complement { IfOk result (λ pieces. (p : List ℤ) → length p ≡ columns → (¬ Holds self.now p) ↔ InSome p pieces.items) }
-        ensures apart { IfOk result (λ pieces. (p : List ℤ) → length p ≡ columns → AreApart p pieces.items) }
+        ensures complement { IfOk result (λ pieces. (p : List ℤ) → length p ≡ columns → (¬ Holds self.now p) ↔ IsInSome HasExtension pieces.items p) }
+        ensures apart { IfOk result (λ pieces. (p : List ℤ) → length p ≡ columns → IsInOneAtMost HasExtension pieces.items p) }
     {
         pieces_of(alloc, self, columns)
     }

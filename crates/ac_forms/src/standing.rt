@@ -62,7 +62,7 @@ fn is_left_among(left: &Option<NormalRow>, kept: &[Row]) -> bool
 }
 
 /// Whether a row stands among rows whose normal forms are `kept`.
-pub fn stands_among(alloc: Global, kept: &[Row], row: &Row) -> Result<bool, AllocError>
+pub(crate) fn stands_among(alloc: Global, kept: &[Row], row: &Row) -> Result<bool, AllocError>
     requires { HasModulus row.now }
     ensures { IfOk result (λ standing. standing ≡ stands_among kept.now row.now) }
 {

@@ -102,14 +102,14 @@ fine_loop arrays number function source r m s ht hs hr hm hk =
 
 -- ---- all loops
 
-abbrev IsModest : Stage → Type 0
-IsModest t = (t.reach ≤ 2) × (t.shift ≤ 7)
+abbrev IsWithin2To120 : Stage → Type 0
+IsWithin2To120 t = (t.reach ≤ 2) × (t.shift ≤ 7)
 
-modest_stages : (x n : ℕ) → AllByRecursion IsModest (stages x n)
+modest_stages : (x n : ℕ) → AllByRecursion IsWithin2To120 (stages x n)
 modest_stages x zero = tt
 modest_stages x (suc n) = ((omega arith, omega arith), modest_stages (state_after (state_after (state_after x))) n)
 
-margin_few : (ts : List Stage) → AllByRecursion IsModest ts → margin ts ≤ 2 * length ts
+margin_few : (ts : List Stage) → AllByRecursion IsWithin2To120 ts → margin ts ≤ 2 * length ts
 margin_few [] h = lit≤ tt
 margin_few (t ∷ ts) h =
     let e = sum_by-cons reach t ts in
@@ -120,7 +120,7 @@ margin_few (t ∷ ts) h =
 abbrev Both : List Array → List Stage → List Loop → Type 0
 Both arrays ts ls = AllByRecursion (Fine arrays) (map statement ls) × AllByRecursion (Fine arrays) (map statement (shifted_each ts ls))
 
-fine_loops : (arrays : List Array) (room : ℕ) → ((k : ℕ) → k < room → IsSingle arrays k) → 1 < room → (source next : ℕ) (ts : List Stage) → AllByRecursion IsModest ts → length ts ≤ 12
+fine_loops : (arrays : List Array) (room : ℕ) → ((k : ℕ) → k < room → IsSingle arrays k) → 1 < room → (source next : ℕ) (ts : List Stage) → AllByRecursion IsWithin2To120 ts → length ts ≤ 12
     → source < room → next + length ts ≤ suc room → Both arrays ts (loops source next ts)
 fine_loops arrays room single two source next [] h few hs hn = (tt, tt)
 fine_loops arrays room single two source next (t ∷ []) h few hs hn =

@@ -12,7 +12,7 @@ use Rattle.ac_syntax.specs.declared.tree.Value.TheVariants.{Access, Call, Call'}
 use Rattle.ac_syntax.specs.declared.tree.Stmt.{Stmt, Row_of-Stmt, end_of-Stmt, more_of-Stmt, items-the_row-Stmt, the_lemmas}
 use Rattle.ac_syntax.specs.declared.tree.Stmt.TheVariants.{For, For', Assign}
 use Rattle.ac_forms.specs.Affine.{Affine}
-use Rattle.ac_poly.specs.Faults.{IsFine, IsFineIn, IsFineAll}
+use Rattle.ac_poly.specs.Faults.{IsLowerable, IsLowerableIn, AreLowerable}
 use Rattle.ac_poly.specs.Lower.{outermost, in_loop}
 use Rattle.ac_poly.specs.Numbers.{CanLowerAll, CanLowerValue, CanLowerValues, CanEnter, CanAssign}
 use Rattle.ac_poly.specs.declared.scope.Scope.{Scope}
@@ -23,23 +23,23 @@ use Rattle.ac_generated.proofs.Numbers.{call_of, bound_of, assignment_of, loop_o
 
 -- ---- what is fine, at lists
 
-fine_row : (m : _) (k : Row_of-Stmt m) (loop : ℕ) (sc : Scope) (fit : Type 0) → IsFineAll (items-the_row-Stmt m k) loop sc fit → IsFineIn k loop sc fit
-unfolding IsFine
+fine_row : (m : _) (k : Row_of-Stmt m) (loop : ℕ) (sc : Scope) (fit : Type 0) → AreLowerable (items-the_row-Stmt m k) loop sc fit → IsLowerableIn k loop sc fit
+unfolding IsLowerable
 fine_row m end_of-Stmt loop sc fit h = tt
 fine_row m (more_of-Stmt {n = n} s rest) loop sc fit h = (h.0, fine_row n rest (loop + loop_count s) sc fit h.1)
 
 fine_for_row : (iter : List ℕ) (start : IndexExpr) (cond : Cond) (step : ℤ) (n : _) (body : Row_of-Stmt _) (place : Place) (loop : ℕ) (sc : Scope) (fit : Type 0)
-    → IsFineAll (items-the_row-Stmt _ body) (suc loop) (in_loop sc loop start cond step) (fit × CanEnter sc start cond step) → IsFine (For' iter start cond step n body place) loop sc fit
-unfolding IsFine
+    → AreLowerable (items-the_row-Stmt _ body) (suc loop) (in_loop sc loop start cond step) (fit × CanEnter sc start cond step) → IsLowerable (For' iter start cond step n body place) loop sc fit
+unfolding IsLowerable
 fine_for_row iter start cond step n body place loop sc fit h = fine_row _ body (suc loop) (in_loop sc loop start cond step) (fit × CanEnter sc start cond step) h
 
 fine_for : (iter : List ℕ) (start : IndexExpr) (cond : Cond) (step : ℤ) (body : List Stmt) (place : Place) (loop : ℕ) (sc : Scope) (fit : Type 0)
-    → IsFineAll body (suc loop) (in_loop sc loop start cond step) (fit × CanEnter sc start cond step) → IsFine (For iter start cond step body place) loop sc fit
+    → AreLowerable body (suc loop) (in_loop sc loop start cond step) (fit × CanEnter sc start cond step) → IsLowerable (For iter start cond step body place) loop sc fit
 fine_for iter start cond step body place loop sc fit h = search (rules, the_lemmas, fine_for_row, h)
 
 fine_assign : (array : ℕ) (subs : List IndexExpr) (value : Value) (place : Place) (loop : ℕ) (sc : Scope) (fit : Type 0)
-    → length sc.pieces ≤ 16 → fit → CanAssign sc.iters subs value → IsFine (Assign array subs value place) loop sc fit
-unfolding IsFine
+    → length sc.pieces ≤ 16 → fit → CanAssign sc.iters subs value → IsLowerable (Assign array subs value place) loop sc fit
+unfolding IsLowerable
 fine_assign array subs value place loop sc fit few h can = (few, h, can)
 
 can_values : (its : List Affine) (m : _) (k : Row_of-Value m) → AllByRecursion (CanLowerValue its) (items-the_row-Value m k) → CanLowerValues its k
@@ -75,7 +75,7 @@ can_assign function source start last written read h =
     (can_call its (function_symbol function) (Access source subs nowhere ∷ []) nowhere (access, tt), ((can_follow written start h.written_small h.start_small, tt), tt))
 
 fine_loop : (target function source : ℕ) (start last written read : ℤ) (loop : ℕ) → IsSmallStmt (loop_of target function source start last written read)
-    → IsFine (loop_of target function source start last written read) loop (outermost 1) (Unit {0})
+    → IsLowerable (loop_of target function source start last written read) loop (outermost 1) (Unit {0})
 fine_loop target function source start last written read loop small =
     let h = numbers_of target function source start last written read small in
     let inner = in_loop (outermost 1) loop (form start (pos 0) []) (bound_of last) (pos 1) in
@@ -85,13 +85,13 @@ fine_loop target function source start last written read loop small =
 
 -- ---- all loops
 
-pub fine_plain : (source next : ℕ) (ts : List Stage) (loop : ℕ) → AllByRecursion IsSmallStmt (map statement (loops source next ts)) → IsFineAll (map statement (loops source next ts)) loop (outermost 1) (Unit {0})
+pub fine_plain : (source next : ℕ) (ts : List Stage) (loop : ℕ) → AllByRecursion IsSmallStmt (map statement (loops source next ts)) → AreLowerable (map statement (loops source next ts)) loop (outermost 1) (Unit {0})
 fine_plain source next [] loop h = tt
 fine_plain source next (t ∷ ts) loop h =
     (fine_loop (target next ts) t.function source (pos 0) (pos (margin ts) -ℤ pos 1) (pos 0) (pos t.reach) loop h.0, fine_plain next (suc next) ts _ h.1)
 
 pub fine_shifted : (source next : ℕ) (ts : List Stage) (loop : ℕ) → AllByRecursion IsSmallStmt (map statement (shifted_each ts (loops source next ts)))
-    → IsFineAll (map statement (shifted_each ts (loops source next ts))) loop (outermost 1) (Unit {0})
+    → AreLowerable (map statement (shifted_each ts (loops source next ts))) loop (outermost 1) (Unit {0})
 fine_shifted source next [] loop h = tt
 fine_shifted source next (t ∷ ts) loop h =
     (fine_loop (target next ts) t.function source (pos 0 +ℤ pos t.shift) ((pos (margin ts) -ℤ pos 1) -ℤ (pos t.shift *ℤ negsuc 0)) (pos 0 -ℤ (pos t.shift *ℤ pos 1)) (pos t.reach -ℤ (pos t.shift *ℤ pos 1)) loop h.0, fine_shifted next (suc next) ts _ h.1)

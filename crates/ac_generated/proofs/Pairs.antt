@@ -12,7 +12,7 @@ use Rattle.ac_gen.specs.declared.draws.Stage.{Stage}
 use Rattle.ac_gen.proofs.Making.{made}
 use Rattle.ac_claims.specs.Soundness.{ArePaired}
 use Rattle.ac_instance.specs.Answers.{everything}
-use Rattle.ac_instance.specs.Events.{Happening, event, evaluated, fits_64, unless, reached}
+use Rattle.ac_instance.specs.Events.{Event, event, evaluated, fits_64, unless, reached}
 use Rattle.ac_instance.specs.declared.halt.Halt.TheVariants.{OutsideContext, TooLarge, Range}
 use Rattle.ac_generated.specs.Generated.{IsGeneratedPair, IsEverywhere, RunsEverywhere, IsNeverOutside, AreLowered}
 use Rattle.ac_generated.specs.Laws as law
@@ -82,7 +82,7 @@ runs_at : (seed n : ℕ) → 1 ≤ n → n ≤ 12 → RunsEverywhere (pair_of se
 runs_at seed n some few = λ x. let both = made seed n some few in record { count = refl; left = both.0.ready.body; right = both.1.ready.body }
 
 -- what is reached is never that the context does not hold
-never_outside : (limit n : ℕ) (hs : List Happening) → reached limit n hs ≢ Err OutsideContext
+never_outside : (limit n : ℕ) (hs : List Event) → reached limit n hs ≢ Err OutsideContext
 never_outside limit n [] = λ e. cc
 never_outside limit n (event ∷ hs) = by (nat_lt n limit) (never_outside limit (n + 1) hs)
   where

@@ -6,7 +6,7 @@ use Rattle.ac_syntax.specs.declared.tree.Program.{Program}
 use Rattle.ac_gen.specs.Pipelines.{IsGenerated}
 use Rattle.ac_instance.specs.Answers.{IsReadyAt, due}
 use Rattle.ac_instance.specs.declared.halt.Halt.TheVariants.{OutsideContext}
-use Rattle.ac_poly.specs.Faults.{IsFineAll}
+use Rattle.ac_poly.specs.Faults.{AreLowerable}
 use Rattle.ac_poly.specs.Lower.{outermost}
 use Rattle.ac_poly.specs.Model.{model_of}
 use Rattle.ac_poly.specs.declared.types.Model.{Model}
@@ -36,7 +36,7 @@ IsNeverOutside pair = (n : ℤ) (limit : ℕ) → due pair (n ∷ []) limit ≢ 
 
 -- each assignment has at most 16 pieces, and all numbers that its lowering makes stay in `i128`
 abbrev pub IsLowered : Program → Type 0
-IsLowered program = IsFineAll program.body 0 (outermost (length program.params)) (Unit {0})
+IsLowered program = AreLowerable program.body 0 (outermost (length program.params)) (Unit {0})
 
 abbrev pub AreLowered : Pair → Type 0
 AreLowered pair = IsLowered pair.left × IsLowered pair.right

@@ -5,7 +5,6 @@ use Rattle.std.proofs.lemmas.List.{take-append-drop, length-take-le, length-drop
 use Rattle.std.proofs.lemmas.Option.{slice_get_within}
 use Rattle.ac_integers.specs.Multiple.{IsMultiple}
 use Rattle.ac_forms.specs.Affine.{Affine, column_form, combined, shifted}
-use Rattle.ac_forms.specs.Negation.{Extends}
 use Rattle.ac_forms.specs.Rows.{form_of, Holds, Meets, AreRowsOver}
 use Rattle.ac_forms.specs.declared.row.Row.{Row}
 use Rattle.ac_forms.specs.declared.row.Row.TheVariants.{Eq, Div, Ge}
@@ -24,7 +23,6 @@ use Rattle.ac_syntax.specs.declared.tree.Program.{Program}
 use Rattle.ac_syntax.proofs.LastWriters.{stands_contains}
 use Rattle.ac_poly.specs.Columns.{element_rows}
 use Rattle.ac_poly.specs.Model.{model_of}
-use Rattle.ac_poly.specs.Pieces.{Somewhere}
 use Rattle.ac_poly.specs.declared.types.Model.{Model}
 use Rattle.ac_poly.proofs.Elements.{has_elements}
 use Rattle.ac_poly.proofs.Whole.{has_context, has_nodes}
@@ -55,6 +53,8 @@ use Rattle.ac_graph.specs.Moves.{IsEdge, target}
 use Rattle.ac_graph.specs.Steps.{HasFlow, IsNamed, Resolves, EdgesAreSources}
 use Rattle.ac_graph.proofs.Named.{named_reader, reader_named, flow_of_reader, reader_of_flow, reader_can, reader_cell}
 use Rattle.ac_graph.proofs.Standing.{node_there, reader_there}
+use Rattle.ac_forms.specs.Negation.{HasExtension}
+use Rattle.ac_forms.specs.Pieces.{IsInSome}
 
 -- ---- from a source to an edge
 
@@ -141,7 +141,7 @@ meets_front : (rows : List Row) (n : ℕ) (p more : List ℤ) → length p ≡ n
 meets_front [] n p more l w h = tt
 meets_front (r ∷ rows) n p more l w h = (let k = w.0.0 in holds_front r p more (omega (arith, k, l)) h.0, meets_front rows n p more l w.1 h.1)
 
-somewhere_front : (qs : List (List Row)) (n : ℕ) (p more : List ℤ) → length p ≡ n → ArePiecesOver n qs → Somewhere qs (p ++ more) → Somewhere qs p
+somewhere_front : (qs : List (List Row)) (n : ℕ) (p more : List ℤ) → length p ≡ n → ArePiecesOver n qs → IsInSome Meets qs (p ++ more) → IsInSome Meets qs p
 somewhere_front [] n p more l w h = absurd h
 somewhere_front (q ∷ qs) n p more l w (inl h) = inl (meets_front q n p more l w.0 h)
 somewhere_front (q ∷ qs) n p more l w (inr h) = inr (somewhere_front qs n p more l w.1 h)
@@ -151,7 +151,7 @@ record LeftPoint (m : Model) (columns : ℕ) (pieces : List (List Row)) (rs : Li
   point : List ℤ
   long : length point ≡ columns
   context : Meets m.context point
-  piece : Somewhere pieces point
+  piece : IsInSome Meets pieces point
   left : IsLeft rs point
 
 left_point : (m : Model) (columns : ℕ) (rows : List Row) (kills : List (List Piece)) (d : ℕ) (qs : List (List Row)) (rs : List Remainder) → AreParts m columns rows kills d qs rs → ¬ (rs ≡ []) → LeftPoint m columns qs rs
@@ -165,7 +165,7 @@ left_point m columns rows kills d (q ∷ qs) rs (c ∷ group, rest, e, cut, h) n
     let more = drop columns p.0 in
     let whole : front ++ more ≡ p.0 = take-append-drop columns p.0 in
     let long : length front ≡ columns = (let j = p.1.long in let k = cut.made.0 in length-take-le columns p.0 (omega (arith, j, k))) in
-    let there : Extends front c = (more, ap (λ (y : List ℤ). length y) whole ∙ p.1.long, subst (Meets c.rows) (sym whole) p.1.meets) in
+    let there : HasExtension c front = (more, ap (λ (y : List ℤ). length y) whole ∙ p.1.long, subst (Meets c.rows) (sym whole) p.1.meets) in
     let met = (cut.points front long).0 (inl there) in
     let parts = meets-parts m.context (q ++ rows) front met.0 in
     record { point = front; long = long; context = parts.0; piece = inl (meets-parts q rows front parts.1).0; left = subst (λ (y : List Remainder). IsLeft y front) (sym e) (inl there) }
@@ -201,7 +201,7 @@ extent_rows_are k [] = refl
 extent_rows_are k (e ∷ es) = ap (λ rows. Ge (column_form (k + 1) k) ∷ Ge (shifted (combined (pos 1) e (negsuc 0) (column_form (k + 1) k)) (negsuc 0)) ∷ rows) (extent_rows_are (k + 1) es)
 
 -- what stands at the coordinates of a reader
-spot_there : (p : Program) (context : Cond) → ReadyProgram p → FitParts (length p.params) 0 context.parts → (params : List ℤ) → length params ≡ length p.params → (r : Reads) → IsReader (model_of p context) r → (at : List ℤ) → length at ≡ r.count → Somewhere r.pieces (params ++ at)
+spot_there : (p : Program) (context : Cond) → ReadyProgram p → FitParts (length p.params) 0 context.parts → (params : List ℤ) → length params ≡ length p.params → (r : Reads) → IsReader (model_of p context) r → (at : List ℤ) → length at ≡ r.count → IsInSome Meets r.pieces (params ++ at)
     → (s : Spot) × At (execution p (model_of p context) params) r.position at s
 unfolding At
 spot_there p context ready fit params long r (OfNode s k stmt array subs is e) at l w =
@@ -230,14 +230,14 @@ record ReadingAt (p : Program) (context : Cond) (r : Reads) (params at : List �
   stands : ReadHere (model_of p context) params (execution p (model_of p context) params) r at cell before
 
 reading_there : (p : Program) (context : Cond) → ReadyProgram p → FitParts (length p.params) 0 context.parts → IsOver (model_of p context) → (r : Reads) → IsReader (model_of p context) r → CanRead (model_of p context) r → (params at more : List ℤ) → length params ≡ length p.params → length at ≡ r.count
-    → Meets (model_of p context).context (params ++ (at ++ more)) → Somewhere r.pieces (params ++ (at ++ more)) → ReadingAt p context r params at
+    → Meets (model_of p context).context (params ++ (at ++ more)) → IsInSome Meets r.pieces (params ++ (at ++ more)) → ReadingAt p context r params at
 reading_there p context ready fit over r is can params at more lp la c w =
     let m = model_of p context in
     let x = execution p m params in
     let d = models_describe p context params ready fit lp in
     let met : Meets m.context params = meets_front m.context m.params params (at ++ more) lp over.context c in
     let lq : length (params ++ at) ≡ m.params + r.count = length-append params at ∙ (λ i. lp i + la i) in
-    let some : Somewhere r.pieces (params ++ at) = somewhere_front r.pieces (m.params + r.count) (params ++ at) more lq can.pieces (subst (Somewhere r.pieces) (sym (append_assoc params at more)) w) in
+    let some : IsInSome Meets r.pieces (params ++ at) = somewhere_front r.pieces (m.params + r.count) (params ++ at) more lq can.pieces (subst (IsInSome Meets r.pieces) (sym (append_assoc params at more)) w) in
     let s = spot_there p context ready fit params lp r is at la some in
     let f = reader_cell m r is in
     let rd = reading m params x d r.position at f.0 s.0 f.1 s.1 in
@@ -307,7 +307,7 @@ initial_source p context ready fit over r is cases are case i n h =
     let can = reader_can m over r is in
     let l = left_point m (m.params + r.count) [] h.case_of.found 0 r.pieces case.pieces h.case_of.parts n in
     let k = in_parts l.point m.params r.count 0 (let z = l.long in omega (arith, z)) in
-    let t = reading_there p context ready fit over r is can k.first k.second k.third k.first_long k.second_long (subst (Meets m.context) k.is l.context) (subst (Somewhere r.pieces) k.is l.piece) in
+    let t = reading_there p context ready fit over r is can k.first k.second k.third k.first_long k.second_long (subst (Meets m.context) k.is l.context) (subst (IsInSome Meets r.pieces) k.is l.piece) in
     let none : k.third ≡ [] = no_items k.third k.third_long in
     let same : l.point ≡ k.first ++ k.second = k.is ∙ ap (λ y. k.first ++ (k.second ++ y)) none ∙ ap (λ y. k.first ++ y) (append-nil k.second) in
     let c = cases_exact m k.first (execution p m k.first) r k.second t.cell t.before t.stands can (writings m r.position r.array None) cases are case i in
@@ -326,7 +326,7 @@ assigned_source p context ready fit over r is cases are case i n w h =
     let f = formed m r w h.stmt h.own r.count h.is h.formed refl in
     let l = left_point m h.own.columns h.own.rows h.case_of.found 0 r.pieces case.pieces h.case_of.parts n in
     let k = in_parts l.point m.params r.count (width h.stmt) (l.long ∙ f.columns) in
-    let t = reading_there p context ready fit over r is can k.first k.second k.third k.first_long k.second_long (subst (Meets m.context) k.is l.context) (subst (Somewhere r.pieces) k.is l.piece) in
+    let t = reading_there p context ready fit over r is can k.first k.second k.third k.first_long k.second_long (subst (Meets m.context) k.is l.context) (subst (IsInSome Meets r.pieces) k.is l.piece) in
     let c = cases_exact m k.first (execution p m k.first) r k.second t.cell t.before t.stands can (writings m r.position r.array None) cases are case i in
     let e = (c.assigned w.stmt h.stmt k.third h.source h.is k.third_long).0 (subst (IsLeft case.pieces) k.is l.left) in
     subst (λ (o : Option ℕ). Resolves p context r.position (target r.position o)) (sym h.source) (goes_assigned p context r k.first k.second t w.stmt k.third e.0)

@@ -7,7 +7,7 @@ use Rattle.std.proofs.lemmas.Int.{ints}
 use Rattle.ac_syntax.specs.Index.{Point, index_value}
 use Rattle.ac_syntax.specs.Outputs.{InExtents}
 use Rattle.ac_syntax.specs.declared.tree.IndexExpr.{IndexExpr}
-use Rattle.ac_instance.specs.Events.{Happening, event, natural, in_elements}
+use Rattle.ac_instance.specs.Events.{Event, event, natural, in_elements}
 use Rattle.ac_instance.specs.Least.{IsEarlier, Looked, IsLeast, IsFound, InSizes, beneath, throughout, has_none_of, first_found}
 
 never_itself : (e : List ℤ) → IsEarlier e e → ⊥
@@ -111,10 +111,10 @@ pub whole : (agrees : List ℤ → Type 0) (p : Point) (extents : List IndexExpr
 whole agrees p extents None h = λ e at. h e (e, refl, sizes_of p extents e at)
 whole agrees p extents (Some b) h = (subst (InExtents p extents) (sym h.0.1) (of_sizes p extents h.0.0 h.0.2), h.1, λ f at earlier. h.2 f (f, refl, sizes_of p extents f at) earlier)
 
-empty_range : (n : ℕ) → ◌≡◌ {A = List Happening} (flat_map (λ k. []) (range_with_len 0 n)) []
+empty_range : (n : ℕ) → ◌≡◌ {A = List Event} (flat_map (λ k. []) (range_with_len 0 n)) []
 empty_range n = by 0 n
   where
-    by : (a n : ℕ) → ◌≡◌ {A = List Happening} (flat_map (λ k. []) (range_with_len a n)) []
+    by : (a n : ℕ) → ◌≡◌ {A = List Event} (flat_map (λ k. []) (range_with_len a n)) []
     by a zero = refl
     by a (suc n) = by (a + 1) n
 
@@ -131,7 +131,7 @@ no_events (n ∷ ns) h = by (natural n == 0) refl h (λ k. no_events ns k)
     by false e k f = ap (λ hs. flat_map (λ j. hs) (range_with_len 0 (natural n))) (f k) ∙ empty_range (natural n)
 
 -- what is left of the elements from the coordinate k on
-abbrev pub elements_left : ℕ → ℕ → List ℤ → List Happening
+abbrev pub elements_left : ℕ → ℕ → List ℤ → List Event
 elements_left k n ns = flat_map (λ j. in_elements ns) (range_with_len k (n - k))
 
 pub element_left : (k n : ℕ) (ns : List ℤ) → k < n → elements_left k n ns ≡ in_elements ns ++ elements_left (k + 1) n ns

@@ -9,7 +9,7 @@ use Rattle.ac_instance.specs.declared.halt.Side.{Side}
 use Rattle.ac_instance.specs.declared.halt.Halt.{Halt}
 use Rattle.ac_instance.specs.declared.halt.Halt.TheVariants.{OutsideContext, TooLarge, Range, Wide, Memory}
 use Rattle.ac_terms.specs.Table.{Keeps}
-use Rattle.ac_instance.specs.Events.{Happening, event, evaluated, reached, fits_64, out_of_range, unless}
+use Rattle.ac_instance.specs.Events.{Event, event, evaluated, reached, fits_64, out_of_range, unless}
 use Rattle.ac_instance.specs.Steps.{IsDue, Advances, Steps}
 
 -- what is reached after n events
@@ -17,7 +17,7 @@ abbrev pub and_then : Result ℕ Halt → (ℕ → Result ℕ Halt) → Result �
 and_then (Ok n) f = f n
 and_then (Err h) f = Err h
 
-pub reached-append : (limit n : ℕ) (xs ys : List Happening) → reached limit n (xs ++ ys) ≡ and_then (reached limit n xs) (λ m. reached limit m ys)
+pub reached-append : (limit n : ℕ) (xs ys : List Event) → reached limit n (xs ++ ys) ≡ and_then (reached limit n xs) (λ m. reached limit m ys)
 reached-append limit n [] ys = refl
 reached-append limit n (event ∷ xs) ys = by (nat_lt n limit) (reached-append limit (n + 1) xs ys)
   where
@@ -33,25 +33,25 @@ reached-append limit n (evaluated side place v ∷ xs) ys = by (out_of_range sid
     by (Some e) h = refl
 
 -- a halt that was due stays due whatever comes later
-due_first : (limit n : ℕ) (xs ys : List Happening) (h : Halt) → reached limit n xs ≡ Err h → reached limit n (xs ++ ys) ≡ Err h
+due_first : (limit n : ℕ) (xs ys : List Event) (h : Halt) → reached limit n xs ≡ Err h → reached limit n (xs ++ ys) ≡ Err h
 due_first limit n xs ys h e = reached-append limit n xs ys ∙ ap (λ r. and_then r (λ m. reached limit m ys)) e
 
-pub due_before : (limit n : ℕ) (xs ys : List Happening) (h : Halt) → IsDue (reached limit n xs) h → IsDue (reached limit n (xs ++ ys)) h
+pub due_before : (limit n : ℕ) (xs ys : List Event) (h : Halt) → IsDue (reached limit n xs) h → IsDue (reached limit n (xs ++ ys)) h
 due_before limit n xs ys OutsideContext d = due_first limit n xs ys OutsideContext d
 due_before limit n xs ys (TooLarge k) d = due_first limit n xs ys (TooLarge k) d
 due_before limit n xs ys (Range side place value) d = due_first limit n xs ys (Range side place value) d
 due_before limit n xs ys Wide d = due_first limit n xs ys Wide d
 due_before limit n xs ys (Memory e) d = tt
 
-then_reached : (limit n m : ℕ) (xs ys : List Happening) → reached limit n xs ≡ Ok m → reached limit n (xs ++ ys) ≡ reached limit m ys
+then_reached : (limit n m : ℕ) (xs ys : List Event) → reached limit n xs ≡ Ok m → reached limit n (xs ++ ys) ≡ reached limit m ys
 then_reached limit n m xs ys e = reached-append limit n xs ys ∙ ap (λ r. and_then r (λ k. reached limit k ys)) e
 
 -- and one that is due later is due
-pub due_after : (a b : Machine) (xs ys : List Happening) → Advances a xs b → (h : Halt) → IsDue (reached b.limit b.events ys) h → IsDue (reached a.limit a.events (xs ++ ys)) h
+pub due_after : (a b : Machine) (xs ys : List Event) → Advances a xs b → (h : Halt) → IsDue (reached b.limit b.events ys) h → IsDue (reached a.limit a.events (xs ++ ys)) h
 due_after a b xs ys s h d =
     subst (λ r. IsDue r h) (ap (λ l. reached l b.events ys) s.limit ∙ sym (then_reached a.limit a.events b.events xs ys s.events)) d
 
-pub advance : (a b c : Machine) (xs ys : List Happening) → Advances a xs b → Advances b ys c → Advances a (xs ++ ys) c
+pub advance : (a b c : Machine) (xs ys : List Event) → Advances a xs b → Advances b ys c → Advances a (xs ++ ys) c
 advance a b c xs ys s t = record {
   events = then_reached a.limit a.events b.events xs ys s.events ∙ ap (λ l. reached l b.events ys) (sym s.limit) ∙ t.events;
   limit = t.limit ∙ s.limit;
@@ -63,17 +63,17 @@ pub nothing : (a : Machine) → Advances a [] a
 nothing a = record { events = refl; limit = refl; kept = λ u id h. h; names = refl }
 
 -- a call after others
-pub steps_after : {T : Type 0} (a b c : Machine) (xs ys : List Happening) (r : Result T Halt) → Advances a xs b → Steps b ys r c → Steps a (xs ++ ys) r c
+pub steps_after : {T : Type 0} (a b c : Machine) (xs ys : List Event) (r : Result T Halt) → Advances a xs b → Steps b ys r c → Steps a (xs ++ ys) r c
 steps_after a b c xs ys (Ok x) s t = advance a b c xs ys s t
 steps_after a b c xs ys (Err h) s t = due_after a b xs ys s h t
 
 -- the halt that a `?` passed on
-pub halts : {T : Type 0} (a b : Machine) (xs : List Happening) (r : Result T Halt) (h : Halt) → IsErrAnd r (λ e. e ≡ h) → IsDue (reached a.limit a.events xs) h → Steps a xs r b
+pub halts : {T : Type 0} (a b : Machine) (xs : List Event) (r : Result T Halt) (h : Halt) → IsErrAnd r (λ e. e ≡ h) → IsDue (reached a.limit a.events xs) h → Steps a xs r b
 halts a b xs (Ok x) h is d = absurd is
 halts a b xs (Err e) h is d = subst (IsDue (reached a.limit a.events xs)) (sym is) d
 
 -- want of memory may come at any time
-pub is_memory : {T E : Type 0} (a b : Machine) (xs : List Happening) (r : Result T Halt) (f : E → Halt → Type 0) (e : E) → ((h : Halt) → f e h → (x : _) × (h ≡ Memory x)) → IsErrAnd r (f e) → Steps a xs r b
+pub is_memory : {T E : Type 0} (a b : Machine) (xs : List Event) (r : Result T Halt) (f : E → Halt → Type 0) (e : E) → ((h : Halt) → f e h → (x : _) × (h ≡ Memory x)) → IsErrAnd r (f e) → Steps a xs r b
 is_memory a b xs (Ok x) f e only is = absurd is
 is_memory a b xs (Err h) f e only is = let k = only h is in subst (IsDue (reached a.limit a.events xs)) (sym k.1) tt
 
@@ -103,16 +103,16 @@ pub changed : (b c : Machine) → c.events ≡ b.events → c.limit ≡ b.limit 
 changed b c e l k n = record { events = ap Ok (sym e); limit = l; kept = k; names = n }
 
 -- what is left to happen of a whole
-pub record Continues (a : Machine) (whole : List Happening) (b : Machine) (rest : List Happening) : Type 0 where
+pub record Continues (a : Machine) (whole : List Event) (b : Machine) (rest : List Event) : Type 0 where
   pub left : reached a.limit a.events whole ≡ reached b.limit b.events rest
   pub limit : b.limit ≡ a.limit
   pub kept : Keeps a.table b.table
   pub names : b.table.commutative ≡ a.table.commutative
 
-pub begins : (a : Machine) (whole : List Happening) → Continues a whole a whole
+pub begins : (a : Machine) (whole : List Event) → Continues a whole a whole
 begins a whole = record { left = refl; limit = refl; kept = λ u id h. h; names = refl }
 
-pub goes_on : (a b c : Machine) (whole rest xs ys : List Happening) → Continues a whole b rest → rest ≡ xs ++ ys → Advances b xs c → Continues a whole c ys
+pub goes_on : (a b c : Machine) (whole rest xs ys : List Event) → Continues a whole b rest → rest ≡ xs ++ ys → Advances b xs c → Continues a whole c ys
 goes_on a b c whole rest xs ys s e t = record {
   left = s.left ∙ ap (reached b.limit b.events) e ∙ then_reached b.limit b.events c.events xs ys t.events ∙ ap (λ l. reached l c.events ys) (sym t.limit);
   limit = t.limit ∙ s.limit;
@@ -120,14 +120,14 @@ goes_on a b c whole rest xs ys s e t = record {
   names = t.names ∙ s.names;
 }
 
-pub ends : (a b : Machine) (whole rest : List Happening) → Continues a whole b rest → rest ≡ [] → Advances a whole b
+pub ends : (a b : Machine) (whole rest : List Event) → Continues a whole b rest → rest ≡ [] → Advances a whole b
 ends a b whole rest s e = record { events = s.left ∙ ap (reached b.limit b.events) e; limit = s.limit; kept = s.kept; names = s.names }
 
-pub due_in_whole : (a b : Machine) (whole rest xs ys : List Happening) (h : Halt) → Continues a whole b rest → rest ≡ xs ++ ys → IsDue (reached b.limit b.events xs) h → IsDue (reached a.limit a.events whole) h
+pub due_in_whole : (a b : Machine) (whole rest xs ys : List Event) (h : Halt) → Continues a whole b rest → rest ≡ xs ++ ys → IsDue (reached b.limit b.events xs) h → IsDue (reached a.limit a.events whole) h
 due_in_whole a b whole rest xs ys h s e d = subst (λ r. IsDue r h) (sym (s.left ∙ ap (reached b.limit b.events) e)) (due_before b.limit b.events xs ys h d)
 
 -- the events never fall
-pub never_falls : (limit n m : ℕ) (hs : List Happening) → reached limit n hs ≡ Ok m → n ≤ m
+pub never_falls : (limit n m : ℕ) (hs : List Event) → reached limit n hs ≡ Ok m → n ≤ m
 never_falls limit n m [] h = (let k : n ≡ m = cc in omega arith)
 never_falls limit n m (event ∷ hs) h = by (nat_lt n limit) h (never_falls limit (n + 1) m hs)
   where

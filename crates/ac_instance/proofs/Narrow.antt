@@ -29,39 +29,39 @@ use Rattle.ac_instance.specs.declared.halt.Ran.{Ran}
 use Rattle.ac_instance.specs.declared.halt.Halt.TheVariants.{OutsideContext, TooLarge, Range, Wide}
 use Rattle.ac_instance.specs.declared.halt.Side.{Side}
 use Rattle.ac_instance.specs.declared.halt.Side.TheVariants.{Left, Right}
-use Rattle.ac_instance.specs.Events.{Happening, event, evaluated, fits_64, out_of_range, unless, reached, index, in_value, in_values, in_test, in_turn, in_loop, in_stmt, in_body, in_all, natural, in_elements, in_output}
+use Rattle.ac_instance.specs.Events.{Event, event, evaluated, fits_64, out_of_range, unless, reached, index, in_value, in_values, in_test, in_turn, in_loop, in_stmt, in_body, in_all, natural, in_elements, in_output}
 use Rattle.ac_instance.specs.Answers.{in_outputs, everything, IsRan}
 use Rattle.ac_instance.proofs.Happen.{and_then, reached-append}
 
 -- nothing that happens leaves 128 bits
-abbrev pub Never : List Happening → Type 0
+abbrev pub Never : List Event → Type 0
 Never hs = (limit n : ℕ) → ¬ (reached limit n hs ≡ Err Wide)
 
 never_nothing : Never []
 never_nothing limit n e = absurd cc
 
-never_event : (hs : List Happening) → Never hs → Never (event ∷ hs)
+never_event : (hs : List Event) → Never hs → Never (event ∷ hs)
 never_event hs h limit n = by (nat_lt n limit)
   where
     by : (b : Bool) → ¬ ((if b then reached limit (n + 1) hs else Err (TooLarge limit)) ≡ Err Wide)
     by true = h limit (n + 1)
     by false = λ e. absurd cc
 
-never_value : (side : Side) (place : Place) (v : ℤ) (hs : List Happening) → (fits_64 v ≡ true → Never hs) → Never (evaluated side place (Some v) ∷ hs)
+never_value : (side : Side) (place : Place) (v : ℤ) (hs : List Event) → (fits_64 v ≡ true → Never hs) → Never (evaluated side place (Some v) ∷ hs)
 never_value side place v hs h limit n = by (fits_64 v) (λ t. h t limit n)
   where
     by : (b : Bool) → (b ≡ true → ¬ (reached limit n hs ≡ Err Wide)) → ¬ (unless (if b then None else Some (Range side place v)) (reached limit n hs) ≡ Err Wide)
     by true k = k refl
     by false k = λ e. absurd cc
 
-never_both : (xs ys : List Happening) → Never xs → Never ys → Never (xs ++ ys)
+never_both : (xs ys : List Event) → Never xs → Never ys → Never (xs ++ ys)
 never_both xs ys h k limit n e = by (reached limit n xs) (h limit n) (sym (reached-append limit n xs ys) ∙ e)
   where
     by : (r : Result ℕ Halt) → ¬ (r ≡ Err Wide) → ¬ (and_then r (λ m. reached limit m ys) ≡ Err Wide)
     by (Ok m) h = k limit m
     by (Err x) h = h
 
-never_either : (b : Bool) (xs ys : List Happening) → Never xs → Never ys → Never (if b then xs else ys)
+never_either : (b : Bool) (xs ys : List Event) → Never xs → Never ys → Never (if b then xs else ys)
 never_either true xs ys h k = h
 never_either false xs ys h k = k
 
@@ -121,7 +121,7 @@ exact_small p e n s =
     let v = value_small p e n s in
     v.1 ∙ ap Some (subst (λ o. IfSome o (λ v. v ≡ index_value p e)) v.1 (checked_exact p e))
 
-never_index : (side : Side) (p : Point) (e : IndexExpr) (hs : List Happening) → Narrow p → IsSmallForm e → (fits_64 (index_value p e) ≡ true → Never hs) → Never (index side p e ∷ hs)
+never_index : (side : Side) (p : Point) (e : IndexExpr) (hs : List Event) → Narrow p → IsSmallForm e → (fits_64 (index_value p e) ≡ true → Never hs) → Never (index side p e ∷ hs)
 never_index side p e hs n s h = subst (λ o. Never (evaluated side e.place o ∷ hs)) (sym (exact_small p e n s)) (never_value side e.place (index_value p e) hs h)
 
 never_indices : (side : Side) (p : Point) (es : List IndexExpr) → Narrow p → AreSmallForms es → Never (map (index side p) es)
@@ -153,7 +153,7 @@ narrow_inside : (p : Point) (x : ℤ) → Narrow p → fits_64 x ≡ true → Na
 narrow_inside p x n h = record { params = n.params; iters = fit_more p.iters x n.iters h }
 
 -- the turns from one on, and the test that fails
-never_turns : (side : Side) (body : Point → List Happening) (p : Point) (start : IndexExpr) (cond : Cond) (step : ℤ) (place : Place) → Narrow p → AreSmallParts cond.parts → ((q : Point) → Narrow q → Never (body q))
+never_turns : (side : Side) (body : Point → List Event) (p : Point) (start : IndexExpr) (cond : Cond) (step : ℤ) (place : Place) → Narrow p → AreSmallParts cond.parts → ((q : Point) → Narrow q → Never (body q))
     → (m k : ℕ) → fits_64 (iterator_at (index_value p start) step k) ≡ true
     → Never (flat_map (in_turn side body p start cond step place) (range_with_len k m) ++ in_test side (inside p (iterator_at (index_value p start) step (k + m))) cond.parts)
 never_turns side body p start cond step place n s b zero k h =
@@ -174,7 +174,7 @@ never_turns side body p start cond step place n s b (suc m) k h =
     (never_both test ((event ∷ body at) ++ (step_on ∷ later)) (never_test side at cond.parts inner s)
     (never_event (body at ++ (step_on ∷ later)) (never_both (body at) (step_on ∷ later) (b at inner) (never_value side place next later rest))))
 
-never_loop : (side : Side) (body : Point → List Happening) (p : Point) (start : IndexExpr) (cond : Cond) (step : ℤ) (place : Place) → Narrow p → IsSmallForm start → AreSmallParts cond.parts → ((q : Point) → Narrow q → Never (body q))
+never_loop : (side : Side) (body : Point → List Event) (p : Point) (start : IndexExpr) (cond : Cond) (step : ℤ) (place : Place) → Narrow p → IsSmallForm start → AreSmallParts cond.parts → ((q : Point) → Narrow q → Never (body q))
     → Never (in_loop side body p start cond step place)
 unfolding in_loop
 never_loop side body p start cond step place n f s b =
@@ -206,7 +206,7 @@ never_all : (side : Side) (p : Point) (ss : List Stmt) → Narrow p → AllByRec
 never_all side p [] n s = never_nothing
 never_all side p (t ∷ ts) n s = never_both (in_stmt side p t) (in_all side p ts) (never_in_stmt side p t n s.0) (never_all side p ts n s.1)
 
-never_times : (xs : List Happening) → Never xs → (m k : ℕ) → Never (flat_map (λ j. xs) (range_with_len k m))
+never_times : (xs : List Event) → Never xs → (m k : ℕ) → Never (flat_map (λ j. xs) (range_with_len k m))
 never_times xs h zero k = never_nothing
 never_times xs h (suc m) k = never_both xs (flat_map (λ j. xs) (range_with_len (k + 1) m)) h (never_times xs h m (k + 1))
 

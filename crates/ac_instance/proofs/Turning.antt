@@ -21,15 +21,15 @@ use Rattle.ac_integers.proofs.Products.{mul-add_ℤ}
 use Rattle.ac_syntax.proofs.Walking.{Walking}
 use Rattle.ac_syntax.proofs.Ends.{turns_end, turns_is}
 use Rattle.ac_instance.specs.declared.halt.Side.{Side}
-use Rattle.ac_instance.specs.Events.{Happening, event, evaluated, index, in_value, in_test, in_turn, in_loop, in_stmt, in_body, in_all}
+use Rattle.ac_instance.specs.Events.{Event, event, evaluated, index, in_value, in_test, in_turn, in_loop, in_stmt, in_body, in_all}
 
 -- what is left of a loop from the turn k on
-unfoldable pub turns_left : Side → (Point → List Happening) → Point → IndexExpr → Cond → ℤ → Place → ℕ → List Happening
+unfoldable pub turns_left : Side → (Point → List Event) → Point → IndexExpr → Cond → ℤ → Place → ℕ → List Event
 turns_left side body p start cond step place k =
     flat_map (in_turn side body p start cond step place) (range_with_len k (turns p start cond step - k))
     ++ in_test side (inside p (iterator_at (index_value p start) step (turns p start cond step))) cond.parts
 
-pub all_left : (side : Side) (body : Point → List Happening) (p : Point) (start : IndexExpr) (cond : Cond) (step : ℤ) (place : Place)
+pub all_left : (side : Side) (body : Point → List Event) (p : Point) (start : IndexExpr) (cond : Cond) (step : ℤ) (place : Place)
     → in_loop side body p start cond step place ≡ (index side p start ∷ []) ++ turns_left side body p start cond step place 0
 unfolding in_loop turns_left
 all_left side body p start cond step place = ap (λ n. index side p start ∷ flat_map (in_turn side body p start cond step place) (range_with_len 0 n) ++ in_test side (inside p (iterator_at (index_value p start) step (turns p start cond step))) cond.parts) (let e : turns p start cond step ≡ turns p start cond step - 0 = omega arith in e)
@@ -38,7 +38,7 @@ flat_map_first : {B : Type 0} (f : ℕ → List B) (k n m : ℕ) → n ≡ suc m
 flat_map_first f k n m e = ap (λ j. flat_map f (range_with_len k j)) e
 
 -- one more turn
-pub turn_left : (side : Side) (body : Point → List Happening) (p : Point) (start : IndexExpr) (cond : Cond) (step : ℤ) (place : Place) (k : ℕ) → k < turns p start cond step
+pub turn_left : (side : Side) (body : Point → List Event) (p : Point) (start : IndexExpr) (cond : Cond) (step : ℤ) (place : Place) (k : ℕ) → k < turns p start cond step
     → turns_left side body p start cond step place k ≡ in_turn side body p start cond step place k ++ turns_left side body p start cond step place (k + 1)
 unfolding turns_left
 turn_left side body p start cond step place k lt =
@@ -49,7 +49,7 @@ turn_left side body p start cond step place k lt =
     ap (λ xs. xs ++ last) (flat_map_first f k (n - k) (n - (k + 1)) e) ∙ append_assoc (f k) (flat_map f (range_with_len (k + 1) (n - (k + 1)))) last
 
 -- nothing but the last test
-pub none_left : (side : Side) (body : Point → List Happening) (p : Point) (start : IndexExpr) (cond : Cond) (step : ℤ) (place : Place) (k : ℕ) → k ≡ turns p start cond step
+pub none_left : (side : Side) (body : Point → List Event) (p : Point) (start : IndexExpr) (cond : Cond) (step : ℤ) (place : Place) (k : ℕ) → k ≡ turns p start cond step
     → turns_left side body p start cond step place k ≡ in_test side (inside p (iterator_at (index_value p start) step k)) cond.parts
 unfolding turns_left
 none_left side body p start cond step place k e =
@@ -59,7 +59,7 @@ none_left side body p start cond step place k e =
     ∙ ap (λ j. in_test side (inside p (iterator_at (index_value p start) step j)) cond.parts) (sym e)
 
 -- a turn, part by part
-pub turn_parts : (side : Side) (body : Point → List Happening) (p : Point) (start : IndexExpr) (cond : Cond) (step : ℤ) (place : Place) (k : ℕ) → k < turns p start cond step
+pub turn_parts : (side : Side) (body : Point → List Event) (p : Point) (start : IndexExpr) (cond : Cond) (step : ℤ) (place : Place) (k : ℕ) → k < turns p start cond step
     → turns_left side body p start cond step place k ≡ in_test side (inside p (iterator_at (index_value p start) step k)) cond.parts
     ++ (event ∷ (body (inside p (iterator_at (index_value p start) step k)) ++ (evaluated side place (Some (iterator_at (index_value p start) step (k + 1))) ∷ turns_left side body p start cond step place (k + 1))))
 turn_parts side body p start cond step place k lt =
@@ -70,8 +70,8 @@ turn_parts side body p start cond step place k lt =
     turn_left side body p start cond step place k lt ∙ append_assoc (test ++ (event ∷ body at)) (next ∷ []) left ∙ append_assoc test (event ∷ body at) (next ∷ left)
 
 -- what comes after the test of the turn k
-pub test_left : (side : Side) (body : Point → List Happening) (p : Point) (start : IndexExpr) (cond : Cond) (step : ℤ) (place : Place) (k : ℕ) → k ≤ turns p start cond step
-    → (rest : List Happening) × (turns_left side body p start cond step place k ≡ in_test side (inside p (iterator_at (index_value p start) step k)) cond.parts ++ rest)
+pub test_left : (side : Side) (body : Point → List Event) (p : Point) (start : IndexExpr) (cond : Cond) (step : ℤ) (place : Place) (k : ℕ) → k ≤ turns p start cond step
+    → (rest : List Event) × (turns_left side body p start cond step place k ≡ in_test side (inside p (iterator_at (index_value p start) step k)) cond.parts ++ rest)
 test_left side body p start cond step place k le = ⊎_elim
     (λ lt. (
       event ∷ (body (inside p (iterator_at (index_value p start) step k)) ++ (evaluated side place (Some (iterator_at (index_value p start) step (k + 1))) ∷ turns_left side body p start cond step place (k + 1))),

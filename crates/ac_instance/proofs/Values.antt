@@ -12,7 +12,7 @@ use Rattle.ac_syntax.specs.declared.tree.Value.TheVariants.{Number, Access, Call
 use Rattle.ac_terms.specs.declared.node.TermId.{TermId}
 use Rattle.ac_terms.specs.Table.{Table, StandsFor, StandForAll, Keeps}
 use Rattle.ac_instance.specs.declared.halt.Side.{Side}
-use Rattle.ac_instance.specs.Events.{Happening, event, index, in_value, in_values}
+use Rattle.ac_instance.specs.Events.{Event, event, index, in_value, in_values}
 use Rattle.ac_instance.specs.Kept.{cell, id_at, Holds}
 use Rattle.ac_instance.proofs.Ids.{turned}
 
@@ -59,7 +59,7 @@ Holds-kept before now kept ids leaf state h c = by (id_at ids c) (h c)
     by (Some id) k = kept (state c) id k
 
 -- a node's event comes first
-pub value_first : (side : Side) (p : Point) (v : Value) → (rest : List Happening) × (in_value side p v ≡ event ∷ rest)
+pub value_first : (side : Side) (p : Point) (v : Value) → (rest : List Event) × (in_value side p v ≡ event ∷ rest)
 unfolding in_value
 value_first side p (Number e) = (index side p e ∷ [], refl)
 value_first side p (Access array subs place) = (map (index side p) subs, refl)

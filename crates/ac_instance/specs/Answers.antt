@@ -14,7 +14,7 @@ use Rattle.ac_instance.specs.declared.halt.Outcome.TheVariants.{Equal, Different
 use Rattle.ac_instance.specs.declared.halt.Ran.{Ran}
 use Rattle.ac_instance.specs.declared.halt.Side.{Side}
 use Rattle.ac_instance.specs.declared.halt.Side.TheVariants.{Left, Right}
-use Rattle.ac_instance.specs.Events.{Happening, reached, in_all, in_output}
+use Rattle.ac_instance.specs.Events.{Event, reached, in_all, in_output}
 use Rattle.ac_instance.specs.Least.{Looked, IsLeast}
 use Rattle.ac_instance.specs.Steps.{IsDue}
 
@@ -25,11 +25,11 @@ pub record IsReadyAt (pair : Pair) (params : List ℤ) : Type 0 where
   pub right : ReadyAll (length params) 0 pair.right.body
 
 -- what happens while outputs are compared, one after another
-abbrev pub in_outputs : Side → Point → List Array → List ℕ → List Happening
+abbrev pub in_outputs : Side → Point → List Array → List ℕ → List Event
 in_outputs side p arrays = flat_map (λ o. in_output side p (extents_at arrays o))
 
 -- the left run, the right run, and then the outputs
-abbrev pub everything : Pair → List ℤ → List Happening
+abbrev pub everything : Pair → List ℤ → List Event
 everything pair params =
     in_all Left (point params []) pair.left.body ++ in_all Right (point params []) pair.right.body
     ++ in_outputs Left (point params []) pair.left.arrays pair.outputs

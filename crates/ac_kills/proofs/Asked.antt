@@ -5,27 +5,27 @@ use Rattle.std.specs.Prelude.{Result, Ok, Err, IfErr}
 use Rattle.ac_forms.specs.Negation.{negation, NegationFits}
 use Rattle.ac_forms.specs.declared.conj.Conj.{Conj}
 use Rattle.ac_forms.specs.declared.row.Row.{Row}
-use Rattle.ac_sets.specs.Ends.{is_among}
+use Rattle.ac_forms.specs.Standing.{is_among}
 use Rattle.ac_kills.specs.Causes.{IsKillRow, IsFurther, Itself, OfNegation, AreFurther, IsCutCase, AreKillRows, AreCutCases, IsTooWide, CostsTooMuch, StopsOn, CutStops, IfFull}
 use Rattle.ac_kills.specs.Cuts.{with_new, with_all_new, extended, after_row, row_parts, parts_outside, Sieved, AreKept, ArePartlyKept, Cuts, CutsAll, AreCut, ArePartlyCut, AllHavePoints}
 use Rattle.ac_kills.specs.declared.cut.CutStop.{CutStop}
 use Rattle.ac_kills.specs.declared.cut.CutStop.TheVariants.{Overflow, Spent, Full, Memory}
 
-further-snoc : (kills : List (List Row)) (rows fs : List Row) (r : Row) → AreFurther kills rows fs → IsFurther kills r → is_among (rows ++ fs) r ≡ false → AreFurther kills rows (fs ++ r ∷ [])
-further-snoc kills rows [] r a f e = (f, subst (λ (xs : List Row). is_among xs r ≡ false) (append-nil rows) e, tt)
+further-snoc : (kills : List (List Row)) (rows fs : List Row) (r : Row) → AreFurther kills rows fs → IsFurther kills r → is_among r (rows ++ fs) ≡ false → AreFurther kills rows (fs ++ r ∷ [])
+further-snoc kills rows [] r a f e = (f, subst (λ (xs : List Row). is_among r xs ≡ false) (append-nil rows) e, tt)
 further-snoc kills rows (g ∷ gs) r a f e =
-    (a.0, a.1, further-snoc kills (rows ++ g ∷ []) gs r a.2 f (subst (λ (xs : List Row). is_among xs r ≡ false) (sym (append_assoc rows (g ∷ []) gs)) e))
+    (a.0, a.1, further-snoc kills (rows ++ g ∷ []) gs r a.2 f (subst (λ (xs : List Row). is_among r xs ≡ false) (sym (append_assoc rows (g ∷ []) gs)) e))
 
 -- one more row
 new-case : (base : List Row) (kills : List (List Row)) (n : ℕ) (c : Conj) (r : Row) → IsCutCase base kills c → IsFurther kills r → IsCutCase base kills (record { columns = n; rows = with_new c.rows r })
-new-case base kills n c r k f = by (is_among c.rows r) refl
+new-case base kills n c r k f = by (is_among r c.rows) refl
   where
-    by : (b : Bool) → is_among c.rows r ≡ b → IsCutCase base kills (record { columns = n; rows = cond b c.rows (c.rows ++ r ∷ []) })
+    by : (b : Bool) → is_among r c.rows ≡ b → IsCutCase base kills (record { columns = n; rows = cond b c.rows (c.rows ++ r ∷ []) })
     by true e = record { further = k.further; rows = k.rows; each = k.each }
     by false e = record {
       further = k.further ++ r ∷ [];
       rows = ap (λ (xs : List Row). xs ++ r ∷ []) k.rows ∙ append_assoc base k.further (r ∷ []);
-      each = further-snoc kills base k.further r k.each f (subst (λ (xs : List Row). is_among xs r ≡ false) k.rows e);
+      each = further-snoc kills base k.further r k.each f (subst (λ (xs : List Row). is_among r xs ≡ false) k.rows e);
     }
 
 -- several more rows
@@ -115,7 +115,7 @@ failing-cases base kills c r n (d ∷ ds) k f h =
     (part-case base kills c d r n k f (h d (0, omega arith, refl)), failing-cases base kills c r n ds k f (λ x y. h x (suc y.0, (let lt = y.1 in omega (arith, lt)), y.2)))
 
 row-cases : (base : List Row) (kills : List (List Row)) (c : Conj) (r : Row) → IsCutCase base kills c → IsKillRow kills r → AreCutCases base kills (row_parts c r)
-row-cases base kills c r k f = by (is_among c.rows r)
+row-cases base kills c r k f = by (is_among r c.rows)
   where
     by : (b : Bool) → AreCutCases base kills (cond b [] (map (extended c) (negation c.columns r)))
     by true = tt

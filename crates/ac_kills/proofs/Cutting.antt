@@ -7,7 +7,7 @@ use Rattle.ac_forms.specs.declared.conj.Conj.{Conj}
 use Rattle.ac_forms.specs.declared.row.Row.{Row}
 use Rattle.ac_forms.specs.declared.row.Row.TheVariants.{Eq, Div, Ge}
 use Rattle.ac_cert.proofs.Keeping.{made-push}
-use Rattle.ac_sets.specs.Ends.{is_among}
+use Rattle.ac_forms.specs.Standing.{is_among}
 use Rattle.ac_sets.specs.Unions.{ArePieces}
 use Rattle.ac_sets.proofs.Commons.{Over-more}
 use Rattle.ac_sets.proofs.Outsides.{outside-made}
@@ -96,7 +96,7 @@ partly-whole ys mid new k = record { done = ys; rest = []; split = append-nil ys
 -- ---- well made
 
 pub over-new : (n : ℕ) (rows : List Row) (r : Row) → AreRowsOver n rows → IsRowOver n r → AreRowsOver n (with_new rows r)
-over-new n rows r w v = by (is_among rows r)
+over-new n rows r w v = by (is_among r rows)
   where
     by : (b : Bool) → AreRowsOver n (cond b rows (rows ++ r ∷ []))
     by true = w
@@ -172,19 +172,19 @@ pub ruleset failing_steps = (failing_start, failing_step, failing_end, part-made
 
 -- ---- one row
 
-pub row_among : (c : Conj) (r : Row) (old new : List Conj) → is_among c.rows r ≡ true → new ≡ old → AreKept (row_parts c r) old new
+pub row_among : (c : Conj) (r : Row) (old new : List Conj) → is_among r c.rows ≡ true → new ≡ old → AreKept (row_parts c r) old new
 row_among c r old new e same = subst (λ (b : Bool). AreKept (cond b [] (map (extended c) (negation c.columns r))) old new) (sym e) (kept-none old new same)
 
-pub row_new : (c : Conj) (r : Row) (old new : List Conj) → is_among c.rows r ≡ false → AreKept (map (extended c) (negation c.columns r)) old new → AreKept (row_parts c r) old new
+pub row_new : (c : Conj) (r : Row) (old new : List Conj) → is_among r c.rows ≡ false → AreKept (map (extended c) (negation c.columns r)) old new → AreKept (row_parts c r) old new
 row_new c r old new e k = subst (λ (b : Bool). AreKept (cond b [] (map (extended c) (negation c.columns r))) old new) (sym e) k
 
-pub row_partly : (c : Conj) (r : Row) (old new : List Conj) → is_among c.rows r ≡ false → ArePartlyKept (map (extended c) (negation c.columns r)) old new → ArePartlyKept (row_parts c r) old new
+pub row_partly : (c : Conj) (r : Row) (old new : List Conj) → is_among r c.rows ≡ false → ArePartlyKept (map (extended c) (negation c.columns r)) old new → ArePartlyKept (row_parts c r) old new
 row_partly c r old new e k = subst (λ (b : Bool). ArePartlyKept (cond b [] (map (extended c) (negation c.columns r))) old new) (sym e) k
 
-pub after_among : (c : Conj) (r : Row) → is_among c.rows r ≡ true → c ≡ after_row c r
+pub after_among : (c : Conj) (r : Row) → is_among r c.rows ≡ true → c ≡ after_row c r
 after_among c r e = λ i. record { columns = c.columns; rows = cond (sym e i) c.rows (c.rows ++ r ∷ []) }
 
-pub after_new : (c : Conj) (r : Row) (n : ℕ) (rows : List Row) → is_among c.rows r ≡ false → n ≡ c.columns → rows ≡ c.rows ++ r ∷ [] → record { columns = n; rows = rows } ≡ after_row c r
+pub after_new : (c : Conj) (r : Row) (n : ℕ) (rows : List Row) → is_among r c.rows ≡ false → n ≡ c.columns → rows ≡ c.rows ++ r ∷ [] → record { columns = n; rows = rows } ≡ after_row c r
 after_new c r n rows e l k = λ i. record { columns = l i; rows = (k ∙ (λ j. cond (sym e j) c.rows (c.rows ++ r ∷ []))) i }
 
 pub ruleset row_steps = (row_among, row_new, row_partly, after_among, after_new)

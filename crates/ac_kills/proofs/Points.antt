@@ -6,36 +6,29 @@ use Rattle.std.specs.Prelude.{unsigned_abs, Result, Ok, Err, IfOk, OnOk}
 use Rattle.ac_integers.specs.Multiple.{divides, IsMultiple}
 use Rattle.ac_integers.proofs.Divisors.{divides-true, divides-false}
 use Rattle.ac_forms.specs.Affine.{value_at}
-use Rattle.ac_forms.specs.Negation.{negation, Extends, InSome}
+use Rattle.ac_forms.specs.Negation.{negation, HasExtension}
+use Rattle.ac_forms.specs.Pieces.{IsInSome}
 use Rattle.ac_forms.specs.Rows.{Holds, Meets, IsRowOver, AreRowsOver, IsWellMade}
 use Rattle.ac_forms.specs.declared.conj.Conj.{Conj}
 use Rattle.ac_forms.specs.declared.row.Row.{Row}
 use Rattle.ac_forms.specs.declared.row.Row.TheVariants.{Eq, Div, Ge}
 use Rattle.ac_forms.proofs.Negations.{complement}
-use Rattle.ac_forms.proofs.Joining.{either_of}
-use Rattle.ac_forms.specs.Orders.{row_eq}
+use Rattle.ac_forms.proofs.Standings.{among-holds}
 use Rattle.ac_cert.proofs.Keeping.{Meets-append, Meets-push}
-use Rattle.ac_sets.specs.Ends.{is_among}
-use Rattle.ac_sets.specs.EndLaw.{same-row}
+use Rattle.ac_forms.specs.Standing.{is_among}
 use Rattle.ac_sets.specs.Unions.{ArePieces}
-use Rattle.ac_sets.proofs.Commons.{Meets-front, Meets-back, Meets-cut, Over-more, InSome-front, InSome-back, InSome-split}
+use Rattle.ac_sets.proofs.Commons.{Meets-front, Meets-back, Meets-cut, Over-more}
 use Rattle.ac_kills.specs.Cuts.{with_new, with_all_new, extended, row_parts, after_row, parts_outside, HasPoint, Sieved, ArePartlyKept, Cuts, AreCut, CutsAll, AreAllCut, ArePartlyCut, AllHavePoints, IsLeft}
 use Rattle.ac_kills.proofs.Cutting.{over-new, over-all-new, negation-made}
+use Rattle.ac_forms.proofs.InPieces.{some-append}
 
 -- ---- rows added where they do not stand
 
-among-holds : (rows : List Row) (r : Row) (p : List ℤ) → is_among rows r ≡ true → Meets rows p → Holds r p
-among-holds [] r p e h = absurd cc
-among-holds (s ∷ rows) r p e h = elim (either_of (row_eq s r) (is_among rows r) e) [
-  | inl same ↦ subst (λ (x : Row). Holds x p) (same-row s r same) h.0
-  | inr later ↦ among-holds rows r p later h.1
-]
-
 pub new-meets : (rows : List Row) (r : Row) (p : List ℤ) → Meets (with_new rows r) p ↔ (Meets rows p × Holds r p)
-new-meets rows r p = by (is_among rows r) refl
+new-meets rows r p = by (is_among r rows) refl
   where
-    by : (b : Bool) → is_among rows r ≡ b → Meets (cond b rows (rows ++ r ∷ [])) p ↔ (Meets rows p × Holds r p)
-    by true e = ((λ h. (h, among-holds rows r p e h)), (λ h. h.0))
+    by : (b : Bool) → is_among r rows ≡ b → Meets (cond b rows (rows ++ r ∷ [])) p ↔ (Meets rows p × Holds r p)
+    by true e = ((λ h. (h, among-holds r rows p e h)), (λ h. h.0))
     by false e = ((λ h. (Meets-front rows (r ∷ []) p h, (Meets-back rows (r ∷ []) p h).0)), (λ h. Meets-push rows r p h.0 h.1))
 
 pub all-new-meets : (rows rs : List Row) (p : List ℤ) → Meets (with_all_new rows rs) p ↔ (Meets rows p × Meets rs p)
@@ -60,54 +53,54 @@ holds-either (Div m f) p = by-test (divides (unsigned_abs m) (value_at f p)) ref
     by-test true e = inl (divides-true (unsigned_abs m) (value_at f p) e)
     by-test false e = inr (divides-false (unsigned_abs m) (value_at f p) e)
 
-extended-out : (c d : Conj) (p : List ℤ) → IsWellMade c → length p ≡ c.columns → Extends p (extended c d) → Meets c.rows p × Extends p d
+extended-out : (c d : Conj) (p : List ℤ) → IsWellMade c → length p ≡ c.columns → HasExtension (extended c d) p → Meets c.rows p × HasExtension d p
 extended-out c d p w l x =
     let m = (all-new-meets c.rows d.rows (p ++ x.0)).0 x.2 in
     (Meets-cut c.rows c.columns p x.0 (omega (arith, l)) w m.0, (x.0, x.1, m.1))
 
-extended-in : (c d : Conj) (p : List ℤ) → IsWellMade c → length p ≡ c.columns → Meets c.rows p → Extends p d → Extends p (extended c d)
+extended-in : (c d : Conj) (p : List ℤ) → IsWellMade c → length p ≡ c.columns → Meets c.rows p → HasExtension d p → HasExtension (extended c d) p
 extended-in c d p w l m x = (x.0, x.1, (all-new-meets c.rows d.rows (p ++ x.0)).1 (Meets-append c.rows c.columns p x.0 (omega (arith, l)) w m, x.2))
 
-some-out : (c : Conj) (ds : List Conj) (p : List ℤ) → IsWellMade c → length p ≡ c.columns → InSome p (map (extended c) ds) → Meets c.rows p × InSome p ds
+some-out : (c : Conj) (ds : List Conj) (p : List ℤ) → IsWellMade c → length p ≡ c.columns → IsInSome HasExtension (map (extended c) ds) p → Meets c.rows p × IsInSome HasExtension ds p
 some-out c [] p w l h = absurd h
 some-out c (d ∷ ds) p w l (inl h) = let x = extended-out c d p w l h in (x.0, inl x.1)
 some-out c (d ∷ ds) p w l (inr h) = let x = some-out c ds p w l h in (x.0, inr x.1)
 
-some-in : (c : Conj) (ds : List Conj) (p : List ℤ) → IsWellMade c → length p ≡ c.columns → Meets c.rows p → InSome p ds → InSome p (map (extended c) ds)
+some-in : (c : Conj) (ds : List Conj) (p : List ℤ) → IsWellMade c → length p ≡ c.columns → Meets c.rows p → IsInSome HasExtension ds p → IsInSome HasExtension (map (extended c) ds) p
 some-in c [] p w l m h = absurd h
 some-in c (d ∷ ds) p w l m (inl h) = inl (extended-in c d p w l m h)
 some-in c (d ∷ ds) p w l m (inr h) = inr (some-in c ds p w l m h)
 
-pub row-parts-points : (c : Conj) (r : Row) (p : List ℤ) → IsWellMade c → IsRowOver c.columns r → length p ≡ c.columns → InSome p (row_parts c r) ↔ (Meets c.rows p × ¬ Holds r p)
-row-parts-points c r p w v l = by (is_among c.rows r) refl
+pub row-parts-points : (c : Conj) (r : Row) (p : List ℤ) → IsWellMade c → IsRowOver c.columns r → length p ≡ c.columns → IsInSome HasExtension (row_parts c r) p ↔ (Meets c.rows p × ¬ Holds r p)
+row-parts-points c r p w v l = by (is_among r c.rows) refl
   where
-    by : (b : Bool) → is_among c.rows r ≡ b → InSome p (cond b [] (map (extended c) (negation c.columns r))) ↔ (Meets c.rows p × ¬ Holds r p)
-    by true e = ((λ h. absurd h), (λ h. absurd (h.1 (among-holds c.rows r p e h.0))))
+    by : (b : Bool) → is_among r c.rows ≡ b → IsInSome HasExtension (cond b [] (map (extended c) (negation c.columns r))) p ↔ (Meets c.rows p × ¬ Holds r p)
+    by true e = ((λ h. absurd h), (λ h. absurd (h.1 (among-holds r c.rows p e h.0))))
     by false e = (
       (λ h. let x = some-out c (negation c.columns r) p w l h in (x.0, (complement c.columns r p v l).1 x.1)),
       (λ h. some-in c (negation c.columns r) p w l h.0 ((complement c.columns r p v l).0 h.1)),
     )
 
-pub outside-points : (c : Conj) (rs : List Row) (p : List ℤ) → IsWellMade c → AreRowsOver c.columns rs → length p ≡ c.columns → InSome p (parts_outside c rs) ↔ (Meets c.rows p × ¬ Meets rs p)
+pub outside-points : (c : Conj) (rs : List Row) (p : List ℤ) → IsWellMade c → AreRowsOver c.columns rs → length p ≡ c.columns → IsInSome HasExtension (parts_outside c rs) p ↔ (Meets c.rows p × ¬ Meets rs p)
 outside-points c [] p w v l = ((λ h. absurd h), (λ h. absurd (h.1 tt)))
 outside-points c (r ∷ rs) p w v l =
     let here = row-parts-points c r p w v.0 l in
     let next = outside-points (after_row c r) rs p (over-new c.columns c.rows r w v.0) v.1 l in
     let add = new-meets c.rows r p in (
-      (λ h. elim (InSome-split p (row_parts c r) (parts_outside (after_row c r) rs) h) [
+      (λ h. elim ((some-append HasExtension (row_parts c r) (parts_outside (after_row c r) rs) p).0 h) [
         | inl a ↦ (let x = here.0 a in (x.0, (λ m. x.1 m.0)))
         | inr b ↦ (let x = next.0 b in ((add.0 x.0).0, (λ m. x.1 m.1)))
       ]),
       (λ h. elim (holds-either r p) [
-        | inl held ↦ InSome-back p (row_parts c r) (parts_outside (after_row c r) rs) (next.1 (add.1 (h.0, held), (λ k. h.1 (held, k))))
-        | inr failed ↦ InSome-front p (row_parts c r) (parts_outside (after_row c r) rs) (here.1 (h.0, failed))
+        | inl held ↦ (some-append HasExtension (row_parts c r) (parts_outside (after_row c r) rs) p).1 (inr (next.1 (add.1 (h.0, held), (λ k. h.1 (held, k)))))
+        | inr failed ↦ (some-append HasExtension (row_parts c r) (parts_outside (after_row c r) rs) p).1 (inl (here.1 (h.0, failed)))
       ]),
     )
 
 -- ---- points over the first columns
 
 -- more columns in two steps
-extends-split : (p : List ℤ) (k : ℕ) (c : Conj) → length p ≤ k → k ≤ c.columns → Extends p c → (more : List ℤ) × (length (p ++ more) ≡ k) × Extends (p ++ more) c
+extends-split : (p : List ℤ) (k : ℕ) (c : Conj) → length p ≤ k → k ≤ c.columns → HasExtension c p → (more : List ℤ) × (length (p ++ more) ≡ k) × HasExtension c (p ++ more)
 extends-split p k c low high x =
     let cut = k - length p in
     let long : length p + length x.0 ≡ c.columns = sym (length-append p x.0) ∙ x.1 in
@@ -115,17 +108,17 @@ extends-split p k c low high x =
     let whole : (p ++ take cut x.0) ++ drop cut x.0 ≡ p ++ x.0 = append_assoc p (take cut x.0) (drop cut x.0) ∙ ap (λ (r : List ℤ). p ++ r) (take-append-drop cut x.0) in
     (take cut x.0, omega (arith, length-append p (take cut x.0), size, low), (drop cut x.0, ap length whole ∙ x.1, subst (Meets c.rows) (sym whole) x.2))
 
-extends-join : (p more : List ℤ) (c : Conj) → Extends (p ++ more) c → Extends p c
+extends-join : (p more : List ℤ) (c : Conj) → HasExtension c (p ++ more) → HasExtension c p
 extends-join p more c x =
     let whole : p ++ (more ++ x.0) ≡ (p ++ more) ++ x.0 = sym (append_assoc p more x.0) in
     (more ++ x.0, ap length whole ∙ x.1, subst (Meets c.rows) (sym whole) x.2)
 
-pub some-split : (p : List ℤ) (k : ℕ) (cs : List Conj) → length p ≤ k → ArePieces k cs → InSome p cs → (more : List ℤ) × (length (p ++ more) ≡ k) × InSome (p ++ more) cs
+pub some-split : (p : List ℤ) (k : ℕ) (cs : List Conj) → length p ≤ k → ArePieces k cs → IsInSome HasExtension cs p → (more : List ℤ) × (length (p ++ more) ≡ k) × IsInSome HasExtension cs (p ++ more)
 some-split p k [] low w h = absurd h
 some-split p k (c ∷ cs) low w (inl h) = let x = extends-split p k c low w.0 h in (x.0, x.1, inl x.2)
 some-split p k (c ∷ cs) low w (inr h) = let x = some-split p k cs low w.2 h in (x.0, x.1, inr x.2)
 
-some-join : (p more : List ℤ) (cs : List Conj) → InSome (p ++ more) cs → InSome p cs
+some-join : (p more : List ℤ) (cs : List Conj) → IsInSome HasExtension cs (p ++ more) → IsInSome HasExtension cs p
 some-join p more [] h = absurd h
 some-join p more (c ∷ cs) (inl h) = inl (extends-join p more c h)
 some-join p more (c ∷ cs) (inr h) = inr (some-join p more cs h)
@@ -140,7 +133,7 @@ extended-pieces c [] w a = tt
 extended-pieces c (d ∷ ds) w a = (a.0, over-all-new d.columns c.rows d.rows (Over-more c.columns d.columns c.rows a.0 w) a.1, extended-pieces c ds w a.2)
 
 pub row-parts-pieces : (c : Conj) (r : Row) → IsWellMade c → IsRowOver c.columns r → ArePieces c.columns (row_parts c r)
-row-parts-pieces c r w v = by (is_among c.rows r)
+row-parts-pieces c r w v = by (is_among r c.rows)
   where
     by : (b : Bool) → ArePieces c.columns (cond b [] (map (extended c) (negation c.columns r)))
     by true = tt
@@ -152,15 +145,15 @@ outside-pieces c (r ∷ rs) w v = pieces-append c.columns (row_parts c r) (parts
 
 -- ---- what is kept
 
-pub sieved-points : (parts kept : List Conj) (p : List ℤ) → Sieved parts kept → InSome p kept ↔ InSome p parts
-sieved-points [] kept p s = ((λ h. subst (InSome p) s h), (λ h. absurd h))
+pub sieved-points : (parts kept : List Conj) (p : List ℤ) → Sieved parts kept → IsInSome HasExtension kept p ↔ IsInSome HasExtension parts p
+sieved-points [] kept p s = ((λ h. subst (λ (cs : List Conj). IsInSome HasExtension cs p) s h), (λ h. absurd h))
 sieved-points (c ∷ cs) kept p (inl (empty, s)) =
     let r = sieved-points cs kept p s in
     ((λ h. inr (r.0 h)), (λ h. elim h [ inl x ↦ absurd (empty (p ++ x.0, record { long = x.1; meets = x.2 })) | inr x ↦ r.1 x ]))
 sieved-points (c ∷ cs) kept p (inr (rest, e, has, s)) =
     let r = sieved-points cs rest p s in (
-      (λ h. elim (subst (InSome p) e h) [ inl x ↦ inl x | inr x ↦ inr (r.0 x) ]),
-      (λ h. subst (InSome p) (sym e) (elim h [ inl x ↦ inl x | inr x ↦ inr (r.1 x) ])),
+      (λ h. elim (subst (λ (cs : List Conj). IsInSome HasExtension cs p) e h) [ inl x ↦ inl x | inr x ↦ inr (r.0 x) ]),
+      (λ h. subst (λ (cs : List Conj). IsInSome HasExtension cs p) (sym e) (elim h [ inl x ↦ inl x | inr x ↦ inr (r.1 x) ])),
     )
 
 sieved-have : (parts kept : List Conj) → Sieved parts kept → AllHavePoints kept
@@ -182,13 +175,13 @@ holds-first n r p more l v = let b = meets-first n (r ∷ []) p more l (v, tt) i
 
 -- ---- one piece, and several
 
-pub cut-points : (n : ℕ) (c : Conj) (kill : List Row) (kept : List Conj) (p : List ℤ) → n ≤ c.columns → IsWellMade c → AreRowsOver n kill → length p ≡ n → Cuts c kill kept → InSome p kept ↔ (Extends p c × ¬ Meets kill p)
+pub cut-points : (n : ℕ) (c : Conj) (kill : List Row) (kept : List Conj) (p : List ℤ) → n ≤ c.columns → IsWellMade c → AreRowsOver n kill → length p ≡ n → Cuts c kill kept → IsInSome HasExtension kept p ↔ (HasExtension c p × ¬ Meets kill p)
 cut-points n c kill kept p low w v l (inl (empty, e)) = (
-  (λ h. elim (subst (InSome p) e h) [
+  (λ h. elim (subst (λ (cs : List Conj). IsInSome HasExtension cs p) e h) [
     | inl x ↦ (x, (λ m. empty (p ++ x.0, record { long = x.1; meets = (all-new-meets c.rows kill (p ++ x.0)).1 (x.2, (meets-first n kill p x.0 l v).1 m) })))
     | inr x ↦ absurd x
   ]),
-  (λ h. subst (InSome p) (sym e) (inl h.0)),
+  (λ h. subst (λ (cs : List Conj). IsInSome HasExtension cs p) (sym e) (inl h.0)),
 )
 cut-points n c kill kept p low w v l (inr s) =
     let over : AreRowsOver c.columns kill = Over-more n c.columns kill low v in
@@ -202,18 +195,18 @@ cut-points n c kill kept p low w v l (inr s) =
           sv.1 (some-join p h.0.0 (parts_outside c kill) y)),
     )
 
-pub cuts-points : (n : ℕ) (pieces : List Conj) (kill : List Row) (kept : List Conj) (p : List ℤ) → ArePieces n pieces → AreRowsOver n kill → length p ≡ n → CutsAll pieces kill kept → InSome p kept ↔ (InSome p pieces × ¬ Meets kill p)
-cuts-points n [] kill kept p w v l e = ((λ h. absurd (subst (InSome p) e h)), (λ h. absurd h.0))
+pub cuts-points : (n : ℕ) (pieces : List Conj) (kill : List Row) (kept : List Conj) (p : List ℤ) → ArePieces n pieces → AreRowsOver n kill → length p ≡ n → CutsAll pieces kill kept → IsInSome HasExtension kept p ↔ (IsInSome HasExtension pieces p × ¬ Meets kill p)
+cuts-points n [] kill kept p w v l e = ((λ h. absurd (subst (λ (cs : List Conj). IsInSome HasExtension cs p) e h)), (λ h. absurd h.0))
 cuts-points n (c ∷ cs) kill kept p w v l (first, rest, e, f, s) =
     let a = cut-points n c kill first p w.0 w.1 v l f in
     let b = cuts-points n cs kill rest p w.2 v l s in (
-      (λ h. elim (InSome-split p first rest (subst (InSome p) e h)) [
+      (λ h. elim ((some-append HasExtension first rest p).0 (subst (λ (cs : List Conj). IsInSome HasExtension cs p) e h)) [
         | inl x ↦ (let y = a.0 x in (inl y.0, y.1))
         | inr x ↦ (let y = b.0 x in (inr y.0, y.1))
       ]),
-      (λ h. subst (InSome p) (sym e) (elim h.0 [
-        | inl x ↦ InSome-front p first rest (a.1 (x, h.1))
-        | inr x ↦ InSome-back p first rest (b.1 (x, h.1))
+      (λ h. subst (λ (cs : List Conj). IsInSome HasExtension cs p) (sym e) (elim h.0 [
+        | inl x ↦ (some-append HasExtension first rest p).1 (inl (a.1 (x, h.1)))
+        | inr x ↦ (some-append HasExtension first rest p).1 (inr (b.1 (x, h.1)))
       ])),
     )
 

@@ -4,19 +4,20 @@ use Rattle.std.specs.Prelude.{Result, Ok, Err, IfOk, nat_lt}
 use Rattle.std.specs.List.{range_with_len}
 use Rattle.std.proofs.lemmas.List.{length-append, length-replicate, take-append-drop}
 use Rattle.std.proofs.Math.ListN.{get_or-append}
-use Rattle.ac_forms.specs.Negation.{Extends}
 use Rattle.ac_forms.specs.Rows.{Meets}
 use Rattle.ac_forms.specs.declared.conj.Conj.{Conj}
 use Rattle.ac_sets.proofs.Commons.{Meets-cut}
 use Rattle.ac_cert.proofs.Keeping.{Meets-append}
 use Rattle.ac_omega.specs.Either.{EliminatesEither}
-use Rattle.ac_trails.specs.declared.strategy.Strategy.TheVariants.{Full, Economical}
+use Rattle.ac_refutations.specs.declared.strategy.Strategy.TheVariants.{Full, Economical}
 use Rattle.ac_omega.specs.Elimination.{pieces_of}
-use Rattle.ac_omega.specs.Projection.{is_among, HoldsFor, SomeHolds}
+use Rattle.ac_omega.specs.Projection.{is_among, HoldsFor, MeetsRest}
 use Rattle.ac_omega.specs.declared.pieces.Stop.{Stop}
 use Rattle.ac_omega.specs.declared.piece.Piece.{Piece}
 use Rattle.ac_omega.specs.Replays.{AreReached, HaveAllFrom, AreOver}
 use Rattle.ac_kills.specs.Kills.{columns_from, AreProjection}
+use Rattle.ac_forms.specs.Negation.{HasExtension}
+use Rattle.ac_forms.specs.Pieces.{IsInSome}
 
 lt-true : (a b : ℕ) → nat_lt a b ≡ true → a < b
 lt-true a b e = grind (arith, e)
@@ -88,7 +89,7 @@ take-front [] ys n e = rw (← e) refl
 take-front (x ∷ xs) ys zero e = absurd (omega (arith, e))
 take-front (x ∷ xs) ys (suc n) e = ap (λ (r : List ℤ). x ∷ r) (take-front xs ys n (omega (arith, e)))
 
-some-first : (first : ℕ) (ps : List Piece) (p more : List ℤ) → length p ≡ first → AreOver first ps → SomeHolds ps (p ++ more) ↔ SomeHolds ps p
+some-first : (first : ℕ) (ps : List Piece) (p more : List ℤ) → length p ≡ first → AreOver first ps → IsInSome MeetsRest ps (p ++ more) ↔ IsInSome MeetsRest ps p
 some-first first [] p more l w = ((λ h. h), (λ h. h))
 some-first first (x ∷ ps) p more l w =
     let r = some-first first ps p more l w.1 in (
@@ -97,7 +98,7 @@ some-first first (x ∷ ps) p more l w =
     )
 
 pub projection-of : (first : ℕ) (copy : Conj) (ps : List Piece) → first ≤ copy.columns → AreOver first ps
-    → ((p : List ℤ) → length p ≡ copy.columns → HoldsFor (columns_from first copy) copy.rows p ↔ SomeHolds ps p) → AreProjection first copy ps
+    → ((p : List ℤ) → length p ≡ copy.columns → HoldsFor (columns_from first copy) copy.rows p ↔ IsInSome MeetsRest ps p) → AreProjection first copy ps
 projection-of first copy ps low over exact p l = (there, back)
   where
     vars : List ℕ
@@ -109,7 +110,7 @@ projection-of first copy ps low over exact p l = (there, back)
     long : length (p ++ more) ≡ copy.columns
     long = omega (arith, length-append p more, length-replicate {A = ℤ} (copy.columns - first) (pos 0), l, low)
 
-    there : Extends p copy → SomeHolds ps p
+    there : HasExtension copy p → IsInSome MeetsRest ps p
     there x = (some-first first ps p more l over).0 ((exact (p ++ more) long).0 (record {
       at = p ++ x.0;
       differs = record { long = x.1 ∙ sym long; same = λ j e. by j e (nat_lt j first) refl };
@@ -126,7 +127,7 @@ projection-of first copy ps low over exact p l = (there, back)
         by j e true h = let lt = lt-true j first h in let k : j < length p = omega (arith, lt, l) in get_or-append p x.0 (pos 0) j k ∙ sym (get_or-append p more (pos 0) j k)
         by j e false h = behind j e (nat_lt j copy.columns) refl (lt-false j first h)
 
-    back : SomeHolds ps p → Extends p copy
+    back : IsInSome MeetsRest ps p → HasExtension copy p
     back h =
         let x = (exact (p ++ more) long).1 ((some-first first ps p more l over).1 h) in
         let size : length x.at ≡ copy.columns = x.differs.long ∙ long in
@@ -147,18 +148,18 @@ pub record Answered (first : ℕ) (copy : Conj) (budget : ℕ) (r : Result (List
   pub projection : IfOk r (λ pieces. AreProjection first copy pieces)
 
 pub answered : (first : ℕ) (copy : Conj) (budget : ℕ) (vars : List ℕ) (r : Result (List Piece) Stop) → vars ≡ columns_from first copy → first ≤ copy.columns → EliminatesEither r copy (pieces_of Economical vars budget copy) (pieces_of Full vars budget copy)
-    → IfOk r (λ pieces. (p : List ℤ) → length p ≡ copy.columns → HoldsFor vars copy.rows p ↔ SomeHolds pieces p) → IfOk r (λ pieces. AreReached vars copy pieces)
+    → IfOk r (λ pieces. (p : List ℤ) → length p ≡ copy.columns → HoldsFor vars copy.rows p ↔ IsInSome MeetsRest pieces p) → IfOk r (λ pieces. AreReached vars copy pieces)
     → ((n : ℕ) → HaveAllFrom n copy.columns vars → IfOk r (λ pieces. AreOver n pieces)) → Answered first copy budget r
 answered first copy budget vars r is low exact points reached over = record {
   exact = subst (λ (zs : List ℕ). EliminatesEither r copy (pieces_of Economical zs budget copy) (pieces_of Full zs budget copy)) is exact;
   kills = subst (λ (zs : List ℕ). IfOk r (λ pieces. AreReached zs copy pieces)) is reached;
   over = all;
-  projection = projected r all (subst (λ (zs : List ℕ). IfOk r (λ pieces. (p : List ℤ) → length p ≡ copy.columns → HoldsFor zs copy.rows p ↔ SomeHolds pieces p)) is points);
+  projection = projected r all (subst (λ (zs : List ℕ). IfOk r (λ pieces. (p : List ℤ) → length p ≡ copy.columns → HoldsFor zs copy.rows p ↔ IsInSome MeetsRest pieces p)) is points);
 }
   where
     all : IfOk r (λ pieces. AreOver first pieces)
     all = over first (subst (HaveAllFrom first copy.columns) (sym is) (has-all first copy low))
 
-    projected : (r : Result (List Piece) Stop) → IfOk r (λ pieces. AreOver first pieces) → IfOk r (λ pieces. (p : List ℤ) → length p ≡ copy.columns → HoldsFor (columns_from first copy) copy.rows p ↔ SomeHolds pieces p) → IfOk r (λ pieces. AreProjection first copy pieces)
+    projected : (r : Result (List Piece) Stop) → IfOk r (λ pieces. AreOver first pieces) → IfOk r (λ pieces. (p : List ℤ) → length p ≡ copy.columns → HoldsFor (columns_from first copy) copy.rows p ↔ IsInSome MeetsRest pieces p) → IfOk r (λ pieces. AreProjection first copy pieces)
     projected (Ok ps) o h = projection-of first copy ps low o h
     projected (Err stop) o h = tt

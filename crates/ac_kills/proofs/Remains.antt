@@ -2,13 +2,13 @@
 use Rattle.std.proofs.Common.{◌≡◌, ◌↔◌, ◌⊎◌, inl, inr, ℕ, zero, suc, ◌+◌, ◌<◌, ◌≤◌, ℤ, List, [], ◌∷◌, ◌++◌, length, take, get_or, sym, ap, ◌∙◌, subst, arith}
 use Rattle.std.specs.Prelude.{Result, IfErr}
 use Rattle.std.proofs.lemmas.List.{take_more}
-use Rattle.ac_forms.specs.Negation.{InSome, InNone, AreApart}
+use Rattle.ac_forms.specs.Negation.{HasExtension}
+use Rattle.ac_forms.specs.Pieces.{IsInSome, IsInNone, IsInOneAtMost}
 use Rattle.ac_forms.specs.Rows.{Meets, AreRowsOver, IsWellMade}
 use Rattle.ac_forms.specs.declared.conj.Conj.{Conj}
 use Rattle.ac_forms.specs.declared.row.Row.{Row}
 use Rattle.ac_sets.specs.Unions.{ArePieces}
 use Rattle.ac_sets.proofs.Commons.{Meets-cut}
-use Rattle.ac_omega.specs.Projection.{SomeHolds}
 use Rattle.ac_omega.specs.declared.piece.Piece.{Piece}
 use Rattle.ac_kills.specs.Cuts.{HasPoint, AllHavePoints, NoneMeet, IsLeft}
 use Rattle.ac_omega.specs.Replays.{AreOver}
@@ -16,9 +16,10 @@ use Rattle.ac_kills.specs.Causes.{AreKillRows, AreCutCases, IfFull}
 use Rattle.ac_kills.specs.declared.cut.CutStop.{CutStop}
 use Rattle.ac_kills.proofs.Asked.{if_both}
 use Rattle.ac_kills.proofs.Stops.{itself-case}
-use Rattle.ac_kills.specs.Remaining.{AreKillsOf, AllKillsOf, AllOver, AllKills, SomeKill, IsLeftBy, IsStart, IsCut, IsRemaining}
+use Rattle.ac_kills.specs.Remaining.{AreKillsOf, AllKillsOf, AllOver, AllKills, IsLeftBy, IsStart, IsCut, IsRemaining}
 use Rattle.ac_kills.proofs.Cutting.{take_whole, same-fits}
 use Rattle.ac_kills.proofs.Points.{holds-either}
+use Rattle.ac_omega.specs.Projection.{MeetsRest}
 
 -- ---- one copy
 
@@ -33,7 +34,7 @@ by_start n room pieces found kept w e = record {
   within = same-fits room pieces kept e;
   by = record {
     made = subst (ArePieces n) (sym e) w;
-    points = λ p l. ((λ h. (subst (InSome p) e h, (λ x. x))), (λ h. subst (InSome p) (sym e) h.0));
+    points = λ p l. ((λ h. (subst (λ (cs : List Conj). IsInSome HasExtension cs p) e h, (λ x. x))), (λ h. subst (λ (cs : List Conj). IsInSome HasExtension cs p) (sym e) h.0));
     each = λ h. subst AllHavePoints (sym e) h;
   };
   asked = λ base kills a b. subst (AreCutCases base kills) (sym e) a;
@@ -45,7 +46,7 @@ kills-at kills [] i x w m e = absurd (omega (arith, m))
 kills-at kills (y ∷ ys) zero x w m e = rw e w.0
 kills-at kills (y ∷ ys) (suc i) x w m e = kills-at kills ys i x w.1 (omega (arith, m)) e
 
-some-snoc : (xs : List Piece) (x : Piece) (p : List ℤ) → SomeHolds (xs ++ x ∷ []) p ↔ (SomeHolds xs p ⊎ Meets x.rest.rows p)
+some-snoc : (xs : List Piece) (x : Piece) (p : List ℤ) → IsInSome MeetsRest (xs ++ x ∷ []) p ↔ (IsInSome MeetsRest xs p ⊎ Meets x.rest.rows p)
 some-snoc [] x p = ((λ h. elim h [ inl a ↦ inr a | inr b ↦ absurd b ]), (λ h. elim h [ inl a ↦ absurd a | inr b ↦ inl b ]))
 some-snoc (y ∷ ys) x p =
     let r = some-snoc ys x p in (
@@ -119,7 +120,7 @@ start_without case pieces empty e = subst (IsStart case) (sym e) (record {
 
 -- of the case alone, where there is no more room
 alone-apart : (n : ℕ) (case : Conj) (old new : List Conj) → old ≡ [] → new ≡ old ++ case ∷ [] → NoneMeet n new
-alone-apart n case old new none e p l = subst (AreApart p) (sym (e ∙ ap (λ (x : List Conj). x ++ case ∷ []) none)) ((λ x. tt), tt)
+alone-apart n case old new none e p l = subst (λ (cs : List Conj). IsInOneAtMost HasExtension cs p) (sym (e ∙ ap (λ (x : List Conj). x ++ case ∷ []) none)) ((λ x. tt), tt)
 
 alone-made : (case copy : Conj) (old new : List Conj) → old ≡ [] → IsWellMade case → copy ≡ case → new ≡ old ++ copy ∷ [] → ArePieces case.columns new
 alone-made case copy old new none w same e = subst (ArePieces case.columns) (sym (e ∙ ap (λ (x : List Conj). x ++ copy ∷ []) none ∙ ap (λ (x : Conj). x ∷ []) same)) (omega arith, w, tt)
@@ -135,7 +136,7 @@ pub ruleset start_steps = (start_with, start_without)
 
 -- ---- all kills
 
-some-kill-snoc : (ks : List (List Piece)) (k : List Piece) (p : List ℤ) → SomeKill (ks ++ k ∷ []) p ↔ (SomeKill ks p ⊎ SomeHolds k p)
+some-kill-snoc : (ks : List (List Piece)) (k : List Piece) (p : List ℤ) → IsInSome (IsInSome MeetsRest) (ks ++ k ∷ []) p ↔ (IsInSome (IsInSome MeetsRest) ks p ⊎ IsInSome MeetsRest k p)
 some-kill-snoc [] k p = ((λ h. elim h [ inl a ↦ inr a | inr b ↦ absurd b ]), (λ h. elim h [ inl a ↦ absurd a | inr b ↦ inl b ]))
 some-kill-snoc (y ∷ ys) k p =
     let r = some-kill-snoc ys k p in (
@@ -148,7 +149,7 @@ pub record CutHalfway (case : Conj) (kills : List (List Piece)) (room : ℕ) (pi
   pub asked : (rows : List (List Row)) → AllKillsOf rows kills → AreCutCases case.rows rows pieces
   pub apart : NoneMeet case.columns pieces
   pub made : ArePieces case.columns pieces
-  pub points : (p : List ℤ) → length p ≡ case.columns → InSome p pieces ↔ (Meets case.rows p × ¬ SomeKill (take i kills) p)
+  pub points : (p : List ℤ) → length p ≡ case.columns → IsInSome HasExtension pieces p ↔ (Meets case.rows p × ¬ IsInSome (IsInSome MeetsRest) (take i kills) p)
   pub each : AllHavePoints pieces
 
 pub cut_start : (case : Conj) (kills : List (List Piece)) (room : ℕ) (pieces : List Conj) → IsStart case pieces → length pieces ≤ room → CutHalfway case kills room pieces 0
@@ -173,7 +174,7 @@ cut_step case kills room pieces next i found given h m e same left cases apart f
   apart = apart h.apart;
   asked = λ rows a. cases case.rows rows (h.asked rows a) (subst (AreKillsOf rows) (sym same) (kills-of-at rows kills i found a m e));
   made = left.made;
-  points = λ p l. subst (λ (ks : List (List Piece)). InSome p next ↔ (Meets case.rows p × ¬ SomeKill ks p)) (sym more) (
+  points = λ p l. subst (λ (ks : List (List Piece)). IsInSome HasExtension next p ↔ (Meets case.rows p × ¬ IsInSome (IsInSome MeetsRest) ks p)) (sym more) (
     (λ a.
         let b = (by.points p l).0 a in
         let d = (h.points p l).0 b.0 in
@@ -197,14 +198,14 @@ meets-either (r ∷ rs) p = elim (holds-either r p) [
   | inr a ↦ inr (λ h. a h.0)
 ]
 
-some-either : (ks : List Piece) (p : List ℤ) → SomeHolds ks p ⊎ (¬ SomeHolds ks p)
+some-either : (ks : List Piece) (p : List ℤ) → IsInSome MeetsRest ks p ⊎ (¬ IsInSome MeetsRest ks p)
 some-either [] p = inr (λ h. h)
 some-either (k ∷ ks) p = elim (meets-either k.rest.rows p) [
   | inl a ↦ inl (inl a)
   | inr a ↦ elim (some-either ks p) [ inl b ↦ inl (inr b) | inr b ↦ inr (λ h. elim h [ inl x ↦ a x | inr x ↦ b x ]) ]
 ]
 
-some-kill-either : (ks : List (List Piece)) (p : List ℤ) → SomeKill ks p ⊎ (¬ SomeKill ks p)
+some-kill-either : (ks : List (List Piece)) (p : List ℤ) → IsInSome (IsInSome MeetsRest) ks p ⊎ (¬ IsInSome (IsInSome MeetsRest) ks p)
 some-kill-either [] p = inr (λ h. h)
 some-kill-either (k ∷ ks) p = elim (some-either k p) [
   | inl a ↦ inl (inl a)
@@ -223,8 +224,8 @@ cut_end case kills room pieces i h l = record {
     all : take i kills ≡ kills
     all = take_whole kills i l
 
-    points : (p : List ℤ) → length p ≡ case.columns → InSome p pieces ↔ (Meets case.rows p × ¬ SomeKill kills p)
-    points p e = subst (λ (ks : List (List Piece)). InSome p pieces ↔ (Meets case.rows p × ¬ SomeKill ks p)) all (h.points p e)
+    points : (p : List ℤ) → length p ≡ case.columns → IsInSome HasExtension pieces p ↔ (Meets case.rows p × ¬ IsInSome (IsInSome MeetsRest) kills p)
+    points p e = subst (λ (ks : List (List Piece)). IsInSome HasExtension pieces p ↔ (Meets case.rows p × ¬ IsInSome (IsInSome MeetsRest) ks p)) all (h.points p e)
 
 pub cut_made : (case : Conj) (kills : List (List Piece)) (room : ℕ) (pieces : List Conj) (i : ℕ) → CutHalfway case kills room pieces i → ArePieces case.columns pieces
 cut_made case kills room pieces i h = h.made
@@ -238,7 +239,7 @@ pub ruleset cut_steps = (cut_start, cut_step, cut_end, cut_made, cut_over)
 
 -- ---- what is left where no copy has a point
 
-kills-are-copies : (first : ℕ) (cs : List Conj) (ks : List (List Piece)) (p : List ℤ) → length p ≡ first → AllKills first cs ks → InNone p cs ↔ (¬ SomeKill ks p)
+kills-are-copies : (first : ℕ) (cs : List Conj) (ks : List (List Piece)) (p : List ℤ) → length p ≡ first → AllKills first cs ks → IsInNone HasExtension cs p ↔ (¬ IsInSome (IsInSome MeetsRest) ks p)
 kills-are-copies first [] [] p l a = ((λ h. (λ x. x)), (λ h. tt))
 kills-are-copies first [] (k ∷ ks) p l a = absurd a
 kills-are-copies first (c ∷ cs) [] p l a = absurd a

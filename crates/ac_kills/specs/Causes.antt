@@ -4,8 +4,8 @@ use Rattle.std.specs.List.{Contains}
 use Rattle.ac_forms.specs.Negation.{negation, NegationFits}
 use Rattle.ac_forms.specs.declared.conj.Conj.{Conj}
 use Rattle.ac_forms.specs.declared.row.Row.{Row}
-use Rattle.ac_sets.specs.Ends.{is_among}
-use Rattle.ac_trails.specs.declared.strategy.Strategy.TheVariants.{Full as Fully, Economical}
+use Rattle.ac_forms.specs.Standing.{is_among}
+use Rattle.ac_refutations.specs.declared.strategy.Strategy.TheVariants.{Full as Fully, Economical}
 use Rattle.ac_omega.specs.Decisions.{walk_of, IsWide, IsSpent}
 use Rattle.ac_omega.specs.Either.{StopsFinding}
 use Rattle.ac_kills.specs.declared.cut.CutStop.{CutStop}
@@ -23,7 +23,7 @@ pub data IsFurther (kills : List (List Row)) (r : Row) : Type 0 where
 -- each of the rows behind the first ones is further, and stands nowhere before
 abbrev pub AreFurther : List (List Row) → List Row → List Row → Type 0
 AreFurther kills rows [] = Unit {0}
-AreFurther kills rows (r ∷ rs) = IsFurther kills r × (is_among rows r ≡ false) × AreFurther kills (rows ++ r ∷ []) rs
+AreFurther kills rows (r ∷ rs) = IsFurther kills r × (is_among r rows ≡ false) × AreFurther kills (rows ++ r ∷ []) rs
 
 -- the case's rows with further rows, of which none stands twice
 pub record IsCutCase (base : List Row) (kills : List (List Row)) (c : Conj) : Type 0 where

@@ -1,10 +1,10 @@
 -- What is left of a case where no copy has a point, and the kills that cover the rest.
 use Rattle.std.specs.Prelude.{◌≡◌, ◌⊎◌, ◌↔◌, ℕ, ℤ, List, [], ◌∷◌, length}
-use Rattle.ac_forms.specs.Negation.{InSome, InNone}
+use Rattle.ac_forms.specs.Negation.{HasExtension}
+use Rattle.ac_forms.specs.Pieces.{IsInSome, IsInNone}
 use Rattle.ac_forms.specs.Rows.{Meets}
 use Rattle.ac_forms.specs.declared.conj.Conj.{Conj}
 use Rattle.ac_sets.specs.Unions.{ArePieces}
-use Rattle.ac_omega.specs.Projection.{SomeHolds}
 use Rattle.ac_omega.specs.declared.piece.Piece.{Piece}
 use Rattle.ac_kills.specs.Cuts.{AllHavePoints, NoneMeet}
 use Rattle.ac_omega.specs.Replays.{AreReached, AreOver}
@@ -13,12 +13,13 @@ use Rattle.ac_forms.specs.declared.row.Row.{Row}
 use Rattle.ac_omega.specs.Answers.{parts, saturated}
 use Rattle.ac_omega.specs.Either.{StopsEliminating}
 use Rattle.ac_omega.specs.Elimination.{pieces_of}
-use Rattle.ac_trails.specs.declared.strategy.Strategy.{Strategy}
-use Rattle.ac_trails.specs.declared.strategy.Strategy.TheVariants.{Full as Fully, Economical}
+use Rattle.ac_refutations.specs.declared.strategy.Strategy.{Strategy}
+use Rattle.ac_refutations.specs.declared.strategy.Strategy.TheVariants.{Full as Fully, Economical}
 use Rattle.ac_omega.specs.Sweep.{Pieces, Wide, Spent as Costly}
 use Rattle.ac_kills.specs.Causes.{AreKillRows, AreCutCases}
 use Rattle.ac_kills.specs.declared.cut.CutStop.{CutStop}
 use Rattle.ac_kills.specs.declared.cut.CutStop.TheVariants.{Overflow, Spent, Full, Memory}
+use Rattle.ac_omega.specs.Projection.{MeetsRest}
 
 -- what is found for one copy
 pub record AreFound (first : ℕ) (copy : Conj) (found : List Piece) : Type 0 where
@@ -38,21 +39,16 @@ abbrev pub AllOver : ℕ → List (List Piece) → Type 0
 AllOver n [] = Unit {0}
 AllOver n (k ∷ ks) = AreOver n k × AllOver n ks
 
--- one of the kills holds at the point
-abbrev pub SomeKill : List (List Piece) → List ℤ → Type 0
-SomeKill [] p = ⊥
-SomeKill (k ∷ ks) p = SomeHolds k p ⊎ SomeKill ks p
-
 -- the pieces so far: those points of the first ones at which none of the kills holds
 pub record IsLeftBy (n : ℕ) (pieces : List Conj) (found : List Piece) (kept : List Conj) : Type 0 where
   pub made : ArePieces n kept
-  pub points : (p : List ℤ) → length p ≡ n → InSome p kept ↔ (InSome p pieces × ¬ SomeHolds found p)
+  pub points : (p : List ℤ) → length p ≡ n → IsInSome HasExtension kept p ↔ (IsInSome HasExtension pieces p × ¬ IsInSome MeetsRest found p)
   pub each : AllHavePoints pieces → AllHavePoints kept
 
 -- the case, if it has a point
 pub record IsStart (case : Conj) (pieces : List Conj) : Type 0 where
   pub made : ArePieces case.columns pieces
-  pub points : (p : List ℤ) → length p ≡ case.columns → InSome p pieces ↔ Meets case.rows p
+  pub points : (p : List ℤ) → length p ≡ case.columns → IsInSome HasExtension pieces p ↔ Meets case.rows p
   pub each : AllHavePoints pieces
   pub asked : (kills : List (List Row)) → AreCutCases case.rows kills pieces
   pub apart : NoneMeet case.columns pieces
@@ -79,20 +75,20 @@ IsWalkOf budget first copy found =
 -- common, and each has one
 pub record IsCut (case : Conj) (kills : List (List Piece)) (pieces : List Conj) : Type 0 where
   pub made : ArePieces case.columns pieces
-  pub points : (p : List ℤ) → length p ≡ case.columns → InSome p pieces ↔ (Meets case.rows p × ¬ SomeKill kills p)
+  pub points : (p : List ℤ) → length p ≡ case.columns → IsInSome HasExtension pieces p ↔ (Meets case.rows p × ¬ IsInSome (IsInSome MeetsRest) kills p)
   pub each : AllHavePoints pieces
   pub apart : NoneMeet case.columns pieces
-  pub cover : (p : List ℤ) → length p ≡ case.columns → Meets case.rows p → InSome p pieces ⊎ SomeKill kills p
+  pub cover : (p : List ℤ) → length p ≡ case.columns → Meets case.rows p → IsInSome HasExtension pieces p ⊎ IsInSome (IsInSome MeetsRest) kills p
 
 -- of a case outside its copies: the pieces are the points at which no copy has a point, each piece has a point, and each
 -- point of the case lies in a piece or meets what a kill leaves
 pub record IsRemaining (case : Conj) (copies pieces : List Conj) (kills : List (List Piece)) : Type 0 where
   pub made : ArePieces case.columns pieces
-  pub points : (p : List ℤ) → length p ≡ case.columns → InSome p pieces ↔ (Meets case.rows p × InNone p copies)
+  pub points : (p : List ℤ) → length p ≡ case.columns → IsInSome HasExtension pieces p ↔ (Meets case.rows p × IsInNone HasExtension copies p)
   pub each : AllHavePoints pieces
   pub apart : NoneMeet case.columns pieces
   pub killed : AllKills case.columns copies kills
-  pub cover : (p : List ℤ) → length p ≡ case.columns → Meets case.rows p → InSome p pieces ⊎ SomeKill kills p
+  pub cover : (p : List ℤ) → length p ≡ case.columns → Meets case.rows p → IsInSome HasExtension pieces p ⊎ IsInSome (IsInSome MeetsRest) kills p
 
 -- the elimination of a copy stops: the economical one, and so does the full one
 abbrev pub CopyStops : ℕ → ℕ → Conj → CutStop → Type 0

@@ -4,11 +4,10 @@ ghost use Rattle.ac_forms.specs.declared.conj.Conj.{Conj};
 ghost use Rattle.ac_forms.specs.declared.row.Row.{Row};
 ghost use Rattle.ac_forms.specs.Negation.{negation};
 ghost use Rattle.ac_forms.specs.Rows.{IsWellMade, AreRowsOver, IsRowOver};
-ghost use Rattle.ac_sets.specs.Ends.{is_among};
 ghost use Rattle.ac_sets.specs.Unions.{ArePieces};
 ghost use Rattle.ac_kills.specs.Cuts.{with_new, with_all_new, extended, row_parts, after_row, parts_outside, HasPoint, AreKept, Cuts, CutsAll, AreCut, AreAllCut, ArePartlyKept, ArePartlyCut, NoneMeet, IsLeft, AllHavePoints};
 
-use ac_forms::{Conj, FormStop, Row};
+use ac_forms::{Conj, FormStop, Row, is_among};
 use ac_items::Items;
 use ac_omega::{Decided, Stop, settle_point};
 use std::alloc::{AllocError, AllocFailed, Global};
@@ -42,23 +41,11 @@ impl From<AllocError> for CutStop {
     }
 }
 
-/// Whether a row is among the rows.
-fn is_among(rows: &[Row], row: &Row) -> bool
-    ensures { result ≡ is_among rows.now row.now }
-{
-    for other in rows {
-        if *other == *row {
-            return true;
-        }
-    }
-    false
-}
-
 /// Adds a row unless it stands among the rows.
 fn push_new(rows: &mut Items<Row>, alloc: Global, row: &Row) -> Result<(), AllocError>
     ensures { OnOk result (rows.new ≡ with_new rows.old row.now) }
 {
-    if is_among(rows.as_slice(), row) {
+    if is_among(row, rows.as_slice()) {
         return Ok(());
     }
     rows.push(row.copy(alloc)?)
@@ -196,7 +183,7 @@ fn cut_by_row(
     ensures within { length kept.old ≤ room → OnOk result (length kept.new ≤ room) }
     ensures one_more { length kept.old ≤ room → IfErr result (λ e. IfFull e (length kept.new ≡ room + 1)) }
 {
-    if is_among(here.rows.as_slice(), row) {
+    if is_among(row, here.rows.as_slice()) {
         return Ok(());
     }
     match keep_failing(alloc, budget, room, here, row, kept) {
@@ -265,7 +252,7 @@ fn cut(
 
 /// What is left of several conjunctions outside a kill piece. Each question is a cut case where they are. `Full` with the first
 /// piece for which there is no room: it and those before are kept.
-pub fn cut_all(
+pub(crate) fn cut_all(
     alloc: Global,
     budget: u64,
     room: usize,

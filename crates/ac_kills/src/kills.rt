@@ -5,7 +5,7 @@ ghost use Rattle.ac_omega.specs.Either.{EliminatesEither};
 ghost use Rattle.ac_omega.specs.Elimination.{pieces_of};
 ghost use Rattle.ac_kills.specs.Kills.{columns_from, AreProjection};
 ghost use Rattle.ac_omega.specs.Replays.{AreReached, AreOver};
-ghost use Rattle.ac_trails.specs.declared.strategy.Strategy.TheVariants.{Full, Economical};
+ghost use Rattle.ac_refutations.specs.declared.strategy.Strategy.TheVariants.{Full, Economical};
 ghost use Rattle.ac_kills.specs.Remaining.{AreFound, IsWalkOf, CopyStops};
 
 use crate::cut::CutStop;

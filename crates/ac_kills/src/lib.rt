@@ -7,5 +7,5 @@ mod cut;
 mod kills;
 
 pub use case::cut_case;
-pub use cut::{CutStop, cut_all};
+pub use cut::CutStop;
 pub use kills::kill_pieces;

@@ -9,7 +9,7 @@ use Rattle.ac_forms.specs.Affine.{Affine, coef}
 use Rattle.ac_forms.specs.declared.row.Row.TheVariants.{Eq, Div, Ge}
 use Rattle.ac_cert.specs.Bounds.{is_low, low_bound, is_one_sided, highs}
 use Rattle.ac_cert.specs.ChoiceFits.{sizes_fit}
-use Rattle.ac_trails.specs.Tries.{Tries, first_equality, has_divisibility, common_modulus, tries_for, residues_from, splinters_from, splinters_by, splinters_of, splinters, greatest_size, need_of, last_splinter_fits, last_splinter, count_to}
+use Rattle.ac_refutations.specs.Alternatives.{Alternatives, first_equality, has_divisibility, common_modulus, alternatives_for, residues_from, splinters_from, splinters_by, splinters_of, splinters, greatest_size, need_of, last_splinter_fits, last_splinter, count_to}
 use Rattle.ac_exact.specs.Tests.{economical, is_exact, pairs_fit}
 use Rattle.ac_exact.proofs.Implying.{failing-some}
 use Rattle.ac_omega.specs.Columns.{count_for, count_of}
@@ -17,34 +17,34 @@ use Rattle.ac_omega.specs.Cursors.{IsNext, row_splinters}
 use Rattle.ac_omega.proofs.Sides.{greatest-one}
 use Rattle.ac_omega.specs.declared.cursor.Next.{Next}
 use Rattle.ac_omega.proofs.Moduli.{drop-at}
-use Rattle.ac_trails.specs.declared.strategy.Strategy.{Strategy}
-use Rattle.ac_trails.specs.declared.strategy.Strategy.TheVariants.{Full, Economical}
+use Rattle.ac_refutations.specs.declared.strategy.Strategy.{Strategy}
+use Rattle.ac_refutations.specs.declared.strategy.Strategy.TheVariants.{Full, Economical}
 
-pub first-equal : (strategy : Strategy) (z i : ℕ) (rows : List Row) → Some i ≡ first_equality z 0 rows → Some (choice.Equal z i) ∷ [] ≡ tries_for strategy z rows
-unfolding tries_for
+pub first-equal : (strategy : Strategy) (z i : ℕ) (rows : List Row) → Some i ≡ first_equality z 0 rows → Some (choice.Equal z i) ∷ [] ≡ alternatives_for strategy z rows
+unfolding alternatives_for
 first-equal strategy z i rows e = rw (← e) refl
 
 pub first-residues : (strategy : Strategy) (z : ℕ) (rows : List Row) (m : ℤ) → None ≡ first_equality z 0 rows → true ≡ has_divisibility z rows → Fits (pos (common_modulus z 1 rows)) → m ≡ pos (common_modulus z 1 rows)
-    → residues_from (unsigned_abs m - 0) z m 0 ≡ tries_for strategy z rows
-unfolding tries_for
+    → residues_from (unsigned_abs m - 0) z m 0 ≡ alternatives_for strategy z rows
+unfolding alternatives_for
 first-residues strategy z rows m e d f is =
     let s : common_modulus z 1 rows - 0 ≡ common_modulus z 1 rows = omega arith in
     rw (is, ← e, ← d, (fits-is (pos (common_modulus z 1 rows))).1 f, s) refl
 
-pub first-wide : (strategy : Strategy) (z : ℕ) (rows : List Row) → None ≡ first_equality z 0 rows → true ≡ has_divisibility z rows → ¬ (Fits (pos (common_modulus z 1 rows))) → None ∷ [] ≡ tries_for strategy z rows
-unfolding tries_for
+pub first-wide : (strategy : Strategy) (z : ℕ) (rows : List Row) → None ≡ first_equality z 0 rows → true ≡ has_divisibility z rows → ¬ (Fits (pos (common_modulus z 1 rows))) → None ∷ [] ≡ alternatives_for strategy z rows
+unfolding alternatives_for
 first-wide strategy z rows e d f = rw (← e, ← d) (by (fits (pos (common_modulus z 1 rows))) refl)
   where
     by : (t : Bool) → fits (pos (common_modulus z 1 rows)) ≡ t → None ∷ [] ≡ cond t (residues_from (common_modulus z 1 rows) z (pos (common_modulus z 1 rows)) 0) (None ∷ [])
     by true g = absurd (f ((fits-is (pos (common_modulus z 1 rows))).0 g))
     by false g = refl
 
-pub first-drop : (strategy : Strategy) (z : ℕ) (rows : List Row) → None ≡ first_equality z 0 rows → false ≡ has_divisibility z rows → true ≡ is_one_sided z rows → Some (choice.Drop z) ∷ [] ≡ tries_for strategy z rows
-unfolding tries_for
+pub first-drop : (strategy : Strategy) (z : ℕ) (rows : List Row) → None ≡ first_equality z 0 rows → false ≡ has_divisibility z rows → true ≡ is_one_sided z rows → Some (choice.Drop z) ∷ [] ≡ alternatives_for strategy z rows
+unfolding alternatives_for
 first-drop strategy z rows e d o = rw (← e, ← d, ← o) refl
 
-pub first-shadow : (strategy : Strategy) (z : ℕ) (rows : List Row) → None ≡ first_equality z 0 rows → false ≡ has_divisibility z rows → false ≡ is_one_sided z rows → Some (choice.Shadow z) ∷ splinters strategy z rows 0 rows ≡ tries_for strategy z rows
-unfolding tries_for
+pub first-shadow : (strategy : Strategy) (z : ℕ) (rows : List Row) → None ≡ first_equality z 0 rows → false ≡ has_divisibility z rows → false ≡ is_one_sided z rows → Some (choice.Shadow z) ∷ splinters strategy z rows 0 rows ≡ alternatives_for strategy z rows
+unfolding alternatives_for
 first-shadow strategy z rows e d o = rw (← e, ← d, ← o) refl
 
 -- the splinters of a row, by their number
@@ -62,13 +62,13 @@ of-count strategy z i rows (Ge f) = by (is_low z f)
     by false = refl
 
 -- the row at a place has these splinters
-pub lower-at : (strategy : Strategy) (z i : ℕ) (rows : List Row) (r : Row) (o : Option ℕ) (all : Tries) → i < length rows → r ≡ get_or rows i r → all ≡ splinters strategy z rows i (drop i rows) → o ≡ count_of strategy z rows r
+pub lower-at : (strategy : Strategy) (z i : ℕ) (rows : List Row) (r : Row) (o : Option ℕ) (all : Alternatives) → i < length rows → r ≡ get_or rows i r → all ≡ splinters strategy z rows i (drop i rows) → o ≡ count_of strategy z rows r
     → all ≡ row_splinters z i o ++ splinters strategy z rows (suc i) (drop (suc i) rows)
 lower-at strategy z i rows r o all l e is of =
     let d : drop i rows ≡ r ∷ drop (suc i) rows = drop-at rows i r l e ∙ ap (λ j. r ∷ drop j rows) (add-one i) in
     is ∙ ap (splinters strategy z rows i) d ∙ ap (λ xs. xs ++ splinters strategy z rows (suc i) (drop (suc i) rows)) (of-count strategy z i rows r ∙ ap (row_splinters z i) (sym of))
 
-pub next-of : (strategy : Strategy) (z : ℕ) (rows : List Row) (n : Next) (xs ys : Tries) → ys ≡ xs → IsNext strategy z rows n xs → IsNext strategy z rows n ys
+pub next-of : (strategy : Strategy) (z : ℕ) (rows : List Row) (n : Next) (xs ys : Alternatives) → ys ≡ xs → IsNext strategy z rows n xs → IsNext strategy z rows n ys
 next-of strategy z rows n xs ys e h = rw e h
 
 pub none-left : (strategy : Strategy) (z i k count : ℕ) (rows : List Row) → (k < count → ⊥) → splinters_from (count - k) z i k ++ splinters strategy z rows (suc i) (drop (suc i) rows) ≡ splinters strategy z rows (i + 1) (drop (i + 1) rows)
@@ -76,7 +76,7 @@ none-left strategy z i k count rows h =
     let s : count - k ≡ 0 = omega arith in
     rw (s, add-one i) refl
 
-pub lower-past : (strategy : Strategy) (z i n : ℕ) (rows : List Row) (r : Row) (all : Tries) → i < length rows → r ≡ get_or rows i r → all ≡ splinters strategy z rows i (drop i rows) → n ≡ 0 → Some n ≡ count_of strategy z rows r
+pub lower-past : (strategy : Strategy) (z i n : ℕ) (rows : List Row) (r : Row) (all : Alternatives) → i < length rows → r ≡ get_or rows i r → all ≡ splinters strategy z rows i (drop i rows) → n ≡ 0 → Some n ≡ count_of strategy z rows r
     → all ≡ splinters strategy z rows (i + 1) (drop (i + 1) rows)
 lower-past strategy z i n rows r all l e is none of = lower-at strategy z i rows r (Some 0) all l e is (rw none at of) ∙ ap (λ j. splinters strategy z rows j (drop j rows)) (sym (add-one i))
 

@@ -9,9 +9,9 @@ use Rattle.ac_cert.specs.declared.choose.Choice.{Choice}
 use Rattle.ac_cert.specs.declared.choose.Choice.TheVariants as choice
 use Rattle.ac_omega.specs.Maxima.{Maxima, greatest_abs, with_form, with_modulus, with_row, with_rows, with_choice}
 use Rattle.ac_omega.specs.Within.{Bounds, HaveRisen, IsWithin, AreAllWithin}
-use Rattle.ac_trails.specs.Refutations.{IsFormWithin, IsRowWithin, AreModuliWithin, AreModest, IsModest, AreAllModest}
-use Rattle.ac_trails.specs.declared.refutation.Refutation.{Refutation, Row_of-Refutation, end_of-Refutation, more_of-Refutation}
-use Rattle.ac_trails.specs.declared.refutation.Refutation.TheVariants.{Absurd, Open'}
+use Rattle.ac_refutations.specs.Refutations.{IsFormWithin, IsRowWithin, AreModuliWithin, AreWithin2To120, IsWithin2To120, AreAllWithin2To120}
+use Rattle.ac_refutations.specs.declared.refutation.Refutation.{Refutation, Row_of-Refutation, end_of-Refutation, more_of-Refutation}
+use Rattle.ac_refutations.specs.declared.refutation.Refutation.TheVariants.{Absurd, Open'}
 
 -- the maxima only grow
 pub no-less : (s : Maxima) → HaveRisen s s
@@ -137,16 +137,16 @@ choice-met (choice.Shadow z) s = tt
 choice-met (choice.Splinter z i k) s = tt
 
 -- numbers whose product is at most 2^120 are not large
-pub modest : (s : Maxima) (rows : List Row) (hs : List Choice) → s.factor * s.number ≤ 2 ^ 120 → Bounds s rows → AreModuliWithin s.factor hs → AreModest rows hs
+pub modest : (s : Maxima) (rows : List Row) (hs : List Choice) → s.factor * s.number ≤ 2 ^ 120 → Bounds s rows → AreModuliWithin s.factor hs → AreWithin2To120 rows hs
 modest s rows hs l b m = record { factor = s.factor; number = s.number; product = l; rows = b; moduli = m }
 
 mutual
-  unfolding IsWithin IsModest
+  unfolding IsWithin IsWithin2To120
 
-  pub within-modest : (s : Maxima) (r : Refutation) → s.factor * s.number ≤ 2 ^ 120 → IsWithin s r → IsModest r
+  pub within-modest : (s : Maxima) (r : Refutation) → s.factor * s.number ≤ 2 ^ 120 → IsWithin s r → IsWithin2To120 r
   within-modest s (Absurd c) l w = modest s c.rows [] l w tt
   within-modest s (Open' c hs n below) l w = (modest s c.rows hs l w.0 w.1, each-modest s below l w.2)
 
-  each-modest : (s : Maxima) {m : _} (k : Row_of-Refutation m) → s.factor * s.number ≤ 2 ^ 120 → AreAllWithin s k → AreAllModest k
+  each-modest : (s : Maxima) {m : _} (k : Row_of-Refutation m) → s.factor * s.number ≤ 2 ^ 120 → AreAllWithin s k → AreAllWithin2To120 k
   each-modest s end_of-Refutation l w = tt
   each-modest s (more_of-Refutation r rest) l w = (within-modest s r l w.0, each-modest s rest l w.1)

@@ -8,7 +8,7 @@ use Rattle.std.proofs.Math.Nat.{dvd-mul_left, mul-dvd-mul_left, mul-dvd-mul_righ
 use Rattle.ac_integers.specs.Gcd.{gcd_within, gcd}
 use Rattle.ac_integers.proofs.Divisors.{IsGcd-gcd}
 use Rattle.ac_omega.specs.CommonMultiple.{IsLcm}
-use Rattle.ac_trails.specs.Tries.{lcm}
+use Rattle.ac_refutations.specs.Alternatives.{lcm}
 
 rest_scaled : (n a b : ℕ) → (n * b) * (a / b) + n * (a % b) ≡ n * a
 rest_scaled n a b = omega (arith, ap (λ x. n * x) (div-add-mod' a b))

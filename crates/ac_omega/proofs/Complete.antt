@@ -23,19 +23,19 @@ use Rattle.ac_exact.proofs.Covering.{covers-needed}
 use Rattle.ac_exact.proofs.Implying.{economical-suffices, full-suffices}
 use Rattle.ac_cert.proofs.Lifting.{lifts-somewhere}
 use Rattle.ac_omega.specs.Stops.{MadeOf}
-use Rattle.ac_trails.specs.Tries.{Tries, first_equality, has_divisibility, common_modulus, residues_from, residues, splinters_from, count_to, last_splinter_fits, splinters_by, splinters_of, splinters, by_bounds, tries_by, tries_for, all_of, IsAmong}
+use Rattle.ac_refutations.specs.Alternatives.{Alternatives, first_equality, has_divisibility, common_modulus, residues_from, residues, splinters_from, count_to, last_splinter_fits, splinters_by, splinters_of, splinters, by_bounds, alternatives_by, alternatives_for, all_of, IsAmong}
 use Rattle.ac_omega.proofs.Moduli.{common-grows}
 use Rattle.ac_omega.proofs.Legal.{Allowed, all-allowed, among-allowed, equality-found, only-bounds}
-use Rattle.ac_trails.specs.declared.strategy.Strategy.{Strategy}
-use Rattle.ac_trails.specs.declared.strategy.Strategy.TheVariants.{Full, Economical}
+use Rattle.ac_refutations.specs.declared.strategy.Strategy.{Strategy}
+use Rattle.ac_refutations.specs.declared.strategy.Strategy.TheVariants.{Full, Economical}
 
 -- the choice is one of these, up to the first that is none
-IsTried : Choice → Tries → Type 0
+IsTried : Choice → Alternatives → Type 0
 IsTried h [] = ⊥
 IsTried h (None ∷ hs) = Unit {0}
 IsTried h (Some x ∷ hs) = (x ≡ h) ⊎ IsTried h hs
 
-tried-among : (h : Choice) (tries : Tries) (hs : List Choice) → IsTried h tries → all_of tries ≡ Some hs → IsAmong h hs
+tried-among : (h : Choice) (tries : Alternatives) (hs : List Choice) → IsTried h tries → all_of tries ≡ Some hs → IsAmong h hs
 unfolding IsTried
 tried-among h [] hs t e = absurd t
 tried-among h (None ∷ tries) hs t e = absurd cc
@@ -47,13 +47,13 @@ tried-among h (Some x ∷ tries) hs t e = by h x (all_of tries) hs t e (λ rest 
         let is : x ∷ rest ≡ hs = cc in
         subst (IsAmong h) is (elim t [ inl same ↦ inl same | inr later ↦ inr (go rest later refl) ])
 
-tried-first : (h : Choice) (xs ys : Tries) → IsTried h xs → IsTried h (xs ++ ys)
+tried-first : (h : Choice) (xs ys : Alternatives) → IsTried h xs → IsTried h (xs ++ ys)
 unfolding IsTried
 tried-first h [] ys t = absurd t
 tried-first h (None ∷ xs) ys t = tt
 tried-first h (Some x ∷ xs) ys t = elim t [ inl same ↦ inl same | inr later ↦ inr (tried-first h xs ys later) ]
 
-tried-second : (h : Choice) (xs ys : Tries) → IsTried h ys → IsTried h (xs ++ ys)
+tried-second : (h : Choice) (xs ys : Alternatives) → IsTried h ys → IsTried h (xs ++ ys)
 unfolding IsTried
 tried-second h [] ys t = t
 tried-second h (None ∷ xs) ys t = tt
@@ -141,7 +141,7 @@ splinter-tried strategy z i k (suc j) rows f (r ∷ rs) e low h =
     later r d = omega arith
 
 -- one of the choices leaves rows that have a point with the other numbers
-pub HasPoint : ℕ → List Row → List ℤ → Tries → Type 0
+pub HasPoint : ℕ → List Row → List ℤ → Alternatives → Type 0
 HasPoint z rows p tries = (h : Choice) × IsTried h tries × (w : ℤ) × Meets (left_by h rows) (set p z w)
 
 or-false : (a b : Bool) → (a || b) ≡ false → b ≡ false
@@ -178,11 +178,11 @@ residues-cover z rows p v l h m =
     (choice.Residue z (pos (common_modulus z 1 rows)) (pos c.0), residue-tried z (common_modulus z 1 rows) c.0 c.1, c.2, c.3)
 
 -- where there is an integer, one of the choices has a point
-tries-cover : (strategy : Strategy) (z : ℕ) (rows : List Row) (p : List ℤ) (v : ℤ) → z < length p → HaveModuli rows → Meets rows (set p z v) → HasPoint z rows p (tries_for strategy z rows)
-unfolding HasPoint IsTried tries_for
+tries-cover : (strategy : Strategy) (z : ℕ) (rows : List Row) (p : List ℤ) (v : ℤ) → z < length p → HaveModuli rows → Meets rows (set p z v) → HasPoint z rows p (alternatives_for strategy z rows)
+unfolding HasPoint IsTried alternatives_for
 tries-cover strategy z rows p v l h m = by (first_equality z 0 rows) (has_divisibility z rows) refl refl
   where
-    by : (o : Option ℕ) (d : Bool) → first_equality z 0 rows ≡ o → has_divisibility z rows ≡ d → HasPoint z rows p (tries_by strategy o z rows)
+    by : (o : Option ℕ) (d : Bool) → first_equality z 0 rows ≡ o → has_divisibility z rows ≡ d → HasPoint z rows p (alternatives_by strategy o z rows)
     by (Some i) d e is =
         let k = equality-found z 0 i rows e in
         (choice.Equal z i, inl refl, v, covers-equal z i rows p v l (subst (λ (j : ℕ). is_equality_of z (slice_get rows j) ≡ true) (same i k.0 k.1) k.2) m)
@@ -192,13 +192,13 @@ tries-cover strategy z rows p v l h m = by (first_equality z 0 rows) (has_divisi
     by None true e is = rw is (residues-cover z rows p v l h m)
     by None false e is = rw is (bounds-cover strategy z rows p v l (only-bounds z 0 rows e is) m)
 
-pub listed-complete : (strategy : Strategy) (z : ℕ) (c : Conj) (hs : List Choice) → IsWellMade c → z < c.columns → all_of (tries_for strategy z c.rows) ≡ Some hs → (p : List ℤ) → length p ≡ c.columns
+pub listed-complete : (strategy : Strategy) (z : ℕ) (c : Conj) (hs : List Choice) → IsWellMade c → z < c.columns → all_of (alternatives_for strategy z c.rows) ≡ Some hs → (p : List ℤ) → length p ≡ c.columns
     → ((v : ℤ) × Meets c.rows (set p z v)) ↔ ((h : Choice) × IsAmong h hs × (w : ℤ) × Meets (left_by h c.rows) (set p z w))
 unfolding HasPoint
 listed-complete strategy z c hs made within e p l =
     let moduli = moduli_of c.columns c.rows made in (
-      (λ m. let f = tries-cover strategy z c.rows p m.0 (omega (arith, l)) moduli m.1 in (f.0, tried-among f.0 (tries_for strategy z c.rows) hs f.1 e, f.2, f.3)),
-      (λ f. back f.0 f.2 (among-allowed z c.rows (tries_for strategy z c.rows) hs f.0 (all-allowed strategy z c.rows moduli) e f.1) f.3),
+      (λ m. let f = tries-cover strategy z c.rows p m.0 (omega (arith, l)) moduli m.1 in (f.0, tried-among f.0 (alternatives_for strategy z c.rows) hs f.1 e, f.2, f.3)),
+      (λ f. back f.0 f.2 (among-allowed z c.rows (alternatives_for strategy z c.rows) hs f.0 (all-allowed strategy z c.rows moduli) e f.1) f.3),
     )
   where
     back : (h : Choice) (w : ℤ) → Allowed z c.rows h → Meets (left_by h c.rows) (set p z w) → (v : ℤ) × Meets c.rows (set p z v)
@@ -206,7 +206,7 @@ listed-complete strategy z c hs made within e p l =
         subst (λ (x : ℕ). (v : ℤ) × Meets c.rows (set p x v)) a.column
         (lifts-somewhere h c.rows p w a.allowed (rw a.column (omega (arith, l))) (subst (λ (x : ℕ). Meets (left_by h c.rows) (set p x w)) (sym a.column) m))
 
-pub made-complete : (strategy : Strategy) (z : ℕ) (c : Conj) (res : Result (List Choice) FormStop) → IsWellMade c → z < c.columns → MadeOf res (all_of (tries_for strategy z c.rows))
+pub made-complete : (strategy : Strategy) (z : ℕ) (c : Conj) (res : Result (List Choice) FormStop) → IsWellMade c → z < c.columns → MadeOf res (all_of (alternatives_for strategy z c.rows))
     → IfOk res (λ hs. (p : List ℤ) → length p ≡ c.columns → ((v : ℤ) × Meets c.rows (set p z v)) ↔ ((h : Choice) × IsAmong h hs × (w : ℤ) × Meets (left_by h c.rows) (set p z w)))
 made-complete strategy z c (Ok hs) made within e = λ p l. listed-complete strategy z c hs made within e p l
 made-complete strategy z c (Err Wide) made within e = tt

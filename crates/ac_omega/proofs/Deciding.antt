@@ -16,10 +16,10 @@ use Rattle.ac_omega.specs.Searching.{Searches, IsNormal, IsRefuted, columns_to}
 use Rattle.ac_omega.specs.Walk as def
 use Rattle.ac_omega.specs.Within.{Bounds, HaveRisen}
 use Rattle.ac_omega.proofs.Bounding.{rows-met, rows-on}
-use Rattle.ac_trails.specs.Refutations.{IsRefutationOf}
-use Rattle.ac_trails.specs.declared.refutation.Refutation.{Refutation}
+use Rattle.ac_refutations.specs.Refutations.{IsRefutationOf}
+use Rattle.ac_refutations.specs.declared.refutation.Refutation.{Refutation}
 use Rattle.ac_cert.proofs.LeftMade.{conj_made}
-use Rattle.ac_trails.specs.declared.strategy.Strategy.{Strategy}
+use Rattle.ac_refutations.specs.declared.strategy.Strategy.{Strategy}
 
 pub normal-made : (q d : Conj) → IsWellMade q → d ≡ normal_conj q → IsWellMade d
 normal-made q d made e = subst IsWellMade (sym e) (conj_made q made)

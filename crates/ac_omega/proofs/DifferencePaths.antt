@@ -7,20 +7,20 @@ use Rattle.ac_forms.specs.declared.conj.Conj.{Conj}
 use Rattle.ac_cert.specs.Choices.{are_absurd, left_by, lifted}
 use Rattle.ac_cert.specs.ChoiceFits.{after_choice, choice_fits, lift_fits, raw}
 use Rattle.ac_cert.specs.declared.choose.Choice.{Choice}
-use Rattle.ac_trails.specs.Tries.{Tries, tries_for}
+use Rattle.ac_refutations.specs.Alternatives.{Alternatives, alternatives_for}
 use Rattle.ac_omega.specs.Columns.{next_column}
 use Rattle.ac_omega.specs.Elimination.{eliminating, look_at}
 use Rattle.ac_omega.specs.Maxima.{Maxima, with_rows, with_choice}
 use Rattle.ac_omega.proofs.AllColumns.{AreBelow}
-use Rattle.ac_omega.specs.Walk.{Walked, Gone, Spent, Absurd, behind, entered, tries, looked, walk}
+use Rattle.ac_omega.specs.Walk.{Walked, Empty, Spent, Absurd, behind, entered, tries, looked, walk}
 use Rattle.ac_omega.proofs.Rows.{column-rows}
 use Rattle.ac_omega.proofs.DifferenceNormals.{rows-fit}
 use Rattle.ac_omega.proofs.DifferenceChoices.{leave}
 use Rattle.ac_omega.proofs.DifferencePoints.{AreWithin, within-more}
-use Rattle.ac_omega.proofs.DifferenceTries.{OneChoice, one-choice}
+use Rattle.ac_omega.proofs.DifferenceAlternatives.{OneChoice, one-choice}
 use Rattle.ac_omega.proofs.DifferenceNexts.{next-left, leave-less}
 use Rattle.ac_omega.proofs.DifferenceWalks.{level, cost, cost-step, cost-level, squares, grown, grown-least, Standing, normal-standing, AreSmall, rows-small, Comes, zeros-within, zeros-length, behind-comes}
-use Rattle.ac_trails.specs.declared.strategy.Strategy.{Strategy}
+use Rattle.ac_refutations.specs.declared.strategy.Strategy.{Strategy}
 
 -- what is the same all along
 pub record Frame (strategy : Strategy) (top n : ℕ) (cols : List ℕ) : Type 0 where
@@ -47,10 +47,10 @@ going strategy cols f budget d j t = walk (eliminating strategy cols) f budget d
 -- the choices, where there are some
 abbrev OpenComes : Strategy → ℕ → ℕ → ℕ → List ℕ → ℕ → Conj → ℕ → ℕ → Maxima → Type 0
 OpenComes strategy top budget n cols m c fuel k s =
-    (f z : ℕ) → fuel ≡ suc f → next_column strategy cols c.rows ≡ Some z → Comes top budget n m k (tries (eliminating strategy cols) (going strategy cols f budget) c (tries_for strategy z c.rows) (k + length c.rows) (with_rows c.rows s))
+    (f z : ℕ) → fuel ≡ suc f → next_column strategy cols c.rows ≡ Some z → Comes top budget n m k (tries (eliminating strategy cols) (going strategy cols f budget) c (alternatives_for strategy z c.rows) (k + length c.rows) (with_rows c.rows s))
 
 looked-comes : (strategy : Strategy) (top budget n m : ℕ) (cols vars : List ℕ) (b : ℕ) (c : Conj) (f k : ℕ) (s : Maxima) → Frame strategy top n cols → Stage top n m vars b c → AreSmall top s
-    → ((z : ℕ) → next_column strategy cols c.rows ≡ Some z → Comes top budget n m k (tries (eliminating strategy cols) (going strategy cols f budget) c (tries_for strategy z c.rows) (k + length c.rows) (with_rows c.rows s)))
+    → ((z : ℕ) → next_column strategy cols c.rows ≡ Some z → Comes top budget n m k (tries (eliminating strategy cols) (going strategy cols f budget) c (alternatives_for strategy z c.rows) (k + length c.rows) (with_rows c.rows s)))
     → (t : Bool) (o : Option ℕ) → next_column strategy cols c.rows ≡ o → Comes top budget n m k (looked (eliminating strategy cols) (going strategy cols f budget) c (k + length c.rows) (with_rows c.rows s) (cond t Absurd (look_at strategy c o)))
 looked-comes strategy top budget n m cols vars b c f k s frame h small open-case true o e =
     (omega (arith, stage-rows top n m vars b c h, cost-level m), rows-small vars b top c.rows s h.standing.rows (omega (arith, grown-least m b, h.grows)) frame.one small)
@@ -90,7 +90,7 @@ more-times m top b l = omega arith
 -- the one choice and the walk behind it
 choice-comes : (strategy : Strategy) (top budget n m : ℕ) (cols vars : List ℕ) (b : ℕ) (c : Conj) (f z k : ℕ) (s : Maxima) → Frame strategy top n cols → Stage top n (suc m) vars b c → next_column strategy cols c.rows ≡ Some z → (o : OneChoice strategy vars b z c.rows)
     → Comes top budget n m (k + length c.rows) (walk (eliminating strategy cols) f budget (normal_conj (raw o.one c)) (k + length c.rows) s)
-    → Comes top budget n (suc m) k (tries (eliminating strategy cols) (going strategy cols f budget) c (tries_for strategy z c.rows) (k + length c.rows) s)
+    → Comes top budget n (suc m) k (tries (eliminating strategy cols) (going strategy cols f budget) c (alternatives_for strategy z c.rows) (k + length c.rows) s)
 unfolding grown
 choice-comes strategy top budget n m cols vars b c f z k s frame h e o w =
     let double : b + b ≤ top = omega (arith, grown-least m (b + b), h.grows) in
@@ -103,9 +103,9 @@ choice-comes strategy top budget n m cols vars b c f z k s frame h e o w =
     (lifted o.one c.rows q, some-lifted (lift_fits o.one c.rows q) (lifted o.one c.rows q) g.fits, within-more (m * top + b) (suc m * top) (lifted o.one c.rows q) (more-times m top b least) g.within, g.long ∙ l) in
     let sum : k + length c.rows + cost m ≤ k + cost (suc m) = omega (arith, stage-rows top n (suc m) vars b c h, cost-step m) in
     let y = behind-comes top budget n m k (k + length c.rows) _ lift sum back w in
-    let y1 = subst (λ (t : Maxima). Comes top budget n (suc m) k (behind (going strategy cols f budget (normal_conj (raw o.one c)) (k + length c.rows) t) lift (λ i u. Gone i u))) (sym (o.mark s)) y in
-    let y2 = subst (λ (d : Option Conj). Comes top budget n (suc m) k (behind (entered d (λ d. going strategy cols f budget d (k + length c.rows) (with_choice o.one s))) lift (λ i u. Gone i u))) (sym (after-one o.one c o.fits fit)) y1 in
-    subst (λ (hs : Tries). Comes top budget n (suc m) k (tries (eliminating strategy cols) (going strategy cols f budget) c hs (k + length c.rows) s)) (sym o.tries) y2
+    let y1 = subst (λ (t : Maxima). Comes top budget n (suc m) k (behind (going strategy cols f budget (normal_conj (raw o.one c)) (k + length c.rows) t) lift (λ i u. Empty i u))) (sym (o.mark s)) y in
+    let y2 = subst (λ (d : Option Conj). Comes top budget n (suc m) k (behind (entered d (λ d. going strategy cols f budget d (k + length c.rows) (with_choice o.one s))) lift (λ i u. Empty i u))) (sym (after-one o.one c o.fits fit)) y1 in
+    subst (λ (hs : Alternatives). Comes top budget n (suc m) k (tries (eliminating strategy cols) (going strategy cols f budget) c hs (k + length c.rows) s)) (sym o.tries) y2
 
 -- one column fewer
 pub next-stage : (strategy : Strategy) (top n m : ℕ) (cols vars : List ℕ) (b : ℕ) (c : Conj) (z : ℕ) → Stage top n (suc m) vars b c → next_column strategy cols c.rows ≡ Some z → (o : OneChoice strategy vars b z c.rows) → Stage top n m (leave z vars) (b + b) (normal_conj (raw o.one c))

@@ -16,14 +16,14 @@ use Rattle.ac_omega.specs.Elimination.{eliminating}
 use Rattle.ac_omega.specs.Maxima.{Maxima, nothing_met, with_form, with_rows}
 use Rattle.ac_omega.specs.Projection.{is_among}
 use Rattle.ac_omega.specs.Searching.{columns_to}
-use Rattle.ac_omega.specs.Walk.{Walked, Gone, Found, Spent, Wide, entered, walk}
+use Rattle.ac_omega.specs.Walk.{Walked, Empty, Found, Spent, Wide, entered, walk}
 use Rattle.ac_omega.proofs.AllColumns.{all-below}
 use Rattle.ac_omega.proofs.DifferenceRows.{IsOver, IsRaw, Each}
 use Rattle.ac_omega.proofs.DifferenceNormals.{rows-fit}
 use Rattle.ac_omega.proofs.DifferencePoints.{AreWithin, can-evaluate}
 use Rattle.ac_omega.proofs.DifferenceWalks.{cost, grown, grown-least, normal-standing, AreSmall, form-small, Comes}
 use Rattle.ac_omega.proofs.DifferencePaths.{Frame, Stage, times-room, walk-comes}
-use Rattle.ac_trails.specs.declared.strategy.Strategy.{Strategy}
+use Rattle.ac_refutations.specs.declared.strategy.Strategy.{Strategy}
 
 -- the columns below n
 pub below : ℕ → List ℕ
@@ -138,9 +138,9 @@ never-spent strategy budget q k made l d m e =
     let n : cost q.columns ≤ budget = subst (λ (x : ℕ). x ≤ budget) (cube-is q.columns) m in
     omega arith
 
-pub gone-cost : (strategy : Strategy) (budget : ℕ) (q : Conj) (k : ℕ) (s : Maxima) → IsWellMade q → q.columns ≤ 60 → AreDifferences (2 ^ 48) q.rows → walk_of strategy budget q ≡ Gone k s → k ≤ 2 * (q.columns + 1) ^ 3
+pub gone-cost : (strategy : Strategy) (budget : ℕ) (q : Conj) (k : ℕ) (s : Maxima) → IsWellMade q → q.columns ≤ 60 → AreDifferences (2 ^ 48) q.rows → walk_of strategy budget q ≡ Empty k s → k ≤ 2 * (q.columns + 1) ^ 3
 gone-cost strategy budget q k s made l d e =
-    let c : k ≤ 0 + cost q.columns = (comes-as strategy budget q (Gone k s) made l d e).0 in
+    let c : k ≤ 0 + cost q.columns = (comes-as strategy budget q (Empty k s) made l d e).0 in
     subst (λ (x : ℕ). k ≤ x) (sym (cube-is q.columns)) (omega arith)
 
 few-times : (a b n : ℕ) → a ≤ 1 → b ≤ n → a * b ≤ n
@@ -148,9 +148,9 @@ few-times zero b n h g = omega arith
 few-times (suc zero) b n h g = omega arith
 few-times (suc (suc a)) b n h g = absurd (omega arith)
 
-pub never-large : (strategy : Strategy) (budget : ℕ) (q : Conj) (k : ℕ) (s : Maxima) → IsWellMade q → q.columns ≤ 60 → AreDifferences (2 ^ 48) q.rows → walk_of strategy budget q ≡ Gone k s → s.factor * s.number ≤ 2 ^ 120
+pub never-large : (strategy : Strategy) (budget : ℕ) (q : Conj) (k : ℕ) (s : Maxima) → IsWellMade q → q.columns ≤ 60 → AreDifferences (2 ^ 48) q.rows → walk_of strategy budget q ≡ Empty k s → s.factor * s.number ≤ 2 ^ 120
 never-large strategy budget q k s made l d e =
-    let a = (comes-as strategy budget q (Gone k s) made l d e).1 in
+    let a = (comes-as strategy budget q (Empty k s) made l d e).1 in
     few-times s.factor s.number (2 ^ 120) a.factor (omega (arith, a.number))
 
 pub point-tests : (strategy : Strategy) (budget : ℕ) (q : Conj) (p : List ℤ) → IsWellMade q → q.columns ≤ 60 → AreDifferences (2 ^ 48) q.rows → walk_of strategy budget q ≡ Found p → CanTest q.rows p

@@ -8,7 +8,8 @@ use Rattle.ac_forms.specs.Rows.{form_of}
 use Rattle.ac_forms.specs.declared.row.Row.{Row}
 use Rattle.ac_forms.specs.declared.row.Row.TheVariants.{Eq, Div, Ge}
 use Rattle.ac_cert.specs.declared.column.Bound.{Bound}
-use Rattle.ac_cert.specs.Bounds.{has_column, without, is_low, is_high, low_bound, high_bound, lows, highs, frees}
+use Rattle.ac_cert.specs.Bounds.{without, is_low, is_high, low_bound, high_bound, lows, highs, rows_without}
+use Rattle.ac_forms.specs.Columns.{has_column}
 use Rattle.ac_cert.specs.Choices.{shadow_form, shadows_with, shadows}
 use Rattle.ac_cert.proofs.OneColumn.{coef-combined, has-not, coef-without}
 use Rattle.ac_omega.proofs.DifferenceForms.{IsUnit, unit-at}
@@ -21,11 +22,11 @@ free-row vars b z (Eq f) h e = free-over vars b z f f h.0 (λ j. refl) refl e
 free-row vars b z (Div m f) h e = absurd h
 free-row vars b z (Ge f) h e = free-over vars b z f f h.0 (λ j. refl) refl e
 
-pub each-free : (vars : List ℕ) (b z : ℕ) (rs : List Row) → Each (IsRow vars b) rs → Each (IsRaw (leave z vars) (b + b)) (frees z rs)
+pub each-free : (vars : List ℕ) (b z : ℕ) (rs : List Row) → Each (IsRow vars b) rs → Each (IsRaw (leave z vars) (b + b)) (rows_without z rs)
 each-free vars b z [] h = tt
 each-free vars b z (r ∷ rs) h = by (has_column z r) (has-not z r) (each-free vars b z rs h.1)
   where
-    by : (t : Bool) → (not t ≡ true → coef z (form_of r) ≡ pos 0) → Each (IsRaw (leave z vars) (b + b)) (frees z rs) → Each (IsRaw (leave z vars) (b + b)) (cond t (frees z rs) (r ∷ frees z rs))
+    by : (t : Bool) → (not t ≡ true → coef z (form_of r) ≡ pos 0) → Each (IsRaw (leave z vars) (b + b)) (rows_without z rs) → Each (IsRaw (leave z vars) (b + b)) (cond t (rows_without z rs) (r ∷ rows_without z rs))
     by true e f = f
     by false e f = (free-row vars b z r h.0 (e refl), f)
 

@@ -11,7 +11,7 @@ use Rattle.ac_omega.specs.Answers.{HandsBack}
 use Rattle.ac_omega.specs.Decisions.{Decides, Settles, IsWide, IsSpent, IsLarge, walk_of}
 use Rattle.ac_omega.specs.Differences.{AreDifferences, StopsBelow}
 use Rattle.ac_omega.proofs.DifferenceQuestions.{never-wide, never-spent, never-large, point-tests}
-use Rattle.ac_trails.specs.declared.strategy.Strategy.{Strategy}
+use Rattle.ac_refutations.specs.declared.strategy.Strategy.{Strategy}
 
 below-or-not : (a b : ℕ) → (a < b) ⊎ (b ≤ a)
 below-or-not a b = grind arith

@@ -12,7 +12,7 @@ use Rattle.ac_forms.specs.declared.row.Row.TheVariants.{Eq, Div, Ge}
 use Rattle.ac_cert.specs.Choices.{are_absurd, left_by}
 use Rattle.ac_cert.specs.ChoiceFits.{after_choice, raw}
 use Rattle.ac_cert.specs.declared.choose.Choice.{Choice}
-use Rattle.ac_trails.specs.Tries.{Tries, tries_for}
+use Rattle.ac_refutations.specs.Alternatives.{Alternatives, alternatives_for}
 use Rattle.ac_omega.specs.declared.pieces.Stop.{Stop}
 use Rattle.ac_omega.specs.declared.pieces.Stop.TheVariants as stop
 use Rattle.ac_omega.specs.declared.piece.Piece.{Piece}
@@ -21,19 +21,19 @@ use Rattle.ac_omega.specs.Columns.{next_column}
 use Rattle.ac_omega.specs.Differences.{AreDifferences, AreAllDifferences, StopsBelow}
 use Rattle.ac_omega.specs.Elimination.{eliminating, elimination, look_at, pieces_of}
 use Rattle.ac_omega.specs.Projection.{is_among}
-use Rattle.ac_omega.specs.Sweep.{Swept, Pieces, Spent, Wide, onward, into, sweeps, swept, sweep}
+use Rattle.ac_omega.specs.Sweep.{Projected, Pieces, Spent, Wide, onward, into, sweeps, swept, sweep}
 use Rattle.ac_omega.specs.Walk.{Absurd}
 use Rattle.ac_omega.proofs.Nexts.{next-among}
 use Rattle.ac_omega.proofs.Rows.{column-rows}
 use Rattle.ac_omega.proofs.DifferenceRows.{IsRow, IsRaw, Each}
 use Rattle.ac_omega.proofs.DifferenceNormals.{rows-fit}
 use Rattle.ac_omega.proofs.DifferenceChoices.{leave, leave-within}
-use Rattle.ac_omega.proofs.DifferenceTries.{OneChoice, one-choice}
+use Rattle.ac_omega.proofs.DifferenceAlternatives.{OneChoice, one-choice}
 use Rattle.ac_omega.proofs.DifferenceNexts.{next-left, leave-less}
 use Rattle.ac_omega.proofs.DifferenceWalks.{cost, cost-step, cost-level, grown, grown-least, normal-standing}
 use Rattle.ac_omega.proofs.DifferencePaths.{Stage, stage-rows, after-one, next-stage, none-left, double-fits}
 use Rattle.ac_omega.proofs.DifferenceQuestions.{below, length-below, question-raw, grown-upto, grown-sixty, cube-is}
-use Rattle.ac_trails.specs.declared.strategy.Strategy.{Strategy}
+use Rattle.ac_refutations.specs.declared.strategy.Strategy.{Strategy}
 
 or-first : (a b : Bool) → a ≡ true → (a || b) ≡ true
 or-first true b e = refl
@@ -77,12 +77,12 @@ asked-less : (z : ℕ) (cols vars asked : List ℕ) → AreAsked cols vars asked
 asked-less z cols vars asked a = record { each = λ y c l. let r = left-of z y vars l in stays-in z y asked r.0 (a.each y c r.1) }
 
 -- what the walk comes to, from a cost on, where m columns are left
-abbrev ComesTo : ℕ → ℕ → ℕ → ℕ → Swept Conj Choice → Type 0
+abbrev ComesTo : ℕ → ℕ → ℕ → ℕ → Projected Conj Choice → Type 0
 ComesTo budget m k most (Pieces zs j) = (j ≤ k + cost m) × AllByRecursion (λ x. AreDifferences most x.1.rows) zs
 ComesTo budget m k most (Spent j) = budget < k + cost m
 ComesTo budget m k most Wide = ⊥
 
-comes-back : (budget m k i most : ℕ) (w : Swept Conj Choice) → i + cost m ≤ k + cost (suc m) → ComesTo budget m i most w → ComesTo budget (suc m) k most w
+comes-back : (budget m k i most : ℕ) (w : Projected Conj Choice) → i + cost m ≤ k + cost (suc m) → ComesTo budget m i most w → ComesTo budget (suc m) k most w
 comes-back budget m k i most (Pieces zs j) l h = (omega (arith, h.0), h.1)
 comes-back budget m k i most (Spent j) l h = omega arith
 comes-back budget m k i most Wide l h = h
@@ -93,22 +93,22 @@ are-differences vars b most (Eq f ∷ rs) h l = ((h.0.0.difference, omega (arith
 are-differences vars b most (Div m f ∷ rs) h l = absurd h.0
 are-differences vars b most (Ge f ∷ rs) h l = ((h.0.0.difference, omega (arith, h.0.0.small)), are-differences vars b most rs h.1 l)
 
-abbrev going : Strategy → List ℕ → ℕ → ℕ → List Choice → Conj → ℕ → Swept Conj Choice
+abbrev going : Strategy → List ℕ → ℕ → ℕ → List Choice → Conj → ℕ → Projected Conj Choice
 going strategy cols f budget q d j = sweep (eliminating strategy cols) f budget q d j
 
 -- the choices, where there are some
 abbrev OpenComes : Strategy → ℕ → List ℕ → ℕ → ℕ → List Choice → Conj → ℕ → ℕ → Type 0
 OpenComes strategy budget cols m most path c fuel k =
-    (f z : ℕ) → fuel ≡ suc f → next_column strategy cols c.rows ≡ Some z → ComesTo budget m k most (sweeps (eliminating strategy cols) (going strategy cols f budget) path c (tries_for strategy z c.rows) (k + length c.rows))
+    (f z : ℕ) → fuel ≡ suc f → next_column strategy cols c.rows ≡ Some z → ComesTo budget m k most (sweeps (eliminating strategy cols) (going strategy cols f budget) path c (alternatives_for strategy z c.rows) (k + length c.rows))
 
 swept-comes : (strategy : Strategy) (top budget n m : ℕ) (cols vars : List ℕ) (b most : ℕ) (path : List Choice) (c : Conj) (f k : ℕ) → Stage top n m vars b c → b ≤ most
-    → ((z : ℕ) → next_column strategy cols c.rows ≡ Some z → ComesTo budget m k most (sweeps (eliminating strategy cols) (going strategy cols f budget) path c (tries_for strategy z c.rows) (k + length c.rows)))
+    → ((z : ℕ) → next_column strategy cols c.rows ≡ Some z → ComesTo budget m k most (sweeps (eliminating strategy cols) (going strategy cols f budget) path c (alternatives_for strategy z c.rows) (k + length c.rows)))
     → (t : Bool) (o : Option ℕ) → next_column strategy cols c.rows ≡ o → ComesTo budget m k most (swept (eliminating strategy cols) (going strategy cols f budget) path c (k + length c.rows) (cond t Absurd (look_at strategy c o)))
 swept-comes strategy top budget n m cols vars b most path c f k h l open-case true o e = (omega (arith, stage-rows top n m vars b c h, cost-level m), tt)
 swept-comes strategy top budget n m cols vars b most path c f k h l open-case false None e = (omega (arith, stage-rows top n m vars b c h, cost-level m), (are-differences vars b most c.rows h.standing.rows l, tt))
 swept-comes strategy top budget n m cols vars b most path c f k h l open-case false (Some z) e = open-case z e
 
-within-comes : (budget m k j most : ℕ) (t : Bool) (w : Swept Conj Choice) → nat_lt budget j ≡ t → j ≤ k + cost m → ComesTo budget m k most w → ComesTo budget m k most (cond t (Spent j) w)
+within-comes : (budget m k j most : ℕ) (t : Bool) (w : Projected Conj Choice) → nat_lt budget j ≡ t → j ≤ k + cost m → ComesTo budget m k most w → ComesTo budget m k most (cond t (Spent j) w)
 within-comes budget m k j most true w e l h = omega (arith, ltb-true budget j e)
 within-comes budget m k j most false w e l h = h
 
@@ -121,12 +121,12 @@ sweep-stage strategy top budget n m cols vars b most path c (suc f) k h l e open
     (swept-comes strategy top budget n m cols vars b most path c f k h l (λ z i. open-case f z refl i) (are_absurd c.rows) (next_column strategy cols c.rows) refl)
 
 -- the one choice
-onward-end : (w : Swept Conj Choice) → onward w (λ j. Pieces [] j) ≡ w
+onward-end : (w : Projected Conj Choice) → onward w (λ j. Pieces [] j) ≡ w
 onward-end (Pieces xs k) = ap (λ ys. Pieces ys k) (append-nil xs)
 onward-end (Spent k) = refl
 onward-end Wide = refl
 
-one-swept : (strategy : Strategy) (cols : List ℕ) (go : List Choice → Conj → ℕ → Swept Conj Choice) (path : List Choice) (c d : Conj) (h : Choice) (k : ℕ) → after_choice h c ≡ Some d → sweeps (eliminating strategy cols) go path c (Some h ∷ []) k ≡ go (path ++ h ∷ []) d k
+one-swept : (strategy : Strategy) (cols : List ℕ) (go : List Choice → Conj → ℕ → Projected Conj Choice) (path : List Choice) (c d : Conj) (h : Choice) (k : ℕ) → after_choice h c ≡ Some d → sweeps (eliminating strategy cols) go path c (Some h ∷ []) k ≡ go (path ++ h ∷ []) d k
 one-swept strategy cols go path c d h k e = onward-end _ ∙ ap (λ (o : Option Conj). into o (λ x. go (path ++ h ∷ []) x k)) e
 
 asked-grown : (z b most : ℕ) (asked : List ℕ) → is_among z asked ≡ true → grown (length asked) b ≤ most → grown (length (leave z asked)) (b + b) ≤ most
@@ -137,14 +137,14 @@ asked-grown z b most asked a l =
 
 choice-comes : (strategy : Strategy) (top budget n m : ℕ) (cols vars : List ℕ) (b most : ℕ) (path : List Choice) (c : Conj) (f z k : ℕ) → 121 * top < 2 ^ 127 → Stage top n (suc m) vars b c → (o : OneChoice strategy vars b z c.rows)
     → ComesTo budget m (k + length c.rows) most (sweep (eliminating strategy cols) f budget (path ++ o.one ∷ []) (normal_conj (raw o.one c)) (k + length c.rows))
-    → ComesTo budget (suc m) k most (sweeps (eliminating strategy cols) (going strategy cols f budget) path c (tries_for strategy z c.rows) (k + length c.rows))
+    → ComesTo budget (suc m) k most (sweeps (eliminating strategy cols) (going strategy cols f budget) path c (alternatives_for strategy z c.rows) (k + length c.rows))
 choice-comes strategy top budget n m cols vars b most path c f z k room h o w =
     let fit = rows-fit (leave z vars) (b + b) (left_by o.one c.rows) (double-fits top n m vars b c h room) o.left in
     let sum : k + length c.rows + cost m ≤ k + cost (suc m) = omega (arith, stage-rows top n (suc m) vars b c h, cost-step m) in
     let y = comes-back budget m k (k + length c.rows) most _ sum w in
     let one = one-swept strategy cols (going strategy cols f budget) path c (normal_conj (raw o.one c)) o.one (k + length c.rows) (after-one o.one c o.fits fit) in
-    let y1 = subst (λ (v : Swept Conj Choice). ComesTo budget (suc m) k most v) (sym one) y in
-    subst (λ (hs : Tries). ComesTo budget (suc m) k most (sweeps (eliminating strategy cols) (going strategy cols f budget) path c hs (k + length c.rows))) (sym o.tries) y1
+    let y1 = subst (λ (v : Projected Conj Choice). ComesTo budget (suc m) k most v) (sym one) y in
+    subst (λ (hs : Alternatives). ComesTo budget (suc m) k most (sweeps (eliminating strategy cols) (going strategy cols f budget) path c hs (k + length c.rows))) (sym o.tries) y1
 
 sweep-comes : (strategy : Strategy) (top budget n m : ℕ) (cols vars asked : List ℕ) (b most : ℕ) (path : List Choice) (c : Conj) (fuel k : ℕ) → 121 * top < 2 ^ 127 → Stage top n m vars b c → AreAsked cols vars asked → grown (length asked) b ≤ most → budget < fuel + k
     → ComesTo budget m k most (sweep (eliminating strategy cols) fuel budget path c k)
@@ -204,8 +204,8 @@ question-swept strategy budget q vars b made l one most d = by (rows_fit q.rows)
         (let p = grown-power (length vars) b in omega (arith, p)) (omega arith)
     by false e = absurd cc
 
-swept-as : (strategy : Strategy) (budget : ℕ) (q : Conj) (vars : List ℕ) (b : ℕ) (w : Swept Conj Choice) → IsWellMade q → q.columns ≤ 60 → 1 ≤ b → b ≤ 2 ^ 48 → AreDifferences b q.rows → pieces_of strategy vars budget q ≡ w → ComesTo budget q.columns 0 (2 ^ length vars * b) w
-swept-as strategy budget q vars b w made l one most d e = subst (λ (v : Swept Conj Choice). ComesTo budget q.columns 0 (2 ^ length vars * b) v) e (question-swept strategy budget q vars b made l one most d)
+swept-as : (strategy : Strategy) (budget : ℕ) (q : Conj) (vars : List ℕ) (b : ℕ) (w : Projected Conj Choice) → IsWellMade q → q.columns ≤ 60 → 1 ≤ b → b ≤ 2 ^ 48 → AreDifferences b q.rows → pieces_of strategy vars budget q ≡ w → ComesTo budget q.columns 0 (2 ^ length vars * b) w
+swept-as strategy budget q vars b w made l one most d e = subst (λ (v : Projected Conj Choice). ComesTo budget q.columns 0 (2 ^ length vars * b) v) e (question-swept strategy budget q vars b made l one most d)
 
 pub differences-eliminate : (strategy : Strategy) (result : Result (List Piece) Stop) (q : Conj) (vars : List ℕ) (budget : ℕ) → IsWellMade q → Eliminates result q (pieces_of strategy vars budget q) → q.columns ≤ 60 → AreDifferences (2 ^ 48) q.rows → IfErr result (StopsBelow q.columns budget)
 differences-eliminate strategy (Ok ps) q vars budget made h l d = tt

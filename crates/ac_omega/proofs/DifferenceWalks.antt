@@ -7,7 +7,7 @@ use Rattle.ac_forms.specs.declared.conj.Conj.{Conj}
 use Rattle.ac_forms.specs.declared.row.Row.{Row}
 use Rattle.ac_forms.specs.declared.row.Row.TheVariants.{Eq, Div, Ge}
 use Rattle.ac_omega.specs.Maxima.{Maxima, greatest_abs, with_form, with_rows}
-use Rattle.ac_omega.specs.Walk.{Walked, Gone, Found, Spent, Wide, behind}
+use Rattle.ac_omega.specs.Walk.{Walked, Empty, Found, Spent, Wide, behind}
 use Rattle.ac_omega.proofs.DifferenceRows.{IsOver, IsRow, IsRaw, Each, AreUnits, form-units}
 use Rattle.ac_omega.proofs.DifferenceNormals.{normal-each}
 use Rattle.ac_omega.proofs.DifferenceLabels.{normal-few}
@@ -87,7 +87,7 @@ rows-small vars b top (Ge f ∷ rs) s h l m a = rows-small vars b top rs (with_f
 
 -- what the walk comes to, from a cost on, where m columns are left of n
 abbrev pub Comes : ℕ → ℕ → ℕ → ℕ → ℕ → Walked Maxima → Type 0
-Comes top budget n m k (Gone j s) = (j ≤ k + cost m) × AreSmall top s
+Comes top budget n m k (Empty j s) = (j ≤ k + cost m) × AreSmall top s
 Comes top budget n m k (Found p) = AreWithin (m * top) p × (length p ≡ n)
 Comes top budget n m k (Spent j) = budget < k + cost m
 Comes top budget n m k Wide = ⊥
@@ -103,8 +103,8 @@ zeros-length (suc n) = ap suc (zeros-length n)
 -- behind the one choice
 pub behind-comes : (top budget n m k j : ℕ) (w : Walked Maxima) (lift : List ℤ → Option (List ℤ)) → j + cost m ≤ k + cost (suc m)
     → ((q : List ℤ) → AreWithin (m * top) q → length q ≡ n → (p : List ℤ) × (lift q ≡ Some p) × AreWithin (suc m * top) p × (length p ≡ n))
-    → Comes top budget n m j w → Comes top budget n (suc m) k (behind w lift (λ i s. Gone i s))
-behind-comes top budget n m k j (Gone i s) lift l h g = (omega (arith, g.0), g.1)
+    → Comes top budget n m j w → Comes top budget n (suc m) k (behind w lift (λ i s. Empty i s))
+behind-comes top budget n m k j (Empty i s) lift l h g = (omega (arith, g.0), g.1)
 behind-comes top budget n m k j (Found q) lift l h g = let p = h q g.0 g.1 in rw (p.1) (p.2, p.3)
 behind-comes top budget n m k j (Spent i) lift l h g = omega arith
 behind-comes top budget n m k j Wide lift l h g = g

@@ -16,15 +16,16 @@ use Rattle.ac_omega.specs.declared.pieces.Stop.{Stop}
 use Rattle.ac_omega.specs.declared.pieces.Stop.TheVariants as stop
 use Rattle.ac_omega.specs.Answers.{parts, HandsBack, Eliminates}
 use Rattle.ac_omega.specs.Elimination.{elimination, pieces_of}
-use Rattle.ac_omega.specs.Projection.{HoldsFor, SomeHolds, AllGone}
+use Rattle.ac_omega.specs.Projection.{HoldsFor, AllEmpty, MeetsRest}
+use Rattle.ac_forms.specs.Pieces.{IsInSome}
 use Rattle.ac_omega.specs.Sweep as def
 use Rattle.ac_omega.specs.Visits.{seen, visiting, Visits}
 use Rattle.ac_omega.specs.Walk.{walk}
-use Rattle.ac_omega.proofs.Gones.{all-gone}
+use Rattle.ac_omega.proofs.Empties.{all-gone}
 use Rattle.ac_omega.proofs.Projecting.{pieces-project}
 use Rattle.ac_omega.proofs.Sweeps.{sweep-done}
 use Rattle.ac_omega.proofs.Visiting.{SweepsTo, swept-to}
-use Rattle.ac_trails.specs.declared.strategy.Strategy.{Strategy}
+use Rattle.ac_refutations.specs.declared.strategy.Strategy.{Strategy}
 
 -- the walk from the normal form
 pieces-from : (strategy : Strategy) (vars : List ℕ) (b : ℕ) (c : Conj) → RowsFit c.rows → pieces_of strategy vars b c ≡ def.sweep (elimination strategy vars) (b + 1) b [] (normal_conj c) 0
@@ -33,13 +34,13 @@ pieces-from strategy vars b c f = rw (rows_fit_true c.rows f) refl
 pub pieces-wide : (strategy : Strategy) (vars : List ℕ) (b : ℕ) (c : Conj) → (RowsFit c.rows → ⊥) → pieces_of strategy vars b c ≡ def.Wide
 pieces-wide strategy vars b c f = rw (rows_fit_false c.rows f) refl
 
-pub wide-back : (s : Stop) (c : Conj) (w : def.Swept Conj Choice) → HandsBack s halt.Wide c → w ≡ def.Wide → Eliminates (Err s) c w
+pub wide-back : (s : Stop) (c : Conj) (w : def.Projected Conj Choice) → HandsBack s halt.Wide c → w ≡ def.Wide → Eliminates (Err s) c w
 wide-back (stop.Overflow d) c w h e = (e, h.1)
 wide-back (stop.Spent d k) c w h e = let f = h.0 in absurd cc
 wide-back (stop.Memory x) c w h e = tt
 
 -- the walk from the normal form, by its answer
-stopped : (s : Stop) (h : Halt) (c : Conj) (ps : List Piece) (w : def.Swept Conj Choice) → HandsBack s h c → SweepsTo (Err h) ps w → Eliminates (Err s) c w
+stopped : (s : Stop) (h : Halt) (c : Conj) (ps : List Piece) (w : def.Projected Conj Choice) → HandsBack s h c → SweepsTo (Err h) ps w → Eliminates (Err s) c w
 stopped (stop.Overflow d) halt.Wide c ps w b e = (e, b.1)
 stopped (stop.Overflow d) (halt.Spent k) c ps w b e = let f = b.0 in absurd cc
 stopped (stop.Overflow d) (halt.Memory x) c ps w b e = let f = b.0 in absurd cc
@@ -56,13 +57,13 @@ from-normal strategy r ps vars b c d s path old f e p o h = swept-to strategy r 
 pub first-back : (strategy : Strategy) (s : Stop) (h : Halt) (ps : List Piece) (vars : List ℕ) (b : ℕ) (c d : Conj) (m : Maxima) (path : List Choice) (old : List Piece) → RowsFit c.rows → d ≡ normal_conj c → path ≡ [] → old ≡ []
     → ((n : ℕ) → b < n + 0 → Visits (Err h) ps (walk (visiting strategy ForPieces vars) n b (path, d) 0 (seen m old))) → HandsBack s h c → Eliminates (Err s) c (pieces_of strategy vars b c)
 first-back strategy s h ps vars b c d m path old f e p o w back =
-    subst (λ (v : def.Swept Conj Choice). Eliminates (Err s) c v) (sym (pieces-from strategy vars b c f)) (stopped s h c ps _ back (from-normal strategy (Err h) ps vars b c d m path old f e p o w))
+    subst (λ (v : def.Projected Conj Choice). Eliminates (Err s) c v) (sym (pieces-from strategy vars b c f)) (stopped s h c ps _ back (from-normal strategy (Err h) ps vars b c d m path old f e p o w))
 
 -- all that is said of the pieces
 pub record Answered (strategy : Strategy) (vars : List ℕ) (b : ℕ) (c : Conj) (ps : List Piece) : Type 0 where
   pub exact : Eliminates (Ok ps) c (pieces_of strategy vars b c)
-  pub gone : AllGone vars ps
-  pub projection : (p : List ℤ) → length p ≡ c.columns → (HoldsFor vars c.rows p → SomeHolds ps p) × (SomeHolds ps p → HoldsFor vars c.rows p)
+  pub gone : AllEmpty vars ps
+  pub projection : (p : List ℤ) → length p ≡ c.columns → (HoldsFor vars c.rows p → IsInSome MeetsRest ps p) × (IsInSome MeetsRest ps p → HoldsFor vars c.rows p)
 
 answered : (strategy : Strategy) (k : ℕ) (ps : List Piece) (vars : List ℕ) (b : ℕ) (c : Conj) → IsWellMade c → RowsFit c.rows → def.sweep (elimination strategy vars) (b + 1) b [] (normal_conj c) 0 ≡ def.Pieces (parts ps) k → Answered strategy vars b c ps
 answered strategy k ps vars b c made f is = record {
@@ -73,7 +74,7 @@ answered strategy k ps vars b c made f is = record {
 
 pub first-answer : (strategy : Strategy) (r : Walked) (ps : List Piece) (vars : List ℕ) (b : ℕ) (c d : Conj) (m : Maxima) (path : List Choice) (old : List Piece) → IsWellMade c → RowsFit c.rows → d ≡ normal_conj c → path ≡ [] → old ≡ []
     → ((n : ℕ) → b < n + 0 → Visits (Ok r) ps (walk (visiting strategy ForPieces vars) n b (path, d) 0 (seen m old))) → Answered strategy vars b c ps
-first-answer strategy (done.Gone k s r) ps vars b c d m path old made f e p o w = answered strategy k ps vars b c made f (from-normal strategy (Ok (done.Gone k s r)) ps vars b c d m path old f e p o w)
+first-answer strategy (done.Empty k s r) ps vars b c d m path old made f e p o w = answered strategy k ps vars b c made f (from-normal strategy (Ok (done.Empty k s r)) ps vars b c d m path old f e p o w)
 first-answer strategy (done.Found q) ps vars b c d m path old made f e p o w = absurd (from-normal strategy (Ok (done.Found q)) ps vars b c d m path old f e p o w)
 
 pub normal-made : (c d : Conj) → IsWellMade c → d ≡ normal_conj c → IsWellMade d

@@ -13,20 +13,20 @@ use Rattle.ac_omega.specs.Searching.{columns_to}
 use Rattle.ac_omega.specs.Walk as def
 use Rattle.ac_cert.proofs.LeftMade.{conj_made}
 use Rattle.ac_omega.proofs.Projecting.{gone-empty}
-use Rattle.ac_trails.specs.declared.strategy.Strategy.{Strategy}
+use Rattle.ac_refutations.specs.declared.strategy.Strategy.{Strategy}
 
 same-method : (strategy : Strategy) (vars : List ℕ) → eliminating strategy vars ≡ elimination strategy vars
 unfolding elimination
 same-method strategy vars = refl
 
 from-normal : (strategy : Strategy) (t : Bool) (b : ℕ) (q : Conj) (k : ℕ) (s : Maxima)
-    → def.entered (cond t (Some (normal_conj q)) None) (λ c. def.walk (eliminating strategy (columns_to c.columns)) (b + 1) b c 0 (with_rows q.rows nothing_met)) ≡ def.Gone k s
-    → def.walk (eliminating strategy (columns_to q.columns)) (b + 1) b (normal_conj q) 0 (with_rows q.rows nothing_met) ≡ def.Gone k s
+    → def.entered (cond t (Some (normal_conj q)) None) (λ c. def.walk (eliminating strategy (columns_to c.columns)) (b + 1) b c 0 (with_rows q.rows nothing_met)) ≡ def.Empty k s
+    → def.walk (eliminating strategy (columns_to q.columns)) (b + 1) b (normal_conj q) 0 (with_rows q.rows nothing_met) ≡ def.Empty k s
 from-normal strategy true b q k s e = e
 from-normal strategy false b q k s e = absurd cc
 
-pub gone-none : (strategy : Strategy) (b : ℕ) (q : Conj) (k : ℕ) (s : Maxima) → IsWellMade q → walk_of strategy b q ≡ def.Gone k s → (p : List ℤ) → IsPoint q p → ⊥
+pub gone-none : (strategy : Strategy) (b : ℕ) (q : Conj) (k : ℕ) (s : Maxima) → IsWellMade q → walk_of strategy b q ≡ def.Empty k s → (p : List ℤ) → IsPoint q p → ⊥
 gone-none strategy b q k s made e p at =
     let vars = columns_to q.columns in
-    let w = subst (λ m. def.walk m (b + 1) b (normal_conj q) 0 (with_rows q.rows nothing_met) ≡ def.Gone k s) (same-method strategy vars) (from-normal strategy (rows_fit q.rows) b q k s e) in
+    let w = subst (λ m. def.walk m (b + 1) b (normal_conj q) 0 (with_rows q.rows nothing_met) ≡ def.Empty k s) (same-method strategy vars) (from-normal strategy (rows_fit q.rows) b q k s e) in
     gone-empty strategy vars b (normal_conj q) 0 (conj_made q made) (b + 1) k (with_rows q.rows nothing_met) s w p at.long ((form_keeps q.columns q.rows p made).1 at.meets)

@@ -2,9 +2,9 @@
 use Rattle.std.proofs.Common.{◌≡◌, List, [], ◌∷◌, ◌++◌, append_assoc, Option, Some, None, refl, ap, ◌∙◌}
 use Rattle.std.specs.Prelude.{option_map}
 use Rattle.ac_cert.specs.declared.choose.Choice.{Choice}
-use Rattle.ac_trails.specs.Tries.{Tries, all_of, gathered}
+use Rattle.ac_refutations.specs.Alternatives.{Alternatives, all_of, gathered}
 
-pub gathered-all : (made : List Choice) (hs : Tries) → gathered made hs ≡ option_map (λ rest. made ++ rest) (all_of hs)
+pub gathered-all : (made : List Choice) (hs : Alternatives) → gathered made hs ≡ option_map (λ rest. made ++ rest) (all_of hs)
 gathered-all made [] = rw (append-nil made) refl
   where
     append-nil : (xs : List Choice) → xs ++ [] ≡ xs
@@ -18,7 +18,7 @@ gathered-all made (Some h ∷ hs) = gathered-all (made ++ h ∷ []) hs ∙ by ma
     by made h (Some rest) = rw (append_assoc made (h ∷ []) rest) refl
 
 -- into the empty list
-pub gathered_all : (hs : Tries) → gathered [] hs ≡ all_of hs
+pub gathered_all : (hs : Alternatives) → gathered [] hs ≡ all_of hs
 gathered_all hs = gathered-all [] hs ∙ by (all_of hs)
   where
     by : (o : Option (List Choice)) → option_map (λ rest. [] ++ rest) o ≡ o

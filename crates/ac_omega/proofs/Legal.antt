@@ -19,21 +19,22 @@ use Rattle.ac_forms.specs.declared.row.Row.{Row}
 use Rattle.ac_forms.specs.declared.row.Row.TheVariants.{Eq, Div, Ge}
 use Rattle.ac_cert.specs.declared.choose.Choice.{Choice}
 use Rattle.ac_cert.specs.declared.choose.Choice.TheVariants as choice
-use Rattle.ac_cert.specs.Bounds.{has_column, is_low, only_bounds, is_one_sided}
+use Rattle.ac_cert.specs.Bounds.{is_low, only_bounds, is_one_sided}
+use Rattle.ac_forms.specs.Columns.{has_column}
 use Rattle.ac_cert.specs.Choices.{column_of, are_absurd, is_equality_of, is_lower_row, is_common_multiple, allows, is_legal}
 use Rattle.ac_cert.proofs.Truths.{true-le}
-use Rattle.ac_trails.specs.Tries.{Tries, first_equality, has_divisibility, lcm, common_modulus, residues_from, residues, splinters_from, count_to, last_splinter, last_splinter_fits, need_of, splinters_by, splinters_of, splinters, by_bounds, tries_by, tries_for, all_of, IsAmong}
+use Rattle.ac_refutations.specs.Alternatives.{Alternatives, first_equality, has_divisibility, lcm, common_modulus, residues_from, residues, splinters_from, count_to, last_splinter, last_splinter_fits, need_of, splinters_by, splinters_of, splinters, by_bounds, alternatives_by, alternatives_for, all_of, IsAmong}
 use Rattle.ac_omega.specs.Walk.{IsTried}
 use Rattle.ac_omega.proofs.CommonMultiples.{IsLcm-lcm, lcm-positive}
 use Rattle.ac_omega.proofs.Moduli.{common-cons, row-grows, size_positive}
-use Rattle.ac_trails.specs.declared.strategy.Strategy.{Strategy}
+use Rattle.ac_refutations.specs.declared.strategy.Strategy.{Strategy}
 
 -- the choice takes the column, and the rows allow it
 pub record Allowed (z : ℕ) (rows : List Row) (h : Choice) : Type 0 where
   pub column : column_of h ≡ z
   pub allowed : allows h rows ≡ true
 
-unfoldable pub AreAllowed : ℕ → List Row → Tries → Type 0
+unfoldable pub AreAllowed : ℕ → List Row → Alternatives → Type 0
 AreAllowed z rows [] = Unit {0}
 AreAllowed z rows (None ∷ hs) = AreAllowed z rows hs
 AreAllowed z rows (Some h ∷ hs) = Allowed z rows h × AreAllowed z rows hs
@@ -42,7 +43,7 @@ more_of : (h : Choice) (o : Option (List Choice)) (hs : List Choice) → option_
 more_of h None hs e = absurd cc
 more_of h (Some rest) hs e = (rest, refl, cc)
 
-pub among-allowed : (z : ℕ) (rows : List Row) (tries : Tries) (hs : List Choice) (h : Choice) → AreAllowed z rows tries → all_of tries ≡ Some hs → IsAmong h hs → Allowed z rows h
+pub among-allowed : (z : ℕ) (rows : List Row) (tries : Alternatives) (hs : List Choice) (h : Choice) → AreAllowed z rows tries → all_of tries ≡ Some hs → IsAmong h hs → Allowed z rows h
 unfolding AreAllowed
 among-allowed z rows [] [] h a e i = absurd i
 among-allowed z rows [] (x ∷ hs) h a e i = absurd cc
@@ -51,7 +52,7 @@ among-allowed z rows (Some x ∷ tries) hs h a e i =
     let m = more_of x (all_of tries) hs e in
     elim (subst (IsAmong h) m.2 i) [ inl is ↦ subst (Allowed z rows) is a.0 | inr later ↦ among-allowed z rows tries m.0 h a.1 m.1 later ]
 
-allowed-both : (z : ℕ) (rows : List Row) (xs ys : Tries) → AreAllowed z rows xs → AreAllowed z rows ys → AreAllowed z rows (xs ++ ys)
+allowed-both : (z : ℕ) (rows : List Row) (xs ys : Alternatives) → AreAllowed z rows xs → AreAllowed z rows ys → AreAllowed z rows (xs ++ ys)
 unfolding AreAllowed
 allowed-both z rows [] ys a b = b
 allowed-both z rows (None ∷ xs) ys a b = allowed-both z rows xs ys a b
@@ -173,11 +174,11 @@ all-bounds strategy z rows o = by (is_one_sided z rows) refl
     by true is = (record { column = refl; allowed = both-true _ _ o is }, tt)
     by false is = (record { column = refl; allowed = o }, all-splinters strategy z 0 rows rows (λ k. ap (slice_get rows) (zero-add k)))
 
-pub all-allowed : (strategy : Strategy) (z : ℕ) (rows : List Row) → HaveModuli rows → AreAllowed z rows (tries_for strategy z rows)
-unfolding AreAllowed tries_for
+pub all-allowed : (strategy : Strategy) (z : ℕ) (rows : List Row) → HaveModuli rows → AreAllowed z rows (alternatives_for strategy z rows)
+unfolding AreAllowed alternatives_for
 all-allowed strategy z rows h = by (first_equality z 0 rows) (has_divisibility z rows) refl refl
   where
-    by : (o : Option ℕ) (d : Bool) → first_equality z 0 rows ≡ o → has_divisibility z rows ≡ d → AreAllowed z rows (tries_by strategy o z rows)
+    by : (o : Option ℕ) (d : Bool) → first_equality z 0 rows ≡ o → has_divisibility z rows ≡ d → AreAllowed z rows (alternatives_by strategy o z rows)
     by (Some i) d e is = let k = equality-found z 0 i rows e in (record { column = refl; allowed = subst (λ (j : ℕ). is_equality_of z (slice_get rows j) ≡ true) (same i k.0 k.1) k.2 }, tt)
       where
         same : (i k : ℕ) → i ≡ 0 + k → k ≡ i
@@ -186,18 +187,18 @@ all-allowed strategy z rows h = by (first_equality z 0 rows) (has_divisibility z
     by None false e is = rw is (all-bounds strategy z rows (only-bounds z 0 rows e is))
 
 -- each of the choices that are listed is legal
-pub listed-legal : (strategy : Strategy) (z : ℕ) (c : Conj) (hs : List Choice) (h : Choice) → IsWellMade c → z < c.columns → are_absurd c.rows ≡ false → all_of (tries_for strategy z c.rows) ≡ Some hs → IsAmong h hs → is_legal h c ≡ true
+pub listed-legal : (strategy : Strategy) (z : ℕ) (c : Conj) (hs : List Choice) (h : Choice) → IsWellMade c → z < c.columns → are_absurd c.rows ≡ false → all_of (alternatives_for strategy z c.rows) ≡ Some hs → IsAmong h hs → is_legal h c ≡ true
 listed-legal strategy z c hs h made within absurd_not e i =
-    let a = among-allowed z c.rows (tries_for strategy z c.rows) hs h (all-allowed strategy z c.rows (moduli_of c.columns c.rows made)) e i in
+    let a = among-allowed z c.rows (alternatives_for strategy z c.rows) hs h (all-allowed strategy z c.rows (moduli_of c.columns c.rows made)) e i in
     both-true _ _ (not-true (are_absurd c.rows) absurd_not) (both-true _ _ (rw a.column (lt-ltb z c.columns within)) a.allowed)
 
-pub made-legal : (strategy : Strategy) (z : ℕ) (c : Conj) (res : Result (List Choice) FormStop) → IsWellMade c → z < c.columns → are_absurd c.rows ≡ false → MadeOf res (all_of (tries_for strategy z c.rows)) → IfOk res (λ hs. (h : Choice) → IsAmong h hs → is_legal h c ≡ true)
+pub made-legal : (strategy : Strategy) (z : ℕ) (c : Conj) (res : Result (List Choice) FormStop) → IsWellMade c → z < c.columns → are_absurd c.rows ≡ false → MadeOf res (all_of (alternatives_for strategy z c.rows)) → IfOk res (λ hs. (h : Choice) → IsAmong h hs → is_legal h c ≡ true)
 made-legal strategy z c (Ok hs) made within absurd_not e = λ h i. listed-legal strategy z c hs h made within absurd_not e i
 made-legal strategy z c (Err Wide) made within absurd_not e = tt
 made-legal strategy z c (Err (Memory want)) made within absurd_not e = tt
 
 -- each of the choices that are tried is legal
-tried-allowed : (z : ℕ) (rows : List Row) (hs : Tries) (h : Choice) → AreAllowed z rows hs → IsTried h hs → Allowed z rows h
+tried-allowed : (z : ℕ) (rows : List Row) (hs : Alternatives) (h : Choice) → AreAllowed z rows hs → IsTried h hs → Allowed z rows h
 unfolding AreAllowed
 tried-allowed z rows [] h a i = absurd i
 tried-allowed z rows (None ∷ hs) h a (inl e) = absurd cc
@@ -205,7 +206,7 @@ tried-allowed z rows (None ∷ hs) h a (inr i) = tried-allowed z rows hs h a i
 tried-allowed z rows (Some x ∷ hs) h a (inl e) = let s : x ≡ h = cc in subst (Allowed z rows) s a.0
 tried-allowed z rows (Some x ∷ hs) h a (inr i) = tried-allowed z rows hs h a.1 i
 
-pub tried-legal : (strategy : Strategy) (z : ℕ) (c : Conj) (h : Choice) → IsWellMade c → z < c.columns → are_absurd c.rows ≡ false → IsTried h (tries_for strategy z c.rows) → is_legal h c ≡ true
+pub tried-legal : (strategy : Strategy) (z : ℕ) (c : Conj) (h : Choice) → IsWellMade c → z < c.columns → are_absurd c.rows ≡ false → IsTried h (alternatives_for strategy z c.rows) → is_legal h c ≡ true
 tried-legal strategy z c h made within absurd_not i =
-    let a = tried-allowed z c.rows (tries_for strategy z c.rows) h (all-allowed strategy z c.rows (moduli_of c.columns c.rows made)) i in
+    let a = tried-allowed z c.rows (alternatives_for strategy z c.rows) h (all-allowed strategy z c.rows (moduli_of c.columns c.rows made)) i in
     both-true _ _ (not-true (are_absurd c.rows) absurd_not) (both-true _ _ (rw a.column (lt-ltb z c.columns within)) a.allowed)

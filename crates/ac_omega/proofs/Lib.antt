@@ -13,7 +13,7 @@ pub mod ColumnTests
 pub mod Rows
 pub mod Nexts
 pub mod Present
-pub mod Gones
+pub mod Empties
 pub mod Projecting
 pub mod Endings
 pub mod Advances
@@ -34,7 +34,7 @@ pub mod DifferenceChoices
 pub mod DifferenceShadows
 pub mod DifferenceFits
 pub mod DifferencePoints
-pub mod DifferenceTries
+pub mod DifferenceAlternatives
 pub mod DifferenceNexts
 pub mod DifferenceWalks
 pub mod DifferencePaths

@@ -3,17 +3,17 @@ use Rattle.std.proofs.Common.{◌≡◌, inl, inr, ℕ, Bool, true, false, cond,
 use Rattle.std.specs.List.{filter}
 use Rattle.ac_forms.specs.declared.row.Row.{Row}
 use Rattle.ac_forms.specs.declared.row.Row.TheVariants.{Eq, Div, Ge}
-use Rattle.ac_cert.specs.Bounds.{has_column}
+use Rattle.ac_forms.specs.Columns.{has_column}
 use Rattle.ac_cert.specs.declared.choose.Choice.{Choice}
 use Rattle.ac_omega.specs.Columns.{better, precedes, least_from, or_else, by_equality, by_rule, passes, key, size_key, is_two_sided, precedes_by_two, splinter_key, excess_key, by_splinters, next_column}
 use Rattle.ac_omega.specs.declared.ranking.Rule.{Rule}
 use Rattle.ac_omega.specs.declared.ranking.Rule.TheVariants as rule
 use Rattle.ac_omega.specs.Projection.{is_among}
-use Rattle.ac_trails.specs.Tries.{Tries}
+use Rattle.ac_refutations.specs.Alternatives.{Alternatives}
 use Rattle.ac_omega.specs.Walk.{IsTried}
 use Rattle.ac_omega.proofs.Legal.{Allowed, AreAllowed}
-use Rattle.ac_trails.specs.declared.strategy.Strategy.{Strategy}
-use Rattle.ac_trails.specs.declared.strategy.Strategy.TheVariants.{Full, Economical}
+use Rattle.ac_refutations.specs.declared.strategy.Strategy.{Strategy}
+use Rattle.ac_refutations.specs.declared.strategy.Strategy.TheVariants.{Full, Economical}
 
 -- P holds of each of these columns
 abbrev pub Each : (ℕ → Type 0) → List ℕ → Type 0
@@ -87,7 +87,7 @@ least-among before zs z e = from-in (λ y. is_among y zs ≡ true) before None z
 pub next-among : (strategy : Strategy) (vars : List ℕ) (rows : List Row) (z : ℕ) → next_column strategy vars rows ≡ Some z → is_among z vars ≡ true
 next-among strategy vars rows z e = next-in strategy (λ y. is_among y vars ≡ true) vars rows z (each-among vars) e
 
-pub allowed-each : (z : ℕ) (rows : List Row) (hs : Tries) (h : Choice) → AreAllowed z rows hs → IsTried h hs → Allowed z rows h
+pub allowed-each : (z : ℕ) (rows : List Row) (hs : Alternatives) (h : Choice) → AreAllowed z rows hs → IsTried h hs → Allowed z rows h
 unfolding AreAllowed
 allowed-each z rows [] h a i = absurd i
 allowed-each z rows (None ∷ hs) h a (inl s) = absurd cc

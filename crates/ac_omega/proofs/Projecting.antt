@@ -13,7 +13,7 @@ use Rattle.ac_forms.specs.declared.conj.Conj.{Conj}
 use Rattle.ac_forms.specs.declared.row.Row.{Row}
 use Rattle.ac_forms.specs.declared.row.Row.TheVariants.{Eq, Div, Ge}
 use Rattle.ac_forms.proofs.Joining.{form_keeps}
-use Rattle.ac_cert.specs.Bounds.{has_column}
+use Rattle.ac_forms.specs.Columns.{has_column, is_present}
 use Rattle.ac_cert.specs.Choices.{are_absurd, column_of, is_legal, left_by, lifted}
 use Rattle.ac_cert.specs.ChoiceFits.{after_choice, choice_fits, raw}
 use Rattle.ac_cert.specs.declared.choose.Choice.{Choice}
@@ -22,23 +22,24 @@ use Rattle.ac_cert.proofs.Lifting.{lifts, lifted_at}
 use Rattle.ac_cert.proofs.OneColumn.{has-not}
 use Rattle.ac_omega.specs.declared.piece.Piece.{Piece}
 use Rattle.ac_omega.specs.Answers.{parts}
-use Rattle.ac_omega.specs.Columns.{is_present, next_column}
+use Rattle.ac_omega.specs.Columns.{next_column}
 use Rattle.ac_omega.specs.Elimination.{elimination}
-use Rattle.ac_omega.specs.Projection.{is_among, DiffersIn, HoldsFor, SomeHolds, HaveNone}
-use Rattle.ac_omega.specs.Sweep.{Projects, InSome, Pieces, sweep}
-use Rattle.ac_trails.specs.Tries.{Tries, tries_for, all_of, IsAmong}
+use Rattle.ac_omega.specs.Projection.{is_among, DiffersIn, HoldsFor, HaveNone, MeetsRest}
+use Rattle.ac_forms.specs.Pieces.{IsInSome}
+use Rattle.ac_omega.specs.Sweep.{Projects, Pieces, sweep}
+use Rattle.ac_refutations.specs.Alternatives.{Alternatives, alternatives_for, all_of, IsAmong}
 use Rattle.ac_omega.specs.Maxima.{Maxima}
-use Rattle.ac_omega.specs.Walk.{IsTried, IsWhole, Covers, Gone, walk}
+use Rattle.ac_omega.specs.Walk.{IsTried, IsWhole, Covers, Empty, walk}
 use Rattle.ac_omega.proofs.Walks.{walk-gone}
 use Rattle.ac_omega.proofs.Complete.{listed-complete}
-use Rattle.ac_omega.proofs.Gones.{IsOpen, look-done, look-absurd, look-open, next-none, none-at}
+use Rattle.ac_omega.proofs.Empties.{IsOpen, look-done, look-absurd, look-open, next-none, none-at}
 use Rattle.ac_omega.proofs.Legal.{all-allowed}
 use Rattle.ac_omega.proofs.Legal as legal
 use Rattle.ac_forms.proofs.Passes.{moduli_of}
 use Rattle.ac_omega.proofs.Nexts.{next-among, allowed-each}
 use Rattle.ac_omega.proofs.Present.{next-within}
-use Rattle.ac_omega.proofs.Sweeps.{sweep-exact}
-use Rattle.ac_trails.specs.declared.strategy.Strategy.{Strategy}
+use Rattle.ac_omega.proofs.Sweeps.{sweep-exact, AtEnd}
+use Rattle.ac_refutations.specs.declared.strategy.Strategy.{Strategy}
 
 -- a dot product, where the points agree but at coefficients that are 0
 dot-agree : (cs p q : List ℤ) → length q ≡ length p → ((j : ℕ) → (get_or q j (pos 0) ≡ get_or p j (pos 0)) ⊎ (get_or cs j (pos 0) ≡ pos 0)) → dot cs q ≡ dot cs p
@@ -104,12 +105,12 @@ absurd-meets (Eq f ∷ rs) p e m = cc
 absurd-meets (Div n f ∷ rs) p e m = cc
 
 -- all choices are there
-whole-all : (hs : Tries) → IsWhole hs → (gs : List Choice) × (all_of hs ≡ Some gs)
+whole-all : (hs : Alternatives) → IsWhole hs → (gs : List Choice) × (all_of hs ≡ Some gs)
 whole-all [] w = ([], refl)
 whole-all (None ∷ hs) w = absurd w
 whole-all (Some h ∷ hs) w = let r = whole-all hs w in (h ∷ r.0, rw r.1 refl)
 
-among-tried : (h : Choice) (hs : Tries) (gs : List Choice) → all_of hs ≡ Some gs → IsAmong h gs → IsTried h hs
+among-tried : (h : Choice) (hs : Alternatives) (gs : List Choice) → all_of hs ≡ Some gs → IsAmong h gs → IsTried h hs
 among-tried h [] [] e i = absurd i
 among-tried h [] (g ∷ gs) e i = absurd cc
 among-tried h (None ∷ hs) gs e i = absurd cc
@@ -164,11 +165,11 @@ column-below strategy vars n c z g e = next-within strategy vars c z g.made e
 
 pub tried-legal : (strategy : Strategy) (vars : List ℕ) (n : ℕ) (c : Conj) (hs : List (Option Choice)) (h : Choice) → IsGood n c → IsOpen strategy vars c hs → IsTried h hs → is_legal h c ≡ true
 tried-legal strategy vars n c hs h g o i =
-    legal.tried-legal strategy o.column c h g.made (column-below strategy vars n c o.column g o.next) o.not_absurd (let P : Tries → Type 0 = λ xs. IsTried h xs in subst P o.tries i)
+    legal.tried-legal strategy o.column c h g.made (column-below strategy vars n c o.column g o.next) o.not_absurd (let P : Alternatives → Type 0 = λ xs. IsTried h xs in subst P o.tries i)
 
 pub tried-column : (strategy : Strategy) (vars : List ℕ) (n : ℕ) (c : Conj) (hs : List (Option Choice)) (h : Choice) → IsGood n c → (o : IsOpen strategy vars c hs) → IsTried h hs → column_of h ≡ o.column
 tried-column strategy vars n c hs h g o i =
-    (allowed-each o.column c.rows (tries_for strategy o.column c.rows) h (all-allowed strategy o.column c.rows (moduli_of c.columns c.rows g.made)) (let P : Tries → Type 0 = λ xs. IsTried h xs in subst P o.tries i)).column
+    (allowed-each o.column c.rows (alternatives_for strategy o.column c.rows) h (all-allowed strategy o.column c.rows (moduli_of c.columns c.rows g.made)) (let P : Alternatives → Type 0 = λ xs. IsTried h xs in subst P o.tries i)).column
 
 good-left : (strategy : Strategy) (vars : List ℕ) (n : ℕ) (c d : Conj) (hs : List (Option Choice)) (h : Choice) → IsGood n c → IsOpen strategy vars c hs → IsTried h hs → after_choice h c ≡ Some d → IsGood n d
 good-left strategy vars n c d hs h g o i e = record {
@@ -191,15 +192,15 @@ back-at strategy vars n c d hs h p g o i e x =
 -- a point of the conjunction, but for the columns, is one of what some choice leaves
 on-at : (strategy : Strategy) (vars : List ℕ) (n : ℕ) (c : Conj) (hs : List (Option Choice)) (p : List ℤ) → IsGood n c → IsOpen strategy vars c hs → IsWhole hs → HasAt vars n c p → (h : Choice) × IsTried h hs × ((d : Conj) → after_choice h c ≡ Some d → HasAt vars n d p)
 on-at strategy vars n c hs p g o w x =
-    let P : Tries → Type 0 = λ xs. IsWhole xs in
-    let all = whole-all (tries_for strategy o.column c.rows) (subst P o.tries w) in
+    let P : Alternatives → Type 0 = λ xs. IsWhole xs in
+    let all = whole-all (alternatives_for strategy o.column c.rows) (subst P o.tries w) in
     let q = x.1.at in
     let z = o.column in
     let Q : List ℤ → Type 0 = λ y. Meets c.rows y in
     let m = subst Q (sym (set-get_or q z (pos 0))) x.1.meets in
     let s = (listed-complete strategy z c all.0 g.made (column-below strategy vars n c z g o.next) all.1 q (x.1.differs.long ∙ x.0 ∙ sym g.columns)).0 (get_or q z (pos 0), m) in
-    let t = among-tried s.0 (tries_for strategy z c.rows) all.0 all.1 s.1 in
-    let R : Tries → Type 0 = λ xs. IsTried s.0 xs in
+    let t = among-tried s.0 (alternatives_for strategy z c.rows) all.0 all.1 s.1 in
+    let R : Alternatives → Type 0 = λ xs. IsTried s.0 xs in
     let i = subst R (sym o.tries) t in (
       s.0,
       i,
@@ -224,12 +225,12 @@ projects strategy vars n = record {
 }
 
 -- pieces as the code has them
-some-in : (n : ℕ) (ps : List Piece) (p : List ℤ) → InSome (MeetsAt n) (parts ps) p → SomeHolds ps p
+some-in : (n : ℕ) (ps : List Piece) (p : List ℤ) → IsInSome (AtEnd (MeetsAt n)) (parts ps) p → IsInSome MeetsRest ps p
 some-in n [] p h = h
 some-in n (x ∷ ps) p (inl m) = inl m.1
 some-in n (x ∷ ps) p (inr h) = inr (some-in n ps p h)
 
-in-some : (n : ℕ) (ps : List Piece) (p : List ℤ) → length p ≡ n → SomeHolds ps p → InSome (MeetsAt n) (parts ps) p
+in-some : (n : ℕ) (ps : List Piece) (p : List ℤ) → length p ≡ n → IsInSome MeetsRest ps p → IsInSome (AtEnd (MeetsAt n)) (parts ps) p
 in-some n [] p l h = h
 in-some n (x ∷ ps) p l (inl m) = inl (l, m)
 in-some n (x ∷ ps) p l (inr h) = inr (in-some n ps p l h)
@@ -242,7 +243,7 @@ normal-holds vars c p made = (
 
 -- the pieces of the walk from the question's normal form are its projection
 pub pieces-project : (strategy : Strategy) (vars : List ℕ) (b k : ℕ) (c : Conj) (ps : List Piece) (p : List ℤ) → IsWellMade c → sweep (elimination strategy vars) (b + 1) b [] (normal_conj c) 0 ≡ Pieces (parts ps) k → length p ≡ c.columns
-    → HoldsFor vars c.rows p ↔ SomeHolds ps p
+    → HoldsFor vars c.rows p ↔ IsInSome MeetsRest ps p
 pieces-project strategy vars b k c ps p made e l =
     let g : IsGood c.columns (normal_conj c) = record { made = conj_made c made; columns = refl } in
     let x = sweep-exact (elimination strategy vars) (IsGood c.columns) (MeetsAt c.columns) (HasAt vars c.columns) (projects strategy vars c.columns) (b + 1) b [] (normal_conj c) 0 k (parts ps) p e g in
@@ -257,6 +258,6 @@ covers strategy vars n = record {
 }
 
 -- a walk that finds no point: there is none
-pub gone-empty : (strategy : Strategy) (vars : List ℕ) (b : ℕ) (c : Conj) (k : ℕ) → IsWellMade c → (n j : ℕ) (s t : Maxima) → walk (elimination strategy vars) n b c k s ≡ Gone j t → (p : List ℤ) → length p ≡ c.columns → Meets c.rows p → ⊥
+pub gone-empty : (strategy : Strategy) (vars : List ℕ) (b : ℕ) (c : Conj) (k : ℕ) → IsWellMade c → (n j : ℕ) (s t : Maxima) → walk (elimination strategy vars) n b c k s ≡ Empty j t → (p : List ℤ) → length p ≡ c.columns → Meets c.rows p → ⊥
 gone-empty strategy vars b c k made n j s t e p l m =
     walk-gone (elimination strategy vars) (IsGood c.columns) (HasAt vars c.columns) (covers strategy vars c.columns) n b c k s j t p e (record { made = made; columns = refl }) (l, itself vars c.rows p m)

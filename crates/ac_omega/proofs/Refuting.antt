@@ -8,7 +8,7 @@ use Rattle.ac_forms.specs.declared.row.Row.{Row}
 use Rattle.ac_cert.specs.Choices.{are_absurd}
 use Rattle.ac_cert.specs.declared.choose.Choice.{Choice}
 use Rattle.ac_omega.specs.Maxima.{Maxima}
-use Rattle.ac_omega.specs.Searching.{IfGone, IsRefuted, IsRefutedBehind, WantsRefutation, wanted, with_choice_behind, with_refutation}
+use Rattle.ac_omega.specs.Searching.{IfWalkedEmpty, IsRefuted, IsRefutedBehind, WantsRefutation, wanted, with_choice_behind, with_refutation}
 use Rattle.ac_omega.specs.Within.{Bounds, HaveRisen, IsWithin, AreAllWithin}
 use Rattle.ac_omega.specs.declared.search.Aim.{Aim}
 use Rattle.ac_omega.specs.declared.search.Aim.TheVariants.{ForPoint, ForRefutation, ForPieces}
@@ -17,11 +17,11 @@ use Rattle.ac_omega.specs.declared.search.Walked.TheVariants as done
 use Rattle.ac_omega.specs.declared.halt.Halt.{Halt}
 use Rattle.ac_omega.proofs.Bounding.{risen-on, all-more, moduli-more}
 use Rattle.ac_omega.proofs.Gathering.{gathered_all}
-use Rattle.ac_trails.specs.Refutations.{Refutes, RefuteEach, AreChoicesOf, AreModuliWithin}
-use Rattle.ac_trails.specs.Tries.{Tries, tries_for, all_of, gathered}
-use Rattle.ac_trails.specs.declared.refutation.Refutation.{Refutation, Row_of-Refutation, end_of-Refutation, more_of-Refutation, items-the_row-Refutation, the_lemmas}
-use Rattle.ac_trails.specs.declared.refutation.Refutation.TheVariants.{Absurd, Open, Open'}
-use Rattle.ac_trails.specs.declared.strategy.Strategy.{Strategy}
+use Rattle.ac_refutations.specs.Refutations.{Refutes, RefuteEach, AreChoicesOf, AreModuliWithin}
+use Rattle.ac_refutations.specs.Alternatives.{Alternatives, alternatives_for, all_of, gathered}
+use Rattle.ac_refutations.specs.declared.refutation.Refutation.{Refutation, Row_of-Refutation, end_of-Refutation, more_of-Refutation, items-the_row-Refutation, the_lemmas}
+use Rattle.ac_refutations.specs.declared.refutation.Refutation.TheVariants.{Absurd, Open, Open'}
+use Rattle.ac_refutations.specs.declared.strategy.Strategy.{Strategy}
 
 -- what each choice leaves is refuted, in turn
 abbrev pub AreRefutedBehind : List Choice → Conj → List Refutation → Type 0
@@ -73,15 +73,15 @@ unfolding IsWithin
 absurd-within s c b = b
 
 -- the choices that are done, of all
-pub first-tried : (strategy : Strategy) (z : ℕ) (rows seen : List Row) (left : Tries) (hs : List Choice) → seen ≡ rows → left ≡ tries_for strategy z seen → hs ≡ [] → all_of (tries_for strategy z rows) ≡ gathered hs left
-first-tried strategy z rows seen left hs e l n = rw (l, e, n) (sym (gathered_all (tries_for strategy z rows)))
+pub first-tried : (strategy : Strategy) (z : ℕ) (rows seen : List Row) (left : Alternatives) (hs : List Choice) → seen ≡ rows → left ≡ alternatives_for strategy z seen → hs ≡ [] → all_of (alternatives_for strategy z rows) ≡ gathered hs left
+first-tried strategy z rows seen left hs e l n = rw (l, e, n) (sym (gathered_all (alternatives_for strategy z rows)))
 
-pub next-tried : (aim : Aim) (hs gs : List Choice) (h : Choice) (r : Option Refutation) (all : Option (List Choice)) (left rest : Tries) → (WantsRefutation aim → all ≡ gathered hs left) → left ≡ Some h ∷ rest → gs ≡ with_choice_behind hs h r → (WantsRefutation aim → IsSome r)
+pub next-tried : (aim : Aim) (hs gs : List Choice) (h : Choice) (r : Option Refutation) (all : Option (List Choice)) (left rest : Alternatives) → (WantsRefutation aim → all ≡ gathered hs left) → left ≡ Some h ∷ rest → gs ≡ with_choice_behind hs h r → (WantsRefutation aim → IsSome r)
     → WantsRefutation aim → all ≡ gathered gs rest
 next-tried aim hs gs h None all left rest a l g told w = let f = told w in absurd cc
 next-tried aim hs gs h (Some r) all left rest a l g told w = rw g (rw l at (a w))
 
-pub last-tried : (hs : List Choice) (all : Option (List Choice)) (left : Tries) → all ≡ gathered hs left → left ≡ [] → all ≡ Some hs
+pub last-tried : (hs : List Choice) (all : Option (List Choice)) (left : Alternatives) → all ≡ gathered hs left → left ≡ [] → all ≡ Some hs
 last-tried hs all left a l = rw l at a
 
 -- one more of each, where there is one
@@ -108,13 +108,13 @@ if-wanted ForPoint r P h = tt
 if-wanted ForRefutation r P h = h tt
 if-wanted ForPieces r P h = tt
 
-pub risen-behind : (r : Result Walked Halt) (a b : Maxima) → HaveRisen a b → IfOk r (λ w. IfGone w (λ s r. HaveRisen b s)) → IfOk r (λ w. IfGone w (λ s r. HaveRisen a s))
-risen-behind (Ok (done.Gone k s r)) a b h w = risen-on a b s h w
+pub risen-behind : (r : Result Walked Halt) (a b : Maxima) → HaveRisen a b → IfOk r (λ w. IfWalkedEmpty w (λ s r. HaveRisen b s)) → IfOk r (λ w. IfWalkedEmpty w (λ s r. HaveRisen a s))
+risen-behind (Ok (done.Empty k s r)) a b h w = risen-on a b s h w
 risen-behind (Ok (done.Found p)) a b h w = tt
 risen-behind (Err e) a b h w = tt
 
 -- what is kept at a leaf changes no maxima
-pub leaf-risen : (r : Result Walked Halt) (aim : Aim) (a b : Maxima) → HaveRisen a b → IfOk r (λ w. IfGone w (λ s x. (aim ≡ ForPieces) × (s ≡ b))) → IfOk r (λ w. IfGone w (λ s x. HaveRisen a s))
-leaf-risen (Ok (done.Gone k s x)) aim a b h w = subst (λ (m : Maxima). HaveRisen a m) (sym w.1) h
+pub leaf-risen : (r : Result Walked Halt) (aim : Aim) (a b : Maxima) → HaveRisen a b → IfOk r (λ w. IfWalkedEmpty w (λ s x. (aim ≡ ForPieces) × (s ≡ b))) → IfOk r (λ w. IfWalkedEmpty w (λ s x. HaveRisen a s))
+leaf-risen (Ok (done.Empty k s x)) aim a b h w = subst (λ (m : Maxima). HaveRisen a m) (sym w.1) h
 leaf-risen (Ok (done.Found p)) aim a b h w = tt
 leaf-risen (Err e) aim a b h w = tt

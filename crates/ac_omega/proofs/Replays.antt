@@ -13,17 +13,17 @@ use Rattle.ac_cert.specs.declared.choose.Choice.{Choice}
 use Rattle.ac_cert.proofs.LeftMade.{conj_made, raw_made}
 use Rattle.ac_omega.specs.Answers.{Eliminates, parts}
 use Rattle.ac_omega.specs.Elimination.{elimination, look, pieces_of}
-use Rattle.ac_omega.specs.Projection.{is_among, AllGone}
+use Rattle.ac_omega.specs.Projection.{is_among, AllEmpty}
 use Rattle.ac_omega.specs.Replays.{replayed, IsReached, AreReached, HaveAllFrom, AreOver}
-use Rattle.ac_omega.specs.Sweep.{Swept, Pieces, into, sweeps, swept, sweep}
-use Rattle.ac_omega.specs.Walk.{Look, Done, Absurd, Open, IsTried}
+use Rattle.ac_omega.specs.Sweep.{Projected, Pieces, into, sweeps, swept, sweep}
+use Rattle.ac_omega.specs.Walk.{Node, Done, Absurd, Open, IsTried}
 use Rattle.ac_omega.specs.declared.pieces.Stop.{Stop}
 use Rattle.ac_omega.specs.declared.piece.Piece.{Piece}
-use Rattle.ac_omega.proofs.Gones.{IsOpen, look-open, none-at}
+use Rattle.ac_omega.proofs.Empties.{IsOpen, look-open, none-at}
 use Rattle.ac_omega.proofs.Nexts.{next-among}
 use Rattle.ac_omega.proofs.Projecting.{IsGood, projects, left-is, tried-legal, tried-column}
 use Rattle.ac_omega.proofs.Sweeps.{onward-parts, into-parts, if-pieces}
-use Rattle.ac_trails.specs.declared.strategy.Strategy.{Strategy}
+use Rattle.ac_refutations.specs.declared.strategy.Strategy.{Strategy}
 
 -- the choices behind the path lead from the conjunction to the piece
 record Leads (vars : List ℕ) (path : List Choice) (c : Conj) (choices : List Choice) (rest : Conj) : Type 0 where
@@ -62,10 +62,10 @@ lead-first vars path h c d (x ∷ xs) legal among left (a, more) = (
 tried-among : (strategy : Strategy) (vars : List ℕ) (n : ℕ) (c : Conj) (hs : List (Option Choice)) (h : Choice) → IsGood n c → IsOpen strategy vars c hs → IsTried h hs → is_among (column_of h) vars ≡ true
 tried-among strategy vars n c hs h g o i = subst (λ (z : ℕ). is_among z vars ≡ true) (sym (tried-column strategy vars n c hs h g o i)) (next-among strategy vars c.rows o.column o.next)
 
-Goes : List ℕ → ℕ → (List Choice → Conj → ℕ → Swept Conj Choice) → Type 0
+Goes : List ℕ → ℕ → (List Choice → Conj → ℕ → Projected Conj Choice) → Type 0
 Goes vars n go = (path : List Choice) (d : Conj) (k j : ℕ) (zs : List (List Choice × Conj)) → IsGood n d → go path d k ≡ Pieces zs j → AllLead vars path d zs
 
-sweeps-lead : (strategy : Strategy) (vars : List ℕ) (n : ℕ) (go : List Choice → Conj → ℕ → Swept Conj Choice) (path : List Choice) (c : Conj) (hs : List (Option Choice)) (k j : ℕ) (zs : List (List Choice × Conj)) → Goes vars n go
+sweeps-lead : (strategy : Strategy) (vars : List ℕ) (n : ℕ) (go : List Choice → Conj → ℕ → Projected Conj Choice) (path : List Choice) (c : Conj) (hs : List (Option Choice)) (k j : ℕ) (zs : List (List Choice × Conj)) → Goes vars n go
     → ((h : Choice) → IsTried h hs → is_legal h c ≡ true) → ((h : Choice) → IsTried h hs → is_among (column_of h) vars ≡ true) → ((h : Choice) (d : Conj) → IsTried h hs → after_choice h c ≡ Some d → IsGood n d)
     → sweeps (elimination strategy vars) go path c hs k ≡ Pieces zs j → AllLead vars path c zs
 unfolding AllLead Goes elimination
@@ -78,7 +78,7 @@ sweeps-lead strategy vars n go path c (Some h ∷ hs) k j zs g legal among good 
     let rest = sweeps-lead strategy vars n go path c hs b.1 j b.2 g (λ x i. legal x (inr i)) (λ x i. among x (inr i)) (λ x d i s. good x d (inr i) s) b.4 in
     subst (AllLead vars path c) (sym b.5) (lead-both vars path c b.0 b.2 first rest)
 
-swept-lead : (strategy : Strategy) (vars : List ℕ) (n : ℕ) (go : List Choice → Conj → ℕ → Swept Conj Choice) (path : List Choice) (c : Conj) (k j : ℕ) (l : Look Choice) (zs : List (List Choice × Conj)) → Goes vars n go → IsGood n c
+swept-lead : (strategy : Strategy) (vars : List ℕ) (n : ℕ) (go : List Choice → Conj → ℕ → Projected Conj Choice) (path : List Choice) (c : Conj) (k j : ℕ) (l : Node Choice) (zs : List (List Choice × Conj)) → Goes vars n go → IsGood n c
     → look strategy vars c ≡ l → swept (elimination strategy vars) go path c k l ≡ Pieces zs j → AllLead vars path c zs
 unfolding AllLead elimination replayed
 swept-lead strategy vars n go path c k j (Done q) zs g good is e =
@@ -97,17 +97,17 @@ sweep-leads strategy vars n (suc m) budget path c k j zs good e =
     (if-pieces (nat_lt budget (k + (elimination strategy vars).size c)) (k + (elimination strategy vars).size c) _ zs j e)
 
 -- the pieces, as the code has them
-some_fit : (b : Bool) (d : Conj) (go : Conj → Swept Conj Choice) (zs : List (List Choice × Conj)) (j : ℕ) → into (cond b (Some d) None) go ≡ Pieces zs j → (b ≡ true) × (go d ≡ Pieces zs j)
+some_fit : (b : Bool) (d : Conj) (go : Conj → Projected Conj Choice) (zs : List (List Choice × Conj)) (j : ℕ) → into (cond b (Some d) None) go ≡ Pieces zs j → (b ≡ true) × (go d ≡ Pieces zs j)
 some_fit true d go zs j e = (refl, e)
 some_fit false d go zs j e = absurd cc
 
-reached-of : (vars : List ℕ) (question : Conj) (ps : List Piece) → rows_fit question.rows ≡ true → AllLead vars [] (normal_conj question) (parts ps) → AllGone vars ps → AreReached vars question ps
+reached-of : (vars : List ℕ) (question : Conj) (ps : List Piece) → rows_fit question.rows ≡ true → AllLead vars [] (normal_conj question) (parts ps) → AllEmpty vars ps → AreReached vars question ps
 unfolding AllLead
 reached-of vars question [] fits a g = tt
 reached-of vars question (x ∷ ps) fits (a, more) g =
     (record { fits = fits; left = subst (λ (hs : List Choice). replayed vars hs (normal_conj question) ≡ Some x.rest) (sym a.is) a.left; gone = g.0 }, reached-of vars question ps fits more g.1)
 
-are-reached : (strategy : Strategy) (vars : List ℕ) (budget k : ℕ) (question : Conj) (ps : List Piece) → IsWellMade question → pieces_of strategy vars budget question ≡ Pieces (parts ps) k → AllGone vars ps → AreReached vars question ps
+are-reached : (strategy : Strategy) (vars : List ℕ) (budget k : ℕ) (question : Conj) (ps : List Piece) → IsWellMade question → pieces_of strategy vars budget question ≡ Pieces (parts ps) k → AllEmpty vars ps → AreReached vars question ps
 unfolding Goes
 are-reached strategy vars budget k question ps made e gone =
     let s = some_fit (rows_fit question.rows) (normal_conj question) (λ c. sweep (elimination strategy vars) (budget + 1) budget [] c 0) (parts ps) k e in
@@ -162,12 +162,12 @@ all-over n vars question [] made all r = tt
 all-over n vars question (x ∷ ps) made all r = (reached-over n vars question x made all r.0, all-over n vars question ps made all r.1)
 
 -- what an elimination answers
-pub result-reached : (strategy : Strategy) (vars : List ℕ) (budget : ℕ) (question : Conj) (result : Result (List Piece) Stop) → IsWellMade question → Eliminates result question (pieces_of strategy vars budget question) → IfOk result (λ ps. AllGone vars ps)
+pub result-reached : (strategy : Strategy) (vars : List ℕ) (budget : ℕ) (question : Conj) (result : Result (List Piece) Stop) → IsWellMade question → Eliminates result question (pieces_of strategy vars budget question) → IfOk result (λ ps. AllEmpty vars ps)
     → IfOk result (λ ps. AreReached vars question ps)
 result-reached strategy vars budget question (Ok ps) made exact gone = are-reached strategy vars budget exact.0 question ps made exact.1 gone
 result-reached strategy vars budget question (Err s) made exact gone = tt
 
 pub result-over : (strategy : Strategy) (n : ℕ) (vars : List ℕ) (budget : ℕ) (question : Conj) (result : Result (List Piece) Stop) → IsWellMade question → HaveAllFrom n question.columns vars → Eliminates result question (pieces_of strategy vars budget question)
-    → IfOk result (λ ps. AllGone vars ps) → IfOk result (λ ps. AreOver n ps)
+    → IfOk result (λ ps. AllEmpty vars ps) → IfOk result (λ ps. AreOver n ps)
 result-over strategy n vars budget question (Ok ps) made all exact gone = all-over n vars question ps made all (are-reached strategy vars budget exact.0 question ps made exact.1 gone)
 result-over strategy n vars budget question (Err s) made all exact gone = tt

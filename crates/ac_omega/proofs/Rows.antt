@@ -9,8 +9,8 @@ use Rattle.ac_omega.specs.declared.ranking.Rule.{Rule}
 use Rattle.ac_omega.specs.declared.ranking.Rule.TheVariants as rule
 use Rattle.ac_omega.specs.Elimination.{look, look_at}
 use Rattle.ac_omega.specs.Walk.{Absurd, HasRows}
-use Rattle.ac_trails.specs.declared.strategy.Strategy.{Strategy}
-use Rattle.ac_trails.specs.declared.strategy.Strategy.TheVariants.{Full, Economical}
+use Rattle.ac_refutations.specs.declared.strategy.Strategy.{Strategy}
+use Rattle.ac_refutations.specs.declared.strategy.Strategy.TheVariants.{Full, Economical}
 
 -- a row, where the next column is one
 filter-none : {X : Type 0} (test : X → Bool) (xs : List X) → ((x : X) → test x ≡ false) → filter test xs ≡ []

@@ -14,7 +14,7 @@ use Rattle.ac_omega.specs.Columns.{next_column}
 use Rattle.ac_omega.specs.Maxima.{with_rows}
 use Rattle.ac_omega.specs.Searching.{IfFound, IsNormal, Settle, SettleFor, WantsPoint}
 use Rattle.ac_omega.specs.Visits.{Seen, seen, visiting, Visits, tried, Tried, at_leaf}
-use Rattle.ac_trails.specs.Tries.{tries_for}
+use Rattle.ac_refutations.specs.Alternatives.{alternatives_for}
 use Rattle.ac_omega.specs.Walk as def
 use Rattle.ac_omega.specs.Walk.{walk, looked, behind, entered}
 use Rattle.ac_omega.specs.declared.halt.Halt.{Halt}
@@ -25,7 +25,7 @@ use Rattle.ac_omega.specs.declared.search.Aim.TheVariants.{ForPoint, ForRefutati
 use Rattle.ac_omega.specs.declared.search.Walked.{Walked}
 use Rattle.ac_omega.specs.declared.search.Walked.TheVariants as done
 use Rattle.ac_omega.proofs.Rows.{column-rows}
-use Rattle.ac_trails.specs.declared.strategy.Strategy.{Strategy}
+use Rattle.ac_refutations.specs.declared.strategy.Strategy.{Strategy}
 
 -- what a choice leaves is in normal form
 pub after-normal : (h : Choice) (c d : Conj) → after_choice h c ≡ Some d → (d.columns ≡ c.columns) × IsNormal d
@@ -51,7 +51,7 @@ unfolding walk
 over-budget strategy aim vars zero b path c k j s ps l o f e = absurd (omega arith)
 over-budget strategy aim vars (suc m) b path c k j s ps l o f e = (k + length c.rows, rw (lt-ltb b (k + length c.rows) o) refl, e)
 
-pub absurd-gone : (strategy : Strategy) (aim : Aim) (vars : List ℕ) (n b : ℕ) (path : List Choice) (c : Conj) (k : ℕ) (s : Seen) → k + length c.rows ≤ b → b < n + k → are_absurd c.rows ≡ true → walk (visiting strategy aim vars) n b (path, c) k s ≡ def.Gone (k + length c.rows) (seen (with_rows c.rows s.maxima) s.pieces)
+pub absurd-gone : (strategy : Strategy) (aim : Aim) (vars : List ℕ) (n b : ℕ) (path : List Choice) (c : Conj) (k : ℕ) (s : Seen) → k + length c.rows ≤ b → b < n + k → are_absurd c.rows ≡ true → walk (visiting strategy aim vars) n b (path, c) k s ≡ def.Empty (k + length c.rows) (seen (with_rows c.rows s.maxima) s.pieces)
 absurd-gone strategy aim vars n b path c k s l f e = (walk-looks strategy aim vars n b path c k s l f).2 ∙ rw e refl
 
 leaf-here : (strategy : Strategy) (aim : Aim) (vars : List ℕ) (m b : ℕ) (path : List Choice) (c : Conj) (k : ℕ) (s : Seen) → are_absurd c.rows ≡ false → next_column strategy vars c.rows ≡ None
@@ -64,11 +64,11 @@ pub leaf-found : (strategy : Strategy) (aim : Aim) (vars : List ℕ) (n b : ℕ)
 leaf-found strategy aim vars n b path c k s l f e o = let w = walk-looks strategy aim vars n b path c k s l f in w.2 ∙ leaf-here strategy aim vars w.0 b path c (k + length c.rows) s e o
 
 pub by-column : (strategy : Strategy) (aim : Aim) (vars : List ℕ) (n b : ℕ) (path : List Choice) (c : Conj) (k : ℕ) (s : Seen) (z : ℕ) (r : Result Walked Halt) (ps : List Piece) → k + length c.rows ≤ b → b < n + k → are_absurd c.rows ≡ false → next_column strategy vars c.rows ≡ Some z
-    → Tried r ps strategy aim vars b path c (tries_for strategy z c.rows) (k + length c.rows) (seen (with_rows c.rows s.maxima) s.pieces) → Visits r ps (walk (visiting strategy aim vars) n b (path, c) k s)
+    → Tried r ps strategy aim vars b path c (alternatives_for strategy z c.rows) (k + length c.rows) (seen (with_rows c.rows s.maxima) s.pieces) → Visits r ps (walk (visiting strategy aim vars) n b (path, c) k s)
 by-column strategy aim vars n b path c k s z r ps l f e o h =
     let w = walk-looks strategy aim vars n b path c k s l f in
     let q = column-rows strategy vars c.rows z o in
-    let t : walk (visiting strategy aim vars) n b (path, c) k s ≡ tried strategy aim vars w.0 b path c (tries_for strategy z c.rows) (k + length c.rows) (seen (with_rows c.rows s.maxima) s.pieces) = w.2 ∙ rw (e, o) refl in
+    let t : walk (visiting strategy aim vars) n b (path, c) k s ≡ tried strategy aim vars w.0 b path c (alternatives_for strategy z c.rows) (k + length c.rows) (seen (with_rows c.rows s.maxima) s.pieces) = w.2 ∙ rw (e, o) refl in
     rw t (h w.0 (omega (arith, w.1)))
 
 -- zeros, where no row is left
@@ -82,7 +82,7 @@ zeros-meet strategy vars c p made normal settle e o z =
 
 pub leaf-point : (strategy : Strategy) (aim : Aim) (vars : List ℕ) (c : Conj) (r : Result Walked Halt) → IsWellMade c → IsNormal c → SettleFor strategy aim c.columns vars → are_absurd c.rows ≡ false → next_column strategy vars c.rows ≡ None
     → IfOk r (λ w. IfFound w (λ p. WantsPoint aim × (p ≡ replicate c.columns (pos 0)))) → IfOk r (λ w. IfFound w (λ p. IsPoint c p))
-leaf-point strategy aim vars c (Ok (done.Gone k s r)) made normal settle e o h = tt
+leaf-point strategy aim vars c (Ok (done.Empty k s r)) made normal settle e o h = tt
 leaf-point strategy aim vars c (Ok (done.Found p)) made normal settle e o h = zeros-meet strategy vars c p.items made normal (settle h.0) e o h.1
 leaf-point strategy aim vars c (Err stop) made normal settle e o h = tt
 

@@ -16,7 +16,7 @@ use Rattle.ac_cert.proofs.Fitting.{fits_true, fits_false}
 use Rattle.ac_cert.proofs.Truths.{and-true}
 use Rattle.ac_integers.proofs.Bits.{again_128}
 use Rattle.ac_omega.proofs.Moduli.{drop-at}
-use Rattle.ac_trails.specs.Tries.{greatest_size}
+use Rattle.ac_refutations.specs.Alternatives.{greatest_size}
 
 pub upper_is : (z : ℕ) (f : Affine) → is_none (highs z (Ge f ∷ [])) ≡ not (is_high z f)
 upper_is z f = elim (is_high z f) as (λ t. is_none (cond t (high_bound z f ∷ []) []) ≡ not t) [ true ↦ refl | false ↦ refl ]

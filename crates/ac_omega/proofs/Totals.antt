@@ -6,7 +6,7 @@ use Rattle.ac_forms.specs.declared.row.Row.{Row}
 use Rattle.ac_omega.specs.Columns.{least_from, fewest, is_two_sided, precedes_by_two, splinter_key, excess_key, plus, fitting, total_of}
 use Rattle.ac_omega.specs.Fewest.{candidate_of}
 use Rattle.ac_omega.specs.declared.fewest.Candidate.{Candidate}
-use Rattle.ac_trails.specs.declared.strategy.Strategy.TheVariants.{Economical}
+use Rattle.ac_refutations.specs.declared.strategy.Strategy.TheVariants.{Economical}
 
 -- the splinters so far, and those of the rows that are left
 abbrev pub TotalSoFar : ℕ → ℕ → List Row → List Row → Type 0

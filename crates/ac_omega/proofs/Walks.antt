@@ -1,11 +1,11 @@
 -- The laws of a walk.
 use Rattle.std.proofs.Common.{◌≡◌, ℕ, zero, suc, ◌+◌, ◌<◌, ◌≤◌, ◌⊎◌, inl, inr, ℤ, List, [], ◌∷◌, ◌++◌, Option, Some, None, nat_lt, Bool, true, false, cond, arith, refl, sym, ap, ◌∙◌, subst}
 use borrow.Author.Tests.{ltb-false}
-use Rattle.ac_omega.specs.Walk.{Walked, Gone, Found, Spent, Wide, Look, Done, Absurd, Open, Method, lifted, behind, entered, tries, looked, walk, HasRows, IsTried, IsWhole, Covers, Lifts}
+use Rattle.ac_omega.specs.Walk.{Walked, Empty, Found, Spent, Wide, Node, Done, Absurd, Open, Method, lifted, behind, entered, tries, looked, walk, HasRows, IsTried, IsWhole, Covers, Lifts}
 
 -- the cost stays between these
 abbrev pub Between : {S : Type 0} → ℕ → ℕ → Walked S → Type 0
-Between k b (Gone j s) = (k ≤ j) × (j ≤ b)
+Between k b (Empty j s) = (k ≤ j) × (j ≤ b)
 Between k b (Found p) = Unit {0}
 Between k b (Spent j) = Unit {0}
 Between k b Wide = Unit {0}
@@ -15,7 +15,7 @@ Between-lifted S k b None = tt
 Between-lifted S k b (Some p) = tt
 
 Between-behind : {S : Type 0} (k b : ℕ) (w : Walked S) (lift : List ℤ → Option (List ℤ)) (rest : ℕ → S → Walked S) → Between k b w → ((j : ℕ) (s : S) → k ≤ j → j ≤ b → Between k b (rest j s)) → Between k b (behind w lift rest)
-Between-behind k b (Gone j s) lift rest h r = r j s h.0 h.1
+Between-behind k b (Empty j s) lift rest h r = r j s h.0 h.1
 Between-behind k b (Found p) lift rest h r = Between-lifted _ k b (lift p)
 Between-behind k b (Spent j) lift rest h r = tt
 Between-behind k b Wide lift rest h r = tt
@@ -25,7 +25,7 @@ Between-entered k b None go h = tt
 Between-entered k b (Some d) go h = h d
 
 Between-less : {S : Type 0} (j k b : ℕ) (w : Walked S) → j ≤ k → Between k b w → Between j b w
-Between-less j k b (Gone n s) l h = (omega arith, h.1)
+Between-less j k b (Empty n s) l h = (omega arith, h.1)
 Between-less j k b (Found p) l h = tt
 Between-less j k b (Spent n) l h = tt
 Between-less j k b Wide l h = tt
@@ -37,7 +37,7 @@ Between-tries m go c (Some h ∷ hs) k s b l g =
     Between-behind k b _ (m.lift c h) (tries m go c hs) (Between-entered k b (m.step c h) (λ d. go d k (m.mark h s)) (λ d. g d k (m.mark h s) l))
     (λ j t e f. Between-less k j b _ e (Between-tries m go c hs j t b f g))
 
-Between-looked : {C H S : Type 0} (m : Method C H S) (go : C → ℕ → S → Walked S) (c : C) (k : ℕ) (s : S) (b : ℕ) (l : Look H) → k ≤ b → ((d : C) (j : ℕ) (t : S) → j ≤ b → Between j b (go d j t)) → Between k b (looked m go c k s l)
+Between-looked : {C H S : Type 0} (m : Method C H S) (go : C → ℕ → S → Walked S) (c : C) (k : ℕ) (s : S) (b : ℕ) (l : Node H) → k ≤ b → ((d : C) (j : ℕ) (t : S) → j ≤ b → Between j b (go d j t)) → Between k b (looked m go c k s l)
 Between-looked m go c k s b (Done p) l g = tt
 Between-looked m go c k s b Absurd l g = (omega arith, l)
 Between-looked m go c k s b (Open hs) l g = Between-tries m go c hs k s b l g
@@ -57,7 +57,7 @@ Between-walk m (suc n) b c k s =
 
 -- two walks that agree from a cost on
 behind-same : {S : Type 0} (v w : Walked S) (lift : List ℤ → Option (List ℤ)) (r q : ℕ → S → Walked S) (k b : ℕ) → v ≡ w → Between k b v → ((j : ℕ) (s : S) → k ≤ j → j ≤ b → r j s ≡ q j s) → behind v lift r ≡ behind w lift q
-behind-same (Gone j s) w lift r q k b e h f = rw (← e) (f j s h.0 h.1)
+behind-same (Empty j s) w lift r q k b e h f = rw (← e) (f j s h.0 h.1)
 behind-same (Found p) w lift r q k b e h f = rw (← e) refl
 behind-same (Spent j) w lift r q k b e h f = rw (← e) refl
 behind-same Wide w lift r q k b e h f = rw (← e) refl
@@ -74,7 +74,7 @@ tries-same m f g c (Some h ∷ hs) k s b l w e =
     (Between-entered k b (m.step c h) (λ d. f d k (m.mark h s)) (λ d. w d k (m.mark h s) l))
     (λ j t x y. tries-same m f g c hs j t b y w (λ d i a u v. e d i a (omega arith) v))
 
-looked-same : {C H S : Type 0} (m : Method C H S) (f g : C → ℕ → S → Walked S) (c : C) (k : ℕ) (s : S) (b : ℕ) (l : Look H) → k ≤ b → ((d : C) (j : ℕ) (t : S) → j ≤ b → Between j b (f d j t)) → ((hs : List (Option H)) → l ≡ Open hs → (d : C) (j : ℕ) (t : S) → k ≤ j → j ≤ b → f d j t ≡ g d j t) → looked m f c k s l ≡ looked m g c k s l
+looked-same : {C H S : Type 0} (m : Method C H S) (f g : C → ℕ → S → Walked S) (c : C) (k : ℕ) (s : S) (b : ℕ) (l : Node H) → k ≤ b → ((d : C) (j : ℕ) (t : S) → j ≤ b → Between j b (f d j t)) → ((hs : List (Option H)) → l ≡ Open hs → (d : C) (j : ℕ) (t : S) → k ≤ j → j ≤ b → f d j t ≡ g d j t) → looked m f c k s l ≡ looked m g c k s l
 looked-same m f g c k s b (Done p) l w e = refl
 looked-same m f g c k s b Absurd l w e = refl
 looked-same m f g c k s b (Open hs) l w e = tries-same m f g c hs k s b l w (e hs refl)
@@ -83,7 +83,7 @@ if-same : {S : Type 0} (j b : ℕ) (t : Bool) (v w : Walked S) → nat_lt b j �
 if-same j b true v w e h = refl
 if-same j b false v w e h = h (ltb-false b j e)
 
-pub open-rows : {H : Type 0} (l : Look H) (hs : List (Option H)) (n : ℕ) → l ≡ Open hs → HasRows l n → 1 ≤ n
+pub open-rows : {H : Type 0} (l : Node H) (hs : List (Option H)) (n : ℕ) → l ≡ Open hs → HasRows l n → 1 ≤ n
 open-rows (Done p) hs n e h = absurd cc
 open-rows Absurd hs n e h = absurd cc
 open-rows (Open xs) hs n e h = h
@@ -99,21 +99,21 @@ walk-enough m rows (suc n) (suc o) b c k s l x y =
     (λ hs e d j t u w. let r = open-rows (m.look c) hs (m.size c) e (rows c) in walk-enough m rows n o b d j t w (omega arith) (omega arith)))
 
 -- No point, where the walk finds none.
-behind-gone : {S : Type 0} (w : Walked S) (lift : List ℤ → Option (List ℤ)) (rest : ℕ → S → Walked S) (j : ℕ) (u : S) → behind w lift rest ≡ Gone j u → (i : ℕ) × (v : S) × (w ≡ Gone i v) × (rest i v ≡ Gone j u)
-behind-gone (Gone i v) lift rest j u e = (i, v, refl, e)
+behind-gone : {S : Type 0} (w : Walked S) (lift : List ℤ → Option (List ℤ)) (rest : ℕ → S → Walked S) (j : ℕ) (u : S) → behind w lift rest ≡ Empty j u → (i : ℕ) × (v : S) × (w ≡ Empty i v) × (rest i v ≡ Empty j u)
+behind-gone (Empty i v) lift rest j u e = (i, v, refl, e)
 behind-gone {S = S} (Found p) lift rest j u e = lift-not-gone (lift p) e
   where
-    lift-not-gone : (o : Option (List ℤ)) → lifted o ≡ Gone j u → (i : ℕ) × (v : S) × (Found p ≡ Gone i v) × (rest i v ≡ Gone j u)
+    lift-not-gone : (o : Option (List ℤ)) → lifted o ≡ Empty j u → (i : ℕ) × (v : S) × (Found p ≡ Empty i v) × (rest i v ≡ Empty j u)
     lift-not-gone None e = absurd cc
     lift-not-gone (Some q) e = absurd cc
 behind-gone (Spent i) lift rest j u e = absurd cc
 behind-gone Wide lift rest j u e = absurd cc
 
-entered-gone : {C S : Type 0} (o : Option C) (go : C → Walked S) (j : ℕ) (u : S) → entered o go ≡ Gone j u → (d : C) × (o ≡ Some d) × (go d ≡ Gone j u)
+entered-gone : {C S : Type 0} (o : Option C) (go : C → Walked S) (j : ℕ) (u : S) → entered o go ≡ Empty j u → (d : C) × (o ≡ Some d) × (go d ≡ Empty j u)
 entered-gone None go j u e = absurd cc
 entered-gone (Some d) go j u e = (d, refl, e)
 
-tries-gone : {C H S : Type 0} (m : Method C H S) (go : C → ℕ → S → Walked S) (c : C) (hs : List (Option H)) (k : ℕ) (s : S) (j : ℕ) (u : S) → tries m go c hs k s ≡ Gone j u → (h : H) → IsTried h hs → (d : C) × (x : ℕ) × (a : S) × (y : ℕ) × (b : S) × (m.step c h ≡ Some d) × (go d x a ≡ Gone y b)
+tries-gone : {C H S : Type 0} (m : Method C H S) (go : C → ℕ → S → Walked S) (c : C) (hs : List (Option H)) (k : ℕ) (s : S) (j : ℕ) (u : S) → tries m go c hs k s ≡ Empty j u → (h : H) → IsTried h hs → (d : C) × (x : ℕ) × (a : S) × (y : ℕ) × (b : S) × (m.step c h ≡ Some d) × (go d x a ≡ Empty y b)
 tries-gone m go c [] k s j u e h a = absurd a
 tries-gone m go c (None ∷ hs) k s j u e h a = absurd cc
 tries-gone m go c (Some g ∷ hs) k s j u e h (inl same) =
@@ -125,14 +125,14 @@ tries-gone m go c (Some g ∷ hs) k s j u e h (inr a) =
     let b = behind-gone _ (m.lift c g) (tries m go c hs) j u e in
     tries-gone m go c hs b.0 b.1 j u b.3 h a
 
-tries-whole : {C H S : Type 0} (m : Method C H S) (go : C → ℕ → S → Walked S) (c : C) (hs : List (Option H)) (k : ℕ) (s : S) (j : ℕ) (u : S) → tries m go c hs k s ≡ Gone j u → IsWhole hs
+tries-whole : {C H S : Type 0} (m : Method C H S) (go : C → ℕ → S → Walked S) (c : C) (hs : List (Option H)) (k : ℕ) (s : S) (j : ℕ) (u : S) → tries m go c hs k s ≡ Empty j u → IsWhole hs
 tries-whole m go c [] k s j u e = tt
 tries-whole m go c (None ∷ hs) k s j u e = absurd cc
 tries-whole m go c (Some g ∷ hs) k s j u e =
     let b = behind-gone _ (m.lift c g) (tries m go c hs) j u e in
     tries-whole m go c hs b.0 b.1 j u b.3
 
-if-gone : {S : Type 0} (t : Bool) (i : ℕ) (w : Walked S) (j : ℕ) (u : S) → cond t (Spent i) w ≡ Gone j u → w ≡ Gone j u
+if-gone : {S : Type 0} (t : Bool) (i : ℕ) (w : Walked S) (j : ℕ) (u : S) → cond t (Spent i) w ≡ Empty j u → w ≡ Empty j u
 if-gone true i w j u e = absurd cc
 if-gone false i w j u e = e
 
@@ -140,8 +140,8 @@ if-found : {S : Type 0} (t : Bool) (i : ℕ) (w : Walked S) (p : List ℤ) → c
 if-found true i w p e = absurd cc
 if-found false i w p e = e
 
-looked-gone : {C H S : Type 0} (m : Method C H S) (Good : C → Type 0) (At : C → List ℤ → Type 0) → Covers m Good At → (go : C → ℕ → S → Walked S) (c : C) (k : ℕ) (s : S) (j : ℕ) (u : S) (l : Look H) (p : List ℤ) → m.look c ≡ l → looked m go c k s l ≡ Gone j u → Good c → At c p
-    → ((d : C) (x : ℕ) (a : S) (y : ℕ) (b : S) (q : List ℤ) → go d x a ≡ Gone y b → Good d → At d q → ⊥) → ⊥
+looked-gone : {C H S : Type 0} (m : Method C H S) (Good : C → Type 0) (At : C → List ℤ → Type 0) → Covers m Good At → (go : C → ℕ → S → Walked S) (c : C) (k : ℕ) (s : S) (j : ℕ) (u : S) (l : Node H) (p : List ℤ) → m.look c ≡ l → looked m go c k s l ≡ Empty j u → Good c → At c p
+    → ((d : C) (x : ℕ) (a : S) (y : ℕ) (b : S) (q : List ℤ) → go d x a ≡ Empty y b → Good d → At d q → ⊥) → ⊥
 looked-gone m Good At exact go c k s j u (Done q) p is e g at none = cc
 looked-gone m Good At exact go c k s j u Absurd p is e g at none = exact.absurd_row c p g is at
 looked-gone m Good At exact go c k s j u (Open hs) p is e g at none =
@@ -151,7 +151,7 @@ looked-gone m Good At exact go c k s j u (Open hs) p is e g at none =
     none t.0 t.1 t.2 t.3 t.4 q.0 t.6 (exact.good c hs r.0 t.0 g is r.1 t.5) q.1
 
 -- a walk that finds no point: there is none
-pub walk-gone : {C H S : Type 0} (m : Method C H S) (Good : C → Type 0) (At : C → List ℤ → Type 0) → Covers m Good At → (n b : ℕ) (c : C) (k : ℕ) (s : S) (j : ℕ) (u : S) (p : List ℤ) → walk m n b c k s ≡ Gone j u → Good c → At c p → ⊥
+pub walk-gone : {C H S : Type 0} (m : Method C H S) (Good : C → Type 0) (At : C → List ℤ → Type 0) → Covers m Good At → (n b : ℕ) (c : C) (k : ℕ) (s : S) (j : ℕ) (u : S) (p : List ℤ) → walk m n b c k s ≡ Empty j u → Good c → At c p → ⊥
 unfolding walk
 walk-gone m Good At exact zero b c k s j u p e g at = cc
 walk-gone m Good At exact (suc n) b c k s j u p e g at =
@@ -160,7 +160,7 @@ walk-gone m Good At exact (suc n) b c k s j u p e g at =
 
 -- The point, where it finds one.
 behind-found : {S : Type 0} (w : Walked S) (lift : List ℤ → Option (List ℤ)) (rest : ℕ → S → Walked S) (p : List ℤ) → behind w lift rest ≡ Found p → ((q : List ℤ) × (w ≡ Found q) × (lift q ≡ Some p)) ⊎ ((i : ℕ) × (s : S) × (rest i s ≡ Found p))
-behind-found (Gone i s) lift rest p e = inr (i, s, e)
+behind-found (Empty i s) lift rest p e = inr (i, s, e)
 behind-found {S = S} (Found q) lift rest p e = inl (q, refl, lift-found (lift q) e)
   where
     lift-found : (o : Option (List ℤ)) → lifted {S = S} o ≡ Found p → o ≡ Some p
@@ -181,7 +181,7 @@ tries-found m go c (Some g ∷ hs) k s p e = elim (behind-found _ (m.lift c g) (
   | inr b ↦ let t = tries-found m go c hs b.0 b.1 p b.2 in (t.0, t.1, t.2, t.3, t.4, t.5, t.6, t.7, inr t.8)
 ]
 
-looked-found : {C H S : Type 0} (m : Method C H S) (Good : C → Type 0) (At : C → List ℤ → Type 0) → Lifts m Good At → (go : C → ℕ → S → Walked S) (c : C) (k : ℕ) (s : S) (l : Look H) (p : List ℤ) → m.look c ≡ l → looked m go c k s l ≡ Found p → Good c
+looked-found : {C H S : Type 0} (m : Method C H S) (Good : C → Type 0) (At : C → List ℤ → Type 0) → Lifts m Good At → (go : C → ℕ → S → Walked S) (c : C) (k : ℕ) (s : S) (l : Node H) (p : List ℤ) → m.look c ≡ l → looked m go c k s l ≡ Found p → Good c
     → ((d : C) (x : ℕ) (a : S) (q : List ℤ) → go d x a ≡ Found q → Good d → At d q) → At c p
 looked-found m Good At exact go c k s (Done q) p is e g some = let r : q ≡ p = cc in exact.done c p g (is ∙ ap (λ x. Done x) r)
 looked-found m Good At exact go c k s Absurd p is e g some = absurd cc
@@ -199,13 +199,13 @@ walk-found m Good At exact (suc n) b c k s p e g =
 
 -- The choices in two parts: the second goes on at the first one's cost and state.
 abbrev pub then : {S : Type 0} → Walked S → (ℕ → S → Walked S) → Walked S
-then (Gone k s) go = go k s
+then (Empty k s) go = go k s
 then (Found p) go = Found p
 then (Spent k) go = Spent k
 then Wide go = Wide
 
 then-behind : {S : Type 0} (w : Walked S) (lift : List ℤ → Option (List ℤ)) (rest : ℕ → S → Walked S) (go : ℕ → S → Walked S) → then (behind w lift rest) go ≡ behind w lift (λ j s. then (rest j s) go)
-then-behind (Gone k s) lift rest go = refl
+then-behind (Empty k s) lift rest go = refl
 then-behind (Found p) lift rest go = by (lift p)
   where
     by : (o : Option (List ℤ)) → then (lifted o) go ≡ lifted o
@@ -215,7 +215,7 @@ then-behind (Spent k) lift rest go = refl
 then-behind Wide lift rest go = refl
 
 behind-each : {S : Type 0} (w : Walked S) (lift : List ℤ → Option (List ℤ)) (r q : ℕ → S → Walked S) → ((j : ℕ) (s : S) → r j s ≡ q j s) → behind w lift r ≡ behind w lift q
-behind-each (Gone k s) lift r q h = h k s
+behind-each (Empty k s) lift r q h = h k s
 behind-each (Found p) lift r q h = refl
 behind-each (Spent k) lift r q h = refl
 behind-each Wide lift r q h = refl
@@ -228,7 +228,7 @@ tries-append m go c (Some h ∷ hs) gs k s =
     ∙ sym (then-behind _ (m.lift c h) (tries m go c hs) (λ i a. tries m go c gs i a))
 
 -- the cost of a walk that finds no point
-pub gone-between : {C H S : Type 0} (m : Method C H S) (n b : ℕ) (c : C) (k : ℕ) (s : S) (j : ℕ) (t : S) → walk m n b c k s ≡ Gone j t → (k ≤ j) × (j ≤ b)
+pub gone-between : {C H S : Type 0} (m : Method C H S) (n b : ℕ) (c : C) (k : ℕ) (s : S) (j : ℕ) (t : S) → walk m n b c k s ≡ Empty j t → (k ≤ j) × (j ≤ b)
 gone-between {S = S} m n b c k s j t e =
     let P : Walked S → Type 0 = λ w. Between k b w in
     subst P e (Between-walk m n b c k s)

@@ -25,7 +25,7 @@ HandsBack (stop.Spent c k) h question = (h ≡ halt.Spent k) × (c ≡ question)
 HandsBack (stop.Memory e) h question = Unit {0}
 
 -- the pieces are those of the question; it is handed back where the definition stops
-abbrev pub Eliminates : Result (List Piece) Stop → Conj → def.Swept Conj Choice → Type 0
+abbrev pub Eliminates : Result (List Piece) Stop → Conj → def.Projected Conj Choice → Type 0
 Eliminates (Ok pieces) question w = (k : ℕ) × (w ≡ def.Pieces (parts pieces) k)
 Eliminates (Err (stop.Overflow c)) question w = (w ≡ def.Wide) × (c ≡ question)
 Eliminates (Err (stop.Spent c k)) question w = (c ≡ question) × (j : ℕ) × (w ≡ def.Spent j) × (k ≡ saturated j)

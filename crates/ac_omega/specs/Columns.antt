@@ -7,10 +7,11 @@ use Rattle.ac_forms.specs.Fits.{fits}
 use Rattle.ac_forms.specs.declared.row.Row.{Row}
 use Rattle.ac_forms.specs.declared.row.Row.TheVariants.{Eq, Div, Ge}
 use Rattle.ac_cert.specs.declared.column.Bound.{Bound}
-use Rattle.ac_cert.specs.Bounds.{has_column, is_low, lows, highs, is_one_sided}
-use Rattle.ac_trails.specs.Tries.{has_divisibility, common_modulus, count_to, last_splinter, last_splinter_fits, need_of}
-use Rattle.ac_trails.specs.declared.strategy.Strategy.{Strategy}
-use Rattle.ac_trails.specs.declared.strategy.Strategy.TheVariants.{Full, Economical}
+use Rattle.ac_cert.specs.Bounds.{is_low, lows, highs, is_one_sided}
+use Rattle.ac_forms.specs.Columns.{has_column, is_present}
+use Rattle.ac_refutations.specs.Alternatives.{has_divisibility, common_modulus, count_to, last_splinter, last_splinter_fits, need_of}
+use Rattle.ac_refutations.specs.declared.strategy.Strategy.{Strategy}
+use Rattle.ac_refutations.specs.declared.strategy.Strategy.TheVariants.{Full, Economical}
 use Rattle.ac_omega.specs.declared.ranking.Rule.{Rule}
 use Rattle.ac_omega.specs.declared.ranking.Rule.TheVariants as rule
 
@@ -18,11 +19,6 @@ use Rattle.ac_omega.specs.declared.ranking.Rule.TheVariants as rule
 abbrev pub AreColumns : ℕ → List ℕ → Type 0
 AreColumns n [] = Unit {0}
 AreColumns n (z ∷ zs) = (z < n) × AreColumns n zs
-
--- some row has the column
-abbrev pub is_present : ℕ → List Row → Bool
-is_present z [] = false
-is_present z (r ∷ rs) = has_column z r || is_present z rs
 
 -- rows bound the column from both sides
 abbrev pub is_two_sided : ℕ → List Row → Bool

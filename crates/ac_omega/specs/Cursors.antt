@@ -8,9 +8,9 @@ use Rattle.ac_omega.specs.declared.cursor.Cursor.{Cursor}
 use Rattle.ac_omega.specs.declared.cursor.Cursor.TheVariants as at
 use Rattle.ac_omega.specs.declared.cursor.Next.{Next}
 use Rattle.ac_omega.specs.declared.cursor.Next.TheVariants as next
-use Rattle.ac_trails.specs.Tries.{Tries, residues_from, splinters_from, splinters, greatest_size}
-use Rattle.ac_trails.specs.declared.strategy.Strategy.{Strategy}
-use Rattle.ac_trails.specs.declared.strategy.Strategy.TheVariants.{Full, Economical}
+use Rattle.ac_refutations.specs.Alternatives.{Alternatives, residues_from, splinters_from, splinters, greatest_size}
+use Rattle.ac_refutations.specs.declared.strategy.Strategy.{Strategy}
+use Rattle.ac_refutations.specs.declared.strategy.Strategy.TheVariants.{Full, Economical}
 
 -- what is kept for all lower rows: the greatest size of an upper row, where each has its splinters for that one
 abbrev pub kept_for : Strategy → ℕ → List Row → Option ℤ
@@ -18,15 +18,15 @@ kept_for Full z rows = cond (sizes_fit (highs z rows)) (Some (greatest_size (hig
 kept_for Economical z rows = None
 
 -- the choices that are left
-abbrev pub tries_left : Strategy → ℕ → List Row → Cursor → Tries
-tries_left s z rows (at.Equal i) = Some (choice.Equal z i) ∷ []
-tries_left s z rows (at.Residue m r) = residues_from (unsigned_abs m - r) z m r
-tries_left s z rows at.Drop = Some (choice.Drop z) ∷ []
-tries_left s z rows at.Shadow = Some (choice.Shadow z) ∷ splinters s z rows 0 rows
-tries_left s z rows (at.Splinter kept i k count) = splinters_from (count - k) z i k ++ splinters s z rows (suc i) (drop (suc i) rows)
-tries_left s z rows (at.Lower kept i) = splinters s z rows i (drop i rows)
-tries_left s z rows at.Wide = None ∷ []
-tries_left s z rows at.End = []
+abbrev pub alternatives_left : Strategy → ℕ → List Row → Cursor → Alternatives
+alternatives_left s z rows (at.Equal i) = Some (choice.Equal z i) ∷ []
+alternatives_left s z rows (at.Residue m r) = residues_from (unsigned_abs m - r) z m r
+alternatives_left s z rows at.Drop = Some (choice.Drop z) ∷ []
+alternatives_left s z rows at.Shadow = Some (choice.Shadow z) ∷ splinters s z rows 0 rows
+alternatives_left s z rows (at.Splinter kept i k count) = splinters_from (count - k) z i k ++ splinters s z rows (suc i) (drop (suc i) rows)
+alternatives_left s z rows (at.Lower kept i) = splinters s z rows i (drop i rows)
+alternatives_left s z rows at.Wide = None ∷ []
+alternatives_left s z rows at.End = []
 
 -- the numbers of the cursor are such as the rows give
 abbrev pub IsSound : Strategy → ℕ → List Row → Cursor → Type 0
@@ -40,12 +40,12 @@ IsSound s z rows at.Wide = Unit {0}
 IsSound s z rows at.End = Unit {0}
 
 -- what comes next of these choices: the first one, with the cursor behind it; a number that is too wide; or none
-abbrev pub IsNext : Strategy → ℕ → List Row → Next → Tries → Type 0
-IsNext s z rows (next.Try h cursor) hs = (hs ≡ Some h ∷ tries_left s z rows cursor) × IsSound s z rows cursor
-IsNext s z rows next.Wide hs = (rest : Tries) × (hs ≡ None ∷ rest)
+abbrev pub IsNext : Strategy → ℕ → List Row → Next → Alternatives → Type 0
+IsNext s z rows (next.Try h cursor) hs = (hs ≡ Some h ∷ alternatives_left s z rows cursor) × IsSound s z rows cursor
+IsNext s z rows next.Wide hs = (rest : Alternatives) × (hs ≡ None ∷ rest)
 IsNext s z rows next.End hs = hs ≡ []
 
 -- that many splinters of row i, or a number that is too wide
-abbrev pub row_splinters : ℕ → ℕ → Option ℕ → Tries
+abbrev pub row_splinters : ℕ → ℕ → Option ℕ → Alternatives
 row_splinters z i (Some count) = splinters_from count z i 0
 row_splinters z i None = None ∷ []

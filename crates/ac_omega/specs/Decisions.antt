@@ -18,7 +18,7 @@ use Rattle.ac_omega.specs.Elimination.{eliminating, normal_of}
 use Rattle.ac_omega.specs.Maxima.{Maxima, nothing_met, with_rows}
 use Rattle.ac_omega.specs.Searching.{columns_to}
 use Rattle.ac_omega.specs.Walk as def
-use Rattle.ac_trails.specs.declared.strategy.Strategy.{Strategy}
+use Rattle.ac_refutations.specs.declared.strategy.Strategy.{Strategy}
 
 -- the walk of a question: from its normal form on, over all its columns; the question's own numbers count among the greatest
 abbrev pub walk_of : Strategy → ℕ → Conj → def.Walked Maxima
@@ -38,15 +38,15 @@ IsSpent c w = (j : ℕ) × (w ≡ def.Spent j) × (c ≡ min j (2 ^ 64 - 1))
 
 -- the walk finds no point, and the product of the greatest numbers that it meets is at most 2^120
 abbrev pub IsSmall : def.Walked Maxima → Type 0
-IsSmall w = (k : ℕ) × (s : Maxima) × (w ≡ def.Gone k s) × (s.factor * s.number ≤ 2 ^ 120)
+IsSmall w = (k : ℕ) × (s : Maxima) × (w ≡ def.Empty k s) × (s.factor * s.number ≤ 2 ^ 120)
 
 -- the same, where it exceeds 2^120
 abbrev pub IsLarge : def.Walked Maxima → Type 0
-IsLarge w = (k : ℕ) × (s : Maxima) × (w ≡ def.Gone k s) × (2 ^ 120 < s.factor * s.number)
+IsLarge w = (k : ℕ) × (s : Maxima) × (w ≡ def.Empty k s) × (2 ^ 120 < s.factor * s.number)
 
 -- the answer is the walk's; it is too wide also where the question cannot be evaluated in `i128` at the point
 abbrev pub Decides : Result Walked Halt → Conj → def.Walked Maxima → Type 0
-Decides (Ok (done.Gone k s r)) q w = w ≡ def.Gone k s
+Decides (Ok (done.Empty k s r)) q w = w ≡ def.Empty k s
 Decides (Ok (done.Found p)) q w = EndsAt p.items q w
 Decides (Err halt.Wide) q w = IsWide q w
 Decides (Err (halt.Spent c)) q w = IsSpent c w
@@ -54,7 +54,7 @@ Decides (Err (halt.Memory e)) q w = Unit {0}
 
 -- the same, where a stop hands the question back
 abbrev pub Finds : Result Decided Stop → Conj → def.Walked Maxima → Type 0
-Finds (Ok (answer.Empty s)) q w = (k : ℕ) × (w ≡ def.Gone k s)
+Finds (Ok (answer.Empty s)) q w = (k : ℕ) × (w ≡ def.Empty k s)
 Finds (Ok (answer.Point p)) q w = EndsAt p.items q w
 Finds (Err (stop.Overflow c)) q w = (c ≡ q) × IsWide q w
 Finds (Err (stop.Spent c k)) q w = (c ≡ q) × IsSpent k w

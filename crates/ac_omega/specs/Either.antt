@@ -22,7 +22,7 @@ abbrev pub StopsDeciding : Conj → def.Walked Maxima → Type 0
 StopsDeciding q w = (IsWide q w ⊎ IsLarge w) ⊎ ((j : ℕ) × (w ≡ def.Spent j))
 
 -- the walk gives no pieces
-abbrev pub StopsEliminating : whole.Swept Conj Choice → Type 0
+abbrev pub StopsEliminating : whole.Projected Conj Choice → Type 0
 StopsEliminating w = (w ≡ whole.Wide) ⊎ ((j : ℕ) × (w ≡ whole.Spent j))
 
 abbrev pub FindsEither : Result Decided Stop → Conj → (first second : def.Walked Maxima) → Type 0
@@ -37,7 +37,7 @@ SettlesEither (Err (stop.Overflow c)) q first second = StopsDeciding q first × 
 SettlesEither (Err (stop.Spent c k)) q first second = StopsDeciding q first × Settles (Err (stop.Spent c k)) q second
 SettlesEither (Err (stop.Memory e)) q first second = Unit {0}
 
-abbrev pub EliminatesEither : Result (List Piece) Stop → Conj → (first second : whole.Swept Conj Choice) → Type 0
+abbrev pub EliminatesEither : Result (List Piece) Stop → Conj → (first second : whole.Projected Conj Choice) → Type 0
 EliminatesEither (Ok pieces) q first second = Eliminates (Ok pieces) q first ⊎ (StopsEliminating first × Eliminates (Ok pieces) q second)
 EliminatesEither (Err (stop.Overflow c)) q first second = StopsEliminating first × Eliminates (Err (stop.Overflow c)) q second
 EliminatesEither (Err (stop.Spent c k)) q first second = StopsEliminating first × Eliminates (Err (stop.Spent c k)) q second

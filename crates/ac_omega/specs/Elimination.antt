@@ -8,17 +8,17 @@ use Rattle.ac_cert.specs.Choices.{are_absurd, lifted}
 use Rattle.ac_cert.specs.ChoiceFits.{after_choice, lift_fits}
 use Rattle.ac_omega.specs.Columns.{next_column}
 use Rattle.ac_omega.specs.Maxima.{Maxima, with_rows, with_choice}
-use Rattle.ac_omega.specs.Sweep.{Swept, into, sweep}
-use Rattle.ac_trails.specs.Tries.{tries_for}
-use Rattle.ac_trails.specs.declared.strategy.Strategy.{Strategy}
-use Rattle.ac_omega.specs.Walk.{Method, Look, Done, Absurd, Open}
+use Rattle.ac_omega.specs.Sweep.{Projected, into, sweep}
+use Rattle.ac_refutations.specs.Alternatives.{alternatives_for}
+use Rattle.ac_refutations.specs.declared.strategy.Strategy.{Strategy}
+use Rattle.ac_omega.specs.Walk.{Method, Node, Done, Absurd, Open}
 
 -- the choices for the next column; without one, all columns are 0 where no row is left
-abbrev pub look_at : Strategy → Conj → Option ℕ → Look Choice
-look_at s c (Some z) = Open (tries_for s z c.rows)
+abbrev pub look_at : Strategy → Conj → Option ℕ → Node Choice
+look_at s c (Some z) = Open (alternatives_for s z c.rows)
 look_at s c None = Done (replicate c.columns (pos 0))
 
-abbrev pub look : Strategy → List ℕ → Conj → Look Choice
+abbrev pub look : Strategy → List ℕ → Conj → Node Choice
 look s vars c = cond (are_absurd c.rows) Absurd (look_at s c (next_column s vars c.rows))
 
 -- a conjunction costs its rows
@@ -41,5 +41,5 @@ abbrev pub normal_of : Conj → Option Conj
 normal_of c = cond (rows_fit c.rows) (Some (normal_conj c)) None
 
 -- the pieces of a question, from its normal form on
-abbrev pub pieces_of : Strategy → List ℕ → ℕ → Conj → Swept Conj Choice
+abbrev pub pieces_of : Strategy → List ℕ → ℕ → Conj → Projected Conj Choice
 pieces_of s vars budget question = into (normal_of question) (λ c. sweep (elimination s vars) (budget + 1) budget [] c 0)

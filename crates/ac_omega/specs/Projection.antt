@@ -1,13 +1,14 @@
 -- The projection of a conjunction: the points from which one of its points differs in some columns only.
-use Rattle.std.specs.Prelude.{◌≡◌, ◌⊎◌, ℕ, Bool, false, ◌||◌, ◌==◌, ℤ, pos, List, [], ◌∷◌, length, slice_index_or}
+use Rattle.std.specs.Prelude.{◌≡◌, ℕ, Bool, false, nat_eq, ℤ, pos, List, [], ◌∷◌, length, slice_index_or}
+use Rattle.std.specs.List.{list_any}
 use Rattle.ac_forms.specs.Rows.{Meets}
 use Rattle.ac_forms.specs.declared.row.Row.{Row}
 use Rattle.ac_omega.specs.declared.piece.Piece.{Piece}
-use Rattle.ac_omega.specs.Columns.{is_present}
+use Rattle.ac_forms.specs.Columns.{is_present}
 
+-- the number is one of the numbers
 abbrev pub is_among : ℕ → List ℕ → Bool
-is_among z [] = false
-is_among z (y ∷ ys) = (z == y) || is_among z ys
+is_among z zs = list_any (nat_eq z) zs
 
 -- the point q is p but for the numbers of these columns
 pub record DiffersIn (vars : List ℕ) (p q : List ℤ) : Type 0 where
@@ -20,16 +21,15 @@ pub record HoldsFor (vars : List ℕ) (rows : List Row) (p : List ℤ) : Type 0 
   pub differs : DiffersIn vars p at
   pub meets : Meets rows at
 
--- one of the pieces holds at the point
-abbrev pub SomeHolds : List Piece → List ℤ → Type 0
-SomeHolds [] p = ⊥
-SomeHolds (x ∷ xs) p = Meets x.rest.rows p ⊎ SomeHolds xs p
+-- the rows that are left of the piece hold at the point
+abbrev pub MeetsRest : Piece → List ℤ → Type 0
+MeetsRest x p = Meets x.rest.rows p
 
 -- no row of the pieces has one of the columns
 abbrev pub HaveNone : List ℕ → List Row → Type 0
 HaveNone [] rows = Unit {0}
 HaveNone (z ∷ zs) rows = (is_present z rows ≡ false) × HaveNone zs rows
 
-abbrev pub AllGone : List ℕ → List Piece → Type 0
-AllGone vars [] = Unit {0}
-AllGone vars (x ∷ xs) = HaveNone vars x.rest.rows × AllGone vars xs
+abbrev pub AllEmpty : List ℕ → List Piece → Type 0
+AllEmpty vars [] = Unit {0}
+AllEmpty vars (x ∷ xs) = HaveNone vars x.rest.rows × AllEmpty vars xs

@@ -15,10 +15,10 @@ use Rattle.ac_omega.specs.declared.search.Walked.{Walked}
 use Rattle.ac_omega.specs.declared.search.Walked.TheVariants as done
 use Rattle.ac_omega.specs.Columns.{next_column}
 use Rattle.ac_omega.specs.Maxima.{Maxima}
-use Rattle.ac_trails.specs.Refutations.{conj_of, Refutes}
-use Rattle.ac_trails.specs.Tries.{Tries}
-use Rattle.ac_trails.specs.declared.strategy.Strategy.{Strategy}
-use Rattle.ac_trails.specs.declared.refutation.Refutation.{Refutation}
+use Rattle.ac_refutations.specs.Refutations.{conj_of, Refutes}
+use Rattle.ac_refutations.specs.Alternatives.{Alternatives}
+use Rattle.ac_refutations.specs.declared.strategy.Strategy.{Strategy}
+use Rattle.ac_refutations.specs.declared.refutation.Refutation.{Refutation}
 use Rattle.ac_omega.specs.Walk as def
 use Rattle.ac_omega.specs.Walk.{IsTried}
 
@@ -50,7 +50,7 @@ with_refutation rs (Some r) = rs ++ r ∷ []
 
 -- the answer is the walk's; it stops where the walk does, at the first cost above the budget or at 2^64 - 1
 abbrev pub Searches : Result Walked Halt → def.Walked Maxima → Type 0
-Searches (Ok (done.Gone k s r)) w = w ≡ def.Gone k s
+Searches (Ok (done.Empty k s r)) w = w ≡ def.Empty k s
 Searches (Ok (done.Found p)) w = w ≡ def.Found p.items
 Searches (Err halt.Wide) w = w ≡ def.Wide
 Searches (Err (halt.Spent c)) w = (j : ℕ) × (w ≡ def.Spent j) × (c ≡ min j (2 ^ 64 - 1))
@@ -64,7 +64,7 @@ Leaves (Err (halt.Spent c)) made = ⊥
 Leaves (Err (halt.Memory e)) made = Unit {0}
 
 -- each of the choices is legal
-abbrev pub AreLegal : Tries → Conj → Type 0
+abbrev pub AreLegal : Alternatives → Conj → Type 0
 AreLegal hs c = (h : Choice) → IsTried h hs → is_legal h c ≡ true
 
 -- the point that a point of what a choice leaves goes back to, where its numbers stay in `i128`
@@ -72,16 +72,16 @@ abbrev pub lifted_to : Choice → Conj → List ℤ → Option (List ℤ)
 lifted_to h c p = cond (lift_fits h c.rows p) (Some (lifted h c.rows p)) None
 
 abbrev pub IfFound : Walked → (List ℤ → Type 0) → Type 0
-IfFound (done.Gone k s r) P = Unit {0}
+IfFound (done.Empty k s r) P = Unit {0}
 IfFound (done.Found p) P = P p.items
 
-abbrev pub IfGone : Walked → (Maxima → Option Refutation → Type 0) → Type 0
-IfGone (done.Gone k s r) P = P s r
-IfGone (done.Found p) P = Unit {0}
+abbrev pub IfWalkedEmpty : Walked → (Maxima → Option Refutation → Type 0) → Type 0
+IfWalkedEmpty (done.Empty k s r) P = P s r
+IfWalkedEmpty (done.Found p) P = Unit {0}
 
 -- the running cost did not fall, and is within the budget
 abbrev pub HasGrown : ℕ → ℕ → Walked → Type 0
-HasGrown k budget (done.Gone j s r) = (k ≤ j) × (j ≤ budget)
+HasGrown k budget (done.Empty j s r) = (k ≤ j) × (j ≤ budget)
 HasGrown k budget (done.Found p) = Unit {0}
 
 -- the refutation of this conjunction stands

@@ -13,10 +13,10 @@ use Rattle.ac_omega.specs.declared.search.Walked.{Walked}
 use Rattle.ac_omega.specs.declared.search.Walked.TheVariants as done
 use Rattle.ac_omega.specs.Elimination.{look}
 use Rattle.ac_omega.specs.Maxima.{Maxima, with_rows, with_choice}
-use Rattle.ac_omega.specs.Walk.{Method, Look, Done, Absurd, Open}
+use Rattle.ac_omega.specs.Walk.{Method, Node, Done, Absurd, Open}
 use Rattle.ac_omega.specs.Walk as def
-use Rattle.ac_trails.specs.Tries.{Tries}
-use Rattle.ac_trails.specs.declared.strategy.Strategy.{Strategy}
+use Rattle.ac_refutations.specs.Alternatives.{Alternatives}
+use Rattle.ac_refutations.specs.declared.strategy.Strategy.{Strategy}
 
 -- what a walk has met and kept so far
 pub record Seen : Type 0 where
@@ -30,12 +30,12 @@ abbrev pub piece_of : List Choice → Conj → Piece
 piece_of path c = record { choices = path; rest = c }
 
 -- where nothing is left to eliminate: the walk ends with a point, or keeps a piece and goes on
-abbrev pub leaf : Aim → List ℤ → Look Choice
+abbrev pub leaf : Aim → List ℤ → Node Choice
 leaf ForPoint p = Done p
 leaf ForRefutation p = Done p
 leaf ForPieces p = Open []
 
-abbrev pub look_for : Aim → Look Choice → Look Choice
+abbrev pub look_for : Aim → Node Choice → Node Choice
 look_for aim (Done p) = leaf aim p
 look_for aim Absurd = Absurd
 look_for aim (Open hs) = Open hs
@@ -45,7 +45,7 @@ with_piece ForPoint x ps = ps
 with_piece ForRefutation x ps = ps
 with_piece ForPieces x ps = ps ++ x ∷ []
 
-abbrev pub pieces_at : Aim → Piece → List Piece → Look Choice → List Piece
+abbrev pub pieces_at : Aim → Piece → List Piece → Node Choice → List Piece
 pieces_at aim x ps (Done p) = with_piece aim x ps
 pieces_at aim x ps Absurd = ps
 pieces_at aim x ps (Open hs) = ps
@@ -62,22 +62,22 @@ visiting strategy aim vars = record {
 
 -- the answer, with the pieces by then, is the walk's; it stops where the walk does, at the first cost above the budget or at 2^64 - 1
 abbrev pub Visits : Result Walked Halt → List Piece → def.Walked Seen → Type 0
-Visits (Ok (done.Gone k s r)) ps w = w ≡ def.Gone k (seen s ps)
+Visits (Ok (done.Empty k s r)) ps w = w ≡ def.Empty k (seen s ps)
 Visits (Ok (done.Found p)) ps w = w ≡ def.Found p.items
 Visits (Err halt.Wide) ps w = w ≡ def.Wide
 Visits (Err (halt.Spent c)) ps w = (j : ℕ) × (w ≡ def.Spent j) × (c ≡ min j (2 ^ 64 - 1))
 Visits (Err (halt.Memory e)) ps w = Unit {0}
 
 -- the walk of some choices, where at most n conjunctions stand on one path behind them
-abbrev pub tried : Strategy → Aim → List ℕ → ℕ → ℕ → List Choice → Conj → Tries → ℕ → Seen → def.Walked Seen
+abbrev pub tried : Strategy → Aim → List ℕ → ℕ → ℕ → List Choice → Conj → Alternatives → ℕ → Seen → def.Walked Seen
 tried strategy aim vars n budget path c hs k s = def.tries (visiting strategy aim vars) (λ x j t. def.walk (visiting strategy aim vars) n budget x j t) (path, c) hs k s
 
 -- the answer is that of the walk of some choices, whatever bound on the path exceeds what is left of the budget
-abbrev pub Tried : Result Walked Halt → List Piece → Strategy → Aim → List ℕ → ℕ → List Choice → Conj → Tries → ℕ → Seen → Type 0
+abbrev pub Tried : Result Walked Halt → List Piece → Strategy → Aim → List ℕ → ℕ → List Choice → Conj → Alternatives → ℕ → Seen → Type 0
 Tried result ps strategy aim vars budget path c hs k s = (n : ℕ) → budget < n + k → Visits result ps (tried strategy aim vars n budget path c hs k s)
 
 -- what the walk comes to where nothing is left to eliminate
 abbrev pub at_leaf : Aim → List Choice → Conj → ℕ → Maxima → List Piece → def.Walked Seen
 at_leaf ForPoint path c k s ps = def.Found (replicate c.columns (pos 0))
 at_leaf ForRefutation path c k s ps = def.Found (replicate c.columns (pos 0))
-at_leaf ForPieces path c k s ps = def.Gone k (seen s (ps ++ piece_of path c ∷ []))
+at_leaf ForPieces path c k s ps = def.Empty k (seen s (ps ++ piece_of path c ∷ []))

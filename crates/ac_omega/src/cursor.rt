@@ -1,14 +1,14 @@
 ghost use Rattle.std.specs.Prelude.{◌≡◌, ◌<◌, ◌≤◌, ◌^◌, ◌-◌, ◌++◌, suc, List, [], ◌∷◌, Some, pos, ◌≤ℤ◌, unsigned_abs, length, false, drop, IfOk};
 ghost use Rattle.ac_forms.specs.Rows.{HaveModuli};
 ghost use Rattle.ac_cert.specs.Bounds.{is_one_sided};
-ghost use Rattle.ac_omega.specs.Cursors.{kept_for, tries_left, IsSound, IsNext};
-ghost use Rattle.ac_trails.specs.Tries.{residues_from, splinters_from, splinters, tries_for};
+ghost use Rattle.ac_omega.specs.Cursors.{kept_for, alternatives_left, IsSound, IsNext};
+ghost use Rattle.ac_refutations.specs.Alternatives.{residues_from, splinters_from, splinters, alternatives_for};
 
 use crate::needs::{kept_for, splinter_count};
 use crate::scan::{common_modulus, first_equality, has_divisibility, is_one_sided};
 use ac_cert::Choice;
 use ac_forms::Row;
-use ac_trails::Strategy;
+use ac_refutations::Strategy;
 use std::alloc::{AllocError, Global};
 
 /// Where one stands among the choices for a column, which are made one at a time.
@@ -46,7 +46,7 @@ pub(crate) enum Next {
 /// Before the first of the choices of a strategy for a column.
 pub(crate) fn first(strategy: Strategy, z: usize, rows: &[Row]) -> Cursor
     requires { HaveModuli rows.now }
-    ensures value { tries_left strategy z rows.now result ≡ tries_for strategy z rows.now }
+    ensures value { alternatives_left strategy z rows.now result ≡ alternatives_for strategy z rows.now }
     ensures sound { IsSound strategy z rows.now result }
 {
     if let Some(place) = first_equality(z, rows) {
@@ -74,7 +74,7 @@ pub(crate) fn advance(
     cursor: &Cursor,
 ) -> Result<Next, AllocError>
     requires { IsSound strategy z rows.now cursor.now }
-    ensures { IfOk result (λ next. IsNext strategy z rows.now next (tries_left strategy z rows.now cursor.now)) }
+    ensures { IfOk result (λ next. IsNext strategy z rows.now next (alternatives_left strategy z rows.now cursor.now)) }
 {
     match cursor {
         Cursor::Equal(place) => Ok(Next::Try(Choice::Equal(z, *place), Cursor::End)),

@@ -4,12 +4,12 @@ ghost use Rattle.ac_forms.specs.Rows.{IsWellMade, CanTest};
 ghost use Rattle.ac_cert.specs.Accepted.{Accepts, absurd_refusals};
 ghost use Rattle.ac_cert.specs.Points.{IsPoint};
 ghost use Rattle.ac_omega.specs.Elimination.{eliminating};
-ghost use Rattle.ac_omega.specs.Searching.{Searches, IfFound, IfGone, IsRefuted, IsNormal, WantsPoint, WantsRefutation, columns_to};
+ghost use Rattle.ac_omega.specs.Searching.{Searches, IfFound, IfWalkedEmpty, IsRefuted, IsNormal, WantsPoint, WantsRefutation, columns_to};
 ghost use Rattle.ac_omega.specs.Decisions.{Decides, Finds, Settles, Certifies, IfEmpty, IfPoint, IfCertified, IfMet, walk_of};
 ghost use Rattle.ac_omega.specs.Walk.{walk};
 ghost use Rattle.ac_omega.specs.Within.{Bounds, HaveRisen, IsWithin};
-ghost use Rattle.ac_trails.specs.Refutations.{IsRefutationOf};
-ghost use Rattle.ac_trails.specs.declared.strategy.Strategy.TheVariants.{Full};
+ghost use Rattle.ac_refutations.specs.Refutations.{IsRefutationOf};
+ghost use Rattle.ac_refutations.specs.declared.strategy.Strategy.TheVariants.{Full};
 
 use crate::extent::{Maxima, are_large, with_rows};
 use crate::halt::Halt;
@@ -18,7 +18,7 @@ use crate::search::{Aim, Walked, search};
 use ac_cert::{Absurd, Tree};
 use ac_forms::{Conj, FormStop};
 use ac_items::Items;
-use ac_trails::{Refutation, Strategy, certify};
+use ac_refutations::{Refutation, Strategy, certify};
 use std::alloc::{AllocError, Global};
 
 /// What a question comes to.
@@ -64,10 +64,10 @@ fn search_all(
     requires normal { IsNormal conj }
     ensures exact { Searches result (walk (eliminating strategy (columns_to conj.columns)) (budget + 1) budget conj 0 met) }
     ensures point { IfOk result (λ w. IfFound w (λ p. IsPoint conj p)) }
-    ensures told { IfOk result (λ w. IfGone w (λ s r. WantsRefutation aim → IsSome r)) }
-    ensures refuted { IfOk result (λ w. IfGone w (λ s r. IfSome r (λ x. IsRefuted conj x))) }
-    ensures within { IfOk result (λ w. IfGone w (λ s r. IfSome r (λ x. IsWithin s x))) }
-    ensures risen { IfOk result (λ w. IfGone w (λ s r. HaveRisen met s)) }
+    ensures told { IfOk result (λ w. IfWalkedEmpty w (λ s r. WantsRefutation aim → IsSome r)) }
+    ensures refuted { IfOk result (λ w. IfWalkedEmpty w (λ s r. IfSome r (λ x. IsRefuted conj x))) }
+    ensures within { IfOk result (λ w. IfWalkedEmpty w (λ s r. IfSome r (λ x. IsWithin s x))) }
+    ensures risen { IfOk result (λ w. IfWalkedEmpty w (λ s r. HaveRisen met s)) }
 {
     let vars = all_columns(alloc, conj.columns)?;
     let mut path = Items::new(alloc);
@@ -114,10 +114,10 @@ fn walked(
     requires made { IsWellMade conj.now }
     ensures exact { Decides result conj.now (walk_of strategy budget conj.now) }
     ensures point { IfOk result (λ w. IfFound w (λ p. IsPoint conj.now p)) }
-    ensures told { IfOk result (λ w. IfGone w (λ s r. WantsRefutation aim → IsSome r)) }
-    ensures refuted { IfOk result (λ w. IfGone w (λ s r. IfSome r (λ x. IsRefutationOf conj.now x))) }
-    ensures within { IfOk result (λ w. IfGone w (λ s r. IfSome r (λ x. IsWithin s x))) }
-    ensures bound { IfOk result (λ w. IfGone w (λ s r. Bounds s conj.now.rows)) }
+    ensures told { IfOk result (λ w. IfWalkedEmpty w (λ s r. WantsRefutation aim → IsSome r)) }
+    ensures refuted { IfOk result (λ w. IfWalkedEmpty w (λ s r. IfSome r (λ x. IsRefutationOf conj.now x))) }
+    ensures within { IfOk result (λ w. IfWalkedEmpty w (λ s r. IfSome r (λ x. IsWithin s x))) }
+    ensures bound { IfOk result (λ w. IfWalkedEmpty w (λ s r. Bounds s conj.now.rows)) }
 {
     let normal = match conj.normalise(alloc) {
         Ok(normal) => normal,
@@ -131,12 +131,12 @@ fn walked(
     let met = with_rows(conj.rows.as_slice(), none);
     match search_all(alloc, strategy, aim, normal, budget, met) {
         Ok(
-            Walked::Gone {
+            Walked::Empty {
                 cost,
                 maxima,
                 refutation,
             },
-        ) => Ok(Walked::Gone {
+        ) => Ok(Walked::Empty {
             cost,
             maxima,
             refutation,
@@ -188,7 +188,7 @@ pub fn find_point_by(
     ensures differences { conj.now.columns ≤ 60 → AreDifferences (2 ^ 48) conj.now.rows → IfErr result (StopsBelow conj.now.columns budget) }
 {
     match walked(alloc, strategy, Aim::ForPoint, conj, budget) {
-        Ok(Walked::Gone { maxima, .. }) => Ok(Decided::Empty(maxima)),
+        Ok(Walked::Empty { maxima, .. }) => Ok(Decided::Empty(maxima)),
         Ok(Walked::Found(point)) => Ok(Decided::Point(point)),
         Err(halt) => Err(handed_back(alloc, halt, conj)),
     }
@@ -242,7 +242,7 @@ fn settled(alloc: Global, strategy: Strategy, conj: &Conj, budget: u64) -> Resul
 {
     match walked(alloc, strategy, Aim::ForRefutation, conj, budget) {
         Ok(
-            Walked::Gone {
+            Walked::Empty {
                 maxima,
                 refutation,
                 ..

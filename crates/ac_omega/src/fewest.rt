@@ -9,7 +9,7 @@ use crate::needs::splinter_count;
 use crate::ranking::{excess_of, less};
 use crate::scan::is_one_sided;
 use ac_forms::Row;
-use ac_trails::Strategy;
+use ac_refutations::Strategy;
 use std::alloc::{AllocError, Global};
 
 /// A column that rows bound from both sides, with the numbers by which it is compared.

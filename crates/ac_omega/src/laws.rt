@@ -4,15 +4,16 @@ ghost use Rattle.std.specs.Prelude.{◌≡◌, ◌<◌, ◌≤◌, ◌+◌, ℕ,
 ghost use Rattle.ac_forms.specs.Rows.{IsWellMade, Meets};
 ghost use Rattle.ac_forms.specs.declared.row.Row.{Row};
 ghost use Rattle.ac_cert.specs.Choices.{are_absurd};
-ghost use Rattle.ac_omega.specs.Columns.{is_present, least_by, next_column, precedes, precedes_by_two};
+ghost use Rattle.ac_omega.specs.Columns.{least_by, next_column, precedes, precedes_by_two};
+ghost use Rattle.ac_forms.specs.Columns.{is_present};
 ghost use Rattle.ac_omega.specs.Searching.{IsNormal};
 ghost use Rattle.ac_omega.specs.Elimination.{elimination};
 ghost use Rattle.ac_omega.specs.Maxima.{Maxima};
 ghost use Rattle.ac_omega.specs.Projection.{HaveNone, is_among};
-ghost use Rattle.ac_omega.specs.Walk.{Gone, walk};
+ghost use Rattle.ac_omega.specs.Walk.{Empty, walk};
 
 use ac_forms::Conj;
-use ac_trails::Strategy;
+use ac_refutations::Strategy;
 
 /// A walk needs no more conjunctions on one path than the budget leaves: any two numbers above that give the same walk.
 pub fn walk_is_one(strategy: Strategy, vars: &[usize], conj: &Conj, budget: u64, cost: u64)
@@ -23,8 +24,8 @@ pub fn walk_is_one(strategy: Strategy, vars: &[usize], conj: &Conj, budget: u64,
 /// Where a walk finds no point, no integer point meets the conjunction, and its cost is within the budget.
 pub fn walk_without_a_point(strategy: Strategy, vars: &[usize], conj: &Conj, budget: u64, cost: u64)
     requires { IsWellMade conj.now }
-    ensures empty { (n k : ℕ) (s t : Maxima) → walk (elimination strategy vars.now) n budget conj.now cost s ≡ Gone k t → (p : List ℤ) → length p ≡ conj.now.columns → Meets conj.now.rows p → ⊥ }
-    ensures cost { (n k : ℕ) (s t : Maxima) → walk (elimination strategy vars.now) n budget conj.now cost s ≡ Gone k t → (cost ≤ k) × (k ≤ budget) }
+    ensures empty { (n k : ℕ) (s t : Maxima) → walk (elimination strategy vars.now) n budget conj.now cost s ≡ Empty k t → (p : List ℤ) → length p ≡ conj.now.columns → Meets conj.now.rows p → ⊥ }
+    ensures cost { (n k : ℕ) (s t : Maxima) → walk (elimination strategy vars.now) n budget conj.now cost s ≡ Empty k t → (cost ≤ k) × (k ≤ budget) }
 {}
 
 /// Where no column is the next one, no row has one of the columns.

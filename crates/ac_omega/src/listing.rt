@@ -3,14 +3,14 @@ ghost use Rattle.ac_forms.specs.Rows.{IsWellMade, HaveModuli, Meets};
 ghost use Rattle.ac_cert.specs.declared.choose.Choice.{Choice};
 ghost use Rattle.ac_cert.specs.Choices.{are_absurd, is_legal, left_by};
 ghost use Rattle.ac_omega.specs.Stops.{MadeOf};
-ghost use Rattle.ac_trails.specs.Tries.{tries_for, all_of, IsAmong};
-ghost use Rattle.ac_trails.specs.declared.strategy.Strategy.TheVariants.{Full};
+ghost use Rattle.ac_refutations.specs.Alternatives.{alternatives_for, all_of, IsAmong};
+ghost use Rattle.ac_refutations.specs.declared.strategy.Strategy.TheVariants.{Full};
 
 use crate::cursor::{Next, advance, first};
 use ac_cert::Choice;
 use ac_forms::{Conj, FormStop, Row};
 use ac_items::Items;
-use ac_trails::Strategy;
+use ac_refutations::Strategy;
 use std::alloc::Global;
 
 /// The choices for a column, in order, all at once.
@@ -22,7 +22,7 @@ pub fn choices(alloc: Global, conj: &Conj, z: usize) -> Result<Items<Choice>, Fo
     requires made { IsWellMade conj.now }
     requires column { z < conj.now.columns }
     requires not_absurd { are_absurd conj.now.rows ≡ false }
-    ensures exact { MadeOf result (all_of (tries_for Full z conj.now.rows)) }
+    ensures exact { MadeOf result (all_of (alternatives_for Full z conj.now.rows)) }
     ensures legal { IfOk result (λ hs. (h : Choice) → IsAmong h hs → is_legal h conj.now ≡ true) }
     ensures complete { IfOk result (λ hs. (p : List ℤ) → length p ≡ conj.now.columns → ((v : ℤ) × Meets conj.now.rows (set p z v)) ↔ ((h : Choice) × IsAmong h hs × (w : ℤ) × Meets (left_by h conj.now.rows) (set p z w))) }
 {
@@ -42,7 +42,7 @@ pub fn choices_by(
     requires made { IsWellMade conj.now }
     requires column { z < conj.now.columns }
     requires not_absurd { are_absurd conj.now.rows ≡ false }
-    ensures exact { MadeOf result (all_of (tries_for strategy z conj.now.rows)) }
+    ensures exact { MadeOf result (all_of (alternatives_for strategy z conj.now.rows)) }
     ensures legal { IfOk result (λ hs. (h : Choice) → IsAmong h hs → is_legal h conj.now ≡ true) }
     ensures complete { IfOk result (λ hs. (p : List ℤ) → length p ≡ conj.now.columns → ((v : ℤ) × Meets conj.now.rows (set p z v)) ↔ ((h : Choice) × IsAmong h hs × (w : ℤ) × Meets (left_by h conj.now.rows) (set p z w))) }
 {
@@ -57,7 +57,7 @@ fn listed(
     rows: &[Row],
 ) -> Result<Items<Choice>, FormStop>
     requires { HaveModuli rows.now }
-    ensures { MadeOf result (all_of (tries_for strategy z rows.now)) }
+    ensures { MadeOf result (all_of (alternatives_for strategy z rows.now)) }
 {
     let mut made = Items::new(alloc);
     let mut cursor = first(strategy, z, rows);

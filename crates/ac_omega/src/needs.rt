@@ -4,12 +4,12 @@ ghost use Rattle.ac_forms.specs.Affine.{coef};
 ghost use Rattle.ac_cert.specs.Bounds.{is_low, is_one_sided};
 ghost use Rattle.ac_omega.specs.Columns.{count_for, count_of};
 ghost use Rattle.ac_omega.specs.Cursors.{kept_for};
-ghost use Rattle.ac_trails.specs.Tries.{count_to, need_of};
+ghost use Rattle.ac_refutations.specs.Alternatives.{count_to, need_of};
 
 use crate::scan::{greatest_size, is_lower_row, last_splinter};
 use ac_exact::needed_size;
 use ac_forms::{Form, FormStop, Row};
-use ac_trails::Strategy;
+use ac_refutations::Strategy;
 use std::alloc::{AllocError, Global};
 
 /// What is kept for all lower rows of a column: the greatest size of an upper row, where each lower row has its splinters for

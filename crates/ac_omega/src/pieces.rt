@@ -3,9 +3,10 @@ ghost use Rattle.ac_forms.specs.Rows.{IsWellMade};
 ghost use Rattle.ac_omega.specs.Answers.{Eliminates, HandsBack};
 ghost use Rattle.ac_omega.specs.Differences.{AreDifferences, AreAllDifferences, StopsBelow};
 ghost use Rattle.ac_omega.specs.Elimination.{pieces_of};
-ghost use Rattle.ac_omega.specs.Projection.{HoldsFor, SomeHolds, AllGone};
+ghost use Rattle.ac_omega.specs.Projection.{HoldsFor, AllEmpty, MeetsRest};
+ghost use Rattle.ac_forms.specs.Pieces.{IsInSome};
 ghost use Rattle.ac_omega.specs.Replays.{AreReached, HaveAllFrom, AreOver};
-ghost use Rattle.ac_trails.specs.declared.strategy.Strategy.TheVariants.{Full};
+ghost use Rattle.ac_refutations.specs.declared.strategy.Strategy.TheVariants.{Full};
 
 use crate::extent::Maxima;
 use crate::halt::Halt;
@@ -13,7 +14,7 @@ use crate::piece::Piece;
 use crate::search::{Aim, search};
 use ac_forms::{Conj, FormStop};
 use ac_items::Items;
-use ac_trails::Strategy;
+use ac_refutations::Strategy;
 use std::alloc::{AllocError, Global};
 
 /// Why a question has no answer. The question is handed back as a copy.
@@ -67,8 +68,8 @@ pub fn eliminate(
 ) -> Result<Items<Piece>, Stop>
     requires { IsWellMade conj.now }
     ensures exact { Eliminates result conj.now (pieces_of Full vars.now budget conj.now) }
-    ensures gone { IfOk result (λ pieces. AllGone vars.now pieces) }
-    ensures projection { IfOk result (λ pieces. (p : List ℤ) → length p ≡ conj.now.columns → HoldsFor vars.now conj.now.rows p ↔ SomeHolds pieces p) }
+    ensures gone { IfOk result (λ pieces. AllEmpty vars.now pieces) }
+    ensures projection { IfOk result (λ pieces. (p : List ℤ) → length p ≡ conj.now.columns → HoldsFor vars.now conj.now.rows p ↔ IsInSome MeetsRest pieces p) }
     ensures reached { IfOk result (λ pieces. AreReached vars.now conj.now pieces) }
     ensures over { (n : ℕ) → HaveAllFrom n conj.now.columns vars.now → IfOk result (λ pieces. AreOver n pieces) }
     ensures differences { conj.now.columns ≤ 60 → AreDifferences (2 ^ 48) conj.now.rows → IfErr result (StopsBelow conj.now.columns budget) }
@@ -91,8 +92,8 @@ pub fn eliminate_by(
 ) -> Result<Items<Piece>, Stop>
     requires { IsWellMade conj.now }
     ensures exact { Eliminates result conj.now (pieces_of strategy vars.now budget conj.now) }
-    ensures gone { IfOk result (λ pieces. AllGone vars.now pieces) }
-    ensures projection { IfOk result (λ pieces. (p : List ℤ) → length p ≡ conj.now.columns → HoldsFor vars.now conj.now.rows p ↔ SomeHolds pieces p) }
+    ensures gone { IfOk result (λ pieces. AllEmpty vars.now pieces) }
+    ensures projection { IfOk result (λ pieces. (p : List ℤ) → length p ≡ conj.now.columns → HoldsFor vars.now conj.now.rows p ↔ IsInSome MeetsRest pieces p) }
     ensures reached { IfOk result (λ pieces. AreReached vars.now conj.now pieces) }
     ensures over { (n : ℕ) → HaveAllFrom n conj.now.columns vars.now → IfOk result (λ pieces. AreOver n pieces) }
     ensures differences { conj.now.columns ≤ 60 → AreDifferences (2 ^ 48) conj.now.rows → IfErr result (StopsBelow conj.now.columns budget) }
@@ -111,8 +112,8 @@ fn eliminated(
 ) -> Result<Items<Piece>, Stop>
     requires { IsWellMade conj.now }
     ensures exact { Eliminates result conj.now (pieces_of strategy vars.now budget conj.now) }
-    ensures gone { IfOk result (λ pieces. AllGone vars.now pieces) }
-    ensures projection { IfOk result (λ pieces. (p : List ℤ) → length p ≡ conj.now.columns → HoldsFor vars.now conj.now.rows p ↔ SomeHolds pieces p) }
+    ensures gone { IfOk result (λ pieces. AllEmpty vars.now pieces) }
+    ensures projection { IfOk result (λ pieces. (p : List ℤ) → length p ≡ conj.now.columns → HoldsFor vars.now conj.now.rows p ↔ IsInSome MeetsRest pieces p) }
 {
     let rest = match conj.normalise(alloc) {
         Ok(rest) => rest,

@@ -1,13 +1,14 @@
 ghost use Rattle.std.specs.Prelude.{◌≡◌, ◌↔◌, IsTrue, IfOk, ◌<◌, ◌≤◌, ◌+◌, ◌^◌, ◌||◌, Some, pos, [], ◌∷◌, length, unsigned_abs, filter, cond};
 ghost use Rattle.ac_forms.specs.Affine.{coef};
 ghost use Rattle.ac_forms.specs.Rows.{HaveModuli, form_of};
-ghost use Rattle.ac_cert.specs.Bounds.{has_column, is_low, is_high, lows, highs, is_one_sided};
-ghost use Rattle.ac_omega.specs.Columns.{AreColumns, is_present, are_units, are_unit_pairs, excess, less, precedes, better, by_equality, passes, key, by_rule, by_splinters, least_by, size_key, next_column};
+ghost use Rattle.ac_cert.specs.Bounds.{is_low, is_high, lows, highs, is_one_sided};
+ghost use Rattle.ac_forms.specs.Columns.{has_column, is_present};
+ghost use Rattle.ac_omega.specs.Columns.{AreColumns, are_units, are_unit_pairs, excess, less, precedes, better, by_equality, passes, key, by_rule, by_splinters, least_by, size_key, next_column};
 
 use crate::fewest::fewest;
-use crate::scan::{common_modulus, has_column, has_divisibility, is_one_sided};
-use ac_forms::{Form, Row};
-use ac_trails::Strategy;
+use crate::scan::{common_modulus, has_divisibility, is_one_sided};
+use ac_forms::{Form, Row, is_present};
+use ac_refutations::Strategy;
 use std::alloc::{AllocError, Global};
 
 /// The rules by which the next column is taken where no equality decides.
@@ -34,18 +35,6 @@ pub fn are_columns(vars: &[usize], columns: usize) -> bool
         }
     }
     true
-}
-
-/// Whether some row has a column.
-fn is_present(z: usize, rows: &[Row]) -> bool
-    ensures { result ≡ is_present z rows.now }
-{
-    for row in rows {
-        if has_column(z, row) {
-            return true;
-        }
-    }
-    false
 }
 
 /// How many lower rows of a column the row is: 1 or none.

@@ -1,13 +1,14 @@
 ghost use Rattle.std.specs.Prelude.{◌≡◌, ◌<◌, ◌^◌, not, pos, ◌≤ℤ◌, SomeIff, IfSome, Some, true, [], ◌∷◌};
 ghost use Rattle.ac_forms.specs.Fits.{Fits};
 ghost use Rattle.ac_forms.specs.Rows.{HasModulus, HaveModuli};
-ghost use Rattle.ac_cert.specs.Bounds.{has_column, lows, highs, is_none, is_one_sided};
+ghost use Rattle.ac_cert.specs.Bounds.{lows, highs, is_none, is_one_sided};
+ghost use Rattle.ac_forms.specs.Columns.{has_column};
 ghost use Rattle.ac_cert.specs.Choices.{are_absurd, is_equality_of, is_lower_row};
 ghost use Rattle.ac_cert.specs.ChoiceFits.{sizes_fit};
 ghost use Rattle.ac_omega.specs.CommonMultiple.{IsLcm};
-ghost use Rattle.ac_trails.specs.Tries.{first_equality, has_divisibility, lcm, common_modulus, greatest_size, last_splinter, last_splinter_fits};
+ghost use Rattle.ac_refutations.specs.Alternatives.{first_equality, has_divisibility, lcm, common_modulus, greatest_size, last_splinter, last_splinter_fits};
 
-use ac_forms::Row;
+use ac_forms::{Row, has_column};
 use ac_integers::greatest_common_divisor;
 
 /// Whether rows are those of the absurd conjunction: `-1 >= 0` alone.
@@ -19,14 +20,6 @@ pub fn are_absurd(rows: &[Row]) -> bool
         [Row::Ge(form)] => form.columns() == 0 && form.konst() == -1,
         _ => false,
     }
-}
-
-/// Whether a row has a column.
-#[tactic(auto, using(ac_integers::proofs::Bits::again_128))]
-pub(crate) fn has_column(z: usize, row: &Row) -> bool
-    ensures { result ≡ has_column z row.now }
-{
-    row.form().coef(z) != 0
 }
 
 /// Whether a row is an equality that has a column.

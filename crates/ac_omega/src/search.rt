@@ -4,13 +4,13 @@ ghost use Rattle.ac_forms.specs.declared.conj.Conj.{Conj};
 ghost use Rattle.ac_cert.specs.Choices.{are_absurd, is_legal, left_by};
 ghost use Rattle.ac_cert.specs.ChoiceFits.{after_choice};
 ghost use Rattle.ac_cert.specs.Points.{IsPoint};
-ghost use Rattle.ac_omega.specs.Searching.{lifted_to, Leaves, IfFound, IfGone, IsRefuted, IsRefutedBehind, HasGrown, AreLegal, IsNormal, SettleFor, WantsPoint, WantsRefutation, wanted, with_choice_behind, with_refutation};
+ghost use Rattle.ac_omega.specs.Searching.{lifted_to, Leaves, IfFound, IfWalkedEmpty, IsRefuted, IsRefutedBehind, HasGrown, AreLegal, IsNormal, SettleFor, WantsPoint, WantsRefutation, wanted, with_choice_behind, with_refutation};
 ghost use Rattle.ac_omega.specs.declared.piece.Piece.{Piece};
 ghost use Rattle.ac_omega.specs.Visits.{Visits, Tried, visiting, seen, at_leaf};
-ghost use Rattle.ac_trails.specs.Tries.{tries_for};
+ghost use Rattle.ac_refutations.specs.Alternatives.{alternatives_for};
 ghost use Rattle.ac_omega.specs.Walk.{walk, lifted};
 ghost use Rattle.ac_omega.specs.Within.{Bounds, HaveRisen, IsWithin};
-ghost use Rattle.ac_trails.specs.Refutations.{AreModuliWithin};
+ghost use Rattle.ac_refutations.specs.Refutations.{AreModuliWithin};
 
 use crate::cursor::{Next, advance, first};
 use crate::extent::{Maxima, with_choice, with_rows};
@@ -21,7 +21,7 @@ use crate::scan::are_absurd;
 use ac_cert::{Choice, StepStop};
 use ac_forms::{Conj, FormStop, Row};
 use ac_items::Items;
-use ac_trails::{Refutation, Strategy};
+use ac_refutations::{Refutation, Strategy};
 use std::alloc::{AllocError, Global};
 
 /// What a walk is for.
@@ -39,7 +39,7 @@ pub(crate) enum Aim {
 #[derive(Debug, Drop)]
 pub(crate) enum Walked {
     /// It has gone through all choices.
-    Gone {
+    Empty {
         /// The running cost.
         cost: u64,
         /// The greatest numbers that were met.
@@ -115,7 +115,7 @@ fn lifted(alloc: Global, conj: &Conj, choice: &Choice, point: &[i128]) -> Result
     requires meets { Meets (left_by choice.now conj.now.rows) point.now }
     ensures exact { (ps : List Piece) → Visits result ps (lifted (lifted_to choice.now conj.now point.now)) }
     ensures point { IfOk result (λ w. IfFound w (λ p. IsPoint conj.now p)) }
-    ensures found { IfOk result (λ w. IfGone w (λ s r. ⊥)) }
+    ensures found { IfOk result (λ w. IfWalkedEmpty w (λ s r. ⊥)) }
 {
     match ac_cert::lift(alloc, conj, choice, point) {
         Ok(back) => Ok(Walked::Found(back)),
@@ -136,9 +136,9 @@ fn at_leaf(
 ) -> Result<Walked, Halt>
     ensures exact { Visits result pieces.new (at_leaf aim path.now conj cost met pieces.old) }
     ensures point { IfOk result (λ w. IfFound w (λ p. WantsPoint aim × (p ≡ replicate conj.columns (pos 0)))) }
-    ensures gone { IfOk result (λ w. IfGone w (λ s r. (aim ≡ Aim.ForPieces) × (s ≡ met))) }
+    ensures gone { IfOk result (λ w. IfWalkedEmpty w (λ s r. (aim ≡ Aim.ForPieces) × (s ≡ met))) }
     ensures grown { IfOk result (λ w. HasGrown cost cost w) }
-    ensures none { IfOk result (λ w. IfGone w (λ s r. r ≡ None)) }
+    ensures none { IfOk result (λ w. IfWalkedEmpty w (λ s r. r ≡ None)) }
 {
     match aim {
         Aim::ForPoint | Aim::ForRefutation => Ok(Walked::Found(zeros(alloc, conj.columns)?)),
@@ -148,7 +148,7 @@ fn at_leaf(
                 choices,
                 rest: conj,
             })?;
-            Ok(Walked::Gone {
+            Ok(Walked::Empty {
                 cost,
                 maxima: met,
                 refutation: None,
@@ -179,11 +179,11 @@ pub(crate) fn search(
     ensures exact { (n : ℕ) → budget < n + cost → Visits result pieces.new (walk (visiting strategy aim vars.now) n budget (path.old, conj) cost (seen met pieces.old)) }
     ensures point { IfOk result (λ w. IfFound w (λ p. IsPoint conj p)) }
     ensures grown { IfOk result (λ w. HasGrown cost budget w) }
-    ensures same_path { IfOk result (λ w. IfGone w (λ s r. path.new ≡ path.old)) }
-    ensures told { IfOk result (λ w. IfGone w (λ s r. WantsRefutation aim → IsSome r)) }
-    ensures refuted { IfOk result (λ w. IfGone w (λ s r. IfSome r (λ x. IsRefuted conj x))) }
-    ensures within { IfOk result (λ w. IfGone w (λ s r. IfSome r (λ x. IsWithin s x))) }
-    ensures risen { IfOk result (λ w. IfGone w (λ s r. HaveRisen met s)) }
+    ensures same_path { IfOk result (λ w. IfWalkedEmpty w (λ s r. path.new ≡ path.old)) }
+    ensures told { IfOk result (λ w. IfWalkedEmpty w (λ s r. WantsRefutation aim → IsSome r)) }
+    ensures refuted { IfOk result (λ w. IfWalkedEmpty w (λ s r. IfSome r (λ x. IsRefuted conj x))) }
+    ensures within { IfOk result (λ w. IfWalkedEmpty w (λ s r. IfSome r (λ x. IsWithin s x))) }
+    ensures risen { IfOk result (λ w. IfWalkedEmpty w (λ s r. HaveRisen met s)) }
 {
     let count = conj.rows.len() as u64;
     if count > budget - cost {
@@ -192,7 +192,7 @@ pub(crate) fn search(
     let spent = cost + count;
     let all = with_rows(conj.rows.as_slice(), met);
     if are_absurd(conj.rows.as_slice()) {
-        return Ok(Walked::Gone {
+        return Ok(Walked::Empty {
             cost: spent,
             maxima: all,
             refutation: wanted(aim, Refutation::Absurd(conj)),
@@ -228,15 +228,15 @@ fn by_column(
     requires possible { are_absurd conj.rows ≡ false }
     requires column { z < conj.columns }
     requires within { Bounds met conj.rows }
-    requires legal { AreLegal (tries_for strategy z conj.rows) conj }
-    ensures exact { Tried result pieces.new strategy aim vars.now budget path.old conj (tries_for strategy z conj.rows) cost (seen met pieces.old) }
+    requires legal { AreLegal (alternatives_for strategy z conj.rows) conj }
+    ensures exact { Tried result pieces.new strategy aim vars.now budget path.old conj (alternatives_for strategy z conj.rows) cost (seen met pieces.old) }
     ensures point { IfOk result (λ w. IfFound w (λ p. IsPoint conj p)) }
     ensures grown { IfOk result (λ w. HasGrown cost budget w) }
-    ensures same_path { IfOk result (λ w. IfGone w (λ s r. path.new ≡ path.old)) }
-    ensures told { IfOk result (λ w. IfGone w (λ s r. WantsRefutation aim → IsSome r)) }
-    ensures refuted { IfOk result (λ w. IfGone w (λ s r. IfSome r (λ x. IsRefuted conj x))) }
-    ensures within { IfOk result (λ w. IfGone w (λ s r. IfSome r (λ x. IsWithin s x))) }
-    ensures risen { IfOk result (λ w. IfGone w (λ s r. HaveRisen met s)) }
+    ensures same_path { IfOk result (λ w. IfWalkedEmpty w (λ s r. path.new ≡ path.old)) }
+    ensures told { IfOk result (λ w. IfWalkedEmpty w (λ s r. WantsRefutation aim → IsSome r)) }
+    ensures refuted { IfOk result (λ w. IfWalkedEmpty w (λ s r. IfSome r (λ x. IsRefuted conj x))) }
+    ensures within { IfOk result (λ w. IfWalkedEmpty w (λ s r. IfSome r (λ x. IsWithin s x))) }
+    ensures risen { IfOk result (λ w. IfWalkedEmpty w (λ s r. HaveRisen met s)) }
 {
     let rows = conj.rows.as_slice();
     let mut choices = Items::new(alloc);
@@ -254,7 +254,7 @@ fn by_column(
                     alloc, strategy, aim, vars, &conj, &choice, budget, spent, all, path, pieces,
                 ) {
                     Ok(
-                        Walked::Gone {
+                        Walked::Empty {
                             cost,
                             maxima,
                             refutation,
@@ -271,7 +271,7 @@ fn by_column(
             }
         }
     }
-    Ok(Walked::Gone {
+    Ok(Walked::Empty {
         cost: spent,
         maxima: all,
         refutation: wanted(
@@ -307,12 +307,12 @@ fn by_choice(
     ensures exact { Tried result pieces.new strategy aim vars.now budget path.old conj.now (Some choice.now ∷ []) cost (seen met pieces.old) }
     ensures point { IfOk result (λ w. IfFound w (λ p. IsPoint conj.now p)) }
     ensures grown { IfOk result (λ w. HasGrown cost budget w) }
-    ensures same_path { IfOk result (λ w. IfGone w (λ s r. path.new ≡ path.old)) }
-    ensures told { IfOk result (λ w. IfGone w (λ s r. WantsRefutation aim → IsSome r)) }
-    ensures refuted { IfOk result (λ w. IfGone w (λ s r. IfSome r (λ x. IsRefutedBehind choice.now conj.now x))) }
-    ensures within { IfOk result (λ w. IfGone w (λ s r. IfSome r (λ x. IsWithin s x))) }
-    ensures moduli { IfOk result (λ w. IfGone w (λ s r. AreModuliWithin s.factor (choice.now ∷ []))) }
-    ensures risen { IfOk result (λ w. IfGone w (λ s r. HaveRisen met s)) }
+    ensures same_path { IfOk result (λ w. IfWalkedEmpty w (λ s r. path.new ≡ path.old)) }
+    ensures told { IfOk result (λ w. IfWalkedEmpty w (λ s r. WantsRefutation aim → IsSome r)) }
+    ensures refuted { IfOk result (λ w. IfWalkedEmpty w (λ s r. IfSome r (λ x. IsRefutedBehind choice.now conj.now x))) }
+    ensures within { IfOk result (λ w. IfWalkedEmpty w (λ s r. IfSome r (λ x. IsWithin s x))) }
+    ensures moduli { IfOk result (λ w. IfWalkedEmpty w (λ s r. AreModuliWithin s.factor (choice.now ∷ []))) }
+    ensures risen { IfOk result (λ w. IfWalkedEmpty w (λ s r. HaveRisen met s)) }
 {
     let rest = match left_by(alloc, conj, choice) {
         Ok(rest) => rest,
@@ -332,14 +332,14 @@ fn by_choice(
         pieces,
     ) {
         Ok(
-            Walked::Gone {
+            Walked::Empty {
                 cost,
                 maxima,
                 refutation,
             },
         ) => {
             let _last = path.pop();
-            Ok(Walked::Gone {
+            Ok(Walked::Empty {
                 cost,
                 maxima,
                 refutation,

@@ -7,16 +7,17 @@ ghost use Rattle.ac_omega.specs.Decisions.{IfEmpty, IfPoint, IfCertified, IfMet,
 ghost use Rattle.ac_omega.specs.Differences.{AreDifferences, AreAllDifferences, StopsBelow};
 ghost use Rattle.ac_omega.specs.Either.{EliminatesEither, FindsEither, SettlesEither};
 ghost use Rattle.ac_omega.specs.Elimination.{pieces_of};
-ghost use Rattle.ac_omega.specs.Projection.{HoldsFor, SomeHolds, AllGone};
+ghost use Rattle.ac_omega.specs.Projection.{HoldsFor, AllEmpty, MeetsRest};
+ghost use Rattle.ac_forms.specs.Pieces.{IsInSome};
 ghost use Rattle.ac_omega.specs.Replays.{AreReached, HaveAllFrom, AreOver};
-ghost use Rattle.ac_trails.specs.declared.strategy.Strategy.TheVariants.{Full, Economical};
+ghost use Rattle.ac_refutations.specs.declared.strategy.Strategy.TheVariants.{Full, Economical};
 
 use crate::decision::{Decided, Decision, decide, decide_by, find_point, find_point_by};
 use crate::piece::Piece;
 use crate::pieces::{Stop, eliminate, eliminate_by};
 use ac_forms::Conj;
 use ac_items::Items;
-use ac_trails::Strategy;
+use ac_refutations::Strategy;
 use std::alloc::Global;
 
 /// Whether a question has an integer point (W. Pugh, The Omega test, 1991): what the economical walk answers within a budget;
@@ -77,8 +78,8 @@ pub fn settle_pieces(
 ) -> Result<Items<Piece>, Stop>
     requires { IsWellMade conj.now }
     ensures exact { EliminatesEither result conj.now (pieces_of Economical vars.now budget conj.now) (pieces_of Full vars.now budget conj.now) }
-    ensures gone { IfOk result (λ pieces. AllGone vars.now pieces) }
-    ensures projection { IfOk result (λ pieces. (p : List ℤ) → length p ≡ conj.now.columns → HoldsFor vars.now conj.now.rows p ↔ SomeHolds pieces p) }
+    ensures gone { IfOk result (λ pieces. AllEmpty vars.now pieces) }
+    ensures projection { IfOk result (λ pieces. (p : List ℤ) → length p ≡ conj.now.columns → HoldsFor vars.now conj.now.rows p ↔ IsInSome MeetsRest pieces p) }
     ensures reached { IfOk result (λ pieces. AreReached vars.now conj.now pieces) }
     ensures over { (n : ℕ) → HaveAllFrom n conj.now.columns vars.now → IfOk result (λ pieces. AreOver n pieces) }
     ensures differences { conj.now.columns ≤ 60 → AreDifferences (2 ^ 48) conj.now.rows → IfErr result (StopsBelow conj.now.columns budget) }

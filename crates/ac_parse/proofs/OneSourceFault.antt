@@ -12,8 +12,8 @@ use Rattle.ac_grammar.specs.FileGrammar.{IsFile}
 use Rattle.ac_grammar.specs.FileLaws.{HasFault}
 use Rattle.ac_grammar.proofs.OneFault as grammar_laws
 use Rattle.ac_grammar.proofs.StatementAnswers.{one_file}
-use Rattle.ac_rules.specs.declared.fault.Which.TheVariants as which
-use Rattle.ac_rules.specs.declared.fault.Broken.{Broken}
+use Rattle.ac_affine.specs.declared.fault.Which.TheVariants as which
+use Rattle.ac_affine.specs.declared.fault.Broken.{Broken}
 use Rattle.ac_rules.specs.Files.{file_broken}
 use Rattle.ac_parse.specs.declared.faults.SourceFault.{SourceFault}
 use Rattle.ac_parse.specs.declared.faults.SourceFault.TheVariants.{Lex, Syntax, Limit}

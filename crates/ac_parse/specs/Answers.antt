@@ -10,10 +10,10 @@ use Rattle.ac_lex.specs.declared.tokens.LexFault.{LexFault}
 use Rattle.ac_lex.specs.declared.tokens.LexFault.TheVariants as lex
 use Rattle.ac_grammar.specs.declared.tree.File.{File}
 use Rattle.ac_grammar.specs.FileAnswers.{HasSyntaxFault, HasNestingFault}
-use Rattle.ac_rules.specs.declared.fault.Which.TheVariants as which
-use Rattle.ac_rules.specs.declared.fault.Rule.{Rule}
-use Rattle.ac_rules.specs.declared.fault.Rule.TheVariants as rule
-use Rattle.ac_rules.specs.declared.fault.Broken.{Broken}
+use Rattle.ac_affine.specs.declared.fault.Which.TheVariants as which
+use Rattle.ac_affine.specs.declared.fault.Rule.{Rule}
+use Rattle.ac_affine.specs.declared.fault.Rule.TheVariants as rule
+use Rattle.ac_affine.specs.declared.fault.Broken.{Broken}
 use Rattle.ac_rules.specs.Files.{file_broken}
 use Rattle.ac_parse.specs.declared.faults.SourceFault.{SourceFault}
 use Rattle.ac_parse.specs.declared.faults.SourceFault.TheVariants.{Lex, Syntax, NotAffine, Undeclared, Misused, Duplicate, Endless, Limit, Memory}

@@ -7,14 +7,14 @@ use Rattle.ac_lex.specs.Lexemes.{Lexeme}
 use Rattle.ac_grammar.specs.declared.tree.File.{File}
 use Rattle.ac_grammar.specs.FileGrammar.{IsFile}
 use Rattle.ac_grammar.specs.FileAnswers.{HasSyntaxFault, HasNestingFault}
-use Rattle.ac_rules.specs.declared.fault.Broken.{Broken}
+use Rattle.ac_affine.specs.declared.fault.Broken.{Broken}
 use Rattle.ac_rules.specs.Files.{file_broken, program_of}
 use Rattle.ac_parse.specs.Answers.{rule_fault}
 use Rattle.ac_lex.specs.declared.tokens.LexFault.{LexFault}
 use Rattle.ac_lex.specs.declared.tokens.LexFault.TheVariants as lex
 use Rattle.ac_grammar.specs.declared.file.GrammarFault.{GrammarFault}
 use Rattle.ac_grammar.specs.declared.file.GrammarFault.TheVariants as grammar
-use Rattle.ac_rules.specs.declared.fault.Which.TheVariants as which
+use Rattle.ac_affine.specs.declared.fault.Which.TheVariants as which
 use Rattle.ac_rules.specs.declared.fault.RuleFault.{RuleFault}
 use Rattle.ac_rules.specs.declared.fault.RuleFault.TheVariants as rules
 use Rattle.ac_parse.specs.declared.faults.SourceFault.{SourceFault}

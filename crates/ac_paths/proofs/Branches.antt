@@ -17,7 +17,6 @@ use Rattle.ac_syntax.specs.declared.tree.Value.{Value}
 use Rattle.ac_syntax.specs.Spot.{cell_at}
 use Rattle.ac_syntax.proofs.Cells.{same_cell_is}
 use Rattle.ac_syntax.proofs.Sources.{source_stands, stands_within, place_below, earlier_stands}
-use Rattle.ac_poly.specs.Pieces.{Somewhere}
 use Rattle.ac_poly.specs.declared.types.Model.{Model}
 use Rattle.ac_poly.specs.declared.types.StmtModel.{StmtModel}
 use Rattle.ac_paths.specs.Columns.{all_of}
@@ -29,6 +28,8 @@ use Rattle.ac_paths.specs.declared.path.Path.{Path}
 use Rattle.ac_paths.specs.declared.path.Side.{Side}
 pub use Rattle.ac_paths.specs.Pairs.{In}
 use Rattle.ac_paths.proofs.Moving.{all-cons}
+use Rattle.ac_forms.specs.Pieces.{IsInSome}
+use Rattle.ac_forms.proofs.InPieces.{some-at}
 
 pub in_left : {A : Type 0} (x : A) (xs ys : List A) → In x xs → In x (xs ++ ys)
 in_left x [] ys h = absurd h
@@ -55,15 +56,10 @@ in_all o (p ∷ os) xs e (inl i) = let b = all-cons p os xs e in (b.0, i ∙ b.2
 in_all o (p ∷ os) xs e (inr h) = let b = all-cons p os xs e in let r = in_all o os b.1 b.3 h in (r.0, r.1, subst (In r.0) (sym b.4) (inr r.2))
 
 -- a piece that a point meets
-pub somewhere_in : (qs : List (List Row)) (p : List ℤ) → Somewhere qs p → (q : List Row) × In q qs × Meets q p
+pub somewhere_in : (qs : List (List Row)) (p : List ℤ) → IsInSome Meets qs p → (q : List Row) × In q qs × Meets q p
 somewhere_in [] p h = absurd h
 somewhere_in (q ∷ qs) p (inl h) = (q, inl refl, h)
 somewhere_in (q ∷ qs) p (inr h) = let r = somewhere_in qs p h in (r.0, inr r.1, r.2)
-
-pub somewhere_of : (qs : List (List Row)) (k : ℕ) (q : List Row) (p : List ℤ) → slice_get qs k ≡ Some q → Meets q p → Somewhere qs p
-somewhere_of [] k q p e h = absurd cc
-somewhere_of (r ∷ qs) zero q p e h = let i : r ≡ q = cc in inl (subst (λ (z : List Row). Meets z p) (sym i) h)
-somewhere_of (r ∷ qs) (suc k) q p e h = inr (somewhere_of qs k q p e h)
 
 array_test : (a b : ℕ) (xs ys : List (Option Path)) → a ≡ b → cond (nat_eq a b) xs ys ≡ xs
 array_test a b xs ys e = let i : nat_eq a b ≡ true = (Decides-eqb a b).1 e in rw i refl
@@ -142,7 +138,7 @@ stands_of_level m params x d (Node s' j) at s c before u z w stmt k level (v, iv
         let same : levels_to m u stmt (Node s' j) ≡ levels_before (length params) w.entry.stmt stmt v.entry.stmt reader.stmt =
         ap (levels_at m u stmt s') is' ∙ (λ q. levels_before (d.count q) (sym i.stmt q) stmt (sym iv.stmt q) reader.stmt) in
         let me' : Meets level (params ++ (x.coords w.entry ++ x.coords v.entry)) = subst (λ (y : List ℤ). Meets level (params ++ (y ++ x.coords v.entry))) (sym i.coords) (subst (λ (y : List ℤ). Meets level (params ++ (z ++ y))) (sym iv.coords) me) in
-        let some = somewhere_of (levels_before (length params) w.entry.stmt stmt v.entry.stmt reader.stmt) k level (params ++ (x.coords w.entry ++ x.coords v.entry)) (ap (λ (y : List (List Row)). slice_get y k) (sym same) ∙ l) me' in
+        let some = some-at Meets (levels_before (length params) w.entry.stmt stmt v.entry.stmt reader.stmt) k level (params ++ (x.coords w.entry ++ x.coords v.entry)) (ap (λ (y : List (List Row)). slice_get y k) (sym same) ∙ l) me' in
         let is : slice_get m.stmts w.entry.stmt ≡ Some stmt = ap (slice_get m.stmts) i.stmt ∙ e in
         earlier_stands iv.stands i.stands ((d.order w v stmt reader.stmt i.stands iv.stands is reader.is).1 some)
 

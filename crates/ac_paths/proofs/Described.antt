@@ -23,7 +23,6 @@ use Rattle.ac_poly.proofs.Columns.{has_columns}
 use Rattle.ac_poly.proofs.Models.{has_models}
 use Rattle.ac_poly.proofs.Whole.{has_instances, has_cells, has_nodes, has_order, has_extents}
 use Rattle.ac_cert.proofs.Keeping.{some-is}
-use Rattle.ac_poly.specs.Pieces.{Somewhere}
 use Rattle.ac_paths.specs.Coordinates.{width, coordinates, levels_before}
 use Rattle.ac_paths.specs.StepLaws.{ModelsHaveModuli}
 use Rattle.ac_paths.specs.Executions.{ModelsDescribe}
@@ -31,6 +30,7 @@ use Rattle.ac_paths.specs.Places.{extent_rows}
 use Rattle.ac_paths.proofs.Moving.{column-value}
 use Rattle.ac_paths.proofs.LevelModuli.{levels_moduli}
 use Rattle.ac_paths.proofs.Heres.{get_at, open_front, length-one}
+use Rattle.ac_forms.specs.Pieces.{IsInSome}
 
 extents_there : (params : List ℤ) (es : List (List Affine)) (arrays : List Array) (o : ℕ) (extents : List Affine) → map (values_at params) es ≡ map (λ (a : Array). map (index_value (point params [])) a.extents) arrays → slice_get es o ≡ Some extents
     → values_at params extents ≡ map (index_value (point params [])) (extents_at arrays o)
@@ -100,7 +100,7 @@ models_describe p context params r f l =
       cell = λ w stmt s is. has_cells p context r params w.entry stmt l is (stands_contains s);
       node = λ w stmt s is number v n. (has_nodes p context r params w.entry stmt l is (stands_contains s)).1 number v n;
       order = λ w u first second sw su iw iu.
-          subst (λ n. (length w.earlier < length u.earlier) ↔ Somewhere (levels_before n w.entry.stmt first u.entry.stmt second) (params ++ (coordinates m params w.entry ++ coordinates m params u.entry))) (sym l) (has_order p context r params w u first second l iw iu sw su);
+          subst (λ n. (length w.earlier < length u.earlier) ↔ IsInSome Meets (levels_before n w.entry.stmt first u.entry.stmt second) (params ++ (coordinates m params w.entry ++ coordinates m params u.entry))) (sym l) (has_order p context r params w u first second l iw iu sw su);
       elements = λ o at inside.
           let es = inside.0 in
           let v = extents_there params m.extents p.arrays o es (has_extents p context r params l) inside.1 in

@@ -46,9 +46,10 @@ use Rattle.ac_paths.proofs.LevelModuli.{levels_moduli}
 use Rattle.ac_paths.proofs.Moduli.{rows_moduli}
 use Rattle.ac_paths.proofs.OnPaths.{moduli_in, Compared, execution_of, describes_of, SeatIn, SourceAt, LastAt, SourceIn, InPath, OnPath, range_in, in-append, seat_columns, base_columns, pick_more, pick_new}
 use Rattle.ac_paths.proofs.Heres.{cell_with, read_cell}
-use Rattle.ac_paths.proofs.Branches.{stands_of_level, somewhere_of, stands_all}
+use Rattle.ac_paths.proofs.Branches.{stands_of_level, stands_all}
 use Rattle.ac_paths.proofs.ReadSteps.{CaseParts, case_parts, case_made, picks_one, picks_two}
 use Rattle.ac_paths.proofs.InBranches.{level_moduli}
+use Rattle.ac_forms.proofs.InPieces.{some-at}
 
 -- rows over the first columns alone
 ends_over : (n m : ℕ) (rows : List Row) → ends_before n rows ≡ true → AreRowsOver m rows → AreRowsOver n rows
@@ -256,7 +257,7 @@ no_copy g side (Some seat) u stmt copy p q z cell before v (w, src, iw) (from, k
     let me' : Meets level (g.params ++ (x.coords w.entry ++ x.coords v.entry)) =
     subst (λ (y : List ℤ). Meets level (g.params ++ (y ++ x.coords v.entry))) (sym iw.coords) (subst (λ (y : List ℤ). Meets level (g.params ++ (picked (columns_of seat) q ++ y))) (e ∙ sym i.coords) me) in
     let l1 : slice_get (levels_before (length g.params) w.entry.stmt from v.entry.stmt stmt) k ≡ Some level = (λ j. slice_get (levels_before (sym g.count j) (iw.stmt j) from (i.stmt j) stmt) k) ∙ li in
-    let some = somewhere_of (levels_before (length g.params) w.entry.stmt from v.entry.stmt stmt) k level (g.params ++ (x.coords w.entry ++ x.coords v.entry)) l1 me' in
+    let some = some-at Meets (levels_before (length g.params) w.entry.stmt from v.entry.stmt stmt) k level (g.params ++ (x.coords w.entry ++ x.coords v.entry)) l1 me' in
     let fw : slice_get (model_of g.pairing side).stmts w.entry.stmt ≡ Some from = ap (slice_get (model_of g.pairing side).stmts) iw.stmt ∙ fi in
     let fv : slice_get (model_of g.pairing side).stmts v.entry.stmt ≡ Some stmt = ap (slice_get (model_of g.pairing side).stmts) i.stmt ∙ is in
     let lt : length w.earlier < length v.earlier = (d.order w v from stmt iw.stands i.stands fw fv).1 some in
@@ -319,7 +320,7 @@ killed_empty g h a u piece after before xs c left i il ec el ek p s t o =
     let zs : picked (columns_of copy) q ≡ y.0 = pick_new first y.0 n (width stmt) lf ly in
     let says = case_says ps g.params own.reader cc'.cell copy stmt cc'.rows_of cc'.level cc'.first q at y.0 parts starts xs' zs both.0 in
     let after_here = after_says g a.side own.source after u copy stmt cc'.second q starts cc'.later both.1 in
-    let inst = d.instance u stmt y.0 st.1 ly (somewhere_of stmt.pieces piece cc'.rows_of (g.params ++ y.0) cc'.piece_is says.0) in
+    let inst = d.instance u stmt y.0 st.1 ly (some-at Meets stmt.pieces piece cc'.rows_of (g.params ++ y.0) cc'.piece_is says.0) in
     let v = inst.0 in
     let iv = inst.1 in
     let stands = stands_of_level m g.params x d a.reader.position at r.spot r.cell r.before u y.0 v stmt before cc'.level r.here r.reads iv st.1 cc'.level_is says.2 in

@@ -16,12 +16,12 @@ pub use Rattle.ac_syntax.specs.Where.{Execution, InstanceAt}
 unfoldable pub use Rattle.ac_syntax.specs.Where.{At}
 use Rattle.ac_syntax.specs.declared.tree.Value.{Value}
 use Rattle.ac_poly.specs.Laws.{cell_of, Shows}
-use Rattle.ac_poly.specs.Pieces.{Somewhere}
 use Rattle.ac_poly.specs.declared.types.Model.{Model}
 use Rattle.ac_poly.specs.declared.types.StmtModel.{StmtModel}
 use Rattle.ac_poly.specs.Model.{model_of}
 use Rattle.ac_paths.specs.Coordinates.{width, coordinates, levels_before}
 use Rattle.ac_paths.specs.Places.{extent_rows}
+use Rattle.ac_forms.specs.Pieces.{IsInSome}
 
 -- the model of the assignment of an entry
 pub record ModelOf (m : Model) (x : Execution) (w : Writer) : Type 0 where
@@ -40,14 +40,14 @@ pub record ExtentsOf (m : Model) (params : List ℤ) (o : ℕ) (at : List ℤ) :
 pub record Describes (m : Model) (params : List ℤ) (x : Execution) : Type 0 where
   pub count : m.params ≡ length params
   pub entry : (w : Writer) → Stands x.trace w → ModelOf m x w
-  pub piece : (w : Writer) (stmt : StmtModel) → Stands x.trace w → slice_get m.stmts w.entry.stmt ≡ Some stmt → Somewhere stmt.pieces (params ++ x.coords w.entry)
-  pub instance : (number : ℕ) (stmt : StmtModel) (at : List ℤ) → slice_get m.stmts number ≡ Some stmt → length at ≡ width stmt → Somewhere stmt.pieces (params ++ at) → (w : Writer) × InstanceAt x number at w
+  pub piece : (w : Writer) (stmt : StmtModel) → Stands x.trace w → slice_get m.stmts w.entry.stmt ≡ Some stmt → IsInSome Meets stmt.pieces (params ++ x.coords w.entry)
+  pub instance : (number : ℕ) (stmt : StmtModel) (at : List ℤ) → slice_get m.stmts number ≡ Some stmt → length at ≡ width stmt → IsInSome Meets stmt.pieces (params ++ at) → (w : Writer) × InstanceAt x number at w
   pub once : (w u : Writer) → Stands x.trace w → Stands x.trace u → w.entry.stmt ≡ u.entry.stmt → x.coords w.entry ≡ x.coords u.entry → w ≡ u
   pub cell : (w : Writer) (stmt : StmtModel) → Stands x.trace w → slice_get m.stmts w.entry.stmt ≡ Some stmt → target w.entry ≡ cell_of stmt (params ++ x.coords w.entry)
   pub node : (w : Writer) (stmt : StmtModel) → Stands x.trace w → slice_get m.stmts w.entry.stmt ≡ Some stmt
       → (number : ℕ) (v : Value) → node_of w.entry.value number ≡ Some v → Shows (params ++ x.coords w.entry) w.entry.point v number (slice_get stmt.nodes number)
   pub order : (w u : Writer) (first second : StmtModel) → Stands x.trace w → Stands x.trace u → slice_get m.stmts w.entry.stmt ≡ Some first → slice_get m.stmts u.entry.stmt ≡ Some second
-      → (length w.earlier < length u.earlier) ↔ Somewhere (levels_before (length params) w.entry.stmt first u.entry.stmt second) (params ++ (x.coords w.entry ++ x.coords u.entry))
+      → (length w.earlier < length u.earlier) ↔ IsInSome Meets (levels_before (length params) w.entry.stmt first u.entry.stmt second) (params ++ (x.coords w.entry ++ x.coords u.entry))
   pub elements : (o : ℕ) (at : List ℤ) → x.inside o at → ExtentsOf m params o at
   pub pieces_moduli : (number : ℕ) (stmt : StmtModel) (k : ℕ) (rows : List Row) → slice_get m.stmts number ≡ Some stmt → slice_get stmt.pieces k ≡ Some rows → HaveModuli rows
   pub levels_moduli : (u : ℕ) (first : StmtModel) (s : ℕ) (second : StmtModel) (k : ℕ) (rows : List Row) → slice_get (levels_before m.params u first s second) k ≡ Some rows → HaveModuli rows

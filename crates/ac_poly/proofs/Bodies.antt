@@ -11,7 +11,6 @@ use Rattle.ac_syntax.specs.declared.tree.Stmt.{Stmt, Row_of-Stmt, end_of-Stmt, m
 use Rattle.ac_syntax.specs.declared.tree.Stmt.TheVariants.{For', If', Assign}
 use Rattle.ac_poly.specs.declared.scope.Scope.{Scope}
 use Rattle.ac_poly.specs.declared.types.StmtModel.{StmtModel as Lowered}
-use Rattle.ac_poly.specs.Pieces.{Somewhere}
 use Rattle.ac_poly.specs.Lower.{in_loop, where_holds, where_fails, lower, lower_in, lower_all, lowered_body, outermost}
 use Rattle.ac_poly.specs.Laws.{HasEntry, PointsAreInstances}
 use Rattle.ac_poly.proofs.Relation.{IsLowered, IsLoweredIn, IsLoweredAll}
@@ -20,6 +19,8 @@ use Rattle.std.proofs.lemmas.Option.{slice_get_within, get_or_from_slice_get}
 use Rattle.ac_syntax.specs.Ready.{ReadyAll}
 use Rattle.ac_poly.proofs.Scopes.{Stands}
 use Rattle.ac_poly.proofs.Points.{to_instance, of_instance, lowered_range, instance_range}
+use Rattle.ac_forms.specs.Rows.{Meets}
+use Rattle.ac_forms.specs.Pieces.{IsInSome}
 
 mutual
   unfolding lower assignments
@@ -87,7 +88,7 @@ later_entries s ss first p zs k full h = (h.0, Contains-append_right (trace s fi
 
 pub all_to_instance : (ss : List Stmt) (first loop : ℕ) (sc : Scope) (xs : ℕ) (p : Point) (zs : List ℤ) (k : ℕ) (l : Lowered) (rest full : List ℤ)
     → Stands xs p zs sc → ReadyAll (length p.params) xs ss → IsLoweredAll ss first loop sc k l → length l.loops ≡ length sc.loops + length rest → full ≡ zs ++ rest
-    → Somewhere l.pieces (p.params ++ full) → HasEntry (trace_all ss first p zs) k full
+    → IsInSome Meets l.pieces (p.params ++ full) → HasEntry (trace_all ss first p zs) k full
 all_to_instance [] first loop sc xs p zs k l rest full h r i len e m = absurd i
 all_to_instance (s ∷ ss) first loop sc xs p zs k l rest full h r (inl i) len e m =
     let a = (to_instance s first loop sc xs p zs k l rest full h r.0 i len e m).1 in
@@ -109,14 +110,14 @@ instance_after (s ∷ ss) first p zs e h = by (Contains-append_cases (trace s fi
     by (inr b) again = omega (arith, again b)
 
 pub all_of_instance : (ss : List Stmt) (first loop : ℕ) (sc : Scope) (xs : ℕ) (p : Point) (zs : List ℤ) (k : ℕ) (l : Lowered) (e : Entry)
-    → Stands xs p zs sc → ReadyAll (length p.params) xs ss → IsLoweredAll ss first loop sc k l → Somewhere sc.pieces (p.params ++ zs) → Contains (trace_all ss first p zs) e → e.stmt ≡ k
-    → Somewhere l.pieces (p.params ++ e.counters)
+    → Stands xs p zs sc → ReadyAll (length p.params) xs ss → IsLoweredAll ss first loop sc k l → IsInSome Meets sc.pieces (p.params ++ zs) → Contains (trace_all ss first p zs) e → e.stmt ≡ k
+    → IsInSome Meets l.pieces (p.params ++ e.counters)
 all_of_instance [] first loop sc xs p zs k l e h r i m c q = absurd i
 all_of_instance (s ∷ ss) first loop sc xs p zs k l e h r i m c q =
     by i (Contains-append_cases (trace s first p zs) (trace_all ss (first + assignments s) p zs) e c) (λ i c. all_of_instance ss (first + assignments s) (loop + loop_count s) sc xs p zs k l e h r.1 i m c q)
   where
     by : IsLowered s first loop sc k l ⊎ IsLoweredAll ss (first + assignments s) (loop + loop_count s) sc k l → Contains (trace s first p zs) e ⊎ Contains (trace_all ss (first + assignments s) p zs) e
-        → (IsLoweredAll ss (first + assignments s) (loop + loop_count s) sc k l → Contains (trace_all ss (first + assignments s) p zs) e → Somewhere l.pieces (p.params ++ e.counters)) → Somewhere l.pieces (p.params ++ e.counters)
+        → (IsLoweredAll ss (first + assignments s) (loop + loop_count s) sc k l → Contains (trace_all ss (first + assignments s) p zs) e → IsInSome Meets l.pieces (p.params ++ e.counters)) → IsInSome Meets l.pieces (p.params ++ e.counters)
     by (inl i) (inl c) again = of_instance s first loop sc xs p zs k l e h r.0 i m (instance_of_trace s first p zs e c) q
     by (inl i) (inr c) again = absurd (let a = lowered_range s first loop sc k l i in omega (arith, instance_after ss (first + assignments s) p zs e c))
     by (inr i) (inl c) again = absurd (let a = instance_range s first p zs e (instance_of_trace s first p zs e c) in omega (arith, lowered_after ss (first + assignments s) (loop + loop_count s) sc k l i))
@@ -137,5 +138,5 @@ pub points_are_instances : PointsAreInstances
 points_are_instances body ps zs k l r at len =
     let i = is_lowered body (length ps) k l at in (
       all_to_instance body 0 0 (outermost (length ps)) 0 (record { params = ps; iters = [] }) [] k l zs zs (stands_outermost ps) r i (omega arith) refl,
-      (λ e. subst (λ c. Somewhere l.pieces (ps ++ c)) e.3 (all_of_instance body 0 0 (outermost (length ps)) 0 (record { params = ps; iters = [] }) [] k l e.0 (stands_outermost ps) r i (inl tt) e.1 e.2)),
+      (λ e. subst (λ c. IsInSome Meets l.pieces (ps ++ c)) e.3 (all_of_instance body 0 0 (outermost (length ps)) 0 (record { params = ps; iters = [] }) [] k l e.0 (stands_outermost ps) r i (inl tt) e.1 e.2)),
     )

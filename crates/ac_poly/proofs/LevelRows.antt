@@ -9,21 +9,22 @@ use Rattle.ac_forms.specs.declared.row.Row.TheVariants.{Ge, Eq}
 use Rattle.ac_syntax.specs.Before.{Before}
 use Rattle.ac_syntax.specs.Loops.{common}
 use Rattle.ac_poly.specs.Before.{difference, levels_from, numbers, LevelsAreApart, LevelsHaveColumns, LevelsMove}
-use Rattle.ac_poly.specs.Pieces.{Somewhere, AtMostOne}
+use Rattle.ac_forms.specs.Pieces.{IsInSome, IsInOneAtMost}
 use Rattle.ac_poly.proofs.Commons.{common_within}
 use Rattle.ac_poly.proofs.Differences.{value-difference, difference-within}
 use Rattle.ac_poly.proofs.Rows.{meets_append}
+use Rattle.ac_forms.proofs.InPieces.{none-of}
 
 one_row : (q : List Row) (r : Row) (p : List ℤ) → Meets (q ++ r ∷ []) p ↔ (Meets q p × Holds r p)
 one_row q r p = let i = meets_append q (r ∷ []) p in ((λ h. let j = i.0 h in (j.0, j.1.0)), (λ h. i.1 (h.0, (h.1, tt))))
 
-at_text : (text : Bool) (T : Type 0) (done : List Row) (p : List ℤ) → (text ≡ true) ↔ T → Somewhere (cond text (done ∷ []) []) p ↔ (Meets done p × T)
+at_text : (text : Bool) (T : Type 0) (done : List Row) (p : List ℤ) → (text ≡ true) ↔ T → IsInSome Meets (cond text (done ∷ []) []) p ↔ (Meets done p × T)
 at_text true T done p h = ((λ s. elim s [ inl m ↦ (m, h.0 refl) | inr n ↦ absurd n ]), (λ m. inl m.0))
 at_text false T done p h = ((λ s. absurd s), (λ m. absurd (let k : false ≡ true = h.1 m.1 in cc)))
 
 pub levels_hold : (c s u : ℕ) (p : List ℤ) (i j : ℕ) (ws xs : List ℤ) (text : Bool) (done : List Row)
     → c ≤ length ws → c ≤ length xs → numbers i (length ws) p ≡ ws → numbers j (length xs) p ≡ xs → (text ≡ true) ↔ (s < u)
-    → Somewhere (levels_from c i j text done) p ↔ (Meets done p × Before c s u ws xs)
+    → IsInSome Meets (levels_from c i j text done) p ↔ (Meets done p × Before c s u ws xs)
 levels_hold zero s u p i j ws xs text done a b v w h = at_text text (s < u) done p h
 levels_hold (suc c) s u p i j [] xs text done a b v w h = absurd (omega arith)
 levels_hold (suc c) s u p i j (x ∷ ws) [] text done a b v w h = absurd (omega arith)
@@ -45,8 +46,8 @@ levels_hold (suc c) s u p i j (x ∷ ws) (y ∷ xs) text done a b v w h =
     val : (k : ℤ) → value_at (difference i j k) p ≡ y +ℤ (negsuc 0 *ℤ x) +ℤ k
     val k = value-difference i j k p ∙ (λ t. second t +ℤ (negsuc 0 *ℤ first t) +ℤ k)
 
-    by : Somewhere (levels_from c (i + 1) (j + 1) text (done ++ Eq (difference i j (pos 0)) ∷ [])) p ↔ (Meets (done ++ Eq (difference i j (pos 0)) ∷ []) p × Before c s u ws xs)
-        → Somewhere (levels_from (suc c) i j text done) p ↔ (Meets done p × Before (suc c) s u (x ∷ ws) (y ∷ xs))
+    by : IsInSome Meets (levels_from c (i + 1) (j + 1) text (done ++ Eq (difference i j (pos 0)) ∷ [])) p ↔ (Meets (done ++ Eq (difference i j (pos 0)) ∷ []) p × Before c s u ws xs)
+        → IsInSome Meets (levels_from (suc c) i j text done) p ↔ (Meets done p × Before (suc c) s u (x ∷ ws) (y ∷ xs))
     by again =
         let g = one_row done (Ge (difference i j (negsuc 0))) p in
         let f = one_row done (Eq (difference i j (pos 0))) p in
@@ -63,7 +64,7 @@ levels_hold (suc c) s u p i j (x ∷ ws) (y ∷ xs) text done a b v w h =
         )
 
 -- what is done holds in each level
-done_holds : (c i j : ℕ) (text : Bool) (done : List Row) (p : List ℤ) → Somewhere (levels_from c i j text done) p → Meets done p
+done_holds : (c i j : ℕ) (text : Bool) (done : List Row) (p : List ℤ) → IsInSome Meets (levels_from c i j text done) p → Meets done p
 done_holds zero i j true done p (inl m) = m
 done_holds zero i j true done p (inr n) = absurd n
 done_holds zero i j false done p s = absurd s
@@ -73,15 +74,15 @@ done_holds (suc c) i j text done p (inr s) = ((one_row done (Eq (difference i j 
 not_both : (d a b : ℤ) → a ≡ d +ℤ negsuc 0 → b ≡ d +ℤ pos 0 → b ≡ pos 0 → pos 0 ≤ℤ a → ⊥
 not_both d a b e f z l = omega (arith, ints, e, f, z, l)
 
-at_most_one : (c i j : ℕ) (text : Bool) (done : List Row) (p : List ℤ) → AtMostOne (levels_from c i j text done) p
-at_most_one zero i j true done p = ((λ m s. absurd s), tt)
+at_most_one : (c i j : ℕ) (text : Bool) (done : List Row) (p : List ℤ) → IsInOneAtMost Meets (levels_from c i j text done) p
+at_most_one zero i j true done p = ((λ m. tt), tt)
 at_most_one zero i j false done p = tt
 at_most_one (suc c) i j text done p = (
-  (λ m s.
+  (λ m. none-of Meets (levels_from c (i + 1) (j + 1) text (done ++ Eq (difference i j (pos 0)) ∷ [])) p (λ s.
       let a = ((one_row done (Ge (difference i j (negsuc 0))) p).0 m).1 in
       let b = ((one_row done (Eq (difference i j (pos 0))) p).0 (done_holds c (i + 1) (j + 1) text _ p s)).1 in
       not_both (get_or p j (pos 0) +ℤ (negsuc 0 *ℤ get_or p i (pos 0))) (value_at (difference i j (negsuc 0)) p) (value_at (difference i j (pos 0)) p)
-      (value-difference i j (negsuc 0) p) (value-difference i j (pos 0) p) b a),
+      (value-difference i j (negsuc 0) p) (value-difference i j (pos 0) p) b a)),
   at_most_one c (i + 1) (j + 1) text (done ++ Eq (difference i j (pos 0)) ∷ []) p,
 )
 
@@ -113,12 +114,12 @@ levels_have_columns i j n ls ms text a b =
 same_row : (i j k l : ℕ) (c : ℤ) (p q : List ℤ) → get_or p i (pos 0) ≡ get_or q k (pos 0) → get_or p j (pos 0) ≡ get_or q l (pos 0) → value_at (difference i j c) p ≡ value_at (difference k l c) q
 same_row i j k l c p q a b = value-difference i j c p ∙ (λ t. b t +ℤ (negsuc 0 *ℤ a t) +ℤ c) ∙ sym (value-difference k l c q)
 
-texts : (text : Bool) (done next : List Row) (p q : List ℤ) → Meets done p ↔ Meets next q → Somewhere (cond text (done ∷ []) []) p ↔ Somewhere (cond text (next ∷ []) []) q
+texts : (text : Bool) (done next : List Row) (p q : List ℤ) → Meets done p ↔ Meets next q → IsInSome Meets (cond text (done ∷ []) []) p ↔ IsInSome Meets (cond text (next ∷ []) []) q
 texts true done next p q h = ((λ s. elim s [ inl m ↦ inl (h.0 m) | inr n ↦ absurd n ]), (λ s. elim s [ inl m ↦ inl (h.1 m) | inr n ↦ absurd n ]))
 texts false done next p q h = ((λ s. absurd s), (λ s. absurd s))
 
 move_from : (c a b i j k l : ℕ) (text : Bool) (done next : List Row) (p q : List ℤ) → c ≤ a → c ≤ b → numbers i a p ≡ numbers k a q → numbers j b p ≡ numbers l b q → Meets done p ↔ Meets next q
-    → Somewhere (levels_from c i j text done) p ↔ Somewhere (levels_from c k l text next) q
+    → IsInSome Meets (levels_from c i j text done) p ↔ IsInSome Meets (levels_from c k l text next) q
 move_from zero a b i j k l text done next p q x y v w h = texts text done next p q h
 move_from (suc c) zero b i j k l text done next p q x y v w h = absurd (omega arith)
 move_from (suc c) (suc a) zero i j k l text done next p q x y v w h = absurd (omega arith)

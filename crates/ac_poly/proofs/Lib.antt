@@ -32,5 +32,4 @@ pub mod Placing
 pub mod Elements
 pub mod Subtracting
 pub mod Bounding
-pub mod Cutting
 pub mod Coordinating

@@ -19,7 +19,7 @@ use Rattle.ac_poly.specs.Forms.{lowered, row_by}
 use Rattle.ac_poly.specs.Pieces.{negations, with_each, failing}
 use Rattle.ac_poly.specs.Lower.{in_loop, where_holds, where_fails, lower, lower_in, lower_all}
 use Rattle.ac_poly.specs.Numbers.{CanHold, CanFail, CanEnter, CanAssign}
-use Rattle.ac_poly.specs.Faults.{IsFine, IsFineIn, Names, IsFirst, IsFirstIn, IsFineAll, IsFirstAll}
+use Rattle.ac_poly.specs.Faults.{IsLowerable, IsLowerableIn, Names, IsFirst, IsFirstIn, AreLowerable, IsFirstAll}
 use Rattle.ac_poly.specs.Steps.{ways, ways_by, pieces_by, or_first, fault, fault_in, fault_all}
 use Rattle.ac_poly.specs.declared.scope.Scope.{Scope}
 use Rattle.ac_poly.specs.declared.types.LowerFault.{LowerFault}
@@ -102,9 +102,9 @@ tells_or None (Some g) P Q F G h i = inr (h, i)
 tells_or (Some f) b P Q F G h i = inl h
 
 mutual
-  unfolding IsFine IsFirst fault Ready
+  unfolding IsLowerable IsFirst fault Ready
 
-  pub lost : (ps xs : ℕ) (s : Stmt) (loop : ℕ) (sc : Scope) (ok : Type 0) (n : ℕ) → Ready ps xs s → Lost sc ok → Counts n (length sc.pieces) → Tells (fault s n) (IsFine s loop sc ok) (IsFirst s loop sc ok)
+  pub lost : (ps xs : ℕ) (s : Stmt) (loop : ℕ) (sc : Scope) (ok : Type 0) (n : ℕ) → Ready ps xs s → Lost sc ok → Counts n (length sc.pieces) → Tells (fault s n) (IsLowerable s loop sc ok) (IsFirst s loop sc ok)
   lost ps xs (For' iter start cond step k body place) loop sc ok n r l e =
       lost_in ps (xs + 1) body (suc loop) (in_loop sc loop start cond step) (ok × CanEnter sc start cond step) n r.3
       (lost_loop sc (in_loop sc loop start cond step) ok (CanEnter sc start cond step) (length-map sc.pieces _) l) (counts_map n sc.pieces _ e)
@@ -122,11 +122,11 @@ mutual
       by false h (inr g) (inl q) = absurd (let k : n ≤ 16 = grind (arith, nat_tests, h) in omega arith)
       by false h m (inr p) = absurd (let k : n ≤ 16 = grind (arith, nat_tests, h) in omega (arith, p.0))
 
-  pub lost_in : (ps xs : ℕ) {m : _} (b : Row_of-Stmt m) (loop : ℕ) (sc : Scope) (ok : Type 0) (n : ℕ) → ReadyIn ps xs b → Lost sc ok → Counts n (length sc.pieces) → Tells (fault_in b n) (IsFineIn b loop sc ok) (IsFirstIn b loop sc ok)
+  pub lost_in : (ps xs : ℕ) {m : _} (b : Row_of-Stmt m) (loop : ℕ) (sc : Scope) (ok : Type 0) (n : ℕ) → ReadyIn ps xs b → Lost sc ok → Counts n (length sc.pieces) → Tells (fault_in b n) (IsLowerableIn b loop sc ok) (IsFirstIn b loop sc ok)
   lost_in ps xs end_of-Stmt loop sc ok n r l e = tt
   lost_in ps xs (more_of-Stmt s rest) loop sc ok n r l e = tells_or (fault s n) (fault_in rest n) _ _ _ _ (lost ps xs s loop sc ok n r.0 l e) (lost_in ps xs rest (loop + loop_count s) sc ok n r.1 l e)
 
-pub lost_all : (ps xs : ℕ) (ss : List Stmt) (loop : ℕ) (sc : Scope) (ok : Type 0) (n : ℕ) → ReadyAll ps xs ss → Lost sc ok → Counts n (length sc.pieces) → Tells (fault_all ss n) (IsFineAll ss loop sc ok) (IsFirstAll ss loop sc ok)
+pub lost_all : (ps xs : ℕ) (ss : List Stmt) (loop : ℕ) (sc : Scope) (ok : Type 0) (n : ℕ) → ReadyAll ps xs ss → Lost sc ok → Counts n (length sc.pieces) → Tells (fault_all ss n) (AreLowerable ss loop sc ok) (IsFirstAll ss loop sc ok)
 lost_all ps xs [] loop sc ok n r l e = tt
 lost_all ps xs (s ∷ ss) loop sc ok n r l e = tells_or (fault s n) (fault_all ss n) _ _ _ _ (lost ps xs s loop sc ok n r.0 l e) (lost_all ps xs ss (loop + loop_count s) sc ok n r.1 l e)
 
@@ -153,14 +153,14 @@ nothing_all (s ∷ ss) n loop sc h = let a = neither (fault s n) (fault_all ss n
 
 -- the same facts where the first condition is spelled otherwise
 mutual
-  unfolding IsFine IsFirst
+  unfolding IsLowerable IsFirst
 
-  pub fine_as : (s : Stmt) (loop : ℕ) (sc : Scope) (p q : Type 0) → (p → q) → IsFine s loop sc p → IsFine s loop sc q
+  pub fine_as : (s : Stmt) (loop : ℕ) (sc : Scope) (p q : Type 0) → (p → q) → IsLowerable s loop sc p → IsLowerable s loop sc q
   fine_as (For' iter start cond step k body place) loop sc p q f h = fine_as_in body (suc loop) (in_loop sc loop start cond step) _ _ (λ a. (f a.0, a.1)) h
   fine_as (If' cond k taken m other place) loop sc p q f h = (fine_as_in taken loop (where_holds sc cond) _ _ (λ a. (f a.0, a.1)) h.0, fine_as_in other (loop + loop_count_in taken) (where_fails sc cond) _ _ (λ a. (f a.0, a.1)) h.1)
   fine_as (Assign array subs value place) loop sc p q f h = (h.0, f h.1, h.2)
 
-  pub fine_as_in : {m : _} (b : Row_of-Stmt m) (loop : ℕ) (sc : Scope) (p q : Type 0) → (p → q) → IsFineIn b loop sc p → IsFineIn b loop sc q
+  pub fine_as_in : {m : _} (b : Row_of-Stmt m) (loop : ℕ) (sc : Scope) (p q : Type 0) → (p → q) → IsLowerableIn b loop sc p → IsLowerableIn b loop sc q
   fine_as_in end_of-Stmt loop sc p q f h = tt
   fine_as_in (more_of-Stmt s rest) loop sc p q f h = (fine_as s loop sc p q f h.0, fine_as_in rest (loop + loop_count s) sc p q f h.1)
 
@@ -170,7 +170,7 @@ names_as place sc p q (Wide x) g h = (h.0, h.1, λ a. h.2 (g a))
 names_as place sc p q (Memory x) g h = h
 
 mutual
-  unfolding IsFine IsFirst
+  unfolding IsLowerable IsFirst
 
   pub first_as : (s : Stmt) (loop : ℕ) (sc : Scope) (p q : Type 0) (f : LowerFault) → (p → q) → (q → p) → IsFirst s loop sc p f → IsFirst s loop sc q f
   first_as (For' iter start cond step k body place) loop sc p q f a b h = first_as_in body (suc loop) (in_loop sc loop start cond step) _ _ f (λ x. (a x.0, x.1)) (λ x. (b x.0, x.1)) h

@@ -11,8 +11,9 @@ use Rattle.ac_syntax.specs.declared.tree.Rel.{Rel}
 use Rattle.ac_syntax.specs.declared.tree.Rel.TheVariants.{NonNegative, Zero}
 use Rattle.ac_syntax.specs.declared.tree.Comparison.{Comparison}
 use Rattle.ac_forms.specs.Negation.{below, above}
+use Rattle.ac_forms.specs.Pieces.{IsInSome}
 use Rattle.ac_poly.specs.Forms.{lowered, row_by, rows_of}
-use Rattle.ac_poly.specs.Pieces.{negations, with_each, failing, Somewhere}
+use Rattle.ac_poly.specs.Pieces.{negations, with_each, failing}
 use Rattle.ac_syntax.specs.Ready.{FitParts}
 use Rattle.ac_poly.proofs.Values.{Narrow, narrow-replaced, value-narrow}
 
@@ -31,7 +32,7 @@ meets-narrow : (rs : List Row) (p q : List ℤ) → NarrowRows (length p) rs →
 meets-narrow [] p q h = refl
 meets-narrow (r ∷ rs) p q h = λ i. holds-narrow r p q h.0 i × meets-narrow rs p q h.1 i
 
-pub somewhere-narrow : (qs : List (List Row)) (p q : List ℤ) → NarrowPieces (length p) qs → Somewhere qs (p ++ q) ≡ Somewhere qs p
+pub somewhere-narrow : (qs : List (List Row)) (p q : List ℤ) → NarrowPieces (length p) qs → IsInSome Meets qs (p ++ q) ≡ IsInSome Meets qs p
 somewhere-narrow [] p q h = refl
 somewhere-narrow (r ∷ qs) p q h = λ i. meets-narrow r p q h.0 i ⊎ somewhere-narrow qs p q h.1 i
 

@@ -13,7 +13,6 @@ use Rattle.ac_syntax.specs.declared.tree.Stmt.TheVariants.{For', If', Assign}
 use Rattle.ac_syntax.proofs.LastWriters.{is_before, stands_before, stands_contains}
 use Rattle.ac_poly.specs.Before.{levels, numbers, LevelsAreTheOrder}
 use Rattle.ac_poly.specs.Lower.{in_loop, where_holds, where_fails, lowered_body, outermost}
-use Rattle.ac_poly.specs.Pieces.{Somewhere}
 use Rattle.ac_poly.specs.declared.scope.Scope.{Scope}
 use Rattle.ac_poly.specs.declared.types.StmtModel.{StmtModel}
 use Rattle.ac_poly.proofs.Bodies.{is_lowered, lowered_after}
@@ -23,6 +22,8 @@ use Rattle.ac_poly.proofs.LevelRows.{levels_hold}
 use Rattle.ac_poly.proofs.Points.{lowered_range, lowered_range_in}
 use Rattle.ac_poly.proofs.Relation.{IsLowered, IsLoweredIn, IsLoweredAll}
 use Rattle.ac_poly.proofs.Targets.{told_at}
+use Rattle.ac_forms.specs.Rows.{Meets}
+use Rattle.ac_forms.specs.Pieces.{IsInSome}
 
 is_less : (a b : ℕ) → a < b → nat_lt a b ≡ true
 is_less a b h = grind (arith, nat_tests)
@@ -103,7 +104,7 @@ pub counters_behind : (body : List Stmt) (ps : List ℤ) (w u : Writer) (l m : S
     → slice_get (lowered_body (length ps) body) w.entry.stmt ≡ Some l → slice_get (lowered_body (length ps) body) u.entry.stmt ≡ Some m
     → Stands (trace_of body ps) w → Stands (trace_of body ps) u
     → (length w.earlier < length u.earlier)
-    ↔ Somewhere (levels (length ps) (length ps + length l.loops) l.loops m.loops (nat_lt w.entry.stmt u.entry.stmt)) (ps ++ (w.entry.counters ++ u.entry.counters))
+    ↔ IsInSome Meets (levels (length ps) (length ps + length l.loops) l.loops m.loops (nat_lt w.entry.stmt u.entry.stmt)) (ps ++ (w.entry.counters ++ u.entry.counters))
 counters_behind body ps w u l m r at bt a b =
     let n1 = (told_at body ps w.entry l r at (stands_contains a)).counters in
     let n2 = (told_at body ps u.entry m r bt (stands_contains b)).counters in

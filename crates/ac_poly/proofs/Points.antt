@@ -13,7 +13,6 @@ use Rattle.ac_syntax.specs.declared.tree.Stmt.{Stmt, Row_of-Stmt, end_of-Stmt, m
 use Rattle.ac_syntax.specs.declared.tree.Stmt.TheVariants.{For', If', Assign}
 use Rattle.ac_poly.specs.declared.scope.Scope.{Scope}
 use Rattle.ac_poly.specs.declared.types.StmtModel.{StmtModel as Lowered}
-use Rattle.ac_poly.specs.Pieces.{Somewhere}
 use Rattle.ac_poly.specs.Lower.{in_loop, where_holds, where_fails}
 use Rattle.ac_syntax.specs.Ready.{FitParts, Ready, ReadyIn}
 use Rattle.ac_syntax.specs.declared.tree.Comparison.{Comparison}
@@ -22,6 +21,8 @@ use Rattle.ac_syntax.proofs.TurnRows.{turn_rows, rows_turn}
 use Rattle.std.proofs.Math.IntN.{*ℤ-zero}
 use Rattle.ac_poly.proofs.Relation.{IsLowered, IsLoweredIn}
 use Rattle.ac_poly.proofs.Scopes.{Stands, stands_loop, stands_taken, stands_other, loop_pieces, taken_pieces, other_pieces}
+use Rattle.ac_forms.specs.Rows.{Meets}
+use Rattle.ac_forms.specs.Pieces.{IsInSome}
 
 mutual
   unfolding IsInstance assignments
@@ -111,7 +112,7 @@ mutual
 
   pub to_instance : (s : Stmt) (first loop : ℕ) (sc : Scope) (xs : ℕ) (p : Point) (zs : List ℤ) (k : ℕ) (l : Lowered) (rest full : List ℤ)
       → Stands xs p zs sc → Ready (length p.params) xs s → IsLowered s first loop sc k l → length l.loops ≡ length sc.loops + length rest → full ≡ zs ++ rest
-      → Somewhere l.pieces (p.params ++ full) → Somewhere sc.pieces (p.params ++ zs) × Has s first p zs k full
+      → IsInSome Meets l.pieces (p.params ++ full) → IsInSome Meets sc.pieces (p.params ++ zs) × Has s first p zs k full
   to_instance (For' iter start cond step n body place) first loop sc xs p zs k l [] full h r i len e m =
       absurd (let b = more_loops_in body first (suc loop) (in_loop sc loop start cond step) k l i in omega (arith, length-append sc.loops (loop ∷ [])))
   to_instance (For' iter start cond step n body place) first loop sc xs p zs k l (pos t ∷ rest) full h r i len e m =
@@ -133,7 +134,7 @@ mutual
       (w.0, record { entry = again.1.entry; is = inr (w.1, again.1.is); stmt = again.1.stmt; counters = again.1.counters })
   to_instance (Assign array subs value place) first loop sc xs p zs k l [] full h r i len e m =
       let q : full ≡ zs = e ∙ append-nil zs in (
-        subst (λ f. Somewhere sc.pieces (p.params ++ f)) q (subst (λ (l : Lowered). Somewhere l.pieces (p.params ++ full)) i.1 m),
+        subst (λ f. IsInSome Meets sc.pieces (p.params ++ f)) q (subst (λ (l : Lowered). IsInSome Meets l.pieces (p.params ++ full)) i.1 m),
         record { entry = record { stmt = first; counters = zs; point = p; array = array; subs = subs; value = value }; is = refl; stmt = sym i.0; counters = sym q },
       )
   to_instance (Assign array subs value place) first loop sc xs p zs k l (z ∷ rest) full h r i len e m =
@@ -141,7 +142,7 @@ mutual
 
   pub to_instance_in : {m : _} (b : Row_of-Stmt m) (first loop : ℕ) (sc : Scope) (xs : ℕ) (p : Point) (zs : List ℤ) (k : ℕ) (l : Lowered) (rest full : List ℤ)
       → Stands xs p zs sc → ReadyIn (length p.params) xs b → IsLoweredIn b first loop sc k l → length l.loops ≡ length sc.loops + length rest → full ≡ zs ++ rest
-      → Somewhere l.pieces (p.params ++ full) → Somewhere sc.pieces (p.params ++ zs) × HasIn m b first p zs k full
+      → IsInSome Meets l.pieces (p.params ++ full) → IsInSome Meets sc.pieces (p.params ++ zs) × HasIn m b first p zs k full
   to_instance_in end_of-Stmt first loop sc xs p zs k l rest full h r i len e m = absurd i
   to_instance_in (more_of-Stmt s rs) first loop sc xs p zs k l rest full h r (inl i) len e m =
       let again = to_instance s first loop sc xs p zs k l rest full h r.0 i len e m in
@@ -154,8 +155,8 @@ mutual
   unfolding IsLowered IsInstance Ready
 
   pub of_instance : (s : Stmt) (first loop : ℕ) (sc : Scope) (xs : ℕ) (p : Point) (zs : List ℤ) (k : ℕ) (l : Lowered) (e : Entry)
-      → Stands xs p zs sc → Ready (length p.params) xs s → IsLowered s first loop sc k l → Somewhere sc.pieces (p.params ++ zs) → IsInstance s first p zs e → e.stmt ≡ k
-      → Somewhere l.pieces (p.params ++ e.counters)
+      → Stands xs p zs sc → Ready (length p.params) xs s → IsLowered s first loop sc k l → IsInSome Meets sc.pieces (p.params ++ zs) → IsInstance s first p zs e → e.stmt ≡ k
+      → IsInSome Meets l.pieces (p.params ++ e.counters)
   of_instance (For' iter start cond step n body place) first loop sc xs p zs k l e h r i m (t, lt, is) q =
       let w = turn_holds p start cond step t lt in
       of_instance_in body first (suc loop) (in_loop sc loop start cond step) (xs + 1) (inside p (index_value p start +ℤ (step *ℤ pos t))) (zs ++ pos t ∷ []) k l e
@@ -170,11 +171,11 @@ mutual
   of_instance (If' cond n taken m other place) first loop sc xs p zs k l e h r (inr i) s (inr is) q =
       of_instance_in other (first + assignments_in taken) (loop + loop_count_in taken) (where_fails sc cond) xs p zs k l e (stands_other xs p zs sc cond h r.0) r.2 i ((other_pieces xs p zs sc cond h r.0).1 (s, is.0)) is.1 q
   of_instance (Assign array subs value place) first loop sc xs p zs k l e h r i m is q =
-      subst (λ (l : Lowered). Somewhere l.pieces (p.params ++ e.counters)) (sym i.1) (subst (λ f. Somewhere sc.pieces (p.params ++ f)) (sym (ap (λ (e : Entry). e.counters) is)) m)
+      subst (λ (l : Lowered). IsInSome Meets l.pieces (p.params ++ e.counters)) (sym i.1) (subst (λ f. IsInSome Meets sc.pieces (p.params ++ f)) (sym (ap (λ (e : Entry). e.counters) is)) m)
 
   pub of_instance_in : {m : _} (b : Row_of-Stmt m) (first loop : ℕ) (sc : Scope) (xs : ℕ) (p : Point) (zs : List ℤ) (k : ℕ) (l : Lowered) (e : Entry)
-      → Stands xs p zs sc → ReadyIn (length p.params) xs b → IsLoweredIn b first loop sc k l → Somewhere sc.pieces (p.params ++ zs) → IsInstanceIn b first p zs e → e.stmt ≡ k
-      → Somewhere l.pieces (p.params ++ e.counters)
+      → Stands xs p zs sc → ReadyIn (length p.params) xs b → IsLoweredIn b first loop sc k l → IsInSome Meets sc.pieces (p.params ++ zs) → IsInstanceIn b first p zs e → e.stmt ≡ k
+      → IsInSome Meets l.pieces (p.params ++ e.counters)
   of_instance_in end_of-Stmt first loop sc xs p zs k l e h r i m is q = absurd i
   of_instance_in (more_of-Stmt s rs) first loop sc xs p zs k l e h r (inl i) m (inl is) q = of_instance s first loop sc xs p zs k l e h r.0 i m is q
   of_instance_in (more_of-Stmt s rs) first loop sc xs p zs k l e h r (inl i) m (inr is) q =

@@ -11,10 +11,12 @@ use Rattle.ac_syntax.specs.declared.tree.Rel.{Rel}
 use Rattle.ac_syntax.specs.declared.tree.Rel.TheVariants.{NonNegative, Zero}
 use Rattle.ac_syntax.specs.declared.tree.Comparison.{Comparison}
 use Rattle.ac_forms.specs.Negation.{below, above}
+use Rattle.ac_forms.specs.Pieces.{IsInSome}
 use Rattle.ac_poly.specs.Forms.{lowered, row_by, rows_of}
-use Rattle.ac_poly.specs.Pieces.{negations, with_each, failing, Somewhere}
+use Rattle.ac_poly.specs.Pieces.{negations, with_each, failing}
 use Rattle.ac_syntax.specs.Ready.{FitParts}
 use Rattle.ac_poly.proofs.Values.{worth, value-lowered, value-below, value-above}
+use Rattle.ac_forms.proofs.InPieces.{some-append}
 
 pub nonneg : (z : ℤ) → (is_nonnegative z ≡ true) ↔ (pos 0 ≤ℤ z)
 nonneg (pos n) = ((λ h. omega (arith, ints)), (λ h. refl))
@@ -65,29 +67,15 @@ pub meets_append : (q rs : List Row) (p : List ℤ) → Meets (q ++ rs) p ↔ (M
 meets_append [] rs p = ((λ h. (tt, h)), (λ h. h.1))
 meets_append (r ∷ q) rs p = let i = meets_append q rs p in ((λ h. let j = i.0 h.1 in ((h.0, j.0), j.1)), (λ h. (h.0.0, i.1 (h.0.1, h.1))))
 
-pub somewhere_append : (qs rs : List (List Row)) (p : List ℤ) → Somewhere (qs ++ rs) p ↔ (Somewhere qs p ⊎ Somewhere rs p)
-somewhere_append [] rs p = ((λ h. inr h), (λ h. elim h [ inl n ↦ absurd n | inr s ↦ s ]))
-somewhere_append (q ∷ qs) rs p = (to (somewhere_append qs rs p), from (somewhere_append qs rs p))
-  where
-    to : (Somewhere (qs ++ rs) p ↔ (Somewhere qs p ⊎ Somewhere rs p)) → Meets q p ⊎ Somewhere (qs ++ rs) p → (Meets q p ⊎ Somewhere qs p) ⊎ Somewhere rs p
-    to again (inl m) = inl (inl m)
-    to again (inr s) = elim (again.0 s) [ inl a ↦ inl (inr a) | inr b ↦ inr b ]
-
-    from : (Somewhere (qs ++ rs) p ↔ (Somewhere qs p ⊎ Somewhere rs p)) → (Meets q p ⊎ Somewhere qs p) ⊎ Somewhere rs p → Meets q p ⊎ Somewhere (qs ++ rs) p
-    from again (inl (inl m)) = inl m
-    from again (inl (inr s)) = inr (again.1 (inl s))
-    from again (inr s) = inr (again.1 (inr s))
-
--- further rows in each piece
-pub somewhere_with : (qs : List (List Row)) (rs : List Row) (p : List ℤ) → Somewhere (map (λ q. q ++ rs) qs) p ↔ (Somewhere qs p × Meets rs p)
+pub somewhere_with : (qs : List (List Row)) (rs : List Row) (p : List ℤ) → IsInSome Meets (map (λ q. q ++ rs) qs) p ↔ (IsInSome Meets qs p × Meets rs p)
 somewhere_with [] rs p = ((λ h. absurd h), (λ h. absurd h.0))
 somewhere_with (q ∷ qs) rs p = let again = somewhere_with qs rs p in (to again, (λ h. from again h.0 h.1))
   where
-    to : (Somewhere (map (λ q. q ++ rs) qs) p ↔ (Somewhere qs p × Meets rs p)) → Meets (q ++ rs) p ⊎ Somewhere (map (λ q. q ++ rs) qs) p → (Meets q p ⊎ Somewhere qs p) × Meets rs p
+    to : (IsInSome Meets (map (λ q. q ++ rs) qs) p ↔ (IsInSome Meets qs p × Meets rs p)) → Meets (q ++ rs) p ⊎ IsInSome Meets (map (λ q. q ++ rs) qs) p → (Meets q p ⊎ IsInSome Meets qs p) × Meets rs p
     to again (inl m) = let i = (meets_append q rs p).0 m in (inl i.0, i.1)
     to again (inr s) = let i = again.0 s in (inr i.0, i.1)
 
-    from : (Somewhere (map (λ q. q ++ rs) qs) p ↔ (Somewhere qs p × Meets rs p)) → Meets q p ⊎ Somewhere qs p → Meets rs p → Meets (q ++ rs) p ⊎ Somewhere (map (λ q. q ++ rs) qs) p
+    from : (IsInSome Meets (map (λ q. q ++ rs) qs) p ↔ (IsInSome Meets qs p × Meets rs p)) → Meets q p ⊎ IsInSome Meets qs p → Meets rs p → Meets (q ++ rs) p ⊎ IsInSome Meets (map (λ q. q ++ rs) qs) p
     from again (inl m) r = inl ((meets_append q rs p).1 (m, r))
     from again (inr s) r = inr (again.1 (s, r))
 
@@ -101,7 +89,7 @@ above_holds : (f : Affine) (p : List ℤ) → Holds (Ge (above f)) p ↔ (pos 1 
 above_holds f p = ((λ h. let k = rw (value-above f p) at h in omega (arith, ints)), (λ h. rw (value-above f p) (omega (arith, ints))))
 
 -- a piece for each way in which one comparison fails
-pub somewhere_not : (q : List Row) (r : Rel) (f : Affine) (p : List ℤ) → Somewhere (with_each q (negations r f)) p ↔ (Meets q p × (rel_holds r (value_at f p) ≡ false))
+pub somewhere_not : (q : List Row) (r : Rel) (f : Affine) (p : List ℤ) → IsInSome Meets (with_each q (negations r f)) p ↔ (Meets q p × (rel_holds r (value_at f p) ≡ false))
 somewhere_not q NonNegative f p = (to, (λ h. inl ((one_row q (Ge (below f)) p).1 (h.0, (below_holds f p).1 ((negative (value_at f p)).0 h.1)))))
   where
     to : Meets (q ++ Ge (below f) ∷ []) p ⊎ ⊥ → Meets q p × (is_nonnegative (value_at f p) ≡ false)
@@ -120,7 +108,7 @@ somewhere_not q Zero f p = (to, (λ h. from h.0 ((zero_not (value_at f p)).0 h.1
 
 -- a point is in one of them where the condition fails
 pub somewhere_failing : (ps zs : List ℤ) (its : List Affine) (xs : ℕ) (cs : List Comparison) (q : List Row) → FitParts (length ps) xs cs
-    → Somewhere (failing its cs q) (ps ++ zs) ↔ (Meets q (ps ++ zs) × (list_all (comparison_holds (record { params = ps; iters = worth (ps ++ zs) its })) cs ≡ false))
+    → IsInSome Meets (failing its cs q) (ps ++ zs) ↔ (Meets q (ps ++ zs) × (list_all (comparison_holds (record { params = ps; iters = worth (ps ++ zs) its })) cs ≡ false))
 somewhere_failing ps zs its xs [] q h = ((λ s. absurd s), (λ m. absurd (let k : true ≡ false = m.1 in cc)))
 somewhere_failing ps zs its xs (c ∷ cs) q h =
     let again = somewhere_failing ps zs its xs cs (q ++ row_by c.rel (lowered its c.form) ∷ []) h.1 in
@@ -129,34 +117,34 @@ somewhere_failing ps zs its xs (c ∷ cs) q h =
     same : rel_holds c.rel (value_at (lowered its c.form) (ps ++ zs)) ≡ comparison_holds (at ps zs its) c
     same = ap (rel_holds c.rel) (value-lowered ps zs its c.form h.0.params)
 
-    to : (Somewhere (failing its cs (q ++ row_by c.rel (lowered its c.form) ∷ [])) (ps ++ zs) ↔ (Meets (q ++ row_by c.rel (lowered its c.form) ∷ []) (ps ++ zs) × (list_all (comparison_holds (at ps zs its)) cs ≡ false))) → Somewhere (failing its (c ∷ cs) q) (ps ++ zs) → Meets q (ps ++ zs) × ((comparison_holds (at ps zs its) c && list_all (comparison_holds (at ps zs its)) cs) ≡ false)
-    to again s = elim ((somewhere_append (with_each q (negations c.rel (lowered its c.form))) (failing its cs (q ++ row_by c.rel (lowered its c.form) ∷ [])) (ps ++ zs)).0 s) [
+    to : (IsInSome Meets (failing its cs (q ++ row_by c.rel (lowered its c.form) ∷ [])) (ps ++ zs) ↔ (Meets (q ++ row_by c.rel (lowered its c.form) ∷ []) (ps ++ zs) × (list_all (comparison_holds (at ps zs its)) cs ≡ false))) → IsInSome Meets (failing its (c ∷ cs) q) (ps ++ zs) → Meets q (ps ++ zs) × ((comparison_holds (at ps zs its) c && list_all (comparison_holds (at ps zs its)) cs) ≡ false)
+    to again s = elim ((some-append Meets (with_each q (negations c.rel (lowered its c.form))) (failing its cs (q ++ row_by c.rel (lowered its c.form) ∷ [])) (ps ++ zs)).0 s) [
       | inl a ↦ (let i = (somewhere_not q c.rel (lowered its c.form) (ps ++ zs)).0 a in (i.0, rw (sym same ∙ i.1) refl))
       | inr b ↦ (let i = again.0 b in
           let j = (one_row q (row_by c.rel (lowered its c.form)) (ps ++ zs)).0 i.0 in
           (j.0, rw (sym same ∙ (holds_row c.rel (lowered its c.form) (ps ++ zs)).0 j.1) i.1))
     ]
 
-    from : (Somewhere (failing its cs (q ++ row_by c.rel (lowered its c.form) ∷ [])) (ps ++ zs) ↔ (Meets (q ++ row_by c.rel (lowered its c.form) ∷ []) (ps ++ zs) × (list_all (comparison_holds (at ps zs its)) cs ≡ false))) → (b : Bool) → comparison_holds (at ps zs its) c ≡ b → Meets q (ps ++ zs) → ((comparison_holds (at ps zs its) c && list_all (comparison_holds (at ps zs its)) cs) ≡ false) → Somewhere (failing its (c ∷ cs) q) (ps ++ zs)
+    from : (IsInSome Meets (failing its cs (q ++ row_by c.rel (lowered its c.form) ∷ [])) (ps ++ zs) ↔ (Meets (q ++ row_by c.rel (lowered its c.form) ∷ []) (ps ++ zs) × (list_all (comparison_holds (at ps zs its)) cs ≡ false))) → (b : Bool) → comparison_holds (at ps zs its) c ≡ b → Meets q (ps ++ zs) → ((comparison_holds (at ps zs its) c && list_all (comparison_holds (at ps zs its)) cs) ≡ false) → IsInSome Meets (failing its (c ∷ cs) q) (ps ++ zs)
     from again true e m n =
-        (somewhere_append (with_each q (negations c.rel (lowered its c.form))) (failing its cs (q ++ row_by c.rel (lowered its c.form) ∷ [])) (ps ++ zs)).1
+        (some-append Meets (with_each q (negations c.rel (lowered its c.form))) (failing its cs (q ++ row_by c.rel (lowered its c.form) ∷ [])) (ps ++ zs)).1
         (inr (again.1
         ((one_row q (row_by c.rel (lowered its c.form)) (ps ++ zs)).1 (m, (holds_row c.rel (lowered its c.form) (ps ++ zs)).1 (same ∙ e)), rw e at n)))
     from again false e m n =
-        (somewhere_append (with_each q (negations c.rel (lowered its c.form))) (failing its cs (q ++ row_by c.rel (lowered its c.form) ∷ [])) (ps ++ zs)).1
+        (some-append Meets (with_each q (negations c.rel (lowered its c.form))) (failing its cs (q ++ row_by c.rel (lowered its c.form) ∷ [])) (ps ++ zs)).1
         (inl ((somewhere_not q c.rel (lowered its c.form) (ps ++ zs)).1 (m, same ∙ e)))
 
 pub somewhere_fails : (ps zs : List ℤ) (its : List Affine) (xs : ℕ) (cs : List Comparison) (qs : List (List Row)) → FitParts (length ps) xs cs
-    → Somewhere (flat_map (failing its cs) qs) (ps ++ zs) ↔ (Somewhere qs (ps ++ zs) × (list_all (comparison_holds (record { params = ps; iters = worth (ps ++ zs) its })) cs ≡ false))
+    → IsInSome Meets (flat_map (failing its cs) qs) (ps ++ zs) ↔ (IsInSome Meets qs (ps ++ zs) × (list_all (comparison_holds (record { params = ps; iters = worth (ps ++ zs) its })) cs ≡ false))
 somewhere_fails ps zs its xs cs [] h = ((λ s. absurd s), (λ m. absurd m.0))
 somewhere_fails ps zs its xs cs (q ∷ qs) h = let again = somewhere_fails ps zs its xs cs qs h in (to again, (λ m. from again m.0 m.1))
   where
-    to : (Somewhere (flat_map (failing its cs) qs) (ps ++ zs) ↔ (Somewhere qs (ps ++ zs) × (list_all (comparison_holds (at ps zs its)) cs ≡ false))) → Somewhere (failing its cs q ++ flat_map (failing its cs) qs) (ps ++ zs) → (Meets q (ps ++ zs) ⊎ Somewhere qs (ps ++ zs)) × (list_all (comparison_holds (at ps zs its)) cs ≡ false)
-    to again s = elim ((somewhere_append (failing its cs q) (flat_map (failing its cs) qs) (ps ++ zs)).0 s) [
+    to : (IsInSome Meets (flat_map (failing its cs) qs) (ps ++ zs) ↔ (IsInSome Meets qs (ps ++ zs) × (list_all (comparison_holds (at ps zs its)) cs ≡ false))) → IsInSome Meets (failing its cs q ++ flat_map (failing its cs) qs) (ps ++ zs) → (Meets q (ps ++ zs) ⊎ IsInSome Meets qs (ps ++ zs)) × (list_all (comparison_holds (at ps zs its)) cs ≡ false)
+    to again s = elim ((some-append Meets (failing its cs q) (flat_map (failing its cs) qs) (ps ++ zs)).0 s) [
       | inl a ↦ (let i = (somewhere_failing ps zs its xs cs q h).0 a in (inl i.0, i.1))
       | inr b ↦ (let i = again.0 b in (inr i.0, i.1))
     ]
 
-    from : (Somewhere (flat_map (failing its cs) qs) (ps ++ zs) ↔ (Somewhere qs (ps ++ zs) × (list_all (comparison_holds (at ps zs its)) cs ≡ false))) → Meets q (ps ++ zs) ⊎ Somewhere qs (ps ++ zs) → list_all (comparison_holds (at ps zs its)) cs ≡ false → Somewhere (failing its cs q ++ flat_map (failing its cs) qs) (ps ++ zs)
-    from again (inl m) n = (somewhere_append (failing its cs q) (flat_map (failing its cs) qs) (ps ++ zs)).1 (inl ((somewhere_failing ps zs its xs cs q h).1 (m, n)))
-    from again (inr m) n = (somewhere_append (failing its cs q) (flat_map (failing its cs) qs) (ps ++ zs)).1 (inr (again.1 (m, n)))
+    from : (IsInSome Meets (flat_map (failing its cs) qs) (ps ++ zs) ↔ (IsInSome Meets qs (ps ++ zs) × (list_all (comparison_holds (at ps zs its)) cs ≡ false))) → Meets q (ps ++ zs) ⊎ IsInSome Meets qs (ps ++ zs) → list_all (comparison_holds (at ps zs its)) cs ≡ false → IsInSome Meets (failing its cs q ++ flat_map (failing its cs) qs) (ps ++ zs)
+    from again (inl m) n = (some-append Meets (failing its cs q) (flat_map (failing its cs) qs) (ps ++ zs)).1 (inl ((somewhere_failing ps zs its xs cs q h).1 (m, n)))
+    from again (inr m) n = (some-append Meets (failing its cs q) (flat_map (failing its cs) qs) (ps ++ zs)).1 (inr (again.1 (m, n)))

@@ -10,12 +10,13 @@ use Rattle.ac_syntax.specs.declared.tree.Cond.{Cond}
 use Rattle.ac_poly.specs.declared.scope.Scope.{Scope}
 use Rattle.ac_forms.specs.Affine.{column_form}
 use Rattle.ac_poly.specs.Forms.{lowered, stepping, rows_of}
-use Rattle.ac_poly.specs.Pieces.{Somewhere}
 use Rattle.ac_poly.specs.Lower.{columns, loop_rows, in_loop, where_holds, where_fails}
 use Rattle.ac_syntax.specs.Ready.{FitParts}
 use Rattle.ac_poly.proofs.Values.{worth, Narrow, value-lowered, value-narrow, value-column, value-stepping, worth-narrow, narrow-column, narrow-combined}
 use Rattle.ac_poly.proofs.Rows.{meets_rows, meets_append, somewhere_with, somewhere_fails}
 use Rattle.ac_poly.proofs.Narrows.{NarrowRows, NarrowPieces, somewhere-narrow, all_append, all_wider, narrow-lowered, narrow_rows, narrow_with, narrow_fails}
+use Rattle.ac_forms.specs.Rows.{Meets}
+use Rattle.ac_forms.specs.Pieces.{IsInSome}
 
 -- the scope of a statement inside xs loops, at a point where their counters are zs
 pub record Stands (xs : ℕ) (p : Point) (zs : List ℤ) (sc : Scope) : Type 0 where
@@ -130,7 +131,7 @@ stands_other xs p zs sc cond h c = record {
 
 -- where the pieces inside a branch are met
 pub taken_pieces : (xs : ℕ) (p : Point) (zs : List ℤ) (sc : Scope) (cond : Cond) → Stands xs p zs sc → FitParts (length p.params) xs cond.parts
-    → Somewhere (where_holds sc cond).pieces (p.params ++ zs) ↔ (Somewhere sc.pieces (p.params ++ zs) × (holds p cond ≡ true))
+    → IsInSome Meets (where_holds sc cond).pieces (p.params ++ zs) ↔ (IsInSome Meets sc.pieces (p.params ++ zs) × (holds p cond ≡ true))
 taken_pieces xs p zs sc cond h c =
     let a = somewhere_with sc.pieces (rows_of sc.iters cond.parts) (p.params ++ zs) in
     let b = meets_rows p.params zs sc.iters xs cond.parts c in
@@ -138,7 +139,7 @@ taken_pieces xs p zs sc cond h c =
     ((λ s. let i = a.0 s in (i.0, sym e ∙ b.0 i.1)), (λ s. a.1 (s.0, b.1 (e ∙ s.1))))
 
 pub other_pieces : (xs : ℕ) (p : Point) (zs : List ℤ) (sc : Scope) (cond : Cond) → Stands xs p zs sc → FitParts (length p.params) xs cond.parts
-    → Somewhere (where_fails sc cond).pieces (p.params ++ zs) ↔ (Somewhere sc.pieces (p.params ++ zs) × (holds p cond ≡ false))
+    → IsInSome Meets (where_fails sc cond).pieces (p.params ++ zs) ↔ (IsInSome Meets sc.pieces (p.params ++ zs) × (holds p cond ≡ false))
 other_pieces xs p zs sc cond h c =
     let a = somewhere_fails p.params zs sc.iters xs cond.parts sc.pieces c in
     let e = ap (λ is. holds (record { params = p.params; iters = is }) cond) h.values in
@@ -146,8 +147,8 @@ other_pieces xs p zs sc cond h c =
 
 -- where the pieces inside a loop are met
 pub loop_pieces : (xs : ℕ) (p : Point) (zs : List ℤ) (sc : Scope) (number : ℕ) (start : IndexExpr) (cond : Cond) (step z : ℤ) → Stands xs p zs sc → length start.params ≡ length p.params → FitParts (length p.params) (xs + 1) cond.parts
-    → Somewhere (in_loop sc number start cond step).pieces (p.params ++ (zs ++ z ∷ []))
-    ↔ (Somewhere sc.pieces (p.params ++ zs) × (pos 0 ≤ℤ z) × (holds (inside p (index_value p start)) cond ≡ true) × (holds (inside p (index_value p start +ℤ (step *ℤ z))) cond ≡ true))
+    → IsInSome Meets (in_loop sc number start cond step).pieces (p.params ++ (zs ++ z ∷ []))
+    ↔ (IsInSome Meets sc.pieces (p.params ++ zs) × (pos 0 ≤ℤ z) × (holds (inside p (index_value p start)) cond ≡ true) × (holds (inside p (index_value p start +ℤ (step *ℤ z))) cond ≡ true))
 loop_pieces xs p zs sc number start cond step z h f c =
     let pt = p.params ++ (zs ++ z ∷ []) in
     let its0 : List Affine = sc.iters ++ lowered sc.iters start ∷ [] in
@@ -160,7 +161,7 @@ loop_pieces xs p zs sc number start cond step z h f c =
     ap (value_at (lowered sc.iters start)) (grown p.params zs z) ∙ value-narrow (lowered sc.iters start) (p.params ++ zs) (z ∷ []) (lowered_narrow xs p zs sc start h f) ∙ lowered_value xs p zs sc start h f in
     let e0 = ap (λ is. holds (record { params = p.params; iters = is }) cond) (values_more xs p zs sc z (lowered sc.iters start) (index_value p start) h v0) in
     let e1 = ap (λ is. holds (record { params = p.params; iters = is }) cond) (values_more xs p zs sc z (stepping (lowered sc.iters start) step (columns sc)) _ h (stepping_value xs p zs sc start step z h f)) in
-    let g : Somewhere sc.pieces pt ≡ Somewhere sc.pieces (p.params ++ zs) = ap (Somewhere sc.pieces) (grown p.params zs z) ∙ somewhere-narrow sc.pieces (p.params ++ zs) (z ∷ []) h.pieces in
+    let g : IsInSome Meets sc.pieces pt ≡ IsInSome Meets sc.pieces (p.params ++ zs) = ap (IsInSome Meets sc.pieces) (grown p.params zs z) ∙ somewhere-narrow sc.pieces (p.params ++ zs) (z ∷ []) h.pieces in
     let vc : value_at (column_form (columns sc + 1) (columns sc)) pt ≡ z = ap (value_at (column_form (columns sc + 1) (columns sc))) (grown p.params zs z) ∙ value-column (columns sc) (p.params ++ zs) z (columns_are xs p zs sc h) in (
       (λ s. let i = a.0 s in let j = m.0 i.1.1 in (rw g at i.0, rw vc at i.1.0, sym e0 ∙ r0.0 j.0, sym e1 ∙ r1.0 j.1)),
       (λ s. a.1 (rw g s.0, (rw vc s.1, m.1 (r0.1 (e0 ∙ s.2), r1.1 (e1 ∙ s.3))))),

@@ -16,7 +16,7 @@ use Rattle.ac_syntax.specs.declared.tree.Stmt.TheVariants.{For, If, Assign, For'
 use Rattle.ac_poly.specs.Forms.{lowered, stepping, rows_of}
 use Rattle.ac_poly.specs.Lower.{columns, loop_rows, in_loop, where_holds, where_fails, assigned, lower, lower_in, lower_all}
 use Rattle.ac_poly.specs.Numbers.{CanHold, CanFail, CanEnter, CanAssign}
-use Rattle.ac_poly.specs.Faults.{IsFine, IsFineIn, IsFirst, IsFirstIn, IsFineAll, IsFirstAll}
+use Rattle.ac_poly.specs.Faults.{IsLowerable, IsLowerableIn, IsFirst, IsFirstIn, AreLowerable, IsFirstAll}
 use Rattle.ac_poly.specs.Steps.{ways, pieces_by, Lowers, LowersAll, SeeksAll}
 use Rattle.ac_poly.specs.declared.scope.Scope.{Scope}
 use Rattle.ac_poly.specs.declared.types.StmtModel.{StmtModel}
@@ -61,19 +61,19 @@ ready_taken sc inner cond body body2 e b h = rw (e, b) h
 pub ready_other : (sc inner : Scope) (cond : Cond) (body body2 : List Stmt) → inner ≡ where_fails sc cond → body2 ≡ body → ReadyAll sc.params (length sc.iters) body → ReadyAll inner.params (length inner.iters) body2
 ready_other sc inner cond body body2 e b h = rw (e, b) h
 
-fine_row : (m : _) (k : Row_of-Stmt m) (loop : ℕ) (sc : Scope) (ok : Type 0) → IsFineIn k loop sc ok ≡ IsFineAll (items-the_row-Stmt m k) loop sc ok
-unfolding IsFine
+fine_row : (m : _) (k : Row_of-Stmt m) (loop : ℕ) (sc : Scope) (ok : Type 0) → IsLowerableIn k loop sc ok ≡ AreLowerable (items-the_row-Stmt m k) loop sc ok
+unfolding IsLowerable
 fine_row m end_of-Stmt loop sc ok = refl
-fine_row m (more_of-Stmt {n = n} s rest) loop sc ok = λ i. IsFine s loop sc ok × fine_row n rest (loop + loop_count s) sc ok i
+fine_row m (more_of-Stmt {n = n} s rest) loop sc ok = λ i. IsLowerable s loop sc ok × fine_row n rest (loop + loop_count s) sc ok i
 
 first_row : (m : _) (k : Row_of-Stmt m) (loop : ℕ) (sc : Scope) (ok : Type 0) (f : LowerFault) → IsFirstIn k loop sc ok f ≡ IsFirstAll (items-the_row-Stmt m k) loop sc ok f
 unfolding IsFirst
 first_row m end_of-Stmt loop sc ok f = refl
-first_row m (more_of-Stmt {n = n} s rest) loop sc ok f = λ i. IsFirst s loop sc ok f ⊎ (IsFine s loop sc ok × first_row n rest (loop + loop_count s) sc ok f i)
+first_row m (more_of-Stmt {n = n} s rest) loop sc ok f = λ i. IsFirst s loop sc ok f ⊎ (IsLowerable s loop sc ok × first_row n rest (loop + loop_count s) sc ok f i)
 
 fine_for : (iter : List ℕ) (start : IndexExpr) (cond : Cond) (step : ℤ) (body : List Stmt) (place : Place) (loop : ℕ) (sc : Scope) (ok : Type 0)
-    → IsFine (For iter start cond step body place) loop sc ok ≡ IsFineAll body (suc loop) (in_loop sc loop start cond step) (ok × CanEnter sc start cond step)
-unfolding IsFine
+    → IsLowerable (For iter start cond step body place) loop sc ok ≡ AreLowerable body (suc loop) (in_loop sc loop start cond step) (ok × CanEnter sc start cond step)
+unfolding IsLowerable
 fine_for iter start cond step body place loop sc ok = search (rules, the_lemmas, fine_row)
 
 first_for : (iter : List ℕ) (start : IndexExpr) (cond : Cond) (step : ℤ) (body : List Stmt) (place : Place) (loop : ℕ) (sc : Scope) (ok : Type 0) (f : LowerFault)
@@ -82,21 +82,21 @@ unfolding IsFirst
 first_for iter start cond step body place loop sc ok f = search (rules, the_lemmas, first_row)
 
 fine_if' : (cond : Cond) (n : _) (taken : Row_of-Stmt _) (m : _) (other : Row_of-Stmt _) (place : Place) (loop : ℕ) (sc : Scope) (ok : Type 0)
-    → IsFine (If' cond n taken m other place) loop sc ok
-    ≡ (IsFineAll (items-the_row-Stmt _ taken) loop (where_holds sc cond) (ok × CanHold sc.iters cond.parts) × IsFineAll (items-the_row-Stmt _ other) (loop + sum_by loop_count (items-the_row-Stmt _ taken)) (where_fails sc cond) (ok × CanFail sc.iters cond.parts))
-unfolding IsFine
+    → IsLowerable (If' cond n taken m other place) loop sc ok
+    ≡ (AreLowerable (items-the_row-Stmt _ taken) loop (where_holds sc cond) (ok × CanHold sc.iters cond.parts) × AreLowerable (items-the_row-Stmt _ other) (loop + sum_by loop_count (items-the_row-Stmt _ taken)) (where_fails sc cond) (ok × CanFail sc.iters cond.parts))
+unfolding IsLowerable
 fine_if' cond n taken m other place loop sc ok =
     λ i. fine_row _ taken loop (where_holds sc cond) (ok × CanHold sc.iters cond.parts) i × fine_row _ other (loop + loops_row _ taken i) (where_fails sc cond) (ok × CanFail sc.iters cond.parts) i
 
 fine_if : (cond : Cond) (taken other : List Stmt) (place : Place) (loop : ℕ) (sc : Scope) (ok : Type 0)
-    → IsFine (If cond taken other place) loop sc ok
-    ≡ (IsFineAll taken loop (where_holds sc cond) (ok × CanHold sc.iters cond.parts) × IsFineAll other (loop + sum_by loop_count taken) (where_fails sc cond) (ok × CanFail sc.iters cond.parts))
+    → IsLowerable (If cond taken other place) loop sc ok
+    ≡ (AreLowerable taken loop (where_holds sc cond) (ok × CanHold sc.iters cond.parts) × AreLowerable other (loop + sum_by loop_count taken) (where_fails sc cond) (ok × CanFail sc.iters cond.parts))
 fine_if cond taken other place loop sc ok = search (rules, the_lemmas, fine_if')
 
 first_if' : (cond : Cond) (n : _) (taken : Row_of-Stmt _) (m : _) (other : Row_of-Stmt _) (place : Place) (loop : ℕ) (sc : Scope) (ok : Type 0) (f : LowerFault)
     → IsFirst (If' cond n taken m other place) loop sc ok f
     ≡ (IsFirstAll (items-the_row-Stmt _ taken) loop (where_holds sc cond) (ok × CanHold sc.iters cond.parts) f
-    ⊎ (IsFineAll (items-the_row-Stmt _ taken) loop (where_holds sc cond) (ok × CanHold sc.iters cond.parts) × IsFirstAll (items-the_row-Stmt _ other) (loop + sum_by loop_count (items-the_row-Stmt _ taken)) (where_fails sc cond) (ok × CanFail sc.iters cond.parts) f))
+    ⊎ (AreLowerable (items-the_row-Stmt _ taken) loop (where_holds sc cond) (ok × CanHold sc.iters cond.parts) × IsFirstAll (items-the_row-Stmt _ other) (loop + sum_by loop_count (items-the_row-Stmt _ taken)) (where_fails sc cond) (ok × CanFail sc.iters cond.parts) f))
 unfolding IsFirst
 first_if' cond n taken m other place loop sc ok f =
     λ i. first_row _ taken loop (where_holds sc cond) (ok × CanHold sc.iters cond.parts) f i
@@ -105,10 +105,10 @@ first_if' cond n taken m other place loop sc ok f =
 first_if : (cond : Cond) (taken other : List Stmt) (place : Place) (loop : ℕ) (sc : Scope) (ok : Type 0) (f : LowerFault)
     → IsFirst (If cond taken other place) loop sc ok f
     ≡ (IsFirstAll taken loop (where_holds sc cond) (ok × CanHold sc.iters cond.parts) f
-    ⊎ (IsFineAll taken loop (where_holds sc cond) (ok × CanHold sc.iters cond.parts) × IsFirstAll other (loop + sum_by loop_count taken) (where_fails sc cond) (ok × CanFail sc.iters cond.parts) f))
+    ⊎ (AreLowerable taken loop (where_holds sc cond) (ok × CanHold sc.iters cond.parts) × IsFirstAll other (loop + sum_by loop_count taken) (where_fails sc cond) (ok × CanFail sc.iters cond.parts) f))
 first_if cond taken other place loop sc ok f = search (rules, the_lemmas, first_if')
 
-all_fine_as : (ss : List Stmt) (loop : ℕ) (sc : Scope) (p q : Type 0) → (p → q) → IsFineAll ss loop sc p → IsFineAll ss loop sc q
+all_fine_as : (ss : List Stmt) (loop : ℕ) (sc : Scope) (p q : Type 0) → (p → q) → AreLowerable ss loop sc p → AreLowerable ss loop sc q
 all_fine_as [] loop sc p q f h = tt
 all_fine_as (s ∷ ss) loop sc p q f h = (fine_as s loop sc p q f h.0, all_fine_as ss (loop + loop_count s) sc p q f h.1)
 
@@ -130,8 +130,8 @@ pub unknown : (r : Result ℕ LowerFault) (ps xs : ℕ) (ss : List Stmt) (number
 unknown r ps xs ss number sc can n old ready l e h =
     let t = lost_all ps xs ss number sc can n ready l (inl e) in
     answers_map r _ _ _ _
-    (λ next x. (x.0, subst (λ o. Tells o (IsFineAll ss number sc can) (IsFirstAll ss number sc can)) x.1 t, sym (ap (λ o. old ++ o) (nothing_all ss n number sc x.1) ∙ append-nil old)))
-    (λ f x. subst (λ o. Tells o (IsFineAll ss number sc can) (IsFirstAll ss number sc can)) x t) h
+    (λ next x. (x.0, subst (λ o. Tells o (AreLowerable ss number sc can) (IsFirstAll ss number sc can)) x.1 t, sym (ap (λ o. old ++ o) (nothing_all ss n number sc x.1) ∙ append-nil old)))
+    (λ f x. subst (λ o. Tells o (AreLowerable ss number sc can) (IsFirstAll ss number sc can)) x t) h
 
 pub walk_for : (r : Result ℕ LowerFault) (s : Stmt) (iter : List ℕ) (start : IndexExpr) (cond : Cond) (step : ℤ) (body : List Stmt) (place : Place) (number : ℕ) (sc : Scope) (old new : List StmtModel)
     → s ≡ For iter start cond step body place → LowersAll r body (suc number) (in_loop sc number start cond step) (CanEnter sc start cond step) old new → Lowers r s number sc (Unit {0}) old new
@@ -173,7 +173,7 @@ walk_if_stops stop s cond taken other place number sc old mid new is h =
 pub walk_assign : (s : Stmt) (array : ℕ) (subs subs2 : List IndexExpr) (value : Value) (place : Place) (number : ℕ) (sc : Scope) (made : StmtModel) (old new : List StmtModel)
     → s ≡ Assign array subs value place → subs2 ≡ subs → length sc.pieces ≤ 16 → CanAssign sc.iters subs2 value × (made ≡ assigned sc array subs2 value)
     → new ≡ old ++ made ∷ [] → Lowers (Ok number) s number sc (Unit {0}) old new
-unfolding IsFine loop_count lower
+unfolding IsLowerable loop_count lower
 walk_assign s array subs subs2 value place number sc made old new is b few m n =
     rw is (sym (omega arith), (few, tt, subst (λ x. CanAssign sc.iters x value) b m.0), n ∙ ap (λ x. old ++ x ∷ []) (m.1 ∙ ap (λ u. assigned sc array u value) b))
 
@@ -212,7 +212,7 @@ walk_if_err r stop s cond taken other place number sc old mid new e is h = subst
 pub record Halfway (ss : List Stmt) (number : ℕ) (sc : Scope) (old : List StmtModel) (i next : ℕ) (now : List StmtModel) : Type 0 where
   pub count : next + sum_by loop_count (drop i ss) ≡ number + sum_by loop_count ss
   pub made : now ++ lower_all (drop i ss) next sc ≡ old ++ lower_all ss number sc
-  pub fine : IsFineAll (drop i ss) next sc (Unit {0}) → IsFineAll ss number sc (Unit {0})
+  pub fine : AreLowerable (drop i ss) next sc (Unit {0}) → AreLowerable ss number sc (Unit {0})
   pub first : (f : LowerFault) → IsFirstAll (drop i ss) next sc (Unit {0}) f → IsFirstAll ss number sc (Unit {0}) f
 
 pub halfway_start : (ss : List Stmt) (number : ℕ) (sc : Scope) (old : List StmtModel) → Halfway ss number sc old 0 number old

@@ -9,7 +9,6 @@ use Rattle.ac_syntax.specs.declared.tree.Array.{Array}
 use Rattle.ac_syntax.specs.declared.tree.Cond.{Cond}
 use Rattle.ac_syntax.specs.declared.tree.Program.{Program}
 use Rattle.ac_poly.specs.Coordinates.{levels_before}
-use Rattle.ac_poly.specs.Pieces.{Somewhere}
 use Rattle.ac_poly.specs.Forms.{rows_of}
 use Rattle.ac_poly.specs.Laws.{values_at}
 use Rattle.ac_poly.specs.Lower.{lowered_body}
@@ -23,6 +22,7 @@ use Rattle.ac_poly.proofs.Orders.{counters_behind}
 use Rattle.ac_poly.proofs.Rows.{meets_rows}
 use Rattle.ac_poly.proofs.Targets.{targets_are_cells, nodes_are_values}
 use Rattle.ac_poly.proofs.Values.{all_values}
+use Rattle.ac_forms.specs.Pieces.{IsInSome}
 
 ready : (p : Program) (params : List ℤ) → ReadyProgram p → length params ≡ length p.params → ReadyAll (length params) 0 p.body
 ready p params r l = subst (λ n. ReadyAll n 0 p.body) (sym l) r.body
@@ -42,7 +42,7 @@ has_nodes p context r params e stmt l at c = nodes_are_values p.body params e st
 
 pub has_order : (p : Program) (context : Cond) → ReadyProgram p → HasOrder p (model_of p context)
 has_order p context r params w u first second l a b s t =
-    subst (λ n. (length w.earlier < length u.earlier) ↔ Somewhere (levels_before n w.entry.stmt first u.entry.stmt second) (params ++ (w.entry.counters ++ u.entry.counters))) l
+    subst (λ n. (length w.earlier < length u.earlier) ↔ IsInSome Meets (levels_before n w.entry.stmt first u.entry.stmt second) (params ++ (w.entry.counters ++ u.entry.counters))) l
     (counters_behind p.body params w u first second (ready p params r l) (at_params p params w.entry.stmt first l a) (at_params p params u.entry.stmt second l b) s t)
 
 pub has_context : (p : Program) (context : Cond) → FitParts (length p.params) 0 context.parts → HasContext context (model_of p context)

@@ -11,7 +11,7 @@ use Rattle.ac_syntax.specs.Source.{Writer, Stands}
 use Rattle.ac_syntax.specs.Trace.{trace_of}
 use Rattle.ac_syntax.specs.declared.tree.Stmt.{Stmt}
 use Rattle.ac_poly.specs.Laws.{Lowered, values_at}
-use Rattle.ac_poly.specs.Pieces.{Somewhere, AtMostOne}
+use Rattle.ac_forms.specs.Pieces.{IsInSome, IsInOneAtMost}
 use Rattle.ac_poly.specs.declared.types.StmtModel.{StmtModel}
 
 -- the column j less the column i, plus k
@@ -42,11 +42,11 @@ LevelsAreTheOrder =
     → Lowered (length params) body w.entry.stmt first → Lowered (length params) body u.entry.stmt second
     → Stands (trace_of body params) w → Stands (trace_of body params) u
     → numbers i (length first.loops) p ≡ w.entry.counters → numbers j (length second.loops) p ≡ u.entry.counters
-    → (length w.earlier < length u.earlier) ↔ Somewhere (levels i j first.loops second.loops (nat_lt w.entry.stmt u.entry.stmt)) p
+    → (length w.earlier < length u.earlier) ↔ IsInSome Meets (levels i j first.loops second.loops (nat_lt w.entry.stmt u.entry.stmt)) p
 
 -- no two levels hold at one point
 abbrev pub LevelsAreApart : Type 0
-LevelsAreApart = (i j : ℕ) (ls ms : List ℕ) (text : Bool) (p : List ℤ) → AtMostOne (levels i j ls ms text) p
+LevelsAreApart = (i j : ℕ) (ls ms : List ℕ) (text : Bool) (p : List ℤ) → IsInOneAtMost Meets (levels i j ls ms text) p
 
 -- their rows have no columns but those of the counters, and no modulus below 1
 abbrev pub LevelsHaveColumns : Type 0
@@ -56,7 +56,7 @@ LevelsHaveColumns = (i j n : ℕ) (ls ms : List ℕ) (text : Bool) → i + lengt
 abbrev pub LevelsMove : Type 0
 LevelsMove =
     (i j k l : ℕ) (ls ms : List ℕ) (text : Bool) (p q : List ℤ) → numbers i (length ls) p ≡ numbers k (length ls) q → numbers j (length ms) p ≡ numbers l (length ms) q
-    → Somewhere (levels i j ls ms text) p ↔ Somewhere (levels k l ls ms text) q
+    → IsInSome Meets (levels i j ls ms text) p ↔ IsInSome Meets (levels k l ls ms text) q
 
 -- one equality for each dimension
 abbrev pub equalities : List Affine → List Affine → List Row

@@ -1,4 +1,4 @@
--- Forms and rows of instances among further columns: the parameters stand first, and the coordinates of each instance from
+-- The coordinates of instances among further columns: the parameters stand first, and the coordinates of each instance from
 -- a column of its own on.
 use Rattle.std.specs.Prelude.{ℕ, ◌+◌, ◌-◌, ◌≤◌, ◌≡◌, ◌↔◌, ◌++◌, ◌≤ℤ◌, ◌<ℤ◌, ℤ, pos, negsuc, List, [], ◌∷◌, length, map, take, drop, replicate}
 use Rattle.std.specs.List.{AllByRecursion, range_with_len}
@@ -10,37 +10,9 @@ use Rattle.ac_forms.specs.declared.row.Row.TheVariants.{Eq, Div, Ge}
 use Rattle.ac_poly.specs.Before.{numbers}
 use Rattle.ac_poly.specs.Laws.{values_at}
 
--- a form over n parameters and the coordinates of an instance, with the coordinates from column `first` on
-abbrev pub placed : ℕ → ℕ → Affine → Affine
-placed n first f = record { konst = f.konst; coefs = take n f.coefs ++ (replicate (first - n) (pos 0) ++ drop n f.coefs) }
-
-abbrev pub placed_row : ℕ → ℕ → Row → Row
-placed_row n first (Eq f) = Eq (placed n first f)
-placed_row n first (Div m f) = Div m (placed n first f)
-placed_row n first (Ge f) = Ge (placed n first f)
-
 -- no form has a coefficient past that many columns
 abbrev pub AreOver : ℕ → List Affine → Type 0
 AreOver columns = AllByRecursion (λ f. length f.coefs ≤ columns)
-
--- what a point has for the parameters and for so many coordinates
-abbrev pub own_point : ℕ → ℕ → ℕ → List ℤ → List ℤ
-own_point n first count p = numbers 0 n p ++ numbers first count p
-
--- forms have there the values that they have at the parameters and the coordinates
-abbrev pub PlacedFormsHaveValues : Type 0
-PlacedFormsHaveValues =
-    (n first count : ℕ) (fs : List Affine) (p : List ℤ) → n ≤ first → AreOver (n + count) fs → values_at p (map (placed n first) fs) ≡ values_at (own_point n first count p) fs
-
--- so do rows hold
-abbrev pub PlacedRowsHold : Type 0
-PlacedRowsHold =
-    (n first count : ℕ) (rows : List Row) (p : List ℤ) → n ≤ first → AreRowsOver (n + count) rows → Meets (map (placed_row n first) rows) p ↔ Meets rows (own_point n first count p)
-
--- and they have no columns but the parameters and the coordinates
-abbrev pub PlacedRowsHaveColumns : Type 0
-PlacedRowsHaveColumns =
-    (n first count columns : ℕ) (rows : List Row) → n ≤ first → first + count ≤ columns → AreRowsOver (n + count) rows → AreRowsOver columns (map (placed_row n first) rows)
 
 -- the forms of so many coordinates, from column k on
 abbrev pub coordinate_forms : ℕ → ℕ → List Affine

@@ -14,15 +14,15 @@ use Rattle.ac_poly.specs.declared.types.LowerFault.TheVariants.{Pieces, Wide, Me
 -- each assignment has at most 16 pieces, and its numbers and those of what is around it stay in `i128`; `fit` says so of
 -- what is around the statement
 unfoldable mutual
-  pub IsFine : Stmt → ℕ → Scope → Type 0 → Type 0
-  IsFine (For' iter start cond step n body place) loop sc fit = IsFineIn body (suc loop) (in_loop sc loop start cond step) (fit × CanEnter sc start cond step)
-  IsFine (If' cond n taken m other place) loop sc fit =
-      IsFineIn taken loop (where_holds sc cond) (fit × CanHold sc.iters cond.parts) × IsFineIn other (loop + loop_count_in taken) (where_fails sc cond) (fit × CanFail sc.iters cond.parts)
-  IsFine (Assign array subs value place) loop sc fit = (length sc.pieces ≤ 16) × fit × CanAssign sc.iters subs value
+  pub IsLowerable : Stmt → ℕ → Scope → Type 0 → Type 0
+  IsLowerable (For' iter start cond step n body place) loop sc fit = IsLowerableIn body (suc loop) (in_loop sc loop start cond step) (fit × CanEnter sc start cond step)
+  IsLowerable (If' cond n taken m other place) loop sc fit =
+      IsLowerableIn taken loop (where_holds sc cond) (fit × CanHold sc.iters cond.parts) × IsLowerableIn other (loop + loop_count_in taken) (where_fails sc cond) (fit × CanFail sc.iters cond.parts)
+  IsLowerable (Assign array subs value place) loop sc fit = (length sc.pieces ≤ 16) × fit × CanAssign sc.iters subs value
 
-  pub IsFineIn : {m : _} → Row_of-Stmt m → ℕ → Scope → Type 0 → Type 0
-  IsFineIn end_of-Stmt loop sc fit = Unit {0}
-  IsFineIn (more_of-Stmt s rest) loop sc fit = IsFine s loop sc fit × IsFineIn rest (loop + loop_count s) sc fit
+  pub IsLowerableIn : {m : _} → Row_of-Stmt m → ℕ → Scope → Type 0 → Type 0
+  IsLowerableIn end_of-Stmt loop sc fit = Unit {0}
+  IsLowerableIn (more_of-Stmt s rest) loop sc fit = IsLowerable s loop sc fit × IsLowerableIn rest (loop + loop_count s) sc fit
 
 -- what is named of an assignment: too many pieces first, else a number that does not fit
 abbrev pub Names : Place → Scope → Type 0 → LowerFault → Type 0
@@ -36,21 +36,21 @@ unfoldable mutual
   IsFirst (For' iter start cond step n body place) loop sc fit f = IsFirstIn body (suc loop) (in_loop sc loop start cond step) (fit × CanEnter sc start cond step) f
   IsFirst (If' cond n taken m other place) loop sc fit f =
       IsFirstIn taken loop (where_holds sc cond) (fit × CanHold sc.iters cond.parts) f
-      ⊎ (IsFineIn taken loop (where_holds sc cond) (fit × CanHold sc.iters cond.parts) × IsFirstIn other (loop + loop_count_in taken) (where_fails sc cond) (fit × CanFail sc.iters cond.parts) f)
+      ⊎ (IsLowerableIn taken loop (where_holds sc cond) (fit × CanHold sc.iters cond.parts) × IsFirstIn other (loop + loop_count_in taken) (where_fails sc cond) (fit × CanFail sc.iters cond.parts) f)
   IsFirst (Assign array subs value place) loop sc fit f = Names place sc (fit × CanAssign sc.iters subs value) f
 
   pub IsFirstIn : {m : _} → Row_of-Stmt m → ℕ → Scope → Type 0 → LowerFault → Type 0
   IsFirstIn end_of-Stmt loop sc fit f = ⊥
-  IsFirstIn (more_of-Stmt s rest) loop sc fit f = IsFirst s loop sc fit f ⊎ (IsFine s loop sc fit × IsFirstIn rest (loop + loop_count s) sc fit f)
+  IsFirstIn (more_of-Stmt s rest) loop sc fit f = IsFirst s loop sc fit f ⊎ (IsLowerable s loop sc fit × IsFirstIn rest (loop + loop_count s) sc fit f)
 
 -- the same at several statements
-abbrev pub IsFineAll : List Stmt → ℕ → Scope → Type 0 → Type 0
-IsFineAll [] loop sc fit = Unit {0}
-IsFineAll (s ∷ ss) loop sc fit = IsFine s loop sc fit × IsFineAll ss (loop + loop_count s) sc fit
+abbrev pub AreLowerable : List Stmt → ℕ → Scope → Type 0 → Type 0
+AreLowerable [] loop sc fit = Unit {0}
+AreLowerable (s ∷ ss) loop sc fit = IsLowerable s loop sc fit × AreLowerable ss (loop + loop_count s) sc fit
 
 abbrev pub IsFirstAll : List Stmt → ℕ → Scope → Type 0 → LowerFault → Type 0
 IsFirstAll [] loop sc fit f = ⊥
-IsFirstAll (s ∷ ss) loop sc fit f = IsFirst s loop sc fit f ⊎ (IsFine s loop sc fit × IsFirstAll ss (loop + loop_count s) sc fit f)
+IsFirstAll (s ∷ ss) loop sc fit f = IsFirst s loop sc fit f ⊎ (IsLowerable s loop sc fit × IsFirstAll ss (loop + loop_count s) sc fit f)
 
 -- a value of which Q holds, or a fault of which F holds; want of memory may come at any time
 abbrev pub Answers : {T : Type 0} → Result T LowerFault → (T → Type 0) → (LowerFault → Type 0) → Type 0

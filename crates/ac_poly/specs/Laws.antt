@@ -12,10 +12,11 @@ use Rattle.ac_syntax.specs.declared.tree.Value.{Value}
 use Rattle.ac_syntax.specs.declared.tree.Value.TheVariants.{Number, Access, Call'}
 use Rattle.ac_poly.specs.Lower.{lowered_body}
 use Rattle.ac_poly.specs.Nodes.{roots}
-use Rattle.ac_poly.specs.Pieces.{Somewhere}
 use Rattle.ac_poly.specs.declared.types.NodeModel.{NodeModel}
 use Rattle.ac_poly.specs.declared.types.NodeModel.TheVariants.{Number as Constant, Read, Call}
 use Rattle.ac_poly.specs.declared.types.StmtModel.{StmtModel}
+use Rattle.ac_forms.specs.Rows.{Meets}
+use Rattle.ac_forms.specs.Pieces.{IsInSome}
 
 -- an entry of the assignment with a number, with these counters
 abbrev pub HasEntry : List Entry → ℕ → List ℤ → Type 0
@@ -29,7 +30,7 @@ Lowered params body number model = slice_get (lowered_body params body) number �
 abbrev pub PointsAreInstances : Type 0
 PointsAreInstances =
     (body : List Stmt) (params counters : List ℤ) (number : ℕ) (model : StmtModel) → ReadyAll (length params) 0 body → Lowered (length params) body number model
-    → length counters ≡ length model.loops → Somewhere model.pieces (params ++ counters) ↔ HasEntry (trace_of body params) number counters
+    → length counters ≡ length model.loops → IsInSome Meets model.pieces (params ++ counters) ↔ HasEntry (trace_of body params) number counters
 
 -- the values of forms at a point
 abbrev pub values_at : List ℤ → List Affine → List ℤ

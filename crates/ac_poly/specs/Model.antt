@@ -19,7 +19,7 @@ use Rattle.ac_poly.specs.Coordinates.{width, coordinates, HasInstance, levels_be
 use Rattle.ac_poly.specs.Forms.{lowered, rows_of}
 use Rattle.ac_poly.specs.Laws.{values_at, cell_of, Shows}
 use Rattle.ac_poly.specs.Lower.{lowered_body}
-use Rattle.ac_poly.specs.Pieces.{Somewhere, AtMostOne}
+use Rattle.ac_forms.specs.Pieces.{IsInSome, IsInOneAtMost}
 use Rattle.ac_poly.specs.declared.types.Model.{Model}
 use Rattle.ac_poly.specs.declared.types.NodeModel.{NodeModel}
 use Rattle.ac_poly.specs.declared.types.NodeModel.TheVariants.{Number, Read, Call}
@@ -52,11 +52,11 @@ HasModels p m =
 abbrev pub HasInstances : Program → Model → Type 0
 HasInstances p m =
     (params at : List ℤ) (number : ℕ) (stmt : StmtModel) → length params ≡ m.params → slice_get m.stmts number ≡ Some stmt → length at ≡ width stmt
-    → Somewhere stmt.pieces (params ++ at) ↔ HasInstance m params (trace_of p.body params) number at
+    → IsInSome Meets stmt.pieces (params ++ at) ↔ HasInstance m params (trace_of p.body params) number at
 
 -- no coordinates lie in two pieces of an assignment
 abbrev pub PiecesAreApart : Model → Type 0
-PiecesAreApart m = (number : ℕ) (stmt : StmtModel) (p : List ℤ) → slice_get m.stmts number ≡ Some stmt → AtMostOne stmt.pieces p
+PiecesAreApart m = (number : ℕ) (stmt : StmtModel) (p : List ℤ) → slice_get m.stmts number ≡ Some stmt → IsInOneAtMost Meets stmt.pieces p
 
 -- each entry of the trace writes the cell of its model
 abbrev pub HasCells : Program → Model → Type 0
@@ -77,7 +77,7 @@ HasOrder p m =
     (params : List ℤ) (w u : Writer) (first second : StmtModel) → length params ≡ m.params → slice_get m.stmts w.entry.stmt ≡ Some first → slice_get m.stmts u.entry.stmt ≡ Some second
     → Stands (trace_of p.body params) w → Stands (trace_of p.body params) u
     → (length w.earlier < length u.earlier)
-    ↔ Somewhere (levels_before m.params w.entry.stmt first u.entry.stmt second) (params ++ (coordinates m params w.entry ++ coordinates m params u.entry))
+    ↔ IsInSome Meets (levels_before m.params w.entry.stmt first u.entry.stmt second) (params ++ (coordinates m params w.entry ++ coordinates m params u.entry))
 
 -- the context's rows hold exactly where the context does
 abbrev pub HasContext : Cond → Model → Type 0

@@ -1,24 +1,13 @@
 -- Pieces: lists of rows, of which a point has to meet one whole.
-use Rattle.std.specs.Prelude.{List, [], ◌∷◌, ◌++◌, ℤ, ◌⊎◌}
+use Rattle.std.specs.Prelude.{List, [], ◌∷◌, ◌++◌}
 use Rattle.ac_forms.specs.Affine.{Affine}
 use Rattle.ac_forms.specs.Negation.{above, below}
-use Rattle.ac_forms.specs.Rows.{Meets}
 use Rattle.ac_forms.specs.declared.row.Row.{Row}
 use Rattle.ac_forms.specs.declared.row.Row.TheVariants.{Ge}
 use Rattle.ac_syntax.specs.declared.tree.Rel.{Rel}
 use Rattle.ac_syntax.specs.declared.tree.Rel.TheVariants.{NonNegative, Zero}
 use Rattle.ac_syntax.specs.declared.tree.Comparison.{Comparison}
 use Rattle.ac_poly.specs.Forms.{lowered, row_by}
-
--- the point meets all rows of some piece
-abbrev pub Somewhere : List (List Row) → List ℤ → Type 0
-Somewhere [] p = ⊥
-Somewhere (q ∷ qs) p = Meets q p ⊎ Somewhere qs p
-
--- a point meets at most one of the pieces
-abbrev pub AtMostOne : List (List Row) → List ℤ → Type 0
-AtMostOne [] p = Unit {0}
-AtMostOne (q ∷ qs) p = (Meets q p → ¬ Somewhere qs p) × AtMostOne qs p
 
 -- the ways in which a comparison fails: a form that is to be at least 0 is at most -1, one that is to be 0 is at least 1 or at most -1
 abbrev pub negations : Rel → Affine → List Row

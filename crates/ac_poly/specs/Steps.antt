@@ -10,7 +10,7 @@ use Rattle.ac_syntax.specs.declared.tree.Comparison.{Comparison}
 use Rattle.ac_syntax.specs.declared.tree.Value.{Value}
 use Rattle.ac_syntax.specs.declared.tree.Stmt.{Stmt, Row_of-Stmt, end_of-Stmt, more_of-Stmt}
 use Rattle.ac_syntax.specs.declared.tree.Stmt.TheVariants.{For', If', Assign}
-use Rattle.ac_poly.specs.Faults.{IsFine, IsFirst, IsFineAll, IsFirstAll, Answers}
+use Rattle.ac_poly.specs.Faults.{IsLowerable, IsFirst, AreLowerable, IsFirstAll, Answers}
 use Rattle.ac_poly.specs.Forms.{lowered, row_by}
 use Rattle.ac_poly.specs.Lower.{lower, lower_all}
 use Rattle.ac_poly.specs.Nodes.{nodes}
@@ -83,8 +83,8 @@ SeeksAll r ss number pieces = Answers r (λ next. (next ≡ number + sum_by loop
 -- what lowering answers: the number after the loops, and the assignments behind those before; or the first fault
 abbrev pub Lowers : Result ℕ LowerFault → Stmt → ℕ → Scope → Type 0 → List StmtModel → List StmtModel → Type 0
 Lowers r s number sc fit old new =
-    Answers r (λ next. (next ≡ number + loop_count s) × IsFine s number sc fit × (new ≡ old ++ lower s number sc)) (IsFirst s number sc fit)
+    Answers r (λ next. (next ≡ number + loop_count s) × IsLowerable s number sc fit × (new ≡ old ++ lower s number sc)) (IsFirst s number sc fit)
 
 abbrev pub LowersAll : Result ℕ LowerFault → List Stmt → ℕ → Scope → Type 0 → List StmtModel → List StmtModel → Type 0
 LowersAll r ss number sc fit old new =
-    Answers r (λ next. (next ≡ number + sum_by loop_count ss) × IsFineAll ss number sc fit × (new ≡ old ++ lower_all ss number sc)) (IsFirstAll ss number sc fit)
+    Answers r (λ next. (next ≡ number + sum_by loop_count ss) × AreLowerable ss number sc fit × (new ≡ old ++ lower_all ss number sc)) (IsFirstAll ss number sc fit)

@@ -1,6 +1,6 @@
 //! What a lowered program means, in words: each function here does nothing, and its contract is a fact about all programs.
 ghost use Rattle.ac_poly.specs.Laws.{PointsAreInstances, TargetsAreCells, NodesAreValues};
-ghost use Rattle.ac_poly.specs.Columns.{PlacedFormsHaveValues, PlacedRowsHold, PlacedRowsHaveColumns, ElementRowsHold};
+ghost use Rattle.ac_poly.specs.Columns.{ElementRowsHold};
 ghost use Rattle.ac_poly.specs.Before.{LevelsAreTheOrder, LevelsAreApart, LevelsHaveColumns, LevelsMove, EqualitiesAreEqualValues};
 
 /// The points of an assignment's pieces are exactly its instances: at each valuation of the parameters, a list of
@@ -28,14 +28,6 @@ pub fn order_by_levels()
 /// The equalities of two lists of forms hold at a point exactly where all their values are equal there.
 pub fn equal_cells()
     ensures { EqualitiesAreEqualValues }
-{}
-
-/// Forms and rows whose coordinates stand from some column on have the values, and hold, that they have and do at the
-/// parameters and these coordinates. They have no other columns.
-pub fn placed_rows_and_forms()
-    ensures values { PlacedFormsHaveValues }
-    ensures rows { PlacedRowsHold }
-    ensures columns { PlacedRowsHaveColumns }
 {}
 
 /// The rows of the elements of an array hold exactly where each coordinate lies from 0 to below its extent.

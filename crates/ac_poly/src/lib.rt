@@ -18,6 +18,6 @@ pub mod types;
 mod walk;
 
 pub use cells::element_rows;
-pub use embed::{coordinate_forms, placed_forms, placed_rows};
+pub use embed::coordinate_forms;
 pub use order::{before, before_at, same_cell, width};
 pub use program::lower;

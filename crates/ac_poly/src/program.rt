@@ -2,7 +2,7 @@
 ghost use Rattle.std.specs.Prelude.{◌≡◌, map, length, IfOk};
 ghost use Rattle.ac_syntax.specs.Dimensions.{HasDimensions};
 ghost use Rattle.ac_syntax.specs.Ready.{ReadyProgram, FitParts};
-ghost use Rattle.ac_poly.specs.Faults.{Answers, IsFineAll, IsFirstAll};
+ghost use Rattle.ac_poly.specs.Faults.{Answers, AreLowerable, IsFirstAll};
 ghost use Rattle.ac_poly.specs.Lower.{outermost};
 ghost use Rattle.ac_poly.specs.Model.{extents_of, kind_of, model_of, HasModels, HasInstances, PiecesAreApart, HasCells, HasNodes, HasOrder, HasContext, HasExtents, HasElements, HasKinds, HasColumns, CellsHaveDimensions};
 
@@ -25,7 +25,7 @@ use std::alloc::{AllocError, Global};
 pub fn lower(alloc: Global, p: &Program, context: &Cond) -> Result<Model, LowerFault>
     requires program { ReadyProgram p.now }
     requires context { FitParts (length p.now.params) 0 context.now.parts }
-    ensures exact { Answers result (λ model. IsFineAll p.now.body 0 (outermost (length p.now.params)) (Unit {0}) × (model ≡ model_of p.now context.now)) (IsFirstAll p.now.body 0 (outermost (length p.now.params)) (Unit {0})) }
+    ensures exact { Answers result (λ model. AreLowerable p.now.body 0 (outermost (length p.now.params)) (Unit {0}) × (model ≡ model_of p.now context.now)) (IsFirstAll p.now.body 0 (outermost (length p.now.params)) (Unit {0})) }
     ensures models { IfOk result (HasModels p.now) }
     ensures instances { IfOk result (HasInstances p.now) }
     ensures apart { IfOk result PiecesAreApart }
@@ -45,7 +45,7 @@ pub fn lower(alloc: Global, p: &Program, context: &Cond) -> Result<Model, LowerF
 /// The model of a program under a context.
 fn lowered_program(alloc: Global, p: &Program, context: &Cond) -> Result<Model, LowerFault>
     requires program { ReadyProgram p.now }
-    ensures { Answers result (λ model. IsFineAll p.now.body 0 (outermost (length p.now.params)) (Unit {0}) × (model ≡ model_of p.now context.now)) (IsFirstAll p.now.body 0 (outermost (length p.now.params)) (Unit {0})) }
+    ensures { Answers result (λ model. AreLowerable p.now.body 0 (outermost (length p.now.params)) (Unit {0}) × (model ≡ model_of p.now context.now)) (IsFirstAll p.now.body 0 (outermost (length p.now.params)) (Unit {0})) }
 {
     let params = p.params.len();
     let scope = outermost(alloc, params)?;

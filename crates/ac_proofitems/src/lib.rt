@@ -23,7 +23,7 @@ mod words;
 pub use items::read_item;
 pub use laws::lines_spell_one_item;
 pub use lines::{
-    item_text, push_choice, push_item, push_left, push_point, push_residue, push_right, push_row,
-    push_split, push_step, write_item,
+    push_choice, push_item, push_left, push_point, push_residue, push_right, push_row, push_split,
+    push_step,
 };
 pub use numbers::cut;

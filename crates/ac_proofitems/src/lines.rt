@@ -1,6 +1,6 @@
 //! Rows, steps, choices and items as lines, without the LF at the end of each. After want of memory a part of a line may have
-//! been added, but for `write_item`.
-ghost use Rattle.std.specs.Prelude.{◌≡◌, ◌++◌, ◌∷◌, [], map, codes, decimal, OnOk, OnErr, IfOk};
+//! been added.
+ghost use Rattle.std.specs.Prelude.{◌≡◌, ◌++◌, ◌∷◌, [], map, codes, decimal, OnOk};
 ghost use Rattle.std.specs.Fmt.{signed_decimal};
 ghost use Rattle.ac_proofitems.specs.Spelling.{dotted_word, form_words, position_word, row_words, step_words, choice_words, item_words, spelled};
 ghost use Rattle.ac_proofitems.specs.Words.{line_of};
@@ -222,22 +222,4 @@ pub fn push_item(line: &mut Vec<u8>, item: &Item) -> Result<(), AllocError>
             push_natural(line, *choices)
         }
     }
-}
-
-/// The line of an item, without the LF at its end.
-pub fn item_text(alloc: Global, item: &Item) -> Result<Vec<u8>, AllocError>
-    ensures { IfOk result (λ line. line.items ≡ spelled item.now) }
-{
-    let mut line = Vec::new(alloc);
-    push_item(&mut line, item)?;
-    Ok(line)
-}
-
-/// Adds the line of an item to a text, without the LF at its end. After want of memory the text is as before.
-pub fn write_item(alloc: Global, text: &mut Vec<u8>, item: &Item) -> Result<(), AllocError>
-    ensures ok { OnOk result (text.new.items ≡ text.old.items ++ spelled item.now) }
-    ensures err { OnErr result (text.new.items ≡ text.old.items) }
-{
-    let line = item_text(alloc, item)?;
-    text.extend_from_slice(line.as_slice())
 }

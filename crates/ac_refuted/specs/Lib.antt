@@ -1,1 +1,2 @@
 pub mod Mismatches
+pub mod Searches

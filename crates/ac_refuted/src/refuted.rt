@@ -45,6 +45,7 @@ pub fn are_all_refuted(
     orders: &Orders,
 ) -> Result<bool, AllocError>
     requires { AreChecked checked.now }
+    ensures refuted { IfOk result (λ found. found ≡ true → AreRefuted checked.now orders.now.refuted) }
     ensures mismatch { IfOk result (λ found. found ≡ true → EachOrderHasMismatch checked.now) }
     ensures search { IfOk result (λ found. found ≡ true → NoSearchSaysEqual checked.now) }
 {

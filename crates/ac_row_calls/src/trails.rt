@@ -8,7 +8,7 @@ use crate::written::{bracketed_form, conj_of};
 use ac_case_text::{CaseStop, Words};
 use ac_cert::{Absurd, Tree, absurd_tree, behind_steps};
 use ac_forms::Conj;
-use ac_trails::Trail;
+use ac_refutations::Trail;
 use std::alloc::{AllocError, Global};
 
 pub(crate) fn answer(

@@ -3,13 +3,13 @@ use Rattle.std.proofs.Common.{◌≡◌, ℕ, suc, ◌+◌, ◌<◌, List, [], �
 use Rattle.std.specs.Prelude.{Ok, Err}
 use Rattle.ac_syntax.specs.declared.tree.Program.{Program}
 use Rattle.ac_grammar.specs.declared.tree.File.{File}
-use Rattle.ac_rules.specs.declared.fault.Broken.{Broken}
+use Rattle.ac_affine.specs.declared.fault.Broken.{Broken}
 use Rattle.ac_rules.specs.declared.fault.RuleFault.{RuleFault}
 use Rattle.ac_rules.specs.declared.fault.RuleFault.TheVariants as fault
 use Rattle.ac_grammar.specs.declared.tree.Word.{Word}
 use Rattle.ac_grammar.specs.declared.tree.Pragma.{Pragma}
-use Rattle.ac_rules.specs.declared.scope.Entry.{Entry}
-use Rattle.ac_rules.specs.Meanings.{declared_meaning}
+use Rattle.ac_affine.specs.declared.scope.Entry.{Entry}
+use Rattle.ac_affine.specs.Meanings.{declared_meaning}
 use Rattle.ac_rules.specs.Values.{array_number}
 use Rattle.ac_rules.specs.Files.{IsAnswer, file_broken, program_of, broken_of, line_words, output_words, output_numbers, output_line, arrays_under, body_under, context_under, commutative_words, program_under}
 use Rattle.ac_rules.specs.Declarations.{param_names, slots_from}

@@ -10,21 +10,21 @@ use Rattle.ac_syntax.specs.declared.tree.Value.TheVariants as v
 use Rattle.ac_grammar.specs.declared.tree.Word.{Word}
 use Rattle.ac_grammar.specs.declared.tree.Operator.{Operator}
 use Rattle.ac_grammar.specs.declared.tree.Expr.{Expr}
-use Rattle.ac_rules.specs.declared.fault.Rule.{Rule}
-use Rattle.ac_rules.specs.declared.fault.Rule.TheVariants.{Undeclared, Misused}
-use Rattle.ac_rules.specs.declared.scope.Entry.{Entry}
-use Rattle.ac_rules.specs.declared.scope.Scope.{Scope}
-use Rattle.ac_rules.specs.declared.scope.Meaning.{Meaning}
-use Rattle.ac_rules.specs.declared.scope.Meaning.TheVariants as means
-use Rattle.ac_rules.specs.Faults.{rule_broken}
-use Rattle.ac_rules.specs.Meanings.{meaning, misused_unless}
-use Rattle.ac_rules.specs.IndexExpressions.{judged_name}
+use Rattle.ac_affine.specs.declared.fault.Rule.{Rule}
+use Rattle.ac_affine.specs.declared.fault.Rule.TheVariants.{Undeclared, Misused}
+use Rattle.ac_affine.specs.declared.scope.Entry.{Entry}
+use Rattle.ac_affine.specs.declared.scope.Scope.{Scope}
+use Rattle.ac_affine.specs.declared.scope.Meaning.{Meaning}
+use Rattle.ac_affine.specs.declared.scope.Meaning.TheVariants as means
+use Rattle.ac_affine.specs.Faults.{rule_broken}
+use Rattle.ac_affine.specs.Meanings.{meaning, misused_unless}
+use Rattle.ac_affine.specs.IndexExpressions.{judged_name}
 use Rattle.ac_rules.specs.Values.{Reading, number, other, reading, reading_broken, value_of, value, value_broken, placed, access_broken, array_number, read_of, access_reading, call_reading, negative_reading, group_reading, applied_values, applied, joined_reading, chained_reading, chain_reading}
 use Rattle.ac_rules.specs.Numbers.{ReadsOf, ReadsIn}
-use Rattle.ac_rules.proofs.Absent.{NoneBroken, each_map, neither, none_of}
+use Rattle.ac_affine.proofs.Absent.{NoneBroken, each_map, neither, none_of}
 use Rattle.ac_rules.proofs.Readings.{reading-number, reading-decimal, reading-access, reading-call, reading-negative, reading-group, reading-chain}
 use Rattle.ac_rules.proofs.DeclaredNumbers.{MeansBelow, NamesBelow, meaning_below}
-use Rattle.ac_rules.proofs.Trees.{every_expr}
+use Rattle.ac_affine.proofs.Trees.{every_expr}
 
 -- a value that reads none but the first n arrays
 pub number_reads : (n : ℕ) (e : IndexExpr) → ReadsOf n (v.Number e)

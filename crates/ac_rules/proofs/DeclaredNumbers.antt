@@ -1,8 +1,7 @@
 -- The numbers of the declared parameters and arrays.
 use Rattle.std.proofs.Common.{◌≡◌, ℕ, ◌+◌, ◌<◌, ◌≤◌, Bool, true, false, List, [], ◌∷◌, ◌++◌, map, length, refl, sym, ap, subst, ◌∙◌, arith, length-append}
-use Rattle.std.specs.Prelude.{Option, Some, None, not, cond, if◌then◌else◌, nat_eq}
+use Rattle.std.specs.Prelude.{Option, Some, None, not, cond, if◌then◌else◌}
 use Rattle.std.specs.List.{AllByRecursion, range_with_len, list_all, filter}
-use Rattle.std.specs.Cmp.Lexicographic.{pointwise}
 use Rattle.std.proofs.lemmas.List.{append_assoc}
 use Rattle.std.proofs.lemmas.List.Sums.{sum_by-cons}
 use Rattle.ac_syntax.specs.Outputs.{is_input_kind, input_at}
@@ -14,15 +13,16 @@ use Rattle.ac_syntax.specs.declared.tree.Program.{Program}
 use Rattle.ac_grammar.specs.declared.tree.Declared.{Declared}
 use Rattle.ac_grammar.specs.declared.tree.Statement.{Statement}
 use Rattle.ac_grammar.specs.declared.tree.File.{File}
-use Rattle.ac_rules.specs.declared.scope.Meaning.{Meaning}
-use Rattle.ac_rules.specs.declared.scope.Meaning.TheVariants as means
-use Rattle.ac_rules.specs.declared.scope.Entry.{Entry}
-use Rattle.ac_rules.specs.declared.scope.Scope.{Scope}
-use Rattle.ac_rules.specs.Meanings.{declared_meaning, meaning, meaning_behind, iterator_number, is_starting}
+use Rattle.ac_affine.specs.declared.scope.Meaning.{Meaning}
+use Rattle.ac_affine.specs.declared.scope.Meaning.TheVariants as means
+use Rattle.ac_affine.specs.declared.scope.Entry.{Entry}
+use Rattle.ac_affine.specs.declared.scope.Scope.{Scope}
+use Rattle.ac_affine.specs.Meanings.{declared_meaning, meaning, meaning_behind, iterator_number, is_starting}
 use Rattle.ac_rules.specs.Declarations.{is_whole, is_loop_name, count, entry, param_entries, local_entries, input_count, fixed_scope, array_of, arrays_from, slots_from, param_names, param_count}
 use Rattle.ac_rules.specs.Numbers.{IsSlotOf, param_numbers, array_numbers, ListsItsParameters, HasInputs}
 use Rattle.ac_rules.specs.Files.{arrays_under, names_of, program_under, program_of}
-use Rattle.ac_rules.proofs.Absent.{each_append}
+use Rattle.ac_affine.proofs.Absent.{each_append}
+use Rattle.ac_affine.proofs.NumberedMeanings.{declared_has}
 
 none_more : (n : ℕ) → n + 0 ≡ n
 none_more n = omega arith
@@ -162,15 +162,6 @@ names_below file =
     each_append (λ (e : Entry). MeansBelow (length (inputs ++ locals)) e.meaning) (param_entries file.params 0 0) (local_entries file.body file.locals (input_count file.params))
     (params_below (names_of file) scope (length (inputs ++ locals)) file.params 0 0 0 (omega (arith, e)))
     (locals_below (names_of file) scope file.body (length (inputs ++ locals)) file.locals (length file.params) (input_count file.params) (omega (arith, e, c)))
-
--- what holds of the meaning of each entry holds of what a name is declared as
-pub declared_has : (P : Meaning → Type 0) → P means.Nothing → (names : List Entry) (name : List ℕ) → AllByRecursion (λ (e : Entry). P e.meaning) names → P (declared_meaning names name)
-declared_has P none [] name h = none
-declared_has P none (e ∷ es) name h = by (pointwise nat_eq e.name name) (declared_has P none es name h.1)
-  where
-    by : (b : Bool) → P (declared_meaning es name) → P (if b then e.meaning else declared_meaning es name)
-    by true again = h.0
-    by false again = again
 
 -- what a name means in a scope
 pub meaning_below : (n : ℕ) (names : List Entry) (scope : Scope) (name : List ℕ) → NamesBelow n names → MeansBelow n (meaning names scope name)

@@ -14,17 +14,17 @@ use Rattle.ac_grammar.specs.declared.tree.Declared.{Declared}
 use Rattle.ac_grammar.specs.declared.tree.Extent.{Extent}
 use Rattle.ac_grammar.specs.declared.tree.File.{File}
 use Rattle.ac_grammar.specs.declared.tree.Statement.{Statement}
-use Rattle.ac_rules.specs.declared.scope.Meaning.TheVariants as means
-use Rattle.ac_rules.specs.declared.scope.Entry.{Entry}
-use Rattle.ac_rules.specs.declared.scope.Scope.{Scope}
-use Rattle.ac_rules.specs.Comparisons.{index}
-use Rattle.ac_rules.specs.Meanings.{declared_meaning}
+use Rattle.ac_affine.specs.declared.scope.Meaning.TheVariants as means
+use Rattle.ac_affine.specs.declared.scope.Entry.{Entry}
+use Rattle.ac_affine.specs.declared.scope.Scope.{Scope}
+use Rattle.ac_affine.specs.Comparisons.{index}
+use Rattle.ac_affine.specs.Meanings.{declared_meaning}
 use Rattle.ac_rules.specs.Declarations.{is_whole, is_loop_name, count, entry, param_entries, local_entries, param_count, input_count, fixed_scope, is_declared, each_declared_broken, array_of, arrays_from, param_names}
 use Rattle.ac_rules.specs.Files.{names_of, program_of}
 use Rattle.ac_rules.specs.LawsOfNames.{declared_names, NamesAreDeclaredOnce, IsNamed, NamesMeanTheirOwn}
-use Rattle.ac_rules.proofs.Absent.{NoneBroken, neither, none_of, each_append, each_further, each_map}
+use Rattle.ac_affine.proofs.Absent.{NoneBroken, neither, none_of, each_append, each_further, each_map}
 use Rattle.ac_rules.proofs.DeclaredNumbers.{counted}
-use Rattle.ac_rules.proofs.Judges.{neither_is}
+use Rattle.ac_affine.proofs.Judges.{neither_is}
 use Rattle.ac_rules.proofs.SmallPrograms.{names_none}
 
 params_named : (ds : List Declared) (p a : ℕ) → map (λ (e : Entry). e.name) (param_entries ds p a) ≡ map (λ (d : Declared). d.name.name) ds

@@ -4,8 +4,8 @@ use Rattle.std.specs.List.{AllByRecursion}
 use Rattle.ac_syntax.specs.declared.tree.Array.{Array}
 use Rattle.ac_syntax.specs.declared.tree.Kind.{Kind}
 use Rattle.ac_grammar.specs.declared.tree.Declared.{Declared}
-use Rattle.ac_rules.specs.declared.scope.Entry.{Entry}
-use Rattle.ac_rules.specs.declared.scope.Scope.{Scope}
+use Rattle.ac_affine.specs.declared.scope.Entry.{Entry}
+use Rattle.ac_affine.specs.declared.scope.Scope.{Scope}
 use Rattle.ac_rules.specs.Declarations.{array_of, arrays_from}
 
 module _ (Has : Array → Type 0) (names : List Entry) (scope : Scope) (kind : Kind) (array_has : (k : ℕ) (d : Declared) → Has (array_of names scope kind k d)) where

@@ -8,21 +8,21 @@ use Rattle.ac_syntax.specs.declared.tree.Value.TheVariants as v
 use Rattle.ac_grammar.specs.declared.tree.Word.{Word}
 use Rattle.ac_grammar.specs.declared.tree.Operator.{Operator}
 use Rattle.ac_grammar.specs.declared.tree.Expr.{Expr}
-use Rattle.ac_rules.specs.declared.fault.Broken.{Broken}
-use Rattle.ac_rules.specs.declared.index.Judged.{Judged}
-use Rattle.ac_rules.specs.declared.scope.Entry.{Entry}
-use Rattle.ac_rules.specs.declared.scope.Meaning.{Meaning}
-use Rattle.ac_rules.specs.declared.scope.Scope.{Scope}
-use Rattle.ac_rules.specs.Meanings.{meaning, is_array, read_rule}
-use Rattle.ac_rules.specs.IndexExpressions.{judged_name}
-use Rattle.ac_rules.specs.Comparisons.{index_expr}
+use Rattle.ac_affine.specs.declared.fault.Broken.{Broken}
+use Rattle.ac_affine.specs.declared.index.Judged.{Judged}
+use Rattle.ac_affine.specs.declared.scope.Entry.{Entry}
+use Rattle.ac_affine.specs.declared.scope.Meaning.{Meaning}
+use Rattle.ac_affine.specs.declared.scope.Scope.{Scope}
+use Rattle.ac_affine.specs.Meanings.{meaning, is_array, read_rule}
+use Rattle.ac_affine.specs.IndexExpressions.{judged_name}
+use Rattle.ac_affine.specs.Comparisons.{index_expr}
 use Rattle.ac_rules.specs.Values.{Reading, number, other, reading, value_place, placed, value_of, symbol, operator_name, access_broken, read_of, access_reading, call_reading, negative_reading, group_reading, applied_values, joined_reading, chained_reading, chain_reading, value}
 use Rattle.ac_rules.specs.Statements.{assigned_value}
-use Rattle.ac_rules.proofs.Absent.{each_further, each_map}
-use Rattle.ac_rules.proofs.Collecting.{Shaped, form_shaped, negative_shaped}
-use Rattle.ac_rules.proofs.Judges.{number_judges, name_shaped}
+use Rattle.ac_affine.proofs.Absent.{each_further, each_map}
+use Rattle.ac_affine.proofs.Collecting.{Shaped, form_shaped, negative_shaped}
+use Rattle.ac_affine.proofs.Judges.{number_judges, name_shaped}
 use Rattle.ac_rules.proofs.Readings.{reading-number, reading-decimal, reading-access, reading-call, reading-negative, reading-group, reading-chain}
-use Rattle.ac_rules.proofs.Trees.{every_expr}
+use Rattle.ac_affine.proofs.Trees.{every_expr}
 
 module _ (names : List Entry) (scope : Scope) (Has : Value → Type 0)
     (number_has : (j : Judged) → Shaped scope.params (length scope.iterators) j.form → Has (v.Number (index_expr scope j)))

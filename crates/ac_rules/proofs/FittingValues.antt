@@ -8,14 +8,14 @@ use Rattle.ac_syntax.proofs.ReadyAt.{number_fits, access_fits, fits_call}
 use Rattle.ac_grammar.specs.declared.tree.Word.{Word}
 use Rattle.ac_grammar.specs.declared.tree.Operator.{Operator}
 use Rattle.ac_grammar.specs.declared.tree.Expr.{Expr}
-use Rattle.ac_rules.specs.declared.scope.Entry.{Entry}
-use Rattle.ac_rules.specs.declared.scope.Scope.{Scope}
-use Rattle.ac_rules.specs.Comparisons.{index_expr, index}
+use Rattle.ac_affine.specs.declared.scope.Entry.{Entry}
+use Rattle.ac_affine.specs.declared.scope.Scope.{Scope}
+use Rattle.ac_affine.specs.Comparisons.{index_expr, index}
 use Rattle.ac_rules.specs.Values.{array_number, placed}
 use Rattle.ac_rules.specs.Statements.{assigned_value}
-use Rattle.ac_rules.proofs.Absent.{each, each_map}
+use Rattle.ac_affine.proofs.Absent.{each, each_map}
 use Rattle.ac_rules.proofs.EachValue.{assigned_has}
-use Rattle.ac_rules.proofs.Judges.{index_expr_fits, index_fits}
+use Rattle.ac_affine.proofs.Judges.{index_expr_fits, index_fits}
 
 placed_fits : (ps xs : ℕ) (place : Place) (x : Value) → FitsValue ps xs x → FitsValue ps xs (placed place x)
 unfolding FitsValue

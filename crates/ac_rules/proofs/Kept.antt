@@ -14,18 +14,18 @@ use Rattle.ac_grammar.specs.declared.tree.Numeral.{Numeral}
 use Rattle.ac_grammar.specs.declared.tree.Operator.{Operator}
 use Rattle.ac_grammar.specs.declared.tree.Expr.{Expr}
 use Rattle.ac_grammar.specs.declared.tree.Expr.TheVariants.{Number, Decimal, Access, Call, Negative, Group, Chain}
-use Rattle.ac_rules.specs.declared.scope.Entry.{Entry}
-use Rattle.ac_rules.specs.declared.scope.Scope.{Scope}
-use Rattle.ac_rules.specs.declared.scope.Meaning.{Meaning}
+use Rattle.ac_affine.specs.declared.scope.Entry.{Entry}
+use Rattle.ac_affine.specs.declared.scope.Scope.{Scope}
+use Rattle.ac_affine.specs.declared.scope.Meaning.{Meaning}
 use Rattle.ac_rules.specs.declared.measure.Measured.{Measured}
 use Rattle.ac_rules.specs.declared.measure.Measured.TheVariants as measured
 use Rattle.ac_rules.specs.declared.measure.Total.{Total}
 use Rattle.ac_rules.specs.declared.value.Built.{Built}
 use Rattle.ac_rules.specs.declared.value.Built.TheVariants as built
-use Rattle.ac_rules.specs.Meanings.{meaning}
-use Rattle.ac_rules.specs.IndexExpressions.{judged_number}
-use Rattle.ac_rules.specs.Faults.{earlier}
-use Rattle.ac_rules.specs.Comparisons.{first_from, index_expr, index}
+use Rattle.ac_affine.specs.Meanings.{meaning}
+use Rattle.ac_affine.specs.IndexExpressions.{judged_number}
+use Rattle.ac_affine.specs.Faults.{earlier}
+use Rattle.ac_affine.specs.Comparisons.{first_from, index_expr, index}
 use Rattle.ac_rules.specs.Values.{Reading, number, other, reading, reading_broken, value_broken, value_of, value, placed, read_of, array_number, symbol, applied_values, access_reading, call_reading, negative_reading, group_reading, joined_reading, chained_reading, chain_reading}
 use Rattle.ac_rules.specs.Measures.{capped, measure_of, measure, measured_broken, measured_nodes, with_measure, total_from, total_of, measured_call, measured_negative, measured_group, joined_measured, chained_measured, chain_measured, built_of, build, built_value, built_call, built_negative, built_group, joined_built, chained_built, chain_built}
 use Rattle.ac_rules.proofs.Readings.{reading-number, reading-decimal, reading-access, reading-call, reading-negative, reading-group, reading-chain}

@@ -1,21 +1,17 @@
--- The parameters and iterators that names mean are ones that their scope has.
-use Rattle.std.proofs.Common.{◌≡◌, ℕ, zero, suc, ◌+◌, ◌<◌, ◌≤◌, Bool, true, false, List, [], ◌∷◌, length, take, refl, arith}
-use Rattle.std.specs.Prelude.{Option, Some, None, not, cond, if◌then◌else◌, nat_eq}
-use Rattle.std.specs.Cmp.Lexicographic.{pointwise}
+-- The names of a file are numbered as its scopes want them.
+use Rattle.std.proofs.Common.{ℕ, zero, suc, ◌+◌, ◌≤◌, Bool, true, false, List, [], ◌∷◌, length, take, arith}
+use Rattle.std.specs.Prelude.{not, cond, if◌then◌else◌}
 use Rattle.std.proofs.lemmas.List.Sums.{sum_by-cons}
 use Rattle.ac_grammar.specs.declared.tree.Declared.{Declared}
 use Rattle.ac_grammar.specs.declared.tree.Statement.{Statement}
 use Rattle.ac_grammar.specs.declared.tree.File.{File}
-use Rattle.ac_rules.specs.declared.scope.Meaning.{Meaning}
-use Rattle.ac_rules.specs.declared.scope.Meaning.TheVariants as means
-use Rattle.ac_rules.specs.declared.scope.Entry.{Entry}
-use Rattle.ac_rules.specs.declared.scope.Scope.{Scope}
-use Rattle.ac_rules.specs.Meanings.{declared_meaning, meaning, meaning_behind, iterator_number, is_starting}
+use Rattle.ac_affine.specs.declared.scope.Meaning.TheVariants as means
+use Rattle.ac_affine.specs.declared.scope.Entry.{Entry}
 use Rattle.ac_rules.specs.Declarations.{is_whole, is_loop_name, count, entry, param_entries, local_entries, input_count, param_count}
 use Rattle.ac_rules.specs.Files.{names_of}
-use Rattle.ac_rules.specs.Laws.{IsNumbered, AreNumbered, FilesAreNumbered}
-use Rattle.ac_rules.proofs.Absent.{each_append}
-use Rattle.ac_rules.proofs.DeclaredNumbers.{declared_has}
+use Rattle.ac_rules.specs.LawsOfNames.{FilesAreNumbered}
+use Rattle.ac_affine.specs.Laws.{IsNumbered, AreNumbered}
+use Rattle.ac_affine.proofs.Absent.{each_append}
 
 count_step : (d : Declared) (ds : List Declared) (p n : ℕ) → p + param_count (d ∷ ds) ≤ n → p + (count (is_whole d) + param_count ds) ≤ n
 count_step d ds p n h = omega (arith, h, sum_by-cons (λ (d : Declared). cond (is_whole d) 1 0) d ds)
@@ -48,37 +44,3 @@ first_numbered n (suc k) (e ∷ es) h = (h.0, first_numbered n k es h.1)
 
 pub files_are_numbered : FilesAreNumbered
 files_are_numbered file = (file_numbered file, (λ k. first_numbered (param_count file.params) k (names_of file) (file_numbered file)))
-
--- a parameter or an iterator that a scope has
-abbrev pub IsIn : Scope → Meaning → Type 0
-IsIn scope (means.Parameter k) = k < scope.params
-IsIn scope (means.Iterator k) = k < length scope.iterators
-IsIn scope (means.Array number dimensions) = Unit {0}
-IsIn scope means.LoopName = Unit {0}
-IsIn scope means.OwnStart = Unit {0}
-IsIn scope means.Nothing = Unit {0}
-
-numbered_in : (scope : Scope) (m : Meaning) → IsNumbered scope.params m → IsIn scope m
-numbered_in scope (means.Parameter k) h = h
-numbered_in scope (means.Iterator k) h = absurd h
-numbered_in scope (means.Array number dimensions) h = tt
-numbered_in scope means.LoopName h = tt
-numbered_in scope means.OwnStart h = tt
-numbered_in scope means.Nothing h = tt
-
-number_case : (n k : ℕ) (o : Option ℕ) (b : Bool) → ((k : ℕ) → o ≡ Some k → k < n) → (if b then Some n else o) ≡ Some k → k < n + 1
-number_case n k o true again h = let e : n ≡ k = cc in omega (arith, e)
-number_case n k o false again h = omega (arith, again k h)
-
-iterators_numbered : (is : List (List ℕ)) (name : List ℕ) (k : ℕ) → iterator_number is name ≡ Some k → k < length is
-iterators_numbered [] name k h = absurd cc
-iterators_numbered (i ∷ is) name k h =
-    let l : k < length is + 1 = number_case (length is) k (iterator_number is name) (pointwise nat_eq i name) (iterators_numbered is name) h in omega (arith, l)
-
-pub meaning_in : (scope : Scope) (names : List Entry) (name : List ℕ) → AreNumbered scope.params names → IsIn scope (meaning names scope name)
-meaning_in scope names name h = by (iterator_number scope.iterators name) (is_starting scope.starting name) refl
-  where
-    by : (k : Option ℕ) (own : Bool) → iterator_number scope.iterators name ≡ k → IsIn scope (meaning_behind k own (declared_meaning names name))
-    by (Some k) own e = iterators_numbered scope.iterators name k e
-    by None true e = tt
-    by None false e = numbered_in scope (declared_meaning names name) (declared_has (IsNumbered scope.params) tt names name h)

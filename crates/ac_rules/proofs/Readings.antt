@@ -9,10 +9,10 @@ use Rattle.ac_grammar.specs.declared.tree.Expr.{Expr}
 use Rattle.ac_grammar.specs.declared.tree.Expr.TheVariants.{Number, Decimal, Access, Call, Negative, Group, Chain, rolls-Number, rolls-Decimal, rolls-Access, rolls-Call, rolls-Negative, rolls-Group, rolls-Chain}
 use Rattle.ac_grammar.specs.declared.tree.Expr.TheOpen as open_of
 use Rattle.ac_grammar.specs.declared.tree.Expr.TheFolds.{para-roll-Expr}
-use Rattle.ac_rules.specs.declared.scope.Entry.{Entry}
-use Rattle.ac_rules.specs.declared.scope.Scope.{Scope}
-use Rattle.ac_rules.specs.Meanings.{meaning}
-use Rattle.ac_rules.specs.IndexExpressions.{judged_number}
+use Rattle.ac_affine.specs.declared.scope.Entry.{Entry}
+use Rattle.ac_affine.specs.declared.scope.Scope.{Scope}
+use Rattle.ac_affine.specs.Meanings.{meaning}
+use Rattle.ac_affine.specs.IndexExpressions.{judged_number}
 use Rattle.ac_rules.specs.Values.{Reading, number, other, reading, symbol, access_reading, call_reading, negative_reading, group_reading, chain_reading, reading_step}
 
 firsts : (f : Expr → Reading) (es : List Expr) → map (λ (s : Expr × Reading). s.0) (map (λ (y : Expr). (y, f y)) es) ≡ es

@@ -10,18 +10,18 @@ use Rattle.ac_syntax.specs.declared.tree.Kind.TheVariants.{Input, Local}
 use Rattle.ac_grammar.specs.declared.tree.Declared.{Declared}
 use Rattle.ac_grammar.specs.declared.tree.Extent.{Extent}
 use Rattle.ac_grammar.specs.declared.tree.File.{File}
-use Rattle.ac_rules.specs.declared.scope.Entry.{Entry}
-use Rattle.ac_rules.specs.declared.scope.Scope.{Scope}
-use Rattle.ac_rules.specs.Faults.{earlier}
-use Rattle.ac_rules.specs.Meanings.{word_broken}
-use Rattle.ac_rules.specs.Comparisons.{index}
+use Rattle.ac_affine.specs.declared.scope.Entry.{Entry}
+use Rattle.ac_affine.specs.declared.scope.Scope.{Scope}
+use Rattle.ac_affine.specs.Faults.{earlier}
+use Rattle.ac_affine.specs.Meanings.{word_broken}
+use Rattle.ac_affine.specs.Comparisons.{index}
 use Rattle.ac_rules.specs.Declarations.{is_whole, is_loop_name, param_count, fixed_scope, array_of, arrays_from, param_names}
 use Rattle.ac_rules.specs.Statements.{statements_broken}
 use Rattle.ac_rules.specs.Files.{context_parts, body_scope, assignments_broken, declarations_broken, body_broken, pragmas_broken, arrays_under, body_under, context_under, names_of, file_broken, program_of}
 use Rattle.ac_rules.specs.Numbers.{HasConditions}
-use Rattle.ac_rules.proofs.Absent.{neither, each, each_map, each_append}
+use Rattle.ac_affine.proofs.Absent.{neither, each, each_map, each_append}
 use Rattle.ac_rules.proofs.EachArray.{arrays_have}
-use Rattle.ac_rules.proofs.Judges.{index_fits}
+use Rattle.ac_affine.proofs.Judges.{index_fits}
 use Rattle.ac_rules.proofs.ReadyStatements.{parts_fit, statements_ready}
 
 length-param_names : (ds : List Declared) → length (param_names ds) ≡ param_count ds

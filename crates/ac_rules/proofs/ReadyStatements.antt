@@ -16,25 +16,25 @@ use Rattle.ac_grammar.specs.declared.tree.Step.{Step}
 use Rattle.ac_grammar.specs.declared.tree.Expr.{Expr}
 use Rattle.ac_grammar.specs.declared.tree.Statement.{Statement, the_lemmas}
 use Rattle.ac_grammar.specs.declared.tree.Statement.TheVariants.{Loop, Branch, Assign}
-use Rattle.ac_rules.specs.declared.fault.Which.TheVariants as which
-use Rattle.ac_rules.specs.declared.fault.Rule.TheVariants.{Endless, Limit}
-use Rattle.ac_rules.specs.declared.fault.Broken.{Broken}
-use Rattle.ac_rules.specs.declared.form.Collected.{Collected}
-use Rattle.ac_rules.specs.declared.form.Collected.TheVariants.{Known, Large, Unknown}
-use Rattle.ac_rules.specs.declared.scope.Entry.{Entry}
-use Rattle.ac_rules.specs.declared.scope.Scope.{Scope}
-use Rattle.ac_rules.specs.Faults.{earlier, broken_where, rule_broken}
-use Rattle.ac_rules.specs.Meanings.{meaning, word_broken}
-use Rattle.ac_rules.specs.Comparisons.{whole_broken, form_or_zero, placed_form, index, index_broken, compared, comparison, rel_of, condition, condition_broken}
+use Rattle.ac_affine.specs.declared.fault.Which.TheVariants as which
+use Rattle.ac_affine.specs.declared.fault.Rule.TheVariants.{Endless, Limit}
+use Rattle.ac_affine.specs.declared.fault.Broken.{Broken}
+use Rattle.ac_affine.specs.declared.form.Collected.{Collected}
+use Rattle.ac_affine.specs.declared.form.Collected.TheVariants.{Known, Large, Unknown}
+use Rattle.ac_affine.specs.declared.scope.Entry.{Entry}
+use Rattle.ac_affine.specs.declared.scope.Scope.{Scope}
+use Rattle.ac_affine.specs.Faults.{earlier, broken_where, rule_broken}
+use Rattle.ac_affine.specs.Meanings.{meaning, word_broken}
+use Rattle.ac_affine.specs.Comparisons.{whole_broken, form_or_zero, placed_form, index, index_broken, compared, comparison, rel_of, condition, condition_broken}
 use Rattle.ac_rules.specs.Values.{array_number}
 use Rattle.ac_rules.specs.Statements.{inside, in_start, loop_rule, step_broken, step_number, form_bounds, may_bound, is_endless, head_broken, assigned_value, statement_broken, statements_broken, stmt, stmts}
 use Rattle.ac_rules.specs.Numbers.{has_conditions}
-use Rattle.ac_rules.proofs.Absent.{neither, none_of, not_where, each, each_map, each_of_map, in_rest, in_front, both_true}
-use Rattle.ac_rules.proofs.Collecting.{IsKnown}
-use Rattle.ac_rules.proofs.Judges.{neither_is, compared_judges, whole_known, index_fits, comparison_fits}
+use Rattle.ac_affine.proofs.Absent.{neither, none_of, not_where, each, each_map, each_of_map, in_rest, in_front, both_true}
+use Rattle.ac_affine.proofs.Collecting.{IsKnown}
+use Rattle.ac_affine.proofs.Judges.{neither_is, compared_judges, whole_known, index_fits, comparison_fits}
 use Rattle.ac_rules.proofs.FittingValues.{indices_fit, assigned_fits}
 use Rattle.ac_rules.proofs.Stepping.{broken-loop, broken-branch, stmt-loop, stmt-branch, stmt-assign}
-use Rattle.ac_rules.proofs.Trees.{every_statement}
+use Rattle.ac_affine.proofs.Trees.{every_statement}
 
 -- a comparison that may bound the iterator and has a form bounds it
 bounds_of : (scope : Scope) (step : ℤ) (relation : Relation) (place : Place) (c : Collected) → IsKnown c → form_bounds step relation c ≡ true

@@ -15,21 +15,21 @@ use Rattle.ac_syntax.specs.declared.tree.Kind.TheVariants.{Input, Local}
 use Rattle.ac_grammar.specs.declared.tree.Declared.{Declared}
 use Rattle.ac_grammar.specs.declared.tree.Extent.{Extent}
 use Rattle.ac_grammar.specs.declared.tree.File.{File}
-use Rattle.ac_rules.specs.declared.fault.Which.TheVariants as which
-use Rattle.ac_rules.specs.declared.fault.Rule.TheVariants.{Duplicate, Limit}
-use Rattle.ac_rules.specs.declared.scope.Meaning.{Meaning}
-use Rattle.ac_rules.specs.declared.scope.Meaning.TheVariants as means
-use Rattle.ac_rules.specs.declared.scope.Entry.{Entry}
-use Rattle.ac_rules.specs.declared.scope.Scope.{Scope}
-use Rattle.ac_rules.specs.Faults.{earlier, broken_where}
-use Rattle.ac_rules.specs.Meanings.{declared_meaning, word_broken}
-use Rattle.ac_rules.specs.Comparisons.{first_of, index}
+use Rattle.ac_affine.specs.declared.fault.Which.TheVariants as which
+use Rattle.ac_affine.specs.declared.fault.Rule.TheVariants.{Duplicate, Limit}
+use Rattle.ac_affine.specs.declared.scope.Meaning.{Meaning}
+use Rattle.ac_affine.specs.declared.scope.Meaning.TheVariants as means
+use Rattle.ac_affine.specs.declared.scope.Entry.{Entry}
+use Rattle.ac_affine.specs.declared.scope.Scope.{Scope}
+use Rattle.ac_affine.specs.Faults.{earlier, broken_where}
+use Rattle.ac_affine.specs.Meanings.{declared_meaning, word_broken}
+use Rattle.ac_affine.specs.Comparisons.{first_of, index}
 use Rattle.ac_rules.specs.Declarations.{is_whole, is_loop_name, entry, count, param_meaning, param_entries, local_entries, param_count, input_count, fixed_scope, is_declared, count_broken, dimensions_broken, extents_broken, name_broken, declared_broken, each_declared_broken, array_of, arrays_from}
 use Rattle.ac_rules.specs.Statements.{statements_broken}
 use Rattle.ac_rules.specs.Files.{body_scope, assignments_broken, declarations_broken, body_broken, pragmas_broken, context_parts, names_of, file_broken, program_of}
-use Rattle.ac_rules.proofs.Absent.{NoneBroken, neither, none_of, not_where, each, each_map, each_append}
+use Rattle.ac_affine.proofs.Absent.{NoneBroken, neither, none_of, not_where, each, each_map, each_append}
 use Rattle.ac_rules.proofs.EachArray.{arrays_have}
-use Rattle.ac_rules.proofs.SmallForms.{Few, small_index, small_condition}
+use Rattle.ac_affine.proofs.SmallForms.{Few, small_index, small_condition}
 use Rattle.ac_rules.proofs.SmallStatements.{small_statements}
 
 -- a name that is not declared before means what is declared behind

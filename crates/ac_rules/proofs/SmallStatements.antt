@@ -16,22 +16,22 @@ use Rattle.ac_grammar.specs.declared.tree.Operator.{Operator}
 use Rattle.ac_grammar.specs.declared.tree.Expr.{Expr}
 use Rattle.ac_grammar.specs.declared.tree.Statement.{Statement}
 use Rattle.ac_grammar.specs.declared.tree.Statement.TheVariants.{Loop, Branch, Assign}
-use Rattle.ac_rules.specs.declared.fault.Which.TheVariants as which
-use Rattle.ac_rules.specs.declared.fault.Rule.{Rule}
-use Rattle.ac_rules.specs.declared.fault.Rule.TheVariants.{Limit}
-use Rattle.ac_rules.specs.declared.fault.Broken.{Broken}
-use Rattle.ac_rules.specs.declared.scope.Entry.{Entry}
-use Rattle.ac_rules.specs.declared.scope.Scope.{Scope}
-use Rattle.ac_rules.specs.Faults.{earlier, broken_where}
-use Rattle.ac_rules.specs.Meanings.{meaning}
-use Rattle.ac_rules.specs.Comparisons.{index, condition, condition_broken}
+use Rattle.ac_affine.specs.declared.fault.Which.TheVariants as which
+use Rattle.ac_affine.specs.declared.fault.Rule.{Rule}
+use Rattle.ac_affine.specs.declared.fault.Rule.TheVariants.{Limit}
+use Rattle.ac_affine.specs.declared.fault.Broken.{Broken}
+use Rattle.ac_affine.specs.declared.scope.Entry.{Entry}
+use Rattle.ac_affine.specs.declared.scope.Scope.{Scope}
+use Rattle.ac_affine.specs.Faults.{earlier, broken_where}
+use Rattle.ac_affine.specs.Meanings.{meaning}
+use Rattle.ac_affine.specs.Comparisons.{index, condition, condition_broken}
 use Rattle.ac_rules.specs.Values.{array_number}
 use Rattle.ac_rules.specs.Statements.{inside, in_start, step_number, head_broken, assigned_value, statement_broken, statements_broken, stmt, stmts}
-use Rattle.ac_rules.proofs.Absent.{NoneBroken, each, neither, none_of, not_where}
+use Rattle.ac_affine.proofs.Absent.{NoneBroken, each, neither, none_of, not_where}
 use Rattle.ac_rules.proofs.Stepping.{broken-loop, broken-branch, stmt-loop, stmt-branch, stmt-assign}
-use Rattle.ac_rules.proofs.SmallForms.{Few, small_index, small_indices, small_condition}
+use Rattle.ac_affine.proofs.SmallForms.{Few, small_index, small_indices, small_condition}
 use Rattle.ac_rules.proofs.SmallValues.{small_assigned}
-use Rattle.ac_rules.proofs.Trees.{every_statement}
+use Rattle.ac_affine.proofs.Trees.{every_statement}
 
 front_none : (b : Bool) (rule : Rule) (place : Place) (c d : Option Broken) → earlier (earlier (broken_where b rule place) c) d ≡ None → b ≡ false
 front_none b rule place c d h = not_where b rule place (neither (broken_where b rule place) c (neither (earlier (broken_where b rule place) c) d h).0).0

@@ -10,13 +10,13 @@ use Rattle.ac_syntax.specs.declared.tree.Value.TheVariants.{Number, Access, Call
 use Rattle.ac_grammar.specs.declared.tree.Word.{Word}
 use Rattle.ac_grammar.specs.declared.tree.Operator.{Operator}
 use Rattle.ac_grammar.specs.declared.tree.Expr.{Expr}
-use Rattle.ac_rules.specs.declared.scope.Entry.{Entry}
-use Rattle.ac_rules.specs.declared.scope.Scope.{Scope}
-use Rattle.ac_rules.specs.Comparisons.{index_expr, index}
+use Rattle.ac_affine.specs.declared.scope.Entry.{Entry}
+use Rattle.ac_affine.specs.declared.scope.Scope.{Scope}
+use Rattle.ac_affine.specs.Comparisons.{index_expr, index}
 use Rattle.ac_rules.specs.Values.{placed, array_number}
 use Rattle.ac_rules.specs.Statements.{assigned_value}
 use Rattle.ac_rules.proofs.EachValue.{assigned_has}
-use Rattle.ac_rules.proofs.SmallForms.{Few, small_index_expr, small_indices}
+use Rattle.ac_affine.proofs.SmallForms.{Few, small_index_expr, small_indices}
 
 -- calls
 of_row : (m : _) (k : Row_of-Value m) → AllByRecursion IsSmallValue (items-the_row-Value m k) → AreSmallValues k

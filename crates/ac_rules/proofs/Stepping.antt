@@ -10,11 +10,11 @@ use Rattle.ac_grammar.specs.declared.tree.Operator.{Operator}
 use Rattle.ac_grammar.specs.declared.tree.Expr.{Expr}
 use Rattle.ac_grammar.specs.declared.tree.Statement.{Statement, the_lemmas}
 use Rattle.ac_grammar.specs.declared.tree.Statement.TheVariants.{Loop, Branch, Assign}
-use Rattle.ac_rules.specs.declared.scope.Entry.{Entry}
-use Rattle.ac_rules.specs.declared.scope.Scope.{Scope}
-use Rattle.ac_rules.specs.Faults.{earlier}
-use Rattle.ac_rules.specs.Meanings.{meaning}
-use Rattle.ac_rules.specs.Comparisons.{first_of, index, condition, condition_broken}
+use Rattle.ac_affine.specs.declared.scope.Entry.{Entry}
+use Rattle.ac_affine.specs.declared.scope.Scope.{Scope}
+use Rattle.ac_affine.specs.Faults.{earlier}
+use Rattle.ac_affine.specs.Meanings.{meaning}
+use Rattle.ac_affine.specs.Comparisons.{first_of, index, condition, condition_broken}
 use Rattle.ac_rules.specs.Values.{array_number}
 use Rattle.ac_rules.specs.Statements.{inside, in_start, head_broken, assignment_broken, assigned_value, first_in, statement_broken, statements_broken, targets, all_targets, each_in, step_number, stmt, stmts}
 

@@ -11,10 +11,10 @@ use Rattle.ac_grammar.specs.declared.tree.Expr.{Expr}
 use Rattle.ac_grammar.specs.declared.tree.Expr.TheVariants.{Number, Decimal, Access, Call, Negative, Group, Chain, rolls-Number, rolls-Decimal, rolls-Access, rolls-Call, rolls-Negative, rolls-Group, rolls-Chain}
 use Rattle.ac_grammar.specs.declared.tree.Expr.TheOpen as open_of
 use Rattle.ac_grammar.specs.declared.tree.Expr.TheFolds.{para-roll-Expr}
-use Rattle.ac_rules.specs.declared.scope.Entry.{Entry}
-use Rattle.ac_rules.specs.declared.scope.Scope.{Scope}
-use Rattle.ac_rules.specs.Meanings.{meaning}
-use Rattle.ac_rules.specs.WrittenValues.{integer_of, expression_value}
+use Rattle.ac_affine.specs.declared.scope.Entry.{Entry}
+use Rattle.ac_affine.specs.declared.scope.Scope.{Scope}
+use Rattle.ac_affine.specs.Meanings.{meaning}
+use Rattle.ac_affine.specs.WrittenValues.{integer_of, expression_value}
 use Rattle.ac_rules.specs.WrittenTerms.{Written, index, other, applied_to, access_written, call_written, negative_written, chain_written, written_step, written}
 
 firsts : {X : Type 0} (g : Expr → X) (f : Expr → Written) (es : List Expr) → map (λ (s : Expr × Written). g s.0) (map (λ (y : Expr). (y, f y)) es) ≡ map g es

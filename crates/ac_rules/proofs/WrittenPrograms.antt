@@ -16,29 +16,29 @@ use Rattle.ac_grammar.specs.declared.tree.Statement.{Statement}
 use Rattle.ac_grammar.specs.declared.tree.Statement.TheVariants.{Loop, Branch, Assign}
 use Rattle.ac_grammar.specs.declared.tree.Pragma.{Pragma}
 use Rattle.ac_grammar.specs.declared.tree.Pragma.TheVariants.{Context, Commutative, Output}
-use Rattle.ac_rules.specs.declared.fault.Broken.{Broken}
-use Rattle.ac_rules.specs.declared.scope.Entry.{Entry}
-use Rattle.ac_rules.specs.declared.scope.Meaning.{Meaning}
-use Rattle.ac_rules.specs.declared.scope.Meaning.TheVariants as means
-use Rattle.ac_rules.specs.declared.scope.Scope.{Scope}
-use Rattle.ac_rules.specs.Faults.{earlier}
-use Rattle.ac_rules.specs.Comparisons.{first_from, whole_broken, index, index_broken, compared, condition, condition_broken}
+use Rattle.ac_affine.specs.declared.fault.Broken.{Broken}
+use Rattle.ac_affine.specs.declared.scope.Entry.{Entry}
+use Rattle.ac_affine.specs.declared.scope.Meaning.{Meaning}
+use Rattle.ac_affine.specs.declared.scope.Meaning.TheVariants as means
+use Rattle.ac_affine.specs.declared.scope.Scope.{Scope}
+use Rattle.ac_affine.specs.Faults.{earlier}
+use Rattle.ac_affine.specs.Comparisons.{first_from, whole_broken, index, index_broken, compared, condition, condition_broken}
 use Rattle.ac_rules.specs.Declarations.{param_count, input_count, fixed_scope}
-use Rattle.ac_rules.specs.Meanings.{meaning}
+use Rattle.ac_affine.specs.Meanings.{meaning}
 use Rattle.ac_rules.specs.Statements.{inside, in_start, head_broken, target_rule, assigned_value, statement_broken, statements_broken, stmt, stmts}
 use Rattle.ac_rules.specs.Values.{value, value_broken, array_number, read_of, access_broken}
 use Rattle.ac_rules.specs.Files.{context_parts, pragma_broken, body_scope, names_of}
-use Rattle.ac_rules.specs.WrittenValues.{integer_of, expression_value}
+use Rattle.ac_affine.specs.WrittenValues.{integer_of, expression_value}
 use Rattle.ac_rules.specs.WrittenTerms.{all_of, cell_of, as_term, written, target_cell, assigned_term}
-use Rattle.ac_rules.specs.Laws.{AreNumbered, IsPointOf}
+use Rattle.ac_affine.specs.Laws.{AreNumbered, IsPointOf}
 use Rattle.ac_rules.specs.LawsOfPrograms.{IsIndexOf, IsConditionOf, IsStatementOf, loop, branch, assignment, AreStatementsOf, no_statement, one_more, ProgramsDoAsWritten}
-use Rattle.ac_rules.proofs.Absent.{NoneBroken, neither, none_of, each, each_of_map}
+use Rattle.ac_affine.proofs.Absent.{NoneBroken, neither, none_of, each, each_of_map}
 use Rattle.ac_rules.proofs.ArraysRead.{rule_holds}
 use Rattle.ac_rules.proofs.NumberedNames.{files_are_numbered}
 use Rattle.ac_rules.proofs.Stepping.{broken-loop, broken-branch, broken-assign, stmt-loop, stmt-branch, stmt-assign}
-use Rattle.ac_rules.proofs.Trees.{every_statement}
-use Rattle.ac_rules.proofs.WrittenConditions.{conditions_hold}
-use Rattle.ac_rules.proofs.WrittenExpressions.{indices_have_values}
+use Rattle.ac_affine.proofs.Trees.{every_statement}
+use Rattle.ac_affine.proofs.WrittenConditions.{conditions_hold}
+use Rattle.ac_affine.proofs.WrittenExpressions.{indices_have_values}
 use Rattle.ac_rules.proofs.WrittenTerms.{with_all, access_term, both_applied, subscripts_there, value_says}
 
 -- a target in which no rule is broken is the cell of an array

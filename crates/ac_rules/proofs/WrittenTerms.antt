@@ -15,30 +15,30 @@ use Rattle.ac_grammar.specs.declared.tree.Word.{Word}
 use Rattle.ac_grammar.specs.declared.tree.Operator.{Operator}
 use Rattle.ac_grammar.specs.declared.tree.Expr.{Expr}
 use Rattle.ac_grammar.specs.declared.tree.Expr.TheVariants.{Number, Decimal, Access, Call, Negative, Group, Chain}
-use Rattle.ac_rules.specs.declared.fault.Rule.{Rule}
-use Rattle.ac_rules.specs.declared.index.Judged.{Judged}
-use Rattle.ac_rules.specs.declared.scope.Entry.{Entry}
-use Rattle.ac_rules.specs.declared.scope.Meaning.{Meaning}
-use Rattle.ac_rules.specs.declared.scope.Meaning.TheVariants as means
-use Rattle.ac_rules.specs.declared.scope.Scope.{Scope}
-use Rattle.ac_rules.specs.Faults.{rule_broken}
-use Rattle.ac_rules.specs.Meanings.{meaning, is_array, read_rule, call_rule, misused_unless}
-use Rattle.ac_rules.specs.IndexExpressions.{judged_name}
-use Rattle.ac_rules.specs.Comparisons.{whole_broken, index_expr, index as index_of, index_broken}
+use Rattle.ac_affine.specs.declared.fault.Rule.{Rule}
+use Rattle.ac_affine.specs.declared.index.Judged.{Judged}
+use Rattle.ac_affine.specs.declared.scope.Entry.{Entry}
+use Rattle.ac_affine.specs.declared.scope.Meaning.{Meaning}
+use Rattle.ac_affine.specs.declared.scope.Meaning.TheVariants as means
+use Rattle.ac_affine.specs.declared.scope.Scope.{Scope}
+use Rattle.ac_affine.specs.Faults.{rule_broken}
+use Rattle.ac_affine.specs.Meanings.{meaning, is_array, read_rule, call_rule, misused_unless}
+use Rattle.ac_affine.specs.IndexExpressions.{judged_name}
+use Rattle.ac_affine.specs.Comparisons.{whole_broken, index_expr, index as index_of, index_broken}
 use Rattle.ac_rules.specs.Values as r
 use Rattle.ac_rules.specs.Values.{Reading, reading, reading_broken, value_of as value_of_reading, symbol, operator_name, array_number, access_broken, read_of, access_reading, call_reading, negative_reading, group_reading, applied_values, joined_reading, chained_reading, chain_reading, placed, value, value_broken, value_place}
-use Rattle.ac_rules.specs.WrittenValues.{meant_integer, integer_of, expression_value}
+use Rattle.ac_affine.specs.WrittenValues.{meant_integer, integer_of, expression_value}
 use Rattle.ac_rules.specs.WrittenTerms.{Written, index, other, as_term, all_of, applied_to, cell_of, access_written, call_written, negative_written, joined_written, chained_written, chain_written, written}
-use Rattle.ac_rules.specs.Laws.{AreNumbered, IsPointOf}
+use Rattle.ac_affine.specs.Laws.{AreNumbered, IsPointOf}
 use Rattle.ac_rules.specs.LawsOfPrograms.{ValuesHaveTerms}
-use Rattle.ac_rules.proofs.Absent.{NoneBroken, neither, none_of}
+use Rattle.ac_affine.proofs.Absent.{NoneBroken, neither, none_of}
 use Rattle.ac_rules.proofs.ArraysRead.{rule_holds}
-use Rattle.ac_rules.proofs.FormValues.{Agrees, negative_agrees, form_agrees}
-use Rattle.ac_rules.proofs.Judges.{Judges, number_judges, name_judges, negative_judges, group_judges, joined_judges, whole_known}
-use Rattle.ac_rules.proofs.NumberedNames.{meaning_in}
+use Rattle.ac_affine.proofs.FormValues.{Agrees, negative_agrees, form_agrees}
+use Rattle.ac_affine.proofs.Judges.{Judges, number_judges, name_judges, negative_judges, group_judges, joined_judges, whole_known}
+use Rattle.ac_affine.proofs.NumberedMeanings.{meaning_in}
 use Rattle.ac_rules.proofs.Readings.{reading-number, reading-decimal, reading-access, reading-call, reading-negative, reading-group, reading-chain}
-use Rattle.ac_rules.proofs.Trees.{every_expr}
-use Rattle.ac_rules.proofs.WrittenExpressions.{number_agrees, name_agrees, known_agrees, the_known, index_is, indices_have_values}
+use Rattle.ac_affine.proofs.Trees.{every_expr}
+use Rattle.ac_affine.proofs.WrittenExpressions.{number_agrees, name_agrees, known_agrees, the_known, index_is, indices_have_values}
 use Rattle.ac_rules.proofs.WrittenParts.{written-number, written-decimal, written-access, written-call, written-negative, written-group, written-chain}
 
 abbrev pub the_cell : ℕ → List ℤ → Cell

@@ -12,16 +12,16 @@ use Rattle.ac_grammar.specs.declared.tree.Declared.{Declared}
 use Rattle.ac_grammar.specs.declared.tree.Statement.{Statement}
 use Rattle.ac_grammar.specs.declared.tree.Statement.TheOpen.{Statement-F}
 use Rattle.ac_grammar.specs.declared.tree.Statement.TheFolds.{fold-Statement}
-use Rattle.ac_rules.specs.declared.fault.Which.TheVariants as which
-use Rattle.ac_rules.specs.declared.fault.Rule.TheVariants.{Duplicate, Limit}
-use Rattle.ac_rules.specs.declared.fault.Broken.{Broken}
-use Rattle.ac_rules.specs.declared.scope.Meaning.{Meaning}
-use Rattle.ac_rules.specs.declared.scope.Meaning.TheVariants as means
-use Rattle.ac_rules.specs.declared.scope.Entry.{Entry}
-use Rattle.ac_rules.specs.declared.scope.Scope.{Scope}
-use Rattle.ac_rules.specs.Faults.{earlier, broken, broken_where}
-use Rattle.ac_rules.specs.Meanings.{declared_meaning, word_broken}
-use Rattle.ac_rules.specs.Comparisons.{first_of, index, index_broken}
+use Rattle.ac_affine.specs.declared.fault.Which.TheVariants as which
+use Rattle.ac_affine.specs.declared.fault.Rule.TheVariants.{Duplicate, Limit}
+use Rattle.ac_affine.specs.declared.fault.Broken.{Broken}
+use Rattle.ac_affine.specs.declared.scope.Meaning.{Meaning}
+use Rattle.ac_affine.specs.declared.scope.Meaning.TheVariants as means
+use Rattle.ac_affine.specs.declared.scope.Entry.{Entry}
+use Rattle.ac_affine.specs.declared.scope.Scope.{Scope}
+use Rattle.ac_affine.specs.Faults.{earlier, broken, broken_where}
+use Rattle.ac_affine.specs.Meanings.{declared_meaning, word_broken}
+use Rattle.ac_affine.specs.Comparisons.{first_of, index, index_broken}
 
 -- some loop without a type runs the name
 abbrev pub runs_step : List ℕ → Statement-F Bool → Bool

@@ -11,19 +11,19 @@ use Rattle.ac_grammar.specs.declared.tree.Statement.{Statement}
 use Rattle.ac_grammar.specs.declared.tree.Pragma.{Pragma}
 use Rattle.ac_grammar.specs.declared.tree.Pragma.TheVariants.{Context, Commutative, Output}
 use Rattle.ac_grammar.specs.declared.tree.File.{File}
-use Rattle.ac_rules.specs.declared.fault.Which.TheVariants as which
-use Rattle.ac_rules.specs.declared.fault.Rule.{Rule}
-use Rattle.ac_rules.specs.declared.fault.Rule.TheVariants as rule
-use Rattle.ac_rules.specs.declared.fault.Broken.{Broken}
+use Rattle.ac_affine.specs.declared.fault.Which.TheVariants as which
+use Rattle.ac_affine.specs.declared.fault.Rule.{Rule}
+use Rattle.ac_affine.specs.declared.fault.Rule.TheVariants as rule
+use Rattle.ac_affine.specs.declared.fault.Broken.{Broken}
 use Rattle.ac_rules.specs.declared.fault.RuleFault.{RuleFault}
 use Rattle.ac_rules.specs.declared.fault.RuleFault.TheVariants as fault
-use Rattle.ac_rules.specs.declared.scope.Meaning.{Meaning}
-use Rattle.ac_rules.specs.declared.scope.Meaning.TheVariants as means
-use Rattle.ac_rules.specs.declared.scope.Entry.{Entry}
-use Rattle.ac_rules.specs.declared.scope.Scope.{Scope}
-use Rattle.ac_rules.specs.Faults.{earlier, broken, rule_broken}
-use Rattle.ac_rules.specs.Meanings.{declared_meaning, misused_unless, word_broken}
-use Rattle.ac_rules.specs.Comparisons.{first_of, condition, condition_broken}
+use Rattle.ac_affine.specs.declared.scope.Meaning.{Meaning}
+use Rattle.ac_affine.specs.declared.scope.Meaning.TheVariants as means
+use Rattle.ac_affine.specs.declared.scope.Entry.{Entry}
+use Rattle.ac_affine.specs.declared.scope.Scope.{Scope}
+use Rattle.ac_affine.specs.Faults.{earlier, broken, rule_broken}
+use Rattle.ac_affine.specs.Meanings.{declared_meaning, misused_unless, word_broken}
+use Rattle.ac_affine.specs.Comparisons.{first_of, condition, condition_broken}
 use Rattle.ac_rules.specs.Values.{array_number}
 use Rattle.ac_rules.specs.Declarations.{is_whole, is_loop_name, param_count, input_count, entries, fixed_scope, each_declared_broken, arrays_from, slots_from, param_names}
 use Rattle.ac_rules.specs.Statements.{statements_broken, all_targets, stmts}

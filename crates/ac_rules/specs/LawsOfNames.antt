@@ -1,5 +1,5 @@
 -- That a file that breaks no rule declares no name twice and uses none that is not declared, and that a declared name means the
--- parameter or array of the program that has it.
+-- parameter or array of the program that has it. How the names of a file are numbered.
 use Rattle.std.specs.Prelude.{◌≡◌, ℕ, ◌+◌, nat_eq, Bool, true, ◌||◌, List, [], ◌∷◌, ◌++◌, map, length, take, slice_get, Option, Some, None}
 use Rattle.std.specs.List.{AllByRecursion, IsDistinct, flat_map}
 use Rattle.std.specs.Cmp.Lexicographic.{pointwise}
@@ -16,14 +16,19 @@ use Rattle.ac_grammar.specs.declared.tree.Expr.TheFolds.{fold-Expr}
 use Rattle.ac_grammar.specs.declared.tree.Statement.{Statement}
 use Rattle.ac_grammar.specs.declared.tree.Statement.TheVariants.{Loop, Branch, Assign}
 use Rattle.ac_grammar.specs.declared.tree.File.{File}
-use Rattle.ac_rules.specs.declared.scope.Meaning.{Meaning}
-use Rattle.ac_rules.specs.declared.scope.Meaning.TheVariants as means
-use Rattle.ac_rules.specs.declared.scope.Entry.{Entry}
-use Rattle.ac_rules.specs.declared.scope.Scope.{Scope}
+use Rattle.ac_affine.specs.declared.scope.Meaning.{Meaning}
+use Rattle.ac_affine.specs.declared.scope.Meaning.TheVariants as means
+use Rattle.ac_affine.specs.declared.scope.Entry.{Entry}
+use Rattle.ac_affine.specs.declared.scope.Scope.{Scope}
 use Rattle.ac_rules.specs.Declarations.{is_declared, param_count, fixed_scope}
-use Rattle.ac_rules.specs.Meanings.{declared_meaning}
+use Rattle.ac_affine.specs.Meanings.{declared_meaning}
+use Rattle.ac_affine.specs.Laws.{AreNumbered}
 use Rattle.ac_rules.specs.Statements.{inside, in_start, is_running}
 use Rattle.ac_rules.specs.Files.{context_parts, output_words, body_scope, names_of, file_broken, program_of}
+
+-- the names of a file are numbered as its scopes want them, and so are the first k of them, which are all that an extent sees
+abbrev pub FilesAreNumbered : Type 0
+FilesAreNumbered = (file : File) → AreNumbered (param_count file.params) (names_of file) × ((k : ℕ) → AreNumbered (param_count file.params) (take k (names_of file)))
 
 -- the names of the parameters and then of the locals
 abbrev pub declared_names : File → List (List ℕ)

@@ -19,15 +19,15 @@ use Rattle.ac_grammar.specs.declared.tree.Expr.{Expr}
 use Rattle.ac_grammar.specs.declared.tree.Statement.{Statement}
 use Rattle.ac_grammar.specs.declared.tree.Statement.TheVariants.{Loop, Branch, Assign}
 use Rattle.ac_grammar.specs.declared.tree.File.{File}
-use Rattle.ac_rules.specs.declared.scope.Entry.{Entry}
-use Rattle.ac_rules.specs.declared.scope.Scope.{Scope}
+use Rattle.ac_affine.specs.declared.scope.Entry.{Entry}
+use Rattle.ac_affine.specs.declared.scope.Scope.{Scope}
 use Rattle.ac_rules.specs.Declarations.{param_count, fixed_scope}
 use Rattle.ac_rules.specs.Statements.{inside, in_start, step_number}
 use Rattle.ac_rules.specs.Values.{value, value_broken}
 use Rattle.ac_rules.specs.Files.{context_parts, body_scope, names_of, file_broken, program_of}
-use Rattle.ac_rules.specs.WrittenValues.{integer_of, expression_value}
+use Rattle.ac_affine.specs.WrittenValues.{integer_of, expression_value}
 use Rattle.ac_rules.specs.WrittenTerms.{as_term, written, target_cell, assigned_term}
-use Rattle.ac_rules.specs.Laws.{AreNumbered, IsPointOf, IsTrueAt}
+use Rattle.ac_affine.specs.Laws.{AreNumbered, IsPointOf, IsTrueAt}
 
 -- a right side that breaks no rule has in the program the term that it has as it is written
 abbrev pub ValuesHaveTerms : Type 0

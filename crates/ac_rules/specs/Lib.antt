@@ -1,16 +1,9 @@
-pub mod Faults
-pub mod Meanings
-pub mod Forms
-pub mod IndexExpressions
-pub mod Comparisons
 pub mod Values
 pub mod Measures
 pub mod Declarations
 pub mod Statements
 pub mod Files
 pub mod Numbers
-pub mod WrittenValues
-pub mod Laws
 pub mod WrittenTerms
 pub mod LawsOfPrograms
 pub mod LawsOfNames

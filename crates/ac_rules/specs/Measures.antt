@@ -8,19 +8,19 @@ use Rattle.ac_syntax.specs.declared.tree.Value.TheVariants.{Number, Call}
 use Rattle.ac_grammar.specs.declared.tree.Word.{Word}
 use Rattle.ac_grammar.specs.declared.tree.Operator.{Operator}
 use Rattle.ac_grammar.specs.declared.tree.Expr.{Expr}
-use Rattle.ac_rules.specs.declared.fault.Broken.{Broken}
-use Rattle.ac_rules.specs.declared.scope.Meaning.{Meaning}
-use Rattle.ac_rules.specs.declared.scope.Entry.{Entry}
-use Rattle.ac_rules.specs.declared.scope.Scope.{Scope}
+use Rattle.ac_affine.specs.declared.fault.Broken.{Broken}
+use Rattle.ac_affine.specs.declared.scope.Meaning.{Meaning}
+use Rattle.ac_affine.specs.declared.scope.Entry.{Entry}
+use Rattle.ac_affine.specs.declared.scope.Scope.{Scope}
 use Rattle.ac_rules.specs.declared.measure.Measured.{Measured}
 use Rattle.ac_rules.specs.declared.measure.Measured.TheVariants as measured
 use Rattle.ac_rules.specs.declared.measure.Total.{Total}
 use Rattle.ac_rules.specs.declared.value.Built.{Built}
 use Rattle.ac_rules.specs.declared.value.Built.TheVariants as built
-use Rattle.ac_rules.specs.Faults.{earlier, rule_broken}
-use Rattle.ac_rules.specs.Meanings.{call_rule, word_broken}
-use Rattle.ac_rules.specs.IndexExpressions.{joined, judged_number, judged_negative, judged_group}
-use Rattle.ac_rules.specs.Comparisons.{index_expr, whole_broken}
+use Rattle.ac_affine.specs.Faults.{earlier, rule_broken}
+use Rattle.ac_affine.specs.Meanings.{call_rule, word_broken}
+use Rattle.ac_affine.specs.IndexExpressions.{joined, judged_number, judged_negative, judged_group}
+use Rattle.ac_affine.specs.Comparisons.{index_expr, whole_broken}
 use Rattle.ac_rules.specs.Values.{Reading, number, other, reading, applied_values, symbol, placed}
 
 -- nodes are counted up to one more than an assignment may have

@@ -17,21 +17,21 @@ use Rattle.ac_grammar.specs.declared.tree.Expr.{Expr}
 use Rattle.ac_grammar.specs.declared.tree.Statement.{Statement}
 use Rattle.ac_grammar.specs.declared.tree.Statement.TheOpen.{Statement-F}
 use Rattle.ac_grammar.specs.declared.tree.Statement.TheFolds.{fold-Statement}
-use Rattle.ac_rules.specs.declared.fault.Which.TheVariants as which
-use Rattle.ac_rules.specs.declared.fault.Rule.{Rule}
-use Rattle.ac_rules.specs.declared.fault.Rule.TheVariants.{Undeclared, Misused, Duplicate, Endless, Limit}
-use Rattle.ac_rules.specs.declared.fault.Broken.{Broken}
-use Rattle.ac_rules.specs.declared.scope.Meaning.{Meaning}
-use Rattle.ac_rules.specs.declared.scope.Meaning.TheVariants as means
-use Rattle.ac_rules.specs.declared.scope.Entry.{Entry}
-use Rattle.ac_rules.specs.declared.scope.Scope.{Scope}
-use Rattle.ac_rules.specs.declared.form.Collected.{Collected}
-use Rattle.ac_rules.specs.declared.form.Collected.TheVariants.{Known, Large, Unknown}
-use Rattle.ac_rules.specs.declared.index.Judged.{Judged}
-use Rattle.ac_rules.specs.Faults.{earlier, broken_where, rule_broken}
-use Rattle.ac_rules.specs.Meanings.{meaning, declared_meaning, iterator_number, word_broken, misused_unless}
-use Rattle.ac_rules.specs.IndexExpressions.{is_long}
-use Rattle.ac_rules.specs.Comparisons.{first_of, index, index_broken, compared, rel_of, condition, condition_broken}
+use Rattle.ac_affine.specs.declared.fault.Which.TheVariants as which
+use Rattle.ac_affine.specs.declared.fault.Rule.{Rule}
+use Rattle.ac_affine.specs.declared.fault.Rule.TheVariants.{Undeclared, Misused, Duplicate, Endless, Limit}
+use Rattle.ac_affine.specs.declared.fault.Broken.{Broken}
+use Rattle.ac_affine.specs.declared.scope.Meaning.{Meaning}
+use Rattle.ac_affine.specs.declared.scope.Meaning.TheVariants as means
+use Rattle.ac_affine.specs.declared.scope.Entry.{Entry}
+use Rattle.ac_affine.specs.declared.scope.Scope.{Scope}
+use Rattle.ac_affine.specs.declared.form.Collected.{Collected}
+use Rattle.ac_affine.specs.declared.form.Collected.TheVariants.{Known, Large, Unknown}
+use Rattle.ac_affine.specs.declared.index.Judged.{Judged}
+use Rattle.ac_affine.specs.Faults.{earlier, broken_where, rule_broken}
+use Rattle.ac_affine.specs.Meanings.{meaning, declared_meaning, iterator_number, word_broken, misused_unless}
+use Rattle.ac_affine.specs.IndexExpressions.{is_long}
+use Rattle.ac_affine.specs.Comparisons.{first_of, index, index_broken, compared, rel_of, condition, condition_broken}
 use Rattle.ac_rules.specs.Values.{access_broken, read_of, array_number, value, value_broken, applied_values}
 use Rattle.ac_rules.specs.Declarations.{is_declared}
 

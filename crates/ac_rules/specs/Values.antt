@@ -11,17 +11,17 @@ use Rattle.ac_grammar.specs.declared.tree.Operator.TheVariants.{Add, Subtract, M
 use Rattle.ac_grammar.specs.declared.tree.Expr.{Expr}
 use Rattle.ac_grammar.specs.declared.tree.Expr.TheOpen.{Expr-F}
 use Rattle.ac_grammar.specs.declared.tree.Expr.TheFolds.{para-Expr}
-use Rattle.ac_rules.specs.declared.fault.Rule.{Rule}
-use Rattle.ac_rules.specs.declared.fault.Broken.{Broken}
-use Rattle.ac_rules.specs.declared.scope.Meaning.{Meaning}
-use Rattle.ac_rules.specs.declared.scope.Meaning.TheVariants as meaning_of
-use Rattle.ac_rules.specs.declared.scope.Entry.{Entry}
-use Rattle.ac_rules.specs.declared.scope.Scope.{Scope}
-use Rattle.ac_rules.specs.declared.index.Judged.{Judged}
-use Rattle.ac_rules.specs.Faults.{earlier, rule_broken}
-use Rattle.ac_rules.specs.Meanings.{meaning, is_array, read_rule, call_rule, word_broken}
-use Rattle.ac_rules.specs.IndexExpressions.{judged_number, judged_name, judged_negative, judged_group, joined}
-use Rattle.ac_rules.specs.Comparisons.{first_of, whole_broken, index_expr, index, index_broken}
+use Rattle.ac_affine.specs.declared.fault.Rule.{Rule}
+use Rattle.ac_affine.specs.declared.fault.Broken.{Broken}
+use Rattle.ac_affine.specs.declared.scope.Meaning.{Meaning}
+use Rattle.ac_affine.specs.declared.scope.Meaning.TheVariants as meaning_of
+use Rattle.ac_affine.specs.declared.scope.Entry.{Entry}
+use Rattle.ac_affine.specs.declared.scope.Scope.{Scope}
+use Rattle.ac_affine.specs.declared.index.Judged.{Judged}
+use Rattle.ac_affine.specs.Faults.{earlier, rule_broken}
+use Rattle.ac_affine.specs.Meanings.{meaning, is_array, read_rule, call_rule, word_broken}
+use Rattle.ac_affine.specs.IndexExpressions.{judged_number, judged_name, judged_negative, judged_group, joined}
+use Rattle.ac_affine.specs.Comparisons.{first_of, whole_broken, index_expr, index, index_broken}
 
 -- an expression of a value: a number by what the rules say of it, or a value with the first rule that is broken in it
 pub data Reading : Type 0 where

@@ -9,13 +9,13 @@ use Rattle.ac_grammar.specs.declared.tree.Operator.{Operator}
 use Rattle.ac_grammar.specs.declared.tree.Expr.{Expr}
 use Rattle.ac_grammar.specs.declared.tree.Expr.TheOpen.{Expr-F}
 use Rattle.ac_grammar.specs.declared.tree.Expr.TheFolds.{para-Expr}
-use Rattle.ac_rules.specs.declared.scope.Meaning.{Meaning}
-use Rattle.ac_rules.specs.declared.scope.Meaning.TheVariants.{Parameter, Iterator, Array, LoopName, OwnStart, Nothing}
-use Rattle.ac_rules.specs.declared.scope.Entry.{Entry}
-use Rattle.ac_rules.specs.declared.scope.Scope.{Scope}
-use Rattle.ac_rules.specs.Meanings.{meaning, is_array}
+use Rattle.ac_affine.specs.declared.scope.Meaning.{Meaning}
+use Rattle.ac_affine.specs.declared.scope.Meaning.TheVariants.{Parameter, Iterator, Array, LoopName, OwnStart, Nothing}
+use Rattle.ac_affine.specs.declared.scope.Entry.{Entry}
+use Rattle.ac_affine.specs.declared.scope.Scope.{Scope}
+use Rattle.ac_affine.specs.Meanings.{meaning, is_array}
 use Rattle.ac_rules.specs.Values.{symbol, operator_name}
-use Rattle.ac_rules.specs.WrittenValues.{meant_integer, integer_of, operated, expression_value}
+use Rattle.ac_affine.specs.WrittenValues.{meant_integer, integer_of, operated, expression_value}
 
 -- An expression of a right side: without an access to an array, a call or a decimal it is an index expression, and has an integer;
 -- any other has a term. Nothing where it has no meaning.

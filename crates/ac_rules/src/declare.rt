@@ -1,12 +1,11 @@
 ghost use Rattle.std.specs.Prelude.{◌≡◌, ◌++◌, ◌+◌, ◌<◌, ◌≤◌, ◌^◌, [], ◌∷◌, length, take, map, filter, nat_eq, not, count_by, IfOk, OnOk};
 ghost use Rattle.std.specs.List.{list_any};
 ghost use Rattle.ac_syntax.specs.declared.tree.Kind.TheVariants.{Input, Local};
-ghost use Rattle.ac_rules.specs.Comparisons.{first_from, first_of, index, index_broken};
+ghost use Rattle.ac_affine.specs.Comparisons.{first_from, first_of, index, index_broken};
 ghost use Rattle.ac_rules.specs.Declarations.{runs, is_whole, is_loop_name, entry, count, param_meaning, param_entries, local_meaning, local_entries, param_count, input_count, entries, fixed_scope, is_declared, count_broken, dimensions_broken, extents_broken, name_broken, declared_broken, each_declared_broken, array_of, arrays_from, slot_of, slots_from, param_names};
 
-use crate::comparison::{build_index, check_index};
-use crate::fault::{Broken, Rule, Which, broken_where, earlier};
-use crate::scope::{Entry, Meaning, Scope, declared_meaning, word_broken};
+use ac_affine::fault::{Broken, Rule, Which, broken_where, earlier};
+use ac_affine::{Entry, Meaning, Scope, build_index, check_index, declared_meaning, word_broken};
 use ac_grammar::tree::{Declared, Extent, Statement};
 use ac_items::Items;
 use ac_syntax::name::Name;

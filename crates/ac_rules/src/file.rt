@@ -1,43 +1,43 @@
 ghost use Rattle.std.specs.Prelude.{◌≡◌, ◌++◌, map, nat_lt, IfOk};
 ghost use Rattle.ac_syntax.specs.Ready.{ReadyProgram};
 ghost use Rattle.ac_syntax.specs.Small.{IsSmallProgram};
-ghost use Rattle.ac_rules.specs.Comparisons.{first_of, condition};
+ghost use Rattle.ac_affine.specs.Comparisons.{first_of, condition};
 ghost use Rattle.ac_rules.specs.Numbers.{HasConditions, HasDeclaredNumbers, HasInputs, ListsItsParameters};
-ghost use Rattle.ac_rules.specs.Meanings.{declared_meaning, word_broken};
+ghost use Rattle.ac_affine.specs.Meanings.{declared_meaning, word_broken};
 ghost use Rattle.ac_rules.specs.Values.{array_number};
 ghost use Rattle.ac_rules.specs.Files.{context_parts, commutative_words, line_words, output_words, has_output_line, output_numbers, output_line, output_rule, output_broken, pragma_broken, body_scope, assignments_broken, declarations_broken, body_broken, pragmas_broken, broken_under, arrays_under, body_under, context_under, program_under, names_of, file_broken, program_of, IsAnswer};
 
-use crate::comparison::{add_condition, check_condition};
 use crate::declare::{
     add_local_arrays, build_inputs, build_params, build_slots, check_declared, entries,
     fixed_scope, input_count, param_count,
 };
-use crate::fault::{Broken, Rule, RuleFault, Which, earlier, rule_broken};
-use crate::scope::{Entry, Meaning, Scope, declared_meaning, word_broken};
+use crate::fault::{RuleFault, fault_of};
 use crate::statement::{build_statements, check_statements, target_in};
 use crate::value::array_number;
+use ac_affine::fault::{Broken, Rule, Which, earlier, rule_broken};
+use ac_affine::{
+    Entry, Meaning, Scope, add_condition, check_condition, declared_meaning, word_broken,
+};
 use ac_grammar::tree::{File, Pragma, Statement, Word};
 use ac_items::Items;
 use ac_syntax::name::Name;
 use ac_syntax::tree::{Array, Comparison, Cond, Program, Stmt};
 use std::alloc::{AllocError, Global};
 
-impl Meaning {
-    /// The rule that an output line breaks with this name.
-    fn output_rule(self, inputs: usize) -> Option<Rule>
-        ensures { result ≡ output_rule inputs self }
-    {
-        match self {
-            Meaning::Array { number, dimensions } => {
-                if number < inputs && 0 < dimensions {
-                    None
-                } else {
-                    Some(Rule::Misused)
-                }
+/// The rule that an output line breaks with a name of this meaning.
+fn output_rule(inputs: usize, meaning: Meaning) -> Option<Rule>
+    ensures { result ≡ output_rule inputs meaning }
+{
+    match meaning {
+        Meaning::Array { number, dimensions } => {
+            if number < inputs && 0 < dimensions {
+                None
+            } else {
+                Some(Rule::Misused)
             }
-            Meaning::LoopName | Meaning::Nothing => Some(Rule::Undeclared),
-            _ => Some(Rule::Misused),
         }
+        Meaning::LoopName | Meaning::Nothing => Some(Rule::Undeclared),
+        _ => Some(Rule::Misused),
     }
 }
 
@@ -54,7 +54,7 @@ fn check_words(words: &[Word]) -> Option<Broken>
 fn output_broken(names: &[Entry], inputs: usize, word: &Word) -> Option<Broken>
     ensures { result ≡ output_broken names.now inputs word.now }
 {
-    let rule = declared_meaning(names, &word.name).output_rule(inputs);
+    let rule = output_rule(inputs, declared_meaning(names, &word.name));
     earlier(word_broken(word), rule_broken(rule, word.place))
 }
 
@@ -326,7 +326,7 @@ pub fn apply(alloc: Global, file: &File) -> Result<Program, RuleFault>
 {
     let names = names_of(alloc, file)?;
     match check(alloc, names.as_slice(), file)? {
-        Some(broken) => Err(broken.fault()),
+        Some(broken) => Err(fault_of(broken)),
         None => Ok(build(alloc, names.as_slice(), file)?),
     }
 }

@@ -1,28 +1,9 @@
-ghost use Rattle.ac_rules.specs.Laws.{FirstIsLeast, NoFirstIsNone, FilesAreNumbered, FormsHaveValues, IndicesHaveValues, ComparisonsHold, ConditionsHold};
 ghost use Rattle.ac_rules.specs.LawsOfPrograms.{ValuesHaveTerms, ProgramsDoAsWritten};
-ghost use Rattle.ac_rules.specs.LawsOfNames.{NamesAreDeclaredOnce, NoneIsUndeclared, NamesMeanTheirOwn};
+ghost use Rattle.ac_rules.specs.LawsOfNames.{FilesAreNumbered, NamesAreDeclaredOnce, NoneIsUndeclared, NamesMeanTheirOwn};
 
-/// Of several faults the first is the one at the lowest place, and among those at that place the one of the lowest rank.
-/// There is no first only where there is no fault.
-pub fn first_fault_is_the_least()
-    ensures least { FirstIsLeast }
-    ensures none { NoFirstIsNone }
-{}
-
-/// Where the rules collect a form of an expression, the form has at every point the value of the expression as it is
-/// written, and so has the index expression of the program where no rule is broken. The names of a file are numbered as
-/// this wants them.
-pub fn forms_have_values()
+/// The names of a file, and of the declarations in front of an extent, are numbered as `ac_affine::laws` want them.
+pub fn names_are_numbered()
     ensures files { FilesAreNumbered }
-    ensures forms { FormsHaveValues }
-    ensures indices { IndicesHaveValues }
-{}
-
-/// Where the rules collect a form of a comparison, the form compares with 0 at every point as the two sides compare, and
-/// a condition that breaks no rule holds in the program where it is true as it is written.
-pub fn conditions_hold_as_written()
-    ensures comparisons { ComparisonsHold }
-    ensures conditions { ConditionsHold }
 {}
 
 /// A right side that breaks no rule has in the program the value that it has as it is written: a term over the cells that it

@@ -1,12 +1,10 @@
 ghost use Rattle.std.specs.Prelude.{◌≡◌, ◌+◌, map, IfOk};
-ghost use Rattle.ac_rules.specs.Meanings.{meaning};
+ghost use Rattle.ac_affine.specs.Meanings.{meaning};
 ghost use Rattle.ac_rules.specs.Values.{access_broken, access_reading, value, value_broken};
 ghost use Rattle.ac_rules.specs.Measures.{capped, measure_of, measure, measured_broken, measured_nodes, with_measure, total_of, measured_call, measured_negative, measured_group, measured_both, joined_measured, chain_measured};
 
-use crate::comparison::check_indices;
-use crate::fault::{Broken, Rule, earlier, rule_broken};
-use crate::index::Judged;
-use crate::scope::{Entry, Meaning, Scope, word_broken};
+use ac_affine::fault::{Broken, Rule, earlier, rule_broken};
+use ac_affine::{Entry, Judged, Meaning, Scope, check_indices, word_broken};
 use ac_grammar::tree::{Expr, Numeral, Operator, Word};
 use ac_syntax::tree::Place;
 use std::alloc::{AllocError, Global};

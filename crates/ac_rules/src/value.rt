@@ -1,11 +1,9 @@
 ghost use Rattle.std.specs.Prelude.{◌≡◌, ℕ, [], ◌∷◌, map, length, min, IfOk};
 ghost use Rattle.ac_rules.specs.Values.{Reading, value_place, placed, value_of, symbol, operator_name, array_number, read_of, access_reading, call_reading, negative_reading, group_reading, joined_reading, chain_reading, reading, value, applied_values};
-ghost use Rattle.ac_rules.specs.Meanings.{meaning};
+ghost use Rattle.ac_affine.specs.Meanings.{meaning};
 ghost use Rattle.ac_rules.specs.Measures.{built_of, built_value, built_negative, built_group, built_call, joined_built, chain_built, build};
 
-use crate::comparison::build_indices;
-use crate::index::Judged;
-use crate::scope::{Entry, Meaning, Scope};
+use ac_affine::{Entry, Judged, Meaning, Scope, build_indices};
 use ac_grammar::tree::{Expr, Numeral, Operator, Word};
 use ac_items::Items;
 use ac_syntax::name::Name;

@@ -1,22 +1,27 @@
 -- The points of a joined pair of pieces are those of both.
 use Rattle.std.proofs.Common.{◌≡◌, ◌↔◌, ◌⊎◌, inl, inr, ℕ, zero, suc, ◌+◌, ◌-◌, ◌<◌, ◌≤◌, ℤ, pos, nat_le, List, [], ◌∷◌, ◌++◌, append_assoc, length, map, take, drop, replicate, get_or, Bool, true, false, refl, sym, ap, ◌∙◌, subst, arith}
 use Rattle.std.specs.Prelude.{if◌then◌else◌}
-use Rattle.std.specs.List.{flat_map}
+use Rattle.std.specs.List.{flat_map, range_with_len}
 use Rattle.std.proofs.lemmas.List.{length-append, length-replicate, length-take-le, length-drop, take-append-drop}
 use Rattle.ac_forms.specs.Affine.{Affine, value_at}
-use Rattle.ac_forms.specs.Negation.{Extends, InSome}
+use Rattle.ac_forms.specs.Negation.{HasExtension}
+use Rattle.ac_forms.specs.Pieces.{IsInSome}
+use Rattle.ac_forms.specs.Renaming.{renamed_row, AreColumns}
 use Rattle.ac_forms.specs.Rows.{form_of, Holds, Meets, HasModulus, IsRowOver, AreRowsOver, IsWellMade}
 use Rattle.ac_forms.specs.declared.conj.Conj.{Conj}
 use Rattle.ac_forms.specs.declared.row.Row.{Row}
 use Rattle.ac_forms.specs.declared.row.Row.TheVariants.{Eq, Div, Ge}
+use Rattle.ac_forms.proofs.Passes.{moduli_of}
+use Rattle.ac_forms.proofs.Renamings.{rows-over}
 use Rattle.ac_forms.proofs.Values.{value_at-append}
 use Rattle.ac_cert.specs.Points.{IsPoint}
 use Rattle.ac_cert.proofs.Keeping.{Meets-append}
-use Rattle.ac_sets.specs.Moves.{moved_coefs, moved_form, moved_row, common, common_pieces}
+use Rattle.ac_sets.specs.Moves.{quotients_from, common, common_pieces}
 use Rattle.ac_sets.specs.MoveLaws.{moved-meets}
 use Rattle.ac_sets.specs.Unions.{ArePieces, IsUnion, AreFixed, IsFixed}
 use Rattle.ac_sets.specs.Unions as unions
 use Rattle.ac_sets.specs.declared.unions.Union.{Union}
+use Rattle.ac_forms.proofs.InPieces.{some-append}
 
 -- ---- rows one after the other, and further columns
 
@@ -51,30 +56,20 @@ Over-more m n (r ∷ rs) l w = ((omega (arith, w.0.0, l), w.0.1), Over-more m n 
 
 -- ---- moved rows are over more columns
 
-moved-length : (b : Bool) (n by : ℕ) (cs : List ℤ) → nat_le (length cs) n ≡ b → length (if b then cs else (take n cs ++ replicate by (pos 0)) ++ drop n cs) ≤ length cs + by
-moved-length true n by cs e = omega arith
-moved-length false n by cs e =
-    let some : n ≤ length cs = grind (arith, e) in
-    omega (arith, length-append (take n cs ++ replicate by (pos 0)) (drop n cs), length-append (take n cs) (replicate by (pos 0)), length-replicate {A = ℤ} by (pos 0), length-take-le n cs some, length-drop n cs, some)
+range-over : (first count n : ℕ) → first + count ≤ n → AreColumns n (range_with_len first count)
+range-over first zero n h = tt
+range-over first (suc count) n h = (omega (arith, h), range-over (first + 1) count n (omega (arith, h)))
 
-moved-short : (n by m : ℕ) (cs : List ℤ) → length cs ≤ m → length (moved_coefs n by cs) ≤ m + by
-moved-short n by m cs l = let e = moved-length (nat_le (length cs) n) n by cs refl in omega (arith, e, l)
-
-moved-over : (n by m : ℕ) (r : Row) → IsRowOver m r → IsRowOver (m + by) (moved_row n by r)
-moved-over n by m (Eq f) w = (moved-short n by m f.coefs w.0, tt)
-moved-over n by m (Div k f) w = (moved-short n by m f.coefs w.0, w.1)
-moved-over n by m (Ge f) w = (moved-short n by m f.coefs w.0, tt)
-
-pub moved-rows : (n by m : ℕ) (rs : List Row) → AreRowsOver m rs → AreRowsOver (m + by) (map (moved_row n by) rs)
-moved-rows n by m [] w = tt
-moved-rows n by m (r ∷ rs) w = (moved-over n by m r w.0, moved-rows n by m rs w.1)
+both-over : (n : ℕ) (ks ls : List ℕ) → AreColumns n ks → AreColumns n ls → AreColumns n (ks ++ ls)
+both-over n [] ls h g = g
+both-over n (k ∷ ks) ls h g = (h.0, both-over n ks ls h.1 g)
 
 common-made : (n : ℕ) (c d : Conj) → n ≤ c.columns → n ≤ d.columns → IsWellMade c → IsWellMade d → IsWellMade (common n c d)
 common-made n c d low lower w v =
-    let by = c.columns - n in
-    Over-both (c.columns + (d.columns - n)) c.rows (map (moved_row n by) d.rows)
-    (Over-more c.columns (c.columns + (d.columns - n)) c.rows (omega arith) w)
-    (subst (λ (m : ℕ). AreRowsOver m (map (moved_row n by) d.rows)) (omega (arith, low, lower)) (moved-rows n by d.columns d.rows v))
+    let all = c.columns + (d.columns - n) in
+    let ks = quotients_from n c.columns d.columns in
+    let over = both-over all (range_with_len 0 n) (range_with_len c.columns (d.columns - n)) (range-over 0 n all (omega (arith, low))) (range-over c.columns (d.columns - n) all (omega arith)) in
+    Over-both all c.rows (map (renamed_row ks) d.rows) (Over-more c.columns all c.rows (omega arith) w) (rows-over ks d.rows all over (moduli_of d.columns d.rows v))
 
 -- ---- points
 
@@ -96,33 +91,35 @@ pair-of n c d p more low lower w l at =
     let rest : length r ≡ d.columns - n = omega (arith, length-drop by more, room) in
     let parts : q ++ r ≡ more = take-append-drop by more in
     let whole : (p ++ q) ++ r ≡ p ++ more = append_assoc p q r ∙ ap (λ (xs : List ℤ). p ++ xs) parts in
-    let met : Meets (c.rows ++ map (moved_row n by) d.rows) ((p ++ q) ++ r) = subst (λ (xs : List ℤ). Meets (c.rows ++ map (moved_row n by) d.rows) xs) (sym whole) at.meets in
+    let moved = map (renamed_row (quotients_from n c.columns d.columns)) d.rows in
+    let met : Meets (c.rows ++ moved) ((p ++ q) ++ r) = subst (λ (xs : List ℤ). Meets (c.rows ++ moved) xs) (sym whole) at.meets in
     let one = Meets-cut c.rows c.columns (p ++ q) r (omega (arith, length-append p q, long, l, low)) w (Meets-front c.rows _ _ met) in
-    let other = subst (λ (k : ℕ). Meets (map (moved_row n k) d.rows) ((p ++ q) ++ r)) (sym long) (Meets-back c.rows (map (moved_row n by) d.rows) ((p ++ q) ++ r) met) in
+    let other = Meets-back c.rows moved ((p ++ q) ++ r) met in
+    let seam : length (p ++ q) ≡ c.columns = omega (arith, length-append p q, long, l, low) in
     record {
       first = q;
       second = r;
       whole = sym parts;
       at_first = record { long = omega (arith, length-append p q, long, l, low); meets = one };
-      at_second = record { long = omega (arith, length-append p r, rest, l, lower); meets = (moved-meets n d.rows p q r l).0 other };
+      at_second = record { long = omega (arith, length-append p r, rest, l, lower); meets = (moved-meets n c.columns d.columns d.rows p q r l seam rest).0 other };
     }
 
 pair-in : (n : ℕ) (c d : Conj) (p q r : List ℤ) → n ≤ c.columns → n ≤ d.columns → IsWellMade c → length p ≡ n → IsPoint c (p ++ q) → IsPoint d (p ++ r) → IsPoint (common n c d) (p ++ (q ++ r))
 pair-in n c d p q r low lower w l at to =
-    let by = c.columns - n in
-    let long : length q ≡ by = omega (arith, at.long, length-append p q, l, low) in
-    let met = subst (λ (k : ℕ). Meets (map (moved_row n k) d.rows) ((p ++ q) ++ r)) long ((moved-meets n d.rows p q r l).1 to.meets) in
+    let rest : length r ≡ d.columns - n = omega (arith, to.long, length-append p r, l, lower) in
+    let moved = map (renamed_row (quotients_from n c.columns d.columns)) d.rows in
+    let met = (moved-meets n c.columns d.columns d.rows p q r l at.long rest).1 to.meets in
     let one = Meets-append c.rows c.columns (p ++ q) r (omega (arith, at.long)) w at.meets in
-    let all = Meets-both c.rows (map (moved_row n by) d.rows) ((p ++ q) ++ r) one met in
+    let all = Meets-both c.rows moved ((p ++ q) ++ r) one met in
     record {
       long = omega (arith, length-append p (q ++ r), length-append q r, at.long, to.long, length-append p q, length-append p r, l, low, lower);
-      meets = subst (λ (xs : List ℤ). Meets (c.rows ++ map (moved_row n by) d.rows) xs) (append_assoc p q r) all;
+      meets = subst (λ (xs : List ℤ). Meets (c.rows ++ moved) xs) (append_assoc p q r) all;
     }
 
-as-point : (p : List ℤ) (c : Conj) → Extends p c → (more : List ℤ) × IsPoint c (p ++ more)
+as-point : (p : List ℤ) (c : Conj) → HasExtension c p → (more : List ℤ) × IsPoint c (p ++ more)
 as-point p c x = (x.0, record { long = x.1; meets = x.2 })
 
-common-extends : (n : ℕ) (c d : Conj) (p : List ℤ) → n ≤ c.columns → n ≤ d.columns → IsWellMade c → length p ≡ n → Extends p (common n c d) ↔ (Extends p c × Extends p d)
+common-extends : (n : ℕ) (c d : Conj) (p : List ℤ) → n ≤ c.columns → n ≤ d.columns → IsWellMade c → length p ≡ n → HasExtension (common n c d) p ↔ (HasExtension c p × HasExtension d p)
 common-extends n c d p low lower w l = (
   (λ x. let t = pair-of n c d p x.0 low lower w l (record { long = x.1; meets = x.2 }) in
       ((t.first, t.at_first.long, t.at_first.meets), (t.second, t.at_second.long, t.at_second.meets))),
@@ -140,49 +137,35 @@ common-fixed n c d low lower w one other p q r l at to =
 
 -- ---- lists of pieces
 
-pub InSome-front : (p : List ℤ) (cs ds : List Conj) → InSome p cs → InSome p (cs ++ ds)
-InSome-front p [] ds h = absurd h
-InSome-front p (c ∷ cs) ds (inl h) = inl h
-InSome-front p (c ∷ cs) ds (inr h) = inr (InSome-front p cs ds h)
-
-pub InSome-back : (p : List ℤ) (cs ds : List Conj) → InSome p ds → InSome p (cs ++ ds)
-InSome-back p [] ds h = h
-InSome-back p (c ∷ cs) ds h = inr (InSome-back p cs ds h)
-
-pub InSome-split : (p : List ℤ) (cs ds : List Conj) → InSome p (cs ++ ds) → InSome p cs ⊎ InSome p ds
-InSome-split p [] ds h = inr h
-InSome-split p (c ∷ cs) ds (inl h) = inl (inl h)
-InSome-split p (c ∷ cs) ds (inr h) = elim (InSome-split p cs ds h) [ inl a ↦ inl (inr a) | inr b ↦ inr b ]
-
-one-out : (n : ℕ) (c : Conj) (ds : List Conj) (p : List ℤ) → n ≤ c.columns → IsWellMade c → ArePieces n ds → length p ≡ n → InSome p (map (common n c) ds) → Extends p c × InSome p ds
+one-out : (n : ℕ) (c : Conj) (ds : List Conj) (p : List ℤ) → n ≤ c.columns → IsWellMade c → ArePieces n ds → length p ≡ n → IsInSome HasExtension (map (common n c) ds) p → HasExtension c p × IsInSome HasExtension ds p
 one-out n c [] p low w v l h = absurd h
 one-out n c (d ∷ ds) p low w v l (inl h) = let x = (common-extends n c d p low v.0 w l).0 h in (x.0, inl x.1)
 one-out n c (d ∷ ds) p low w v l (inr h) = let x = one-out n c ds p low w v.2 l h in (x.0, inr x.1)
 
-one-in : (n : ℕ) (c : Conj) (ds : List Conj) (p : List ℤ) → n ≤ c.columns → IsWellMade c → ArePieces n ds → length p ≡ n → Extends p c → InSome p ds → InSome p (map (common n c) ds)
+one-in : (n : ℕ) (c : Conj) (ds : List Conj) (p : List ℤ) → n ≤ c.columns → IsWellMade c → ArePieces n ds → length p ≡ n → HasExtension c p → IsInSome HasExtension ds p → IsInSome HasExtension (map (common n c) ds) p
 one-in n c [] p low w v l x h = absurd h
 one-in n c (d ∷ ds) p low w v l x (inl h) = inl ((common-extends n c d p low v.0 w l).1 (x, h))
 one-in n c (d ∷ ds) p low w v l x (inr h) = inr (one-in n c ds p low w v.2 l x h)
 
-all-out : (n : ℕ) (cs ds : List Conj) (p : List ℤ) → ArePieces n cs → ArePieces n ds → length p ≡ n → InSome p (common_pieces n cs ds) → InSome p cs × InSome p ds
+all-out : (n : ℕ) (cs ds : List Conj) (p : List ℤ) → ArePieces n cs → ArePieces n ds → length p ≡ n → IsInSome HasExtension (common_pieces n cs ds) p → IsInSome HasExtension cs p × IsInSome HasExtension ds p
 all-out n [] ds p w v l h = absurd h
-all-out n (c ∷ cs) ds p w v l h = elim (InSome-split p (map (common n c) ds) (common_pieces n cs ds) h) [
+all-out n (c ∷ cs) ds p w v l h = elim ((some-append HasExtension (map (common n c) ds) (common_pieces n cs ds) p).0 h) [
   | inl a ↦ (let x = one-out n c ds p w.0 w.1 v l a in (inl x.0, x.1))
   | inr b ↦ (let x = all-out n cs ds p w.2 v l b in (inr x.0, x.1))
 ]
 
-all-in : (n : ℕ) (cs ds : List Conj) (p : List ℤ) → ArePieces n cs → ArePieces n ds → length p ≡ n → InSome p cs → InSome p ds → InSome p (common_pieces n cs ds)
+all-in : (n : ℕ) (cs ds : List Conj) (p : List ℤ) → ArePieces n cs → ArePieces n ds → length p ≡ n → IsInSome HasExtension cs p → IsInSome HasExtension ds p → IsInSome HasExtension (common_pieces n cs ds) p
 all-in n [] ds p w v l x h = absurd x
-all-in n (c ∷ cs) ds p w v l (inl x) h = InSome-front p (map (common n c) ds) (common_pieces n cs ds) (one-in n c ds p w.0 w.1 v l x h)
-all-in n (c ∷ cs) ds p w v l (inr x) h = InSome-back p (map (common n c) ds) (common_pieces n cs ds) (all-in n cs ds p w.2 v l x h)
+all-in n (c ∷ cs) ds p w v l (inl x) h = (some-append HasExtension (map (common n c) ds) (common_pieces n cs ds) p).1 (inl (one-in n c ds p w.0 w.1 v l x h))
+all-in n (c ∷ cs) ds p w v l (inr x) h = (some-append HasExtension (map (common n c) ds) (common_pieces n cs ds) p).1 (inr (all-in n cs ds p w.2 v l x h))
 
 pub common-points : (a b u : Union) → a.visible ≡ b.visible → IsUnion a → IsUnion b → u.visible ≡ a.visible → u.pieces ≡ common_pieces a.visible a.pieces b.pieces → (p : List ℤ) → unions.Holds u p ↔ (unions.Holds a p × unions.Holds b p)
 common-points a b u e w v s t p =
     let second : ArePieces a.visible b.pieces = subst (λ (n : ℕ). ArePieces n b.pieces) (sym e) v in (
       (λ h. let l = h.0 ∙ s in
-          let x = all-out a.visible a.pieces b.pieces p w second l (subst (InSome p) t h.1) in
+          let x = all-out a.visible a.pieces b.pieces p w second l (subst (λ (cs : List Conj). IsInSome HasExtension cs p) t h.1) in
           ((l, x.0), (l ∙ e, x.1))),
-      (λ h. (h.0.0 ∙ sym s, subst (InSome p) (sym t) (all-in a.visible a.pieces b.pieces p w second h.0.0 h.0.1 h.1.1))),
+      (λ h. (h.0.0 ∙ sym s, subst (λ (cs : List Conj). IsInSome HasExtension cs p) (sym t) (all-in a.visible a.pieces b.pieces p w second h.0.0 h.0.1 h.1.1))),
     )
 
 pub Pieces-both : (n : ℕ) (cs ds : List Conj) → ArePieces n cs → ArePieces n ds → ArePieces n (cs ++ ds)

@@ -4,3 +4,4 @@ pub mod Commons
 pub mod Branches
 pub mod Outsides
 pub mod Standing
+pub mod Moving

@@ -8,7 +8,8 @@ use Rattle.ac_integers.proofs.Divisors.{divides-true, divides-false}
 use Rattle.ac_integers.proofs.Floor.{positive_is}
 use Rattle.ac_integers.proofs.Products.{mul-le-mul_ℤ, mul-add_ℤ, neg-mul_ℤ}
 use Rattle.ac_forms.specs.Affine.{Affine, value_at, shifted}
-use Rattle.ac_forms.specs.Negation.{negation, NegationFits, Extends, InSome, InNone, AreApart, opposite, above, below, with_column, piece}
+use Rattle.ac_forms.specs.Negation.{negation, NegationFits, opposite, above, below, with_column, piece, HasExtension}
+use Rattle.ac_forms.specs.Pieces.{IsInSome, IsInNone, IsInOneAtMost}
 use Rattle.ac_forms.specs.Rows.{Holds, Meets, HasModulus, IsRowOver, AreRowsOver, IsWellMade}
 use Rattle.ac_forms.specs.declared.conj.Conj.{Conj}
 use Rattle.ac_forms.specs.declared.row.Row.{Row}
@@ -20,7 +21,8 @@ use Rattle.ac_cert.specs.Rules.{with_row}
 use Rattle.ac_cert.proofs.Keeping.{Meets-append, Meets-push, made-push}
 use Rattle.ac_sets.specs.Differences.{further, outside, NegationsFit}
 use Rattle.ac_sets.specs.Unions.{ArePieces, IsFixed, AreFixed}
-use Rattle.ac_sets.proofs.Commons.{Meets-front, Meets-back, Meets-both, Meets-cut, Over-both, Over-more, InSome-front, InSome-back, InSome-split, Pieces-both, Fixed-both}
+use Rattle.ac_sets.proofs.Commons.{Meets-front, Meets-back, Meets-both, Meets-cut, Over-both, Over-more, Pieces-both, Fixed-both}
+use Rattle.ac_forms.proofs.InPieces.{some-append, none-of}
 
 -- ---- the loop over the rows
 
@@ -188,66 +190,62 @@ outside-fixed c rs w v = fixed-of c.columns (outside c rs) (outside-parts c rs w
 
 -- ---- the points of the pieces
 
-further-out : (c d : Conj) (p : List ℤ) → IsWellMade c → length p ≡ c.columns → Extends p (further c d) → Meets c.rows p × Extends p d
+further-out : (c d : Conj) (p : List ℤ) → IsWellMade c → length p ≡ c.columns → HasExtension (further c d) p → Meets c.rows p × HasExtension d p
 further-out c d p w l x = (Meets-cut c.rows c.columns p x.0 (omega (arith, l)) w (Meets-front c.rows d.rows (p ++ x.0) x.2), (x.0, x.1, Meets-back c.rows d.rows (p ++ x.0) x.2))
 
-further-in : (c d : Conj) (p : List ℤ) → IsWellMade c → length p ≡ c.columns → Meets c.rows p → Extends p d → Extends p (further c d)
+further-in : (c d : Conj) (p : List ℤ) → IsWellMade c → length p ≡ c.columns → Meets c.rows p → HasExtension d p → HasExtension (further c d) p
 further-in c d p w l m x = (x.0, x.1, Meets-both c.rows d.rows (p ++ x.0) (Meets-append c.rows c.columns p x.0 (omega (arith, l)) w m) x.2)
 
-some-out : (c : Conj) (ds : List Conj) (p : List ℤ) → IsWellMade c → length p ≡ c.columns → InSome p (map (further c) ds) → Meets c.rows p × InSome p ds
+some-out : (c : Conj) (ds : List Conj) (p : List ℤ) → IsWellMade c → length p ≡ c.columns → IsInSome HasExtension (map (further c) ds) p → Meets c.rows p × IsInSome HasExtension ds p
 some-out c [] p w l h = absurd h
 some-out c (d ∷ ds) p w l (inl h) = let x = further-out c d p w l h in (x.0, inl x.1)
 some-out c (d ∷ ds) p w l (inr h) = let x = some-out c ds p w l h in (x.0, inr x.1)
 
-some-in : (c : Conj) (ds : List Conj) (p : List ℤ) → IsWellMade c → length p ≡ c.columns → Meets c.rows p → InSome p ds → InSome p (map (further c) ds)
+some-in : (c : Conj) (ds : List Conj) (p : List ℤ) → IsWellMade c → length p ≡ c.columns → Meets c.rows p → IsInSome HasExtension ds p → IsInSome HasExtension (map (further c) ds) p
 some-in c [] p w l m h = absurd h
 some-in c (d ∷ ds) p w l m (inl h) = inl (further-in c d p w l m h)
 some-in c (d ∷ ds) p w l m (inr h) = inr (some-in c ds p w l m h)
 
-outside-out : (c : Conj) (rs : List Row) (p : List ℤ) → IsWellMade c → AreRowsOver c.columns rs → length p ≡ c.columns → InSome p (outside c rs) → Meets c.rows p × (¬ Meets rs p)
+outside-out : (c : Conj) (rs : List Row) (p : List ℤ) → IsWellMade c → AreRowsOver c.columns rs → length p ≡ c.columns → IsInSome HasExtension (outside c rs) p → Meets c.rows p × (¬ Meets rs p)
 outside-out c [] p w v l h = absurd h
-outside-out c (r ∷ rs) p w v l h = elim (InSome-split p (map (further c) (negation c.columns r)) (outside (with_row c r) rs) h) [
+outside-out c (r ∷ rs) p w v l h = elim ((some-append HasExtension (map (further c) (negation c.columns r)) (outside (with_row c r) rs) p).0 h) [
   | inl a ↦ (let x = some-out c (negation c.columns r) p w l a in (x.0, (λ m. (complement c.columns r p v.0 l).1 x.1 m.0)))
   | inr b ↦ (let x = outside-out (with_row c r) rs p (made-push c.columns c.rows r w v.0) v.1 l b in (Meets-front c.rows (r ∷ []) p x.0, (λ m. x.1 m.1)))
 ]
 
-outside-in : (c : Conj) (rs : List Row) (p : List ℤ) → IsWellMade c → AreRowsOver c.columns rs → length p ≡ c.columns → Meets c.rows p → (¬ Meets rs p) → InSome p (outside c rs)
+outside-in : (c : Conj) (rs : List Row) (p : List ℤ) → IsWellMade c → AreRowsOver c.columns rs → length p ≡ c.columns → Meets c.rows p → (¬ Meets rs p) → IsInSome HasExtension (outside c rs) p
 outside-in c [] p w v l m h = absurd (h tt)
 outside-in c (r ∷ rs) p w v l m h = elim (holds-either r p) [
-  | inl held ↦ InSome-back p (map (further c) (negation c.columns r)) (outside (with_row c r) rs) (outside-in (with_row c r) rs p (made-push c.columns c.rows r w v.0) v.1 l (Meets-push c.rows r p m held) (λ k. h (held, k)))
-  | inr failed ↦ InSome-front p (map (further c) (negation c.columns r)) (outside (with_row c r) rs) (some-in c (negation c.columns r) p w l m ((complement c.columns r p v.0 l).0 failed))
+  | inl held ↦ (some-append HasExtension (map (further c) (negation c.columns r)) (outside (with_row c r) rs) p).1 (inr (outside-in (with_row c r) rs p (made-push c.columns c.rows r w v.0) v.1 l (Meets-push c.rows r p m held) (λ k. h (held, k))))
+  | inr failed ↦ (some-append HasExtension (map (further c) (negation c.columns r)) (outside (with_row c r) rs) p).1 (inl (some-in c (negation c.columns r) p w l m ((complement c.columns r p v.0 l).0 failed)))
 ]
 
-pub outside-points : (c : Conj) (rs : List Row) (p : List ℤ) → IsWellMade c → AreRowsOver c.columns rs → length p ≡ c.columns → (Meets c.rows p × (¬ Meets rs p)) ↔ InSome p (outside c rs)
+pub outside-points : (c : Conj) (rs : List Row) (p : List ℤ) → IsWellMade c → AreRowsOver c.columns rs → length p ≡ c.columns → (Meets c.rows p × (¬ Meets rs p)) ↔ IsInSome HasExtension (outside c rs) p
 outside-points c rs p w v l = ((λ h. outside-in c rs p w v l h.0 h.1), (λ h. outside-out c rs p w v l h))
 
 -- ---- no point is in two pieces
 
-none-of : (p : List ℤ) (cs : List Conj) → (¬ InSome p cs) → InNone p cs
-none-of p [] h = tt
-none-of p (c ∷ cs) h = ((λ x. h (inl x)), none-of p cs (λ x. h (inr x)))
-
-none-both : (p : List ℤ) (cs ds : List Conj) → InNone p cs → InNone p ds → InNone p (cs ++ ds)
+none-both : (p : List ℤ) (cs ds : List Conj) → IsInNone HasExtension cs p → IsInNone HasExtension ds p → IsInNone HasExtension (cs ++ ds) p
 none-both p [] ds h g = g
 none-both p (c ∷ cs) ds h g = (h.0, none-both p cs ds h.1 g)
 
-apart-both : (p : List ℤ) (cs ds : List Conj) → AreApart p cs → AreApart p ds → (InSome p cs → InNone p ds) → AreApart p (cs ++ ds)
+apart-both : (p : List ℤ) (cs ds : List Conj) → IsInOneAtMost HasExtension cs p → IsInOneAtMost HasExtension ds p → (IsInSome HasExtension cs p → IsInNone HasExtension ds p) → IsInOneAtMost HasExtension (cs ++ ds) p
 apart-both p [] ds h g n = g
 apart-both p (c ∷ cs) ds h g n = ((λ x. none-both p cs ds (h.0 x) (n (inl x))), apart-both p cs ds h.1 g (λ x. n (inr x)))
 
-none-further : (p : List ℤ) (c : Conj) (ds : List Conj) → InNone p ds → InNone p (map (further c) ds)
+none-further : (p : List ℤ) (c : Conj) (ds : List Conj) → IsInNone HasExtension ds p → IsInNone HasExtension (map (further c) ds) p
 none-further p c [] h = tt
 none-further p c (d ∷ ds) h = ((λ x. h.0 (x.0, x.1, Meets-back c.rows d.rows (p ++ x.0) x.2)), none-further p c ds h.1)
 
-apart-further : (p : List ℤ) (c : Conj) (ds : List Conj) → AreApart p ds → AreApart p (map (further c) ds)
+apart-further : (p : List ℤ) (c : Conj) (ds : List Conj) → IsInOneAtMost HasExtension ds p → IsInOneAtMost HasExtension (map (further c) ds) p
 apart-further p c [] h = tt
 apart-further p c (d ∷ ds) h = ((λ x. none-further p c ds (h.0 (x.0, x.1, Meets-back c.rows d.rows (p ++ x.0) x.2))), apart-further p c ds h.1)
 
-pub outside-apart : (c : Conj) (rs : List Row) (p : List ℤ) → IsWellMade c → AreRowsOver c.columns rs → length p ≡ c.columns → AreApart p (outside c rs)
+pub outside-apart : (c : Conj) (rs : List Row) (p : List ℤ) → IsWellMade c → AreRowsOver c.columns rs → length p ≡ c.columns → IsInOneAtMost HasExtension (outside c rs) p
 outside-apart c [] p w v l = tt
 outside-apart c (r ∷ rs) p w v l =
     let made = made-push c.columns c.rows r w v.0 in
     apart-both p (map (further c) (negation c.columns r)) (outside (with_row c r) rs) (apart-further p c (negation c.columns r) (apart c.columns r p l)) (outside-apart (with_row c r) rs p made v.1 l)
-    (λ x. none-of p (outside (with_row c r) rs) (λ y.
+    (λ x. none-of HasExtension (outside (with_row c r) rs) p (λ y.
     let no = (complement c.columns r p v.0 l).1 (some-out c (negation c.columns r) p w l x).1 in
     no (Meets-back c.rows (r ∷ []) p (outside-out (with_row c r) rs p made v.1 l y).0).0))

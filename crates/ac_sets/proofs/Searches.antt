@@ -1,10 +1,11 @@
 -- The search of a union for a point, and the tests of its pieces.
 use Rattle.std.proofs.Common.{◌≡◌, ◌⊎◌, inl, inr, ℕ, zero, suc, ◌+◌, ◌-◌, ◌<◌, ◌≤◌, ℤ, List, [], ◌∷◌, ◌++◌, length, take, drop, drop_of_length-le, get_or, refl, sym, ap, ◌∙◌, subst, arith, min}
 use Rattle.std.proofs.lemmas.List.{drop_more, length-append, length-take-le, take-append-drop, take-take}
-use Rattle.ac_forms.specs.Negation.{Extends, InSome}
+use Rattle.ac_forms.specs.Negation.{HasExtension}
+use Rattle.ac_forms.specs.Pieces.{IsInSome}
 use Rattle.ac_forms.specs.Rows.{IsWellMade, Meets, CanTest}
 use Rattle.ac_forms.specs.declared.conj.Conj.{Conj}
-use Rattle.ac_sets.specs.Unions.{ArePieces, AreWithin, IsUnion, Holds, IsMet, IsSomeMet, CanSearch}
+use Rattle.ac_sets.specs.Unions.{ArePieces, AreWithin, IsUnion, Holds, IsMet, CanSearch}
 use Rattle.ac_sets.specs.declared.unions.Union.{Union}
 
 -- the pieces before piece i are not met: what is left to search
@@ -12,8 +13,8 @@ pub record SearchHalfway (cs : List Conj) (p : List ℤ) (i : ℕ) : Type 0 wher
   pub room : i ≤ length cs
   pub onward : CanSearch cs p → CanSearch (drop i cs) p
   pub back : CanSearch (drop i cs) p → CanSearch cs p
-  pub met : IsSomeMet p cs → IsSomeMet p (drop i cs)
-  pub meets : IsSomeMet p (drop i cs) → IsSomeMet p cs
+  pub met : IsInSome IsMet cs p → IsInSome IsMet (drop i cs) p
+  pub meets : IsInSome IsMet (drop i cs) p → IsInSome IsMet cs p
 
 pub search_start : (cs : List Conj) (p : List ℤ) → SearchHalfway cs p 0
 search_start cs p = record { room = omega arith; onward = λ f. f; back = λ f. f; met = λ f. f; meets = λ f. f }
@@ -21,7 +22,7 @@ search_start cs p = record { room = omega arith; onward = λ f. f; back = λ f. 
 split-at : (cs : List Conj) (i : ℕ) (c : Conj) → i < length cs → c ≡ get_or cs i c → drop i cs ≡ c ∷ drop (i + 1) cs
 split-at cs i c m e = rw e (drop_more cs i c m)
 
-not-first : (p : List ℤ) (c : Conj) (cs : List Conj) → ¬ IsMet p c → IsSomeMet p (c ∷ cs) → IsSomeMet p cs
+not-first : (p : List ℤ) (c : Conj) (cs : List Conj) → ¬ IsMet c p → IsInSome IsMet (c ∷ cs) p → IsInSome IsMet cs p
 not-first p c cs n (inl h) = absurd (n h)
 not-first p c cs n (inr h) = h
 
@@ -37,7 +38,7 @@ search_step cs p i c h m e can not =
     }
 
 -- a piece that is met decides
-pub search_found : (cs : List Conj) (p : List ℤ) (i : ℕ) (c : Conj) → SearchHalfway cs p i → i < length cs → c ≡ get_or cs i c → CanTest c.rows (take c.columns p) → Meets c.rows (take c.columns p) → CanSearch cs p × IsSomeMet p cs
+pub search_found : (cs : List Conj) (p : List ℤ) (i : ℕ) (c : Conj) → SearchHalfway cs p i → i < length cs → c ≡ get_or cs i c → CanTest c.rows (take c.columns p) → Meets c.rows (take c.columns p) → CanSearch cs p × IsInSome IsMet cs p
 search_found cs p i c h m e can met =
     let d = split-at cs i c m e in
     (h.back (rw d (can, λ n. absurd (n met))), h.meets (rw d (inl met)))
@@ -45,7 +46,7 @@ search_found cs p i c h m e can met =
 pub search_wide : (cs : List Conj) (p : List ℤ) (i : ℕ) (c : Conj) → SearchHalfway cs p i → i < length cs → c ≡ get_or cs i c → ¬ CanTest c.rows (take c.columns p) → ¬ CanSearch cs p
 search_wide cs p i c h m e wide f = let d = split-at cs i c m e in wide (rw d at (h.onward f)).0
 
-pub search_end : (cs : List Conj) (p : List ℤ) (i : ℕ) → SearchHalfway cs p i → length cs ≤ i → CanSearch cs p × (¬ IsSomeMet p cs)
+pub search_end : (cs : List Conj) (p : List ℤ) (i : ℕ) → SearchHalfway cs p i → length cs ≤ i → CanSearch cs p × (¬ IsInSome IsMet cs p)
 search_end cs p i h l = let d = drop_of_length-le cs l in (h.back (rw d tt), λ f. rw d at (h.met f))
 
 pub ruleset search_steps = (search_start, search_step, search_found, search_wide, search_end)
@@ -108,7 +109,7 @@ within_end n cs i h l = let d = drop_of_length-le cs l in h.back (rw d tt)
 pub ruleset within_steps = (within_start, within_step, within_more, within_end)
 
 -- a piece that is met holds the point's front
-met-extends : (n : ℕ) (c : Conj) (p : List ℤ) → n ≤ c.columns → c.columns ≤ length p → IsMet p c → Extends (take n p) c
+met-extends : (n : ℕ) (c : Conj) (p : List ℤ) → n ≤ c.columns → c.columns ≤ length p → IsMet c p → HasExtension c (take n p)
 met-extends n c p low high met =
     let q = take c.columns p in
     let l : length q ≡ c.columns = length-take-le c.columns p high in
@@ -116,14 +117,14 @@ met-extends n c p low high met =
     let whole : take n p ++ drop n q ≡ q = ap (λ (xs : List ℤ). xs ++ drop n q) (sym front) ∙ take-append-drop n q in
     (drop n q, ap (λ (xs : List ℤ). length xs) whole ∙ l, subst (λ (xs : List ℤ). Meets c.rows xs) (sym whole) met)
 
-some-met : (n : ℕ) (cs : List Conj) (p : List ℤ) → ArePieces n cs → AreWithin (length p) cs → IsSomeMet p cs → InSome (take n p) cs
+some-met : (n : ℕ) (cs : List Conj) (p : List ℤ) → ArePieces n cs → AreWithin (length p) cs → IsInSome IsMet cs p → IsInSome HasExtension cs (take n p)
 some-met n [] p w v m = m
 some-met n (c ∷ cs) p w v (inl m) = inl (met-extends n c p w.0 v.0 m)
 some-met n (c ∷ cs) p w v (inr m) = inr (some-met n cs p w.2 v.1 m)
 
-visible-within : (n : ℕ) (cs : List Conj) (p : List ℤ) → ArePieces n cs → AreWithin (length p) cs → IsSomeMet p cs → n ≤ length p
+visible-within : (n : ℕ) (cs : List Conj) (p : List ℤ) → ArePieces n cs → AreWithin (length p) cs → IsInSome IsMet cs p → n ≤ length p
 visible-within n [] p w v m = absurd m
 visible-within n (c ∷ cs) p w v m = omega (arith, w.0, v.0)
 
-pub met-holds : (u : Union) (p : List ℤ) → IsUnion u → AreWithin (length p) u.pieces → IsSomeMet p u.pieces → Holds u (take u.visible p)
+pub met-holds : (u : Union) (p : List ℤ) → IsUnion u → AreWithin (length p) u.pieces → IsInSome IsMet u.pieces p → Holds u (take u.visible p)
 met-holds u p w v m = (length-take-le u.visible p (visible-within u.visible u.pieces p w v m), some-met u.visible u.pieces p w v m)

@@ -1,13 +1,15 @@
 -- All ends of the tree of a difference are accepted: their rows stand on the path.
 use Rattle.std.proofs.Common.{◌≡◌, ◌⊎◌, inl, inr, ℕ, zero, suc, ◌+◌, ◌-◌, ◌<◌, ◌≤◌, nat_le, ℤ, pos, negsuc, neg_ℤ, ◌+ℤ◌, ◌-ℤ◌, ◌*ℤ◌, ◌≤ℤ◌, List, [], ◌∷◌, ◌++◌, append_assoc, append-nil, length, map, take, drop, replicate, slice_get, Option, Some, None, Bool, true, false, ◌&&◌, ◌||◌, cond, refl, sym, ap, ◌∙◌, subst, arith}
 use Rattle.std.specs.Prelude.{if◌then◌else◌}
-use Rattle.std.specs.List.{list_any, list_all}
+use Rattle.std.specs.List.{list_all, range_with_len}
+use Rattle.std.proofs.lemmas.Int.{ints}
 use Rattle.std.proofs.lemmas.List.{length-append, length-map, length-replicate, replicate-append-replicate}
 use Rattle.std.proofs.lemmas.List.Folds.{list_all-append}
 use Rattle.std.proofs.Math.Seq.{take-append_seam, drop-append_seam}
 use Rattle.ac_forms.specs.Affine.{Affine, shifted}
 use Rattle.ac_forms.specs.Negation.{opposite, above, below, with_column, piece, negation}
 use Rattle.ac_forms.specs.Orders.{row_eq}
+use Rattle.ac_forms.specs.Renaming.{add_at, renamed_coefs, renamed, renamed_row}
 use Rattle.ac_forms.specs.Rows.{form_of, IsRowOver, AreRowsOver, IsWellMade}
 use Rattle.ac_forms.specs.Ties.{row_equiv}
 use Rattle.ac_forms.specs.declared.conj.Conj.{Conj}
@@ -19,8 +21,9 @@ use Rattle.ac_cert.specs.declared.types.Rule.{Rule}
 use Rattle.ac_cert.proofs.Keeping.{made-push}
 use Rattle.ac_cert.proofs.Truths.{true-nat_le}
 use Rattle.ac_sets.specs.Differences.{further, outside}
-use Rattle.ac_sets.specs.Ends.{is_among, stands, is_standing, conj_of, part_refusal}
-use Rattle.ac_sets.specs.Moves.{moved_coefs, moved_form, moved_row}
+use Rattle.ac_sets.specs.Ends.{stands, is_standing, conj_of, part_refusal}
+use Rattle.ac_forms.specs.Standing.{is_among}
+use Rattle.ac_sets.specs.Moves.{quotients_from}
 use Rattle.ac_cert.specs.Branches.{with_floor, behind}
 use Rattle.ac_sets.specs.Paths.{piece_count, SidesStand, EndsStand}
 use Rattle.ac_sets.specs.declared.parts.Part.{Part}
@@ -36,21 +39,21 @@ or-true false b e = e
 and-both : (a b : Bool) → a ≡ true → b ≡ true → (a && b) ≡ true
 and-both a b e f = rw (e, f) refl
 
-among-last : (rows : List Row) (r : Row) → is_among (rows ++ r ∷ []) r ≡ true
+among-last : (rows : List Row) (r : Row) → is_among r (rows ++ r ∷ []) ≡ true
 among-last [] r = rw (row_equiv.refl r) refl
-among-last (s ∷ rows) r = or-true (row_eq s r) (is_among (rows ++ r ∷ []) r) (among-last rows r)
+among-last (s ∷ rows) r = or-true (row_eq s r) (is_among r (rows ++ r ∷ [])) (among-last rows r)
 
-among-more : (rows : List Row) (s r : Row) → is_among rows r ≡ true → is_among (rows ++ s ∷ []) r ≡ true
+among-more : (rows : List Row) (s r : Row) → is_among r rows ≡ true → is_among r (rows ++ s ∷ []) ≡ true
 among-more [] s r e = absurd cc
-among-more (x ∷ rows) s r e = elim (either_of (row_eq x r) (is_among rows r) e) [
+among-more (x ∷ rows) s r e = elim (either_of (row_eq x r) (is_among r rows) e) [
   | inl a ↦ rw a refl
-  | inr b ↦ or-true (row_eq x r) (is_among (rows ++ s ∷ []) r) (among-more rows s r b)
+  | inr b ↦ or-true (row_eq x r) (is_among r (rows ++ s ∷ [])) (among-more rows s r b)
 ]
 
 -- the second path has the rows of the first and no fewer columns
 record Grows (c d : Conj) : Type 0 where
   wide : c.columns ≤ d.columns
-  rows : (r : Row) → is_among c.rows r ≡ true → is_among d.rows r ≡ true
+  rows : (r : Row) → is_among r c.rows ≡ true → is_among r d.rows ≡ true
 
 grows-row : (c : Conj) (s : Row) → Grows c (with_row c s)
 grows-row c s = record { wide = omega arith; rows = λ r e. among-more c.rows s r e }
@@ -81,7 +84,7 @@ grows-behind c (Div m f) =
     grows-on c zero (behind c (Div m f)) (grows-floor c m f)
     (grows-on zero one (behind c (Div m f)) (grows-row zero high) (grows-on one two (behind c (Div m f)) (grows-row one same) (grows-on two three (behind c (Div m f)) (grows-row two whole) (grows-row three (Div m f)))))
 
-behind-last : (c : Conj) (r : Row) → is_among (behind c r).rows r ≡ true
+behind-last : (c : Conj) (r : Row) → is_among r (behind c r).rows ≡ true
 behind-last c (Ge f) = among-last c.rows (Ge f)
 behind-last c (Eq f) = among-last (with_row (with_row c (Ge f)) (Ge (opposite f))).rows (Eq f)
 behind-last c (Div m f) = among-last (with_row (with_row (with_row (with_floor c m f) (Ge (with_column c.columns m (opposite f)))) (Eq (with_column c.columns (neg_ℤ m) f))) (Div m (with_column c.columns (neg_ℤ m) f))).rows (Div m f)
@@ -89,13 +92,13 @@ behind-last c (Div m f) = among-last (with_row (with_row (with_row (with_floor c
 -- all of the rows are among those of the path
 abbrev pub AllAmong : List Row → List Row → Type 0
 AllAmong rows [] = Unit {0}
-AllAmong rows (r ∷ rs) = (is_among rows r ≡ true) × AllAmong rows rs
+AllAmong rows (r ∷ rs) = (is_among r rows ≡ true) × AllAmong rows rs
 
 all-grow : (c d : Conj) (rs : List Row) → Grows c d → AllAmong c.rows rs → AllAmong d.rows rs
 all-grow c d [] g h = tt
 all-grow c d (r ∷ rs) g h = (g.rows r h.0, all-grow c d rs g h.1)
 
-all-push : (rows rs : List Row) (r : Row) → AllAmong rows rs → is_among rows r ≡ true → AllAmong rows (rs ++ r ∷ [])
+all-push : (rows rs : List Row) (r : Row) → AllAmong rows rs → is_among r rows ≡ true → AllAmong rows (rs ++ r ∷ [])
 all-push rows [] r h e = (e, tt)
 all-push rows (s ∷ rs) r h e = (h.0, all-push rows rs r h.1 e)
 
@@ -103,55 +106,94 @@ all-mine : (front rs : List Row) → AllAmong (front ++ rs) rs
 all-mine front [] = tt
 all-mine front (r ∷ rs) =
     let e = append_assoc front (r ∷ []) rs in
-    (subst (λ (xs : List Row). is_among xs r ≡ true) e (among-front (front ++ r ∷ []) rs r (among-last front r)), subst (λ (xs : List Row). AllAmong xs rs) e (all-mine (front ++ r ∷ []) rs))
+    (subst (λ (xs : List Row). is_among r xs ≡ true) e (among-front (front ++ r ∷ []) rs r (among-last front r)), subst (λ (xs : List Row). AllAmong xs rs) e (all-mine (front ++ r ∷ []) rs))
   where
-    among-front : (rows more : List Row) (r : Row) → is_among rows r ≡ true → is_among (rows ++ more) r ≡ true
+    among-front : (rows more : List Row) (r : Row) → is_among r rows ≡ true → is_among r (rows ++ more) ≡ true
     among-front [] more r e = absurd cc
-    among-front (x ∷ rows) more r e = elim (either_of (row_eq x r) (is_among rows r) e) [
+    among-front (x ∷ rows) more r e = elim (either_of (row_eq x r) (is_among r rows) e) [
       | inl a ↦ rw a refl
-      | inr b ↦ or-true (row_eq x r) (is_among (rows ++ more) r) (among-front rows more r b)
+      | inr b ↦ or-true (row_eq x r) (is_among r (rows ++ more)) (among-front rows more r b)
     ]
 
 -- ---- moved rows
 
+-- behind so many zeros, where there is a number
+put : ℕ → List ℤ → List ℤ
+put j [] = []
+put j (c ∷ cs) = replicate j (pos 0) ++ c ∷ cs
+
+put-zero : (cs : List ℤ) → put 0 cs ≡ cs
+unfolding put
+put-zero [] = refl
+put-zero (c ∷ cs) = refl
+
+alone : (c : ℤ) → pos 0 +ℤ c ≡ c
+alone c = omega (arith, ints)
+
+front : (j : ℕ) (c : ℤ) (cs : List ℤ) → add_at j c (replicate (suc j) (pos 0) ++ cs) ≡ replicate j (pos 0) ++ c ∷ cs
+front zero c cs = ap (λ x. x ∷ cs) (alone c)
+front (suc j) c cs = ap (λ xs. pos 0 ∷ xs) (front j c cs)
+
+front-empty : (j : ℕ) (c : ℤ) → add_at j c [] ≡ replicate j (pos 0) ++ c ∷ []
+front-empty zero c = refl
+front-empty (suc j) c = ap (λ xs. pos 0 ∷ xs) (front-empty j c)
+
+front-put : (j k : ℕ) (c : ℤ) (cs : List ℤ) → k ≡ suc j → add_at j c (put k cs) ≡ replicate j (pos 0) ++ c ∷ cs
+unfolding put
+front-put j k c [] e = front-empty j c
+front-put j k c (d ∷ ds) e = ap (λ m. add_at j c (replicate m (pos 0) ++ d ∷ ds)) e ∙ front j c (d ∷ ds)
+
+empty : (ks : List ℕ) → renamed_coefs ks [] ≡ []
+empty [] = refl
+empty (k ∷ ks) = refl
+
 -- rows of the visible columns do not move
-still-coefs : (n by : ℕ) (cs : List ℤ) → length cs ≤ n → moved_coefs n by cs ≡ cs
-still-coefs n by cs l = rw (true-nat_le (length cs) n l) refl
+still-block : (j n : ℕ) (more : List ℕ) (cs : List ℤ) → length cs ≤ n → renamed_coefs (range_with_len j n ++ more) cs ≡ put j cs
+unfolding put
+still-block j n more [] l = empty (range_with_len j n ++ more)
+still-block j zero more (c ∷ cs) l = absurd (omega (arith, l))
+still-block j (suc n) more (c ∷ cs) l = ap (add_at j c) (still-block (j + 1) n more cs (omega (arith, l))) ∙ front-put j (j + 1) c cs (omega arith)
 
-still-form : (n by : ℕ) (f : Affine) → length f.coefs ≤ n → moved_form n by f ≡ f
-still-form n by f l = let e = still-coefs n by f.coefs l in λ i. record { konst = f.konst; coefs = e i }
+still-form : (n : ℕ) (more : List ℕ) (f : Affine) → length f.coefs ≤ n → renamed (range_with_len 0 n ++ more) f ≡ f
+still-form n more f l = let e = still-block 0 n more f.coefs l ∙ put-zero f.coefs in λ i. record { konst = f.konst; coefs = e i }
 
-still-row : (n by : ℕ) (r : Row) → IsRowOver n r → moved_row n by r ≡ r
-still-row n by (Eq f) w = ap Eq (still-form n by f w.0)
-still-row n by (Div m f) w = ap (Div m) (still-form n by f w.0)
-still-row n by (Ge f) w = ap Ge (still-form n by f w.0)
+still-row : (n : ℕ) (more : List ℕ) (r : Row) → IsRowOver n r → renamed_row (range_with_len 0 n ++ more) r ≡ r
+still-row n more (Eq f) w = ap Eq (still-form n more f w.0)
+still-row n more (Div m f) w = ap (Div m) (still-form n more f w.0)
+still-row n more (Ge f) w = ap Ge (still-form n more f w.0)
 
-still-all : (n by : ℕ) (rows rs : List Row) → AreRowsOver n rs → AllAmong rows rs → list_all (λ r. is_among rows (moved_row n by r)) rs ≡ true
-still-all n by rows [] w h = refl
-still-all n by rows (r ∷ rs) w h =
-    let here : is_among rows (moved_row n by r) ≡ true = ap (is_among rows) (still-row n by r w.0) ∙ h.0 in
-    and-both _ _ here (still-all n by rows rs w.1 h.1)
+still-all : (n : ℕ) (more : List ℕ) (rows rs : List Row) → AreRowsOver n rs → AllAmong rows rs → list_all (λ r. is_among (renamed_row (range_with_len 0 n ++ more) r) rows) rs ≡ true
+still-all n more rows [] w h = refl
+still-all n more rows (r ∷ rs) w h =
+    let here : is_among (renamed_row (range_with_len 0 n ++ more) r) rows ≡ true = ap (λ (r : Row). is_among r rows) (still-row n more r w.0) ∙ h.0 in
+    and-both _ _ here (still-all n more rows rs w.1 h.1)
 
 -- a form with a further column moves with it
-column-cases : (b : Bool) (n by w : ℕ) (cs : List ℤ) (k : ℤ) → nat_le (length ((cs ++ replicate (n - length cs) (pos 0)) ++ k ∷ [])) n ≡ b → length cs ≤ n → w ≡ n + by
-    → (if b then (cs ++ replicate (n - length cs) (pos 0)) ++ k ∷ [] else (take n ((cs ++ replicate (n - length cs) (pos 0)) ++ k ∷ []) ++ replicate by (pos 0)) ++ drop n ((cs ++ replicate (n - length cs) (pos 0)) ++ k ∷ [])) ≡ (cs ++ replicate (w - length cs) (pos 0)) ++ k ∷ []
-column-cases true n by w cs k e l s =
-    let zeros = replicate (n - length cs) (pos 0) in
-    let a : length (cs ++ zeros) ≡ n = omega (arith, length-append cs zeros, length-replicate {A = ℤ} (n - length cs) (pos 0), l) in
-    let whole : length ((cs ++ zeros) ++ k ∷ []) ≡ n + 1 = omega (arith, length-append (cs ++ zeros) (k ∷ []), a) in
-    absurd (grind (arith, e, whole))
-column-cases false n by w cs k e l s =
-    let zeros = replicate (n - length cs) (pos 0) in
-    let a : length (cs ++ zeros) ≡ n = omega (arith, length-append cs zeros, length-replicate {A = ℤ} (n - length cs) (pos 0), l) in
-    let front : take n ((cs ++ zeros) ++ k ∷ []) ≡ cs ++ zeros = ap (λ (j : ℕ). take j ((cs ++ zeros) ++ k ∷ [])) (sym a) ∙ take-append_seam (cs ++ zeros) (k ∷ []) in
-    let back : drop n ((cs ++ zeros) ++ k ∷ []) ≡ k ∷ [] = ap (λ (j : ℕ). drop j ((cs ++ zeros) ++ k ∷ [])) (sym a) ∙ drop-append_seam (cs ++ zeros) (k ∷ []) in
-    let more : (cs ++ zeros) ++ replicate by (pos 0) ≡ cs ++ replicate (n - length cs + by) (pos 0) = append_assoc cs zeros (replicate by (pos 0)) ∙ ap (λ (zs : List ℤ). cs ++ zs) (replicate-append-replicate (n - length cs) by (pos 0)) in
-    let count : n - length cs + by ≡ w - length cs = omega (arith, l, s) in
-    ap (λ (xs : List ℤ). (xs ++ replicate by (pos 0)) ++ drop n ((cs ++ zeros) ++ k ∷ [])) front ∙ ap (λ (ys : List ℤ). ((cs ++ zeros) ++ replicate by (pos 0)) ++ ys) back
-    ∙ ap (λ (xs : List ℤ). xs ++ k ∷ []) (more ∙ ap (λ (j : ℕ). cs ++ replicate j (pos 0)) count)
+last-block : (j n w : ℕ) (ds : List ℤ) (k : ℤ) → length ds ≡ n → j + n ≤ w → renamed_coefs (range_with_len j n ++ w ∷ []) (ds ++ k ∷ []) ≡ replicate j (pos 0) ++ (ds ++ (replicate (w - (j + n)) (pos 0) ++ k ∷ []))
+last-block j zero w [] k e l =
+    front-empty w k ∙ ap (λ (m : ℕ). replicate m (pos 0) ++ k ∷ []) count ∙ ap (λ (zs : List ℤ). zs ++ k ∷ []) (sym (replicate-append-replicate j (w - (j + 0)) (pos 0))) ∙ append_assoc (replicate j (pos 0)) (replicate (w - (j + 0)) (pos 0)) (k ∷ [])
+  where
+    count : w ≡ j + (w - (j + 0))
+    count = omega (arith, l)
+last-block j zero w (d ∷ ds) k e l = absurd (omega (arith, e))
+last-block j (suc n) w [] k e l = absurd (omega (arith, e))
+last-block j (suc n) w (d ∷ ds) k e l =
+    let rest = last-block (j + 1) n w ds k (omega (arith, e)) (omega (arith, l)) in
+    let tail : ℕ → List ℤ = λ m. ds ++ (replicate m (pos 0) ++ k ∷ []) in
+    let next : j + 1 ≡ suc j = omega arith in
+    let count : w - (j + 1 + n) ≡ w - (j + suc n) = omega arith in
+    ap (add_at j d) rest ∙ ap (λ (m : ℕ). add_at j d (replicate m (pos 0) ++ tail (w - (j + 1 + n)))) next ∙ front j d (tail (w - (j + 1 + n))) ∙ ap (λ (m : ℕ). replicate j (pos 0) ++ d ∷ tail m) count
 
-moved-column : (n by w : ℕ) (k : ℤ) (g : Affine) → length g.coefs ≤ n → w ≡ n + by → moved_form n by (with_column n k g) ≡ with_column w k g
-moved-column n by w k g l s = let e = column-cases (nat_le (length (with_column n k g).coefs) n) n by w g.coefs k refl l s in λ i. record { konst = g.konst; coefs = e i }
+moved-column : (n w : ℕ) (k : ℤ) (g : Affine) → length g.coefs ≤ n → n ≤ w → renamed (range_with_len 0 n ++ w ∷ []) (with_column n k g) ≡ with_column w k g
+moved-column n w k g l s =
+    let zeros = replicate (n - length g.coefs) (pos 0) in
+    let a : length (g.coefs ++ zeros) ≡ n = omega (arith, length-append g.coefs zeros, length-replicate {A = ℤ} (n - length g.coefs) (pos 0), l) in
+    let whole = last-block 0 n w (g.coefs ++ zeros) k a (omega (arith, s)) in
+    let more : (g.coefs ++ zeros) ++ replicate (w - n) (pos 0) ≡ g.coefs ++ replicate (w - length g.coefs) (pos 0) =
+    append_assoc g.coefs zeros (replicate (w - n) (pos 0)) ∙ ap (λ (zs : List ℤ). g.coefs ++ zs) (replicate-append-replicate (n - length g.coefs) (w - n) (pos 0)) ∙ ap (λ (j : ℕ). g.coefs ++ replicate j (pos 0)) (omega (arith, l, s)) in
+    let count : w - (0 + n) ≡ w - n = omega arith in
+    let e = whole ∙ ap (λ (j : ℕ). (g.coefs ++ zeros) ++ (replicate j (pos 0) ++ k ∷ [])) count ∙ sym (append_assoc (g.coefs ++ zeros) (replicate (w - n) (pos 0)) (k ∷ [])) ∙ ap (λ (xs : List ℤ). xs ++ k ∷ []) more in
+    λ i. record { konst = g.konst; coefs = e i }
 
 -- ---- pieces that stand
 
@@ -173,19 +215,19 @@ on-behind n here path r w h =
     }
 
 side : (n : ℕ) (here path end d : Conj) → On n here path → Grows path end → n ≤ d.columns → d.columns ≤ end.columns
-    → list_all (λ r. is_among end.rows (moved_row n (end.columns - d.columns) r)) d.rows ≡ true → stands n end (further here d) ≡ true
+    → list_all (λ r. is_among (renamed_row (quotients_from n (end.columns - (d.columns - n)) d.columns) r) end.rows) d.rows ≡ true → stands n end (further here d) ≡ true
 side n here path end d on g low high all =
-    let by = end.columns - d.columns in
-    let test = λ (r : Row). is_among end.rows (moved_row n by r) in
-    let mine = still-all n by end.rows here.rows on.over (all-grow path end here.rows g on.rows) in
+    let more = range_with_len (end.columns - (d.columns - n)) (d.columns - n) in
+    let test = λ (r : Row). is_among (renamed_row (range_with_len 0 n ++ more) r) end.rows in
+    let mine = still-all n more end.rows here.rows on.over (all-grow path end here.rows g on.rows) in
     let both : list_all test (here.rows ++ d.rows) ≡ true = list_all-append test here.rows d.rows ∙ and-both (list_all test here.rows) (list_all test d.rows) mine all in
     rw (true-nat_le n d.columns low, true-nat_le d.columns end.columns high) both
 
-flat-side : (n : ℕ) (here path end : Conj) (g : Affine) → On n here path → Grows path end → length g.coefs ≤ n → is_among end.rows (Ge g) ≡ true → stands n end (further here (piece here.columns (Ge g ∷ []))) ≡ true
+flat-side : (n : ℕ) (here path end : Conj) (g : Affine) → On n here path → Grows path end → length g.coefs ≤ n → is_among (Ge g) end.rows ≡ true → stands n end (further here (piece here.columns (Ge g ∷ []))) ≡ true
 flat-side n here path end g on grow short e =
-    let by = end.columns - here.columns in
-    let here_is : is_among end.rows (moved_row n by (Ge g)) ≡ true = ap (is_among end.rows) (still-row n by (Ge g) (short, tt)) ∙ e in
-    side n here path end (piece here.columns (Ge g ∷ [])) on grow (omega (arith, on.columns)) (omega (arith, on.columns, on.wide, grow.wide)) (and-both (is_among end.rows (moved_row n by (Ge g))) true here_is refl)
+    let more = range_with_len (end.columns - (here.columns - n)) (here.columns - n) in
+    let here_is : is_among (renamed_row (range_with_len 0 n ++ more) (Ge g)) end.rows ≡ true = ap (λ (r : Row). is_among r end.rows) (still-row n more (Ge g) (short, tt)) ∙ e in
+    side n here path end (piece here.columns (Ge g ∷ [])) on grow (omega (arith, on.columns)) (omega (arith, on.columns, on.wide, grow.wide)) (and-both (is_among (renamed_row (range_with_len 0 n ++ more) (Ge g)) end.rows) true here_is refl)
 
 minus-length : (cs : List ℤ) (n : ℕ) → length cs ≤ n → length (map (λ c. negsuc 0 *ℤ c) cs) ≤ n
 minus-length cs n h = omega (arith, h, length-map cs (λ (c : ℤ). negsuc 0 *ℤ c))
@@ -200,15 +242,16 @@ div_piece n m f = piece (n + 1) (Ge (with_column n (neg_ℤ m) (above f)) ∷ Ge
 div-side : (n : ℕ) (here path : Conj) (m : ℤ) (f : Affine) → On n here path → length f.coefs ≤ n → stands n (between path m f) (further here (div_piece n m f)) ≡ true
 div-side n here path m f on short =
     let end = between path m f in
-    let by = end.columns - (n + 1) in
-    let wide : path.columns ≡ n + by = omega (arith, on.wide) in
+    let one : n + 1 - n ≡ 1 = omega arith in
+    let wide : path.columns + 1 - (n + 1 - n) ≡ path.columns = omega arith in
+    let ks : quotients_from n (path.columns + 1 - (n + 1 - n)) (n + 1) ≡ range_with_len 0 n ++ path.columns ∷ [] = λ i. range_with_len 0 n ++ range_with_len (wide i) (one i) in
     let low = with_column path.columns (neg_ℤ m) (above f) in
     let high = with_column path.columns m (shifted (opposite f) (m -ℤ pos 1)) in
     let grow = grows-on path (with_floor path m f) end (grows-floor path m f) (grows-row (with_floor path m f) (Ge low)) in
-    let first = ap Ge (moved-column n by path.columns (neg_ℤ m) (above f) short wide) in
-    let second = ap Ge (moved-column n by path.columns m (shifted (opposite f) (m -ℤ pos 1)) (minus-length f.coefs n short) wide) in
-    let a = ap (is_among end.rows) first ∙ among-last (with_floor path m f).rows (Ge low) in
-    let b = ap (is_among end.rows) second ∙ among-more (with_floor path m f).rows (Ge low) (Ge high) (among-last (with_column_row path (Ge (with_column path.columns (neg_ℤ m) f))).rows (Ge high)) in
+    let first = ap (λ (xs : List ℕ). Ge (renamed xs (with_column n (neg_ℤ m) (above f)))) ks ∙ ap Ge (moved-column n path.columns (neg_ℤ m) (above f) short on.wide) in
+    let second = ap (λ (xs : List ℕ). Ge (renamed xs (with_column n m (shifted (opposite f) (m -ℤ pos 1))))) ks ∙ ap Ge (moved-column n path.columns m (shifted (opposite f) (m -ℤ pos 1)) (minus-length f.coefs n short) on.wide) in
+    let a = ap (λ (r : Row). is_among r end.rows) first ∙ among-last (with_floor path m f).rows (Ge low) in
+    let b = ap (λ (r : Row). is_among r end.rows) second ∙ among-more (with_floor path m f).rows (Ge low) (Ge high) (among-last (with_column_row path (Ge (with_column path.columns (neg_ℤ m) f))).rows (Ge high)) in
     side n here path end (div_piece n m f) on grow (omega arith) (omega (arith, on.wide)) (and-both _ _ a (and-both _ true b refl))
 
 -- ---- all ends
@@ -251,7 +294,7 @@ inside-stands : (parts : Parts) (path : Conj) (done : List Row) → IsWellMade p
 inside-stands parts path done made wide whole seen =
     let n = parts.inside.columns in
     let all = subst (λ (rs : List Row). AllAmong path.rows rs) (sym (whole ∙ append-nil done)) seen in
-    rw (true-nat_le n n (omega arith), true-nat_le n path.columns wide, still-all n (path.columns - n) path.rows parts.inside.rows made all) refl
+    rw (true-nat_le n n (omega arith), true-nat_le n path.columns wide, still-all n (range_with_len (path.columns - (n - n)) (n - n)) path.rows parts.inside.rows made all) refl
 
 pub ends-stand : (parts : Parts) (rs : List Row) (here path : Conj) (k : ℕ) (done : List Row) → IsWellMade parts.inside → Onward parts rs here path k done → EndsStand (part_refusal parts) rs path k
 ends-stand parts [] here path k done made h = inside-stands parts path done made h.on.wide h.whole h.seen

@@ -5,7 +5,6 @@ use Rattle.std.specs.List.{list_any, list_all}
 use Rattle.std.specs.Ordering.{int_eq}
 use Rattle.std.proofs.lemmas.Int.{ints}
 use Rattle.std.proofs.lemmas.List.{length-append, length-take-le, length-drop, take-append-drop}
-use Rattle.ac_forms.specs.Negation.{Extends}
 use Rattle.ac_forms.specs.Orders.{row_eq, form_eq}
 use Rattle.ac_forms.specs.Rows.{Holds, Meets}
 use Rattle.ac_forms.specs.Affine.{Affine}
@@ -13,14 +12,18 @@ use Rattle.ac_forms.specs.declared.conj.Conj.{Conj}
 use Rattle.ac_forms.specs.declared.row.Row.{Row}
 use Rattle.ac_forms.specs.declared.row.Row.TheVariants.{Eq, Div, Ge}
 use Rattle.ac_forms.proofs.Joining.{lists_same, both_of, either_of}
+use Rattle.ac_forms.proofs.Standings.{among-holds}
 use Rattle.ac_cert.specs.Points.{IsPoint}
 use Rattle.ac_cert.specs.declared.types.Rule.{Rule}
 use Rattle.ac_cert.specs.declared.types.Rule.TheVariants as rule
-use Rattle.ac_sets.specs.Ends.{conj_of, is_among, stands, is_standing, part_refusal, ExtendsSome, IsInPart}
-use Rattle.ac_sets.specs.Moves.{moved_row}
+use Rattle.ac_sets.specs.Ends.{conj_of, stands, is_standing, part_refusal, ExtendsSome, IsInPart}
+use Rattle.ac_forms.specs.Renaming.{renamed_row}
+use Rattle.ac_forms.specs.Standing.{is_among}
+use Rattle.ac_sets.specs.Moves.{quotients_from}
 use Rattle.ac_sets.specs.MoveLaws.{moved-holds}
 use Rattle.ac_sets.specs.declared.parts.Part.{Part}
 use Rattle.ac_sets.specs.declared.parts.Parts.{Parts}
+use Rattle.ac_forms.specs.Negation.{HasExtension}
 
 same-int : (x y : ℤ) → int_eq x y ≡ true → x ≡ y
 same-int x y e = grind (arith, ints, e)
@@ -46,19 +49,14 @@ same-row (Ge f) (Eq g) e = absurd cc
 same-row (Ge f) (Div m g) e = absurd cc
 same-row (Ge f) (Ge g) e = ap Ge (same-form f g e)
 
-among-holds : (rows : List Row) (r : Row) (p : List ℤ) → is_among rows r ≡ true → Meets rows p → Holds r p
-among-holds [] r p e h = absurd cc
-among-holds (s ∷ rows) r p e h = elim (either_of (row_eq s r) (is_among rows r) e) [
-  | inl same ↦ subst (λ (x : Row). Holds x p) (same-row s r same) h.0
-  | inr later ↦ among-holds rows r p later h.1
-]
-
 -- what stands on the path holds at its points
-standing-meets : (n : ℕ) (rows rs : List Row) (front gap back : List ℤ) → length front ≡ n → list_all (λ r. is_among rows (moved_row n (length gap) r)) rs ≡ true → Meets rows ((front ++ gap) ++ back) → Meets rs (front ++ back)
-standing-meets n rows [] front gap back l e h = tt
-standing-meets n rows (r ∷ rs) front gap back l e h =
-    let b = both_of _ _ e in
-    ((moved-holds n r front gap back l).0 (among-holds rows (moved_row n (length gap) r) ((front ++ gap) ++ back) b.0 h), standing-meets n rows rs front gap back l b.1 h)
+standing-meets : (n at columns : ℕ) (rows rs : List Row) (front gap back : List ℤ) → length front ≡ n → length (front ++ gap) ≡ at → length back ≡ columns - n → list_all (λ r. is_among (renamed_row (quotients_from n at columns) r) rows) rs ≡ true → Meets rows ((front ++ gap) ++ back) → Meets rs (front ++ back)
+standing-meets n at columns rows [] front gap back l m k e h = tt
+standing-meets n at columns rows (r ∷ rs) front gap back l m k e h =
+    let b = both_of _ _ e in (
+      (moved-holds n at columns r front gap back l m k).0 (among-holds (renamed_row (quotients_from n at columns) r) rows ((front ++ gap) ++ back) b.0 h),
+      standing-meets n at columns rows rs front gap back l m k b.1 h,
+    )
 
 -- the numbers of the visible columns, of columns between, and of the last columns
 record Cut (n by : ℕ) (p : List ℤ) : Type 0 where
@@ -88,13 +86,14 @@ cut n by p room =
       last = omega (arith, length-drop by rest, left, room);
     }
 
-cut-extends : (n : ℕ) (path c : Conj) (p : List ℤ) → n ≤ c.columns → c.columns ≤ path.columns → list_all (λ r. is_among path.rows (moved_row n (path.columns - c.columns) r)) c.rows ≡ true → IsPoint path p → Cut n (path.columns - c.columns) p → Extends (take n p) c
+cut-extends : (n : ℕ) (path c : Conj) (p : List ℤ) → n ≤ c.columns → c.columns ≤ path.columns → list_all (λ r. is_among (renamed_row (quotients_from n (path.columns - (c.columns - n)) c.columns) r) path.rows) c.rows ≡ true → IsPoint path p → Cut n (path.columns - c.columns) p → HasExtension c (take n p)
 cut-extends n path c p low high e at x =
     let met = subst (Meets path.rows) (sym x.whole) at.meets in
-    let all = subst (λ (by : ℕ). list_all (λ r. is_among path.rows (moved_row n by r)) c.rows ≡ true) (sym x.between) e in
-    let meets = standing-meets n path.rows c.rows x.front x.gap x.back x.first all met in
+    let seam : length (x.front ++ x.gap) ≡ path.columns - (c.columns - n) = omega (arith, length-append x.front x.gap, x.first, x.between, low, high) in
+    let rest : length x.back ≡ c.columns - n = omega (arith, x.last, at.long, low, high) in
+    let meets = standing-meets n (path.columns - (c.columns - n)) c.columns path.rows c.rows x.front x.gap x.back x.first seam rest e met in
     let long : length (x.front ++ x.back) ≡ c.columns = omega (arith, length-append x.front x.back, x.first, x.last, at.long, low, high) in
-    subst (λ (q : List ℤ). Extends q c) x.taken (x.back, long, meets)
+    subst (λ (q : List ℤ). HasExtension c q) x.taken (x.back, long, meets)
 
 standing-in : (n : ℕ) (path : Conj) (p : List ℤ) (o : Option Conj) → is_standing n path o ≡ true → IsPoint path p → ExtendsSome (take n p) o
 standing-in n path p None e at = absurd cc

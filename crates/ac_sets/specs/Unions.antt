@@ -1,10 +1,11 @@
 -- Unions of conjunctions over visible columns. What columns a piece has behind the visible ones are its quotients.
-use Rattle.std.specs.Prelude.{◌≡◌, ◌⊎◌, ℕ, ◌≤◌, ℤ, List, [], ◌∷◌, ◌++◌, length, take}
-use Rattle.ac_forms.specs.Negation.{InSome}
+use Rattle.std.specs.Prelude.{◌≡◌, ℕ, ◌≤◌, ℤ, List, [], ◌∷◌, ◌++◌, length, take}
 use Rattle.ac_forms.specs.Rows.{IsWellMade, Meets, CanTest}
 use Rattle.ac_forms.specs.declared.conj.Conj.{Conj}
 use Rattle.ac_cert.specs.Points.{IsPoint}
 use Rattle.ac_sets.specs.declared.unions.Union.{Union}
+use Rattle.ac_forms.specs.Negation.{HasExtension}
+use Rattle.ac_forms.specs.Pieces.{IsInSome}
 
 -- each conjunction is well made and has these columns
 abbrev pub ArePieces : ℕ → List Conj → Type 0
@@ -17,7 +18,7 @@ IsUnion u = ArePieces u.visible u.pieces
 
 -- the union holds the point of visible columns: with some numbers for the further columns of one of the pieces, it meets that piece
 abbrev pub Holds : Union → List ℤ → Type 0
-Holds u p = (length p ≡ u.visible) × InSome p u.pieces
+Holds u p = (length p ≡ u.visible) × IsInSome HasExtension u.pieces p
 
 -- the rows fix the numbers behind the first columns
 abbrev pub IsFixed : ℕ → Conj → Type 0
@@ -33,15 +34,10 @@ AreWithin columns [] = Unit {0}
 AreWithin columns (c ∷ cs) = (c.columns ≤ columns) × AreWithin columns cs
 
 -- the numbers of the conjunction's columns, which are the first of the point, meet its rows
-abbrev pub IsMet : List ℤ → Conj → Type 0
-IsMet p c = Meets c.rows (take c.columns p)
-
--- one of the conjunctions is met
-abbrev pub IsSomeMet : List ℤ → List Conj → Type 0
-IsSomeMet p [] = ⊥
-IsSomeMet p (c ∷ cs) = IsMet p c ⊎ IsSomeMet p cs
+abbrev pub IsMet : Conj → List ℤ → Type 0
+IsMet c p = Meets c.rows (take c.columns p)
 
 -- the rows can be tested in `i128`, conjunction by conjunction up to the first that is met
 abbrev pub CanSearch : List Conj → List ℤ → Type 0
 CanSearch [] p = Unit {0}
-CanSearch (c ∷ cs) p = CanTest c.rows (take c.columns p) × (¬ IsMet p c → CanSearch cs p)
+CanSearch (c ∷ cs) p = CanTest c.rows (take c.columns p) × (¬ IsMet c p → CanSearch cs p)

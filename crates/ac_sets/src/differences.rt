@@ -1,6 +1,7 @@
 //! The difference of two conjunctions.
 ghost use Rattle.std.specs.Prelude.{◌≡◌, ◌↔◌, ◌++◌, map, ℕ, ℤ, List, length, OnOk, IfOk};
-ghost use Rattle.ac_forms.specs.Negation.{negation, InSome, AreApart, NegationFits};
+ghost use Rattle.ac_forms.specs.Negation.{negation, NegationFits, HasExtension};
+ghost use Rattle.ac_forms.specs.Pieces.{IsInSome, IsInOneAtMost};
 ghost use Rattle.ac_forms.specs.Rows.{IsWellMade, AreRowsOver, IsRowOver, Meets};
 ghost use Rattle.ac_forms.specs.Stops.{MadeWhere};
 ghost use Rattle.ac_cert.specs.Accepted.{Accepts};
@@ -33,8 +34,8 @@ pub fn subtract(alloc: Global, a: &Conj, b: &Conj) -> Result<Difference, FormSto
     requires first { IsWellMade a.now }
     requires second { IsWellMade b.now }
     ensures exact { MadeWhere result (NegationsFit b.now.rows) (λ d. d.pieces ≡ outside a.now b.now.rows) }
-    ensures points { IfOk result (λ d. (p : List ℤ) → length p ≡ a.now.columns → (Meets a.now.rows p × (¬ Meets b.now.rows p)) ↔ InSome p d.pieces) }
-    ensures apart { IfOk result (λ d. (p : List ℤ) → length p ≡ a.now.columns → AreApart p d.pieces) }
+    ensures points { IfOk result (λ d. (p : List ℤ) → length p ≡ a.now.columns → (Meets a.now.rows p × (¬ Meets b.now.rows p)) ↔ IsInSome HasExtension d.pieces p) }
+    ensures apart { IfOk result (λ d. (p : List ℤ) → length p ≡ a.now.columns → IsInOneAtMost HasExtension d.pieces p) }
     ensures made { IfOk result (λ d. ArePieces a.now.columns d.pieces) }
     ensures fixed { IfOk result (λ d. AreFixed a.now.columns d.pieces) }
     ensures accepted { IfOk result (λ d. Accepts d.tree (λ e c. part_refusal (record { pieces = d.pieces; inside = b.now }) e c) a.now) }

@@ -1,70 +1,76 @@
 //! Rows whose quotients stand behind further ones.
-ghost use Rattle.std.specs.Prelude.{◌≡◌, ◌≤◌, ◌++◌, map, length, IfOk, OnOk};
-ghost use Rattle.ac_sets.specs.Moves.{moved_coefs, moved_form, moved_row, common};
+ghost use Rattle.std.specs.Prelude.{◌≡◌, ◌≤◌, ◌<◌, ◌+◌, ◌-◌, ◌^◌, ◌++◌, map, IfOk, OnOk};
+ghost use Rattle.std.specs.List.{range_with_len};
+ghost use Rattle.ac_forms.specs.Renaming.{renamed_row, AreDistinct};
+ghost use Rattle.ac_sets.specs.Moves.{quotients_from, common};
 
-use ac_forms::{Conj, Form, Row};
+use ac_forms::laws::renaming_to_distinct_columns;
+use ac_forms::{Conj, FormStop, Row};
 use ac_items::Items;
 use std::alloc::{AllocError, Global};
 
-/// The coefficients, those behind the visible columns that many columns further on.
-fn moved_coefs(
+/// Adds so many columns from one on.
+#[tactic(auto, using(crate::proofs::Moving::range_steps))]
+fn push_range(list: &mut Items<usize>, first: usize, count: usize) -> Result<(), AllocError>
+    requires { first + count < 2 ^ 64 }
+    ensures { OnOk result (list.new ≡ list.old ++ range_with_len first count) }
+{
+    for k in 0..count {
+        list.push(first + k)?;
+    }
+    Ok(())
+}
+
+/// Where columns go: the visible ones stay, and those behind them, the quotients, stand from one column up to another.
+#[tactic(auto, using(crate::proofs::Moving::two_ranges))]
+pub(crate) fn quotients_from(
     alloc: Global,
     visible: usize,
-    by: usize,
-    coefs: &[i128],
-) -> Result<Vec<i128>, AllocError>
-    ensures { IfOk result (λ made. made.items ≡ moved_coefs visible by coefs.now) }
+    at: usize,
+    end: usize,
+) -> Result<Items<usize>, AllocError>
+    requires behind { visible ≤ at }
+    requires within { at ≤ end }
+    ensures value { IfOk result (λ made. made ≡ range_with_len 0 visible ++ range_with_len at (end - at)) }
+    ensures distinct { IfOk result (λ made. AreDistinct made) }
 {
-    if coefs.len() <= visible {
-        return Vec::from_slice(alloc, coefs);
-    }
-    let mut made = Vec::from_slice(alloc, &coefs[..visible])?;
-    let zeros = vec![in alloc; 0i128; by]?;
-    made.extend_from_slice(zeros.as_slice())?;
-    made.extend_from_slice(&coefs[visible..])?;
+    let mut made = Items::new(alloc);
+    push_range(&mut made, 0, visible)?;
+    push_range(&mut made, at, end - at)?;
     Ok(made)
 }
 
-fn moved_form(alloc: Global, visible: usize, by: usize, form: &Form) -> Result<Form, AllocError>
-    ensures { IfOk result (λ made. made ≡ moved_form visible by form.now) }
+/// The row among other columns, of which none stands twice.
+pub(crate) fn moved_row(alloc: Global, row: &Row, columns: &[usize]) -> Result<Row, AllocError>
+    requires { AreDistinct columns.now }
+    ensures { IfOk result (λ made. made ≡ renamed_row columns.now row.now) }
 {
-    let coefs = moved_coefs(alloc, visible, by, form.coefs())?;
-    Form::from_parts(alloc, form.konst(), coefs.as_slice())
+    renaming_to_distinct_columns(row.form(), columns);
+    match row.renamed(alloc, columns) {
+        Ok(made) => Ok(made),
+        Err(FormStop::Wide) => unreachable!(),
+        Err(FormStop::Memory(want)) => Err(want),
+    }
 }
 
-/// The row, its quotients that many columns further on.
-pub(crate) fn moved_row(
-    alloc: Global,
-    visible: usize,
-    by: usize,
-    row: &Row,
-) -> Result<Row, AllocError>
-    ensures { IfOk result (λ made. made ≡ moved_row visible by row.now) }
-{
-    Ok(match row {
-        Row::Eq(form) => Row::Eq(moved_form(alloc, visible, by, form)?),
-        Row::Div(modulus, form) => Row::Div(*modulus, moved_form(alloc, visible, by, form)?),
-        Row::Ge(form) => Row::Ge(moved_form(alloc, visible, by, form)?),
-    })
-}
-
-/// Adds rows, their quotients that many columns further on.
+/// Adds rows among other columns, of which none stands twice.
 fn push_moved(
     rows: &mut Items<Row>,
     alloc: Global,
-    visible: usize,
-    by: usize,
     further: &[Row],
+    columns: &[usize],
 ) -> Result<(), AllocError>
-    ensures { OnOk result (rows.new ≡ rows.old ++ map (moved_row visible by) further.now) }
+    requires { AreDistinct columns.now }
+    ensures { OnOk result (rows.new ≡ rows.old ++ map (renamed_row columns.now) further.now) }
 {
     for row in further {
-        rows.push(moved_row(alloc, visible, by, row)?)?;
+        rows.push(moved_row(alloc, row, columns)?)?;
     }
     Ok(())
 }
 
 /// The rows of both conjunctions, over the visible columns, the quotients of the first and those of the second.
+#[tactic(auto, using(crate::proofs::Moving::common_is))]
 pub(crate) fn common(
     alloc: Global,
     visible: usize,
@@ -75,11 +81,11 @@ pub(crate) fn common(
     requires second { visible ≤ second.now.columns }
     ensures { IfOk result (λ made. made ≡ common visible first.now second.now) }
 {
-    let Some(columns) = first.columns.checked_add(second.columns - visible) else {
+    let Some(end) = first.columns.checked_add(second.columns - visible) else {
         return Err(AllocError);
     };
+    let columns = quotients_from(alloc, visible, first.columns, end)?;
     let Conj { mut rows, .. } = first.copy(alloc)?;
-    let by = first.columns - visible;
-    push_moved(&mut rows, alloc, visible, by, second.rows.as_slice())?;
-    Ok(Conj { columns, rows })
+    push_moved(&mut rows, alloc, second.rows.as_slice(), columns.as_slice())?;
+    Ok(Conj { columns: end, rows })
 }

@@ -1,12 +1,14 @@
 //! The ends of the tree of a difference.
 ghost use Rattle.std.specs.Prelude.{◌≡◌, IfOk};
 ghost use Rattle.std.specs.Option.{option_copied};
-ghost use Rattle.ac_sets.specs.Ends.{conj_of, is_among, stands, part_refusal, IsInPart};
-ghost use Rattle.ac_sets.specs.Moves.{moved_row};
+ghost use Rattle.std.specs.List.{list_all};
+ghost use Rattle.ac_forms.specs.Renaming.{renamed_row, AreDistinct};
+ghost use Rattle.ac_forms.specs.Standing.{is_among};
+ghost use Rattle.ac_sets.specs.Ends.{conj_of, stands, part_refusal, IsInPart};
 
-use crate::moves::moved_row;
+use crate::moves::{moved_row, quotients_from};
 use ac_cert::{End, EndStop, Rule};
-use ac_forms::{Conj, Row};
+use ac_forms::{Conj, Row, is_among};
 use ac_items::Items;
 use std::alloc::{AllocError, Global};
 
@@ -38,32 +40,41 @@ fn conj_of<'a>(parts: &'a Parts, part: &Part) -> Option<&'a Conj>
     }
 }
 
-/// Whether a row is among the rows.
-fn is_among(rows: &[Row], row: &Row) -> bool
-    ensures { result ≡ is_among rows.now row.now }
+/// Whether each of the rows is among others, where its columns go to these, of which none stands twice.
+fn are_among(
+    alloc: Global,
+    rows: &[Row],
+    columns: &[usize],
+    others: &[Row],
+) -> Result<bool, AllocError>
+    requires { AreDistinct columns.now }
+    ensures { IfOk result (λ all. all ≡ list_all (λ r. is_among (renamed_row columns.now r) others.now) rows.now) }
 {
-    for other in rows {
-        if *other == *row {
-            return true;
+    for row in rows {
+        let moved = moved_row(alloc, row, columns)?;
+        if !is_among(&moved, others) {
+            return Ok(false);
         }
     }
-    false
+    Ok(true)
 }
 
 /// Whether each row of the conjunction is among those of the path, whose last columns are its further ones.
+#[tactic(auto, using(crate::proofs::Moving::stand_is))]
 fn stands(alloc: Global, visible: usize, path: &Conj, conj: &Conj) -> Result<bool, AllocError>
     ensures { IfOk result (λ standing. standing ≡ stands visible path.now conj.now) }
 {
     if conj.columns < visible || path.columns < conj.columns {
         return Ok(false);
     }
-    let by = path.columns - conj.columns;
-    for row in conj.rows.as_slice() {
-        if !is_among(path.rows.as_slice(), &moved_row(alloc, visible, by, row)?) {
-            return Ok(false);
-        }
-    }
-    Ok(true)
+    let at = path.columns - (conj.columns - visible);
+    let columns = quotients_from(alloc, visible, at, path.columns)?;
+    are_among(
+        alloc,
+        conj.rows.as_slice(),
+        columns.as_slice(),
+        path.rows.as_slice(),
+    )
 }
 
 impl End for Part {

@@ -2,7 +2,8 @@
 ghost use Rattle.std.specs.Prelude.{◌≡◌, ◌↔◌, ◌≤◌, ℤ, List, ◌++◌, take, map, length, IfOk, OnOk, IsTrue, MatchResult};
 ghost use Rattle.ac_forms.specs.Rows.{IsWellMade};
 ghost use Rattle.ac_sets.specs.Moves.{common, common_pieces};
-ghost use Rattle.ac_sets.specs.Unions.{IsUnion, ArePieces, AreFixed, AreWithin, Holds, IsSomeMet, CanSearch};
+ghost use Rattle.ac_sets.specs.Unions.{IsUnion, ArePieces, AreFixed, AreWithin, Holds, CanSearch, IsMet};
+ghost use Rattle.ac_forms.specs.Pieces.{IsInSome};
 
 use crate::moves::common;
 use ac_forms::{Conj, Wide};
@@ -53,7 +54,7 @@ impl Union {
     pub fn contains(&self, point: &[i128]) -> Result<bool, Wide>
         requires made { IsUnion self.now }
         requires columns { AreWithin (length point.now) self.now.pieces }
-        ensures exact { MatchResult result (λ held. CanSearch self.now.pieces point.now × (IsTrue held ↔ IsSomeMet point.now self.now.pieces)) (λ _. ¬ CanSearch self.now.pieces point.now) }
+        ensures exact { MatchResult result (λ held. CanSearch self.now.pieces point.now × (IsTrue held ↔ IsInSome IsMet self.now.pieces point.now)) (λ _. ¬ CanSearch self.now.pieces point.now) }
         ensures holds { IfOk result (λ held. IsTrue held → Holds self.now (take self.now.visible point.now)) }
     {
         for piece in self.pieces.as_slice() {

@@ -115,7 +115,7 @@ search_decides_pairs pair outputs recurrent template are = λ d. equal_exactly (
 true_both : (a b : Bool) → a ≡ true → b ≡ true → (a && b) ≡ true
 true_both a b e f = rw (e, f) refl
 
-symbol_self : (f : Symbol) → same_symbol f f ≡ true
+pub symbol_self : (f : Symbol) → same_symbol f f ≡ true
 symbol_self f = true_both (nat_eq f.arity f.arity) (pointwise nat_eq f.name f.name) (eq-eqb f.arity f.arity refl) ((slice_eq-Decides Decides-eqb f.name f.name _ refl).1 refl)
 
 pub sites_are_declared : SitesAreDeclared

@@ -7,5 +7,7 @@
 
 mod refuting;
 mod sums;
+mod units;
 
 pub use refuting::{Reduction, refuting_sum};
+pub use units::unit_column;

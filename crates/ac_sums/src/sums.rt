@@ -2,6 +2,7 @@
 
 ghost use Rattle.std.specs.Prelude.{◌<◌};
 
+use crate::units::unit_column;
 use ac_forms::{Form, FormStop};
 use std::alloc::{AllocError, Global};
 
@@ -18,16 +19,6 @@ pub(crate) struct Solved {
     column: usize,
     is_one: bool,
     sum: Sum,
-}
-
-/// The first column with the coefficient 1 or -1, and whether it is 1.
-fn unit_column(form: &Form) -> Option<(usize, bool)> {
-    for (column, coef) in form.coefs().iter().enumerate() {
-        if *coef == 1 || *coef == -1 {
-            return Some((column, *coef == 1));
-        }
-    }
-    None
 }
 
 impl Solved {

@@ -55,9 +55,9 @@ in_file pair vs proof name f file h is (whole_text g some text) e =
       name_is = ap (λ (x : ProofFile). Some x.name) same;
     }
 
-shown : (pair : Pair) (name : Option (List ℕ)) (file : ProofFile) (r : Report) → ProveReports pair name r → r.proof ≡ Some file → Shown pair name file
-shown pair name file r (empty_context h) e = absurd cc
-shown pair name file r (compared vs proof f h is of) e = in_file pair vs proof name f file h is of e
+shown : (pair : Pair) (budget : ℕ) (name : Option (List ℕ)) (file : ProofFile) (r : Report) → ProveReports pair budget name r → r.proof ≡ Some file → Shown pair name file
+shown pair budget name file r (empty_context stops h) e = absurd cc
+shown pair budget name file r (compared vs proof f h by is of) e = in_file pair vs proof name f file h is of e
 
 -- no other report has a file
 check_none : (files : Option Contents) (fails : ℕ → Type 0) (p : List ℕ) (pair : Pair) (file : ProofFile) (r : Report) → CheckReports files fails p pair r → r.proof ≡ Some file → ⊥
@@ -112,7 +112,7 @@ module _ (words : List (List ℕ)) (files : Option Contents) (fails : List (List
   pub asks : (r : Report) → Reports words files fails r → HasIt r → AsksFor words files file
   asks r (no_form h) e = absurd cc
   asks r (of_command (prove a b budget name) s is h) e =
-      asks_prove a b budget name is (of_pair a b (λ pair. Shown pair name file) (λ first second pair. ProveReports pair name) (λ first second pair u p k. shown pair name file u p k) s h e)
+      asks_prove a b budget name is (of_pair a b (λ pair. Shown pair name file) (λ first second pair. ProveReports pair budget name) (λ first second pair u p k. shown pair budget name file u p k) s h e)
   asks r (of_command (check_of a b p) s is h) e =
       absurd ((of_pair a b (λ pair. ⊥) (λ first second pair. CheckReports files (λ count. fails (a ∷ b ∷ replicate count p) p) p pair) (λ first second pair u q k. check_none files (λ count. fails (a ∷ b ∷ replicate count p) p) p pair file u q k) s h e).is)
   asks r (of_command (instance_of a b at limit) s is h) e =
@@ -131,7 +131,7 @@ module _ (words : List (List ℕ)) (files : Option Contents) (fails : List (List
 
     pub reports_too : (r : Report) → Reports words files fails r → HasIt r → Reports words files also r
     reports_too r (no_form h) e = absurd cc
-    reports_too r (of_command (prove a b budget name) _ is h) e = of_command (prove a b budget name) r is (files_too a b (λ first second pair. ProveReports pair name) r h e)
+    reports_too r (of_command (prove a b budget name) _ is h) e = of_command (prove a b budget name) r is (files_too a b (λ first second pair. ProveReports pair budget name) r h e)
     reports_too r (of_command (check_of a b p) s is h) e =
         absurd ((of_pair a b (λ pair. ⊥) (λ first second pair. CheckReports files (λ count. fails (a ∷ b ∷ replicate count p) p) p pair) (λ first second pair u q k. check_none files (λ count. fails (a ∷ b ∷ replicate count p) p) p pair file u q k) s h e).is)
     reports_too r (of_command (instance_of a b at limit) s is h) e =

@@ -14,6 +14,7 @@ use Rattle.ac_instance.specs.declared.halt.Outcome.{Outcome}
 use Rattle.ac_instance.specs.declared.halt.Outcome.TheVariants.{Equal, Different}
 use Rattle.ac_generated.specs.Generated.{IsGeneratedPair}
 use Rattle.ac_top.specs.Answers.{IsTheSame}
+use Rattle.ac_top.specs.Flows.{default_budget}
 use Rattle.ac_top.specs.Generated.{at_1000, RunEnds, run_halted, run_ended, status_of_both, GenReports, of_generated}
 use Rattle.ac_top.specs.Proving.{HasDifference}
 use Rattle.ac_top.specs.Reports.{Report, ProofFile}
@@ -78,7 +79,7 @@ both_done status.Halted of_run h = absurd cc
 both_done status.Stopped of_run h = absurd cc
 
 pub done_generated : (seed stages : ℕ) (r : Report) → GenReports seed stages r → r.status ≡ status.Done → (pair : Pair) × IsGeneratedPair seed stages pair × IsTheSame pair
-done_generated seed stages r (of_generated pair proved ended is p e) d = (pair, is, done_prove pair None proved p (both_done proved.status ended.status d))
+done_generated seed stages r (of_generated pair proved ended is p e) d = (pair, is, done_prove pair default_budget None proved p (both_done proved.status ended.status d))
 
 -- of two statuses the one is different, so the verdict is or the outcome of the run
 of_both : (pair : Pair) (of_verdict of_run : Status) → (of_verdict ≡ status.Different → HasDifference pair) → (of_run ≡ status.Different → HasDifference pair)
@@ -96,7 +97,7 @@ of_both pair status.Stopped of_run f g h = absurd cc
 
 pub different_generated : (seed stages : ℕ) (r : Report) → GenReports seed stages r → r.status ≡ status.Different → (pair : Pair) × IsGeneratedPair seed stages pair × HasDifference pair
 different_generated seed stages r (of_generated pair proved ended is p e) d =
-    (pair, is, of_both pair proved.status ended.status (λ k. different_prove pair None proved p k) (λ k. different_run pair ended (admits_1000 seed stages pair is) e k) d)
+    (pair, is, of_both pair proved.status ended.status (λ k. different_prove pair default_budget None proved p k) (λ k. different_run pair ended (admits_1000 seed stages pair is) e k) d)
 
 -- no file is written
 pub generated_none : (seed stages : ℕ) (file : ProofFile) (r : Report) → GenReports seed stages r → r.proof ≡ Some file → ⊥

@@ -62,7 +62,7 @@ done_file files fails a r (text_of_file bytes _ holds h) d = done_text files a b
 
 done_command : (files : Option Contents) (fails : List (List ℕ) → List ℕ → Type 0) (asked : Asked) (r : Report) → CommandReports files fails asked r → r.status ≡ status.Done → AreTheSame files asked
 done_command files fails (prove a b budget proof) r h d =
-    of_files files a b IsTheSame IsDone (λ text e. absurd cc) (λ text e. absurd cc) fails (λ first second pair. ProveReports pair proof) (λ first second pair u p e. done_prove pair proof u p e) r h d
+    of_files files a b IsTheSame IsDone (λ text e. absurd cc) (λ text e. absurd cc) fails (λ first second pair. ProveReports pair budget proof) (λ first second pair u p e. done_prove pair budget proof u p e) r h d
 done_command files fails (check_of a b p) r h d =
     of_files files a b (AreAccepted files p) IsDone (λ text e. absurd cc) (λ text e. absurd cc) fails (λ first second pair. CheckReports files (λ count. fails (a ∷ b ∷ replicate count p) p) p pair)
     (λ first second pair u q e. done_check files (λ count. fails (a ∷ b ∷ replicate count p) p) p pair u q e) r h d
@@ -82,7 +82,7 @@ IsDifferent r = r.status ≡ status.Different
 
 different_command : (files : Option Contents) (fails : List (List ℕ) → List ℕ → Type 0) (asked : Asked) (r : Report) → CommandReports files fails asked r → r.status ≡ status.Different → AreDifferent files asked
 different_command files fails (prove a b budget proof) r h d =
-    of_files files a b HasDifference IsDifferent (λ text k. absurd cc) (λ text k. absurd cc) fails (λ first second pair. ProveReports pair proof) (λ first second pair u p k. different_prove pair proof u p k) r h d
+    of_files files a b HasDifference IsDifferent (λ text k. absurd cc) (λ text k. absurd cc) fails (λ first second pair. ProveReports pair budget proof) (λ first second pair u p k. different_prove pair budget proof u p k) r h d
 different_command files fails (check_of a b p) r h d = tt
 different_command files fails (instance_of a b at limit) r h d = tt
 different_command files fails (flow_of a) r h d = tt

@@ -14,7 +14,7 @@ use Rattle.ac_syntax.specs.declared.tree.Pair.{Pair}
 use Rattle.ac_syntax.proofs.Agreeing.{same_from_terms}
 use Rattle.ac_syntax.proofs.Exact.{checked_exact}
 use Rattle.ac_instance.specs.Answers.{IsReadyAt, everything, in_context, due, AreOutcomes, compared}
-use Rattle.ac_instance.specs.Events.{Happening, event, evaluated, fits_64, unless, reached}
+use Rattle.ac_instance.specs.Events.{Event, event, evaluated, fits_64, unless, reached}
 use Rattle.ac_instance.specs.Least.{Looked}
 use Rattle.ac_instance.specs.Steps.{IsDue}
 use Rattle.ac_instance.specs.declared.halt.Halt.{Halt}
@@ -54,7 +54,7 @@ as_many_outcomes looked (o ∷ os) [] h = absurd h
 as_many_outcomes looked (o ∷ os) (r ∷ rs) h = ap suc (as_many_outcomes looked os rs h.1)
 
 -- a run that is too large exceeds its own limit
-limit_reached : (limit n : ℕ) (hs : List Happening) (m : ℕ) → reached limit n hs ≡ Err (TooLarge m) → m ≡ limit
+limit_reached : (limit n : ℕ) (hs : List Event) (m : ℕ) → reached limit n hs ≡ Err (TooLarge m) → m ≡ limit
 limit_reached limit n [] m e = absurd cc
 limit_reached limit n (event ∷ hs) m e = by (nat_lt n limit) (limit_reached limit (n + 1) hs m) e
   where

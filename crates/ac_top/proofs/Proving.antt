@@ -29,9 +29,9 @@ all_same pair (p ∷ os) (Unknown cause ∷ vs) h none sure o at = absurd cc
 all_same pair (p ∷ os) (Equal ∷ vs) h none sure o (zero, within, is) = subst (SameOutput pair) is h.0
 all_same pair (p ∷ os) (Equal ∷ vs) h none sure o (suc k, within, is) = all_same pair os vs h.1 none sure o (k, omega (arith, within), is)
 
-pub done_prove : (pair : Pair) (name : Option (List ℕ)) (r : Report) → ProveReports pair name r → r.status ≡ status.Done → IsTheSame pair
-done_prove pair name r (empty_context h) done = absurd cc
-done_prove pair name r (compared vs proof file h is of) done = let q = quiet vs done in all_same pair pair.outputs vs h q.0 q.1
+pub done_prove : (pair : Pair) (budget : ℕ) (name : Option (List ℕ)) (r : Report) → ProveReports pair budget name r → r.status ≡ status.Done → IsTheSame pair
+done_prove pair budget name r (empty_context stops h) done = absurd cc
+done_prove pair budget name r (compared vs proof file h by is of) done = let q = quiet vs done in all_same pair pair.outputs vs h q.0 q.1
 
 -- where a verdict is different, some output has a difference
 some_different : (vs : List Verdict) → status_of vs ≡ status.Different → list_any is_different vs ≡ true
@@ -60,8 +60,8 @@ found pair (o ∷ os) (Different params e ∷ vs) h some = record { output = o; 
 found pair (o ∷ os) (Unknown cause ∷ vs) h some = further pair o os (found pair os vs h.1 some)
 found pair (o ∷ os) (Equal ∷ vs) h some = further pair o os (found pair os vs h.1 some)
 
-pub different_prove : (pair : Pair) (name : Option (List ℕ)) (r : Report) → ProveReports pair name r → r.status ≡ status.Different → HasDifference pair
-different_prove pair name r (empty_context h) d = absurd cc
-different_prove pair name r (compared vs proof file h is of) d =
+pub different_prove : (pair : Pair) (budget : ℕ) (name : Option (List ℕ)) (r : Report) → ProveReports pair budget name r → r.status ≡ status.Different → HasDifference pair
+different_prove pair budget name r (empty_context stops h) d = absurd cc
+different_prove pair budget name r (compared vs proof file h by is of) d =
     let f = found pair pair.outputs vs h (some_different vs d) in
     record { output = f.output; among = f.among; params = f.params; element = f.element; is = f.is }

@@ -34,7 +34,7 @@ task_on (Check proof) files f g on a b x y pair _ (proof_unread count h) = proof
 task_on (Check proof) files f g on a b x y pair r (tested stream _ is h) = tested stream r is h
 task_on (Instance at limit) files f g on a b x y pair r h = h
 
-pub task_prove : (task : Task) {budget : _} {proof : _} (files : Option Contents) (fails : List ℕ → ℕ → Type 0) (a b x y : List ℕ) (pair : Pair) (r : Report) → task ≡ Prove budget proof → ProveReports pair (option_map (λ w. w.now) proof) r → TaskReports task files fails a b x y pair r
+pub task_prove : (task : Task) {budget : _} {proof : _} (files : Option Contents) (fails : List ℕ → ℕ → Type 0) (a b x y : List ℕ) (pair : Pair) (r : Report) → task ≡ Prove budget proof → ProveReports pair budget (option_map (λ w. w.now) proof) r → TaskReports task files fails a b x y pair r
 task_prove task files fails a b x y pair r is h = subst (λ t. TaskReports t files fails a b x y pair r) (sym is) h
 
 pub task_check : (task : Task) {proof : _} (files : Option Contents) (fails : List ℕ → ℕ → Type 0) (a b x y : List ℕ) (pair : Pair) (r : Report) → task ≡ Check proof → CheckReports files (fails proof.now) proof.now pair r → TaskReports task files fails a b x y pair r

@@ -9,7 +9,7 @@ use Rattle.ac_claims.specs.Soundness.{AreModels, pairing_of}
 use Rattle.ac_poly.specs.declared.types.Model.{Model}
 use Rattle.ac_prooftext.specs.Checks.{IsAnswer}
 use Rattle.ac_prooftext.specs.declared.types.CheckFault.TheVariants.{TooLong, TooDeep, Refused}
-use Rattle.ac_poly.specs.Faults.{IsFineAll, IsFirstAll}
+use Rattle.ac_poly.specs.Faults.{AreLowerable, IsFirstAll}
 use Rattle.ac_poly.specs.Lower.{outermost}
 use Rattle.ac_poly.specs.declared.types.LowerFault.{LowerFault}
 use Rattle.ac_syntax.specs.Outputs.{SameOutput}
@@ -76,7 +76,7 @@ pub record ArePaired (first second : List ℕ) (pair : Pair) : Type 0 where
 
 -- a program is lowered: each assignment has at most 16 pieces, and its numbers stay in 128 bits
 abbrev pub IsLowered : Program → Type 0
-IsLowered program = IsFineAll program.body 0 (outermost (length program.params)) (Unit {0})
+IsLowered program = AreLowerable program.body 0 (outermost (length program.params)) (Unit {0})
 
 -- a program is not lowered: of the first assignment that has more pieces or a larger number this is said
 pub record IsNotLowered (program : Program) (said : Complaint) : Type 0 where
@@ -132,7 +132,7 @@ pub data OneFileReports (files : Option Contents) (fails : Type 0) (a : List ℕ
 
 -- what is reported of a command; `fails` says that in this run the read of a name failed after those of others
 abbrev pub CommandReports : Option Contents → (List (List ℕ) → List ℕ → Type 0) → Asked → Report → Type 0
-CommandReports files fails (prove a b budget proof) r = FileReports files fails a b (λ first second pair. ProveReports pair proof) r
+CommandReports files fails (prove a b budget proof) r = FileReports files fails a b (λ first second pair. ProveReports pair budget proof) r
 CommandReports files fails (check_of a b p) r = FileReports files fails a b (λ first second pair. CheckReports files (λ count. fails (a ∷ b ∷ replicate count p) p) p pair) r
 CommandReports files fails (instance_of a b at limit) r = FileReports files fails a b (λ first second pair. InstanceReports a b first second pair at limit) r
 CommandReports files fails (flow_of a) r = OneFileReports files (fails [] a) a r

@@ -6,6 +6,7 @@ use Rattle.ac_instance.specs.Answers.{due, AreOutcomes, compared}
 use Rattle.ac_instance.specs.declared.halt.Outcome.{Outcome}
 use Rattle.ac_instance.specs.declared.halt.Outcome.TheVariants.{Equal, Different}
 use Rattle.ac_generated.specs.Generated.{IsGeneratedPair}
+use Rattle.ac_top.specs.Flows.{default_budget}
 use Rattle.ac_top.specs.Proving.{ProveReports}
 use Rattle.ac_top.specs.Reports.{Report, report}
 use Rattle.ac_top.specs.Runs.{RunReports, EqualIsSame, status_of}
@@ -48,5 +49,5 @@ status_of_both of_verdict of_run = of_verdict
 
 -- which pair it is, what `prove` reports of it, and how its run at N=1000 ends
 pub data GenReports (seed stages : ℕ) : Report → Type 0 where
-  of_generated : (pair : Pair) (proved ended : Report) → IsGeneratedPair seed stages pair → ProveReports pair None proved → RunEnds pair ended
+  of_generated : (pair : Pair) (proved ended : Report) → IsGeneratedPair seed stages pair → ProveReports pair default_budget None proved → RunEnds pair ended
       → GenReports seed stages (report (status_of_both proved.status ended.status) (seed_line seed stages ++ proved.text ++ ended.text))

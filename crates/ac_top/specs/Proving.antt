@@ -3,11 +3,14 @@ use Rattle.std.specs.Prelude.{◌≡◌, ◌≢◌, ℕ, ℤ, List, [], Option, 
 use Rattle.std.specs.List.{AllByRecursion, Contains}
 use Rattle.ac_syntax.specs.Outputs.{IsValuation, SameOutput}
 use Rattle.ac_syntax.specs.declared.tree.Pair.{Pair}
+use Rattle.ac_flow.specs.Contexts.{ContextStops}
+use Rattle.ac_flow.specs.declared.types.ContextStop.TheVariants.{EmptyContext}
 use Rattle.ac_claims.specs.declared.types.Proof.{Proof}
 use Rattle.ac_prooftext.specs.Texts.{proof_text}
 use Rattle.ac_report.specs.Layouts.{layout_of}
 use Rattle.ac_report.specs.Texts.{report_lines}
 use Rattle.ac_report.specs.declared.types.Verdict.{Verdict}
+use Rattle.ac_walk.specs.Causes.{IsAnswered, left_model}
 use Rattle.ac_walk.specs.Verdicts.{AreVerdicts, IsAccepted, IsDifferentAt, equal_outputs, named}
 use Rattle.ac_top.specs.Reports.{Report, report, ProofFile}
 use Rattle.ac_top.specs.Statuses.{status_of}
@@ -25,11 +28,12 @@ pub data IsFileOf (proof : Proof) : Option (List ℕ) → Option ProofFile → T
   none_equal : (name : List ℕ) → named proof ≡ [] → IsFileOf proof (Some name) None
   whole_text : (file : ProofFile) → named proof ≢ [] → file.bytes ≡ proof_text proof → IsFileOf proof (Some file.name) (Some file)
 
--- what is reported: that no valuation meets the context, or the verdicts on the outputs, with the file for their proof
-pub data ProveReports (pair : Pair) (name : Option (List ℕ)) : Report → Type 0 where
-  empty_context : ((params : List ℤ) → ¬ (IsValuation pair params)) → ProveReports pair name (report status.Refused empty_context_line)
-  compared : (verdicts : List Verdict) (proof : Proof) (file : Option ProofFile) → AreVerdicts pair pair.outputs verdicts → IsProofOf pair verdicts proof → IsFileOf proof name file
-      → ProveReports pair name (record { status = status_of verdicts; text = report_lines (layout_of pair.left) pair.outputs verdicts; proof = file })
+-- what is reported: that no valuation meets the context, as its question shows at the budget; or the verdicts on the outputs, with the file for
+-- their proof, where each is unknown if the question of the context or a flow stops at the budget
+pub data ProveReports (pair : Pair) (budget : ℕ) (name : Option (List ℕ)) : Report → Type 0 where
+  empty_context : ContextStops budget (left_model pair) EmptyContext → ((params : List ℤ) → ¬ (IsValuation pair params)) → ProveReports pair budget name (report status.Refused empty_context_line)
+  compared : (verdicts : List Verdict) (proof : Proof) (file : Option ProofFile) → AreVerdicts pair pair.outputs verdicts → IsAnswered budget pair verdicts → IsProofOf pair verdicts proof → IsFileOf proof name file
+      → ProveReports pair budget name (record { status = status_of verdicts; text = report_lines (layout_of pair.left) pair.outputs verdicts; proof = file })
 
 -- these bytes are the text of a proof that the check of proofs accepts; it names some output, and each that it names is the same
 pub record ShowsEqual (pair : Pair) (bytes : List ℕ) : Type 0 where

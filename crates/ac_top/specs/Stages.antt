@@ -133,7 +133,7 @@ IsLoweringOf a b first second pair (lowered.Refused text) = AreRefused a b first
 
 -- what a task reports of a pair of the texts of two files; `fails` says of a proof file that the read of a part failed after so many
 abbrev pub TaskReports : Task → Option Contents → (fails : List ℕ → ℕ → Type 0) → (a b first second : List ℕ) → Pair → Report → Type 0
-TaskReports (Prove budget proof) files fails a b first second = λ pair. ProveReports pair (option_map (λ w. w.now) proof)
+TaskReports (Prove budget proof) files fails a b first second = λ pair. ProveReports pair budget (option_map (λ w. w.now) proof)
 TaskReports (Check proof) files fails a b first second = CheckReports files (fails proof.now) proof.now
 TaskReports (Instance at limit) files fails a b first second = λ pair. InstanceReports a b first second pair (option_map (λ w. w.now) at) limit
 

@@ -8,8 +8,8 @@ use Rattle.ac_instance.specs.declared.halt.Outcome.TheVariants as outcome
 use Rattle.ac_syntax.specs.declared.tree.Place.{Place}
 use Rattle.ac_lex.specs.declared.tokens.LexFault.TheVariants.{BadByte, BadNumber, LongName, OpenComment}
 use Rattle.ac_lex.specs.declared.tokens.LexFault.TheVariants as lex
-use Rattle.ac_rules.specs.declared.fault.Which.{Which}
-use Rattle.ac_rules.specs.declared.fault.Which.TheVariants.{File, Nesting, Parameters, Arrays, Dimensions, Depth, Assignments, Nodes, Literal, Coefficient, Pieces}
+use Rattle.ac_affine.specs.declared.fault.Which.{Which}
+use Rattle.ac_affine.specs.declared.fault.Which.TheVariants.{File, Nesting, Parameters, Arrays, Dimensions, Depth, Assignments, Nodes, Literal, Coefficient, Pieces}
 use Rattle.ac_parse.specs.declared.faults.SourceFault.{SourceFault}
 use Rattle.ac_parse.specs.declared.faults.SourceFault.TheVariants.{Lex, Syntax, NotAffine, Undeclared, Misused, Duplicate, Endless, Limit, Memory}
 use Rattle.ac_cert.specs.Names.{name_of}

@@ -1,6 +1,7 @@
 // The work of `prove`: the verdicts on the outputs of a pair, and the file for the proof of those that are equal.
 ghost use Rattle.std.specs.Prelude.{◌≡◌, Some, option_map, IfOk};
 ghost use Rattle.ac_claims.specs.Soundness as judge;
+ghost use Rattle.ac_walk.specs.Causes.{IsAnswered};
 ghost use Rattle.ac_walk.specs.Verdicts.{AreVerdicts};
 ghost use Rattle.ac_top.specs.Proving.{ProveReports, IsProofOf, IsFileOf};
 ghost use Rattle.ac_top.specs.Stages.{file_of, models_of, written};
@@ -48,11 +49,13 @@ fn report_proved(
     alloc: Global,
     pair: &Pair,
     proved: &Proved,
+    budget: u64,
     name: Option<&[u8]>,
 ) -> Result<Report, AllocError>
     requires verdicts { AreVerdicts pair.now pair.now.outputs proved.now.verdicts }
+    requires answered { IsAnswered budget pair.now proved.now.verdicts }
     requires proof { IsProofOf pair.now proved.now.verdicts proved.now.proof }
-    ensures { IfOk result (λ r. ProveReports pair.now (option_map (λ w. w.now) name.entry) (written r)) }
+    ensures { IfOk result (λ r. ProveReports pair.now budget (option_map (λ w. w.now) name.entry) (written r)) }
 {
     let verdicts = proved.verdicts.as_slice();
     let proof = proof_file(alloc, &proved.proof, name)?;
@@ -75,11 +78,11 @@ pub fn report_prove(
 ) -> Result<Report, AllocError>
     requires paired { judge.ArePaired pair.now }
     requires models { models.now ≡ models_of pair.now }
-    ensures { IfOk result (λ r. ProveReports pair.now (option_map (λ w. w.now) name.entry) (written r)) }
+    ensures { IfOk result (λ r. ProveReports pair.now budget (option_map (λ w. w.now) name.entry) (written r)) }
 {
     let limits = Limits { budget };
     match prove(alloc, pair, models, &limits) {
-        Ok(proved) => report_proved(alloc, pair, &proved, name),
+        Ok(proved) => report_proved(alloc, pair, &proved, budget, name),
         Err(ProveStop::EmptyContext) => Ok(refused(empty_context_line(alloc)?)),
         Err(ProveStop::Memory(error)) => Err(error),
     }

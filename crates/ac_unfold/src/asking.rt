@@ -1,11 +1,11 @@
 //! Questions of an unfolding.
 
-use crate::grafting::moved_plan;
 use crate::node::Node;
 use crate::types::UnfoldStop;
 use crate::witness::continued;
 use ac_claims::types::Plan;
 use ac_forms::{Conj, Row, stands};
+use ac_graft::moved_plan;
 use ac_omega::{Decided, Decision, Stop, settle, settle_point};
 use ac_sums::{Reduction, refuting_sum};
 use ac_trim::trim;

@@ -1,10 +1,9 @@
 //! A plan under way: the node that it has come to, and the branches on rows behind which it stands.
 
-use crate::branching::{Part, branch_plan};
 use crate::node::Node;
-use crate::placing::Placing;
 use ac_claims::types::Plan;
 use ac_forms::Row;
+use ac_graft::{Part, Placing, branch_plan};
 use std::alloc::{AllocError, Global};
 
 /// A branch that is open: a row, where it was branched on, and the plans of the parts of its negation.

@@ -1,14 +1,13 @@
 //! The ends of paths: a mismatch, and rows that have to stand.
 
 use crate::asking::{Answer, asked, seen, stands_in};
-use crate::branching::{Part, parts_of};
 use crate::course::Course;
 use crate::finding::Finds;
-use crate::grafting::plan_of;
 use crate::node::Node;
 use crate::types::{Setting, UnfoldStop};
 use ac_claims::types::{Claim, Plan, PlanNext};
 use ac_forms::{FormStop, NormalRow, Row};
+use ac_graft::{Part, parts_of, plan_of};
 use ac_items::Items;
 use ac_sums::Reduction;
 use ac_syntax::tree::{Order, Site};

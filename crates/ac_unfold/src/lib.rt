@@ -3,13 +3,14 @@
 #![tactic(auto)]
 
 mod asking;
-mod branching;
+mod claiming;
 mod course;
 mod ends;
 mod finding;
-mod grafting;
+mod killing;
+mod kinds;
 mod node;
-mod placing;
+mod remaining;
 mod starting;
 pub mod types;
 mod unfolding;

@@ -1,8 +1,7 @@
 //! The state of an unfolding: a question, where it stands on the path of its plan, and the pairs of positions so far.
 
-use crate::branching::Part;
-use crate::placing::Placing;
 use ac_forms::{Conj, Row};
+use ac_graft::{Part, Placing};
 use ac_items::Items;
 use ac_paths::columns::column_after;
 use ac_paths::going::onto;

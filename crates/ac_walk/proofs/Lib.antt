@@ -2,3 +2,5 @@ pub mod Elements
 pub mod Gathered
 pub mod Spelling
 pub mod Contexts
+pub mod Flowing
+pub mod Causing

@@ -2,3 +2,4 @@ pub mod Verdicts
 pub mod Stops
 pub mod Gathering
 pub mod Deciding
+pub mod Causes

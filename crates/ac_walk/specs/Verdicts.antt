@@ -1,5 +1,5 @@
 -- What the search says of a pair, output by output, and the proof that it gives.
-use Rattle.std.specs.Prelude.{ℕ, ℤ, List, [], ◌∷◌, ◌++◌, map, Some}
+use Rattle.std.specs.Prelude.{ℕ, ◌≡◌, ℤ, List, [], ◌∷◌, ◌++◌, map, Some}
 use Rattle.std.specs.List.{AllByRecursion}
 use Rattle.ac_syntax.specs.Outputs.{IsValuation, SameOutput}
 use Rattle.ac_syntax.specs.declared.tree.Pair.{Pair}
@@ -11,6 +11,10 @@ use Rattle.ac_claims.specs.ProofFaults.{IsValidProof}
 use Rattle.ac_claims.specs.ProofMachine.{AreSpelledTrees}
 use Rattle.ac_claims.specs.Soundness.{ClaimsHaveModuli, pairing_of}
 use Rattle.ac_claims.specs.declared.types.Proof.{Proof}
+use Rattle.ac_matched.specs.Matches.{IsMatched}
+use Rattle.ac_refuted.specs.Searches.{IsUnmatched}
+use Rattle.ac_report.specs.declared.types.Cause.{Cause}
+use Rattle.ac_report.specs.declared.types.Cause.TheVariants.{Unmatched, OverflowQuestion, OverflowHull, SpentQuestion, SpentPieces, SpentPaths, SpentOrders}
 use Rattle.ac_report.specs.declared.types.Verdict.{Verdict}
 use Rattle.ac_report.specs.declared.types.Verdict.TheVariants.{Equal, Different, Unknown}
 use Rattle.ac_walk.specs.declared.types.ProveStop.{ProveStop}
@@ -20,11 +24,22 @@ use Rattle.ac_walk.specs.declared.types.ProveStop.TheVariants.{EmptyContext, Mem
 abbrev pub IsDifferentAt : Pair → ℕ → List ℤ → List ℤ → Type 0
 IsDifferentAt pair output at element = IsValuation pair at × IsLeast (compared pair at output) (Some element)
 
--- equal: the output is the same; different: at this valuation this is its least element whose terms do not agree
+-- unmatched, with refuted orders: in the setting of the search on the output each is refuted, and each order has a mismatch
+abbrev pub IsCause : Pair → ℕ → Cause → Type 0
+IsCause pair output (Unmatched refuted) = ¬ (refuted ≡ []) → IsUnmatched pair output refuted
+IsCause pair output (OverflowQuestion question) = Unit {0}
+IsCause pair output (OverflowHull members) = Unit {0}
+IsCause pair output (SpentQuestion question cost) = Unit {0}
+IsCause pair output (SpentPieces position kept) = Unit {0}
+IsCause pair output (SpentPaths paths) = Unit {0}
+IsCause pair output (SpentOrders refuted) = Unit {0}
+
+-- equal: the output is the same; different: at this valuation this is its least element whose terms do not agree; unknown: its
+-- cause is as it says
 abbrev pub IsVerdict : Pair → ℕ → Verdict → Type 0
 IsVerdict pair output Equal = SameOutput pair output
 IsVerdict pair output (Different at element) = IsDifferentAt pair output at element
-IsVerdict pair output (Unknown cause) = Unit {0}
+IsVerdict pair output (Unknown cause) = IsCause pair output cause
 
 -- one verdict for each output, in order
 abbrev pub AreVerdicts : Pair → List ℕ → List Verdict → Type 0
@@ -32,6 +47,19 @@ AreVerdicts pair [] [] = Unit {0}
 AreVerdicts pair [] (v ∷ vs) = ⊥
 AreVerdicts pair (o ∷ os) [] = ⊥
 AreVerdicts pair (o ∷ os) (v ∷ vs) = IsVerdict pair o v × AreVerdicts pair os vs
+
+-- equal: in the setting of the search on the output some order of the sites has no mismatch
+abbrev pub IsMatchedIf : Pair → ℕ → Verdict → Type 0
+IsMatchedIf pair output Equal = IsMatched pair output
+IsMatchedIf pair output (Different at element) = Unit {0}
+IsMatchedIf pair output (Unknown cause) = Unit {0}
+
+-- of each output with its verdict
+abbrev pub AreMatched : Pair → List ℕ → List Verdict → Type 0
+AreMatched pair [] [] = Unit {0}
+AreMatched pair [] (v ∷ vs) = ⊥
+AreMatched pair (o ∷ os) [] = ⊥
+AreMatched pair (o ∷ os) (v ∷ vs) = IsMatchedIf pair o v × AreMatched pair os vs
 
 -- an output, if its verdict is Equal
 abbrev pub if_equal : ℕ → Verdict → List ℕ

@@ -8,7 +8,7 @@ use crate::entries::part_of;
 use crate::keys::{Key, Template};
 use crate::rounds::{Ended, walk};
 use crate::sharing::shared;
-use crate::stops::Stop;
+use crate::stops::{Stop, early};
 use ac_graph::types::Graph;
 use ac_graph::{reachable_from, sites};
 use ac_items::Items;
@@ -26,7 +26,9 @@ pub(crate) enum Decision {
     Stands(Items<(Site, Order)>, Vec<Key>),
     /// An element differs.
     Different(Difference),
-    /// Neither is shown.
+    /// Each order is refuted.
+    Unmatched(Orders),
+    /// None of these is shown.
     Unknown(Cause),
 }
 
@@ -153,7 +155,7 @@ fn try_order(
         Ok(Ended::Mismatch(why)) => {
             refute(alloc, pair, reach, orders, tried, order.as_slice(), why)
         }
-        Err(Stop::Early(cause)) => Ok(Further::Decided(Decision::Unknown(cause))),
+        Err(Stop::Early(cause)) => Ok(Further::Decided(Decision::Unknown(early(alloc, cause)))),
         Err(Stop::Memory(want)) => Err(want),
     }
 }
@@ -171,7 +173,7 @@ fn unmatched(
 {
     match try_refuted(alloc, pair, reach.number, tried, orders.refuted())? {
         Some(found) => Ok(Decision::Different(found)),
-        None => Ok(Decision::Unknown(Cause::Unmatched(orders.into_refuted()))),
+        None => Ok(Decision::Unmatched(orders)),
     }
 }
 
@@ -240,7 +242,7 @@ pub(crate) fn decide(
     if !reach.shared.is_empty() {
         let stops = all_stops(alloc, reach)?;
         match decide_up_to(alloc, pair, setting, template, reach, stops.as_slice())? {
-            Decision::Unknown(_) => {}
+            Decision::Unmatched(_) | Decision::Unknown(_) => {}
             decision => return Ok(decision),
         }
     }

@@ -3,17 +3,8 @@
 use ac_forms::{Form, FormStop, Row};
 use ac_integers::is_multiple;
 use ac_items::Items;
+use ac_sums::unit_column;
 use std::alloc::{AllocError, Global};
-
-/// The first column with the coefficient 1 or -1, and whether it is 1.
-fn unit_column(form: &Form) -> Option<(usize, bool)> {
-    for (column, coef) in form.coefs().iter().enumerate() {
-        if *coef == 1 || *coef == -1 {
-            return Some((column, *coef == 1));
-        }
-    }
-    None
-}
 
 /// The factor with which an equality takes a column out of a form, where it has the coefficient 1 or -1 there; none where it leaves
 /// `i128`.

@@ -1,5 +1,6 @@
 //! What is known at a recurrence pair: the members that were found there, their hull, and the rows that all of them meet.
 ghost use Rattle.std.specs.Prelude.{◌≡◌, ◌≤ℤ◌, ◌++◌, pos, length, IfOk, IsTrue};
+ghost use Rattle.ac_searched.specs.Statements.{AreNumbersOf};
 ghost use Rattle.ac_widen.specs.Combinations.{Each};
 
 use crate::following::without_following;
@@ -54,7 +55,9 @@ pub(crate) enum Fit {
 }
 
 /// The template of a pair of programs.
-pub(crate) fn template_of(alloc: Global, pair: &Pair) -> Result<Template, AllocError> {
+pub(crate) fn template_of(alloc: Global, pair: &Pair) -> Result<Template, AllocError>
+    ensures { IfOk result (λ made. AreNumbersOf pair.now made.thresholds made.moduli) }
+{
     Ok(Template {
         thresholds: thresholds(alloc, pair)?,
         moduli: moduli(alloc, pair)?,

@@ -1,5 +1,6 @@
 //! Why the search on an output ends early.
 ghost use Rattle.std.specs.Prelude.{◌≡◌, [], ◌∷◌};
+ghost use Rattle.ac_walk.specs.Deciding.{IsEarly};
 ghost use Rattle.ac_walk.specs.Stops.{of_hull, of_unfolding};
 ghost use Rattle.ac_walk.specs.declared.stops.Stop.TheVariants.{Early};
 ghost use Rattle.ac_report.specs.declared.types.Cause.TheVariants.{Unmatched};
@@ -59,4 +60,26 @@ pub(crate) fn astray(alloc: Global) -> Stop
     ensures { result ≡ Early (Unmatched []) }
 {
     Stop::Early(Cause::Unmatched(Items::new(alloc)))
+}
+
+/// The cause where neither a proof nor a refutation is seen to stand: no order is named.
+pub(crate) fn no_order(alloc: Global) -> Cause
+    ensures { IsEarly result }
+{
+    Cause::Unmatched(Items::new(alloc))
+}
+
+/// The cause of an early answer: no order is said to be refuted.
+pub(crate) fn early(alloc: Global, cause: Cause) -> Cause
+    ensures { IsEarly result }
+{
+    match cause {
+        Cause::Unmatched(_) => no_order(alloc),
+        Cause::OverflowQuestion(question) => Cause::OverflowQuestion(question),
+        Cause::OverflowHull(members) => Cause::OverflowHull(members),
+        Cause::SpentQuestion { question, cost } => Cause::SpentQuestion { question, cost },
+        Cause::SpentPieces { position, kept } => Cause::SpentPieces { position, kept },
+        Cause::SpentPaths(paths) => Cause::SpentPaths(paths),
+        Cause::SpentOrders(refuted) => Cause::SpentOrders(refuted),
+    }
 }

@@ -8,18 +8,18 @@ returns-in-Err-Wide-clause-exact c = inl (normal-wide c.args.strategy c.args.bud
 pub search_all-requires-clause-made : goal.search_all-requires-clause-made
 search_all-requires-clause-made c = normal-made c.args.conj.now c.in-Ok.normal c.requires.made c.in-Ok.ensures.exact.1
 
-pub returns-in-Ok-Gone-clause-exact : goal.returns-in-Ok-Gone-clause-exact
-returns-in-Ok-Gone-clause-exact c =
+pub returns-in-Ok-Empty-clause-exact : goal.returns-in-Ok-Empty-clause-exact
+returns-in-Ok-Empty-clause-exact c =
     let w = walk-is c.args.strategy c.args.budget c.args.conj.now c.in-Ok.normal c.with_rows-met.result c.in-Ok.ensures.exact.0 c.in-Ok.ensures.exact.1 (rw c.as_slice.ensures at c.with_rows-met.ensures) in
-    w ∙ (rw c.in-Ok-Gone.field-0-is at c.in-Ok-Gone.ensures.exact)
+    w ∙ (rw c.in-Ok-Empty.field-0-is at c.in-Ok-Empty.ensures.exact)
 
-pub returns-in-Ok-Gone-clause-refuted : goal.returns-in-Ok-Gone-clause-refuted
-returns-in-Ok-Gone-clause-refuted c =
-    refutations-of c.args.conj.now c.in-Ok.normal c.in-Ok-Gone.refutation c.in-Ok.ensures.exact.0 c.in-Ok.ensures.exact.1 (rw c.in-Ok-Gone.field-0-is at c.in-Ok-Gone.ensures.refuted)
+pub returns-in-Ok-Empty-clause-refuted : goal.returns-in-Ok-Empty-clause-refuted
+returns-in-Ok-Empty-clause-refuted c =
+    refutations-of c.args.conj.now c.in-Ok.normal c.in-Ok-Empty.refutation c.in-Ok.ensures.exact.0 c.in-Ok.ensures.exact.1 (rw c.in-Ok-Empty.field-0-is at c.in-Ok-Empty.ensures.refuted)
 
-pub returns-in-Ok-Gone-clause-bound : goal.returns-in-Ok-Gone-clause-bound
-returns-in-Ok-Gone-clause-bound c =
-    question-bound c.args.conj.now c.with_rows-met.result c.in-Ok-Gone.maxima (rw c.as_slice.ensures at c.with_rows-met.ensures) (rw c.in-Ok-Gone.field-0-is at c.in-Ok-Gone.ensures.risen)
+pub returns-in-Ok-Empty-clause-bound : goal.returns-in-Ok-Empty-clause-bound
+returns-in-Ok-Empty-clause-bound c =
+    question-bound c.args.conj.now c.with_rows-met.result c.in-Ok-Empty.maxima (rw c.as_slice.ensures at c.with_rows-met.ensures) (rw c.in-Ok-Empty.field-0-is at c.in-Ok-Empty.ensures.risen)
 
 pub returns-in-Ok-test-clause-exact : goal.returns-in-Ok-test-clause-exact
 returns-in-Ok-test-clause-exact c =

@@ -1,4 +1,4 @@
-use Rattle.ac_omega.proofs.Gones.{next-none}
+use Rattle.ac_omega.proofs.Empties.{next-none}
 use Rattle.ac_omega.proofs.laws.no_next_column.Goals as goal
 
 pub returns : goal.returns

@@ -6,8 +6,8 @@ use Rattle.ac_omega.specs.Maxima.{with_rows}
 use Rattle.ac_omega.specs.Within.{Bounds, HaveRisen, IsWithin}
 use Rattle.ac_omega.specs.Searching.{IsRefuted, with_choice_behind, with_refutation}
 use Rattle.ac_omega.specs.Visits.{seen}
-use Rattle.ac_trails.specs.Tries.{all_of, tries_for}
-use Rattle.ac_trails.specs.declared.refutation.Refutation.TheVariants.{Absurd, Open}
+use Rattle.ac_refutations.specs.Alternatives.{all_of, alternatives_for}
+use Rattle.ac_refutations.specs.declared.refutation.Refutation.TheVariants.{Absurd, Open}
 use Rattle.ac_omega.proofs.Bounding.{rows-met, rows-risen, rows-on, no-less, risen-on, all-on, moduli-on}
 use Rattle.ac_omega.proofs.Legal.{tried-legal}
 use Rattle.ac_omega.proofs.Present.{next-within}
@@ -90,12 +90,12 @@ by_column-choices-preserved t c =
     let hs = c.choices.choices in
     let rs = c.choices.below in
     let h = c.in-Ok-Try.choice in
-    let r = c.in-Ok-Gone.refutation in
+    let r = c.in-Ok-Empty.refutation in
     let s = c.choices.all in
-    let u = c.in-Ok-Gone.maxima in
-    let more : c.keep.new.choices ≡ with_choice_behind hs h r = c.in_ok-keep-in-Ok-Gone.ensures.choices in
-    let further : c.keep.new.below ≡ with_refutation rs r = c.in_ok-keep-in-Ok-Gone.ensures.below in
-    let risen : HaveRisen s u = rw c.in-Ok-Gone.field-0-is at c.in-Ok-Gone.ensures.risen in
+    let u = c.in-Ok-Empty.maxima in
+    let more : c.keep.new.choices ≡ with_choice_behind hs h r = c.in_ok-keep-in-Ok-Empty.ensures.choices in
+    let further : c.keep.new.below ≡ with_refutation rs r = c.in_ok-keep-in-Ok-Empty.ensures.below in
+    let risen : HaveRisen s u = rw c.in-Ok-Empty.field-0-is at c.in-Ok-Empty.ensures.risen in
     record {
       low = search rules;
       high = search rules;
@@ -103,10 +103,10 @@ by_column-choices-preserved t c =
       legal = search rules;
       same_path = search rules;
       so_far = search rules;
-      tried = next-tried c.args.aim hs c.keep.new.choices h r _ _ _ c.choices.invariant.tried (rw c.in-Ok-Try.field-0-is at c.in-Ok-Try.ensures).0 more (rw c.in-Ok-Gone.field-0-is at c.in-Ok-Gone.ensures.told);
-      refuted = rw (more, further) (refuted-more hs c.args.conj rs h r c.choices.invariant.refuted (rw c.in-Ok-Gone.field-0-is at c.in-Ok-Gone.ensures.refuted));
-      within = rw further (within-more u rs r (all-on s u rs risen c.choices.invariant.within) (rw c.in-Ok-Gone.field-0-is at c.in-Ok-Gone.ensures.within));
-      moduli = rw more (moduli-kept u.factor hs h r (moduli-on s u hs risen c.choices.invariant.moduli) (rw c.in-Ok-Gone.field-0-is at c.in-Ok-Gone.ensures.moduli));
+      tried = next-tried c.args.aim hs c.keep.new.choices h r _ _ _ c.choices.invariant.tried (rw c.in-Ok-Try.field-0-is at c.in-Ok-Try.ensures).0 more (rw c.in-Ok-Empty.field-0-is at c.in-Ok-Empty.ensures.told);
+      refuted = rw (more, further) (refuted-more hs c.args.conj rs h r c.choices.invariant.refuted (rw c.in-Ok-Empty.field-0-is at c.in-Ok-Empty.ensures.refuted));
+      within = rw further (within-more u rs r (all-on s u rs risen c.choices.invariant.within) (rw c.in-Ok-Empty.field-0-is at c.in-Ok-Empty.ensures.within));
+      moduli = rw more (moduli-kept u.factor hs h r (moduli-on s u hs risen c.choices.invariant.moduli) (rw c.in-Ok-Empty.field-0-is at c.in-Ok-Empty.ensures.moduli));
       risen = risen-on c.args.met s u c.choices.invariant.risen risen;
     }
 
@@ -115,7 +115,7 @@ by_column-returns-clause-refuted t c =
     rw c.wanted.ensures
     (if-wanted c.args.aim (Open c.args.conj c.choices.choices c.choices.below) (λ x. IsRefuted c.args.conj x)
     (λ w.
-    let all : all_of (tries_for c.args.strategy c.args.z c.args.conj.rows) ≡ Some c.choices.choices = last-tried c.choices.choices _ _ (c.choices.invariant.tried w) (rw c.in-Ok-End.field-0-is at c.in-Ok-End.ensures) in
+    let all : all_of (alternatives_for c.args.strategy c.args.z c.args.conj.rows) ≡ Some c.choices.choices = last-tried c.choices.choices _ _ (c.choices.invariant.tried w) (rw c.in-Ok-End.field-0-is at c.in-Ok-End.ensures) in
     open-refutes c.args.conj c.choices.choices c.choices.below c.requires.made
     (record { possible = c.requires.possible; strategy = c.args.strategy; column = c.args.z; present = c.requires.column; all = all })
     c.choices.invariant.refuted))

@@ -1,11 +1,11 @@
 use Rattle.std.proofs.Common.{◌≡◌, ℕ, ◌<◌, ◌≤◌, ◌-◌, ◌*◌, ◌+◌, length}
 use Rattle.std.specs.List.{AllByRecursion}
-use Rattle.ac_omega.specs.Cursors.{tries_left, IsSound}
+use Rattle.ac_omega.specs.Cursors.{alternatives_left, IsSound}
 use Rattle.ac_omega.specs.Searching.{AreLegal, WantsRefutation}
 use Rattle.ac_omega.specs.Visits.{seen, tried}
 use Rattle.ac_omega.specs.Within.{HaveRisen, IsWithin}
-use Rattle.ac_trails.specs.Refutations.{AreModuliWithin}
-use Rattle.ac_trails.specs.Tries.{tries_for, all_of, gathered}
+use Rattle.ac_refutations.specs.Refutations.{AreModuliWithin}
+use Rattle.ac_refutations.specs.Alternatives.{alternatives_for, all_of, gathered}
 use Rattle.ac_omega.proofs.Refuting.{AreRefutedBehind}
 use Rattle.ac_omega.proofs.search.+searches.Given as goal
 
@@ -23,11 +23,11 @@ invariant-by_column-choices l = record {
   low : l.cost ≤ l.spent;
   high : l.spent ≤ l.budget;
   sound : IsSound l.strategy l.z l.rows l.cursor;
-  legal : AreLegal (tries_left l.strategy l.z l.rows l.cursor) l.fn.conj;
+  legal : AreLegal (alternatives_left l.strategy l.z l.rows l.cursor) l.fn.conj;
   same_path : l.path ≡ l.initial.path;
-  so_far : (n : ℕ) → l.budget < n + l.cost → tried l.strategy l.aim l.vars n l.budget l.initial.path l.fn.conj (tries_for l.strategy l.z l.fn.conj.rows) l.cost (seen l.fn.met l.initial.pieces)
-      ≡ tried l.strategy l.aim l.vars n l.budget l.initial.path l.fn.conj (tries_left l.strategy l.z l.rows l.cursor) l.spent (seen l.all l.pieces);
-  tried : WantsRefutation l.aim → all_of (tries_for l.strategy l.z l.fn.conj.rows) ≡ gathered l.choices (tries_left l.strategy l.z l.rows l.cursor);
+  so_far : (n : ℕ) → l.budget < n + l.cost → tried l.strategy l.aim l.vars n l.budget l.initial.path l.fn.conj (alternatives_for l.strategy l.z l.fn.conj.rows) l.cost (seen l.fn.met l.initial.pieces)
+      ≡ tried l.strategy l.aim l.vars n l.budget l.initial.path l.fn.conj (alternatives_left l.strategy l.z l.rows l.cursor) l.spent (seen l.all l.pieces);
+  tried : WantsRefutation l.aim → all_of (alternatives_for l.strategy l.z l.fn.conj.rows) ≡ gathered l.choices (alternatives_left l.strategy l.z l.rows l.cursor);
   refuted : AreRefutedBehind l.choices l.fn.conj l.below;
   within : AllByRecursion (IsWithin l.all) l.below;
   moduli : AreModuliWithin l.all.factor l.choices;
@@ -35,4 +35,4 @@ invariant-by_column-choices l = record {
 }
 
 abbrev pub decreases-by_column-choices : goal.decreases-by_column-choices
-decreases-by_column-choices l = length (tries_left l.strategy l.z l.rows l.cursor)
+decreases-by_column-choices l = length (alternatives_left l.strategy l.z l.rows l.cursor)

@@ -1,5 +1,5 @@
 use Rattle.std.proofs.Common.{◌≡◌, take, map}
-use Rattle.ac_rules.specs.Comparisons.{index}
+use Rattle.ac_affine.specs.Comparisons.{index}
 use Rattle.ac_rules.proofs.declare.build_extents.Given as goal
 
 abbrev pub invariant-loop-extent : goal.invariant-loop-extent

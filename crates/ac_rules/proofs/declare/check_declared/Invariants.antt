@@ -1,5 +1,5 @@
 use Rattle.std.proofs.Common.{◌≡◌, ◌+◌, drop}
-use Rattle.ac_rules.specs.Comparisons.{first_from, first_of}
+use Rattle.ac_affine.specs.Comparisons.{first_from, first_of}
 use Rattle.ac_rules.specs.Declarations.{each_declared_broken}
 use Rattle.ac_rules.proofs.declare.check_declared.Given as goal
 

@@ -1,5 +1,5 @@
 use Rattle.std.proofs.Common.{◌≡◌, drop, map}
-use Rattle.ac_rules.specs.Comparisons.{first_from, index_broken}
+use Rattle.ac_affine.specs.Comparisons.{first_from, index_broken}
 use Rattle.ac_rules.specs.Declarations.{extents_broken}
 use Rattle.ac_rules.proofs.declare.check_extents.Given as goal
 

@@ -13,7 +13,7 @@ pub returns-in-Some-clause-answer : goal.returns-in-Some-clause-answer
 returns-in-Some-clause-answer c =
     let n : c.as_slice.result.now ≡ names_of c.args.file.now = c.as_slice.ensures ∙ c.in_ok-names.ensures in
     let b = sym (ap (λ ns. broken_under ns c.args.file.now) n) ∙ sym c.in_ok-broken.ensures ∙ c.in-Some.is in
-    answer_fault c.args.file.now c.fault.result c.in-Some.broken c.fault.ensures b
+    answer_fault c.args.file.now c.fault_of.result c.in-Some.broken c.fault_of.ensures b
 
 pub returns-clause-answer : goal.returns-clause-answer
 returns-clause-answer c =

@@ -1,5 +1,5 @@
 use Rattle.std.proofs.Common.{◌≡◌, ◌++◌, drop}
-use Rattle.ac_rules.specs.Comparisons.{condition}
+use Rattle.ac_affine.specs.Comparisons.{condition}
 use Rattle.ac_rules.specs.Files.{context_parts}
 use Rattle.ac_rules.proofs.file.build_context.Given as goal
 

@@ -1,5 +1,5 @@
 use Rattle.std.proofs.Common.{◌≡◌, drop, map}
-use Rattle.ac_rules.specs.Comparisons.{first_from, first_of}
+use Rattle.ac_affine.specs.Comparisons.{first_from, first_of}
 use Rattle.ac_rules.specs.Files.{pragma_broken}
 use Rattle.ac_rules.proofs.file.check_pragmas.Given as goal
 

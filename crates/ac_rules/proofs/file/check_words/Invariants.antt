@@ -1,6 +1,6 @@
 use Rattle.std.proofs.Common.{◌≡◌, drop, map}
-use Rattle.ac_rules.specs.Meanings.{word_broken}
-use Rattle.ac_rules.specs.Comparisons.{first_from, first_of}
+use Rattle.ac_affine.specs.Meanings.{word_broken}
+use Rattle.ac_affine.specs.Comparisons.{first_from, first_of}
 use Rattle.ac_rules.proofs.file.check_words.Given as goal
 
 abbrev pub invariant-loop-word : goal.invariant-loop-word

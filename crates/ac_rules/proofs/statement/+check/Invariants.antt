@@ -1,5 +1,5 @@
 use Rattle.std.proofs.Common.{◌≡◌, drop, map}
-use Rattle.ac_rules.specs.Comparisons.{first_from}
+use Rattle.ac_affine.specs.Comparisons.{first_from}
 use Rattle.ac_rules.specs.Statements.{statement_broken, statements_broken}
 use Rattle.ac_rules.proofs.statement.+check.Given as goal
 

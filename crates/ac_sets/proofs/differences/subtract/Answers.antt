@@ -1,5 +1,6 @@
 use Rattle.std.proofs.Common.{◌≡◌, ℕ, ℤ, List, length, subst, sym, refl}
-use Rattle.ac_forms.specs.Negation.{InSome, AreApart}
+use Rattle.ac_forms.specs.Negation.{HasExtension}
+use Rattle.ac_forms.specs.Pieces.{IsInSome, IsInOneAtMost}
 use Rattle.ac_forms.specs.Rows.{AreRowsOver}
 use Rattle.ac_forms.specs.declared.conj.Conj.{Conj}
 use Rattle.ac_sets.specs.Unions.{ArePieces, AreFixed}
@@ -19,13 +20,13 @@ returns-clause-points c = λ p l.
     let over = subst (λ (n : ℕ). AreRowsOver n c.args.b.now.rows) (sym c.requires.columns) c.requires.second in
     let made = rw c.as_slice.ensures at c.in_ok-pieces.ensures.1 in
     let is = outside-points c.args.a.now c.args.b.now.rows p c.requires.first over l in
-    ((λ h. subst (InSome p) (sym made) (is.0 h)), (λ h. is.1 (subst (InSome p) made h)))
+    ((λ h. subst (λ (cs : List Conj). IsInSome HasExtension cs p) (sym made) (is.0 h)), (λ h. is.1 (subst (λ (cs : List Conj). IsInSome HasExtension cs p) made h)))
 
 pub returns-clause-apart : goal.returns-clause-apart
 returns-clause-apart c = λ p l.
     let over = subst (λ (n : ℕ). AreRowsOver n c.args.b.now.rows) (sym c.requires.columns) c.requires.second in
     let made = rw c.as_slice.ensures at c.in_ok-pieces.ensures.1 in
-    subst (AreApart p) (sym made) (outside-apart c.args.a.now c.args.b.now.rows p c.requires.first over l)
+    subst (λ (cs : List Conj). IsInOneAtMost HasExtension cs p) (sym made) (outside-apart c.args.a.now c.args.b.now.rows p c.requires.first over l)
 
 pub returns-clause-made : goal.returns-clause-made
 returns-clause-made c =

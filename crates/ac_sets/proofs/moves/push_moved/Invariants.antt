@@ -1,6 +1,6 @@
 use Rattle.std.proofs.Common.{◌≡◌, ◌++◌, take, map}
-use Rattle.ac_sets.specs.Moves.{moved_row}
+use Rattle.ac_forms.specs.Renaming.{renamed_row}
 use Rattle.ac_sets.proofs.moves.push_moved.Given as goal
 
 abbrev pub invariant-loop-row : goal.invariant-loop-row
-invariant-loop-row l = l.rows ≡ l.fn.rows ++ map (moved_row l.visible l.by) (take l.row-index l.further)
+invariant-loop-row l = l.rows ≡ l.fn.rows ++ map (renamed_row l.columns) (take l.row-index l.further)

@@ -1,5 +1,6 @@
 use Rattle.std.proofs.Common.{sym, ap, subst, ◌∙◌}
 use Rattle.std.specs.Option.{option_map}
+use Rattle.ac_walk.specs.Causes.{IsEmptyAt}
 use Rattle.ac_walk.specs.Verdicts.{IsStop}
 use Rattle.ac_top.specs.Proving.{ProveReports, empty_context}
 use Rattle.ac_top.specs.Reports.{report as a_report}
@@ -9,5 +10,5 @@ use Rattle.ac_top.proofs.prove.report_prove.Goals as goal
 pub returns-in_ok-empty_context_line-in-Err-EmptyContext : goal.returns-in_ok-empty_context_line-in-Err-EmptyContext
 returns-in_ok-empty_context_line-in-Err-EmptyContext c =
     let pair = c.args.pair.now in
-    subst (ProveReports pair (option_map (λ w. w.now) c.args.name)) (sym (c.refused.ensures ∙ ap (a_report status.Refused) c.in_ok-empty_context_line-in-Err-EmptyContext.ensures))
-    (empty_context (subst (IsStop pair) c.in-Err-EmptyContext.field-0-is c.in-Err-EmptyContext.ensures.stops))
+    subst (ProveReports pair c.args.budget (option_map (λ w. w.now) c.args.name)) (sym (c.refused.ensures ∙ ap (a_report status.Refused) c.in_ok-empty_context_line-in-Err-EmptyContext.ensures))
+    (empty_context (subst (IsEmptyAt c.args.budget pair) c.in-Err-EmptyContext.field-0-is c.in-Err-EmptyContext.ensures.empty) (subst (IsStop pair) c.in-Err-EmptyContext.field-0-is c.in-Err-EmptyContext.ensures.stops))

@@ -1,5 +1,13 @@
+use Rattle.std.proofs.Common.{get_or, ap}
 use Rattle.std.proofs.lemmas.Result.{IfOk-weaker}
+use Rattle.ac_walk.specs.Causes.{left_model}
+use Rattle.ac_walk.proofs.Causing.{has_valuation}
 use Rattle.ac_walk.proofs.proving.prove.Goals as goal
+
+pub with_point-requires-clause-valuation : goal.with_point-requires-clause-valuation
+with_point-requires-clause-valuation c =
+    let default = c.index-models-0.result in
+    has_valuation c.args.limits.now.budget (get_or c.args.models.now 0 default) (left_model c.args.pair.now) c.in-Ok.point.items (ap (λ ms. get_or ms 0 default) c.requires.models) c.in-Ok.ensures.exact c.in-Ok.ensures.point.0 c.in-Ok.ensures.point.1
 
 pub returns-in-Err-clause-accepted : goal.returns-in-Err-clause-accepted
 returns-in-Err-clause-accepted c = IfOk-weaker c.without_point.result _ _ (λ p h. h.held.accepted) c.without_point.ensures.proved

@@ -14,7 +14,7 @@ use Rattle.ac_syntax.proofs.TurnEntries.{in_turn_of, turns_listed}
 use Rattle.ac_syntax.proofs.Traces.{trace_for}
 use Rattle.ac_syntax.proofs.Walking.{walk_first, walk_next, walk_done}
 use Rattle.ac_instance.specs.declared.state.Machine.{Machine}
-use Rattle.ac_instance.specs.Events.{Happening, event, evaluated, index, reached, in_value, in_test, in_all, in_stmt, in_loop}
+use Rattle.ac_instance.specs.Events.{Event, event, evaluated, index, reached, in_value, in_test, in_all, in_stmt, in_loop}
 use Rattle.ac_instance.specs.Steps.{IsDue, Advances, Steps}
 use Rattle.ac_instance.specs.Kept.{cell, leaf_in, Holds}
 use Rattle.ac_instance.proofs.Happen.{halts, begins, due_after, advance, steps_after, goes_on, ends, due_in_whole, drop_more, never_falls, counts_one}
@@ -27,7 +27,7 @@ repeat-returns-in_err-x-clause-steps t c = λ b r.
     let a = c.args.self.now in
     let p = point c.args.scope.now.params.now c.args.iters.now in
     let side = c.args.scope.now.side in
-    let body : Point → List Happening = λ q. in_all side q c.args.body.now in
+    let body : Point → List Event = λ q. in_all side q c.args.body.now in
     let h = c.in_err-x.field-0.0 in
     halts a a _ c.from_residual.result h c.from_residual.ensures.1
     (due_in_whole a a _ _ (index side p c.args.start.now ∷ []) (turns_left side body p c.args.start.now c.args.cond.now c.args.step c.args.place 0) h (begins a _)
@@ -38,7 +38,7 @@ repeat-loop-turn-init t c =
     let a = c.args.self.now in
     let p = point c.args.scope.now.params.now c.args.iters.now in
     let side = c.args.scope.now.side in
-    let body : Point → List Happening = λ q. in_all side q c.args.body.now in
+    let body : Point → List Event = λ q. in_all side q c.args.body.now in
     let s : FitsSigned w64 c.args.step = c.ranges.step in
     let f : FitsSigned w64 c.in_ok-x.x = search rules in
     simp to_z-of_z (record {
@@ -114,7 +114,7 @@ repeat-returns-in_err-test-clause-steps t c = λ b r.
     let here = c.loop-turn.self in
     let p = point c.args.scope.now.params.now c.args.iters.now in
     let side = c.args.scope.now.side in
-    let body : Point → List Happening = λ q. in_all side q c.args.body.now in
+    let body : Point → List Event = λ q. in_all side q c.args.body.now in
     let start = c.args.start.now in
     let cond = c.args.cond.now in
     let step = c.args.step in
@@ -138,7 +138,7 @@ repeat-returns-then-not-branch-clause-steps t c = λ b r.
     let here = c.loop-turn.self in
     let p = point c.args.scope.now.params.now c.args.iters.now in
     let side = c.args.scope.now.side in
-    let body : Point → List Happening = λ q. in_all side q c.args.body.now in
+    let body : Point → List Event = λ q. in_all side q c.args.body.now in
     let start = c.args.start.now in
     let cond = c.args.cond.now in
     let step = c.args.step in
@@ -162,7 +162,7 @@ repeat-returns-then-not-branch-clause-ran t c = λ b r first counters state h.
     let here = c.loop-turn.self in
     let p = point c.args.scope.now.params.now c.args.iters.now in
     let side = c.args.scope.now.side in
-    let body : Point → List Happening = λ q. in_all side q c.args.body.now in
+    let body : Point → List Event = λ q. in_all side q c.args.body.now in
     let start = c.args.start.now in
     let cond = c.args.cond.now in
     let step = c.args.step in
@@ -186,7 +186,7 @@ repeat-returns-in_err-count-clause-steps t c = λ b r.
     let here = c.loop-turn.self in
     let p = point c.args.scope.now.params.now c.args.iters.now in
     let side = c.args.scope.now.side in
-    let body : Point → List Happening = λ q. in_all side q c.args.body.now in
+    let body : Point → List Event = λ q. in_all side q c.args.body.now in
     let start = c.args.start.now in
     let cond = c.args.cond.now in
     let step = c.args.step in
@@ -214,7 +214,7 @@ repeat-returns-in_err-run_all-clause-steps t c = λ b r.
     let here = c.loop-turn.self in
     let p = point c.args.scope.now.params.now c.args.iters.now in
     let side = c.args.scope.now.side in
-    let body : Point → List Happening = λ q. in_all side q c.args.body.now in
+    let body : Point → List Event = λ q. in_all side q c.args.body.now in
     let start = c.args.start.now in
     let cond = c.args.cond.now in
     let step = c.args.step in
@@ -247,7 +247,7 @@ repeat-returns-in_err-x-2-clause-steps t c = λ b r.
     let here = c.loop-turn.self in
     let p = point c.args.scope.now.params.now c.args.iters.now in
     let side = c.args.scope.now.side in
-    let body : Point → List Happening = λ q. in_all side q c.args.body.now in
+    let body : Point → List Event = λ q. in_all side q c.args.body.now in
     let start = c.args.start.now in
     let cond = c.args.cond.now in
     let step = c.args.step in
@@ -303,7 +303,7 @@ repeat-loop-turn-preserved t c =
           let here = c.loop-turn.self in
           let p = point c.args.scope.now.params.now c.args.iters.now in
           let side = c.args.scope.now.side in
-          let body : Point → List Happening = λ q. in_all side q c.args.body.now in
+          let body : Point → List Event = λ q. in_all side q c.args.body.now in
           let start = c.args.start.now in
           let cond = c.args.cond.now in
           let step = c.args.step in

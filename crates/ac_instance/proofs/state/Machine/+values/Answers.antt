@@ -9,7 +9,7 @@ use Rattle.ac_syntax.proofs.Traces.{value_call}
 use Rattle.ac_terms.specs.Table.{StandsFor, StandForAll}
 use Rattle.ac_terms.proofs.Kept.{StandForAll-kept}
 use Rattle.ac_instance.specs.declared.state.Machine.{Machine}
-use Rattle.ac_instance.specs.Events.{Happening, event, index, in_value}
+use Rattle.ac_instance.specs.Events.{Event, event, index, in_value}
 use Rattle.ac_instance.specs.Steps.{IsDue, Advances, Steps}
 use Rattle.ac_instance.specs.Kept.{cell, cell_of, leaf_in, Holds}
 use Rattle.ac_instance.proofs.Happen.{halts, begins, due_after, advance, steps_after, Continues, goes_on, due_in_whole, drop_more}

@@ -1,0 +1,12 @@
+pub mod Columns
+pub mod Judging
+pub mod Trees
+pub mod Absent
+pub mod Collecting
+pub mod Judges
+pub mod SmallForms
+pub mod FaultOrder
+pub mod FormValues
+pub mod NumberedMeanings
+pub mod WrittenExpressions
+pub mod WrittenConditions

@@ -1,0 +1,7 @@
+use Rattle.ac_graft.proofs.Makers.{eq_made}
+use Rattle.ac_graft.proofs.plans.equality_plan.Goals as goal
+
+pub returns : goal.returns
+returns c =
+    eq_made c.args.form c.in_ok-turned.turned c.args.count c.in_ok-steps.steps c.args.inside c.in_ok-equal.equal c.in_ok-low.low c.args.above c.args.below c.in_ok-made.made
+    c.see_form.ensures c.in_ok-steps.ensures c.in_ok-turned.ensures c.in_ok-equal.ensures c.in_ok-low.ensures c.in_ok-made.ensures

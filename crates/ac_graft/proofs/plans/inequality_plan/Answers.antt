@@ -1,0 +1,5 @@
+use Rattle.ac_graft.proofs.Makers.{ge_made}
+use Rattle.ac_graft.proofs.plans.inequality_plan.Goals as goal
+
+pub returns : goal.returns
+returns c = ge_made c.args.form c.args.inside c.args.below c.in_ok-made.made c.in_ok-made.ensures

@@ -1,0 +1,4 @@
+pub mod Placings
+pub mod Plans
+pub mod Sides
+pub mod Standing

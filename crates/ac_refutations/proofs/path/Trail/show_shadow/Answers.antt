@@ -1,0 +1,24 @@
+use Rattle.std.proofs.Common.{length}
+use Rattle.ac_refutations.specs.Descents.{raised_rows}
+use Rattle.ac_refutations.proofs.Enough.{suffices-long}
+use Rattle.ac_refutations.proofs.ShadowsLeft.{over-moduli, carries-shadows}
+use Rattle.ac_refutations.proofs.ShownFor.{shown-stand, shown-calm}
+use Rattle.ac_refutations.proofs.path.Trail.show_shadow.Goals as goal
+
+pub free_rows-requires-clause-moduli : goal.free_rows-requires-clause-moduli
+free_rows-requires-clause-moduli c = over-moduli (length c.args.names.now) c.args.rows.now c.requires.made
+
+pub returns-clause-rows : goal.returns-clause-rows
+returns-clause-rows c =
+    let long = suffices-long c.args.z c.args.rows.now c.args.rows.now c.args.counts.now c.requires.suffices in
+    shown-stand (length c.args.names.now) c.args.z c.args.rows.now c.in_ok-made.made.rows.items c.show_lowers.new.made.rows.items c.args.counts.now c.requires.modest long c.in_ok-made.ensures.rows c.in_ok-show_lowers.ensures.rows
+
+pub returns-clause-calm : goal.returns-clause-calm
+returns-clause-calm c =
+    let long = suffices-long c.args.z c.args.rows.now c.args.rows.now c.args.counts.now c.requires.suffices in
+    shown-calm c.args.z c.args.rows.now c.in_ok-made.made.rows.items c.show_lowers.new.made.rows.items c.args.counts.now c.requires.modest long c.in_ok-made.ensures.calm c.in_ok-show_lowers.ensures.rows
+
+pub returns-clause-carries : goal.returns-clause-carries
+returns-clause-carries c =
+    carries-shadows c.args.self.now c.show_lowers.new.self c.args.names.now c.args.rows.now (raised_rows c.args.z c.args.rows.now c.args.counts.now) c.args.places.now c.args.raised.now c.in_ok-made.made c.show_lowers.new.made c.requires.long c.in_ok-made.ensures.stand
+    c.in_ok-show_lowers.ensures.shows

@@ -1,0 +1,12 @@
+pub mod Standing
+pub mod Leaves
+pub mod Alternatives
+pub mod Sufficing
+pub mod Refutations
+pub mod Descents
+pub mod Lefts
+pub mod Replacements
+pub mod Shown
+pub mod Shadowing
+pub mod Residues
+pub mod Branches

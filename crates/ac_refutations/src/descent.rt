@@ -1,0 +1,58 @@
+//! What stands on a path, and under which names.
+ghost use Rattle.std.specs.Prelude.{◌≡◌, ℕ, []};
+ghost use Rattle.ac_refutations.specs.Descents.{base_of};
+
+use crate::path::Trail;
+use ac_forms::Row;
+use ac_items::Items;
+use std::alloc::Global;
+
+/// How many columns and rows a path has, and where its row `1 >= 0` stands.
+#[derive(Clone, Copy, Debug, PartialEq, Eq, Drop)]
+pub(crate) struct Base {
+    pub(crate) columns: usize,
+    pub(crate) rows: usize,
+    pub(crate) one: usize,
+}
+
+/// Rows, and the place of each on a path.
+#[derive(Debug, Drop)]
+pub(crate) struct Standing {
+    pub(crate) rows: Vec<Row>,
+    pub(crate) places: Vec<usize>,
+}
+
+/// Where the rows of a normal form stand.
+#[derive(Debug, Drop)]
+pub(crate) enum Below {
+    /// Nowhere: an absurd row stands at this place.
+    Absurd(usize),
+    /// At these places, in order.
+    Rows(Vec<usize>),
+}
+
+impl Trail {
+    /// The trail without steps, at a path.
+    pub(crate) fn behind(alloc: Global, base: Base) -> Trail
+        ensures steps { result.steps ≡ [] }
+        ensures base { base_of result ≡ base }
+    {
+        Trail {
+            steps: Items::new(alloc),
+            columns: base.columns,
+            rows: base.rows,
+            one: base.one,
+        }
+    }
+
+    /// How many columns and rows there are behind the steps.
+    pub(crate) fn base(&self) -> Base
+        ensures { result ≡ base_of self.now }
+    {
+        Base {
+            columns: self.columns,
+            rows: self.rows,
+            one: self.one,
+        }
+    }
+}

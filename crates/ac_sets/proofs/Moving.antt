@@ -1,0 +1,73 @@
+-- The columns to which quotients go: no column stands twice.
+use Rattle.std.proofs.Common.{◌≡◌, ℕ, zero, suc, ◌+◌, ◌-◌, ◌<◌, ◌≤◌, Bool, List, [], ◌∷◌, ◌++◌, append_assoc, append-nil, map, refl, sym, ap, ◌∙◌, subst, arith}
+use Rattle.std.specs.List.{list_all, range_with_len}
+use Rattle.ac_forms.specs.Renaming.{renamed_row, IsApartFrom, AreDistinct}
+use Rattle.ac_forms.specs.declared.conj.Conj.{Conj}
+use Rattle.ac_forms.specs.declared.row.Row.{Row}
+use Rattle.ac_forms.specs.Standing.{is_among}
+use Rattle.ac_cert.proofs.Truths.{true-nat_le}
+use Rattle.ac_sets.specs.Ends.{stands}
+use Rattle.ac_sets.specs.Moves.{quotients_from, common}
+
+range_suc : (first k : ℕ) → range_with_len first (suc k) ≡ range_with_len first k ++ (first + k) ∷ []
+range_suc first zero = let e : first + 0 ≡ first = omega arith in rw e refl
+range_suc first (suc k) =
+    let e : first + 1 + k ≡ first + suc k = omega arith in
+    ap (λ r. first ∷ r) (range_suc (first + 1) k) ∙ ap (λ j. first ∷ (range_with_len (first + 1) k ++ j ∷ [])) e
+
+range_more : (first k : ℕ) → range_with_len first (k + 1) ≡ range_with_len first k ++ (first + k) ∷ []
+range_more first k = let e : k + 1 ≡ suc k = omega arith in ap (range_with_len first) e ∙ range_suc first k
+
+pub record Ranged (old : List ℕ) (first k : ℕ) (list : List ℕ) : Type 0 where
+  pub value : list ≡ old ++ range_with_len first k
+
+pub ranged_start : (old : List ℕ) (first : ℕ) → Ranged old first 0 old
+ranged_start old first = record { value = sym (append-nil old) }
+
+pub ranged_next : (old : List ℕ) (first k : ℕ) (list new : List ℕ) (column : ℕ) → Ranged old first k list → column ≡ first + k → new ≡ list ++ column ∷ [] → Ranged old first (k + 1) new
+ranged_next old first k list new column h c n = record {
+  value = n ∙ (λ j. h.value j ++ c j ∷ []) ∙ append_assoc old (range_with_len first k) ((first + k) ∷ []) ∙ ap (λ r. old ++ r) (sym (range_more first k));
+}
+
+pub ranged_end : (old : List ℕ) (first count k : ℕ) (list : List ℕ) → Ranged old first k list → k ≡ count → list ≡ old ++ range_with_len first count
+ranged_end old first count k list h e = h.value ∙ ap (λ j. old ++ range_with_len first j) e
+
+pub ruleset range_steps = (ranged_start, ranged_next, ranged_end)
+
+apart-range : (j first count : ℕ) → j < first → IsApartFrom j (range_with_len first count)
+apart-range j first zero h = tt
+apart-range j first (suc count) h = ((λ e. absurd (omega (arith, e, h))), apart-range j (first + 1) count (omega (arith, h)))
+
+apart-both : (j : ℕ) (ks ls : List ℕ) → IsApartFrom j ks → IsApartFrom j ls → IsApartFrom j (ks ++ ls)
+apart-both j [] ls h g = g
+apart-both j (k ∷ ks) ls h g = (h.0, apart-both j ks ls h.1 g)
+
+distinct-ranges : (first n at m : ℕ) → first + n ≤ at → AreDistinct (range_with_len first n ++ range_with_len at m)
+distinct-ranges first zero at zero h = tt
+distinct-ranges first zero at (suc m) h = (apart-range at (at + 1) m (omega arith), distinct-ranges at 0 (at + 1) m (omega arith))
+distinct-ranges first (suc n) at m h = (
+  apart-both first (range_with_len (first + 1) n) (range_with_len at m) (apart-range first (first + 1) n (omega arith)) (apart-range first at m (omega (arith, h))),
+  distinct-ranges (first + 1) n at m (omega (arith, h)),
+)
+
+pub two_ranges : (visible at count : ℕ) (made : List ℕ) → visible ≤ at → made ≡ range_with_len 0 visible ++ range_with_len at count → AreDistinct made
+two_ranges visible at count made h e = subst AreDistinct (sym e) (distinct-ranges 0 visible at count (omega (arith, h)))
+
+pub common_is : (visible : ℕ) (c d : Conj) (end : ℕ) (ks : List ℕ) (rows : List Row) → end ≡ c.columns + (d.columns - visible) → ks ≡ range_with_len 0 visible ++ range_with_len c.columns (end - c.columns) → rows ≡ c.rows ++ map (renamed_row ks) d.rows → record { columns = end; rows = rows } ≡ common visible c d
+common_is visible c d end ks rows e k r =
+    let count : end - c.columns ≡ d.columns - visible = omega (arith, e) in
+    let all : ks ≡ quotients_from visible c.columns d.columns = k ∙ ap (λ j. range_with_len 0 visible ++ range_with_len c.columns j) count in
+    let whole = r ∙ ap (λ xs. c.rows ++ map (renamed_row xs) d.rows) all in
+    λ i. record { columns = e i; rows = whole i }
+
+-- what a loop over the rows of a conjunction tests
+stand_from : (visible : ℕ) (path c : Conj) (at : ℕ) (ks : List ℕ) → visible ≤ c.columns → c.columns ≤ path.columns → at ≡ path.columns - (c.columns - visible) → ks ≡ range_with_len 0 visible ++ range_with_len at (path.columns - at)
+    → ks ≡ quotients_from visible (path.columns - (c.columns - visible)) c.columns
+stand_from visible path c at ks low high e k =
+    let count : path.columns - at ≡ c.columns - visible = omega (arith, e, low, high) in
+    k ∙ (λ i. range_with_len 0 visible ++ range_with_len (e i) (count i))
+
+pub stand_is : (visible : ℕ) (path c : Conj) (at : ℕ) (ks : List ℕ) (b : Bool) → visible ≤ c.columns → c.columns ≤ path.columns → at ≡ path.columns - (c.columns - visible) → ks ≡ range_with_len 0 visible ++ range_with_len at (path.columns - at)
+    → b ≡ list_all (λ r. is_among (renamed_row ks r) path.rows) c.rows → b ≡ stands visible path c
+stand_is visible path c at ks b low high e k h =
+    rw (true-nat_le visible c.columns low, true-nat_le c.columns path.columns high) (h ∙ ap (λ (xs : List ℕ). list_all (λ r. is_among (renamed_row xs r) path.rows) c.rows) (stand_from visible path c at ks low high e k))

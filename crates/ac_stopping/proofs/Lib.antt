@@ -1,0 +1,5 @@
+pub mod Alike
+pub mod Following
+pub mod Finding
+pub mod Starting
+pub mod Stopped

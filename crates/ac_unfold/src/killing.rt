@@ -1,0 +1,65 @@
+//! The end at a killed place, with the choices of its copy behind the columns of the path.
+
+use crate::ends::Search;
+use crate::node::Node;
+use ac_cert::Choice;
+use ac_claims::types::{Kill, Plan, PlanNext};
+use ac_graft::plan_of;
+use ac_items::Items;
+use ac_paths::columns::column_after;
+use ac_paths::killing::case_width;
+use ac_paths::path::Assumed;
+use std::alloc::{AllocError, Global};
+
+/// A choice whose column stands behind those of a path in place of those of a case.
+fn moved_choice(choice: &Choice, own: usize, path: usize) -> Result<Choice, AllocError> {
+    let column = column_after(path, choice.column().saturating_sub(own))?;
+    match choice {
+        Choice::Drop(_) => Ok(Choice::Drop(column)),
+        Choice::Equal(_, row) => Ok(Choice::Equal(column, *row)),
+        Choice::Residue(_, modulus, residue) => Ok(Choice::Residue(column, *modulus, *residue)),
+        Choice::Shadow(_) => Ok(Choice::Shadow(column)),
+        Choice::Splinter(_, row, value) => Ok(Choice::Splinter(column, *row, *value)),
+    }
+}
+
+/// The choices of a copy behind the columns of a path.
+fn moved_choices(
+    alloc: Global,
+    choices: &[Choice],
+    own: usize,
+    path: usize,
+) -> Result<Items<Choice>, AllocError> {
+    let mut moved = Items::new(alloc);
+    for choice in choices {
+        moved.push(moved_choice(choice, own, path)?)?;
+    }
+    Ok(moved)
+}
+
+/// How many columns the case has that was assumed last.
+fn own_columns(search: &Search<'_>, last: &Option<Assumed>) -> Result<usize, AllocError> {
+    match last {
+        Some(assumed) => case_width(search.params, assumed),
+        None => Err(AllocError),
+    }
+}
+
+/// The end at a killed place.
+pub(crate) fn killed(
+    alloc: Global,
+    search: &Search<'_>,
+    node: &Node,
+    kill: &Kill,
+) -> Result<Plan, AllocError> {
+    let own = own_columns(search, &node.question.last)?;
+    let path = node.placing.next_column;
+    let end = PlanNext::Killed(Kill {
+        stmt: kill.stmt,
+        piece: kill.piece,
+        after: kill.after,
+        before: kill.before,
+        choices: moved_choices(alloc, kill.choices.as_slice(), own, path)?,
+    });
+    Ok(plan_of(alloc, end))
+}

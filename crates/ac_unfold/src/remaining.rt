@@ -1,0 +1,77 @@
+//! The rows of a case over the columns of a question: of what is left of it, and of its kills.
+
+use crate::asking::{Answer, found, freely};
+use crate::ends::{Search, too_wide};
+use crate::node::{Node, with_rows};
+use crate::types::UnfoldStop;
+use crate::witness::continued;
+use ac_forms::{Conj, FormStop, Row, renamed_rows};
+use ac_items::Items;
+use ac_paths::columns::column_after;
+use ac_paths::killing::case_columns;
+use std::alloc::{AllocError, Global};
+
+/// Rows over these columns of a question.
+pub(crate) fn over_columns(
+    alloc: Global,
+    node: &Node,
+    rows: &[Row],
+    columns: &[usize],
+) -> Result<Items<Row>, UnfoldStop> {
+    match renamed_rows(alloc, rows, columns) {
+        Ok(made) => Ok(made),
+        Err(FormStop::Wide) => Err(too_wide(alloc, node)),
+        Err(FormStop::Memory(want)) => Err(UnfoldStop::Memory(want)),
+    }
+}
+
+/// A node at what is left of a case: its rows, whose quotients are further columns of the question.
+pub(crate) fn at_remainder(
+    alloc: Global,
+    search: &Search<'_>,
+    node: &Node,
+    rest: &Conj,
+) -> Result<Node, UnfoldStop> {
+    let Some(assumed) = &node.question.last else {
+        return Err(UnfoldStop::Memory(AllocError));
+    };
+    let mut columns = case_columns(alloc, search.params, assumed)?;
+    let first = node.question.conj.columns;
+    let further = rest.columns.saturating_sub(columns.len());
+    for number in 0..further {
+        columns.push(column_after(first, number)?)?;
+    }
+    let rows = over_columns(alloc, node, rest.rows.as_slice(), columns.as_slice())?;
+    Ok(node.beside(alloc, further, rows.as_slice())?)
+}
+
+/// The rows of a kill over the columns of a question.
+pub(crate) fn kill_rows(
+    alloc: Global,
+    search: &Search<'_>,
+    node: &Node,
+    kill: &Conj,
+) -> Result<Items<Row>, UnfoldStop> {
+    let Some(assumed) = &node.question.last else {
+        return Err(UnfoldStop::Memory(AllocError));
+    };
+    let columns = case_columns(alloc, search.params, assumed)?;
+    over_columns(alloc, node, kill.rows.as_slice(), columns.as_slice())
+}
+
+/// Whether rows are known to have no point in common with a question.
+pub(crate) fn is_apart(
+    alloc: Global,
+    search: &Search<'_>,
+    node: &Node,
+    rows: &[Row],
+) -> Result<bool, UnfoldStop> {
+    let both = with_rows(alloc, &node.question.conj, rows)?;
+    if continued(alloc, &both, node.known.as_slice())?.is_some() {
+        return Ok(false);
+    }
+    match freely(found(alloc, &both, search.budget))? {
+        Some(Answer::Empty(_)) => Ok(true),
+        Some(Answer::Point(_)) | None => Ok(false),
+    }
+}
