@@ -19,7 +19,8 @@ use Rattle.ac_poly.specs.Model.{model_of}
 use Rattle.ac_poly.specs.declared.types.Model.{Model}
 use Rattle.ac_paths.specs.Executions.{Execution, At, Describes, execution}
 use Rattle.ac_paths.specs.OnPaths.{Compared}
-use Rattle.ac_paths.specs.Pairs.{In, Placed, IsReader, IsResolved, ResolvesTo, IsMatch, ArgumentsMeet, StepsTo}
+use Rattle.ac_forms.specs.Members.{IsAmong}
+use Rattle.ac_paths.specs.Pairs.{Placed, IsReader, IsResolved, ResolvesTo, IsMatch, ArgumentsMeet, StepsTo}
 use Rattle.ac_paths.proofs.Stepping.{at_once}
 use Rattle.ac_claims.specs.Soundness.{TermsAgree}
 use Rattle.ac_claims.proofs.Central.{reads_value}
@@ -31,6 +32,7 @@ use Rattle.ac_agreeing.specs.Statements.{AgreeingTermsHaveNoMismatch}
 use Rattle.ac_agreeing.proofs.Terms.{same_head, match_arguments, match_at, none_swap}
 use Rattle.ac_agreeing.proofs.Calls.{call_term}
 use Rattle.ac_agreeing.proofs.Shapes.{left_state, right_state, shape, matched}
+use Rattle.ac_setting.proofs.Lawful.{Key}
 
 -- ---- two programs at a valuation
 
@@ -96,9 +98,6 @@ one_spot m params x d a b p q = at_once m params x d b.position b.at a.spot b.sp
 one_width : (m : Model) (params : List ℤ) (x : Execution) → Describes m params x → (a b : Placed x) → a.position ≡ b.position → length a.at ≡ length b.at
 one_width m params x d a b p = at_width m params x d a.position a.at a.spot a.here ∙ ap (coordinate_count m) p ∙ sym (at_width m params x d b.position b.at b.spot b.here)
 
-abbrev Key : Type 0
-Key = Position × Position
-
 -- a key at a point names one spot of each program
 one_pair : (pair : Pair) (key : Key) (p params : List ℤ) (c : IsCompared pair params) (a a' : LeftPlaced pair params) (b b' : RightPlaced pair params) → IsPlaced pair key p params a b → IsPlaced pair key p params a' b' → (a.spot ≡ a'.spot) × (b.spot ≡ b'.spot)
 one_pair pair key p params c a a' b b' s t =
@@ -119,7 +118,7 @@ output_spot : (x : Execution) (a : Placed x) (o : ℕ) → a.position ≡ Output
 unfolding At
 output_spot x a o p = subst (λ (z : Position). At x z a.at a.spot) p a.here
 
-outputs_alike : (pair : Pair) (outputs : List ℕ) → ((o : ℕ) → In o outputs → TermsAgree pair o) → (key : Key) (p params : List ℤ) → IsOutputPair pair outputs key p → AlikeAt pair key p params
+outputs_alike : (pair : Pair) (outputs : List ℕ) → ((o : ℕ) → IsAmong o outputs → TermsAgree pair o) → (key : Key) (p params : List ℤ) → IsOutputPair pair outputs key p → AlikeAt pair key p params
 outputs_alike pair outputs h key p params o c a b s =
     let there = o.there in
     let l : a.position ≡ Output o.output = s.left_is ∙ sym there.placed.left_is ∙ o.left_is in
@@ -151,7 +150,7 @@ step_alike pair never order key next p q st before params c a b s =
     let e : st.params ≡ params = same_valuation pair next q st.params params st.compared.valuation.each c.valuation.each st.a' st.b' a b st.to s in
     subst (λ (z : List ℤ). AlikeAt pair next q z) e (step_base pair never order key next p q st before) c a b s
 
-obligations_alike : (pair : Pair) (outputs : List ℕ) (recurrent : Key → Bool) (template : Key → List Row) → ((key : Key) → recurrent key ≡ false) → ((f : Symbol) → swaps_of pair.commutative f ≡ true → ⊥) → ((o : ℕ) → In o outputs → TermsAgree pair o)
+obligations_alike : (pair : Pair) (outputs : List ℕ) (recurrent : Key → Bool) (template : Key → List Row) → ((key : Key) → recurrent key ≡ false) → ((f : Symbol) → swaps_of pair.commutative f ≡ true → ⊥) → ((o : ℕ) → IsAmong o outputs → TermsAgree pair o)
     → (order : Key → Order) (key : Key) (p : List ℤ) → Obligation (setting pair outputs recurrent template) order key p → (params : List ℤ) → AlikeAt pair key p params
 obligations_alike pair outputs recurrent template none never h order key p (output _ _ o) params = outputs_alike pair outputs h key p params o
 obligations_alike pair outputs recurrent template none never h order next q (step key p _ _ before st) params = step_alike pair never (order key) key next p q st (obligations_alike pair outputs recurrent template none never h order key p before) params

@@ -38,15 +38,14 @@ use Rattle.ac_graph.specs.Moves.{pairing_of}
 use Rattle.ac_graph.specs.Steps.{IsCompared, comparison, LeftPlaced, RightPlaced}
 use Rattle.ac_graph.proofs.Standing.{call_there, call_of_place}
 use Rattle.ac_widen.specs.Obligations.{Obligation, HasMismatch, step}
-use Rattle.ac_setting.proofs.Lawful.{symbol_self}
+use Rattle.ac_graph.proofs.SiteSteps.{symbol_self}
 use Rattle.ac_setting.specs.Programs.{IsPlaced, is_site_key, may_swap, order_at, setting}
 use Rattle.ac_agreeing.specs.Statements.{HaveArities}
 use Rattle.ac_agreeing.proofs.Reading.{reader_kind, resolve, left_reads, right_reads}
 use Rattle.ac_agreeing.proofs.Shapes.{Shape, is_number, is_call, is_start, left_state, right_state, shape, head_of_match, heads, one_leaf}
 use Rattle.ac_agreeing.proofs.Terms.{SameHead}
-
-abbrev pub Key : Type 0
-Key = Position × Position
+use Rattle.ac_paths.proofs.Stepping.{of_map}
+use Rattle.ac_setting.proofs.Lawful.{Key}
 
 -- two programs with what is searched of them, at a valuation
 pub record Search : Type 0 where
@@ -127,11 +126,6 @@ arith_first j = omega arith
 
 arith_next : (k j : ℕ) → k + suc j ≡ suc k + j
 arith_next k j = omega arith
-
-of_map : {A B : Type 0} (f : A → B) (xs : List A) (k : ℕ) (y : B) → slice_get (map f xs) k ≡ Some y → (x : A) × (slice_get xs k ≡ Some x) × (y ≡ f x)
-of_map f [] k y e = absurd cc
-of_map f (x ∷ xs) zero y e = let i : f x ≡ y = cc in (x, refl, sym i)
-of_map f (x ∷ xs) (suc k) y e = of_map f xs k y e
 
 -- the argument of a placed call that stands at a position
 argument_there : (x : Execution) (a : Placed x) (c : CallPlace x a) (k : ℕ) (P : Position) → slice_get (map (Node c.stmt) c.arguments) k ≡ Some P → (s : Spot) → At x P a.at s → (b : Placed x) × ArgumentPlace x a c k b × (b.spot ≡ s)

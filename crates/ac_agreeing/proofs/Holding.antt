@@ -11,16 +11,13 @@ use Rattle.ac_poly.specs.declared.types.Model.{Model}
 use Rattle.ac_paths.specs.Executions.{Execution, At, elements, execution}
 use Rattle.ac_claims.specs.ProofFaults.{is_output_array}
 use Rattle.ac_claims.proofs.Central.{claims_hold}
-use Rattle.ac_claims.proofs.Headline.{in_extents}
+use Rattle.ac_claims.proofs.Headline.{in_extents, at_output}
 use Rattle.ac_graph.specs.Steps.{LeftPlaced, RightPlaced}
 use Rattle.ac_graph.proofs.Stepping.{valuations_are_compared}
 use Rattle.ac_widen.specs.Obligations.{output}
 use Rattle.ac_agreeing.specs.Statements.{OutputsWithoutMismatchAgree}
 use Rattle.ac_agreeing.proofs.Covering.{Search, Met, runs, met_covered}
-
-and_false : (b : Bool) → (b && false) ≡ true → ⊥
-and_false true h = absurd cc
-and_false false h = absurd cc
+use Rattle.ac_agreeing.proofs.Terms.{and_false}
 
 -- an output array has its extents
 extents_there : (m : Model) (o : ℕ) → is_output_array m o ≡ true → (extents : List Affine) × (slice_get m.extents o ≡ Some extents)
@@ -29,10 +26,6 @@ extents_there m o h = by (slice_get m.extents o) refl
     by : (e : Option (List Affine)) → slice_get m.extents o ≡ e → (extents : List Affine) × (slice_get m.extents o ≡ Some extents)
     by (Some extents) e = (extents, e)
     by None e = let n = rw e at h in absurd (and_false _ n)
-
-at_output : (x : Execution) (o : ℕ) (e : List ℤ) → x.inside o e → At x (Output o) e (AtEnd (element o e))
-unfolding At
-at_output x o e h = (h, refl)
 
 pub outputs_without_mismatch_agree : OutputsWithoutMismatchAgree
 outputs_without_mismatch_agree pair outputs recurrent template paired left_arities right_arities are order none o among params valuation e inside =

@@ -48,7 +48,7 @@ pub match_at : (swaps : Symbol → Bool) (ts us : List Term) → MatchAll swaps 
 match_at swaps ts us h k t u a b = match_place swaps (terms ts) (terms us) h ts us refl refl k t u a b
 
 -- where no name is declared, no symbol's arguments may be exchanged
-and_false : (b : Bool) → (b && false) ≡ true → ⊥
+pub and_false : (b : Bool) → (b && false) ≡ true → ⊥
 and_false true h = absurd cc
 and_false false h = absurd cc
 

@@ -13,7 +13,7 @@ use Rattle.ac_syntax.specs.declared.tree.Stmt.{Stmt}
 use Rattle.ac_syntax.specs.declared.tree.Symbol.{Symbol}
 use Rattle.ac_syntax.specs.declared.tree.Value.{Value}
 use Rattle.ac_syntax.specs.declared.tree.Value.TheVariants.{Call}
-use Rattle.ac_paths.specs.Pairs.{In}
+use Rattle.ac_forms.specs.Members.{IsAmong}
 use Rattle.ac_claims.specs.Soundness.{ArePaired, TermsAgree}
 use Rattle.ac_graph.specs.Steps.{HaveOutputs}
 use Rattle.ac_setting.specs.Programs.{setting}
@@ -22,7 +22,7 @@ use Rattle.ac_widen.specs.Obligations.{HasMismatch}
 -- where the terms of each output agree, no obligation is a mismatch, if no pair is widened and no function is declared commutative
 abbrev pub AgreeingTermsHaveNoMismatch : Type 0
 AgreeingTermsHaveNoMismatch =
-    (pair : Pair) (outputs : List ℕ) (recurrent : Position × Position → Bool) (template : Position × Position → List Row) → ((key : Position × Position) → recurrent key ≡ false) → pair.commutative ≡ [] → ((o : ℕ) → In o outputs → TermsAgree pair o)
+    (pair : Pair) (outputs : List ℕ) (recurrent : Position × Position → Bool) (template : Position × Position → List Row) → ((key : Position × Position) → recurrent key ≡ false) → pair.commutative ≡ [] → ((o : ℕ) → IsAmong o outputs → TermsAgree pair o)
     → (order : Position × Position → Order) → ¬ (HasMismatch (setting pair outputs recurrent template) order)
 
 -- each call of an assignment that is executed has as many arguments as its symbol says
@@ -32,11 +32,11 @@ HaveArities body =
 
 -- outputs of the pair, which are inputs with at least one dimension in both programs
 pub record AreOutputs (pair : Pair) (outputs : List ℕ) : Type 0 where
-  pub among : (o : ℕ) → In o outputs → list_any (nat_eq o) pair.outputs ≡ true
+  pub among : (o : ℕ) → IsAmong o outputs → list_any (nat_eq o) pair.outputs ≡ true
   pub named : HaveOutputs pair outputs
 
 -- where under some order no obligation is a mismatch, wherever is widened, the terms of each output agree, and so the outputs are the same
 abbrev pub OutputsWithoutMismatchAgree : Type 0
 OutputsWithoutMismatchAgree =
     (pair : Pair) (outputs : List ℕ) (recurrent : Position × Position → Bool) (template : Position × Position → List Row) → ArePaired pair → HaveArities pair.left.body → HaveArities pair.right.body → AreOutputs pair outputs
-    → (order : Position × Position → Order) → ¬ (HasMismatch (setting pair outputs recurrent template) order) → (o : ℕ) → In o outputs → TermsAgree pair o
+    → (order : Position × Position → Order) → ¬ (HasMismatch (setting pair outputs recurrent template) order) → (o : ℕ) → IsAmong o outputs → TermsAgree pair o

@@ -31,7 +31,7 @@ use Rattle.ac_rules.proofs.Stepping.{broken-loop, broken-branch, broken-assign, 
 use Rattle.ac_affine.proofs.Absent.{NoneBroken, each, neither, none_of}
 use Rattle.ac_affine.proofs.Trees.{every_statement}
 use Rattle.ac_arities.specs.Arities.{HasArities, AssignsArities, EachAssignsArities, AllHaveArities}
-use Rattle.ac_arities.proofs.Built.{Counts, has_arities, applied_counts, read_counts, value_read}
+use Rattle.ac_arities.proofs.Built.{Counts, has_arities, applied_counts, access_counts, value_read}
 
 row_assigns : (m : _) (k : Row_of-Stmt m) → AllByRecursion AssignsArities (items-the_row-Stmt m k) → EachAssignsArities k
 unfolding AssignsArities
@@ -64,7 +64,7 @@ not_many n rule place false e h = grind (arith, nat_tests)
 module _ (names : List Entry) where
   assigned_counts : (scope : Scope) (target : Word) (subs : List Expr) (operator : Option Operator) (e : Expr) → Counts (assigned_value names scope target subs operator e)
   assigned_counts scope target subs None e = value_read names scope e
-  assigned_counts scope target subs (Some op) e = applied_counts op (read_of names scope (meaning names scope target.name) target subs) (value names scope e) (read_counts _ _ _) (value_read names scope e)
+  assigned_counts scope target subs (Some op) e = applied_counts op (read_of names scope (meaning names scope target.name) target subs) (value names scope e) (access_counts _ _ _) (value_read names scope e)
 
   assignment_has : (scope : Scope) (target : Word) (subs : List Expr) (operator : Option Operator) (e : Expr) → assignment_broken names scope target subs operator e ≡ None → HasArities (assigned_value names scope target subs operator e)
   assignment_has scope target subs operator e h =

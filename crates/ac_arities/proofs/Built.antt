@@ -61,11 +61,11 @@ number_counts : (e : _) → Counts (v.Number e)
 unfolding Counts
 number_counts e = tt
 
-access_counts : (array : _) (subs : _) (place : Place) → Counts (v.Access array subs place)
+pub access_counts : (array : _) (subs : _) (place : Place) → Counts (v.Access array subs place)
 unfolding Counts
 access_counts array subs place = tt
 
-count_row : (m : _) (k : Row_of-Value m) → count k ≡ length (items-the_row-Value m k)
+pub count_row : (m : _) (k : Row_of-Value m) → count k ≡ length (items-the_row-Value m k)
 unfolding count
 count_row m end_of-Value = refl
 count_row m (more_of-Value {n = l} x rest) = let r : count rest ≡ length (items-the_row-Value l rest) = count_row l rest in omega (arith, r)
@@ -153,6 +153,3 @@ module _ (names : List Entry) (scope : Scope) where
 
   pub value_read : (e : Expr) → Counts (value names scope e)
   value_read e = value_counts scope (reading names scope e) (is_read e)
-
-pub read_counts : (array : _) (subs : _) (place : Place) → Counts (v.Access array subs place)
-read_counts = access_counts

@@ -1,5 +1,5 @@
 -- The calls of an assignment that is executed are those of the text.
-use Rattle.std.proofs.Common.{◌≡◌, ℕ, zero, suc, ◌+◌, ◌-◌, List, [], ◌∷◌, length, Bool, true, false, cond, Option, Some, refl, ◌∙◌, subst, rules, arith}
+use Rattle.std.proofs.Common.{◌≡◌, ℕ, zero, suc, ◌+◌, ◌-◌, List, [], ◌∷◌, length, Bool, true, false, cond, Option, Some, refl, sym, ◌∙◌, subst, rules, arith}
 use Rattle.std.specs.Prelude.{nat_lt}
 use Rattle.ac_syntax.specs.Assigned.{Assigned, assigned, assigned_in, assigned_all, text_of}
 use Rattle.ac_syntax.specs.Index.{point}
@@ -15,6 +15,7 @@ use Rattle.ac_syntax.proofs.Texts.{entry_text}
 use Rattle.ac_cert.proofs.Keeping.{some-is}
 use Rattle.ac_agreeing.specs.Statements.{HaveArities}
 use Rattle.ac_arities.specs.Arities.{count, HasArities, EachHasArities, AssignsArities, EachAssignsArities, AllHaveArities}
+use Rattle.ac_arities.proofs.Built.{count_row}
 
 -- ---- in the text
 
@@ -60,14 +61,9 @@ mutual
   in_values end_of-Value k u h e = absurd cc
   in_values (more_of-Value v rest) k u h e = node_test (nat_lt k (size v)) (node_of v k) (node_in rest (k - size v)) u e (in_value v k u h.0) (in_values rest (k - size v) u h.1)
 
-count_row : (m : _) (k : Row_of-Value m) → length (items-the_row-Value m k) ≡ count k
-unfolding count
-count_row m end_of-Value = refl
-count_row m (more_of-Value {n = l} x rest) = let r : length (items-the_row-Value l rest) ≡ count rest = count_row l rest in omega (arith, r)
-
 call_row : (f : Symbol) (m : _) (args : Row_of-Value _) (place : Place) → HasArities (Call' f m args place) → length (items-the_row-Value _ args) ≡ f.arity
 unfolding HasArities
-call_row f m args place h = count_row _ args ∙ h.0
+call_row f m args place h = sym (count_row _ args) ∙ h.0
 
 call_arity : (f : Symbol) (args : List Value) (place : Place) → HasArities (Call f args place) → length args ≡ f.arity
 call_arity f args place h = search (rules, the_lemmas, call_row, h)

@@ -27,7 +27,7 @@ use Rattle.ac_omega.proofs.DifferenceNormals.{rows-fit}
 use Rattle.ac_omega.proofs.DifferencePoints.{AreWithin, can-evaluate}
 use Rattle.ac_omega.proofs.DifferenceWalks.{cost, cost-step, grown, normal-standing, AreSmall, form-small, Comes}
 use Rattle.ac_omega.proofs.DifferencePaths.{Frame, Stage, walk-comes}
-use Rattle.ac_omega.proofs.DifferenceQuestions.{below, length-below, question-raw, grown-upto, grown-sixty, cube-is}
+use Rattle.ac_omega.proofs.DifferenceQuestions.{below, length-below, question-raw, grown-upto, grown-sixty, cube-is, few-times}
 use Rattle.ac_omega.proofs.DifferenceSweeps.{differences-eliminate, differences-left}
 use Rattle.ac_omega.proofs.Empties.{all-gone}
 use Rattle.ac_omega.proofs.Replays.{result-over}
@@ -129,11 +129,6 @@ pub gone-cost : (strategy : Strategy) (budget k : ℕ) (s : Maxima) (q : Conj) �
 gone-cost strategy budget k s q h e =
     let c : k ≤ 0 + cost 22 = (comes-as strategy budget q (Empty k s) h e).0 in
     omega (arith, c, last-cost)
-
-few-times : (a b n : ℕ) → a ≤ 1 → b ≤ n → a * b ≤ n
-few-times zero b n h g = omega arith
-few-times (suc zero) b n h g = omega arith
-few-times (suc (suc a)) b n h g = absurd (omega arith)
 
 most-rooms : 2 ^ 108 ≤ 2 ^ 120
 most-rooms = lit≤ tt

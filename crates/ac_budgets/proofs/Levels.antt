@@ -11,7 +11,7 @@ use Rattle.ac_poly.specs.declared.types.StmtModel.{StmtModel}
 use Rattle.ac_paths.specs.Columns.{base, columns_of}
 use Rattle.ac_paths.specs.Coordinates.{width, levels_before}
 use Rattle.ac_paths.specs.Killing.{assignment_at, after_rows}
-use Rattle.ac_paths.specs.Pairs.{In}
+use Rattle.ac_forms.specs.Members.{IsAmong}
 use Rattle.ac_paths.specs.Places.{levels_at, levels_to}
 use Rattle.ac_paths.specs.declared.path.Seat.{Seat}
 use Rattle.ac_flow.specs.Writings.{alone, levels_after, levels_after_of, numbers_to, afters}
@@ -47,7 +47,7 @@ pub record Follows (m : Model) (source : Option Seat) (after : Option ℕ) (u : 
   pub is : after_rows (alone m) m source after u copy stmt ≡ Some rows
   pub differences : AreDifferences 1 rows
 
-follows-at : (m : Model) (seat copy : Seat) (k u : ℕ) (stmt : StmtModel) (o : Option StmtModel) → slice_get m.stmts (assignment_at seat) ≡ o → In k (numbers_to (length (levels_after_of m o (assignment_at seat) u stmt))) → Follows m (Some seat) (Some k) u copy stmt
+follows-at : (m : Model) (seat copy : Seat) (k u : ℕ) (stmt : StmtModel) (o : Option StmtModel) → slice_get m.stmts (assignment_at seat) ≡ o → IsAmong k (numbers_to (length (levels_after_of m o (assignment_at seat) u stmt))) → Follows m (Some seat) (Some k) u copy stmt
 follows-at m seat copy k u stmt None e h = absurd h
 follows-at m seat copy k u stmt (Some from) e h =
     let l = numbered (levels_before m.params (assignment_at seat) from u stmt) k h in
@@ -55,7 +55,7 @@ follows-at m seat copy k u stmt (Some from) e h =
     let r = renames 1 (base m.params ++ (columns_of seat ++ columns_of copy)) l.0 d in
     record { rows = r.rows; is = rw (e, l.1) r.is; differences = r.differences }
 
-pub follows : (m : Model) (source : Option Seat) (after : Option ℕ) (u : ℕ) (copy : Seat) (stmt : StmtModel) → In after (afters m source u stmt) → Follows m source after u copy stmt
+pub follows : (m : Model) (source : Option Seat) (after : Option ℕ) (u : ℕ) (copy : Seat) (stmt : StmtModel) → IsAmong after (afters m source u stmt) → Follows m source after u copy stmt
 follows m None after u copy stmt (inl e) = subst (λ (o : Option ℕ). Follows m None o u copy stmt) (sym e) (record { rows = []; is = refl; differences = tt })
 follows m None after u copy stmt (inr h) = absurd h
 follows m (Some seat) after u copy stmt h =

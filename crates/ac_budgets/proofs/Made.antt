@@ -11,7 +11,7 @@ use Rattle.ac_paths.specs.Coordinates.{width}
 use Rattle.ac_paths.specs.Formed.{HasModuli}
 use Rattle.ac_paths.specs.Going.{root, case_rows}
 use Rattle.ac_paths.specs.Killing.{case_width, source_width, with_own_columns, copy_rows}
-use Rattle.ac_paths.specs.Pairs.{In}
+use Rattle.ac_forms.specs.Members.{IsAmong}
 use Rattle.ac_paths.specs.Places.{cell_read}
 use Rattle.ac_paths.specs.declared.places.CellForms.{CellForms}
 use Rattle.ac_paths.specs.declared.path.Assumed.{Assumed}
@@ -45,7 +45,7 @@ pub record IsRead (m : Model) (r : Reads) : Type 0 where
   pub subs : AreShifted (2 ^ 33) cell.subs
   pub long : (u : ℕ) (stmt : StmtModel) → slice_get m.stmts u ≡ Some stmt → stmt.array ≡ r.array → length cell.subs ≡ length stmt.subs
   pub few : r.count ≤ 6
-  pub pieces : (piece : List Row) → In piece r.pieces → AreNarrow (m.params + r.count) (2 ^ 34) piece
+  pub pieces : (piece : List Row) → IsAmong piece r.pieces → AreNarrow (m.params + r.count) (2 ^ 34) piece
 
 source-few : (m : Model) (count : ℕ) (source : Option Seat) → HasDifferences (2 ^ 33) m → IsPlaced m count source → source_width source ≤ 6
 source-few m count _ d Nowhere = omega arith
@@ -126,5 +126,5 @@ copy-made m r source w hm d h p n = record {
         rows_made (alone m) a w.stmt w.piece w.after w.before n.stmt all hm n.is
         (subst (λ (b : Assumed). copy_rows (alone m) b first w.stmt w.piece w.after w.before n.stmt ≡ Some all) (sym (own-columns m r.position r.count source p)) made)
 
-pub all-made : (m : Model) (r : Reads) (source : Option Seat) (w : CopyNumbers) → HasModuli m → HasDifferences (2 ^ 33) m → IsRead m r → IsPlaced m r.count source → In w (writings m r.position r.array source) → IsMade m (reading m r.position r.count source) w
+pub all-made : (m : Model) (r : Reads) (source : Option Seat) (w : CopyNumbers) → HasModuli m → HasDifferences (2 ^ 33) m → IsRead m r → IsPlaced m r.count source → IsAmong w (writings m r.position r.array source) → IsMade m (reading m r.position r.count source) w
 all-made m r source w hm d h p i = copy-made m r source w hm d h p (named m r.position r.array source w i)

@@ -12,7 +12,7 @@ use Rattle.ac_poly.specs.declared.types.Model.{Model}
 use Rattle.ac_poly.specs.declared.types.NodeModel.TheVariants.{Read}
 use Rattle.ac_cert.proofs.Keeping.{some-is}
 use Rattle.ac_paths.specs.Coordinates.{width}
-use Rattle.ac_paths.specs.Pairs.{In}
+use Rattle.ac_forms.specs.Members.{IsAmong}
 use Rattle.ac_paths.specs.Places.{element_forms, extent_rows}
 use Rattle.ac_flow.specs.Cases.{Reads, ArePiecesOver}
 use Rattle.ac_flow.specs.Readers.{IsOver}
@@ -31,7 +31,7 @@ same-long extents a b fs gs (x, e, l) (y, f, k) s =
     let i : y ≡ x = some-is y x (sym f ∙ ap (λ (n : ℕ). slice_get extents n) s ∙ e) in
     l ∙ ap (λ (z : List Affine). length z) (sym i) ∙ sym k
 
-pieces-narrow : (n b c : ℕ) (pieces : List (List Row)) → b ≤ c → ArePiecesOver n pieces → AllByRecursion (AreDifferences b) pieces → (piece : List Row) → In piece pieces → AreNarrow n c piece
+pieces-narrow : (n b c : ℕ) (pieces : List (List Row)) → b ≤ c → ArePiecesOver n pieces → AllByRecursion (AreDifferences b) pieces → (piece : List Row) → IsAmong piece pieces → AreNarrow n c piece
 pieces-narrow n b c [] l o d piece h = absurd h
 pieces-narrow n b c (q ∷ qs) l o d piece (inl e) = subst (AreNarrow n c) (sym e) (record { over = o.0; differences = rows-more b c q l d.0 })
 pieces-narrow n b c (q ∷ qs) l o d piece (inr h) = pieces-narrow n b c qs l o.1 d.1 piece h

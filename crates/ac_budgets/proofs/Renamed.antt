@@ -12,6 +12,7 @@ use Rattle.ac_omega.specs.Differences.{one_in, IsDifference, AreDifferences}
 use Rattle.ac_omega.proofs.DifferenceForms.{weight, weight-two}
 use Rattle.ac_omega.proofs.DifferenceNormals.{nothing-at, fits-within, both-true}
 use Rattle.ac_budgets.specs.Models.{IsShifted}
+use Rattle.ac_omega.proofs.DifferenceSweeps.{differ}
 
 -- ---- one more at a column
 
@@ -29,9 +30,6 @@ at-other (suc k) zero c [] h = refl
 at-other (suc k) zero c (x ∷ xs) h = refl
 at-other (suc k) (suc j) c [] h = at-other k j c [] (λ e. h (ap suc e)) ∙ nothing-at j
 at-other (suc k) (suc j) c (x ∷ xs) h = at-other k j c xs (λ e. h (ap suc e))
-
-differ : {t : Bool} → t ≡ true → t ≡ false → ⊥
-differ e f = cc
 
 plus-none : (x : ℤ) → x ≡ x +ℤ pos 0
 plus-none x = omega (arith, ints)

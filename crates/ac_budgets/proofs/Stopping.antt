@@ -21,7 +21,7 @@ use Rattle.ac_paths.specs.Coordinates.{width}
 use Rattle.ac_paths.specs.Formed.{HasModuli}
 use Rattle.ac_paths.specs.Going.{root}
 use Rattle.ac_paths.specs.Killing.{case_width}
-use Rattle.ac_paths.specs.Pairs.{In}
+use Rattle.ac_forms.specs.Members.{IsAmong}
 use Rattle.ac_paths.specs.declared.path.Assumed.{Assumed}
 use Rattle.ac_paths.specs.declared.path.CopyNumbers.{CopyNumbers}
 use Rattle.ac_paths.specs.declared.path.Seat.{Seat}
@@ -111,7 +111,7 @@ pub record Setting (m : Model) (r : Reads) : Type 0 where
   pub differences : HasDifferences (2 ^ 33) m
   pub read : IsRead m r
 
-pub made-for : (budget : ℕ) (m : Model) (r : Reads) (source : Option Seat) (w : CopyNumbers) → Setting m r → IsPlaced m r.count source → In w (writings m r.position r.array source) → IsMade m (reading m r.position r.count source) w
+pub made-for : (budget : ℕ) (m : Model) (r : Reads) (source : Option Seat) (w : CopyNumbers) → Setting m r → IsPlaced m r.count source → IsAmong w (writings m r.position r.array source) → IsMade m (reading m r.position r.count source) w
 made-for budget m r source w t p i = all-made m r source w t.moduli t.differences t.read p i
 
 some-none : {A : Type 0} (o : Option A) (x : A) → o ≡ Some x → o ≡ None → ⊥
@@ -154,7 +154,7 @@ kill-at budget m r source (x ∷ xs) kill (suc k) t p a l e = kill-at budget m r
 
 -- ---- cases
 
-pub base-narrow : (budget : ℕ) (m : Model) (r : Reads) (columns : ℕ) (rows piece : List Row) → Setting m r → AreNarrow 22 (2 ^ 34) rows → In piece r.pieces → AreNarrow 22 (2 ^ 34) (case_conj m columns rows piece).rows
+pub base-narrow : (budget : ℕ) (m : Model) (r : Reads) (columns : ℕ) (rows piece : List Row) → Setting m r → AreNarrow 22 (2 ^ 34) rows → IsAmong piece r.pieces → AreNarrow 22 (2 ^ 34) (case_conj m columns rows piece).rows
 base-narrow budget m r columns rows piece t n i =
     let d = t.differences in
     let few = t.read.few in
@@ -179,7 +179,7 @@ case-answered budget m r source columns rows (cut.Spent q k) enough t p n s = ca
 case-answered budget m r source columns rows cut.Full enough t p n s = tt
 case-answered budget m r source columns rows (cut.Memory e) enough t p n s = tt
 
-source-answered : (budget : ℕ) (m : Model) (r : Reads) (w : CopyNumbers) (e : CutStop) → 24334 ≤ budget → Setting m r → In w (writings m r.position r.array None) → SourceStops budget m r w e → IsNoQuestion e
+source-answered : (budget : ℕ) (m : Model) (r : Reads) (w : CopyNumbers) (e : CutStop) → 24334 ≤ budget → Setting m r → IsAmong w (writings m r.position r.array None) → SourceStops budget m r w e → IsNoQuestion e
 source-answered budget m r w e enough t i (inl u) = unformed-answered m (reading m r.position r.count None) w e (made-for budget m r None w t Nowhere i) u
 source-answered budget m r w e enough t i (inr (stmt, own, is, formed, s)) =
     let k = copy-is m r None w own t.differences t.read Nowhere (made-for budget m r None w t Nowhere i) formed in
@@ -188,7 +188,7 @@ source-answered budget m r w e enough t i (inr (stmt, own, is, formed, s)) =
 no-rows : AreNarrow 22 (2 ^ 34) []
 no-rows = record { over = tt; differences = tt }
 
-read-by : (budget : ℕ) (m : Model) (r : Reads) (e : CutStop) → 24334 ≤ budget → Setting m r → ((w : CopyNumbers) × In w (writings m r.position r.array None) × SourceStops budget m r w e) ⊎ CaseStops budget m r None (m.params + r.count) [] e → IsNoQuestion e
+read-by : (budget : ℕ) (m : Model) (r : Reads) (e : CutStop) → 24334 ≤ budget → Setting m r → ((w : CopyNumbers) × IsAmong w (writings m r.position r.array None) × SourceStops budget m r w e) ⊎ CaseStops budget m r None (m.params + r.count) [] e → IsNoQuestion e
 read-by budget m r e enough t (inl (w, i, s)) = source-answered budget m r w e enough t i s
 read-by budget m r e enough t (inr s) = case-answered budget m r None (m.params + r.count) [] e enough t Nowhere no-rows s
 
@@ -206,13 +206,13 @@ bounded-answered m extents (flow.Spent q k) c s = s
 bounded-answered m extents (flow.Pieces position kept) c s = tt
 bounded-answered m extents (flow.Memory e) c s = tt
 
-pub setting : (m : Model) (r : Reads) → IsLowered m → CellsHaveDimensions m → HasDifferences (2 ^ 33) m → In r (readers m) → Setting m r
+pub setting : (m : Model) (r : Reads) → IsLowered m → CellsHaveDimensions m → HasDifferences (2 ^ 33) m → IsAmong r (readers m) → Setting m r
 setting m r l dims d i = let o = is_over m l in record { moduli = o.moduli; context = o.context; differences = d; read = is-read m r o dims d (reader-of m r i) }
 
 pub flow-answered : (budget : ℕ) (m : Model) (e : FlowStop) → IsLowered m → CellsHaveDimensions m → HasDifferences (2 ^ 33) m → 24334 ≤ budget → StopsAmong budget m (readers m) e → StopsByNoQuestion e
 flow-answered budget m e l dims d enough s = by s.why
   where
-    by : ((r : Reads) × In r (readers m) × StopsAt budget m r e) ⊎ ((array : ℕ) × (extents : List Affine) × (slice_get m.extents array ≡ Some extents) × IsUnbounded m extents e) → StopsByNoQuestion e
+    by : ((r : Reads) × IsAmong r (readers m) × StopsAt budget m r e) ⊎ ((array : ℕ) × (extents : List Affine) × (slice_get m.extents array ≡ Some extents) × IsUnbounded m extents e) → StopsByNoQuestion e
     by (inl (r, i, t)) = at-answered budget m r e enough (setting m r l dims d i) t
     by (inr (array, extents, is, u)) = bounded-answered m extents e (all-bounded (2 ^ 33) m.params extents (lit< tt) (d.extents array extents is)) u
 

@@ -13,7 +13,8 @@ use Rattle.ac_cert.specs.Accepted.{Accepts, AcceptsEach, IsSplit, after_steps}
 use Rattle.ac_cert.specs.Apart.{AcceptsNext, IsOnto}
 use Rattle.ac_cert.specs.Faults.{Refusal, later, step_fault, path_fault, split_fault, fault_of, tree_fault, kids_fault, size_of}
 use Rattle.ac_cert.specs.Rules.{after_step, rule_of, both_sides, side_rows, rest_of, class, class_row, has_class, is_partition, first_of, with_row}
-use Rattle.ac_cert.specs.Stops.{MadeBy}
+use Rattle.ac_forms.specs.Stops.{GivenOf}
+use Rattle.ac_cert.specs.Stops.{Refuses}
 use Rattle.ac_cert.specs.declared.types.EndStop.{EndStop}
 use Rattle.ac_cert.specs.declared.types.Next.{Next, End, Split, Residue}
 use Rattle.ac_cert.specs.declared.types.Rule.{Rule}
@@ -125,11 +126,11 @@ sides-over f columns s e =
     let l = rest_within (negsuc 0) f r.rest r.below in
     subst (λ (x : Row × Row). IsRowOver columns x.0 × IsRowOver columns x.1) (sym r.is) ((r.within, tt), (subst (λ (n : ℕ). n ≤ columns) (sym l) r.within, tt))
 
-pub side-covers : (res : Result (Row × Row) EndStop) (f : Affine) (columns : ℕ) → MadeBy (side_rows f columns) rule.Split res → IfOk res (λ rows. (p : List ℤ) → Holds rows.0 p ⊎ Holds rows.1 p)
+pub side-covers : (res : Result (Row × Row) EndStop) (f : Affine) (columns : ℕ) → GivenOf res (Refuses rule.Split) (side_rows f columns) → IfOk res (λ rows. (p : List ℤ) → Holds rows.0 p ⊎ Holds rows.1 p)
 side-covers (Ok s) f columns e = sides-cover f columns s e
 side-covers (Err stop) f columns e = tt
 
-pub side-made : (res : Result (Row × Row) EndStop) (f : Affine) (columns : ℕ) → MadeBy (side_rows f columns) rule.Split res → IfOk res (λ rows. IsRowOver columns rows.0 × IsRowOver columns rows.1)
+pub side-made : (res : Result (Row × Row) EndStop) (f : Affine) (columns : ℕ) → GivenOf res (Refuses rule.Split) (side_rows f columns) → IfOk res (λ rows. IsRowOver columns rows.0 × IsRowOver columns rows.1)
 side-made (Ok s) f columns e = sides-over f columns s e
 side-made (Err stop) f columns e = tt
 
@@ -140,7 +141,7 @@ class-row-over m f r columns e =
     let b = and-true (nat_le (length f.coefs) columns) (fits (f.konst -ℤ r)) a.1 in
     (leb-true _ _ b.0, le-true (pos 1) m a.0)
 
-pub class-row-made : (res : Result Row EndStop) (m : ℤ) (f : Affine) (r : ℤ) (columns : ℕ) → MadeBy (cond (has_class m f r columns) (Some (class_row m f r)) None) rule.Residue res → IfOk res (λ row. IsRowOver columns row)
+pub class-row-made : (res : Result Row EndStop) (m : ℤ) (f : Affine) (r : ℤ) (columns : ℕ) → GivenOf res (Refuses rule.Residue) (cond (has_class m f r columns) (Some (class_row m f r)) None) → IfOk res (λ row. IsRowOver columns row)
 class-row-made (Ok row) m f r columns e =
     let a = if-some (has_class m f r columns) (Some (class_row m f r)) row e in
     subst (λ (x : Row). IsRowOver columns x) (some-is (class_row m f r) row a.1) (class-row-over m f r columns a.0)

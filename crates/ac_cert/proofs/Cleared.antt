@@ -98,11 +98,8 @@ between_made z rows p q out v e h o =
     let s = same_cleared p q z e in
     (sym (between_fits_same z rows q p s) ∙ h.0, o ∙ ap (λ (x : ℤ). set p z x) (h.1 ∙ between_same z rows q p s))
 
-pub between_left : (z : ℕ) (rows : List Row) (p q : List ℤ) → q ≡ set p z (pos 0) → between_fits z rows q ≡ false → between_fits z rows p ≡ true → ⊥
-between_left z rows p q e h t = differ (sym h ∙ between_fits_same z rows q p (same_cleared p q z e) ∙ t)
-  where
-    differ : false ≡ true → ⊥
-    differ e = cc
+pub between_left : (z : ℕ) (rows : List Row) (p q : List ℤ) → q ≡ set p z (pos 0) → ¬ (between_fits z rows q ≡ true) → ¬ (between_fits z rows p ≡ true)
+between_left z rows p q e h t = h (between_fits_same z rows q p (same_cleared p q z e) ∙ t)
 
 pub solved_made : (z : ℕ) (o : Option Row) (p q out : List ℤ) (v : ℤ) → q ≡ set p z (pos 0) → Some v ≡ cond (solved_fits z o q) (Some (solved z o q)) None → out ≡ set p z v → (solved_fits z o p ≡ true) × (out ≡ set p z (solved z o p))
 solved_made z o p q out v e h g =

@@ -9,7 +9,8 @@ use Rattle.ac_forms.specs.NormalRows.{normal_row, NormalFits}
 use Rattle.ac_forms.specs.Orders.{row_cmp}
 use Rattle.ac_forms.specs.Rows.{HaveModuli}
 use Rattle.ac_forms.specs.Tests.{normal_fits, rows_fit}
-use Rattle.ac_forms.specs.Traces.{IsOneOf, IsLeftOf}
+use Rattle.ac_forms.specs.Members.{IsAmong}
+use Rattle.ac_forms.specs.Traces.{IsLeftOf}
 use Rattle.ac_forms.specs.declared.normal.NormalRow.{NormalRow}
 use Rattle.ac_forms.specs.declared.normal.NormalRow.TheVariants.{Kept, Dropped, Absurd}
 use Rattle.ac_forms.specs.declared.row.Row.{Row}
@@ -44,7 +45,7 @@ order_first xs ys =
 
 -- ---- the rows of lists that are put together
 
-one_in_parts : (r : Row) (xs ys : List Row) → IsOneOf r (xs ++ ys) → IsOneOf r xs ⊎ IsOneOf r ys
+one_in_parts : (r : Row) (xs ys : List Row) → IsAmong r (xs ++ ys) → IsAmong r xs ⊎ IsAmong r ys
 one_in_parts r [] ys q = inr q
 one_in_parts r (x ∷ xs) ys (inl e) = inl (inl e)
 one_in_parts r (x ∷ xs) ys (inr q) = elim (one_in_parts r xs ys q) [ inl t ↦ inl (inr t) | inr t ↦ inr t ]
@@ -59,11 +60,11 @@ trimmed_cons : (k : Row) (xs : List Row) → IsTrimmed k → AllTrimmed xs → A
 trimmed_cons k xs h g r (inl e) = subst (λ (x : Row). IsTrimmed x) (sym e) h
 trimmed_cons k xs h g r (inr q) = g r q
 
-inserted : (k : Row) (xs : List Row) → IsOneOf k (insert_row k xs)
+inserted : (k : Row) (xs : List Row) → IsAmong k (insert_row k xs)
 inserted k [] = inl refl
 inserted k (x ∷ xs) = by (inserted k xs) (is_gt (row_cmp k x))
   where
-    by : IsOneOf k (insert_row k xs) → (g : Bool) → IsOneOf k (cond g (x ∷ insert_row k xs) (k ∷ x ∷ xs))
+    by : IsAmong k (insert_row k xs) → (g : Bool) → IsAmong k (cond g (x ∷ insert_row k xs) (k ∷ x ∷ xs))
     by q true = inr q
     by q false = inl refl
 
@@ -179,15 +180,15 @@ left_of_fits r (x ∷ xs) m (inl e) = kept-fits x r m.0 e
 left_of_fits r (x ∷ xs) m (inr h) = left_of_fits r xs m.1 h
 
 -- a row of the joined ones is the normal form of a row
-source : (r : Row) (xs : List Row) → IsOneOf r (dedup alike (in_order (left_rows xs))) → IsLeftOf r xs
+source : (r : Row) (xs : List Row) → IsAmong r (dedup alike (in_order (left_rows xs))) → IsLeftOf r xs
 source r xs q = left_trace r xs (order_trace r (left_rows xs) (joined_trace r (in_order (left_rows xs)) q))
 
 -- rows that are their own normal forms
-all_left : (ns : List Row) → ((r : Row) → IsOneOf r ns → normal_row r ≡ Kept r) → left_rows ns ≡ ns
+all_left : (ns : List Row) → ((r : Row) → IsAmong r ns → normal_row r ≡ Kept r) → left_rows ns ≡ ns
 all_left [] h = refl
 all_left (n ∷ ns) h = ap (λ (l : NormalRow). left_onto l (left_rows ns)) (h n (inl refl)) ∙ ap (λ (rs : List Row). n ∷ rs) (all_left ns (λ r q. h r (inr q)))
 
-none_absurd : (ns : List Row) → ((r : Row) → IsOneOf r ns → normal_row r ≡ Kept r) → has_absurd ns ≡ false
+none_absurd : (ns : List Row) → ((r : Row) → IsAmong r ns → normal_row r ≡ Kept r) → has_absurd ns ≡ false
 none_absurd [] h = refl
 none_absurd (n ∷ ns) h = ap (λ (l : NormalRow). is_absurd l || has_absurd ns) (h n (inl refl)) ∙ none_absurd ns (λ r q. h r (inr q))
 
@@ -221,7 +222,7 @@ joined_parts : (xs ys : List Row) → HaveModuli xs → has_absurd xs ≡ false 
     → normal_form (dedup alike (in_order (left_rows xs)) ++ ys) ≡ normal_form (xs ++ ys)
 joined_parts xs ys m e c =
     let ns = dedup alike (in_order (left_rows xs)) in
-    let again : (r : Row) → IsOneOf r ns → normal_row r ≡ Kept r = λ r q. left_of_again r xs m (source r xs q) in
+    let again : (r : Row) → IsAmong r ns → normal_row r ≡ Kept r = λ r q. left_of_again r xs m (source r xs q) in
     let flags : has_absurd (ns ++ ys) ≡ has_absurd (xs ++ ys) =
     absurd_parts ns ys ∙ ap (λ (a : Bool). a || has_absurd ys) (none_absurd ns again ∙ sym e) ∙ sym (absurd_parts xs ys) in
     let lefts : left_rows (ns ++ ys) ≡ ns ++ left_rows ys = left_parts ns ys ∙ ap (λ (rs : List Row). rs ++ left_rows ys) (all_left ns again) in
@@ -253,7 +254,7 @@ fit_parts (x ∷ xs) ys = ap (λ (b : Bool). normal_fits x && b) (fit_parts xs y
     by true = refl
     by false = refl
 
-each_fits : (ns : List Row) → ((r : Row) → IsOneOf r ns → NormalFits r) → rows_fit ns ≡ true
+each_fits : (ns : List Row) → ((r : Row) → IsAmong r ns → NormalFits r) → rows_fit ns ≡ true
 each_fits [] h = refl
 each_fits (n ∷ ns) h = ap (λ (b : Bool). b && rows_fit ns) ((normal_fits-is n).1 (h n (inl refl))) ∙ each_fits ns (λ r q. h r (inr q))
 

@@ -13,7 +13,7 @@ use Rattle.ac_forms.specs.NormalForm.{absurd_rows, insert_row, same_coefs, alike
 use Rattle.ac_forms.specs.NormalRows.{trim, trim_onto}
 use Rattle.ac_forms.specs.Orders.{columns_cmp, form_eq, row_cmp}
 use Rattle.ac_forms.specs.Ties.{int_tied, then_tied, columns_total, row_total, form_equiv}
-use Rattle.ac_forms.specs.Traces.{IsOneOf}
+use Rattle.ac_forms.specs.Members.{IsAmong}
 use Rattle.ac_forms.specs.declared.row.Row.{Row}
 use Rattle.ac_forms.specs.declared.row.Row.TheVariants.{Eq, Div, Ge}
 use Rattle.ac_forms.proofs.Joining.{both_of, lists_same}
@@ -47,7 +47,7 @@ both_ways a Greater e f g = absurd cc
 one_row : (r s : Row) → Upto r s → Upto s r → r ≡ s
 one_row r s e f = row_tied r s (both_ways (row_cmp r s) (row_cmp s r) (row_total.antisymm r s) e f)
 
-pub below_one : (r k : Row) (ss : List Row) → Below r ss → IsOneOf k ss → Upto r k
+pub below_one : (r k : Row) (ss : List Row) → Below r ss → IsAmong k ss → Upto r k
 below_one r k [] b q = absurd q
 below_one r k (s ∷ ss) b (inl e) = subst (λ (x : Row). Upto r x) (sym e) b.0
 below_one r k (s ∷ ss) b (inr q) = below_one r k ss b.1 q
@@ -237,22 +237,22 @@ after_joined r xs later h =
 
 -- all rows end with no 0
 abbrev pub AllTrimmed : List Row → Type 0
-AllTrimmed xs = (r : Row) → IsOneOf r xs → IsTrimmed r
+AllTrimmed xs = (r : Row) → IsAmong r xs → IsTrimmed r
 
 -- r is the row t, which the order puts behind it
-at_front : (r t k : Row) (ts : List Row) → Below t ts → Upto r t → IsOneOf k (t ∷ ts) → Upto k r → r ≡ t
+at_front : (r t k : Row) (ts : List Row) → Below t ts → Upto r t → IsAmong k (t ∷ ts) → Upto k r → r ≡ t
 at_front r t k ts b e (inl q) u = one_row r t e (subst (λ (x : Row). Upto x r) q u)
 at_front r t k ts b e (inr q) u = one_row r t e (upto_along row_total t k r (below_one t k ts b q) u)
 
 beside : (r t : Row) (ts : List Row) → r ≡ t → After r (t ∷ ts) (r ∷ t ∷ ts)
 beside r t ts e = inl (inl (sym e), ap (λ (x : Row). x ∷ t ∷ ts) e ∙ ap (λ (x : Row). t ∷ x ∷ ts) (sym e))
 
-place : (h r k : Row) (ts : List Row) → Rising (h ∷ ts) → IsTrimmed r → AllTrimmed ts → Upto h r → IsOneOf k (h ∷ ts) → Upto k r → Joins k r → After r (h ∷ ts) (h ∷ insert_row r ts)
+place : (h r k : Row) (ts : List Row) → Rising (h ∷ ts) → IsTrimmed r → AllTrimmed ts → Upto h r → IsAmong k (h ∷ ts) → Upto k r → Joins k r → After r (h ∷ ts) (h ∷ insert_row r ts)
 place h r k [] u tr tl e (inl q) a j = inl (subst (λ (x : Row). Joins x r) q j, refl)
 place h r k [] u tr tl e (inr q) a j = absurd q
 place h r k (t ∷ ts) u tr tl e q a j = by (λ l c p b i. place t r c ts u.1 tr (λ x m. tl x (inr m)) l p b i) (is_gt (row_cmp r t)) refl q
   where
-    by : (Upto t r → (c : Row) → IsOneOf c (t ∷ ts) → Upto c r → Joins c r → After r (t ∷ ts) (t ∷ insert_row r ts)) → (g : Bool) → is_gt (row_cmp r t) ≡ g → IsOneOf k (h ∷ t ∷ ts)
+    by : (Upto t r → (c : Row) → IsAmong c (t ∷ ts) → Upto c r → Joins c r → After r (t ∷ ts) (t ∷ insert_row r ts)) → (g : Bool) → is_gt (row_cmp r t) ≡ g → IsAmong k (h ∷ t ∷ ts)
         → After r (h ∷ t ∷ ts) (h ∷ cond g (t ∷ insert_row r ts) (r ∷ t ∷ ts))
     by next true g (inl q) =
         let l = at_most r t g in
@@ -263,7 +263,7 @@ place h r k (t ∷ ts) u tr tl e q a j = by (λ l c p b i. place t r c ts u.1 tr
     by next false g (inr q) = inr (r ∷ t ∷ ts, refl, beside r t ts (at_front r t k ts u.1.0 g q a))
 
 -- a row changes nothing where an earlier one joins it
-pub insert_joined : (r k : Row) (ss : List Row) → Rising ss → IsTrimmed r → AllTrimmed ss → IsOneOf k ss → Upto k r → Joins k r → joined (insert_row r ss) ≡ joined ss
+pub insert_joined : (r k : Row) (ss : List Row) → Rising ss → IsTrimmed r → AllTrimmed ss → IsAmong k ss → Upto k r → Joins k r → joined (insert_row r ss) ≡ joined ss
 insert_joined r k [] u tr tl q a j = absurd q
 insert_joined r k (h ∷ ts) u tr tl q a j = by (is_gt (row_cmp r h)) refl
   where

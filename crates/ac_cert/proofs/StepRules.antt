@@ -20,7 +20,8 @@ use Rattle.ac_forms.proofs.Negations.{length-with_column, value-with_column}
 use Rattle.ac_forms.proofs.Values.{value_at-scaled}
 use Rattle.ac_cert.specs.Points.{IsPoint, Extends, Keeps}
 use Rattle.std.specs.Prelude.{Result, Ok, Err, IfOk}
-use Rattle.ac_cert.specs.Stops.{MadeBy}
+use Rattle.ac_forms.specs.Stops.{GivenOf}
+use Rattle.ac_cert.specs.Stops.{Refuses}
 use Rattle.ac_cert.specs.declared.types.EndStop.{EndStop}
 use Rattle.ac_cert.specs.declared.types.Rule.TheVariants as rule
 use Rattle.ac_cert.specs.declared.types.Step.{Step}
@@ -187,19 +188,19 @@ class-some m f c a p at =
     (value_at f p -ℤ m *ℤ int_div_euclid (value_at f p) m, omega (arith, ints, low), omega (arith, ints, high), class-point m f c p a at)
 
 -- the same of the answers of calls
-pub apply-keeps : (s : Step) (c : Conj) (r : Result Conj EndStop) → MadeBy (after_step s c) (rule_of s) r → IsWellMade c → IfOk r (λ d. Keeps c d)
+pub apply-keeps : (s : Step) (c : Conj) (r : Result Conj EndStop) → GivenOf r (Refuses (rule_of s)) (after_step s c) → IsWellMade c → IfOk r (λ d. Keeps c d)
 apply-keeps s c (Ok d) h w = step-keeps s c d h w
 apply-keeps s c (Err e) h w = tt
 
-pub split-made : (f : Affine) (c : Conj) (r : Result (Conj × Conj) EndStop) → MadeBy (both_sides f c) rule.Split r → IsWellMade c → IfOk r (λ both. IsWellMade both.0 × IsWellMade both.1)
+pub split-made : (f : Affine) (c : Conj) (r : Result (Conj × Conj) EndStop) → GivenOf r (Refuses rule.Split) (both_sides f c) → IsWellMade c → IfOk r (λ both. IsWellMade both.0 × IsWellMade both.1)
 split-made f c (Ok d) h w = let k = sides-keep f c d.0 d.1 h w in (k.0, k.1)
 split-made f c (Err e) h w = tt
 
-pub split-keeps : (f : Affine) (c : Conj) (r : Result (Conj × Conj) EndStop) → MadeBy (both_sides f c) rule.Split r → IsWellMade c → IfOk r (λ both. (p : List ℤ) → IsPoint c p → IsPoint both.0 p ⊎ IsPoint both.1 p)
+pub split-keeps : (f : Affine) (c : Conj) (r : Result (Conj × Conj) EndStop) → GivenOf r (Refuses rule.Split) (both_sides f c) → IsWellMade c → IfOk r (λ both. (p : List ℤ) → IsPoint c p → IsPoint both.0 p ⊎ IsPoint both.1 p)
 split-keeps f c (Ok d) h w = (sides-keep f c d.0 d.1 h w).2
 split-keeps f c (Err e) h w = tt
 
-pub residue-made : (m : ℤ) (f : Affine) (i : ℤ) (c : Conj) (r : Result Conj EndStop) → MadeBy (class_of m f i c) rule.Residue r → IsWellMade c → IfOk r (λ d. IsWellMade d)
+pub residue-made : (m : ℤ) (f : Affine) (i : ℤ) (c : Conj) (r : Result Conj EndStop) → GivenOf r (Refuses rule.Residue) (class_of m f i c) → IsWellMade c → IfOk r (λ d. IsWellMade d)
 residue-made m f i c (Ok d) h w =
     let a = if-some (has_class m f i c.columns) (Some (class m f i c)) d h in
     subst (λ (x : Conj). IsWellMade x) (some-is (class m f i c) d a.1) (class-made m f i c a.0 w)

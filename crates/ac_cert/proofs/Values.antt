@@ -17,6 +17,7 @@ use Rattle.ac_cert.specs.Choices.{size_of, rest_at, low_values, high_values, gre
 use Rattle.ac_cert.specs.ChoiceFits.{low_values_fit, high_values_fit, between_fits}
 use Rattle.ac_cert.specs.Extremes.{greater, lesser, greatest_from, least_from}
 use Rattle.ac_cert.proofs.Parts.{drop-at}
+use Rattle.ac_cert.proofs.Truths.{and-true}
 
 -- divisors are positive
 pub low_divisor : (z : ℕ) (f : Affine) → is_low z f ≡ true → pos 1 ≤ℤ coef z f
@@ -113,9 +114,9 @@ low_more z i rows p best next r h l e t n =
           ∙ ap (λ (x : Option ℤ). greatest_from x (low_values z (drop (i + 1) rows) p)) (sym n);
     }
 
-pub low_wide : (z i : ℕ) (rows : List Row) (p : List ℤ) (best : Option ℤ) (r : Row) → LowsHalfway z i rows p best → i < length rows → r ≡ get_or rows i r → low_values_fit z (r ∷ []) p ≡ false → low_values_fit z rows p ≡ false
-low_wide z i rows p best r h l e t =
-    h.fits ∙ ap (λ (x : List Row). low_values_fit z x p) (drop-at rows i r l e) ∙ low-fits z r (drop (i + 1) rows) p ∙ ap (λ (b : Bool). b && low_values_fit z (drop (i + 1) rows) p) t
+pub low_wide : (z i : ℕ) (rows : List Row) (p : List ℤ) (best : Option ℤ) (r : Row) → LowsHalfway z i rows p best → i < length rows → r ≡ get_or rows i r → ¬ (low_values_fit z (r ∷ []) p ≡ true) → ¬ (low_values_fit z rows p ≡ true)
+low_wide z i rows p best r h l e t all =
+    t (and-true (low_values_fit z (r ∷ []) p) _ (sym (h.fits ∙ ap (λ (x : List Row). low_values_fit z x p) (drop-at rows i r l e) ∙ low-fits z r (drop (i + 1) rows) p) ∙ all)).0
 
 pub low_end : (z i : ℕ) (rows : List Row) (p : List ℤ) (best : Option ℤ) → LowsHalfway z i rows p best → length rows ≤ i → (low_values_fit z rows p ≡ true) × (best ≡ greatest_from None (low_values z rows p))
 low_end z i rows p best h l =
@@ -131,9 +132,9 @@ high_more z i rows p best next r h l e t n =
           ∙ ap (λ (x : Option ℤ). least_from x (high_values z (drop (i + 1) rows) p)) (sym n);
     }
 
-pub high_wide : (z i : ℕ) (rows : List Row) (p : List ℤ) (best : Option ℤ) (r : Row) → HighsHalfway z i rows p best → i < length rows → r ≡ get_or rows i r → high_values_fit z (r ∷ []) p ≡ false → high_values_fit z rows p ≡ false
-high_wide z i rows p best r h l e t =
-    h.fits ∙ ap (λ (x : List Row). high_values_fit z x p) (drop-at rows i r l e) ∙ high-fits z r (drop (i + 1) rows) p ∙ ap (λ (b : Bool). b && high_values_fit z (drop (i + 1) rows) p) t
+pub high_wide : (z i : ℕ) (rows : List Row) (p : List ℤ) (best : Option ℤ) (r : Row) → HighsHalfway z i rows p best → i < length rows → r ≡ get_or rows i r → ¬ (high_values_fit z (r ∷ []) p ≡ true) → ¬ (high_values_fit z rows p ≡ true)
+high_wide z i rows p best r h l e t all =
+    t (and-true (high_values_fit z (r ∷ []) p) _ (sym (h.fits ∙ ap (λ (x : List Row). high_values_fit z x p) (drop-at rows i r l e) ∙ high-fits z r (drop (i + 1) rows) p) ∙ all)).0
 
 pub high_end : (z i : ℕ) (rows : List Row) (p : List ℤ) (best : Option ℤ) → HighsHalfway z i rows p best → length rows ≤ i → (high_values_fit z rows p ≡ true) × (best ≡ least_from None (high_values z rows p))
 high_end z i rows p best h l =
@@ -205,14 +206,11 @@ between_low z rows p v f e = elim (either-low z rows p) [
     is : (v w : ℤ) (ws : List ℤ) → Some v ≡ greatest_from (Some w) ws → v ≡ greatest w ws
     is v w ws e = let s = e ∙ greatest-is w ws in cc
 
-pub between_wide : (z : ℕ) (rows : List Row) (p : List ℤ) → low_values_fit z rows p ≡ false → between_fits z rows p ≡ false
+pub between_wide : (z : ℕ) (rows : List Row) (p : List ℤ) → ¬ (low_values_fit z rows p ≡ true) → ¬ (between_fits z rows p ≡ true)
 between_wide z rows p f = elim (either-low z rows p) [
-  | inl h ↦ absurd (differ (sym f ∙ h.fit))
+  | inl h ↦ absurd (f h.fit)
   | inr h ↦ rw h.some f
 ]
-  where
-    differ : false ≡ true → ⊥
-    differ e = cc
 
 -- no number from below
 no-lows : (z : ℕ) (rows : List Row) (p : List ℤ) → None ≡ greatest_from None (low_values z rows p) → NoLows z rows p
@@ -244,5 +242,5 @@ between_none z rows p n f e =
     is [] e = refl
     is (w ∷ ws) e = let s = e ∙ least-is w ws in absurd cc
 
-pub between_stop : (z : ℕ) (rows : List Row) (p : List ℤ) → None ≡ greatest_from None (low_values z rows p) → high_values_fit z rows p ≡ false → between_fits z rows p ≡ false
+pub between_stop : (z : ℕ) (rows : List Row) (p : List ℤ) → None ≡ greatest_from None (low_values z rows p) → ¬ (high_values_fit z rows p ≡ true) → ¬ (between_fits z rows p ≡ true)
 between_stop z rows p n f = let h = no-lows z rows p n in rw h.none f

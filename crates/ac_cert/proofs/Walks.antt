@@ -1,5 +1,5 @@
 -- One step along a path.
-use Rattle.std.proofs.Common.{◌≡◌, ℕ, ◌+◌, ◌<◌, ◌≤◌, List, ◌∷◌, length, drop, get_or, Option, Some, Err, sym, ap, ◌∙◌}
+use Rattle.std.proofs.Common.{◌≡◌, ℕ, ◌+◌, ◌<◌, ◌≤◌, List, ◌∷◌, length, drop, get_or, Option, Some, None, sym, ap, ◌∙◌}
 use Rattle.std.specs.Prelude.{option_and_then}
 use Rattle.std.proofs.lemmas.List.{at_drop_more, at_drop_all}
 use Rattle.ac_forms.specs.declared.conj.Conj.{Conj}
@@ -10,9 +10,9 @@ use Rattle.ac_cert.specs.declared.types.EndStop.TheVariants.{Refused, Memory}
 use Rattle.ac_cert.specs.Accepted.{after_steps}
 use Rattle.ac_cert.specs.Rules.{after_step, rule_of}
 use Rattle.ac_cert.specs.Faults.{Fault, Onward, later, step_fault, path_fault}
-use Rattle.ac_cert.specs.Stops.{MadeBy, at_node, Fails}
+use Rattle.ac_cert.specs.Stops.{Refuses, at_node, Fails}
 
-step-stops : (o : Option Conj) (r : Rule) (stop : EndStop) (k : ℕ) (go : Conj → Fault) → MadeBy {A = Conj} o r (Err stop) → Fails (step_fault o r k go) (at_node stop k)
+step-stops : (o : Option Conj) (r : Rule) (stop : EndStop) (k : ℕ) (go : Conj → Fault) → Refuses r stop (o ≡ None) → Fails (step_fault o r k go) (at_node stop k)
 step-stops o r (Refused s) k go b = ap (λ (x : Option Conj). step_fault x r k go) b.0 ∙ ap (λ (x : Rule). Some (k, x)) (sym b.1)
 step-stops o r (Memory e) k go b = tt
 
@@ -22,7 +22,7 @@ path-ok steps i s c k d l e b go =
     ∙ ap (λ (x : Step). path_fault (x ∷ drop (i + 1) steps) go c k) (sym e)
     ∙ ap (λ (x : Option Conj). step_fault x (rule_of s) k (λ d. path_fault (drop (i + 1) steps) go d (later k 1))) b
 
-pub path-stops : (steps : List Step) (i : ℕ) (s : Step) (c : Conj) (k : ℕ) (stop : EndStop) (f : Fault) → i < length steps → s ≡ get_or steps i s → MadeBy {A = Conj} (after_step s c) (rule_of s) (Err stop) → (go : Onward) → f ≡ path_fault (drop i steps) go c k → Fails f (at_node stop k)
+pub path-stops : (steps : List Step) (i : ℕ) (s : Step) (c : Conj) (k : ℕ) (stop : EndStop) (f : Fault) → i < length steps → s ≡ get_or steps i s → Refuses (rule_of s) stop (after_step s c ≡ None) → (go : Onward) → f ≡ path_fault (drop i steps) go c k → Fails f (at_node stop k)
 path-stops steps i s c k stop f l e b go h =
     let e : f ≡ step_fault (after_step s c) (rule_of s) k (λ d. path_fault (drop (i + 1) steps) go d (later k 1)) =
     h ∙ at_drop_more (λ (x : List Step). path_fault x go c k) steps i s l

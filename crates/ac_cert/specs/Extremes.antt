@@ -1,5 +1,5 @@
--- The greatest and the least of a list of numbers, number by number, and answers that a test decides.
-use Rattle.std.specs.Prelude.{◌≡◌, ℤ, List, [], ◌∷◌, Option, Some, None, Bool, true, false, Result, Ok, Err}
+-- The greatest and the least of a list of numbers, number by number.
+use Rattle.std.specs.Prelude.{ℤ, List, [], ◌∷◌, Option, Some, None}
 use Rattle.std.specs.Int.{int_max, int_min}
 
 abbrev pub greater : Option ℤ → ℤ → ℤ
@@ -19,8 +19,3 @@ greatest_from best (v ∷ vs) = greatest_from (Some (greater best v)) vs
 abbrev pub least_from : Option ℤ → List ℤ → Option ℤ
 least_from best [] = best
 least_from best (v ∷ vs) = least_from (Some (lesser best v)) vs
-
--- the value exactly where the test is true
-abbrev pub OkWhere : {T E : Type 0} → Bool → T → Result T E → Type 0
-OkWhere test v (Ok x) = (test ≡ true) × (x ≡ v)
-OkWhere test v (Err e) = test ≡ false

@@ -14,11 +14,10 @@ RefusedBy refusal (Ok _) = refusal ≡ None
 RefusedBy refusal (Err (Refused r)) = refusal ≡ Some r
 RefusedBy refusal (Err (Memory _)) = Unit {0}
 
--- the value that is to be made; refused by the rule exactly where there is none
-abbrev pub MadeBy : {A : Type 0} → Option A → Rule → Result A EndStop → Type 0
-MadeBy made r (Ok x) = made ≡ Some x
-MadeBy made r (Err (Refused s)) = (made ≡ None) × (s ≡ r)
-MadeBy made r (Err (Memory _)) = Unit {0}
+-- refused by the rule
+abbrev pub Refuses : Rule → EndStop → Type 0 → Type 0
+Refuses r (Refused s) P = P × (s ≡ r)
+Refuses r (Memory _) P = Unit {0}
 
 -- the stop, at a node
 abbrev pub at_node : EndStop → ℕ → TreeFault

@@ -1,4 +1,4 @@
-ghost use Rattle.std.specs.Prelude.{◌≡◌, ◌≢◌, ◌≤◌, int_div, [], ◌∷◌, ◌&&◌, true, cond, Some, None, IfOk, ℤ, pos, neg_ℤ, ◌+ℤ◌, ◌*ℤ◌, length, set, get_or, slice_get};
+ghost use Rattle.std.specs.Prelude.{◌≡◌, ◌≢◌, ◌≤◌, int_div, [], ◌∷◌, ◌&&◌, true, cond, Some, None, OkIff, IfOk, ℤ, pos, neg_ℤ, ◌+ℤ◌, ◌*ℤ◌, length, set, get_or, slice_get};
 ghost use Rattle.std.specs.Int.{int_div_euclid};
 ghost use Rattle.ac_forms.specs.Affine.{value_at, coef};
 ghost use Rattle.ac_forms.specs.Fits.{fits};
@@ -10,7 +10,7 @@ ghost use Rattle.ac_cert.specs.Bounds.{is_low, is_high};
 ghost use Rattle.ac_forms.specs.Columns.{has_column};
 ghost use Rattle.ac_cert.specs.Choices.{rest_at, low_values, high_values, between, solved, is_equality_of, is_legal, lifted};
 ghost use Rattle.ac_cert.specs.ChoiceFits.{low_values_fit, high_values_fit, between_fits, solved_fits, lift_fits};
-ghost use Rattle.ac_cert.specs.Extremes.{greater, lesser, greatest_from, least_from, OkWhere};
+ghost use Rattle.ac_cert.specs.Extremes.{greater, lesser, greatest_from, least_from};
 
 use crate::choose::Choice;
 use crate::column::{is_high, is_low, set_number};
@@ -102,7 +102,7 @@ fn lesser(best: &Option<i128>, number: &i128) -> i128
 fn low_step(z: usize, row: &Row, point: &[i128], best: &Option<i128>) -> Result<Option<i128>, Wide>
     requires within { IsRowOver (length point.now) row.now }
     requires cleared { set point.now z (pos 0) ≡ point.now }
-    ensures { OkWhere (low_values_fit z (row.now ∷ []) point.now) (greatest_from best.now (low_values z (row.now ∷ []) point.now)) result }
+    ensures { OkIff result (low_values_fit z (row.now ∷ []) point.now ≡ true) (greatest_from best.now (low_values z (row.now ∷ []) point.now)) }
 {
     let Row::Ge(form) = row else {
         return Ok(*best);
@@ -121,7 +121,7 @@ fn low_step(z: usize, row: &Row, point: &[i128], best: &Option<i128>) -> Result<
 fn high_step(z: usize, row: &Row, point: &[i128], best: &Option<i128>) -> Result<Option<i128>, Wide>
     requires within { IsRowOver (length point.now) row.now }
     requires cleared { set point.now z (pos 0) ≡ point.now }
-    ensures { OkWhere (high_values_fit z (row.now ∷ []) point.now) (least_from best.now (high_values z (row.now ∷ []) point.now)) result }
+    ensures { OkIff result (high_values_fit z (row.now ∷ []) point.now ≡ true) (least_from best.now (high_values z (row.now ∷ []) point.now)) }
 {
     let Row::Ge(form) = row else {
         return Ok(*best);
@@ -140,7 +140,7 @@ fn high_step(z: usize, row: &Row, point: &[i128], best: &Option<i128>) -> Result
 fn greatest_low(z: usize, rows: &[Row], point: &[i128]) -> Result<Option<i128>, Wide>
     requires within { AreRowsOver (length point.now) rows.now }
     requires cleared { set point.now z (pos 0) ≡ point.now }
-    ensures { OkWhere (low_values_fit z rows.now point.now) (greatest_from None (low_values z rows.now point.now)) result }
+    ensures { OkIff result (low_values_fit z rows.now point.now ≡ true) (greatest_from None (low_values z rows.now point.now)) }
 {
     let mut best = None;
     for row in rows {
@@ -157,7 +157,7 @@ fn greatest_low(z: usize, rows: &[Row], point: &[i128]) -> Result<Option<i128>, 
 fn least_high(z: usize, rows: &[Row], point: &[i128]) -> Result<Option<i128>, Wide>
     requires within { AreRowsOver (length point.now) rows.now }
     requires cleared { set point.now z (pos 0) ≡ point.now }
-    ensures { OkWhere (high_values_fit z rows.now point.now) (least_from None (high_values z rows.now point.now)) result }
+    ensures { OkIff result (high_values_fit z rows.now point.now ≡ true) (least_from None (high_values z rows.now point.now)) }
 {
     let mut best = None;
     for row in rows {
@@ -175,7 +175,7 @@ fn least_high(z: usize, rows: &[Row], point: &[i128]) -> Result<Option<i128>, Wi
 fn between(z: usize, rows: &[Row], point: &[i128]) -> Result<i128, Wide>
     requires within { AreRowsOver (length point.now) rows.now }
     requires cleared { set point.now z (pos 0) ≡ point.now }
-    ensures { OkWhere (between_fits z rows.now point.now) (between (low_values z rows.now point.now) (high_values z rows.now point.now)) result }
+    ensures { OkIff result (between_fits z rows.now point.now ≡ true) (between (low_values z rows.now point.now) (high_values z rows.now point.now)) }
 {
     match greatest_low(z, rows, point) {
         Ok(Some(number)) => Ok(number),

@@ -26,7 +26,7 @@ impl Choice {
 
 /// Whether the rows are the absurd conjunction's: `-1 >= 0` alone.
 #[tactic(auto, using(ac_integers::proofs::Bits::again_128))]
-fn are_absurd(rows: &[Row]) -> bool
+pub fn are_absurd(rows: &[Row]) -> bool
     ensures { result ≡ are_absurd rows.now }
 {
     match rows {

@@ -26,6 +26,7 @@ pub mod types;
 pub use check::{End, check_tree, walk};
 pub use choose::{Choice, StepStop, lift, step};
 pub use ends::Absurd;
+pub use legal::are_absurd;
 pub use make::{absurd_tree, behind_steps, end_tree, residue_tree, split_tree};
 pub use path::{row_of_class, rows_of_sides, with_row};
 pub use row_branches::{at_divisibility, at_equality, at_inequality};

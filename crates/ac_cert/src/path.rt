@@ -3,7 +3,8 @@ ghost use Rattle.std.specs.Prelude.{◌≡◌, ◌⊎◌, ℤ, List, pos, ◌≤
 ghost use Rattle.ac_forms.specs.Rows.{Holds, IsRowOver, IsWellMade};
 ghost use Rattle.ac_forms.specs.declared.conj.Conj.{Conj};
 ghost use Rattle.ac_cert.specs.Rules.{class_row, has_class, side_rows, with_row};
-ghost use Rattle.ac_cert.specs.Stops.{MadeBy};
+ghost use Rattle.ac_forms.specs.Stops.{GivenOf};
+ghost use Rattle.ac_cert.specs.Stops.{Refuses};
 
 use crate::steps::{class_row, has_class, push, side_rows};
 use crate::types::{EndStop, Rule};
@@ -14,7 +15,7 @@ use std::alloc::{AllocError, Global};
 /// second, so that each point has one of them. It is refused exactly where the form has more coefficients than there are
 /// columns, or a number leaves `i128`.
 pub fn rows_of_sides(alloc: Global, e: &Form, columns: usize) -> Result<(Row, Row), EndStop>
-    ensures exact { MadeBy (side_rows e.now columns) Rule.Split result }
+    ensures exact { GivenOf result (Refuses Rule.Split) (side_rows e.now columns) }
     ensures covers { IfOk result (λ rows. (p : List ℤ) → Holds rows.0 p ⊎ Holds rows.1 p) }
     ensures over { IfOk result (λ rows. IsRowOver columns rows.0 × IsRowOver columns rows.1) }
 {
@@ -32,7 +33,7 @@ pub fn row_of_class(
     columns: usize,
 ) -> Result<Row, EndStop>
     requires { pos 0 ≤ℤ r.now }
-    ensures exact { MadeBy (cond (has_class m.now e.now r.now columns) (Some (class_row m.now e.now r.now)) None) Rule.Residue result }
+    ensures exact { GivenOf result (Refuses Rule.Residue) (cond (has_class m.now e.now r.now columns) (Some (class_row m.now e.now r.now)) None) }
     ensures over { IfOk result (λ row. IsRowOver columns row) }
 {
     class_by(alloc, m, e, r, columns)
@@ -41,7 +42,7 @@ pub fn row_of_class(
 /// The row of a child of a residue branch, or its refusal.
 fn class_by(alloc: Global, m: &i128, e: &Form, r: &i128, columns: usize) -> Result<Row, EndStop>
     requires { pos 0 ≤ℤ r.now }
-    ensures { MadeBy (cond (has_class m.now e.now r.now columns) (Some (class_row m.now e.now r.now)) None) Rule.Residue result }
+    ensures { GivenOf result (Refuses Rule.Residue) (cond (has_class m.now e.now r.now columns) (Some (class_row m.now e.now r.now)) None) }
 {
     if !has_class(m, e, r, columns) {
         return Err(EndStop::Refused(Rule::Residue));

@@ -6,7 +6,8 @@ ghost use Rattle.ac_forms.specs.Rows.{IsWellMade};
 ghost use Rattle.ac_cert.specs.declared.types.Rule.{Rule};
 ghost use Rattle.ac_cert.specs.Points.{IsPoint, Keeps};
 ghost use Rattle.ac_cert.specs.Rules.{after_step, rule_of, with_row, less_column, with_column_row, quotient, floor_of, rest_of, side_rows, both_sides, has_class, class, class_row, class_of};
-ghost use Rattle.ac_cert.specs.Stops.{MadeBy};
+ghost use Rattle.ac_forms.specs.Stops.{GivenOf};
+ghost use Rattle.ac_cert.specs.Stops.{Refuses};
 
 use crate::numbers::{can_lose, rest};
 use crate::rows::{
@@ -41,7 +42,7 @@ impl Step {
 /// The rules are those of cutting planes (R. Gomory, 1958) and of divisibility.
 pub fn apply(alloc: Global, conj: &Conj, s: &Step) -> Result<Conj, EndStop>
     requires { IsWellMade conj.now }
-    ensures exact { MadeBy (after_step s.now conj.now) (rule_of s.now) result }
+    ensures exact { GivenOf result (Refuses (rule_of s.now)) (after_step s.now conj.now) }
     ensures keeps { IfOk result (λ c. Keeps conj.now c) }
 {
     let conj = conj.copy(alloc)?;
@@ -51,7 +52,7 @@ pub fn apply(alloc: Global, conj: &Conj, s: &Step) -> Result<Conj, EndStop>
 /// The same, onto the conjunction itself.
 pub fn apply_onto(alloc: Global, conj: Conj, s: &Step) -> Result<Conj, EndStop>
     requires { IsWellMade conj }
-    ensures exact { MadeBy (after_step s.now conj) (rule_of s.now) result }
+    ensures exact { GivenOf result (Refuses (rule_of s.now)) (after_step s.now conj) }
     ensures keeps { IfOk result (λ c. Keeps conj c) }
 {
     made_by(alloc, conj, s)
@@ -59,7 +60,7 @@ pub fn apply_onto(alloc: Global, conj: Conj, s: &Step) -> Result<Conj, EndStop>
 
 /// The rows after a step, or the rule that refuses it.
 fn made_by(alloc: Global, conj: Conj, s: &Step) -> Result<Conj, EndStop>
-    ensures { MadeBy (after_step s.now conj) (rule_of s.now) result }
+    ensures { GivenOf result (Refuses (rule_of s.now)) (after_step s.now conj) }
 {
     match after(alloc, conj, s)? {
         Some(next) => Ok(next),
@@ -215,7 +216,7 @@ fn push_column(conj: Conj, columns: usize, row: Row) -> Result<Conj, AllocError>
 /// It is refused exactly where the form has more coefficients than there are columns, or a number leaves `i128`.
 pub fn split(alloc: Global, conj: &Conj, e: &Form) -> Result<(Conj, Conj), EndStop>
     requires { IsWellMade conj.now }
-    ensures exact { MadeBy (both_sides e.now conj.now) Rule.Split result }
+    ensures exact { GivenOf result (Refuses Rule.Split) (both_sides e.now conj.now) }
     ensures made { IfOk result (λ both. IsWellMade both.0 × IsWellMade both.1) }
     ensures keeps { IfOk result (λ both. (p : List ℤ) → IsPoint conj.now p → IsPoint both.0 p ⊎ IsPoint both.1 p) }
 {
@@ -224,7 +225,7 @@ pub fn split(alloc: Global, conj: &Conj, e: &Form) -> Result<(Conj, Conj), EndSt
 
 /// Both children of a split, or its refusal.
 fn split_by(alloc: Global, conj: &Conj, e: &Form) -> Result<(Conj, Conj), EndStop>
-    ensures { MadeBy (both_sides e.now conj.now) Rule.Split result }
+    ensures { GivenOf result (Refuses Rule.Split) (both_sides e.now conj.now) }
 {
     let (low, high) = match side_rows(alloc, e, conj.columns) {
         Ok(both) => both,
@@ -237,7 +238,7 @@ fn split_by(alloc: Global, conj: &Conj, e: &Form) -> Result<(Conj, Conj), EndSto
 
 /// The rows of both children of a split, or its refusal.
 pub(crate) fn side_rows(alloc: Global, e: &Form, columns: usize) -> Result<(Row, Row), EndStop>
-    ensures { MadeBy (side_rows e.now columns) Rule.Split result }
+    ensures { GivenOf result (Refuses Rule.Split) (side_rows e.now columns) }
 {
     match sides(alloc, e, columns)? {
         Some(both) => Ok(both),
@@ -267,7 +268,7 @@ pub fn residue(alloc: Global, conj: &Conj, m: i128, e: &Form, r: i128) -> Result
     requires made { IsWellMade conj.now }
     requires low { pos 0 ≤ℤ r }
     requires high { pos 1 ≤ℤ m → r <ℤ m }
-    ensures exact { MadeBy (class_of m e.now r conj.now) Rule.Residue result }
+    ensures exact { GivenOf result (Refuses Rule.Residue) (class_of m e.now r conj.now) }
     ensures made { IfOk result (λ c. IsWellMade c) }
     ensures keeps { pos 1 ≤ℤ m → (p : List ℤ) → IsPoint conj.now p → (s : ℤ) × (pos 0 ≤ℤ s) × (s <ℤ m) × IsPoint (class m e.now s conj.now) p }
 {
@@ -277,7 +278,7 @@ pub fn residue(alloc: Global, conj: &Conj, m: i128, e: &Form, r: i128) -> Result
 /// A child of a residue branch, or its refusal.
 fn residue_by(alloc: Global, conj: &Conj, m: &i128, e: &Form, r: &i128) -> Result<Conj, EndStop>
     requires { pos 0 ≤ℤ r.now }
-    ensures { MadeBy (class_of m.now e.now r.now conj.now) Rule.Residue result }
+    ensures { GivenOf result (Refuses Rule.Residue) (class_of m.now e.now r.now conj.now) }
 {
     match class(alloc, conj, m, e, r)? {
         Some(child) => Ok(child),

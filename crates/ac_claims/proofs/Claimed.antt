@@ -18,7 +18,7 @@ use Rattle.ac_paths.specs.declared.places.CellForms.{CellForms}
 use Rattle.ac_paths.specs.declared.path.Path.{Path}
 use Rattle.ac_paths.specs.declared.path.Side.TheVariants.{Left, Right}
 use Rattle.ac_paths.proofs.OnPaths.{InPath}
-use Rattle.ac_paths.proofs.Branches.{In}
+use Rattle.ac_forms.specs.Members.{IsAmong}
 use Rattle.ac_paths.proofs.ReadSteps.{Behind, left_read, right_read}
 use Rattle.ac_paths.proofs.CallSteps.{EachBehind, BothBehind, ArgumentsBehind, calls_step}
 use Rattle.ac_claims.specs.declared.types.Claim.{Claim}
@@ -43,7 +43,7 @@ abbrev pub Good : Setting → Path → Type 0
 Good g h = (p : List ℤ) (s t : Spot) → OnPath g.on h p s t → Covered (runs_of g) (Claimed g) h.gone s t
 
 abbrev pub EachGood : Setting → List Path → Type 0
-EachGood g hs = (h : Path) → In h hs → Good g h
+EachGood g hs = (h : Path) → IsAmong h hs → Good g h
 
 at_branch : (g : Setting) (hs : List Path) (p : List ℤ) (s t : Spot) → EachGood g hs → Behind g.on hs p s t → Covered (runs_of g) (Claimed g) true s t
 at_branch g hs p s t good b = subst (λ z. Covered (runs_of g) (Claimed g) z s t) b.gone (good b.path b.among (p ++ b.more) s t b.on)

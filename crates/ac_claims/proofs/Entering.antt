@@ -24,7 +24,8 @@ use Rattle.ac_claims.proofs.BranchSteps.{some_branch}
 use Rattle.ac_claims.proofs.DueForms.{all_parts, classes_formed, formed_back}
 use Rattle.ac_claims.proofs.Framing.{beside, item_beside}
 use Rattle.ac_claims.proofs.Residues.{class_parts, classes_split}
-use Rattle.ac_claims.proofs.StackSteps.{all_front, all_last, all_push, popped, popped_due, popped_entries, row_dues}
+use Rattle.ac_claims.proofs.StackSteps.{all_front, all_last, popped, popped_due, popped_entries, row_dues}
+use Rattle.ac_standing.proofs.Notes.{all_push}
 
 -- something is due by each entry
 some_due : (h : Path) (a : Awaited) → HasDues h.conj.columns a → (d : Due) × (ds : List Due) × (due_at h a ≡ d ∷ ds)

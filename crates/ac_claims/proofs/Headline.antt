@@ -43,13 +43,13 @@ use Rattle.ac_forms.proofs.Standings.{all-hold}
 use Rattle.ac_claims.proofs.Claimed.{Setting, runs_of, Claimed}
 use Rattle.ac_paths.proofs.OnPaths.{seat_columns}
 use Rattle.ac_paths.proofs.Heres.{element_values}
-use Rattle.ac_paths.proofs.Branches.{In}
+use Rattle.ac_forms.specs.Members.{IsAmong}
 use Rattle.ac_paths.proofs.InBranches.{made-wide}
 use Rattle.ac_claims.proofs.Plans.{position_is, unless_none}
 use Rattle.ac_claims.proofs.Trees.{InDomain, output_parts, domain_point, domain_moduli, start_point, pieces_meet, pieces_made, all_valid}
 use Rattle.ac_paths.proofs.Described.{models_describe}
 
-moduli_at : (cs : List Claim) → AllByRecursion (λ (c : Claim). HaveModuli c.rows) cs → (i : ℕ) (c : Claim) → slice_get cs i ≡ Some c → HaveModuli c.rows
+pub moduli_at : (cs : List Claim) → AllByRecursion (λ (c : Claim). HaveModuli c.rows) cs → (i : ℕ) (c : Claim) → slice_get cs i ≡ Some c → HaveModuli c.rows
 moduli_at [] h i c e = absurd cc
 moduli_at (d ∷ cs) h zero c e = let s : d ≡ c = cc in subst (λ (y : Claim). HaveModuli y.rows) s h.0
 moduli_at (d ∷ cs) h (suc i) c e = moduli_at cs h.1 i c e
@@ -85,7 +85,7 @@ setting pair proof t m params v = record {
 }
 
 -- the parts of an output that stands
-record Stood (g : Pairing) (c : Claim) : Type 0 where
+pub record Stood (g : Pairing) (c : Claim) : Type 0 where
   pub left : Domain
   pub right : Domain
   pub left_is : domain g.left c.left ≡ Some left
@@ -98,7 +98,7 @@ record Stood (g : Pairing) (c : Claim) : Type 0 where
   pub given_is : output_rows g c left right left_piece right_piece ≡ Some given
   pub stand : all_stand given c.rows ≡ true
 
-stood : (g : Pairing) (c : Claim) → asks_no_more g c (domain g.left c.left) (domain g.right c.right) ≡ true → Stood g c
+pub stood : (g : Pairing) (c : Claim) → asks_no_more g c (domain g.left c.left) (domain g.right c.right) ≡ true → Stood g c
 stood g c e = by (domain g.left c.left) (domain g.right c.right) refl refl e
   where
     rows : (a b : Domain) (l r : List Row) (o : Option (List Row)) → domain g.left c.left ≡ Some a → domain g.right c.right ≡ Some b → a.pieces ≡ l ∷ [] → b.pieces ≡ r ∷ [] → output_rows g c a b l r ≡ o → all_stand_among o c.rows ≡ true → Stood g c
@@ -117,12 +117,12 @@ stood g c e = by (domain g.left c.left) (domain g.right c.right) refl refl e
     by (Some a) None q q' e = absurd cc
     by (Some a) (Some b) q q' e = pieces a b a.pieces b.pieces q q' refl refl e
 
-only : {A : Type 0} (x y : A) → In x (y ∷ []) → x ≡ y
+pub only : {A : Type 0} (x y : A) → IsAmong x (y ∷ []) → x ≡ y
 only x y (inl e) = e
 only x y (inr n) = absurd n
 
 -- the claim's rows hold at each element against itself
-element_meets : (g : Setting) (c : Claim) (s : Stood g.on.pairing c) (e : List ℤ) → HaveModuli c.rows → InDomain g.on.params s.left e → InDomain g.on.params s.right e → HaveModuli s.left_piece → HaveModuli s.right_piece → Meets c.rows (g.on.params ++ (e ++ e))
+pub element_meets : (g : Setting) (c : Claim) (s : Stood g.on.pairing c) (e : List ℤ) → HaveModuli c.rows → InDomain g.on.params s.left e → InDomain g.on.params s.right e → HaveModuli s.left_piece → HaveModuli s.right_piece → Meets c.rows (g.on.params ++ (e ++ e))
 element_meets g c s e hm dl dr ml mr =
     let a = s.left in
     let b = s.right in
@@ -131,8 +131,8 @@ element_meets g c s e hm dl dr ml mr =
     let sp = start_point g c a b e e dl.long dr.long in
     let ks = columns_of (left_seat g.on.pairing c a) in
     let ls = columns_of (right_seat g.on.pairing c a b) in
-    let pl : Meets s.left_piece (g.on.params ++ e) = subst (λ (q : List Row). Meets q (g.on.params ++ e)) (only dl.piece s.left_piece (subst (In dl.piece) s.left_pieces dl.among)) dl.meets in
-    let pr : Meets s.right_piece (g.on.params ++ e) = subst (λ (q : List Row). Meets q (g.on.params ++ e)) (only dr.piece s.right_piece (subst (In dr.piece) s.right_pieces dr.among)) dr.meets in
+    let pl : Meets s.left_piece (g.on.params ++ e) = subst (λ (q : List Row). Meets q (g.on.params ++ e)) (only dl.piece s.left_piece (subst (IsAmong dl.piece) s.left_pieces dl.among)) dl.meets in
+    let pr : Meets s.right_piece (g.on.params ++ e) = subst (λ (q : List Row). Meets q (g.on.params ++ e)) (only dr.piece s.right_piece (subst (IsAmong dr.piece) s.right_pieces dr.among)) dr.meets in
     let t = appended-parts (equal_forms ks (element_forms 0 a.width) ls (element_forms 0 b.width)) (option_map (λ rows. g.on.pairing.left.context ++ rows) (piece_rows g.on.pairing c a b s.left_piece s.right_piece)) s.given s.given_is in
     let u = map-some (piece_rows g.on.pairing c a b s.left_piece s.right_piece) (λ rows. g.on.pairing.left.context ++ rows) t.1 t.3 in
     let kl = seat_columns (left_seat g.on.pairing c a) cols (omega arith) in
@@ -164,7 +164,7 @@ in_extents params (e ∷ es) (f ∷ fs) (x ∷ at) q h =
     (h.0, subst (λ z. x <ℤ z) (sym v) h.1, in_extents params es fs at t h.2)
 
 -- a position at an element
-at_output : (x : Execution) (o : ℕ) (e : List ℤ) → x.inside o e → At x (Output o) e (AtEnd (element o e))
+pub at_output : (x : Execution) (o : ℕ) (e : List ℤ) → x.inside o e → At x (Output o) e (AtEnd (element o e))
 unfolding At
 at_output x o e h = (h, refl)
 
@@ -186,8 +186,8 @@ stands_agree pair proof t m valid o i c ic lo ro out s params v e inside =
     let hr' : At g.on.right c.right e (AtEnd (element o e)) = subst (λ (P : Position). At g.on.right P e (AtEnd (element o e))) (sym ro) hr in
     let pl = domain_point (left_of pair) params g.on.left g.on.describes_left c.left e (AtEnd (element o e)) s.left s.left_is hl' in
     let pr = domain_point (right_of pair) params g.on.right g.on.describes_right c.right e (AtEnd (element o e)) s.right s.right_is hr' in
-    let ml = domain_moduli (left_of pair) params g.on.left g.on.describes_left c.left s.left s.left_piece s.left_is (subst (In s.left_piece) (sym s.left_pieces) (inl refl)) in
-    let mr = domain_moduli (right_of pair) params g.on.right g.on.describes_right c.right s.right s.right_piece s.right_is (subst (In s.right_piece) (sym s.right_pieces) (inl refl)) in
+    let ml = domain_moduli (left_of pair) params g.on.left g.on.describes_left c.left s.left s.left_piece s.left_is (subst (IsAmong s.left_piece) (sym s.left_pieces) (inl refl)) in
+    let mr = domain_moduli (right_of pair) params g.on.right g.on.describes_right c.right s.right s.right_piece s.right_is (subst (IsAmong s.right_piece) (sym s.right_pieces) (inl refl)) in
     let meets = element_meets g c s e (moduli_at proof.claims m i c ic) pl pr ml mr in
     claims_hold (runs_of g) (Claimed g) (valid params v) (AtEnd (element o e)) (AtEnd (element o e)) (i, c, ic, e, e, hl', hr', meets)
 

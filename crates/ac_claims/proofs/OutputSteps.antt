@@ -18,7 +18,7 @@ use Rattle.ac_paths.specs.Going.{Pairing}
 use Rattle.ac_paths.specs.Made.{HaveIf}
 use Rattle.ac_paths.specs.Places.{element_forms}
 use Rattle.ac_paths.specs.declared.path.Programs.{Programs}
-use Rattle.ac_paths.proofs.Branches.{In}
+use Rattle.ac_forms.specs.Members.{IsAmong}
 use Rattle.ac_paths.proofs.InBranches.{made-wide}
 use Rattle.ac_paths.proofs.Moving.{appended-parts, made-both, equal-within}
 use Rattle.ac_paths.proofs.OnPaths.{seat_columns}
@@ -81,7 +81,7 @@ pub given_if : (programs : Programs) (c : Claim) (l r : Piece) (given : Option (
 given_if programs c l r None e ready hl hr = tt
 given_if programs c l r (Some given) e ready hl hr = given_moduli programs c l r given e ready hl hr
 
-single_in : (width : ℕ) (pieces : List (List Row)) (piece : Piece) → single_of width pieces ≡ Some piece → In piece.rows pieces
+single_in : (width : ℕ) (pieces : List (List Row)) (piece : Piece) → single_of width pieces ≡ Some piece → IsAmong piece.rows pieces
 single_in width (rows ∷ []) piece e = let s : piece ≡ record { width = width; rows = rows } = cc in inl (ap (λ (z : Piece). z.rows) s)
 single_in width [] piece e = absurd cc
 single_in width (rows ∷ more ∷ rest) piece e = absurd cc

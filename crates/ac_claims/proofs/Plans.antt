@@ -57,7 +57,7 @@ use Rattle.ac_paths.proofs.Moving.{InColumns, rows-value, rows-within, equal-val
 use Rattle.ac_forms.proofs.Standings.{all-hold}
 use Rattle.ac_paths.proofs.OnPaths.{moduli_in, InPath, OnPath, in_more, on_more, on_rows, in-append, seat_columns, base_columns}
 use Rattle.ac_paths.proofs.Heres.{cell_with, number_at_spot, initial_here}
-use Rattle.ac_paths.proofs.Branches.{In}
+use Rattle.ac_forms.specs.Members.{IsAmong}
 use Rattle.ac_paths.proofs.ReadSteps.{picks_one, picks_two}
 use Rattle.ac_paths.proofs.InBranches.{in_branches}
 use Rattle.ac_paths.proofs.CallSteps.{calls_in}
@@ -100,7 +100,7 @@ split_good g h (Some (a, b)) f k L R i e n left right =
     ]
 
 -- the parts of a residue branch that stands
-partition_parts : (m : ℤ) (f : Affine) (columns count : ℕ) → is_partition m f columns count ≡ true → (m ≡ pos count) × (pos 1 ≤ℤ m) × (nat_le (length f.coefs) columns ≡ true)
+pub partition_parts : (m : ℤ) (f : Affine) (columns count : ℕ) → is_partition m f columns count ≡ true → (m ≡ pos count) × (pos 1 ≤ℤ m) × (nat_le (length f.coefs) columns ≡ true)
 unfolding is_partition has_class
 partition_parts m f columns count e =
     let a = and-true (int_eq m (pos count)) _ e in
@@ -182,7 +182,7 @@ hit_good g h c i e = by (slice_get g.claims c) refl e
         subst (λ z. Covered (runs_of g) (Claimed g) z s t) (sym b.0)
         (hit s t (c, d, q, x, y, subst (λ (P : Position). At g.on.left P x s) pl a.left, subst (λ (P : Position). At g.on.right P y t) pr a.right, on))
 
-head_same : (x y : ℤ) → x ∷ [] ≡ y ∷ [] → x ≡ y
+pub head_same : (x y : ℤ) → x ∷ [] ≡ y ∷ [] → x ≡ y
 head_same x y e = cc
 
 number_good : (g : Setting) (h : Path) → InPath g.on h → is_number g.on.pairing h ≡ true → Good g h
@@ -234,12 +234,12 @@ initial_good g h i e = by (initial_cell g.on.pairing.left h.left.position) (init
         let same : cell_with g.on.params c (picked (columns_of h.left) p) ≡ cell_with g.on.params d (picked (columns_of h.right) p) = λ j. record { array = ar j; at = vals j } in
         at_spots g h.gone s t _ _ x (y ∙ ap AtStart (sym same)) (one_input h.gone (cell_with g.on.params c (picked (columns_of h.left) p)) (g.on.inputs c.array r.1))
 
-step_none : (o : Option Conj) (k : ℕ) (r : Rule) (go : Conj → Fault) → step_fault o r k go ≡ None → (x : Conj) × (o ≡ Some x) × (go x ≡ None)
+pub step_none : (o : Option Conj) (k : ℕ) (r : Rule) (go : Conj → Fault) → step_fault o r k go ≡ None → (x : Conj) × (o ≡ Some x) × (go x ≡ None)
 step_none None k r go e = absurd cc
 step_none (Some x) k r go e = (x, refl, e)
 
 -- choices that all stand
-choices_none : (ps : ℕ) (h : Path) (a : Assumed) (first : ℕ) (xs : List Choice) (c : Conj) (k : ℕ) → choices_fault ps h a first xs c k ≡ None
+pub choices_none : (ps : ℕ) (h : Path) (a : Assumed) (first : ℕ) (xs : List Choice) (c : Conj) (k : ℕ) → choices_fault ps h a first xs c k ≡ None
     → (left : Conj) × (all_chosen h.conj.columns (case_width ps a) xs c ≡ Some left) × (is_killed ps h.conj.rows a left ≡ true)
 choices_none ps h a first [] c k e = (c, refl, unless_none (is_killed ps h.conj.rows a c) first rule.Killed e)
 choices_none ps h a first (x ∷ xs) c k e =
@@ -273,10 +273,10 @@ go_good g order h hs i e good = by (cell_read g.on.pairing.left h.left.position)
     by None (Some cell) q q' e = right_good g h cell hs i q' (keep order (read_branches g.on.pairing.params g.on.pairing.right h Right cell) e) good
     by None None q q' e = calls (call_at g.on.pairing.left h.left.position) (call_at g.on.pairing.right h.right.position) refl refl e
 
-go_in : (g : Setting) (order : Order) (h : Path) (hs : List Path) → InPath g.on h → branches g.on.pairing order h ≡ Some hs → (k : Path) → In k hs → InPath g.on k
+go_in : (g : Setting) (order : Order) (h : Path) (hs : List Path) → InPath g.on h → branches g.on.pairing order h ≡ Some hs → (k : Path) → IsAmong k hs → InPath g.on k
 go_in g order h hs i e = by (cell_read g.on.pairing.left h.left.position) (cell_read g.on.pairing.right h.right.position) e
   where
-    calls : (o o' : Option CallAt) → branches_of_calls g.on.pairing order h o o' ≡ Some hs → (k : Path) → In k hs → InPath g.on k
+    calls : (o o' : Option CallAt) → branches_of_calls g.on.pairing order h o o' ≡ Some hs → (k : Path) → IsAmong k hs → InPath g.on k
     calls None o' e = absurd cc
     calls (Some c) None e = absurd cc
     calls (Some c) (Some d) e = calls_in g.on order h c d hs i e
@@ -285,7 +285,7 @@ go_in g order h hs i e = by (cell_read g.on.pairing.left h.left.position) (cell_
     keep Keep o e = e
     keep Swap o e = absurd cc
 
-    by : (o o' : Option CellForms) → branches_by g.on.pairing order h o o' ≡ Some hs → (k : Path) → In k hs → InPath g.on k
+    by : (o o' : Option CellForms) → branches_by g.on.pairing order h o o' ≡ Some hs → (k : Path) → IsAmong k hs → InPath g.on k
     by (Some cell) o' e = in_branches g.on.pairing (moduli_in g.on) h Left cell hs i (keep order (read_branches g.on.pairing.params g.on.pairing.left h Left cell) e)
     by None (Some cell) e = in_branches g.on.pairing (moduli_in g.on) h Right cell hs i (keep order (read_branches g.on.pairing.params g.on.pairing.right h Right cell) e)
     by None None e = calls (call_at g.on.pairing.left h.left.position) (call_at g.on.pairing.right h.right.position) e
@@ -332,7 +332,7 @@ module _ (g : Setting) where
         let z : first + 1 + r ≡ first + suc r = omega arith in
         subst (λ j. Good g (at_rows h (class m f (pos j) h.conj))) z (row_good rest m f (first + 1) h (k + (length s + line_count t)) i l w n.1 r (omega (arith, lt)))
 
-    cases_good : {w : _} (all : Row_of-Plan w) (hs : List Path) (k : ℕ) → ((c : Path) → In c hs → InPath g.on c) → count_of all ≡ length hs → cases_fault g.on.pairing g.claims all hs k ≡ None → EachGood g hs
+    cases_good : {w : _} (all : Row_of-Plan w) (hs : List Path) (k : ℕ) → ((c : Path) → IsAmong c hs → InPath g.on c) → count_of all ≡ length hs → cases_fault g.on.pairing g.claims all hs k ≡ None → EachGood g hs
     cases_good end_of-Plan [] k i n e c m = absurd m
     cases_good end_of-Plan (h ∷ hs) k i n e c m = absurd (omega (arith, n))
     cases_good (more_of-Plan s t rest) [] k i n e c m = absurd m

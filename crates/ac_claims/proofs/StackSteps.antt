@@ -25,11 +25,7 @@ use Rattle.ac_claims.specs.declared.entry.TakeStop.{TakeStop}
 use Rattle.ac_claims.specs.declared.item.Item.{Item}
 use Rattle.ac_claims.specs.declared.item.Item.TheVariants as item
 use Rattle.ac_claims.specs.declared.types.Claim.{Claim}
-
--- a list with one more at its end
-pub all_push : {X : Type 0} (P : X → Type 0) (xs : List X) (x : X) → AllByRecursion P xs → P x → AllByRecursion P (xs ++ x ∷ [])
-all_push P [] x a b = (b, tt)
-all_push P (y ∷ xs) x a b = (a.0, all_push P xs x a.1 b)
+use Rattle.ac_standing.proofs.Notes.{all_push}
 
 pub all_front : {X : Type 0} (P : X → Type 0) (xs : List X) (x : X) → AllByRecursion P (xs ++ x ∷ []) → AllByRecursion P xs
 all_front P [] x a = tt

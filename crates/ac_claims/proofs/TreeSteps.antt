@@ -14,7 +14,7 @@ use Rattle.ac_paths.specs.Formed.{IsFormed}
 use Rattle.ac_paths.specs.Going.{Pairing}
 use Rattle.ac_paths.specs.declared.path.Path.{Path}
 use Rattle.ac_paths.specs.declared.path.Programs.{Programs}
-use Rattle.ac_paths.proofs.Branches.{In}
+use Rattle.ac_forms.specs.Members.{IsAmong}
 use Rattle.ac_paths.proofs.InBranches.{made-wide}
 use Rattle.ac_paths.proofs.Moving.{made-both}
 use Rattle.ac_claims.specs.Checking.{known_of, IsClaimMade, IsFrontMade}
@@ -34,7 +34,7 @@ use Rattle.ac_claims.specs.declared.upcoming.Upcoming.{Upcoming}
 use Rattle.ac_claims.proofs.Trees.{PiecesModuli, pieces_made, domain_rows}
 use Rattle.ac_claims.proofs.UpcomingSteps.{next_plan}
 
-get_in : (pieces : List (List Row)) (i : ℕ) (rows : List Row) → slice_get pieces i ≡ Some rows → In rows pieces
+get_in : (pieces : List (List Row)) (i : ℕ) (rows : List Row) → slice_get pieces i ≡ Some rows → IsAmong rows pieces
 get_in [] i rows e = absurd cc
 get_in (p ∷ ps) zero rows e = let s : p ≡ rows = cc in inl (sym s)
 get_in (p ∷ ps) (suc i) rows e = inr (get_in ps i rows e)

@@ -31,7 +31,8 @@ use Rattle.ac_claims.proofs.Central.{Valid}
 use Rattle.ac_paths.proofs.Moving.{InColumns, rows-value, rows-within, appended-parts, meets-both, made-both}
 use Rattle.ac_claims.proofs.Claimed.{Setting, runs_of, Claimed, Good}
 use Rattle.ac_paths.proofs.OnPaths.{InPath, OnPath, in-append, seat_columns, base_columns, pick_more, pick_new, range_in}
-use Rattle.ac_paths.proofs.Branches.{In, in_left, in_right, in_map, in_flat_map, somewhere_in}
+use Rattle.ac_forms.specs.Members.{IsAmong}
+use Rattle.ac_paths.proofs.Branches.{in_left, in_right, in_map, in_flat_map, somewhere_in}
 use Rattle.ac_paths.proofs.ReadSteps.{picks_one}
 use Rattle.ac_paths.proofs.InBranches.{in_get, made-wide}
 use Rattle.ac_claims.proofs.Plans.{plan_good, none_if}
@@ -52,7 +53,7 @@ tree_shown : (g : Pairing) (cs : List Claim) (t : ClaimTree) (d : DuePlan) (k : 
 tree_shown g cs t d k None q e = absurd cc
 tree_shown g cs t d k (Some h) q e = record { plan = t.tree; path = h; line = k + 1; is = q; fine = e }
 
-all_shown : (g : Pairing) (cs : List Claim) (ts : List ClaimTree) (ds : List DuePlan) (k : ℕ) → trees_fault g cs ts ds k ≡ None → (d : DuePlan) → In d ds → Shown g cs d
+all_shown : (g : Pairing) (cs : List Claim) (ts : List ClaimTree) (ds : List DuePlan) (k : ℕ) → trees_fault g cs ts ds k ≡ None → (d : DuePlan) → IsAmong d ds → Shown g cs d
 all_shown g cs [] [] k e d m = absurd m
 all_shown g cs [] (d ∷ ds) k e c m = absurd cc
 all_shown g cs (t ∷ ts) [] k e d m = absurd cc
@@ -65,35 +66,35 @@ all_shown g cs (t ∷ ts) (d ∷ ds) k e c (inr m) =
     let f = first-none (tree_fault_at g cs t d.path k) (trees_fault g cs ts ds (k + (1 + plan_lines t.tree))) b.1 in
     all_shown g cs ts ds (k + (1 + plan_lines t.tree)) f.1 c m
 
-in_numbered : {A : Type 0} (x : A) (k : ℕ) (xs : List A) → In x xs → (j : ℕ) × In {A = ℕ × A} (j, x) (numbered k xs)
+pub in_numbered : {A : Type 0} (x : A) (k : ℕ) (xs : List A) → IsAmong x xs → (j : ℕ) × IsAmong {A = ℕ × A} (j, x) (numbered k xs)
 in_numbered x k [] h = absurd h
 in_numbered x k (y ∷ xs) (inl e) = (k, inl (λ i. (k, e i)))
 in_numbered x k (y ∷ xs) (inr h) = let r = in_numbered x (k + 1) xs h in (r.0, inr r.1)
 
 -- what is due for two pieces of a claim
-due_here : (g : Pairing) (i : ℕ) (c : Claim) (a b : Domain) (l r : List Row) → In l a.pieces → In r b.pieces → (d : DuePlan) × In d (due_at g i c (Some a) (Some b)) × (d.path ≡ start g c a b l r)
+due_here : (g : Pairing) (i : ℕ) (c : Claim) (a b : Domain) (l r : List Row) → IsAmong l a.pieces → IsAmong r b.pieces → (d : DuePlan) × IsAmong d (due_at g i c (Some a) (Some b)) × (d.path ≡ start g c a b l r)
 due_here g i c a b l r m n =
     let x = in_numbered l 0 a.pieces m in
     let y = in_numbered r 0 b.pieces n in
     let d : DuePlan = record { claim = i; left_piece = x.0; right_piece = y.0; path = start g c a b l r } in
-    let inner : In d (map (λ (s : ℕ × List Row). record { claim = i; left_piece = x.0; right_piece = s.0; path = start g c a b l s.1 }) (numbered 0 b.pieces)) =
+    let inner : IsAmong d (map (λ (s : ℕ × List Row). record { claim = i; left_piece = x.0; right_piece = s.0; path = start g c a b l s.1 }) (numbered 0 b.pieces)) =
     in_map (λ (s : ℕ × List Row). record { claim = i; left_piece = x.0; right_piece = s.0; path = start g c a b l s.1 }) (y.0, r) (numbered 0 b.pieces) y.1 in
     (d, in_flat_map (λ (l : ℕ × List Row). map (λ (r : ℕ × List Row). record { claim = i; left_piece = l.0; right_piece = r.0; path = start g c a b l.1 r.1 }) (numbered 0 b.pieces)) (x.0, l) (numbered 0 a.pieces) d x.1 inner, refl)
 
-due_among : (g : Pairing) (first j i : ℕ) (cs : List Claim) (c : Claim) (a b : Domain) (d : DuePlan) → slice_get cs j ≡ Some c → first + j ≡ i → domain g.left c.left ≡ Some a → domain g.right c.right ≡ Some b
-    → In d (due_at g i c (Some a) (Some b)) → In d (due_from g first cs)
+pub due_among : (g : Pairing) (first j i : ℕ) (cs : List Claim) (c : Claim) (a b : Domain) (d : DuePlan) → slice_get cs j ≡ Some c → first + j ≡ i → domain g.left c.left ≡ Some a → domain g.right c.right ≡ Some b
+    → IsAmong d (due_at g i c (Some a) (Some b)) → IsAmong d (due_from g first cs)
 due_among g first j i [] c a b d e n ea eb m = absurd cc
 due_among g first zero i (c' ∷ cs) c a b d e n ea eb m =
     let same : c' ≡ c = cc in
     let z : first ≡ i = omega (arith, n) in
     let at : due_at g i c (Some a) (Some b) ≡ due_at g first c' (domain g.left c'.left) (domain g.right c'.right) =
     (λ q. due_at g (sym z q) (sym same q) (sym ea q) (sym eb q)) ∙ (λ q. due_at g first c' (domain g.left (sym same q).left) (domain g.right (sym same q).right)) in
-    in_left d (due_at g first c' (domain g.left c'.left) (domain g.right c'.right)) (due_from g (first + 1) cs) (subst (In d) at m)
+    in_left d (due_at g first c' (domain g.left c'.left) (domain g.right c'.right)) (due_from g (first + 1) cs) (subst (IsAmong d) at m)
 due_among g first (suc j) i (c' ∷ cs) c a b d e n ea eb m =
     in_right d (due_at g first c' (domain g.left c'.left) (domain g.right c'.right)) (due_from g (first + 1) cs) (due_among g (first + 1) j i cs c a b d e (omega (arith, n)) ea eb m)
 
 -- a claim without fault is of positions that are there, and its rows are over their columns
-record Fine (g : Pairing) (c : Claim) : Type 0 where
+pub record Fine (g : Pairing) (c : Claim) : Type 0 where
   pub left : Domain
   pub right : Domain
   pub left_is : domain g.left c.left ≡ Some left
@@ -101,7 +102,7 @@ record Fine (g : Pairing) (c : Claim) : Type 0 where
   pub line : ℕ
   pub rows : claim_rows_fault (start_columns g left right) c.rows line ≡ None
 
-claim_fine : (g : Pairing) (c : Claim) (k : ℕ) → claim_fault g c k ≡ None → Fine g c
+pub claim_fine : (g : Pairing) (c : Claim) (k : ℕ) → claim_fault g c k ≡ None → Fine g c
 claim_fine g c k e = by (domain g.left c.left) (domain g.right c.right) refl refl e
   where
     by : (o o' : Option Domain) → domain g.left c.left ≡ o → domain g.right c.right ≡ o' → claim_fault_at g o o' c.rows k ≡ None → Fine g c
@@ -109,12 +110,12 @@ claim_fine g c k e = by (domain g.left c.left) (domain g.right c.right) refl ref
     by (Some a) None q q' e = absurd cc
     by (Some a) (Some b) q q' e = record { left = a; right = b; left_is = q; right_is = q'; line = k + 1; rows = e }
 
-claims_fine : (g : Pairing) (cs : List Claim) (k : ℕ) → claims_fault g cs k ≡ None → (i : ℕ) (c : Claim) → slice_get cs i ≡ Some c → Fine g c
+pub claims_fine : (g : Pairing) (cs : List Claim) (k : ℕ) → claims_fault g cs k ≡ None → (i : ℕ) (c : Claim) → slice_get cs i ≡ Some c → Fine g c
 claims_fine g [] k e i c q = absurd cc
 claims_fine g (d ∷ cs) k e zero c q = let f = first-none (claim_fault g d k) (claims_fault g cs (k + (1 + length d.rows))) e in let s : d ≡ c = cc in subst (λ (y : Claim). Fine g y) s (claim_fine g d k f.0)
 claims_fine g (d ∷ cs) k e (suc i) c q = claims_fine g cs (k + (1 + length d.rows)) (first-none (claim_fault g d k) (claims_fault g cs (k + (1 + length d.rows))) e).1 i c q
 
-rows_over : (n : ℕ) (rows : List Row) (k : ℕ) → claim_rows_fault n rows k ≡ None → HaveModuli rows → AreRowsOver n rows
+pub rows_over : (n : ℕ) (rows : List Row) (k : ℕ) → claim_rows_fault n rows k ≡ None → HaveModuli rows → AreRowsOver n rows
 rows_over n [] k e h = tt
 rows_over n (r ∷ rows) k e h =
     let f = first-none (fault_unless (nat_le (length (form_of r).coefs) n) k rule.Claim) (claim_rows_fault n rows (k + 1)) e in
@@ -124,7 +125,7 @@ rows_over n (r ∷ rows) k e h =
 pub record InDomain (params : List ℤ) (a : Domain) (at : List ℤ) : Type 0 where
   pub long : length at ≡ a.width
   pub piece : List Row
-  pub among : In piece a.pieces
+  pub among : IsAmong piece a.pieces
   pub meets : Meets piece (params ++ at)
 
 -- the parts of an output that is there
@@ -174,12 +175,12 @@ extent_moduli : (k : ℕ) (es : List Affine) → HaveModuli (extent_rows k es)
 extent_moduli k [] = tt
 extent_moduli k (e ∷ es) = (tt, (tt, extent_moduli (k + 1) es))
 
-output_moduli : (m : Model) (o : ℕ) (a : Domain) (q : List Row) → output_domain m o ≡ Some a → In q a.pieces → HaveModuli q
+output_moduli : (m : Model) (o : ℕ) (a : Domain) (q : List Row) → output_domain m o ≡ Some a → IsAmong q a.pieces → HaveModuli q
 output_moduli m o a q e n =
     let b = output_parts m o a e in
-    by b.0 (subst (λ (y : Domain). In q y.pieces) b.2 n)
+    by b.0 (subst (λ (y : Domain). IsAmong q y.pieces) b.2 n)
   where
-    by : (es : List Affine) → In q (extent_rows m.params es ∷ []) → HaveModuli q
+    by : (es : List Affine) → IsAmong q (extent_rows m.params es ∷ []) → HaveModuli q
     by es (inl i) = subst HaveModuli (sym i) (extent_moduli m.params es)
     by es (inr i) = absurd i
 
@@ -187,20 +188,20 @@ output_moduli m o a q e n =
 abbrev pub PiecesModuli : Model → Type 0
 PiecesModuli m = (number : ℕ) (stmt : StmtModel) (k : ℕ) (rows : List Row) → slice_get m.stmts number ≡ Some stmt → slice_get stmt.pieces k ≡ Some rows → HaveModuli rows
 
-node_moduli : (m : Model) → PiecesModuli m → (s k : ℕ) (a : Domain) (q : List Row) → node_domain m s k ≡ Some a → In q a.pieces → HaveModuli q
+node_moduli : (m : Model) → PiecesModuli m → (s k : ℕ) (a : Domain) (q : List Row) → node_domain m s k ≡ Some a → IsAmong q a.pieces → HaveModuli q
 node_moduli m h s k a q e n =
     let b = bind-some (slice_get m.stmts s) (λ (stmt : StmtModel). option_map (λ node. record { width = width stmt; pieces = stmt.pieces }) (slice_get stmt.nodes k)) a e in
     let c = map-some (slice_get b.0.nodes k) (λ node. record { width = width b.0; pieces = b.0.pieces }) a b.2 in
-    let r = in_get q b.0.pieces (subst (λ (y : Domain). In q y.pieces) c.2 n) in
+    let r = in_get q b.0.pieces (subst (λ (y : Domain). IsAmong q y.pieces) c.2 n) in
     h s b.0 r.0 q b.1 r.1
 
-pub domain_rows : (m : Model) → PiecesModuli m → (P : Position) (a : Domain) (q : List Row) → domain m P ≡ Some a → In q a.pieces → HaveModuli q
+pub domain_rows : (m : Model) → PiecesModuli m → (P : Position) (a : Domain) (q : List Row) → domain m P ≡ Some a → IsAmong q a.pieces → HaveModuli q
 domain_rows m h (Output o) a q e n = output_moduli m o a q e n
 domain_rows m h (Node s k) a q e n = node_moduli m h s k a q e n
 domain_rows m h (InitialOutput o) a q e n = output_moduli m o a q e n
 domain_rows m h (InitialNode s k) a q e n = let b = bind-some (initial_cell m (InitialNode s k)) (λ cell. node_domain m s k) a e in node_moduli m h s k a q b.2 n
 
-pub domain_moduli : (m : Model) (params : List ℤ) (x : Execution) → Describes m params x → (P : Position) (a : Domain) (q : List Row) → domain m P ≡ Some a → In q a.pieces → HaveModuli q
+pub domain_moduli : (m : Model) (params : List ℤ) (x : Execution) → Describes m params x → (P : Position) (a : Domain) (q : List Row) → domain m P ≡ Some a → IsAmong q a.pieces → HaveModuli q
 domain_moduli m params x d = domain_rows m d.pieces_moduli
 
 -- the columns of the beginning of a plan

@@ -14,12 +14,17 @@ use Rattle.ac_paths.specs.Standing.{made_and_stand}
 use Rattle.ac_paths.specs.declared.path.Path.{Path}
 use Rattle.ac_claims.specs.declared.types.Claim.{Claim}
 
+-- whether two positions are one
 abbrev pub same_position : Position → Position → Bool
 same_position (Output o) (Output p) = nat_eq o p
 same_position (Node s k) (Node t l) = nat_eq s t && nat_eq k l
 same_position (InitialOutput o) (InitialOutput p) = nat_eq o p
 same_position (InitialNode s k) (InitialNode t l) = nat_eq s t && nat_eq k l
 same_position _ _ = false
+
+-- whether two pairs of positions are one
+abbrev pub same_pair : Position × Position → Position × Position → Bool
+same_pair p q = same_position p.0 q.0 && same_position p.1 q.1
 
 -- the path is below a step of the pair, at the positions of the claim, and the claim's rows stand
 abbrev pub hits : ℕ → Path → Option Claim → Bool

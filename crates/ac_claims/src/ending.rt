@@ -1,5 +1,5 @@
 //! The ends of a plan: a claim, two equal numbers, one initial cell.
-ghost use Rattle.std.specs.Prelude.{◌≡◌, ◌+◌, ◌++◌, IfOk, Option, Some, None, slice_get, cond, nat_eq, ◌&&◌, [], ◌∷◌};
+ghost use Rattle.std.specs.Prelude.{true, ◌≡◌, ◌+◌, ◌++◌, IfOk, Option, Some, None, slice_get, cond, nat_eq, ◌&&◌, [], ◌∷◌};
 ghost use Rattle.ac_forms.specs.Rows.{HaveModuli};
 ghost use Rattle.ac_poly.specs.Model.{is_input};
 ghost use Rattle.ac_paths.specs.Calls.{pairing};
@@ -22,8 +22,10 @@ use ac_syntax::tree::{Kind, Position};
 use std::alloc::{AllocError, Global};
 
 /// Whether two positions are one.
-pub(crate) fn same_position(first: &Position, second: &Position) -> bool
-    ensures { result ≡ same_position first.now second.now }
+#[tactic(auto, using(crate::proofs::Plans::position_is))]
+pub fn same_position(first: &Position, second: &Position) -> bool
+    ensures exact { result ≡ same_position first.now second.now }
+    ensures equal { result ≡ true → first.now ≡ second.now }
 {
     match (first, second) {
         (Position::Output(o), Position::Output(p)) => *o == *p,

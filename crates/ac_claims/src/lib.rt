@@ -6,7 +6,7 @@ pub mod check;
 mod classes;
 mod copies;
 pub mod domains;
-mod ending;
+pub mod ending;
 mod entry;
 mod front;
 mod head;

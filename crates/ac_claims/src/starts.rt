@@ -10,9 +10,9 @@ ghost use Rattle.ac_claims.specs.Remaining.{start_beside, start_at};
 
 use crate::domains::{Piece, copy_rows, piece_at};
 use crate::types::Claim;
-use ac_forms::{Conj, Row};
+use ac_forms::{Conj, Row, column_after};
 use ac_items::Items;
-use ac_paths::columns::{column_after, columns_at, equal_forms};
+use ac_paths::columns::{columns_at, equal_forms};
 use ac_paths::going::{appended, join, moved_at};
 use ac_paths::path::{Path, Programs, Seat};
 use ac_poly::coordinate_forms;

@@ -12,7 +12,8 @@ use Rattle.ac_paths.specs.Coordinates.{width}
 use Rattle.ac_paths.specs.Executions.{execution}
 use Rattle.ac_paths.specs.Going.{Pairing, branches, branches_by, branches_of_calls, by_keep, call_branches, case_rows, cases_from, extended, gone_to, initial_path, argument_path, kept, model_of as model_at, read_branches, root, same_symbol, seat_of, swapped}
 use Rattle.ac_paths.specs.OnPaths.{Compared}
-use Rattle.ac_paths.specs.Pairs.{In, IsMismatch, StandsOn}
+use Rattle.ac_forms.specs.Members.{IsAmong}
+use Rattle.ac_paths.specs.Pairs.{IsMismatch, StandsOn}
 use Rattle.ac_paths.specs.Places.{CallAt, call_at, cell_read}
 use Rattle.ac_paths.specs.declared.path.Assumed.{Assumed}
 use Rattle.ac_paths.specs.declared.path.Path.{Path}
@@ -36,12 +37,12 @@ side_gone : (h : Path) (side : Side) (c : Conj) (seat : Seat) (last : Option Ass
 side_gone h Left c seat last = refl
 side_gone h Right c seat last = refl
 
-read_gone : (g : Pairing) (h : Path) (side : Side) (cell : CellForms) (hs : List Path) → read_branches g.params (model_at g side) h side cell ≡ Some hs → (k : Path) → In k hs → k.gone ≡ true
+read_gone : (g : Pairing) (h : Path) (side : Side) (cell : CellForms) (hs : List Path) → read_branches g.params (model_at g side) h side cell ≡ Some hs → (k : Path) → IsAmong k hs → k.gone ≡ true
 read_gone g h side cell hs e k n =
     let os = cases_from g.params (model_at g side) h side cell 0 (model_at g side).stmts in
     by (in_either (Some k) os (Some (initial_path h side) ∷ []) (all_among k (os ++ Some (initial_path h side) ∷ []) hs e n))
   where
-    by : In (Some k) (cases_from g.params (model_at g side) h side cell 0 (model_at g side).stmts) ⊎ In (Some k) (Some (initial_path h side) ∷ []) → k.gone ≡ true
+    by : IsAmong (Some k) (cases_from g.params (model_at g side) h side cell 0 (model_at g side).stmts) ⊎ IsAmong (Some k) (Some (initial_path h side) ∷ []) → k.gone ≡ true
     by (inl c) =
         let co = case_of g h side cell 0 (model_at g side).stmts (Some k) c in
         let source = root h.conj.columns (0 + co.j) co.stmt in
@@ -54,20 +55,20 @@ read_gone g h side cell hs e k n =
         ap (λ (y : Path). y.gone) (some-is k (initial_path h side) q) ∙ side_gone h side h.conj (record { position = _; first = reader.first; width = reader.width }) (Some (record { side = side; reader = reader; source = None }))
     by (inr (inr q)) = absurd q
 
-kept_gone : (h : Path) (Ps Qs : List Position) (hs : List Path) → kept h Ps Qs ≡ Some hs → (k : Path) → In k hs → k.gone ≡ true
-kept_gone h [] [] hs e k n = let j : [] ≡ hs = cc in absurd (subst (In k) (sym j) n)
+kept_gone : (h : Path) (Ps Qs : List Position) (hs : List Path) → kept h Ps Qs ≡ Some hs → (k : Path) → IsAmong k hs → k.gone ≡ true
+kept_gone h [] [] hs e k n = let j : [] ≡ hs = cc in absurd (subst (IsAmong k) (sym j) n)
 kept_gone h [] (Q ∷ Qs) hs e k n = absurd cc
 kept_gone h (P ∷ Ps) [] hs e k n = absurd cc
 kept_gone h (P ∷ Ps) (Q ∷ Qs) hs e k n =
     let b = map-some (kept h Ps Qs) (λ rest. argument_path h P Q ∷ rest) hs e in
-    elim (subst (In k) b.2 n) as (λ x. k.gone ≡ true) [ inl j ↦ ap (λ (y : Path). y.gone) j | inr j ↦ kept_gone h Ps Qs b.0 b.1 k j ]
+    elim (subst (IsAmong k) b.2 n) as (λ x. k.gone ≡ true) [ inl j ↦ ap (λ (y : Path). y.gone) j | inr j ↦ kept_gone h Ps Qs b.0 b.1 k j ]
 
-swapped_gone : (h : Path) (Ps Qs : List Position) (hs : List Path) → swapped h Ps Qs ≡ Some hs → (k : Path) → In k hs → k.gone ≡ true
+swapped_gone : (h : Path) (Ps Qs : List Position) (hs : List Path) → swapped h Ps Qs ≡ Some hs → (k : Path) → IsAmong k hs → k.gone ≡ true
 swapped_gone h (P ∷ P' ∷ []) (Q ∷ Q' ∷ []) hs e k n =
     let is : hs ≡ argument_path h P Q' ∷ argument_path h P' Q ∷ [] = cc in
-    by (subst (In k) is n)
+    by (subst (IsAmong k) is n)
   where
-    by : In k (argument_path h P Q' ∷ argument_path h P' Q ∷ []) → k.gone ≡ true
+    by : IsAmong k (argument_path h P Q' ∷ argument_path h P' Q ∷ []) → k.gone ≡ true
     by (inl j) = ap (λ (y : Path). y.gone) j
     by (inr (inl j)) = ap (λ (y : Path). y.gone) j
     by (inr (inr j)) = absurd j
@@ -78,34 +79,34 @@ swapped_gone h (P ∷ P' ∷ []) [] hs e k n = absurd cc
 swapped_gone h (P ∷ P' ∷ []) (Q ∷ []) hs e k n = absurd cc
 swapped_gone h (P ∷ P' ∷ []) (Q ∷ Q' ∷ Q'' ∷ Qs) hs e k n = absurd cc
 
-calls_gone : (g : Pairing) (order : Order) (h : Path) (c d : CallAt) (hs : List Path) → call_branches g order h c d ≡ Some hs → (k : Path) → In k hs → k.gone ≡ true
+calls_gone : (g : Pairing) (order : Order) (h : Path) (c d : CallAt) (hs : List Path) → call_branches g order h c d ≡ Some hs → (k : Path) → IsAmong k hs → k.gone ≡ true
 calls_gone g Keep h c d hs e = kept_gone h c.args d.args hs (if-some (same_symbol c.symbol d.symbol) (kept h c.args d.args) hs e).1
 calls_gone g Swap h c d hs e = swapped_gone h c.args d.args hs (if-some (same_symbol c.symbol d.symbol && g.swaps c.symbol) (swapped h c.args d.args) hs e).1
 
-pub branches_gone : (g : Pairing) (order : Order) (h : Path) (hs : List Path) → branches g order h ≡ Some hs → (k : Path) → In k hs → k.gone ≡ true
+pub branches_gone : (g : Pairing) (order : Order) (h : Path) (hs : List Path) → branches g order h ≡ Some hs → (k : Path) → IsAmong k hs → k.gone ≡ true
 branches_gone g order h hs e = by (cell_read g.left h.left.position) (cell_read g.right h.right.position) e
   where
-    calls : (o o' : Option CallAt) → branches_of_calls g order h o o' ≡ Some hs → (k : Path) → In k hs → k.gone ≡ true
+    calls : (o o' : Option CallAt) → branches_of_calls g order h o o' ≡ Some hs → (k : Path) → IsAmong k hs → k.gone ≡ true
     calls None o' e = absurd cc
     calls (Some c) None e = absurd cc
     calls (Some c) (Some d) e = calls_gone g order h c d hs e
 
-    by : (o o' : Option CellForms) → branches_by g order h o o' ≡ Some hs → (k : Path) → In k hs → k.gone ≡ true
+    by : (o o' : Option CellForms) → branches_by g order h o o' ≡ Some hs → (k : Path) → IsAmong k hs → k.gone ≡ true
     by (Some cell) o' e = read_gone g h Left cell hs (keep order (read_branches g.params g.left h Left cell) hs e)
     by None (Some cell) e = read_gone g h Right cell hs (keep order (read_branches g.params g.right h Right cell) hs e)
     by None None e = calls (call_at g.left h.left.position) (call_at g.right h.right.position) e
 
 -- ---- their columns are there
 
-pub branches_in : (g : Compared) (order : Order) (h : Path) (hs : List Path) → InPath g h → branches g.pairing order h ≡ Some hs → (k : Path) → In k hs → InPath g k
+pub branches_in : (g : Compared) (order : Order) (h : Path) (hs : List Path) → InPath g h → branches g.pairing order h ≡ Some hs → (k : Path) → IsAmong k hs → InPath g k
 branches_in g order h hs i e = by (cell_read g.pairing.left h.left.position) (cell_read g.pairing.right h.right.position) e
   where
-    calls : (o o' : Option CallAt) → branches_of_calls g.pairing order h o o' ≡ Some hs → (k : Path) → In k hs → InPath g k
+    calls : (o o' : Option CallAt) → branches_of_calls g.pairing order h o o' ≡ Some hs → (k : Path) → IsAmong k hs → InPath g k
     calls None o' e = absurd cc
     calls (Some c) None e = absurd cc
     calls (Some c) (Some d) e = calls_in g order h c d hs i e
 
-    by : (o o' : Option CellForms) → branches_by g.pairing order h o o' ≡ Some hs → (k : Path) → In k hs → InPath g k
+    by : (o o' : Option CellForms) → branches_by g.pairing order h o o' ≡ Some hs → (k : Path) → IsAmong k hs → InPath g k
     by (Some cell) o' e = in_branches g.pairing (moduli_in g) h Left cell hs i (keep order (read_branches g.pairing.params g.pairing.left h Left cell) hs e)
     by None (Some cell) e = in_branches g.pairing (moduli_in g) h Right cell hs i (keep order (read_branches g.pairing.params g.pairing.right h Right cell) hs e)
     by None None e = calls (call_at g.pairing.left h.left.position) (call_at g.pairing.right h.right.position) e

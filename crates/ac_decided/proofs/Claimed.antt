@@ -10,15 +10,16 @@ use Rattle.ac_forms.proofs.Joining.{both_of}
 use Rattle.ac_syntax.specs.declared.tree.Pair.{Pair}
 use Rattle.ac_syntax.specs.declared.tree.Position.{Position}
 use Rattle.ac_syntax.specs.declared.tree.Position.TheVariants.{Output, Node, InitialOutput, InitialNode}
-use Rattle.ac_paths.specs.Pairs.{In}
-use Rattle.ac_claims.specs.Ending.{same_position}
+use Rattle.ac_forms.specs.Members.{IsAmong}
+use Rattle.ac_claims.specs.Ending.{same_position, same_pair}
 use Rattle.ac_claims.specs.declared.types.Claim.{Claim}
 use Rattle.ac_claims.proofs.Plans.{position_is}
 use Rattle.ac_widen.specs.Claims.{IsClaimRow}
 use Rattle.ac_widen.specs.Combinations.{Each}
 use Rattle.ac_setting.specs.Programs.{PairAt}
-use Rattle.ac_decided.specs.Stopping.{key_of, same_key, claim_at, claims_of}
+use Rattle.ac_decided.specs.Stopping.{key_of, claim_at, claims_of}
 use Rattle.ac_decided.proofs.Handled.{not_both}
+use Rattle.ac_graph.proofs.MoveSteps.{true_both, same_self}
 
 -- some claim of the part is of the pair
 pub record IsClaimed (pair : Pair) (part : ℕ → Bool) (cs : List Claim) (key : Position × Position) (p : List ℤ) : Type 0 where
@@ -31,83 +32,74 @@ pub record IsClaimed (pair : Pair) (part : ℕ → Bool) (cs : List Claim) (key 
   pub meets : Meets claim.rows p
 
 -- a claim with a number of the part is among its claims, and each of these has one
-pub claim_within : (part : ℕ → Bool) (j : ℕ) (cs : List Claim) (i : ℕ) (c : Claim) → slice_get cs i ≡ Some c → part (j + i) ≡ true → In c (claims_of part j cs)
+pub claim_within : (part : ℕ → Bool) (j : ℕ) (cs : List Claim) (i : ℕ) (c : Claim) → slice_get cs i ≡ Some c → part (j + i) ≡ true → IsAmong c (claims_of part j cs)
 claim_within part j [] i c e m = absurd cc
 claim_within part j (d ∷ cs) zero c e m =
     let z : j + 0 ≡ j = omega arith in
     let q : c ≡ d = cc in
     by (part j) (ap part (sym z) ∙ m) q
   where
-    by : (b : Bool) → b ≡ true → c ≡ d → In c (cond b (d ∷ claims_of part (j + 1) cs) (claims_of part (j + 1) cs))
+    by : (b : Bool) → b ≡ true → c ≡ d → IsAmong c (cond b (d ∷ claims_of part (j + 1) cs) (claims_of part (j + 1) cs))
     by true e q = inl q
     by false e q = absurd cc
 claim_within part j (d ∷ cs) (suc i) c e m =
     let z : j + suc i ≡ (j + 1) + i = omega arith in
     by (part j) (claim_within part (j + 1) cs i c e (ap part (sym z) ∙ m))
   where
-    by : (b : Bool) → In c (claims_of part (j + 1) cs) → In c (cond b (d ∷ claims_of part (j + 1) cs) (claims_of part (j + 1) cs))
+    by : (b : Bool) → IsAmong c (claims_of part (j + 1) cs) → IsAmong c (cond b (d ∷ claims_of part (j + 1) cs) (claims_of part (j + 1) cs))
     by true n = inr n
     by false n = n
 
-pub within_claim : (part : ℕ → Bool) (j : ℕ) (cs : List Claim) (c : Claim) → In c (claims_of part j cs) → (i : ℕ) × (slice_get cs i ≡ Some c) × (part (j + i) ≡ true)
+pub within_claim : (part : ℕ → Bool) (j : ℕ) (cs : List Claim) (c : Claim) → IsAmong c (claims_of part j cs) → (i : ℕ) × (slice_get cs i ≡ Some c) × (part (j + i) ≡ true)
 within_claim part j [] c n = absurd n
 within_claim part j (d ∷ cs) c n = by (part j) refl n (within_claim part (j + 1) cs c)
   where
     onward : (i : ℕ) × (slice_get cs i ≡ Some c) × (part ((j + 1) + i) ≡ true) → (i : ℕ) × (slice_get (d ∷ cs) i ≡ Some c) × (part (j + i) ≡ true)
     onward r = let z : j + suc r.0 ≡ (j + 1) + r.0 = omega arith in (suc r.0, r.1, ap part z ∙ r.2)
 
-    by : (b : Bool) → part j ≡ b → In c (cond b (d ∷ claims_of part (j + 1) cs) (claims_of part (j + 1) cs)) → (In c (claims_of part (j + 1) cs) → (i : ℕ) × (slice_get cs i ≡ Some c) × (part ((j + 1) + i) ≡ true))
+    by : (b : Bool) → part j ≡ b → IsAmong c (cond b (d ∷ claims_of part (j + 1) cs) (claims_of part (j + 1) cs)) → (IsAmong c (claims_of part (j + 1) cs) → (i : ℕ) × (slice_get cs i ≡ Some c) × (part ((j + 1) + i) ≡ true))
         → (i : ℕ) × (slice_get (d ∷ cs) i ≡ Some c) × (part (j + i) ≡ true)
     by true q (inl e) next = let z : j + 0 ≡ j = omega arith in (0, ap Some (sym e), ap part z ∙ q)
     by true q (inr n) next = onward (next n)
     by false q n next = onward (next n)
 
-true_both : (a b : Bool) → a ≡ true → b ≡ true → (a && b) ≡ true
-true_both a b e f = rw (e, f) refl
-
-position_self : (P : Position) → same_position P P ≡ true
-position_self (Output o) = eq-eqb o o refl
-position_self (Node s k) = true_both (nat_eq s s) (nat_eq k k) (eq-eqb s s refl) (eq-eqb k k refl)
-position_self (InitialOutput o) = eq-eqb o o refl
-position_self (InitialNode s k) = true_both (nat_eq s s) (nat_eq k k) (eq-eqb s s refl) (eq-eqb k k refl)
-
-pub key_is : (j k : Position × Position) → same_key j k ≡ true → j ≡ k
+pub key_is : (j k : Position × Position) → same_pair j k ≡ true → j ≡ k
 key_is j k e =
     let b = both_of (same_position j.0 k.0) (same_position j.1 k.1) e in
     let l = position_is j.0 k.0 b.0 in
     let r = position_is j.1 k.1 b.1 in
     λ i. (l i, r i)
 
-same_if : (j k : Position × Position) → j ≡ k → same_key j k ≡ true
-same_if j k e = subst (λ (z : Position × Position). same_key j z ≡ true) e (true_both (same_position j.0 j.0) (same_position j.1 j.1) (position_self j.0) (position_self j.1))
+pub same_if : (j k : Position × Position) → j ≡ k → same_pair j k ≡ true
+same_if j k e = subst (λ (z : Position × Position). same_pair j z ≡ true) e (true_both (same_position j.0 j.0) (same_position j.1 j.1) (same_self j.0) (same_self j.1))
 
 -- the rows of a claim that is alone at its pair
-pub claim_is : (cs : List Claim) (d : Claim) (key : Position × Position) → In d cs → key_of d ≡ key → ((c : Claim) → In c cs → key_of c ≡ key → c ≡ d) → claim_at cs key ≡ d.rows
+pub claim_is : (cs : List Claim) (d : Claim) (key : Position × Position) → IsAmong d cs → key_of d ≡ key → ((c : Claim) → IsAmong c cs → key_of c ≡ key → c ≡ d) → claim_at cs key ≡ d.rows
 claim_is [] d key n e alone = absurd n
-claim_is (c ∷ cs) d key n e alone = by (same_key (key_of c) key) refl n (λ m. claim_is cs d key m e (λ z i. alone z (inr i)))
+claim_is (c ∷ cs) d key n e alone = by (same_pair (key_of c) key) refl n (λ m. claim_is cs d key m e (λ z i. alone z (inr i)))
   where
-    by : (b : Bool) → same_key (key_of c) key ≡ b → (d ≡ c) ⊎ In d cs → (In d cs → claim_at cs key ≡ d.rows) → cond b c.rows (claim_at cs key) ≡ d.rows
+    by : (b : Bool) → same_pair (key_of c) key ≡ b → (d ≡ c) ⊎ IsAmong d cs → (IsAmong d cs → claim_at cs key ≡ d.rows) → cond b c.rows (claim_at cs key) ≡ d.rows
     by true q m next = ap (λ (z : Claim). z.rows) (alone c (inl refl) (key_is (key_of c) key q))
-    by false q (inl m) next = not_both (same_key (key_of c) key) (same_if (key_of c) key (ap key_of (sym m) ∙ e)) q
+    by false q (inl m) next = not_both (same_pair (key_of c) key) (same_if (key_of c) key (ap key_of (sym m) ∙ e)) q
     by false q (inr m) next = next m
 
 never_holds : (p : List ℤ) → ¬ (Holds (Ge (record { konst = negsuc 0; coefs = [] })) p)
 never_holds p h = absurd (omega (arith, ints, h))
 
 -- they are claim rows where those of each claim of the pair are
-pub claim_rows : (cs : List Claim) (key : Position × Position) (template : List Row) → ((c : Claim) → In c cs → key_of c ≡ key → Each (IsClaimRow template) c.rows) → Each (IsClaimRow template) (claim_at cs key)
+pub claim_rows : (cs : List Claim) (key : Position × Position) (template : List Row) → ((c : Claim) → IsAmong c cs → key_of c ≡ key → Each (IsClaimRow template) c.rows) → Each (IsClaimRow template) (claim_at cs key)
 claim_rows [] key template h = (inr (inr never_holds), tt)
-claim_rows (c ∷ cs) key template h = by (same_key (key_of c) key) refl (claim_rows cs key template (λ z i. h z (inr i)))
+claim_rows (c ∷ cs) key template h = by (same_pair (key_of c) key) refl (claim_rows cs key template (λ z i. h z (inr i)))
   where
-    by : (b : Bool) → same_key (key_of c) key ≡ b → Each (IsClaimRow template) (claim_at cs key) → Each (IsClaimRow template) (cond b c.rows (claim_at cs key))
+    by : (b : Bool) → same_pair (key_of c) key ≡ b → Each (IsClaimRow template) (claim_at cs key) → Each (IsClaimRow template) (cond b c.rows (claim_at cs key))
     by true q next = h c (inl refl) (key_is (key_of c) key q)
     by false q next = next
 
 -- a point that meets them meets the rows of a claim of the pair
-pub claim_met : (cs : List Claim) (key : Position × Position) (p : List ℤ) → Meets (claim_at cs key) p → (c : Claim) × In c cs × (key_of c ≡ key) × Meets c.rows p
+pub claim_met : (cs : List Claim) (key : Position × Position) (p : List ℤ) → Meets (claim_at cs key) p → (c : Claim) × IsAmong c cs × (key_of c ≡ key) × Meets c.rows p
 claim_met [] key p m = absurd (never_holds p m.0)
-claim_met (c ∷ cs) key p m = by (same_key (key_of c) key) refl m (claim_met cs key p)
+claim_met (c ∷ cs) key p m = by (same_pair (key_of c) key) refl m (claim_met cs key p)
   where
-    by : (b : Bool) → same_key (key_of c) key ≡ b → Meets (cond b c.rows (claim_at cs key)) p → (Meets (claim_at cs key) p → (d : Claim) × In d cs × (key_of d ≡ key) × Meets d.rows p) → (d : Claim) × In d (c ∷ cs) × (key_of d ≡ key) × Meets d.rows p
+    by : (b : Bool) → same_pair (key_of c) key ≡ b → Meets (cond b c.rows (claim_at cs key)) p → (Meets (claim_at cs key) p → (d : Claim) × IsAmong d cs × (key_of d ≡ key) × Meets d.rows p) → (d : Claim) × IsAmong d (c ∷ cs) × (key_of d ≡ key) × Meets d.rows p
     by true q m next = (c, inl refl, key_is (key_of c) key q, m)
     by false q m next = let r = next m in (r.0, inr r.1, r.2, r.3)

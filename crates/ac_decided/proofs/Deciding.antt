@@ -24,11 +24,7 @@ use Rattle.ac_decided.proofs.Handled.{claims_stand}
 use Rattle.ac_decided.proofs.Claimed.{IsClaimed, claim_rows, claim_met, within_claim}
 use Rattle.ac_decided.proofs.Trees.{claimed_handled}
 use Rattle.ac_decided.proofs.Outputs.{output_claimed}
-
-moduli_at : (cs : List Claim) → AllByRecursion (λ (c : Claim). HaveModuli c.rows) cs → (i : ℕ) (c : Claim) → slice_get cs i ≡ Some c → HaveModuli c.rows
-moduli_at [] h i c e = absurd cc
-moduli_at (d ∷ cs) h zero c e = let s : d ≡ c = cc in subst (λ (y : Claim). HaveModuli y.rows) s h.0
-moduli_at (d ∷ cs) h (suc i) c e = moduli_at cs h.1 i c e
+use Rattle.ac_claims.proofs.Headline.{moduli_at}
 
 pub stopped_proofs_stand : StoppedProofsStand
 stopped_proofs_stand pair order recurrent template part proof d outputs named =

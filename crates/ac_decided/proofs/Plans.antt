@@ -39,7 +39,8 @@ use Rattle.ac_paths.specs.Columns.{base, columns_of, equal_forms}
 use Rattle.ac_paths.specs.Going.{at_rows, branches}
 use Rattle.ac_paths.specs.Killing.{copy_of, case_width, chosen, all_chosen, is_killed}
 use Rattle.ac_paths.specs.OnPaths.{Compared, OnPath}
-use Rattle.ac_paths.specs.Pairs.{In, StepsTo}
+use Rattle.ac_forms.specs.Members.{IsAmong}
+use Rattle.ac_paths.specs.Pairs.{StepsTo}
 use Rattle.ac_paths.specs.Places.{number_at, initial_cell}
 use Rattle.ac_paths.specs.Standing.{made_and_stand}
 use Rattle.ac_paths.specs.declared.path.Assumed.{Assumed}
@@ -58,7 +59,7 @@ use Rattle.ac_claims.specs.declared.types.Kill.{Kill}
 use Rattle.ac_claims.specs.declared.types.Plan.{Plan}
 use Rattle.ac_claims.specs.declared.types.PlanNext.{PlanNext, Split', Residue', Go', Row_of-Plan, end_of-Plan, more_of-Plan}
 use Rattle.ac_claims.specs.declared.types.PlanNext.TheVariants.{Absurd, Killed, Hit, SameNumber, SameInitial}
-use Rattle.ac_claims.proofs.Plans.{position_is, unless_none, none_if}
+use Rattle.ac_claims.proofs.Plans.{position_is, unless_none, none_if, partition_parts, step_none, choices_none, head_same}
 use Rattle.ac_graph.specs.Steps.{IsCompared, comparison}
 use Rattle.ac_setting.specs.Programs.{order_at, setting}
 use Rattle.ac_decided.specs.Stopping.{key_at, key_of, claim_at, claims_of, MayGoOn, Behind, Stops, ClassesStop, CasesStop, PlanStops}
@@ -69,30 +70,10 @@ use Rattle.ac_decided.proofs.Claimed.{IsClaimed, claim_within, claim_is}
 
 -- ---- the parts of a plan's fault
 
-partition_parts : (m : ℤ) (f : Affine) (columns count : ℕ) → is_partition m f columns count ≡ true → (m ≡ pos count) × (pos 1 ≤ℤ m) × (nat_le (length f.coefs) columns ≡ true)
-unfolding is_partition has_class
-partition_parts m f columns count e =
-    let a = and-true (int_eq m (pos count)) _ e in
-    let b = and-true (int_le (pos 1) m) _ a.1 in
-    let c = and-true (nat_le (length f.coefs) columns) _ b.1 in
-    ((Decides-int_eq m (pos count)).0 a.0, le-true (pos 1) m b.0, c.0)
-
 -- the rows that are to stand hold at each point
 stand_hold : (h : Path) (o : Option (List Row)) → IsWellMade h.conj → made_and_stand h.conj.rows o ≡ true → (rows : List Row) × (o ≡ Some rows) × (HaveModuli rows → (p : List ℤ) → IsPoint h.conj p → Meets rows p)
 stand_hold h None w e = absurd cc
 stand_hold h (Some rows) w e = (rows, refl, λ k p at. all-hold h.conj.rows rows p e (moduli_of h.conj.columns h.conj.rows w) k at.meets)
-
-step_none : (o : Option Conj) (k : ℕ) (r : Rule) (go : Conj → Fault) → step_fault o r k go ≡ None → (x : Conj) × (o ≡ Some x) × (go x ≡ None)
-step_none None k r go e = absurd cc
-step_none (Some x) k r go e = (x, refl, e)
-
-choices_none : (ps : ℕ) (h : Path) (a : Assumed) (first : ℕ) (xs : List Choice) (c : Conj) (k : ℕ) → choices_fault ps h a first xs c k ≡ None
-    → (left : Conj) × (all_chosen h.conj.columns (case_width ps a) xs c ≡ Some left) × (is_killed ps h.conj.rows a left ≡ true)
-choices_none ps h a first [] c k e = (c, refl, unless_none (is_killed ps h.conj.rows a c) first rule.Killed e)
-choices_none ps h a first (x ∷ xs) c k e =
-    let s = step_none (chosen h.conj.columns (case_width ps a) x c) k rule.Killed (λ d. choices_fault ps h a first xs d (k + 1)) e in
-    let r = choices_none ps h a first xs s.0 (k + 1) s.2 in
-    (r.0, ap (option_and_then (all_chosen h.conj.columns (case_width ps a) xs)) s.1 ∙ r.1, r.2)
 
 -- a killed place has no point
 kill_empty : (g : Compared) (h : Path) (o : Option Assumed) (kill : Kill) (k : ℕ) → InPath g h → h.last ≡ o → kill_fault g.pairing h o kill k ≡ None → (p : List ℤ) (s t : Spot) → OnPath g h p s t → ⊥
@@ -121,9 +102,6 @@ two_cases : (b : Bool) → (b ≡ true) ⊎ (b ≡ false)
 two_cases true = inl refl
 two_cases false = inr refl
 
-head_same : (x y : ℤ) → x ∷ [] ≡ y ∷ [] → x ≡ y
-head_same x y e = cc
-
 -- further columns keep the point of the pair
 same_point : (g : Compared) (params : List ℤ) (h : Path) (p q : List ℤ) → InPath g h → length p ≡ h.conj.columns → Extends p q → point_at params h q ≡ point_at params h p
 same_point g params h p q i l e =
@@ -134,7 +112,7 @@ same_point g params h p q i l e =
 -- ---- plans
 
 module _ (pair : Pair) (outputs : List ℕ) (order : Position × Position → Order) (recurrent : Position × Position → Bool) (template : Position × Position → List Row) (part : ℕ → Bool) (cs : List Claim)
-    (alone : (c d : Claim) → In c (claims_of part 0 cs) → In d (claims_of part 0 cs) → recurrent (key_of c) ≡ true → key_of c ≡ key_of d → c ≡ d) (moduli : (i : ℕ) (c : Claim) → slice_get cs i ≡ Some c → HaveModuli c.rows)
+    (alone : (c d : Claim) → IsAmong c (claims_of part 0 cs) → IsAmong d (claims_of part 0 cs) → recurrent (key_of c) ≡ true → key_of c ≡ key_of d → c ≡ d) (moduli : (i : ℕ) (c : Claim) → slice_get cs i ≡ Some c → HaveModuli c.rows)
     (params : List ℤ) (compared : IsCompared pair params) where
   abbrev On : Compared
   On = comparison pair params compared
@@ -210,7 +188,7 @@ module _ (pair : Pair) (outputs : List ℕ) (order : Position × Position → Or
           let pr = position_is h.right.position d.right r.0 in
           let key : key_of d ≡ key_at h = λ j. (sym pl j, sym pr j) in
           let at = pair_at pair params compared h p s t a in
-          let mine : In d (claims_of part 0 cs) = claim_within part 0 cs c d q (let z : 0 + c ≡ c = omega arith in ap part z ∙ within) in
+          let mine : IsAmong d (claims_of part 0 cs) = claim_within part 0 cs c d q (let z : 0 + c ≡ c = omega arith in ap part z ∙ within) in
           subst (λ z. Held z (key_at h) (point_at params h p)) (sym b.0)
           (elim (two_cases (recurrent (key_at h))) [
             | inl rec ↦ stops (key_at h) (point_at params h p) rec (subst (λ (rows : List Row). Meets rows (point_at params h p))
@@ -282,7 +260,7 @@ module _ (pair : Pair) (outputs : List ℕ) (order : Position × Position → Or
   held_at b b' k k' p p' e f g h = subst (λ z. Held z k' p') e (subst (λ z. Held b z p') f (subst (λ z. Held b k z) g h))
 
   -- a step of the pair
-  go_good : (taken : Order) (h : Path) (hs : List Path) → InPath On h → branches On.pairing taken h ≡ Some hs → taken ≡ order_at pair (key_at h) (order (key_at h)) → MayGoOn recurrent h → ((k : Path) → In k hs → Good k) → Good h
+  go_good : (taken : Order) (h : Path) (hs : List Path) → InPath On h → branches On.pairing taken h ≡ Some hs → taken ≡ order_at pair (key_at h) (order (key_at h)) → MayGoOn recurrent h → ((k : Path) → IsAmong k hs → Good k) → Good h
   go_good taken h hs i e o may good p s t a =
       goes h.gone (key_at h) (point_at params h p) may
       (λ z. let k = mismatch_at pair params compared h p s t a z in go_apart pair params compared taken h hs e p k.a k.b k.from k.mismatch)
@@ -332,8 +310,8 @@ module _ (pair : Pair) (outputs : List ℕ) (order : Position × Position → Or
         let z : first + 1 + r ≡ first + suc r = omega arith in
         subst (λ j. Good (at_rows h (class m f (pos j) h.conj))) z (row_good rest m f (first + 1) h (k + (length s + line_count t)) i st.1 l w n.1 r (omega (arith, lt)))
 
-    cases_good : {w : _} (all : Row_of-Plan w) (hs : List Path) (k : ℕ) → ((c : Path) → In c hs → InPath On c) → CasesStop pair order recurrent part all hs → count_of all ≡ length hs → cases_fault On.pairing cs all hs k ≡ None
-        → (c : Path) → In c hs → Good c
+    cases_good : {w : _} (all : Row_of-Plan w) (hs : List Path) (k : ℕ) → ((c : Path) → IsAmong c hs → InPath On c) → CasesStop pair order recurrent part all hs → count_of all ≡ length hs → cases_fault On.pairing cs all hs k ≡ None
+        → (c : Path) → IsAmong c hs → Good c
     cases_good end_of-Plan [] k i st n e c m = absurd m
     cases_good end_of-Plan (h ∷ hs) k i st n e c m = absurd (omega (arith, n))
     cases_good (more_of-Plan s t rest) [] k i st n e c m = absurd m

@@ -16,7 +16,7 @@ use Rattle.ac_cert.proofs.Soundness.{first-none}
 use Rattle.ac_paths.specs.Executions.{At}
 use Rattle.ac_paths.specs.Going.{Pairing}
 use Rattle.ac_paths.specs.OnPaths.{OnPath}
-use Rattle.ac_paths.specs.Pairs.{In}
+use Rattle.ac_forms.specs.Members.{IsAmong}
 use Rattle.ac_paths.specs.declared.path.Path.{Path}
 use Rattle.ac_paths.proofs.Branches.{in_left, in_right, in_map, in_flat_map}
 use Rattle.ac_paths.proofs.InBranches.{made-wide}
@@ -30,7 +30,7 @@ use Rattle.ac_claims.specs.declared.types.ClaimTree.{ClaimTree}
 use Rattle.ac_claims.specs.declared.types.Plan.{Plan}
 use Rattle.ac_claims.proofs.Claimed.{Setting as Judged}
 use Rattle.ac_claims.proofs.Plans.{none_if, unless_none}
-use Rattle.ac_claims.proofs.Trees.{domain_point, domain_moduli, start_point, pieces_meet, pieces_made}
+use Rattle.ac_claims.proofs.Trees.{domain_point, domain_moduli, start_point, pieces_meet, pieces_made, in_numbered, due_among, claim_fine, claims_fine, rows_over, Fine}
 use Rattle.ac_graph.specs.Steps.{IsCompared, comparison}
 use Rattle.ac_setting.specs.Programs.{setting}
 use Rattle.ac_decided.specs.Stopping.{key_of, claim_at, claims_of, programs_of, PlanStops, TreesStop}
@@ -66,7 +66,7 @@ tree_shown pair order recurrent part cs t d k None q e m st = absurd cc
 tree_shown pair order recurrent part cs t d k (Some h) q e m st = record { plan = t.tree; path = h; line = k + 1; is = q; fine = e; stops = st m h q }
 
 all_shown : (pair : Pair) (order : Position × Position → Order) (recurrent : Position × Position → Bool) (part : ℕ → Bool) (cs : List Claim) (ts : List ClaimTree) (ds : List DuePlan) (k : ℕ) → trees_fault (programs_of pair) cs ts ds k ≡ None → TreesStop pair order recurrent part ts ds
-    → (d : DuePlan) → In d ds → part d.claim ≡ true → Shown pair order recurrent part cs d
+    → (d : DuePlan) → IsAmong d ds → part d.claim ≡ true → Shown pair order recurrent part cs d
 all_shown pair order recurrent part cs [] [] k e st d m w = absurd m
 all_shown pair order recurrent part cs [] (d ∷ ds) k e st c m w = absurd cc
 all_shown pair order recurrent part cs (t ∷ ts) [] k e st d m w = absurd cc
@@ -79,62 +79,17 @@ all_shown pair order recurrent part cs (t ∷ ts) (d ∷ ds) k e st c (inr m) w 
     let f = first-none (tree_fault_at (programs_of pair) cs t d.path k) (trees_fault (programs_of pair) cs ts ds (k + (1 + plan_lines t.tree))) b.1 in
     all_shown pair order recurrent part cs ts ds (k + (1 + plan_lines t.tree)) f.1 st.1 c m w
 
-in_numbered : {A : Type 0} (x : A) (k : ℕ) (xs : List A) → In x xs → (j : ℕ) × In {A = ℕ × A} (j, x) (numbered k xs)
-in_numbered x k [] h = absurd h
-in_numbered x k (y ∷ xs) (inl e) = (k, inl (λ i. (k, e i)))
-in_numbered x k (y ∷ xs) (inr h) = let r = in_numbered x (k + 1) xs h in (r.0, inr r.1)
-
 -- what is due for two pieces of a claim
-due_here : (g : Pairing) (i : ℕ) (c : Claim) (a b : Domain) (l r : List Row) → In l a.pieces → In r b.pieces → (d : DuePlan) × In d (due_at g i c (Some a) (Some b)) × (d.path ≡ start g c a b l r) × (d.claim ≡ i)
+due_here : (g : Pairing) (i : ℕ) (c : Claim) (a b : Domain) (l r : List Row) → IsAmong l a.pieces → IsAmong r b.pieces → (d : DuePlan) × IsAmong d (due_at g i c (Some a) (Some b)) × (d.path ≡ start g c a b l r) × (d.claim ≡ i)
 due_here g i c a b l r m n =
     let x = in_numbered l 0 a.pieces m in
     let y = in_numbered r 0 b.pieces n in
     let d : DuePlan = record { claim = i; left_piece = x.0; right_piece = y.0; path = start g c a b l r } in
-    let inner : In d (map (λ (s : ℕ × List Row). record { claim = i; left_piece = x.0; right_piece = s.0; path = start g c a b l s.1 }) (numbered 0 b.pieces)) =
+    let inner : IsAmong d (map (λ (s : ℕ × List Row). record { claim = i; left_piece = x.0; right_piece = s.0; path = start g c a b l s.1 }) (numbered 0 b.pieces)) =
     in_map (λ (s : ℕ × List Row). record { claim = i; left_piece = x.0; right_piece = s.0; path = start g c a b l s.1 }) (y.0, r) (numbered 0 b.pieces) y.1 in
     (d, in_flat_map (λ (l : ℕ × List Row). map (λ (r : ℕ × List Row). record { claim = i; left_piece = l.0; right_piece = r.0; path = start g c a b l.1 r.1 }) (numbered 0 b.pieces)) (x.0, l) (numbered 0 a.pieces) d x.1 inner, refl, refl)
 
-due_among : (g : Pairing) (first j i : ℕ) (cs : List Claim) (c : Claim) (a b : Domain) (d : DuePlan) → slice_get cs j ≡ Some c → first + j ≡ i → domain g.left c.left ≡ Some a → domain g.right c.right ≡ Some b
-    → In d (due_at g i c (Some a) (Some b)) → In d (due_from g first cs)
-due_among g first j i [] c a b d e n ea eb m = absurd cc
-due_among g first zero i (c' ∷ cs) c a b d e n ea eb m =
-    let same : c' ≡ c = cc in
-    let z : first ≡ i = omega (arith, n) in
-    let at : due_at g i c (Some a) (Some b) ≡ due_at g first c' (domain g.left c'.left) (domain g.right c'.right) =
-    (λ q. due_at g (sym z q) (sym same q) (sym ea q) (sym eb q)) ∙ (λ q. due_at g first c' (domain g.left (sym same q).left) (domain g.right (sym same q).right)) in
-    in_left d (due_at g first c' (domain g.left c'.left) (domain g.right c'.right)) (due_from g (first + 1) cs) (subst (In d) at m)
-due_among g first (suc j) i (c' ∷ cs) c a b d e n ea eb m =
-    in_right d (due_at g first c' (domain g.left c'.left) (domain g.right c'.right)) (due_from g (first + 1) cs) (due_among g (first + 1) j i cs c a b d e (omega (arith, n)) ea eb m)
-
 -- ---- claims
-
--- a claim without fault is of positions that are there, and its rows are over their columns
-record Fine (g : Pairing) (c : Claim) : Type 0 where
-  pub left : Domain
-  pub right : Domain
-  pub left_is : domain g.left c.left ≡ Some left
-  pub right_is : domain g.right c.right ≡ Some right
-  pub line : ℕ
-  pub rows : claim_rows_fault (start_columns g left right) c.rows line ≡ None
-
-claim_fine : (g : Pairing) (c : Claim) (k : ℕ) → claim_fault g c k ≡ None → Fine g c
-claim_fine g c k e = by (domain g.left c.left) (domain g.right c.right) refl refl e
-  where
-    by : (o o' : Option Domain) → domain g.left c.left ≡ o → domain g.right c.right ≡ o' → claim_fault_at g o o' c.rows k ≡ None → Fine g c
-    by None o' q q' e = absurd cc
-    by (Some a) None q q' e = absurd cc
-    by (Some a) (Some b) q q' e = record { left = a; right = b; left_is = q; right_is = q'; line = k + 1; rows = e }
-
-claims_fine : (g : Pairing) (cs : List Claim) (k : ℕ) → claims_fault g cs k ≡ None → (i : ℕ) (c : Claim) → slice_get cs i ≡ Some c → Fine g c
-claims_fine g [] k e i c q = absurd cc
-claims_fine g (d ∷ cs) k e zero c q = let f = first-none (claim_fault g d k) (claims_fault g cs (k + (1 + length d.rows))) e in let s : d ≡ c = cc in subst (λ (y : Claim). Fine g y) s (claim_fine g d k f.0)
-claims_fine g (d ∷ cs) k e (suc i) c q = claims_fine g cs (k + (1 + length d.rows)) (first-none (claim_fault g d k) (claims_fault g cs (k + (1 + length d.rows))) e).1 i c q
-
-rows_over : (n : ℕ) (rows : List Row) (k : ℕ) → claim_rows_fault n rows k ≡ None → HaveModuli rows → AreRowsOver n rows
-rows_over n [] k e h = tt
-rows_over n (r ∷ rows) k e h =
-    let f = first-none (fault_unless (nat_le (length (form_of r).coefs) n) k rule.Claim) (claim_rows_fault n rows (k + 1)) e in
-    ((leb-true (length (form_of r).coefs) n (unless_none (nat_le (length (form_of r).coefs) n) k rule.Claim f.0), h.0), rows_over n rows (k + 1) f.1 h.1)
 
 -- ---- the beginning of a tree
 
@@ -142,7 +97,7 @@ moved : {A B : Type 0} (P : A → B → Type 0) (k k' : A) (p p' : B) → k ≡ 
 moved P k k' p p' e f h = subst (λ z. P z p') e (subst (λ z. P k z) f h)
 
 module _ (pair : Pair) (outputs : List ℕ) (order : Position × Position → Order) (recurrent : Position × Position → Bool) (template : Position × Position → List Row) (part : ℕ → Bool) (cs : List Claim)
-    (alone : (c d : Claim) → In c (claims_of part 0 cs) → In d (claims_of part 0 cs) → recurrent (key_of c) ≡ true → key_of c ≡ key_of d → c ≡ d) (moduli : (i : ℕ) (c : Claim) → slice_get cs i ≡ Some c → HaveModuli c.rows) (t : ArePaired pair)
+    (alone : (c d : Claim) → IsAmong c (claims_of part 0 cs) → IsAmong d (claims_of part 0 cs) → recurrent (key_of c) ≡ true → key_of c ≡ key_of d → c ≡ d) (moduli : (i : ℕ) (c : Claim) → slice_get cs i ≡ Some c → HaveModuli c.rows) (t : ArePaired pair)
     (k j : ℕ) (ts : List ClaimTree) (ec : claims_fault (programs_of pair) cs k ≡ None) (et : trees_fault (programs_of pair) cs ts (due_from (programs_of pair) 0 cs) j ≡ None) (st : TreesStop pair order recurrent part ts (due_from (programs_of pair) 0 cs)) where
   -- each pair of a claim is handled
   pub claimed_handled : (key : Position × Position) (p : List ℤ) → IsClaimed pair part cs key p → Handled (setting pair outputs recurrent template) order (claim_at (claims_of part 0 cs)) (IsClaimed pair part cs) false key p

@@ -5,7 +5,7 @@ use Rattle.ac_syntax.specs.declared.tree.Order.{Order}
 use Rattle.ac_syntax.specs.declared.tree.Pair.{Pair}
 use Rattle.ac_syntax.specs.declared.tree.Position.{Position}
 use Rattle.ac_poly.specs.declared.types.Model.{Model}
-use Rattle.ac_paths.specs.Pairs.{In}
+use Rattle.ac_forms.specs.Members.{IsAmong}
 use Rattle.ac_claims.specs.ProofFaults.{IsValidProof}
 use Rattle.ac_claims.specs.Soundness.{AreModels, ClaimsHaveModuli, pairing_of}
 use Rattle.ac_claims.specs.declared.types.Proof.{Proof}
@@ -28,7 +28,7 @@ pub record IsStoppedProof (pair : Pair) (order : Position × Position → Order)
 
 -- the proof names each of the outputs with a claim of the part
 abbrev pub AreNamed : Proof → (ℕ → Bool) → List ℕ → Type 0
-AreNamed proof part outputs = (o : ℕ) → In o outputs → (i : ℕ) × In (o, i) proof.outputs × (part i ≡ true)
+AreNamed proof part outputs = (o : ℕ) → IsAmong o outputs → (i : ℕ) × IsAmong (o, i) proof.outputs × (part i ≡ true)
 
 -- of any outputs that the proof names with claims of the part no obligation is a mismatch
 abbrev pub StoppedProofsDecide : Type 0

@@ -12,9 +12,9 @@ use Rattle.ac_cert.specs.Accepted.{after_steps}
 use Rattle.ac_cert.specs.Rules.{both_sides, class}
 use Rattle.ac_cert.specs.declared.types.Step.{Step}
 use Rattle.ac_paths.specs.Going.{Pairing, at_rows, branches}
-use Rattle.ac_paths.specs.Pairs.{In}
+use Rattle.ac_forms.specs.Members.{IsAmong}
 use Rattle.ac_paths.specs.declared.path.Path.{Path}
-use Rattle.ac_claims.specs.Ending.{same_position}
+use Rattle.ac_claims.specs.Ending.{same_pair}
 use Rattle.ac_claims.specs.ProofFaults.{DuePlan, due_from}
 use Rattle.ac_claims.specs.Soundness.{pairing_of}
 use Rattle.ac_claims.specs.declared.types.Claim.{Claim}
@@ -95,15 +95,12 @@ claims_of part i (c ∷ cs) = cond (part i) (c ∷ claims_of part (i + 1) cs) (c
 -- claim at most there, of claim rows
 pub record IsStopping (pair : Pair) (order : Position × Position → Order) (recurrent : Position × Position → Bool) (template : Position × Position → List Row) (part : ℕ → Bool) (proof : Proof) : Type 0 where
   pub trees : TreesStop pair order recurrent part proof.trees.items (due_from (programs_of pair) 0 proof.claims)
-  pub alone : (c d : Claim) → In c (claims_of part 0 proof.claims) → In d (claims_of part 0 proof.claims) → recurrent (key_of c) ≡ true → key_of c ≡ key_of d → c ≡ d
-  pub rows : (c : Claim) → In c (claims_of part 0 proof.claims) → recurrent (key_of c) ≡ true → Each (IsClaimRow (template (key_of c))) c.rows
+  pub alone : (c d : Claim) → IsAmong c (claims_of part 0 proof.claims) → IsAmong d (claims_of part 0 proof.claims) → recurrent (key_of c) ≡ true → key_of c ≡ key_of d → c ≡ d
+  pub rows : (c : Claim) → IsAmong c (claims_of part 0 proof.claims) → recurrent (key_of c) ≡ true → Each (IsClaimRow (template (key_of c))) c.rows
 
 -- ---- claims
-
-abbrev pub same_key : Position × Position → Position × Position → Bool
-same_key j k = same_position j.0 k.0 && same_position j.1 k.1
 
 -- the rows of the first claim of a pair; of a pair that has none, a row that no point meets
 abbrev pub claim_at : List Claim → Position × Position → List Row
 claim_at [] key = Ge (record { konst = negsuc 0; coefs = [] }) ∷ []
-claim_at (c ∷ cs) key = cond (same_key (key_of c) key) c.rows (claim_at cs key)
+claim_at (c ∷ cs) key = cond (same_pair (key_of c) key) c.rows (claim_at cs key)

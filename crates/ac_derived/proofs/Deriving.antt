@@ -7,7 +7,7 @@ use Rattle.ac_syntax.specs.declared.tree.Order.{Order}
 use Rattle.ac_syntax.specs.declared.tree.Pair.{Pair}
 use Rattle.ac_syntax.specs.declared.tree.Position.{Position}
 use Rattle.ac_syntax.specs.declared.tree.Position.TheVariants as position
-use Rattle.ac_paths.specs.Pairs.{In}
+use Rattle.ac_forms.specs.Members.{IsAmong}
 use Rattle.ac_setting.specs.Programs.{PairAt, IsOutputPair, IsMismatchPair}
 use Rattle.ac_widen.specs.Combinations.{Each}
 use Rattle.ac_widen.specs.Derivations.{EntryOf, StandsAt, BrokenEarlier, Justified, Derives, entry_of}
@@ -22,12 +22,10 @@ use Rattle.ac_derived.specs.Hulls.{entries_of}
 use Rattle.ac_derived.specs.declared.pairs.Checked.{Checked}
 use Rattle.ac_derived.specs.declared.pairs.Recurrence.{Recurrence}
 use Rattle.ac_derived.proofs.Mismatching.{pair_at}
-
-abbrev Key : Type 0
-Key = Position × Position
+use Rattle.ac_setting.proofs.Lawful.{Key}
 
 -- an output against itself
-pub output_pair : (pair : Pair) (outputs : List ℕ) (params : List ℤ) (P : Position) (at : List ℤ) (Q : Position) (bt : List ℤ) → AreSeen pair params P at Q bt → (o : ℕ) → P ≡ position.Output o → Q ≡ position.Output o → at ≡ bt → In o outputs → IsOutputPair pair outputs (P, Q) (params ++ (at ++ bt))
+pub output_pair : (pair : Pair) (outputs : List ℕ) (params : List ℤ) (P : Position) (at : List ℤ) (Q : Position) (bt : List ℤ) → AreSeen pair params P at Q bt → (o : ℕ) → P ≡ position.Output o → Q ≡ position.Output o → at ≡ bt → IsAmong o outputs → IsOutputPair pair outputs (P, Q) (params ++ (at ++ bt))
 output_pair pair outputs params P at Q bt s o p q e k = record {
   there = pair_at pair params P at Q bt s;
   output = o;
@@ -61,7 +59,7 @@ pub good_step : (c : Checked) (choices : List (Key × Order)) (es : List (EntryO
 good_step c choices es e P Q p s from r h recurrent template order are extends =
     subst (λ (y : Reason). Justified (setting_of c recurrent template) order es (e.left, e.right) e.point y) (sym r) (moved (StepsFrom c.pair.now choices es from) P Q e.left e.right p e.point s h order extends)
 
-each_in : {A : Type 0} (P : A → Type 0) (xs : List A) → Each P xs → (x : A) → In x xs → P x
+each_in : {A : Type 0} (P : A → Type 0) (xs : List A) → Each P xs → (x : A) → IsAmong x xs → P x
 each_in P [] h x k = absurd k
 each_in P (y ∷ xs) h x k = elim k [ inl e ↦ subst P (sym e) h.0 | inr j ↦ each_in P xs h.1 x j ]
 

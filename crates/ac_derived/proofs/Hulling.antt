@@ -5,12 +5,11 @@ use Rattle.ac_integers.specs.Dot.{mix}
 use Rattle.ac_forms.specs.Rows.{Holds}
 use Rattle.ac_forms.specs.declared.row.Row.{Row}
 use Rattle.ac_syntax.specs.declared.tree.Position.{Position}
-use Rattle.ac_widen.specs.Combinations.{times, Each, IsAmong}
+use Rattle.ac_forms.specs.Members.{IsAmong}
+use Rattle.ac_widen.specs.Combinations.{times, Each}
 use Rattle.ac_widen.specs.Derivations.{EntryOf, StandsAt, Weighs, BrokenEarlier}
 use Rattle.ac_derived.specs.Hulls.{IsBlend, Combines, IsBroken, numbers_of}
-
-abbrev Key : Type 0
-Key = Position × Position
+use Rattle.ac_setting.proofs.Lawful.{Key}
 
 pub some_of : {A : Type 0} (P : A → Type 0) (o : Option A) (x : A) → o ≡ Some x → IfSome o P → P x
 some_of {A = A} P o x e h = let Q : Option A → Type 0 = λ z. IfSome z P in subst Q e h

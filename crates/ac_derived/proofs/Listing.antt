@@ -11,7 +11,7 @@ use Rattle.ac_forms.specs.Rows.{Holds, Meets}
 use Rattle.ac_forms.specs.declared.row.Row.{Row}
 use Rattle.ac_poly.specs.Laws.{values_at}
 use Rattle.ac_cert.proofs.Keeping.{some-is}
-use Rattle.ac_paths.specs.Pairs.{In}
+use Rattle.ac_forms.specs.Members.{IsAmong}
 use Rattle.ac_widen.specs.Combinations.{Each}
 use Rattle.ac_forms.specs.Pieces.{IsInSome}
 
@@ -58,16 +58,16 @@ values_differ p q fs gs k f g l e m d n h =
     n (some-is (value_at f p) (value_at g q) (sym a ∙ ap (λ (vs : List ℤ). slice_get vs k) h ∙ b))
 
 -- a number that one of the numbers is equal to
-pub any_in : (n : ℕ) (xs : List ℕ) → list_any (λ y. nat_eq y n) xs ≡ true → In n xs
+pub any_in : (n : ℕ) (xs : List ℕ) → list_any (λ y. nat_eq y n) xs ≡ true → IsAmong n xs
 any_in n [] e = absurd cc
 any_in n (x ∷ xs) e = by (nat_eq x n) refl e (any_in n xs)
   where
-    by : (b : Bool) → nat_eq x n ≡ b → (b || list_any (λ y. nat_eq y n) xs) ≡ true → (list_any (λ y. nat_eq y n) xs ≡ true → In n xs) → In n (x ∷ xs)
+    by : (b : Bool) → nat_eq x n ≡ b → (b || list_any (λ y. nat_eq y n) xs) ≡ true → (list_any (λ y. nat_eq y n) xs ≡ true → IsAmong n xs) → IsAmong n (x ∷ xs)
     by true f e further = inl (sym (eqb-true x n f))
     by false f e further = inr (further e)
 
 -- an item of a list
-pub in_at : {A : Type 0} (xs : List A) (i : ℕ) (x : A) → i < length xs → x ≡ get_or xs i x → In x xs
+pub in_at : {A : Type 0} (xs : List A) (i : ℕ) (x : A) → i < length xs → x ≡ get_or xs i x → IsAmong x xs
 in_at [] i x l e = absurd (omega arith)
 in_at (y ∷ xs) zero x l e = inl e
 in_at (y ∷ xs) (suc i) x l e = inr (in_at xs i x (omega arith) e)

@@ -5,7 +5,7 @@ use Rattle.ac_syntax.specs.declared.tree.Order.{Order}
 use Rattle.ac_syntax.specs.declared.tree.Pair.{Pair}
 use Rattle.ac_syntax.specs.declared.tree.Position.{Position}
 use Rattle.ac_syntax.specs.declared.tree.Site.{Site}
-use Rattle.ac_paths.specs.Pairs.{In}
+use Rattle.ac_forms.specs.Members.{IsAmong}
 use Rattle.ac_setting.specs.Programs.{IsStepPair, setting}
 use Rattle.ac_widen.specs.Combinations.{Each}
 use Rattle.ac_widen.specs.Derivations.{EntryOf, StandsAt, BrokenEarlier, Justified}
@@ -37,7 +37,7 @@ pub record WidensAt (r : Recurrence) (es : List (EntryOf (Position × Position))
   pub broken : BrokenEarlier es key r.template q
 
 abbrev pub Widens : List Recurrence → List (EntryOf (Position × Position)) → Position × Position → List ℤ → ℤ → List (ℕ × ℤ) → Type 0
-Widens rs es key q m ws = (r : Recurrence) × In r rs × WidensAt r es key q m ws
+Widens rs es key q m ws = (r : Recurrence) × IsAmong r rs × WidensAt r es key q m ws
 
 -- the entry is justified by those before it
 abbrev pub IsGood : Checked → List ((Position × Position) × Order) → List (EntryOf (Position × Position)) → Entry → Type 0

@@ -5,7 +5,7 @@ use Rattle.ac_syntax.specs.declared.tree.Position.TheVariants.{Node}
 use Rattle.ac_poly.specs.declared.types.Model.{Model}
 use Rattle.ac_poly.specs.declared.types.StmtModel.{StmtModel}
 use Rattle.ac_paths.specs.Coordinates.{width}
-use Rattle.ac_paths.specs.Pairs.{In}
+use Rattle.ac_forms.specs.Members.{IsAmong}
 use Rattle.ac_paths.specs.Places.{initial_of}
 use Rattle.ac_flow.specs.Flows.{IsLeft}
 use Rattle.ac_flow.specs.declared.types.Case.{Case}
@@ -34,10 +34,10 @@ Follows m case params from at to to_at = FollowsInitial case params from at to t
 
 -- by one of some cases, and by the flow
 abbrev pub FollowsIn : Model → List Case → List ℤ → Position → List ℤ → Position → List ℤ → Type 0
-FollowsIn m cases params from at to to_at = (case : Case) × In case cases × Follows m case params from at to to_at
+FollowsIn m cases params from at to to_at = (case : Case) × IsAmong case cases × Follows m case params from at to to_at
 
 pub record LeadsTo (m : Model) (f : Flow) (params : List ℤ) (from : Position) (at : List ℤ) (to : Position) (to_at : List ℤ) : Type 0 where
   pub read : ReadFlow
-  pub among : In read f.reads
+  pub among : IsAmong read f.reads
   pub position : read.position ≡ from
   pub follows : FollowsIn m read.cases params from at to to_at

@@ -1,35 +1,15 @@
 //! Which arguments of two calls meet.
-ghost use Rattle.std.specs.Prelude.{◌≡◌, ◌+◌, true, Some, nat_eq, slice_get};
+ghost use Rattle.std.specs.Prelude.{◌≡◌, ◌+◌, true, Some, slice_get};
 ghost use Rattle.ac_syntax.specs.declared.tree.Order.TheVariants.{Keep, Swap};
-ghost use Rattle.std.specs.Cmp.Lexicographic.{pointwise};
-ghost use Rattle.std.specs.List.{list_any};
 ghost use Rattle.ac_syntax.specs.Outputs.{swaps_of};
 ghost use Rattle.ac_paths.specs.Calls.{called};
 ghost use Rattle.ac_derived.specs.Meeting.{IsMet};
 
-use crate::same::same_position;
+use ac_claims::ending::same_position;
 use ac_paths::places::CallNode;
+use ac_paths::symbols::may_swap;
 use ac_syntax::name::Name;
-use ac_syntax::tree::{Order, Position, Symbol};
-
-/// Whether a name is among those.
-fn has_name(names: &[Name], name: &[u8]) -> bool
-    ensures { result ≡ list_any (pointwise nat_eq name.now) names.now }
-{
-    for candidate in names {
-        if *name == *candidate.as_bytes() {
-            return true;
-        }
-    }
-    false
-}
-
-/// Whether the two arguments of a symbol may be swapped.
-pub(crate) fn may_swap(names: &[Name], symbol: &Symbol) -> bool
-    ensures { result ≡ swaps_of names.now symbol.now }
-{
-    symbol.arity == 2 && has_name(names, symbol.name.as_bytes())
-}
+use ac_syntax::tree::{Order, Position};
 
 /// Whether a position is seen to be the argument of a call with a number.
 fn is_argument(call: &CallNode<'_>, number: usize, position: &Position) -> bool

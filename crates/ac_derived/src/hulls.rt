@@ -8,7 +8,8 @@ ghost use Rattle.ac_widen.specs.Derivations.{StandsAt, BrokenEarlier};
 ghost use Rattle.ac_derived.specs.Hulls.{entries_of, Combines, IsBlend, IsBroken};
 
 use crate::rows::{breaks, holds};
-use crate::same::{same_numbers, same_position};
+use crate::same::same_numbers;
+use ac_claims::ending::same_position;
 use ac_forms::{Form, FormStop, Row};
 use ac_syntax::tree::Position;
 use ac_widen::Entry;

@@ -8,10 +8,10 @@ ghost use Rattle.ac_derived.specs.Differing.{NotCalls, NotNumbers, AreApart, Not
 use crate::pairs::{Checked, Seen};
 use crate::places::joined;
 use crate::rows::{value_differs, values_differ};
-use crate::same::same_symbol;
 use crate::steps::reads;
 use ac_items::Items;
 use ac_paths::places::{CellForms, call_at, initial_cell, number_at};
+use ac_paths::symbols::same_symbol;
 use ac_poly::types::Model;
 use ac_syntax::tree::{Array, Kind, Position};
 use std::alloc::{AllocError, Global};

@@ -8,19 +8,12 @@ ghost use Rattle.ac_widen.specs.Refutations.{Extends};
 ghost use Rattle.ac_setting.specs.Programs.{is_site_key, order_at};
 ghost use Rattle.ac_derived.specs.Checks.{AreChecked, choices_of, key_of};
 
-use crate::calls::may_swap;
 use crate::pairs::{Checked, Seen};
-use crate::same::{same_position, same_symbol};
+use ac_claims::ending::same_position;
 use ac_paths::places::call_at;
+use ac_paths::symbols::swaps_both;
 use ac_syntax::name::Name;
 use ac_syntax::tree::{Order, Position, Site, Symbol};
-
-/// Whether two symbols are one whose arguments may be swapped.
-fn swaps_both(names: &[Name], left: &Symbol, right: &Symbol) -> bool
-    ensures { result ≡ (same_symbol left.now right.now && swaps_of names.now left.now) }
-{
-    same_symbol(left, right) && may_swap(names, left)
-}
 
 /// Whether a pair of positions is a site: two calls of one symbol whose arguments may be swapped.
 fn is_site(checked: &Checked<'_>, seen: &Seen<'_>) -> bool

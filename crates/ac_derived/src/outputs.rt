@@ -4,7 +4,8 @@ ghost use Rattle.ac_setting.specs.Programs.{IsOutputPair};
 ghost use Rattle.ac_derived.specs.Checks.{IsSeen, key_of, point_of};
 
 use crate::pairs::{Checked, Seen};
-use crate::same::{same_numbers, same_position};
+use crate::same::same_numbers;
+use ac_claims::ending::same_position;
 use ac_syntax::tree::Position;
 
 /// Whether a pair is seen to be that output on both sides, at one element.

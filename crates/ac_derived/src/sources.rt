@@ -6,7 +6,8 @@ ghost use Rattle.ac_derived.specs.Following.{FollowsInitial, FollowsSource, Foll
 
 use crate::places::joined;
 use crate::quotients::lies_in;
-use crate::same::{same_numbers, same_position};
+use crate::same::same_numbers;
+use ac_claims::ending::same_position;
 use ac_flow::types::{Case, Flow, Remainder};
 use ac_poly::types::Model;
 use ac_poly::width;

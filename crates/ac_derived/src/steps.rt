@@ -7,9 +7,11 @@ ghost use Rattle.ac_derived.specs.Checks.{AreChecked, IsSeen, key_of, point_of};
 
 use crate::calls::met;
 use crate::pairs::{Checked, Seen};
-use crate::same::{same_numbers, same_position, same_symbol};
+use crate::same::same_numbers;
 use crate::sources::{Going, leads};
+use ac_claims::ending::same_position;
 use ac_paths::places::{call_at, cell_read};
+use ac_paths::symbols::same_symbol;
 use ac_poly::types::Model;
 use ac_syntax::tree::{Order, Position};
 use std::alloc::{AllocError, Global};

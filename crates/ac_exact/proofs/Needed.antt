@@ -5,7 +5,7 @@ use Rattle.std.proofs.lemmas.List.{at_drop_all}
 use Rattle.std.proofs.lemmas.Int.{ints, clamps}
 use Rattle.ac_integers.proofs.Bits.{again_128}
 use Rattle.ac_forms.specs.Fits.{Fits}
-use Rattle.ac_forms.specs.Stops.{MadeIff}
+use Rattle.ac_forms.specs.Stops.{IfWide}
 use Rattle.ac_forms.specs.declared.stop.FormStop.{FormStop}
 use Rattle.ac_forms.specs.declared.stop.FormStop.TheVariants.{Wide, Memory}
 use Rattle.ac_forms.specs.declared.row.Row.{Row}
@@ -85,10 +85,10 @@ need-stop passes low z i rows r m held h e n all =
     n ((and-true (pairs_fit low (highs z (r ∷ []))) (pairs_fit low (highs z (drop (i + 1) rows))) (rw (drop-at rows i r h e, pairs-cons low z r (drop (i + 1) rows)) at (sym held.fits ∙ all))).0)
 
 -- so the call stops there for the same reason
-pub need-err : (passes : Bound → Bool) (low : Bound) (z i : ℕ) (rows : List Row) (r : Row) (m v w : ℤ) (stop : FormStop) → NeedSoFar passes low z m rows (drop i rows) → i < length rows → r ≡ get_or rows i r → MadeIff (Err stop) (pairs_fit low (highs z (r ∷ [])) ≡ true) v
-    → MadeIff (Err stop) (pairs_fit low (highs z rows) ≡ true) w
-need-err passes low z i rows r m v w Wide held h e n = need-stop passes low z i rows r m held h e n
-need-err passes low z i rows r m v w (Memory want) held h e n = tt
+pub need-err : (passes : Bound → Bool) (low : Bound) (z i : ℕ) (rows : List Row) (r : Row) (m : ℤ) (stop : FormStop) → NeedSoFar passes low z m rows (drop i rows) → i < length rows → r ≡ get_or rows i r
+    → IfWide stop (¬ (pairs_fit low (highs z (r ∷ [])) ≡ true)) → IfWide stop (¬ (pairs_fit low (highs z rows) ≡ true))
+need-err passes low z i rows r m Wide held h e n = need-stop passes low z i rows r m held h e n
+need-err passes low z i rows r m (Memory want) held h e n = tt
 
 pub need-end : (passes : Bound → Bool) (low : Bound) (z i : ℕ) (rows : List Row) (m : ℤ) → NeedSoFar passes low z m rows (drop i rows) → length rows ≤ i → (pairs_fit low (highs z rows) ≡ true) × (m ≡ greatest_failing passes (highs z rows))
 need-end passes low z i rows m held h =

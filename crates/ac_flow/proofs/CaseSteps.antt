@@ -21,7 +21,7 @@ use Rattle.ac_cert.proofs.Keeping.{bind-some, map-some, some-is}
 use Rattle.ac_paths.specs.Coordinates.{width}
 use Rattle.ac_paths.specs.Going.{root}
 use Rattle.ac_paths.specs.Killing.{case_width, with_own_columns}
-use Rattle.ac_paths.specs.Pairs.{In}
+use Rattle.ac_forms.specs.Members.{IsAmong}
 use Rattle.ac_paths.specs.declared.path.Assumed.{Assumed}
 use Rattle.ac_paths.specs.declared.path.CopyNumbers.{CopyNumbers}
 use Rattle.ac_paths.specs.declared.path.Seat.{Seat}
@@ -82,7 +82,7 @@ all-own kills [] f = tt
 all-own kills (k ∷ ks) f =
     (own-kills kills k (λ kill y. f kill (Contains-append_left (rows_of_pieces k) (kill_rows ks) kill y)), all-own kills ks (λ kill y. f kill (Contains-append_right (rows_of_pieces k) (kill_rows ks) kill y)))
 
-pieces-of : (budget : ℕ) (m : Model) (a : Assumed) (ws : List CopyNumbers) (w : CopyNumbers) (all xs : List Piece) → In w ws → IsFoundFor budget m a w all → ((x : Piece) → Contains xs x → Contains all x) → AreKillPieces budget m a ws (rows_of_pieces xs)
+pieces-of : (budget : ℕ) (m : Model) (a : Assumed) (ws : List CopyNumbers) (w : CopyNumbers) (all xs : List Piece) → IsAmong w ws → IsFoundFor budget m a w all → ((x : Piece) → Contains xs x → Contains all x) → AreKillPieces budget m a ws (rows_of_pieces xs)
 unfolding rows_of_pieces
 pieces-of budget m a ws w all [] k h f = tt
 pieces-of budget m a ws w all (x ∷ xs) k h f = (
@@ -104,7 +104,7 @@ kill-pieces-append : (budget : ℕ) (m : Model) (a : Assumed) (ws : List CopyNum
 kill-pieces-append budget m a ws [] ls x y = y
 kill-pieces-append budget m a ws (k ∷ ks) ls x y = (x.0, kill-pieces-append budget m a ws ks ls x.1 y)
 
-all-pieces : (budget : ℕ) (m : Model) (a : Assumed) (whole ws : List CopyNumbers) (ks : List (List Piece)) → ((w : CopyNumbers) → In w ws → In w whole) → AllFound budget m a ws ks → AreKillPieces budget m a whole (kill_rows ks)
+all-pieces : (budget : ℕ) (m : Model) (a : Assumed) (whole ws : List CopyNumbers) (ks : List (List Piece)) → ((w : CopyNumbers) → IsAmong w ws → IsAmong w whole) → AllFound budget m a ws ks → AreKillPieces budget m a whole (kill_rows ks)
 unfolding kill_rows
 all-pieces budget m a whole [] [] f h = tt
 all-pieces budget m a whole [] (k ∷ ks) f h = absurd h

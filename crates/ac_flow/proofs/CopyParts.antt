@@ -21,7 +21,7 @@ use Rattle.ac_paths.specs.Coordinates.{width, levels_before}
 use Rattle.ac_paths.specs.Executions.{Execution, InstanceAt, Describes}
 use Rattle.ac_paths.specs.Going.{root, case_rows}
 use Rattle.ac_paths.specs.Killing.{assignment_at, after_rows}
-use Rattle.ac_paths.specs.Pairs.{In}
+use Rattle.ac_forms.specs.Members.{IsAmong}
 use Rattle.ac_paths.specs.Places.{cell_read, levels_to}
 use Rattle.ac_paths.specs.declared.places.CellForms.{CellForms}
 use Rattle.ac_paths.specs.declared.path.Seat.{Seat}
@@ -36,6 +36,7 @@ use Rattle.ac_flow.specs.Sources.{IsReading}
 use Rattle.ac_paths.specs.declared.path.CopyNumbers.{CopyNumbers}
 use Rattle.ac_forms.specs.Pieces.{IsInSome}
 use Rattle.ac_forms.proofs.InPieces.{some-at}
+use Rattle.ac_paths.proofs.Kills.{case_says}
 
 -- ---- blocks of numbers
 
@@ -51,37 +52,37 @@ somewhere_at [] p h = absurd h
 somewhere_at (q ∷ qs) p (inl h) = (0, q, refl, h)
 somewhere_at (q ∷ qs) p (inr h) = let r = somewhere_at qs p h in (suc r.0, r.1, r.2, r.3)
 
-in_range : (first count k : ℕ) → k < count → In (first + k) (range_with_len first count)
+in_range : (first count k : ℕ) → k < count → IsAmong (first + k) (range_with_len first count)
 in_range first zero k h = absurd (omega (arith, h))
 in_range first (suc count) zero h = inl (omega arith)
-in_range first (suc count) (suc k) h = inr (let e : first + 1 + k ≡ first + suc k = omega arith in subst (λ n. In n (range_with_len (first + 1) count)) e (in_range (first + 1) count k (omega (arith, h))))
+in_range first (suc count) (suc k) h = inr (let e : first + 1 + k ≡ first + suc k = omega arith in subst (λ n. IsAmong n (range_with_len (first + 1) count)) e (in_range (first + 1) count k (omega (arith, h))))
 
 get_below : {A : Type 0} (xs : List A) (k : ℕ) (x : A) → slice_get xs k ≡ Some x → k < length xs
 get_below [] k x e = absurd cc
 get_below (y ∷ ys) zero x e = omega arith
 get_below (y ∷ ys) (suc k) x e = let r = get_below ys k x e in omega (arith, r)
 
-in_numbers : {A : Type 0} (xs : List A) (k : ℕ) (x : A) → slice_get xs k ≡ Some x → In k (numbers_to (length xs))
-in_numbers xs k x e = let z : 0 + k ≡ k = omega arith in subst (λ n. In n (numbers_to (length xs))) z (in_range 0 (length xs) k (get_below xs k x e))
+in_numbers : {A : Type 0} (xs : List A) (k : ℕ) (x : A) → slice_get xs k ≡ Some x → IsAmong k (numbers_to (length xs))
+in_numbers xs k x e = let z : 0 + k ≡ k = omega arith in subst (λ n. IsAmong n (numbers_to (length xs))) z (in_range 0 (length xs) k (get_below xs k x e))
 
 array_test : {A : Type 0} (a b : ℕ) (xs ys : List A) → a ≡ b → cond (nat_eq a b) xs ys ≡ xs
 array_test a b xs ys e = let i : nat_eq a b ≡ true = (Decides-eqb a b).1 e in rw i refl
 
 in_writings_from : (m : Model) (reader : Position) (array : ℕ) (source : Option Seat) (first j u : ℕ) (stmts : List StmtModel) (stmt : StmtModel) (w : CopyNumbers)
-    → slice_get stmts j ≡ Some stmt → stmt.array ≡ array → first + j ≡ u → In w (writings_of m reader source u stmt) → In w (writings_from m reader array source first stmts)
+    → slice_get stmts j ≡ Some stmt → stmt.array ≡ array → first + j ≡ u → IsAmong w (writings_of m reader source u stmt) → IsAmong w (writings_from m reader array source first stmts)
 in_writings_from m reader array source first j u [] stmt w e a n k = absurd cc
 in_writings_from m reader array source first zero u (s ∷ stmts) stmt w e a n k =
     let i : s ≡ stmt = cc in
     let f : first ≡ u = omega (arith, n) in
-    let c : In w (writings_of m reader source first s) = rw (i, f) k in
+    let c : IsAmong w (writings_of m reader source first s) = rw (i, f) k in
     let t = array_test s.array array (writings_of m reader source first s) [] (ap (λ (x : StmtModel). x.array) i ∙ a) in
-    in_left w _ (writings_from m reader array source (suc first) stmts) (subst (In w) (sym t) c)
+    in_left w _ (writings_from m reader array source (suc first) stmts) (subst (IsAmong w) (sym t) c)
 in_writings_from m reader array source first (suc j) u (s ∷ stmts) stmt w e a n k = in_right w _ (writings_from m reader array source (suc first) stmts) (in_writings_from m reader array source (suc first) j u stmts stmt w e a (omega (arith, n)) k)
 
 -- a writing that is there
 pub in_writings : (m : Model) (reader : Position) (array : ℕ) (source : Option Seat) (u piece before : ℕ) (after : Option ℕ) (stmt : StmtModel) (rows level : List Row)
-    → slice_get m.stmts u ≡ Some stmt → stmt.array ≡ array → slice_get stmt.pieces piece ≡ Some rows → slice_get (levels_to m u stmt reader) before ≡ Some level → In after (afters m source u stmt)
-    → In (writing u piece before after) (writings m reader array source)
+    → slice_get m.stmts u ≡ Some stmt → stmt.array ≡ array → slice_get stmt.pieces piece ≡ Some rows → slice_get (levels_to m u stmt reader) before ≡ Some level → IsAmong after (afters m source u stmt)
+    → IsAmong (writing u piece before after) (writings m reader array source)
 in_writings m reader array source u piece before after stmt rows level is a p l k =
     in_writings_from m reader array source 0 u u m.stmts stmt (writing u piece before after) is a (omega arith)
     (in_flat_map (λ piece. flat_map (λ before. map (writing u piece before) (afters m source u stmt)) (numbers_to (length (levels_to m u stmt reader)))) piece (numbers_to (length stmt.pieces)) (writing u piece before after)
@@ -134,21 +135,6 @@ pub record Written (x : Execution) (cell : Cell) (before : List Entry) (u : ℕ)
   pub stands : Stands before writer
   pub writes : same_cell cell (target writer.entry) ≡ true
 
--- what the rows of a case say at a point
-pub case_says : (params : ℕ) (given : List ℤ) (reader : Seat) (cell : CellForms) (source : Seat) (stmt : StmtModel) (piece level rows : List Row) (q x z : List ℤ) → CaseParts params reader cell source stmt piece level rows
-    → picked (base params) q ≡ given → picked (columns_of reader) q ≡ x → picked (columns_of source) q ≡ z → Meets rows q
-    → Meets piece (given ++ z) × (values_at (given ++ x) cell.subs ≡ values_at (given ++ z) stmt.subs) × Meets level (given ++ (z ++ x))
-case_says params given reader cell source stmt piece level rows q x z c b r s h =
-    let bs = picks_one params given source q z b s in
-    let br = picks_one params given reader q x b r in
-    let sr = picks_two params given source reader q z x b s r in
-    let m = meets-parts c.first (c.second ++ c.third) q (subst (λ (y : List Row). Meets y q) c.are h) in
-    let n = meets-parts c.second c.third q m.1 in (
-      subst (Meets piece) bs ((rows-value (base params ++ columns_of source) piece c.first q c.pieces).0 m.0),
-      ap (λ y. values_at y cell.subs) (sym br) ∙ (equal-values (base params ++ columns_of reader) cell.subs (base params ++ columns_of source) stmt.subs c.second q c.cells).0 n.0 ∙ ap (λ y. values_at y stmt.subs) bs,
-      subst (Meets level) sr ((rows-value (base params ++ (columns_of source ++ columns_of reader)) level c.third q c.levels).0 n.1),
-    )
-
 -- at a point of its rows a writing is one
 pub written : (m : Model) (params : List ℤ) (x : Execution) (d : Describes m params x) (reader : Position) (count : ℕ) (source : Option Seat) (n : ℕ) (w : CopyNumbers) (stmt : StmtModel) (rows : List Row) (at zs q : List ℤ) (cell : Cell) (before : List Entry)
     → IsReading x reader at cell before → slice_get m.stmts w.stmt ≡ Some stmt → length zs ≡ width stmt → (c : Parts m reader count source n w stmt rows) → Shown m params at zs count n w.stmt stmt q → Meets c.first q → Written x cell before w.stmt zs
@@ -186,7 +172,7 @@ later_than m params x d seat (Some level) u stmt n rows q zs s v e b z is iv fu 
 -- levels after what is assumed that hold for the writer's instance
 pub record Later (m : Model) (x : Execution) (source : Option Seat) (n : ℕ) (v : Writer) (stmt : StmtModel) (q : List ℤ) : Type 0 where
   pub after : Option ℕ
-  pub among : In after (afters m source v.entry.stmt stmt)
+  pub among : IsAmong after (afters m source v.entry.stmt stmt)
   pub meets : (rows : List Row) → after_rows (alone m) m source after v.entry.stmt (root n v.entry.stmt stmt) stmt ≡ Some rows → Meets rows q
 
 pub later_none : (m : Model) (x : Execution) (n : ℕ) (v : Writer) (stmt : StmtModel) (q : List ℤ) → Later m x None n v stmt q
@@ -220,7 +206,7 @@ later_some m params x d seat n stmt q s v b z is sv fu lt =
 -- a writer before the reader is among the writings, and meets their rows
 pub record There (m : Model) (x : Execution) (reader : Position) (array count : ℕ) (source : Option Seat) (n : ℕ) (v : Writer) (q : List ℤ) : Type 0 where
   pub writing : CopyNumbers
-  pub among : In writing (writings m reader array source)
+  pub among : IsAmong writing (writings m reader array source)
   pub stmt : StmtModel
   pub stmt_is : writing.stmt ≡ v.entry.stmt
   pub is : slice_get m.stmts writing.stmt ≡ Some stmt

@@ -21,6 +21,7 @@ use Rattle.ac_flow.specs.declared.stop.CaseStop.{CaseStop}
 use Rattle.ac_flow.specs.declared.stop.CaseStop.TheVariants as case
 use Rattle.ac_flow.specs.declared.types.Remainder.{Remainder}
 use Rattle.ac_flow.proofs.KillSteps.{in_at}
+use Rattle.ac_kills.proofs.Asked.{have-append}
 
 pub case_made : (m : Model) (columns : ℕ) (rows piece : List Row) (c : Conj) → AreRowsOver columns m.context → AreRowsOver columns piece → AreRowsOver columns rows → c ≡ case_conj m columns rows piece → IsWellMade c
 case_made m columns rows piece c a b d e = subst (λ (x : Conj). IsWellMade x) (sym e) (made-both columns m.context (piece ++ rows) a (made-both columns piece rows b d))
@@ -129,10 +130,6 @@ pub piece_memory : (budget : ℕ) (m : Model) (columns : ℕ) (rows : List Row) 
 piece_memory budget m columns rows pieces ks d q e l f = record { piece = q; among = in_at pieces d q l f; stops = tt }
 
 -- ---- what is kept has points
-
-pub have-append : (cs ds : List Conj) → AllHavePoints cs → AllHavePoints ds → AllHavePoints (cs ++ ds)
-have-append [] ds a b = b
-have-append (c ∷ cs) ds a b = (a.0, have-append cs ds a.1 b)
 
 conjs_of : (d : ℕ) (group : List Conj) (rest : List Remainder) → map conj_of_remainder (map (remainder d) group ++ rest) ≡ group ++ map conj_of_remainder rest
 conjs_of d [] rest = refl

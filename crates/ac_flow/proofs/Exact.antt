@@ -17,7 +17,7 @@ use Rattle.ac_paths.specs.Coordinates.{width}
 use Rattle.ac_paths.specs.Executions.{Execution, Describes}
 use Rattle.ac_paths.specs.Going.{root}
 use Rattle.ac_paths.specs.Killing.{case_width, after_rows}
-use Rattle.ac_paths.specs.Pairs.{In}
+use Rattle.ac_forms.specs.Members.{IsAmong}
 use Rattle.ac_paths.specs.Places.{cell_read}
 use Rattle.ac_paths.specs.declared.path.CopyNumbers.{CopyNumbers}
 use Rattle.ac_paths.specs.declared.places.CellForms.{CellForms}
@@ -152,7 +152,7 @@ initial_exact m params x r at cell before t can case h = record {
 
 -- ---- all cases
 
-pub cases_exact : (m : Model) (params : List ℤ) (x : Execution) (r : Reads) (at : List ℤ) (cell : Cell) (before : List Entry) → ReadHere m params x r at cell before → CanRead m r → (ws : List CopyNumbers) (cases : List Case) → AreCases m r ws cases → (case : Case) → In case cases → CaseIsTheSource m params x r.position at cell before case
+pub cases_exact : (m : Model) (params : List ℤ) (x : Execution) (r : Reads) (at : List ℤ) (cell : Cell) (before : List Entry) → ReadHere m params x r at cell before → CanRead m r → (ws : List CopyNumbers) (cases : List Case) → AreCases m r ws cases → (case : Case) → IsAmong case cases → CaseIsTheSource m params x r.position at cell before case
 cases_exact m params x r at cell before t can [] [] h case k = absurd k
 cases_exact m params x r at cell before t can [] (c ∷ []) h case (inl e) = subst (CaseIsTheSource m params x r.position at cell before) (sym e) (initial_exact m params x r at cell before t can c h)
 cases_exact m params x r at cell before t can [] (c ∷ []) h case (inr k) = absurd k
@@ -162,14 +162,14 @@ cases_exact m params x r at cell before t can (w ∷ ws) (c ∷ cs) h case (inl 
 cases_exact m params x r at cell before t can (w ∷ ws) (c ∷ cs) h case (inr k) = cases_exact m params x r at cell before t can ws cs h.1 case k
 
 -- the case of the initial contents is the last one
-last_case : (m : Model) (r : Reads) (ws : List CopyNumbers) (cases : List Case) → AreCases m r ws cases → (case : Case) × In case cases × IsInitialCase m r case
+pub last_case : (m : Model) (r : Reads) (ws : List CopyNumbers) (cases : List Case) → AreCases m r ws cases → (case : Case) × IsAmong case cases × IsInitialCase m r case
 last_case m r [] [] h = absurd h
 last_case m r [] (c ∷ []) h = (c, inl refl, h)
 last_case m r [] (c ∷ d ∷ cs) h = absurd h
 last_case m r (w ∷ ws) [] h = absurd h
 last_case m r (w ∷ ws) (c ∷ cs) h = let z = last_case m r ws cs h.1 in (z.0, inr z.1, z.2)
 
-case_of_writing : (m : Model) (r : Reads) (ws : List CopyNumbers) (cases : List Case) → AreCases m r ws cases → (w : CopyNumbers) → In w ws → (case : Case) × In case cases × IsSourceCase m r w case
+pub case_of_writing : (m : Model) (r : Reads) (ws : List CopyNumbers) (cases : List Case) → AreCases m r ws cases → (w : CopyNumbers) → IsAmong w ws → (case : Case) × IsAmong case cases × IsSourceCase m r w case
 case_of_writing m r [] cases h w k = absurd k
 case_of_writing m r (v ∷ ws) [] h w k = absurd h
 case_of_writing m r (v ∷ ws) (c ∷ cs) h w (inl e) = (c, inl refl, subst (λ (y : CopyNumbers). IsSourceCase m r y c) (sym e) h.0)
@@ -185,7 +185,7 @@ has_case m params x r at cell before t can cases h = by (source cell before) ref
         record { case = c.0; among = c.1; more = []; left = subst (λ q. IsInSome HasExtension (map conj_of_remainder c.0.pieces) q) (ap (λ (q : List ℤ). params ++ q) (sym (append-nil at))) (i.1 e) }
     by (Some u) e =
         let s = the_source_has_rows m params x t.describes r.position t.forms t.read at cell before u t.here e in
-        let k : In s.writing (writings m r.position r.array None) = subst (λ a. In s.writing (writings m r.position a None)) (sym t.array) s.among in
+        let k : IsAmong s.writing (writings m r.position r.array None) = subst (λ a. IsAmong s.writing (writings m r.position a None)) (sym t.array) s.among in
         let c = case_of_writing m r (writings m r.position r.array None) cases h s.writing k in
         let g = c.2 in
         let same : g.stmt ≡ s.stmt = some-is g.stmt s.stmt (sym g.is ∙ s.is) in

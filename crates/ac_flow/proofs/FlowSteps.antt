@@ -5,7 +5,7 @@ use Rattle.ac_forms.specs.Affine.{Affine}
 use Rattle.ac_poly.specs.declared.types.Model.{Model}
 use Rattle.ac_poly.specs.declared.types.NodeModel.{NodeModel}
 use Rattle.ac_poly.specs.declared.types.StmtModel.{StmtModel}
-use Rattle.ac_paths.specs.Pairs.{In}
+use Rattle.ac_forms.specs.Members.{IsAmong}
 use Rattle.ac_paths.proofs.Branches.{in_left, in_right}
 use Rattle.ac_flow.specs.Cases.{Reads}
 use Rattle.ac_flow.specs.Readers.{read_at, reads_from, reads_of_all, output_at, outputs_from, AreFlows, Grows, StopsAmong}
@@ -34,7 +34,7 @@ flows_of m rs qs old out new e a b =
     let is : new ≡ g.more = g.is ∙ ap (λ (x : List ReadFlow). x ++ g.more) e in
     subst (AreFlows m (rs ++ qs)) (sym is) g.flows
 
-pub stops_more : (budget : ℕ) (m : Model) (rs qs : List Reads) (e : FlowStop) → ((r : Reads) → In r rs → In r qs) → StopsAmong budget m rs e → StopsAmong budget m qs e
+pub stops_more : (budget : ℕ) (m : Model) (rs qs : List Reads) (e : FlowStop) → ((r : Reads) → IsAmong r rs → IsAmong r qs) → StopsAmong budget m rs e → StopsAmong budget m qs e
 stops_more budget m rs qs e f h = record { why = elim h.why [ inl x ↦ inl (x.0, f x.0 x.1, x.2) | inr x ↦ inr x ] }
 
 -- ---- the nodes of an assignment
@@ -59,17 +59,17 @@ nodes_next m s stmt nodes old out new k node h l e g = record {
 pub nodes_end : (m : Model) (s : ℕ) (stmt : StmtModel) (nodes : List NodeModel) (old out : List ReadFlow) (k : ℕ) → NodesSoFar m s stmt nodes old k out → length nodes ≤ k → Grows m (reads_from s 0 stmt nodes) old out
 nodes_end m s stmt nodes old out k h l = subst (λ (ns : List NodeModel). Grows m (reads_from s 0 stmt ns) old out) (take_all k nodes l) h.grows
 
-node_in : (s j : ℕ) (stmt : StmtModel) (nodes : List NodeModel) (k : ℕ) (node : NodeModel) → k < length nodes → node ≡ get_or nodes k node → (r : Reads) → In r (read_at s (j + k) stmt node) → In r (reads_from s j stmt nodes)
+node_in : (s j : ℕ) (stmt : StmtModel) (nodes : List NodeModel) (k : ℕ) (node : NodeModel) → k < length nodes → node ≡ get_or nodes k node → (r : Reads) → IsAmong r (read_at s (j + k) stmt node) → IsAmong r (reads_from s j stmt nodes)
 node_in s j stmt [] k node l e r h = absurd (omega (arith, l))
 node_in s j stmt (n ∷ ns) zero node l e r h =
     let z : j + 0 ≡ j = omega arith in
-    in_left r (read_at s j stmt n) (reads_from s (suc j) stmt ns) (subst (λ (x : NodeModel). In r (read_at s j stmt x)) e (subst (λ i. In r (read_at s i stmt node)) z h))
+    in_left r (read_at s j stmt n) (reads_from s (suc j) stmt ns) (subst (λ (x : NodeModel). IsAmong r (read_at s j stmt x)) e (subst (λ i. IsAmong r (read_at s i stmt node)) z h))
 node_in s j stmt (n ∷ ns) (suc k) node l e r h =
     let z : j + suc k ≡ suc j + k = omega arith in
-    in_right r (read_at s j stmt n) (reads_from s (suc j) stmt ns) (node_in s (suc j) stmt ns k node (omega (arith, l)) e r (subst (λ i. In r (read_at s i stmt node)) z h))
+    in_right r (read_at s j stmt n) (reads_from s (suc j) stmt ns) (node_in s (suc j) stmt ns k node (omega (arith, l)) e r (subst (λ i. IsAmong r (read_at s i stmt node)) z h))
 
 pub node_stops : (budget : ℕ) (m : Model) (s : ℕ) (stmt : StmtModel) (nodes : List NodeModel) (k : ℕ) (node : NodeModel) (e : FlowStop) → k < length nodes → node ≡ get_or nodes k node → StopsAmong budget m (read_at s k stmt node) e → StopsAmong budget m (reads_from s 0 stmt nodes) e
-node_stops budget m s stmt nodes k node x l e h = stops_more budget m (read_at s k stmt node) (reads_from s 0 stmt nodes) x (λ r i. node_in s 0 stmt nodes k node l e r (let z : k ≡ 0 + k = omega arith in subst (λ j. In r (read_at s j stmt node)) z i)) h
+node_stops budget m s stmt nodes k node x l e h = stops_more budget m (read_at s k stmt node) (reads_from s 0 stmt nodes) x (λ r i. node_in s 0 stmt nodes k node l e r (let z : k ≡ 0 + k = omega arith in subst (λ j. IsAmong r (read_at s j stmt node)) z i)) h
 
 -- ---- the assignments
 
@@ -93,17 +93,17 @@ stmts_next m stmts old out new s stmt h l e g = record {
 pub stmts_end : (m : Model) (stmts : List StmtModel) (old out : List ReadFlow) (s : ℕ) → StmtsSoFar m stmts old s out → length stmts ≤ s → Grows m (reads_of_all 0 stmts) old out
 stmts_end m stmts old out s h l = subst (λ (qs : List StmtModel). Grows m (reads_of_all 0 qs) old out) (take_all s stmts l) h.grows
 
-stmt_in : (s : ℕ) (stmts : List StmtModel) (k : ℕ) (stmt : StmtModel) → k < length stmts → stmt ≡ get_or stmts k stmt → (r : Reads) → In r (reads_from (s + k) 0 stmt stmt.nodes) → In r (reads_of_all s stmts)
+stmt_in : (s : ℕ) (stmts : List StmtModel) (k : ℕ) (stmt : StmtModel) → k < length stmts → stmt ≡ get_or stmts k stmt → (r : Reads) → IsAmong r (reads_from (s + k) 0 stmt stmt.nodes) → IsAmong r (reads_of_all s stmts)
 stmt_in s [] k stmt l e r h = absurd (omega (arith, l))
 stmt_in s (q ∷ qs) zero stmt l e r h =
     let z : s + 0 ≡ s = omega arith in
-    in_left r (reads_from s 0 q q.nodes) (reads_of_all (suc s) qs) (subst (λ (x : StmtModel). In r (reads_from s 0 x x.nodes)) e (subst (λ i. In r (reads_from i 0 stmt stmt.nodes)) z h))
+    in_left r (reads_from s 0 q q.nodes) (reads_of_all (suc s) qs) (subst (λ (x : StmtModel). IsAmong r (reads_from s 0 x x.nodes)) e (subst (λ i. IsAmong r (reads_from i 0 stmt stmt.nodes)) z h))
 stmt_in s (q ∷ qs) (suc k) stmt l e r h =
     let z : s + suc k ≡ suc s + k = omega arith in
-    in_right r (reads_from s 0 q q.nodes) (reads_of_all (suc s) qs) (stmt_in (suc s) qs k stmt (omega (arith, l)) e r (subst (λ i. In r (reads_from i 0 stmt stmt.nodes)) z h))
+    in_right r (reads_from s 0 q q.nodes) (reads_of_all (suc s) qs) (stmt_in (suc s) qs k stmt (omega (arith, l)) e r (subst (λ i. IsAmong r (reads_from i 0 stmt stmt.nodes)) z h))
 
 pub stmt_stops : (budget : ℕ) (m : Model) (stmts : List StmtModel) (s : ℕ) (stmt : StmtModel) (e : FlowStop) → s < length stmts → stmt ≡ get_or stmts s stmt → StopsAmong budget m (reads_from s 0 stmt stmt.nodes) e → StopsAmong budget m (reads_of_all 0 stmts) e
-stmt_stops budget m stmts s stmt x l e h = stops_more budget m (reads_from s 0 stmt stmt.nodes) (reads_of_all 0 stmts) x (λ r i. stmt_in 0 stmts s stmt l e r (let z : s ≡ 0 + s = omega arith in subst (λ j. In r (reads_from j 0 stmt stmt.nodes)) z i)) h
+stmt_stops budget m stmts s stmt x l e h = stops_more budget m (reads_from s 0 stmt stmt.nodes) (reads_of_all 0 stmts) x (λ r i. stmt_in 0 stmts s stmt l e r (let z : s ≡ 0 + s = omega arith in subst (λ j. IsAmong r (reads_from j 0 stmt stmt.nodes)) z i)) h
 
 -- ---- the outputs
 
@@ -127,15 +127,15 @@ outputs_next m es old out new o extents given h l e f g = record {
 pub outputs_end : (m : Model) (es : List (List Affine)) (old out : List ReadFlow) (o : ℕ) → OutputsSoFar m es old o out → length es ≤ o → Grows m (outputs_from m 0 es) old out
 outputs_end m es old out o h l = subst (λ (x : List (List Affine)). Grows m (outputs_from m 0 x) old out) (take_all o es l) h.grows
 
-output_in : (m : Model) (o : ℕ) (es : List (List Affine)) (k : ℕ) (e : List Affine) → k < length es → e ≡ get_or es k e → (r : Reads) → In r (output_at m (o + k) e) → In r (outputs_from m o es)
+output_in : (m : Model) (o : ℕ) (es : List (List Affine)) (k : ℕ) (e : List Affine) → k < length es → e ≡ get_or es k e → (r : Reads) → IsAmong r (output_at m (o + k) e) → IsAmong r (outputs_from m o es)
 output_in m o [] k e l f r h = absurd (omega (arith, l))
 output_in m o (q ∷ qs) zero e l f r h =
     let z : o + 0 ≡ o = omega arith in
-    in_left r (output_at m o q) (outputs_from m (suc o) qs) (subst (λ (x : List Affine). In r (output_at m o x)) f (subst (λ i. In r (output_at m i e)) z h))
+    in_left r (output_at m o q) (outputs_from m (suc o) qs) (subst (λ (x : List Affine). IsAmong r (output_at m o x)) f (subst (λ i. IsAmong r (output_at m i e)) z h))
 output_in m o (q ∷ qs) (suc k) e l f r h =
     let z : o + suc k ≡ suc o + k = omega arith in
-    in_right r (output_at m o q) (outputs_from m (suc o) qs) (output_in m (suc o) qs k e (omega (arith, l)) f r (subst (λ i. In r (output_at m i e)) z h))
+    in_right r (output_at m o q) (outputs_from m (suc o) qs) (output_in m (suc o) qs k e (omega (arith, l)) f r (subst (λ i. IsAmong r (output_at m i e)) z h))
 
 pub output_stops : (budget : ℕ) (m : Model) (es : List (List Affine)) (o : ℕ) (extents given : List Affine) (e : FlowStop) → o < length es → extents ≡ get_or es o extents → given ≡ extents → StopsAmong budget m (output_at m o given) e → StopsAmong budget m (outputs_from m 0 es) e
 output_stops budget m es o extents given x l e f h =
-    stops_more budget m (output_at m o extents) (outputs_from m 0 es) x (λ r i. output_in m 0 es o extents l e r (let z : o ≡ 0 + o = omega arith in subst (λ j. In r (output_at m j extents)) z i)) (subst (λ (y : List Affine). StopsAmong budget m (output_at m o y) x) f h)
+    stops_more budget m (output_at m o extents) (outputs_from m 0 es) x (λ r i. output_in m 0 es o extents l e r (let z : o ≡ 0 + o = omega arith in subst (λ j. IsAmong r (output_at m j extents)) z i)) (subst (λ (y : List Affine). StopsAmong budget m (output_at m o y) x) f h)

@@ -8,13 +8,13 @@ use Rattle.ac_poly.specs.declared.types.Model.{Model}
 use Rattle.ac_claims.specs.declared.types.Kill.{Kill}
 use Rattle.ac_kills.specs.declared.cut.CutStop.{CutStop}
 use Rattle.ac_kills.specs.declared.cut.CutStop.TheVariants.{Memory}
-use Rattle.ac_paths.specs.Pairs.{In}
+use Rattle.ac_forms.specs.Members.{IsAmong}
 use Rattle.ac_paths.specs.declared.path.Assumed.{Assumed}
 use Rattle.ac_paths.specs.declared.path.CopyNumbers.{CopyNumbers}
 use Rattle.ac_flow.specs.Cases.{IsFoundFor, AllFound, kill_of, kills_of}
 use Rattle.ac_flow.specs.Stopping.{UnformedStops, CopyOfStops, KillsStop}
 
-pub in_at : {A : Type 0} (xs : List A) (i : ℕ) (x : A) → i < length xs → x ≡ get_or xs i x → In x xs
+pub in_at : {A : Type 0} (xs : List A) (i : ℕ) (x : A) → i < length xs → x ≡ get_or xs i x → IsAmong x xs
 in_at [] i x l e = absurd (omega (arith, l))
 in_at (y ∷ xs) zero x l e = inl e
 in_at (y ∷ xs) (suc i) x l e = inr (in_at xs i x (omega (arith, l)) e)
@@ -42,7 +42,7 @@ found_next budget m a ws i d ks new k h l f n = record {
 pub found_end : (budget : ℕ) (m : Model) (a : Assumed) (ws : List CopyNumbers) (i : ℕ) (ks : List (List Piece)) → FoundSoFar budget m a ws i ks → length ws ≤ i → AllFound budget m a ws ks
 found_end budget m a ws i ks h l = subst (λ (vs : List CopyNumbers). AllFound budget m a vs ks) (take_all i ws l) h.value
 
-pub in_get_or : (ws : List CopyNumbers) (i : ℕ) (d : CopyNumbers) → i < length ws → In (get_or ws i d) ws
+pub in_get_or : (ws : List CopyNumbers) (i : ℕ) (d : CopyNumbers) → i < length ws → IsAmong (get_or ws i d) ws
 in_get_or [] i d l = absurd (omega (arith, l))
 in_get_or (w ∷ ws) zero d l = inl refl
 in_get_or (w ∷ ws) (suc i) d l = inr (in_get_or ws i d (omega (arith, l)))
@@ -50,7 +50,7 @@ in_get_or (w ∷ ws) (suc i) d l = inr (in_get_or ws i d (omega (arith, l)))
 pub kills_stop : (budget : ℕ) (m : Model) (a : Assumed) (ws : List CopyNumbers) (i : ℕ) (d : CopyNumbers) (e : CutStop) → i < length ws → (UnformedStops m a (get_or ws i d) e ⊎ CopyOfStops budget m a (get_or ws i d) e) → KillsStop budget m a ws e
 kills_stop budget m a ws i d e l s = record { writing = get_or ws i d; among = in_get_or ws i d l; stops = s }
 
-some_in : (ws : List CopyNumbers) (i : ℕ) → i < length ws → (w : CopyNumbers) × In w ws
+some_in : (ws : List CopyNumbers) (i : ℕ) → i < length ws → (w : CopyNumbers) × IsAmong w ws
 some_in [] i l = absurd (omega (arith, l))
 some_in (w ∷ ws) i l = (w, inl refl)
 

@@ -16,7 +16,7 @@ use Rattle.ac_claims.specs.ProofFaults.{is_output_array}
 use Rattle.ac_cert.proofs.Keeping.{some-is}
 use Rattle.ac_paths.specs.Coordinates.{width}
 use Rattle.ac_paths.specs.Executions.{Execution, Describes}
-use Rattle.ac_paths.specs.Pairs.{In}
+use Rattle.ac_forms.specs.Members.{IsAmong}
 use Rattle.ac_paths.specs.Places.{cell_read, extent_rows, element_forms}
 use Rattle.ac_paths.proofs.InBranches.{in_either}
 use Rattle.ac_flow.specs.Cases.{Reads}
@@ -30,45 +30,45 @@ pub data IsReader (m : Model) : Reads → Type 0 where
   OfNode : (s k : ℕ) (stmt : StmtModel) (array : ℕ) (subs : List Affine) → slice_get m.stmts s ≡ Some stmt → slice_get stmt.nodes k ≡ Some (Read array subs) → IsReader m (record { position = Node s k; array = array; count = width stmt; pieces = stmt.pieces })
   OfOutput : (o : ℕ) (extents : List Affine) → slice_get m.extents o ≡ Some extents → IsReader m (record { position = Output o; array = o; count = length extents; pieces = extent_rows m.params extents ∷ [] })
 
-node_reader : (m : Model) (s k : ℕ) (stmt : StmtModel) (node : NodeModel) → slice_get m.stmts s ≡ Some stmt → slice_get stmt.nodes k ≡ Some node → (r : Reads) → In r (read_at s k stmt node) → IsReader m r
+node_reader : (m : Model) (s k : ℕ) (stmt : StmtModel) (node : NodeModel) → slice_get m.stmts s ≡ Some stmt → slice_get stmt.nodes k ≡ Some node → (r : Reads) → IsAmong r (read_at s k stmt node) → IsReader m r
 node_reader m s k stmt (Number f) is e r h = absurd h
 node_reader m s k stmt (Read array subs) is e r (inl i) = subst (IsReader m) (sym i) (OfNode s k stmt array subs is e)
 node_reader m s k stmt (Read array subs) is e r (inr h) = absurd h
 node_reader m s k stmt (Call symbol args) is e r h = absurd h
 
-nodes_reader : (m : Model) (s k : ℕ) (stmt : StmtModel) (nodes : List NodeModel) → slice_get m.stmts s ≡ Some stmt → ((j : ℕ) (node : NodeModel) → slice_get nodes j ≡ Some node → slice_get stmt.nodes (k + j) ≡ Some node) → (r : Reads) → In r (reads_from s k stmt nodes) → IsReader m r
+nodes_reader : (m : Model) (s k : ℕ) (stmt : StmtModel) (nodes : List NodeModel) → slice_get m.stmts s ≡ Some stmt → ((j : ℕ) (node : NodeModel) → slice_get nodes j ≡ Some node → slice_get stmt.nodes (k + j) ≡ Some node) → (r : Reads) → IsAmong r (reads_from s k stmt nodes) → IsReader m r
 nodes_reader m s k stmt [] is f r h = absurd h
 nodes_reader m s k stmt (node ∷ nodes) is f r h = by (in_either r (read_at s k stmt node) (reads_from s (suc k) stmt nodes) h) (λ x. nodes_reader m s (suc k) stmt nodes is (λ j n e. let z : k + suc j ≡ suc k + j = omega arith in subst (λ i. slice_get stmt.nodes i ≡ Some n) z (f (suc j) n e)) r x)
   where
-    by : In r (read_at s k stmt node) ⊎ In r (reads_from s (suc k) stmt nodes) → (In r (reads_from s (suc k) stmt nodes) → IsReader m r) → IsReader m r
+    by : IsAmong r (read_at s k stmt node) ⊎ IsAmong r (reads_from s (suc k) stmt nodes) → (IsAmong r (reads_from s (suc k) stmt nodes) → IsReader m r) → IsReader m r
     by (inl x) next = node_reader m s k stmt node is (let z : k + 0 ≡ k = omega arith in subst (λ j. slice_get stmt.nodes j ≡ Some node) z (f 0 node refl)) r x
     by (inr x) next = next x
 
-stmts_reader : (m : Model) (s : ℕ) (stmts : List StmtModel) → ((j : ℕ) (stmt : StmtModel) → slice_get stmts j ≡ Some stmt → slice_get m.stmts (s + j) ≡ Some stmt) → (r : Reads) → In r (reads_of_all s stmts) → IsReader m r
+stmts_reader : (m : Model) (s : ℕ) (stmts : List StmtModel) → ((j : ℕ) (stmt : StmtModel) → slice_get stmts j ≡ Some stmt → slice_get m.stmts (s + j) ≡ Some stmt) → (r : Reads) → IsAmong r (reads_of_all s stmts) → IsReader m r
 stmts_reader m s [] f r h = absurd h
 stmts_reader m s (stmt ∷ stmts) f r h = by (in_either r (reads_from s 0 stmt stmt.nodes) (reads_of_all (suc s) stmts) h) (λ x. stmts_reader m (suc s) stmts (λ j q e. let z : s + suc j ≡ suc s + j = omega arith in subst (λ i. slice_get m.stmts i ≡ Some q) z (f (suc j) q e)) r x)
   where
-    by : In r (reads_from s 0 stmt stmt.nodes) ⊎ In r (reads_of_all (suc s) stmts) → (In r (reads_of_all (suc s) stmts) → IsReader m r) → IsReader m r
+    by : IsAmong r (reads_from s 0 stmt stmt.nodes) ⊎ IsAmong r (reads_of_all (suc s) stmts) → (IsAmong r (reads_of_all (suc s) stmts) → IsReader m r) → IsReader m r
     by (inl x) next = nodes_reader m s 0 stmt stmt.nodes (let z : s + 0 ≡ s = omega arith in subst (λ j. slice_get m.stmts j ≡ Some stmt) z (f 0 stmt refl)) (λ j n e. let z : j ≡ 0 + j = omega arith in subst (λ i. slice_get stmt.nodes i ≡ Some n) z e) r x
     by (inr x) next = next x
 
-outputs_reader : (m : Model) (o : ℕ) (es : List (List Affine)) → ((j : ℕ) (e : List Affine) → slice_get es j ≡ Some e → slice_get m.extents (o + j) ≡ Some e) → (r : Reads) → In r (outputs_from m o es) → IsReader m r
+outputs_reader : (m : Model) (o : ℕ) (es : List (List Affine)) → ((j : ℕ) (e : List Affine) → slice_get es j ≡ Some e → slice_get m.extents (o + j) ≡ Some e) → (r : Reads) → IsAmong r (outputs_from m o es) → IsReader m r
 outputs_reader m o [] f r h = absurd h
 outputs_reader m o (e ∷ es) f r h = by (in_either r (output_at m o e) (outputs_from m (suc o) es) h) (λ x. outputs_reader m (suc o) es (λ j q i. let z : o + suc j ≡ suc o + j = omega arith in subst (λ k. slice_get m.extents k ≡ Some q) z (f (suc j) q i)) r x)
   where
-    one : (b : Bool) → In r (cond b (record { position = Output o; array = o; count = length e; pieces = extent_rows m.params e ∷ [] } ∷ []) []) → IsReader m r
+    one : (b : Bool) → IsAmong r (cond b (record { position = Output o; array = o; count = length e; pieces = extent_rows m.params e ∷ [] } ∷ []) []) → IsReader m r
     one true (inl i) = subst (IsReader m) (sym i) (OfOutput o e (let z : o + 0 ≡ o = omega arith in subst (λ j. slice_get m.extents j ≡ Some e) z (f 0 e refl)))
     one true (inr x) = absurd x
     one false x = absurd x
 
-    by : In r (output_at m o e) ⊎ In r (outputs_from m (suc o) es) → (In r (outputs_from m (suc o) es) → IsReader m r) → IsReader m r
+    by : IsAmong r (output_at m o e) ⊎ IsAmong r (outputs_from m (suc o) es) → (IsAmong r (outputs_from m (suc o) es) → IsReader m r) → IsReader m r
     by (inl x) next = one (is_output_array m o) x
     by (inr x) next = next x
 
-pub is_reader : (m : Model) (r : Reads) → In r (readers m) → IsReader m r
+pub is_reader : (m : Model) (r : Reads) → IsAmong r (readers m) → IsReader m r
 is_reader m r h = by (in_either r (reads_of_all 0 m.stmts) (outputs_from m 0 m.extents) h)
   where
-    by : In r (reads_of_all 0 m.stmts) ⊎ In r (outputs_from m 0 m.extents) → IsReader m r
+    by : IsAmong r (reads_of_all 0 m.stmts) ⊎ IsAmong r (outputs_from m 0 m.extents) → IsReader m r
     by (inl x) = stmts_reader m 0 m.stmts (λ j q e. let z : j ≡ 0 + j = omega arith in subst (λ i. slice_get m.stmts i ≡ Some q) z e) r x
     by (inr x) = outputs_reader m 0 m.extents (λ j q e. let z : j ≡ 0 + j = omega arith in subst (λ i. slice_get m.extents i ≡ Some q) z e) r x
 

@@ -25,7 +25,8 @@ use Rattle.ac_flow.specs.Flows.{MeetsCase, IsOneCase}
 use Rattle.ac_flow.specs.Sources.{IsSource}
 use Rattle.ac_flow.specs.Writings.{reading, writing}
 use Rattle.ac_flow.specs.declared.types.Case.{Case}
-use Rattle.ac_flow.proofs.CopyParts.{parts_of, case_says, block}
+use Rattle.ac_flow.proofs.CopyParts.{parts_of, block}
+use Rattle.ac_paths.proofs.Kills.{case_says}
 use Rattle.ac_flow.proofs.Exact.{formed}
 use Rattle.ac_forms.proofs.InPieces.{some-at, none-or}
 

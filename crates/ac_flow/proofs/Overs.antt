@@ -17,10 +17,7 @@ use Rattle.ac_paths.specs.Places.{extent_rows}
 use Rattle.ac_paths.proofs.Described.{models_describe}
 use Rattle.ac_flow.specs.Cases.{Reads, CanRead, ArePiecesOver}
 use Rattle.ac_flow.specs.Readers.{IsLowered, IsOver}
-
-zeros : (n : ℕ) → (z : List ℤ) × (length z ≡ n)
-zeros zero = ([], refl)
-zeros (suc n) = let r = zeros n in (pos 0 ∷ r.0, (let e = r.1 in omega (arith, e)))
+use Rattle.ac_paths.proofs.Kills.{zeros}
 
 pub is_over : (m : Model) → IsLowered m → IsOver m
 is_over m l = subst IsOver (sym l.is) made

@@ -9,7 +9,7 @@ use Rattle.ac_poly.specs.declared.types.Model.{Model}
 use Rattle.ac_kills.specs.Cuts.{AllHavePoints}
 use Rattle.ac_kills.specs.declared.cut.CutStop.{CutStop}
 use Rattle.ac_kills.specs.declared.cut.CutStop.TheVariants as cut
-use Rattle.ac_paths.specs.Pairs.{In}
+use Rattle.ac_forms.specs.Members.{IsAmong}
 use Rattle.ac_paths.specs.declared.path.CopyNumbers.{CopyNumbers}
 use Rattle.ac_flow.specs.Cases.{Reads, IsSourceCase, IsInitialCase, AreCases, AreSourceCases, conj_of_remainder, conjs_of}
 use Rattle.ac_flow.specs.Keeping.{AreCutCasesOf, AreOfWriting, AreOfCases, AreTooMany}
@@ -20,7 +20,8 @@ use Rattle.ac_flow.specs.declared.stop.CaseStop.{CaseStop}
 use Rattle.ac_flow.specs.declared.stop.CaseStop.TheVariants as case
 use Rattle.ac_flow.specs.declared.types.Case.{Case}
 use Rattle.ac_flow.proofs.CaseSteps.{filled_map}
-use Rattle.ac_flow.proofs.CutSteps.{parts_have, have-append, no_groups}
+use Rattle.ac_flow.proofs.CutSteps.{parts_have, no_groups}
+use Rattle.ac_kills.proofs.Asked.{have-append}
 use Rattle.ac_flow.proofs.KillSteps.{in_get_or}
 
 -- ---- the cases of the first writings
@@ -152,8 +153,8 @@ pub source_stop_behind : (budget : ℕ) (m : Model) (r : Reads) (ws : List CopyN
     → UnlessMemory (plain e) (plain e ≡ plain stop) → ReadStops budget m r (plain e)
 source_stop_behind budget m r ws i d stop e l w h s =
     let k = carried (plain e) (plain stop) (SourceStops budget m r (get_or ws i d)) h s in
-    unless_map (plain e) (SourceStops budget m r (get_or ws i d) (plain e)) (((v : CopyNumbers) × In v (writings m r.position r.array None) × SourceStops budget m r v (plain e)) ⊎ CaseStops budget m r None (m.params + r.count) [] (plain e))
-    (λ x. inl (get_or ws i d, subst (In (get_or ws i d)) w (in_get_or ws i d l), x)) k
+    unless_map (plain e) (SourceStops budget m r (get_or ws i d) (plain e)) (((v : CopyNumbers) × IsAmong v (writings m r.position r.array None) × SourceStops budget m r v (plain e)) ⊎ CaseStops budget m r None (m.params + r.count) [] (plain e))
+    (λ x. inl (get_or ws i d, subst (IsAmong (get_or ws i d)) w (in_get_or ws i d l), x)) k
 
 own_carried : (e s : CutStop) (P : CutStop → Type 0) → P s → UnlessMemory e (e ≡ s) → UnlessMemory e (P e)
 own_carried (cut.Overflow q) s P h f = subst P (sym f) h
@@ -163,5 +164,5 @@ own_carried (cut.Memory x) s P h f = tt
 
 pub initial_stop_behind : (budget : ℕ) (m : Model) (r : Reads) (stop e : CaseStop) → CaseStops budget m r None (m.params + r.count) [] (plain stop) → UnlessMemory (plain e) (plain e ≡ plain stop) → ReadStops budget m r (plain e)
 initial_stop_behind budget m r stop e h s =
-    unless_map (plain e) (CaseStops budget m r None (m.params + r.count) [] (plain e)) (((v : CopyNumbers) × In v (writings m r.position r.array None) × SourceStops budget m r v (plain e)) ⊎ CaseStops budget m r None (m.params + r.count) [] (plain e))
+    unless_map (plain e) (CaseStops budget m r None (m.params + r.count) [] (plain e)) (((v : CopyNumbers) × IsAmong v (writings m r.position r.array None) × SourceStops budget m r v (plain e)) ⊎ CaseStops budget m r None (m.params + r.count) [] (plain e))
     (λ x. inr x) (own_carried (plain e) (plain stop) (CaseStops budget m r None (m.params + r.count) []) h s)

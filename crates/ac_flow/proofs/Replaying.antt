@@ -49,7 +49,7 @@ among-from n (suc count) z e = by (z == n) refl e (λ f. among-from (n + 1) coun
     by true i f next = grind (arith, i)
     by false i f next = let l = next f in omega (arith, l)
 
-le-true : (n z : ℕ) → n ≤ z → nat_le n z ≡ true
+pub le-true : (n z : ℕ) → n ≤ z → nat_le n z ≡ true
 le-true n z l = by (nat_le n z) refl
   where
     by : (b : Bool) → nat_le n z ≡ b → b ≡ true

@@ -21,7 +21,7 @@ use Rattle.ac_paths.specs.Coordinates.{width}
 use Rattle.ac_paths.specs.Executions.{Execution, InstanceAt, Describes}
 use Rattle.ac_paths.specs.Going.{root}
 use Rattle.ac_paths.specs.Killing.{case_width}
-use Rattle.ac_paths.specs.Pairs.{In}
+use Rattle.ac_forms.specs.Members.{IsAmong}
 use Rattle.ac_paths.specs.Places.{cell_read}
 use Rattle.ac_paths.specs.declared.places.CellForms.{CellForms}
 use Rattle.ac_paths.specs.declared.path.Seat.{Seat}
@@ -36,16 +36,16 @@ use Rattle.ac_flow.proofs.CopyParts.{block, Parts, parts_of, Shown, Written, wri
 
 -- ---- members of lists of copies
 
-none_of : (p : List ℤ) (all : List Conj) → ((c : Conj) → In c all → HasExtension c p → ⊥) → IsInNone HasExtension all p
+none_of : (p : List ℤ) (all : List Conj) → ((c : Conj) → IsAmong c all → HasExtension c p → ⊥) → IsInNone HasExtension all p
 none_of p [] h = tt
 none_of p (c ∷ cs) h = (h c (inl refl), none_of p cs (λ d k. h d (inr k)))
 
-not_in : (p : List ℤ) (all : List Conj) (c : Conj) → IsInNone HasExtension all p → In c all → HasExtension c p → ⊥
+not_in : (p : List ℤ) (all : List Conj) (c : Conj) → IsInNone HasExtension all p → IsAmong c all → HasExtension c p → ⊥
 not_in p [] c n k x = absurd k
 not_in p (d ∷ all) c n (inl e) x = n.0 (subst (λ (c : Conj). HasExtension c p) e x)
 not_in p (d ∷ all) c n (inr k) x = not_in p all c n.1 k x
 
-of_map : {A B : Type 0} (f : A → B) (y : B) (xs : List A) → In y (map f xs) → (x : A) × In x xs × (f x ≡ y)
+of_map : {A B : Type 0} (f : A → B) (y : B) (xs : List A) → IsAmong y (map f xs) → (x : A) × IsAmong x xs × (f x ≡ y)
 of_map f y [] h = absurd h
 of_map f y (x ∷ xs) (inl e) = (x, inl refl, sym e)
 of_map f y (x ∷ xs) (inr h) = let r = of_map f y xs h in (r.0, inr r.1, r.2)
@@ -54,14 +54,14 @@ of_map f y (x ∷ xs) (inr h) = let r = of_map f y xs h in (r.0, inr r.1, r.2)
 
 pub record CopyOf (m : Model) (reader : Position) (array count : ℕ) (source : Option Seat) (n : ℕ) (c : Conj) : Type 0 where
   pub writing : CopyNumbers
-  pub among : In writing (writings m reader array source)
+  pub among : IsAmong writing (writings m reader array source)
   pub stmt : StmtModel
   pub is : slice_get m.stmts writing.stmt ≡ Some stmt
   pub rows : List Row
   pub made : rows_of m (reading m reader count source) n writing stmt ≡ Some rows
   pub conj : c ≡ over (n + width stmt) rows
 
-pub copy_of_conj : (m : Model) (reader : Position) (array count : ℕ) (source : Option Seat) (all : List Conj) (c : Conj) → all_of (copies m (reading m reader count source) array) ≡ Some all → In c all
+pub copy_of_conj : (m : Model) (reader : Position) (array count : ℕ) (source : Option Seat) (all : List Conj) (c : Conj) → all_of (copies m (reading m reader count source) array) ≡ Some all → IsAmong c all
     → CopyOf m reader array count source (case_width m.params (reading m reader count source)) c
 copy_of_conj m reader array count source all c e k =
     let a = reading m reader count source in
@@ -73,8 +73,8 @@ copy_of_conj m reader array count source all c e k =
 
 -- a writing's conjunction is made where all are
 pub conj_of_copy : (m : Model) (reader : Position) (array count : ℕ) (source : Option Seat) (all : List Conj) (w : CopyNumbers) (stmt : StmtModel) → all_of (copies m (reading m reader count source) array) ≡ Some all
-    → In w (writings m reader array source) → slice_get m.stmts w.stmt ≡ Some stmt
-    → (rows : List Row) × (rows_of m (reading m reader count source) (case_width m.params (reading m reader count source)) w stmt ≡ Some rows) × In (over (case_width m.params (reading m reader count source) + width stmt) rows) all
+    → IsAmong w (writings m reader array source) → slice_get m.stmts w.stmt ≡ Some stmt
+    → (rows : List Row) × (rows_of m (reading m reader count source) (case_width m.params (reading m reader count source)) w stmt ≡ Some rows) × IsAmong (over (case_width m.params (reading m reader count source) + width stmt) rows) all
 conj_of_copy m reader array count source all w stmt e k is =
     let a = reading m reader count source in
     let n = case_width m.params a in
@@ -84,7 +84,7 @@ conj_of_copy m reader array count source all w stmt e k is =
     let same : s.0 ≡ stmt = some-is s.0 stmt (sym s.1 ∙ is) in (
       r.0,
       subst (λ (y : StmtModel). rows_of m a n w y ≡ Some r.0) same r.1,
-      subst (λ (y : StmtModel). In (over (n + width y) r.0) all) same (subst (λ (y : Conj). In y all) r.2 c.2),
+      subst (λ (y : StmtModel). IsAmong (over (n + width y) r.0) all) same (subst (λ (y : Conj). IsAmong y all) r.2 c.2),
     )
 
 -- the numbers of a copy's coordinates behind a case's own

@@ -13,7 +13,7 @@ use Rattle.ac_syntax.specs.declared.tree.Position.{Position}
 use Rattle.ac_paths.specs.Places.{levels_to}
 use Rattle.ac_paths.specs.declared.path.CopyNumbers.{CopyNumbers}
 use Rattle.ac_paths.specs.declared.path.Seat.{Seat}
-use Rattle.ac_paths.proofs.EqualSteps.{range_more}
+use Rattle.ac_forms.proofs.Ranges.{range_more}
 use Rattle.ac_flow.specs.Writings.{numbers_to, afters, writing, writings_of, writings_at, writings_from}
 
 numbers_more : (k : ℕ) → numbers_to (k + 1) ≡ numbers_to k ++ k ∷ []

@@ -14,7 +14,7 @@ use Rattle.ac_poly.specs.declared.types.Model.{Model}
 use Rattle.ac_poly.specs.declared.types.StmtModel.{StmtModel}
 use Rattle.ac_paths.specs.Coordinates.{width}
 use Rattle.ac_paths.specs.Executions.{Execution, execution}
-use Rattle.ac_paths.specs.Pairs.{In}
+use Rattle.ac_forms.specs.Members.{IsAmong}
 use Rattle.ac_flow.specs.Cases.{conj_of_remainder}
 use Rattle.ac_flow.specs.Sources.{IsReading, IsSource}
 use Rattle.ac_flow.specs.Writings.{reading, writing, conj_of}
@@ -45,7 +45,7 @@ pub record CaseIsTheSource (m : Model) (params : List ℤ) (x : Execution) (read
 -- some case of a reading is left: that of its source
 pub record HasCase (m : Model) (params : List ℤ) (at : List ℤ) (cases : List Case) : Type 0 where
   pub case : Case
-  pub among : In case cases
+  pub among : IsAmong case cases
   pub more : List ℤ
   pub left : IsLeft case.pieces (params ++ (at ++ more))
 
@@ -59,12 +59,12 @@ pub record IsOneCase (u v : ℕ) (ys zs : List ℤ) (case other : Case) : Type 0
 -- a reading has one case: of two cases of assignments that are left there both are the same
 abbrev pub HasOneCase : Model → List ℤ → List ℤ → List Case → Type 0
 HasOneCase m params at cases =
-    (case other : Case) (u v : ℕ) (first second : StmtModel) (ys zs : List ℤ) → In case cases → In other cases → case.source ≡ Some u → other.source ≡ Some v → slice_get m.stmts u ≡ Some first → slice_get m.stmts v ≡ Some second
+    (case other : Case) (u v : ℕ) (first second : StmtModel) (ys zs : List ℤ) → IsAmong case cases → IsAmong other cases → case.source ≡ Some u → other.source ≡ Some v → slice_get m.stmts u ≡ Some first → slice_get m.stmts v ≡ Some second
     → length ys ≡ width first → length zs ≡ width second → IsLeft case.pieces (params ++ (at ++ ys)) → IsLeft other.pieces (params ++ (at ++ zs)) → IsOneCase u v ys zs case other
 
 -- at each valuation of the context and each reading of a position of the flow
 abbrev pub CasesAreSources : Model → Flow → Type 0
 CasesAreSources m f =
     (p : Program) (context : Cond) (params : List ℤ) → ReadyProgram p → FitParts (length p.params) 0 context.parts → m ≡ model_of p context → length params ≡ length p.params → Meets m.context params
-    → (read : ReadFlow) (at : List ℤ) (cell : Cell) (before : List Entry) → In read f.reads → IsReading (execution p m params) read.position at cell before
-    → ((case : Case) → In case read.cases → CaseIsTheSource m params (execution p m params) read.position at cell before case) × HasCase m params at read.cases × HasOneCase m params at read.cases
+    → (read : ReadFlow) (at : List ℤ) (cell : Cell) (before : List Entry) → IsAmong read f.reads → IsReading (execution p m params) read.position at cell before
+    → ((case : Case) → IsAmong case read.cases → CaseIsTheSource m params (execution p m params) read.position at cell before case) × HasCase m params at read.cases × HasOneCase m params at read.cases

@@ -18,7 +18,7 @@ use Rattle.ac_kills.specs.declared.cut.CutStop.TheVariants as cut
 use Rattle.ac_claims.specs.ProofFaults.{is_output_array}
 use Rattle.ac_paths.specs.Coordinates.{width}
 use Rattle.ac_paths.specs.Formed.{HasModuli}
-use Rattle.ac_paths.specs.Pairs.{In}
+use Rattle.ac_forms.specs.Members.{IsAmong}
 use Rattle.ac_paths.specs.Places.{extent_rows}
 use Rattle.ac_flow.specs.Cases.{Reads, AreCases, conjs_of}
 use Rattle.ac_flow.specs.Keeping.{AreTooMany}
@@ -107,7 +107,7 @@ IsUnbounded m extents (flow.Memory e) = Unit {0}
 
 -- one of these reads and outputs does
 pub record StopsAmong (budget : ℕ) (m : Model) (rs : List Reads) (e : FlowStop) : Type 0 where
-  pub why : ((r : Reads) × In r rs × StopsAt budget m r e) ⊎ ((o : ℕ) × (extents : List Affine) × (slice_get m.extents o ≡ Some extents) × IsUnbounded m extents e)
+  pub why : ((r : Reads) × IsAmong r rs × StopsAt budget m r e) ⊎ ((o : ℕ) × (extents : List Affine) × (slice_get m.extents o ≡ Some extents) × IsUnbounded m extents e)
 
 -- the model of some program under some context
 pub record IsLowered (m : Model) : Type 0 where

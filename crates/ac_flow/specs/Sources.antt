@@ -15,7 +15,7 @@ use Rattle.ac_paths.specs.Columns.{all_of}
 use Rattle.ac_paths.specs.Coordinates.{width}
 use Rattle.ac_paths.specs.Executions.{Execution, InstanceAt, At, Describes, execution}
 use Rattle.ac_paths.specs.Going.{root}
-use Rattle.ac_paths.specs.Pairs.{In}
+use Rattle.ac_forms.specs.Members.{IsAmong}
 use Rattle.ac_paths.specs.Places.{cell_read}
 use Rattle.ac_paths.specs.declared.places.CellForms.{CellForms}
 use Rattle.ac_flow.specs.Writings.{reading, rows_of, writings, copies}
@@ -52,7 +52,7 @@ NoCopyIsTheSource = (p : Program) (m : Model) (params : List ℤ) (reader : Posi
 -- the source of a reader is among the writings, and meets their rows where they can be made
 pub record HasRows (m : Model) (params : List ℤ) (x : Execution) (reader : Position) (forms : CellForms) (at : List ℤ) (u : Writer) : Type 0 where
   pub writing : CopyNumbers
-  pub among : In writing (writings m reader forms.array None)
+  pub among : IsAmong writing (writings m reader forms.array None)
   pub stmt : StmtModel
   pub is : slice_get m.stmts writing.stmt ≡ Some stmt
   pub instance : InstanceAt x writing.stmt (x.coords u.entry) u

@@ -15,7 +15,7 @@ use Rattle.ac_paths.specs.Columns.{base, columns_of}
 use Rattle.ac_paths.specs.Coordinates.{width}
 use Rattle.ac_paths.specs.Going.{root}
 use Rattle.ac_paths.specs.Killing.{case_width}
-use Rattle.ac_paths.specs.Pairs.{In}
+use Rattle.ac_forms.specs.Members.{IsAmong}
 use Rattle.ac_paths.specs.declared.path.Assumed.{Assumed}
 use Rattle.ac_paths.specs.declared.path.CopyNumbers.{CopyNumbers}
 use Rattle.ac_paths.specs.declared.path.Seat.{Seat}
@@ -50,13 +50,13 @@ pub record CopyOfStops (budget : ℕ) (m : Model) (a : Assumed) (w : CopyNumbers
 -- what kills a case cannot be found: a copy cannot be formed, or its elimination stops
 pub record KillsStop (budget : ℕ) (m : Model) (a : Assumed) (ws : List CopyNumbers) (e : CutStop) : Type 0 where
   pub writing : CopyNumbers
-  pub among : In writing ws
+  pub among : IsAmong writing ws
   pub stops : UnformedStops m a writing e ⊎ CopyOfStops budget m a writing e
 
 -- a kill piece of what is assumed: it is left where the columns of a copy are eliminated
 pub record IsKillPiece (budget : ℕ) (m : Model) (a : Assumed) (ws : List CopyNumbers) (kill : List Row) : Type 0 where
   pub writing : CopyNumbers
-  pub among : In writing ws
+  pub among : IsAmong writing ws
   pub copy : Conj
   pub made : conj_of m a writing ≡ Some copy
   pub pieces : List Piece
@@ -72,7 +72,7 @@ AreKillPieces budget m a ws (k ∷ ks) = IsKillPiece budget m a ws k × AreKillP
 -- a cut case stops: its rows are those of a case in a piece of the reader, with further rows from kill pieces
 pub record PieceStops (budget : ℕ) (m : Model) (columns : ℕ) (rows : List Row) (pieces : List (List Row)) (kills : List (List Row)) (e : CutStop) : Type 0 where
   pub piece : List Row
-  pub among : In piece pieces
+  pub among : IsAmong piece pieces
   pub stops : CutStops budget (case_conj m columns rows piece).rows kills e
 
 pub record CutCaseStops (budget : ℕ) (m : Model) (a : Assumed) (ws : List CopyNumbers) (columns : ℕ) (rows : List Row) (pieces : List (List Row)) (e : CutStop) : Type 0 where
@@ -102,4 +102,4 @@ SourceStops budget m r w e =
 -- the case of a writing before the reader stops, or that of the initial contents
 abbrev pub ReadStops : ℕ → Model → Reads → CutStop → Type 0
 ReadStops budget m r e = UnlessMemory e (
-    ((w : CopyNumbers) × In w (writings m r.position r.array None) × SourceStops budget m r w e) ⊎ CaseStops budget m r None (m.params + r.count) [] e)
+    ((w : CopyNumbers) × IsAmong w (writings m r.position r.array None) × SourceStops budget m r w e) ⊎ CaseStops budget m r None (m.params + r.count) [] e)

@@ -11,11 +11,11 @@ ghost use Rattle.ac_flow.specs.Cases.{IsFoundFor};
 ghost use Rattle.ac_flow.specs.Stopping.{front, UnformedStops, CopyOfStops};
 ghost use Rattle.ac_flow.specs.Writings.{alone, conj_of};
 
-use ac_forms::{Conj, Row};
+use ac_forms::{Conj, Row, column_after};
 use ac_items::Items;
 use ac_kills::{CutStop, kill_pieces};
 use ac_omega::Piece;
-use ac_paths::columns::{column_after, columns_at, moved_rows};
+use ac_paths::columns::{columns_at, moved_rows};
 use ac_paths::copies::copy_rows;
 use ac_paths::killing::case_width;
 use ac_paths::path::{Assumed, CopyNumbers, Programs, Seat};

@@ -11,7 +11,8 @@ use Rattle.ac_poly.specs.declared.types.Model.{Model}
 use Rattle.ac_poly.proofs.PiecesApart.{pieces_are_apart}
 use Rattle.ac_cert.proofs.Keeping.{Meets-append}
 use Rattle.ac_paths.specs.Executions.{Execution, execution}
-use Rattle.ac_paths.specs.Pairs.{In, Placed}
+use Rattle.ac_forms.specs.Members.{IsAmong}
+use Rattle.ac_paths.specs.Pairs.{Placed}
 use Rattle.ac_paths.proofs.Moving.{meets-parts, meets-both}
 use Rattle.ac_flow.specs.Cases.{Reads, CanRead, ArePiecesOver}
 use Rattle.ac_flow.specs.Readers.{readers, IsFlowOf, AreFlows, IsOver}
@@ -25,6 +26,7 @@ use Rattle.ac_flow.proofs.Overs.{is_over, can_read, can_read_elements}
 use Rattle.ac_flow_laws.specs.Steps.{MeetsInPiece, StartsInPiece, IsInOnePiece, CasesAreInPieces, FlowsAreOfReaders}
 use Rattle.ac_flow_laws.proofs.Stepping.{Reading, readings, found}
 use Rattle.ac_forms.proofs.InPieces.{some-at, none-or}
+use Rattle.ac_flow.proofs.FlowSources.{reader_can}
 
 -- ---- one piece
 
@@ -67,10 +69,6 @@ holds m params x r at cell before t can ys =
       context = Meets-append m.context m.params params (at ++ ys) (omega (arith, l)) can.context t.context;
       meets = subst (Meets s.1) back (Meets-append s.1 (m.params + r.count) (params ++ at) ys (omega (arith, lq)) (piece_over (m.params + r.count) r.pieces s.0 s.1 can.pieces s.2) s.3);
     }
-
-reader_can : (m : Model) → IsOver m → (r : Reads) → IsReader m r → CanRead m r
-reader_can m h r (OfNode s k stmt array subs is e) = can_read m _ s stmt h is refl refl
-reader_can m h r (OfOutput o extents is) = can_read_elements m _ o extents h is refl refl
 
 -- ---- for a case
 
@@ -131,14 +129,14 @@ cases_are_in_pieces p context params r flow a h case =
 
 -- ---- flows and readers
 
-reader_of : (m : Model) (rs : List Reads) (flows : List ReadFlow) → AreFlows m rs flows → (flow : ReadFlow) → In flow flows → (r : Reads) × In r rs × IsFlowOf m r flow
+reader_of : (m : Model) (rs : List Reads) (flows : List ReadFlow) → AreFlows m rs flows → (flow : ReadFlow) → IsAmong flow flows → (r : Reads) × IsAmong r rs × IsFlowOf m r flow
 reader_of m [] [] h flow i = absurd i
 reader_of m [] (g ∷ flows) h flow i = absurd h
 reader_of m (r ∷ rs) [] h flow i = absurd h
 reader_of m (r ∷ rs) (g ∷ flows) h flow (inl e) = (r, inl refl, subst (IsFlowOf m r) (sym e) h.0)
 reader_of m (r ∷ rs) (g ∷ flows) h flow (inr i) = let z = reader_of m rs flows h.1 flow i in (z.0, inr z.1, z.2)
 
-flow_of : (m : Model) (rs : List Reads) (flows : List ReadFlow) → AreFlows m rs flows → (r : Reads) → In r rs → (flow : ReadFlow) × In flow flows × IsFlowOf m r flow
+flow_of : (m : Model) (rs : List Reads) (flows : List ReadFlow) → AreFlows m rs flows → (r : Reads) → IsAmong r rs → (flow : ReadFlow) × IsAmong flow flows × IsFlowOf m r flow
 flow_of m [] flows h r i = absurd i
 flow_of m (q ∷ rs) [] h r i = absurd h
 flow_of m (q ∷ rs) (g ∷ flows) h r (inl e) = (g, inl refl, subst (λ (y : Reads). IsFlowOf m y g) (sym e) h.0)

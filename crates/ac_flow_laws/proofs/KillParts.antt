@@ -13,7 +13,7 @@ use Rattle.ac_poly.specs.declared.types.StmtModel.{StmtModel}
 use Rattle.ac_paths.specs.Coordinates.{width}
 use Rattle.ac_paths.specs.Going.{root}
 use Rattle.ac_paths.specs.Killing.{case_width, source_width, source_from, with_own_columns}
-use Rattle.ac_paths.specs.Pairs.{In}
+use Rattle.ac_forms.specs.Members.{IsAmong}
 use Rattle.ac_paths.specs.declared.path.CopyNumbers.{CopyNumbers}
 use Rattle.ac_paths.specs.declared.path.Seat.{Seat}
 use Rattle.ac_paths.specs.declared.path.Side.TheVariants.{Left}
@@ -22,7 +22,7 @@ use Rattle.ac_flow.specs.Cases.{Reads, IsCaseOf, IsSourceCase, IsInitialCase, Ar
 use Rattle.ac_flow.specs.Replaying.{IsReplayed, AllReplayed}
 use Rattle.ac_flow.specs.Writings.{writings}
 use Rattle.ac_flow.specs.declared.types.Case.{Case}
-use Rattle.ac_flow.proofs.Exact.{formed}
+use Rattle.ac_flow.proofs.Exact.{formed, last_case, case_of_writing}
 use Rattle.ac_flow.proofs.Replaying.{kills_are_replayed}
 use Rattle.ac_flow_laws.specs.Accepting.{assumed_source, assumed_by, IsKillOf}
 
@@ -33,7 +33,7 @@ pub data IsCase (m : Model) (r : Reads) (case : Case) : Type 0 where
   OfWriting : (w : CopyNumbers) → IsSourceCase m r w case → IsCase m r case
   OfContents : IsInitialCase m r case → IsCase m r case
 
-pub case_in : (m : Model) (r : Reads) (ws : List CopyNumbers) (cases : List Case) → AreCases m r ws cases → (case : Case) → In case cases → IsCase m r case
+pub case_in : (m : Model) (r : Reads) (ws : List CopyNumbers) (cases : List Case) → AreCases m r ws cases → (case : Case) → IsAmong case cases → IsCase m r case
 case_in m r [] [] h case i = absurd h
 case_in m r [] (c ∷ []) h case (inl e) = OfContents (subst (IsInitialCase m r) (sym e) h)
 case_in m r [] (c ∷ []) h case (inr i) = absurd i
@@ -41,20 +41,6 @@ case_in m r [] (c ∷ d ∷ cs) h case i = absurd h
 case_in m r (w ∷ ws) [] h case i = absurd h
 case_in m r (w ∷ ws) (c ∷ cs) h case (inl e) = OfWriting w (subst (IsSourceCase m r w) (sym e) h.0)
 case_in m r (w ∷ ws) (c ∷ cs) h case (inr i) = case_in m r ws cs h.1 case i
-
--- the case of the initial contents is the last one
-pub last_case : (m : Model) (r : Reads) (ws : List CopyNumbers) (cases : List Case) → AreCases m r ws cases → (case : Case) × In case cases × IsInitialCase m r case
-last_case m r [] [] h = absurd h
-last_case m r [] (c ∷ []) h = (c, inl refl, h)
-last_case m r [] (c ∷ d ∷ cs) h = absurd h
-last_case m r (w ∷ ws) [] h = absurd h
-last_case m r (w ∷ ws) (c ∷ cs) h = let z = last_case m r ws cs h.1 in (z.0, inr z.1, z.2)
-
-pub case_of_writing : (m : Model) (r : Reads) (ws : List CopyNumbers) (cases : List Case) → AreCases m r ws cases → (w : CopyNumbers) → In w ws → (case : Case) × In case cases × IsSourceCase m r w case
-case_of_writing m r [] cases h w k = absurd k
-case_of_writing m r (v ∷ ws) [] h w k = absurd h
-case_of_writing m r (v ∷ ws) (c ∷ cs) h w (inl e) = (c, inl refl, subst (λ (y : CopyNumbers). IsSourceCase m r y c) (sym e) h.0)
-case_of_writing m r (v ∷ ws) (c ∷ cs) h w (inr k) = let z = case_of_writing m r ws cs h.1 w k in (z.0, inr z.1, z.2)
 
 -- what a case is of, over its own columns
 record Assumes (m : Model) (r : Reads) (case : Case) : Type 0 where
@@ -110,17 +96,17 @@ is_own m r case = λ i. record { side = Left; reader = record { position = r.pos
 
 -- ---- its kills
 
-kill_in : (m : Model) (r : Reads) (case : Case) (kills : List (Conj × Kill)) (kill : Conj × Kill) → AllReplayed m (assumed_by m r case) kills → In kill kills → IsReplayed m (assumed_by m r case) kill
+kill_in : (m : Model) (r : Reads) (case : Case) (kills : List (Conj × Kill)) (kill : Conj × Kill) → AllReplayed m (assumed_by m r case) kills → IsAmong kill kills → IsReplayed m (assumed_by m r case) kill
 kill_in m r case [] kill h i = absurd i
 kill_in m r case (k ∷ kills) kill h (inl e) = subst (λ (y : Conj × Kill). IsReplayed m (assumed_by m r case) y) (sym e) h.0
 kill_in m r case (k ∷ kills) kill h (inr i) = kill_in m r case kills kill h.1 i
 
-over_of_copy : (n : ℕ) (w : CopyNumbers) (found : List Piece) (kill : Conj × Kill) → AreOver n found → In kill (map (kill_of n w) found) → AreRowsOver n kill.0.rows
+over_of_copy : (n : ℕ) (w : CopyNumbers) (found : List Piece) (kill : Conj × Kill) → AreOver n found → IsAmong kill (map (kill_of n w) found) → AreRowsOver n kill.0.rows
 over_of_copy n w [] kill o i = absurd i
 over_of_copy n w (x ∷ found) kill o (inl e) = subst (λ (y : Conj × Kill). AreRowsOver n y.0.rows) (sym e) o.0
 over_of_copy n w (x ∷ found) kill o (inr i) = over_of_copy n w found kill o.1 i
 
-over_of_kills : (n : ℕ) (ws : List CopyNumbers) (all : List Conj) (found : List (List Piece)) (kill : Conj × Kill) → AllKills n all found → In kill (kills_of n ws found) → AreRowsOver n kill.0.rows
+over_of_kills : (n : ℕ) (ws : List CopyNumbers) (all : List Conj) (found : List (List Piece)) (kill : Conj × Kill) → AllKills n all found → IsAmong kill (kills_of n ws found) → AreRowsOver n kill.0.rows
 over_of_kills n [] all found kill h i = absurd i
 over_of_kills n (w ∷ ws) all [] kill h i = absurd i
 over_of_kills n (w ∷ ws) [] (k ∷ ks) kill h i = absurd h
@@ -137,5 +123,5 @@ kill_parts m r case kill h =
     let ws = writings m r.position r.array (assumed_source m r case) in
     record {
       replayed = kill_in m r case case.kills kill (kills_are_replayed m r (assumed_source m r case) a.columns a.rows case.pieces case.kills (is_own m r case) a.wide c) h.among;
-      over = subst (λ n. AreRowsOver n kill.0.rows) a.wide (over_of_kills a.columns ws c.all c.found kill c.killed (subst (λ (ks : List (Conj × Kill)). In kill ks) c.are h.among));
+      over = subst (λ n. AreRowsOver n kill.0.rows) a.wide (over_of_kills a.columns ws c.all c.found kill c.killed (subst (λ (ks : List (Conj × Kill)). IsAmong kill ks) c.are h.among));
     }

@@ -5,7 +5,8 @@ use Rattle.std.specs.List.{dedup}
 use Rattle.ac_forms.specs.NormalForm.{absurd_rows, left_rows, has_absurd, in_order, alike, has_clash, joined, normal_form, normal_conj, RowsFit}
 use Rattle.ac_forms.specs.NormalRows.{NormalFits}
 use Rattle.ac_forms.specs.Tests.{rows_fit}
-use Rattle.ac_forms.specs.Traces.{IsOneOf, IsLeftOf}
+use Rattle.ac_forms.specs.Members.{IsAmong}
+use Rattle.ac_forms.specs.Traces.{IsLeftOf}
 use Rattle.ac_forms.specs.declared.conj.Conj.{Conj}
 use Rattle.ac_forms.specs.declared.row.Row.{Row}
 use Rattle.ac_forms.proofs.Again.{kept-fits}
@@ -20,7 +21,6 @@ use Rattle.ac_poly.specs.declared.types.StmtModel.{StmtModel}
 use Rattle.ac_paths.specs.Coordinates.{width}
 use Rattle.ac_paths.specs.Going.{Pairing, model_of}
 use Rattle.ac_paths.specs.Killing.{case_width, with_own_columns, normal_of, copy_rows, copy_of, by_column, taken_legally, chosen, all_chosen}
-use Rattle.ac_paths.specs.Pairs.{In}
 use Rattle.ac_paths.specs.declared.path.Assumed.{Assumed}
 
 -- ---- the rows of a normal form
@@ -30,18 +30,18 @@ left_fits r [] f h = absurd h
 left_fits r (x ∷ xs) f (inl e) = kept-fits x r f.0 e
 left_fits r (x ∷ xs) f (inr h) = left_fits r xs f.1 h
 
-absurd_fits : (r : Row) → IsOneOf r absurd_rows → NormalFits r
+absurd_fits : (r : Row) → IsAmong r absurd_rows → NormalFits r
 absurd_fits r (inl e) = subst (λ (s : Row). NormalFits s) (sym e) tt
 absurd_fits r (inr h) = absurd h
 
-normal_fits : (xs : List Row) (r : Row) → RowsFit xs → IsOneOf r (normal_form xs) → NormalFits r
+normal_fits : (xs : List Row) (r : Row) → RowsFit xs → IsAmong r (normal_form xs) → NormalFits r
 normal_fits xs r f h = by (has_absurd xs) h
   where
-    second : (b : Bool) → IsOneOf r (cond b absurd_rows (dedup alike (in_order (left_rows xs)))) → NormalFits r
+    second : (b : Bool) → IsAmong r (cond b absurd_rows (dedup alike (in_order (left_rows xs)))) → NormalFits r
     second true k = absurd_fits r k
     second false k = left_fits r xs f (left_trace r xs (order_trace r (left_rows xs) (joined_trace r (in_order (left_rows xs)) k)))
 
-    by : (b : Bool) → IsOneOf r (cond b absurd_rows (joined (in_order (left_rows xs)))) → NormalFits r
+    by : (b : Bool) → IsAmong r (cond b absurd_rows (joined (in_order (left_rows xs)))) → NormalFits r
     by true k = absurd_fits r k
     by false k = second (has_clash (in_order (left_rows xs))) k
 
@@ -80,12 +80,7 @@ copy_normal g a u piece after before c e =
     let q : normal_conj (record { columns = n + width s.0; rows = r.0 }) ≡ c = some-is (normal_conj (record { columns = n + width s.0; rows = r.0 })) c f.1 in
     record { from = r.0; is = ap (λ (y : Conj). y.rows) (sym q); fits = f.0 }
 
-one_of : (r : Row) (rs : List Row) → In r rs → IsOneOf r rs
-one_of r [] h = absurd h
-one_of r (s ∷ rs) (inl e) = inl e
-one_of r (s ∷ rs) (inr h) = inr (one_of r rs h)
-
-each_fits : (rs : List Row) → ((r : Row) → In r rs → NormalFits r) → RowsFit rs
+each_fits : (rs : List Row) → ((r : Row) → IsAmong r rs → NormalFits r) → RowsFit rs
 each_fits [] f = tt
 each_fits (r ∷ rs) f = (f r (inl refl), each_fits rs (λ s i. f s (inr i)))
 
@@ -94,4 +89,4 @@ pub left_rows_fit : (g : Pairing) (a : Assumed) (u piece : ℕ) (after : Option 
 left_rows_fit g a u piece after before columns n xs copy left e h =
     let w = all_normal columns n xs copy left (copy_normal g a u piece after before copy e) h in
     let f = (rows_fit-is w.from).0 w.fits in
-    subst RowsFit (sym w.is) (each_fits (normal_form w.from) (λ r i. normal_fits w.from r f (one_of r (normal_form w.from) i)))
+    subst RowsFit (sym w.is) (each_fits (normal_form w.from) (λ r i. normal_fits w.from r f i))

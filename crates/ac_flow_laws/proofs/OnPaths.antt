@@ -24,6 +24,7 @@ use Rattle.ac_flow.specs.Writings.{alone}
 use Rattle.ac_flow.specs.declared.types.Case.{Case}
 use Rattle.ac_flow_laws.specs.Accepting.{assumed_by, IsAssumedOn, behind}
 use Rattle.ac_flow_laws.proofs.KillParts.{own_source}
+use Rattle.ac_flow.proofs.Replaying.{le-true}
 
 -- ---- the copy
 
@@ -98,13 +99,6 @@ by_twice y z (choice.Equal w i) = refl
 by_twice y z (choice.Residue w m r) = refl
 by_twice y z (choice.Shadow w) = refl
 by_twice y z (choice.Splinter w i k) = refl
-
-le-true : (n z : ℕ) → n ≤ z → nat_le n z ≡ true
-le-true n z l = by (nat_le n z) refl
-  where
-    by : (b : Bool) → nat_le n z ≡ b → b ≡ true
-    by true e = refl
-    by false e = absurd (grind (arith, e, l))
 
 one_behind : (own columns : ℕ) (x : Choice) (c d : Conj) → chosen own own x c ≡ Some d → chosen columns own (behind own columns x) c ≡ Some d
 one_behind own columns x c d e =

@@ -13,7 +13,7 @@ use Rattle.ac_forms.specs.declared.row.Row.TheVariants.{Eq, Div, Ge}
 use Rattle.ac_forms.proofs.Distinct.{sums_fit-is}
 use Rattle.ac_forms.proofs.Twins.{form_fits-is}
 use Rattle.ac_paths.specs.Killing.{source_columns, source_width, source_from}
-use Rattle.ac_paths.specs.Pairs.{In}
+use Rattle.ac_forms.specs.Members.{IsAmong}
 use Rattle.ac_paths.specs.declared.path.Seat.{Seat}
 
 -- ---- coefficients
@@ -91,7 +91,7 @@ own_row n r l a =
     let c : renamed ks f ≡ f = ap (λ (cs : List ℤ). record { konst = f.konst; coefs = cs }) (own_coefs 0 n f.coefs l ∙ from_first f.coefs) in
     ap (λ b. option_map (with_form r) (cond b (Some (renamed ks f)) None)) s ∙ ap (λ (g : Affine). Some (with_form r g)) c ∙ ap Some (same_row r)
 
-pub own_rows : (n : ℕ) (rs : List Row) → AreRowsOver n rs → ((r : Row) → In r rs → form_fits (form_of r) ≡ true) → rows_renaming (range_with_len 0 n) rs ≡ Some rs
+pub own_rows : (n : ℕ) (rs : List Row) → AreRowsOver n rs → ((r : Row) → IsAmong r rs → form_fits (form_of r) ≡ true) → rows_renaming (range_with_len 0 n) rs ≡ Some rs
 own_rows n [] w f = refl
 own_rows n (r ∷ rs) w f =
     let ks = range_with_len 0 n in

@@ -9,11 +9,11 @@ use Rattle.ac_forms.specs.declared.normal.NormalRow.TheVariants.{Kept, Dropped, 
 use Rattle.ac_forms.specs.declared.row.Row.{Row}
 use Rattle.ac_forms.proofs.NormalLaws.{row_keeps}
 use Rattle.ac_forms.proofs.Standings.{stands-there}
-use Rattle.ac_paths.specs.Pairs.{In}
+use Rattle.ac_forms.specs.Members.{IsAmong}
 use Rattle.ac_paths.proofs.InBranches.{in_get}
 use Rattle.std.specs.Prelude.{ℕ}
 
-holds_in : (r : Row) (rows : List Row) (p : List ℤ) → In r rows → Meets rows p → Holds r p
+holds_in : (r : Row) (rows : List Row) (p : List ℤ) → IsAmong r rows → Meets rows p → Holds r p
 holds_in r [] p i h = absurd i
 holds_in r (s ∷ rows) p (inl e) h = subst (λ (y : Row). Holds y p) (sym e) h.0
 holds_in r (s ∷ rows) p (inr i) h = holds_in r rows p i h.1
@@ -26,10 +26,10 @@ not_absurd r p m h = by (normal_row r) ((row_keeps r p m).1 h)
     by Dropped k = refl
     by Absurd k = absurd k
 
-stands_in : (rows : List Row) (r : Row) (p : List ℤ) → In r rows → HasModulus r → NormalFits r → Meets rows p → stands rows r ≡ true
+stands_in : (rows : List Row) (r : Row) (p : List ℤ) → IsAmong r rows → HasModulus r → NormalFits r → Meets rows p → stands rows r ≡ true
 stands_in rows r p i m f h = let k = in_get r rows i in stands-there rows k.0 r k.1 f (not_absurd r p m (holds_in r rows p i h))
 
-pub all_there : (rows wanted : List Row) (p : List ℤ) → ((r : Row) → In r wanted → In r rows) → HaveModuli wanted → RowsFit wanted → Meets rows p → all_stand rows wanted ≡ true
+pub all_there : (rows wanted : List Row) (p : List ℤ) → ((r : Row) → IsAmong r wanted → IsAmong r rows) → HaveModuli wanted → RowsFit wanted → Meets rows p → all_stand rows wanted ≡ true
 all_there rows [] p i m f h = refl
 all_there rows (r ∷ wanted) p i m f h = λ j. stands_in rows r p (i r (inl refl)) m.0 f.0 h j && all_there rows wanted p (λ s k. i s (inr k)) m.1 f.1 h j
 

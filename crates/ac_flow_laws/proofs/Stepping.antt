@@ -18,7 +18,8 @@ use Rattle.ac_paths.specs.Columns.{all_of}
 use Rattle.ac_paths.specs.Coordinates.{width}
 use Rattle.ac_paths.specs.Executions.{Execution, Describes, execution}
 use Rattle.ac_paths.specs.Going.{root}
-use Rattle.ac_paths.specs.Pairs.{In, Placed}
+use Rattle.ac_forms.specs.Members.{IsAmong}
+use Rattle.ac_paths.specs.Pairs.{Placed}
 use Rattle.ac_paths.specs.declared.path.CopyNumbers.{CopyNumbers}
 use Rattle.ac_paths.proofs.Described.{models_describe}
 use Rattle.ac_flow.specs.Cases.{Reads, IsSourceCase, IsInitialCase, AreCases}
@@ -32,7 +33,9 @@ use Rattle.ac_flow.proofs.Linking.{is_reader, at_reader}
 use Rattle.ac_flow.proofs.OneCase.{one_case}
 use Rattle.ac_flow.proofs.Sourcing.{no_copy, the_source_has_rows}
 use Rattle.ac_flow_laws.specs.Steps.{GoesToRoot, GoesToStart, InNoKill, IsReadOf, MeetsRows, IsStepCase, CasesAreSteps, StartsIn, ComesFrom, StepsAreOfCases, IsOneStep, StepsAreDetermined}
-use Rattle.ac_flow_laws.proofs.KillParts.{IsCase, OfWriting, OfContents, case_in, last_case, case_of_writing}
+use Rattle.ac_flow_laws.proofs.KillParts.{IsCase, OfWriting, OfContents, case_in}
+use Rattle.ac_flow.proofs.Exact.{case_of_writing}
+use Rattle.ac_flow.proofs.Exact.{last_case}
 use Rattle.ac_flow_laws.proofs.KillPoints.{no_kill}
 use Rattle.ac_flow_laws.proofs.Readings.{Found, found_there, reading_of, to_start, to_root, from_start, from_root, is_source}
 
@@ -132,7 +135,7 @@ case_there : (m : Model) (params : List ℤ) (x : Execution) (r : Reads) (a : Pl
 case_there m params x r a e cell before t cases h w found =
     let ys = x.coords w.entry in
     let s = the_source_has_rows m params x t.describes r.position t.forms t.read a.at cell before w t.here found in
-    let i : In s.writing (writings m r.position r.array None) = subst (λ k. In s.writing (writings m r.position k None)) (sym t.array) s.among in
+    let i : IsAmong s.writing (writings m r.position r.array None) = subst (λ k. IsAmong s.writing (writings m r.position k None)) (sym t.array) s.among in
     let c = case_of_writing m r (writings m r.position r.array None) cases h s.writing i in
     let g = c.2 in
     let same : g.stmt ≡ s.stmt = some-is g.stmt s.stmt (sym g.is ∙ s.is) in
@@ -174,7 +177,7 @@ one_step m params x r a e apart cell before t cases h = record {
   one_kind = λ u ys s f. none_some u ys (starts s) (source_of u ys f);
 }
   where
-    kind : (case : Case) → In case cases → IsCase m r case
+    kind : (case : Case) → IsAmong case cases → IsCase m r case
     kind case i = case_in m r (writings m r.position r.array None) cases h case i
 
     source_of : (u : ℕ) (ys : List ℤ) → ComesFrom m params x a cases u ys → IsSource x cell before u ys

@@ -12,7 +12,7 @@ use Rattle.ac_claims.specs.declared.types.Kill.{Kill}
 use Rattle.ac_poly.specs.declared.types.Model.{Model}
 use Rattle.ac_paths.specs.Going.{Pairing, model_of, root}
 use Rattle.ac_paths.specs.Killing.{case_columns, case_width, seat_from, source_from, by_column, copy_of, all_chosen, is_killed}
-use Rattle.ac_paths.specs.Pairs.{In}
+use Rattle.ac_forms.specs.Members.{IsAmong}
 use Rattle.ac_paths.specs.Standing.{made_and_stand}
 use Rattle.ac_paths.specs.declared.path.Assumed.{Assumed}
 use Rattle.ac_paths.specs.declared.path.Path.{Path}
@@ -36,8 +36,8 @@ assumed_by m r case = reading m r.position r.count (assumed_source m r case)
 pub record IsKillOf (m : Model) (r : Reads) (case : Case) (kill : Conj × Kill) : Type 0 where
   pub flow : ReadFlow
   pub is : IsFlowOf m r flow
-  pub case_among : In case flow.cases
-  pub among : In kill case.kills
+  pub case_among : IsAmong case flow.cases
+  pub among : IsAmong kill case.kills
 
 -- what was assumed on a path is what the case assumes, in its program, with columns of the path
 pub record IsAssumedOn (g : Pairing) (a : Assumed) (m : Model) (case : Assumed) : Type 0 where
@@ -78,7 +78,7 @@ StandingKillsAreAccepted =
 
 -- the rows are among those of a path with a point, and have normal forms in `i128`
 pub record AreThere (rows wanted : List Row) : Type 0 where
-  pub among : (row : Row) → In row wanted → In row rows
+  pub among : (row : Row) → IsAmong row wanted → IsAmong row rows
   pub fit : rows_fit wanted ≡ true
   pub point : List ℤ
   pub meets : Meets rows point
@@ -91,8 +91,8 @@ KillsThereAreAccepted =
 
 -- the rows are among others, of which each has numbers of `i128` alone, and which have a point
 pub record AreWithin (rows wanted : List Row) : Type 0 where
-  pub among : (row : Row) → In row wanted → In row rows
-  pub numbers : (row : Row) → In row rows → form_fits (form_of row) ≡ true
+  pub among : (row : Row) → IsAmong row wanted → IsAmong row rows
+  pub numbers : (row : Row) → IsAmong row rows → form_fits (form_of row) ≡ true
   pub point : List ℤ
   pub meets : Meets rows point
 

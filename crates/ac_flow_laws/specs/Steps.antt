@@ -15,7 +15,8 @@ use Rattle.ac_poly.specs.declared.types.StmtModel.{StmtModel}
 use Rattle.ac_claims.specs.declared.types.Kill.{Kill}
 use Rattle.ac_paths.specs.Coordinates.{width}
 use Rattle.ac_paths.specs.Executions.{Execution, execution}
-use Rattle.ac_paths.specs.Pairs.{In, Placed, ResolvesTo}
+use Rattle.ac_forms.specs.Members.{IsAmong}
+use Rattle.ac_paths.specs.Pairs.{Placed, ResolvesTo}
 use Rattle.ac_paths.specs.Places.{initial_of}
 use Rattle.ac_flow.specs.Cases.{Reads, case_conj}
 use Rattle.ac_flow.specs.Flows.{MeetsCase, IsOneCase}
@@ -52,7 +53,7 @@ pub record IsReadOf (p : Program) (context : Cond) (params : List ℤ) (r : Read
   pub fit : FitParts (length p.params) 0 context.parts
   pub each : length params ≡ length p.params
   pub meets : Meets (model_of p context).context params
-  pub among : In r (readers (model_of p context))
+  pub among : IsAmong r (readers (model_of p context))
   pub is : IsFlowOf (model_of p context) r flow
   pub position_is : a.position ≡ r.position
 
@@ -99,18 +100,18 @@ pub record IsStepCase (m : Model) (params : List ℤ) (x : Execution) (a : Place
 abbrev pub CasesAreSteps : Type 0
 CasesAreSteps =
     (p : Program) (context : Cond) (params : List ℤ) (r : Reads) (flow : ReadFlow) (a : Placed (execution p (model_of p context) params)) → IsReadOf p context params r flow a
-    → (case : Case) → In case flow.cases → IsStepCase (model_of p context) params (execution p (model_of p context) params) a case
+    → (case : Case) → IsAmong case flow.cases → IsStepCase (model_of p context) params (execution p (model_of p context) params) a case
 
 -- the case of a step: its rows hold, and none of its kills
 pub record StartsIn (m : Model) (params : List ℤ) (x : Execution) (a : Placed x) (cases : List Case) : Type 0 where
   pub case : Case
-  pub among : In case cases
+  pub among : IsAmong case cases
   pub source : case.source ≡ None
   pub outside : InNoKill case.kills (params ++ a.at)
 
 pub record ComesFrom (m : Model) (params : List ℤ) (x : Execution) (a : Placed x) (cases : List Case) (u : ℕ) (ys : List ℤ) : Type 0 where
   pub case : Case
-  pub among : In case cases
+  pub among : IsAmong case cases
   pub rows : MeetsRows m params x a case u ys
   pub outside : InNoKill case.kills (params ++ (a.at ++ ys))
 
@@ -137,8 +138,8 @@ StepsAreDetermined =
 
 -- each flow of the reads and outputs of a program is that of one of them, and each of them has one
 pub record HaveFlows (m : Model) (flows : List ReadFlow) : Type 0 where
-  pub reader : (flow : ReadFlow) → In flow flows → (r : Reads) × In r (readers m) × IsFlowOf m r flow
-  pub flow : (r : Reads) → In r (readers m) → (flow : ReadFlow) × In flow flows × IsFlowOf m r flow
+  pub reader : (flow : ReadFlow) → IsAmong flow flows → (r : Reads) × IsAmong r (readers m) × IsFlowOf m r flow
+  pub flow : (r : Reads) → IsAmong r (readers m) → (flow : ReadFlow) × IsAmong flow flows × IsFlowOf m r flow
 
 abbrev pub FlowsAreOfReaders : Type 0
 FlowsAreOfReaders = (m : Model) (flows : List ReadFlow) → AreFlows m (readers m) flows → HaveFlows m flows

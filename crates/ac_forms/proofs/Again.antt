@@ -19,7 +19,8 @@ use Rattle.ac_forms.specs.Columns.{IsTrimmed}
 use Rattle.ac_forms.specs.NormalRows.{trim, trim_onto, divided, reduced, leads_negative, signed, normal_eq, normal_div, normal_ge, normal_row, modular_content, absolutes, sign_numbers, eq_numbers, NormalFits}
 use Rattle.ac_forms.specs.NormalForm.{normal_form}
 use Rattle.ac_forms.specs.Rows.{HasModulus, HaveModuli}
-use Rattle.ac_forms.specs.Traces.{IsOneOf, IsLeftOf, HasAbsurd, HasClash}
+use Rattle.ac_forms.specs.Members.{IsAmong}
+use Rattle.ac_forms.specs.Traces.{IsLeftOf, HasAbsurd, HasClash}
 use Rattle.ac_forms.specs.declared.normal.NormalRow.TheVariants.{Kept, Dropped, Absurd}
 use Rattle.ac_forms.specs.declared.row.Row.{Row}
 use Rattle.ac_forms.specs.declared.row.Row.TheVariants.{Eq, Div, Ge}
@@ -58,7 +59,7 @@ whole-one a b g cs eg l ea =
 gcd-zero : (d : ℕ) (c : ℤ) → c ≡ pos 0 → gcd d (unsigned_abs c) ≡ d
 gcd-zero d c e = rw e (sym (gcd_is d 0 d (IsGcd-from_zero d 0 refl)))
 
-zero_test : (c : ℤ) → int_eq c (pos 0) ≡ true → c ≡ pos 0
+pub zero_test : (c : ℤ) → int_eq c (pos 0) ≡ true → c ≡ pos 0
 zero_test c e = grind (arith, ints)
 
 gcd_all-trim : (d : ℕ) (cs : List ℤ) → gcd_all d (trim cs) ≡ gcd_all d cs
@@ -282,7 +283,7 @@ left-again r [] m h = absurd h
 left-again r (x ∷ xs) m (inl e) = kept-again x r m.0 e
 left-again r (x ∷ xs) m (inr h) = left-again r xs m.1 h
 
-pub form-again : (xs : List Row) (r : Row) → HaveModuli xs → IsOneOf r (normal_form xs) → HasAbsurd xs ⊎ HasClash xs ⊎ (normal_row r ≡ Kept r)
+pub form-again : (xs : List Row) (r : Row) → HaveModuli xs → IsAmong r (normal_form xs) → HasAbsurd xs ⊎ HasClash xs ⊎ (normal_row r ≡ Kept r)
 form-again xs r m h = by (form_trace xs r h)
   where
     by : HasAbsurd xs ⊎ HasClash xs ⊎ IsLeftOf r xs → HasAbsurd xs ⊎ HasClash xs ⊎ (normal_row r ≡ Kept r)

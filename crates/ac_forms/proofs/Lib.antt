@@ -23,3 +23,5 @@ pub mod Trimmed
 pub mod Distinct
 pub mod Again
 pub mod InPieces
+pub mod Stops
+pub mod Ranges

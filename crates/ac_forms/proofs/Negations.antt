@@ -28,10 +28,10 @@ pub length-with_column : (n : ℕ) (k : ℤ) (f : Affine) → length f.coefs ≤
 length-with_column n k f h =
     omega (arith, length-append (f.coefs ++ replicate (n - length f.coefs) (pos 0)) (k ∷ []), length-append f.coefs (replicate (n - length f.coefs) (pos 0)), length-replicate (n - length f.coefs) (pos 0))
 
-value-below : (f : Affine) (p : List ℤ) → value_at (below f) p ≡ neg_ℤ (value_at f p) +ℤ negsuc 0
+pub value-below : (f : Affine) (p : List ℤ) → value_at (below f) p ≡ neg_ℤ (value_at f p) +ℤ negsuc 0
 value-below f p = let e = value_at-scaled (negsuc 0) f p in omega (arith, ints, e)
 
-value-above : (f : Affine) (p : List ℤ) → value_at (above f) p ≡ value_at f p +ℤ negsuc 0
+pub value-above : (f : Affine) (p : List ℤ) → value_at (above f) p ≡ value_at f p +ℤ negsuc 0
 value-above f p = omega (arith, ints)
 
 dot-zeros : (m : ℕ) (p : List ℤ) → dot (replicate m (pos 0)) p ≡ pos 0

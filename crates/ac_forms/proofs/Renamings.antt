@@ -11,9 +11,8 @@ use Rattle.ac_forms.specs.Affine.{Affine, value_at}
 use Rattle.ac_forms.specs.Fits.{Fits}
 use Rattle.ac_forms.specs.Rows.{form_of, Holds, Meets, HasModulus, HaveModuli, IsRowOver, AreRowsOver}
 use Rattle.ac_forms.specs.Renaming.{add_at, renamed_coefs, renamed, renamed_row, picked, AreColumns, SumsFit, CanRename, CanRenameAll}
-use Rattle.ac_forms.specs.Stops.{MadeIff, MadeWhere}
+use Rattle.ac_forms.specs.Stops.{MadeIff}
 use Rattle.ac_forms.specs.declared.stop.FormStop.{FormStop}
-use Rattle.ac_forms.specs.declared.stop.FormStop.TheVariants.{Wide, Memory}
 use Rattle.ac_forms.specs.declared.row.Row.{Row}
 use Rattle.ac_forms.specs.declared.row.Row.TheVariants.{Eq, Div, Ge}
 
@@ -216,8 +215,3 @@ rows-made (Ok ss) ks rs m = λ n h k. rw m.1 (rows-over ks rs n h k)
 rows-made (Err e) ks rs m = tt
 
 pub ruleset sum_steps = (from-end, from-more, from-fits, from-all)
-
--- a call is wide where one inside it is
-pub wide_inside : {A B : Type 0} (stop : FormStop) (P Q : Type 0) (R : A → Type 0) (S : B → Type 0) → MadeWhere (Err stop) P R → (Q → P) → MadeWhere (Err stop) Q S
-wide_inside Wide P Q R S h f = λ q. h (f q)
-wide_inside (Memory e) P Q R S h f = tt

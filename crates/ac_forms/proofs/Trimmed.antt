@@ -176,12 +176,12 @@ kept-trimmed r s e = kept-ends (normal_row r) s e (row-ends r)
 
 -- ---- rows without the last columns
 
-past : (cs : List ℤ) (j : ℕ) → length cs ≤ j → get_or cs j (pos 0) ≡ pos 0
+pub past : (cs : List ℤ) (j : ℕ) → length cs ≤ j → get_or cs j (pos 0) ≡ pos 0
 past [] j l = refl
 past (c ∷ cs) zero l = absurd (omega (arith, l))
 past (c ∷ cs) (suc j) l = past cs j (omega (arith, l))
 
-or-false : (a b : Bool) → (a || b) ≡ false → (a ≡ false) × (b ≡ false)
+pub or-false : (a b : Bool) → (a || b) ≡ false → (a ≡ false) × (b ≡ false)
 or-false true b e = absurd cc
 or-false false b e = (refl, e)
 

@@ -8,7 +8,7 @@ use Rattle.ac_forms.specs.NormalRows.{trim, trim_onto}
 zero_test : (c : ℤ) → int_eq c (pos 0) ≡ true → c ≡ pos 0
 zero_test c e = grind (arith, ints)
 
-test_zero : (c : ℤ) → c ≡ pos 0 → int_eq c (pos 0) ≡ true
+pub test_zero : (c : ℤ) → c ≡ pos 0 → int_eq c (pos 0) ≡ true
 test_zero c e = grind (arith, ints)
 
 test_other : (c : ℤ) → (c ≡ pos 0 → ⊥) → int_eq c (pos 0) ≡ false

@@ -1,4 +1,5 @@
 pub mod Fits
+pub mod Members
 pub mod Affine
 pub mod Stops
 pub mod Rows

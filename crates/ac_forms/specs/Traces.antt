@@ -5,11 +5,6 @@ use Rattle.ac_forms.specs.NormalRows.{normal_row}
 use Rattle.ac_forms.specs.declared.row.Row.{Row}
 use Rattle.ac_forms.specs.declared.normal.NormalRow.TheVariants.{Kept, Absurd}
 
--- the row is one of the rows
-abbrev pub IsOneOf : Row → List Row → Type 0
-IsOneOf r [] = ⊥
-IsOneOf r (s ∷ ss) = (r ≡ s) ⊎ IsOneOf r ss
-
 -- the row is the normal form of one of the rows
 abbrev pub IsLeftOf : Row → List Row → Type 0
 IsLeftOf r [] = ⊥

@@ -9,7 +9,8 @@ ghost use Rattle.ac_forms.specs.Pieces.{IsInSome, IsInNone};
 ghost use Rattle.ac_forms.specs.Renaming.{AreColumns, AreDistinct, CanRename, picked, renaming, row_renaming, rows_renaming, sums_fit};
 ghost use Rattle.ac_forms.specs.Rows.{Holds, Meets, HasModulus, HaveModuli, IsRowOver, AreRowsOver, form_of};
 ghost use Rattle.ac_forms.specs.Standing.{stands, all_stand};
-ghost use Rattle.ac_forms.specs.Traces.{IsOneOf, HasAbsurd, HasClash};
+ghost use Rattle.ac_forms.specs.Members.{IsAmong};
+ghost use Rattle.ac_forms.specs.Traces.{HasAbsurd, HasClash};
 ghost use Rattle.ac_forms.specs.declared.row.Row.{Row};
 ghost use Rattle.ac_forms.specs.declared.normal.NormalRow.TheVariants.{Kept};
 
@@ -30,7 +31,7 @@ pub fn normal_rows_are_trimmed(rows: &[Row])
 pub fn normal_rows_are_normal(rows: &[Row])
     ensures kept { (r s : Row) → HasModulus r → normal_row r ≡ Kept s → normal_row s ≡ Kept s }
     ensures fits { (r s : Row) → NormalFits r → normal_row r ≡ Kept s → NormalFits s }
-    ensures each { (r : Row) → HaveModuli rows.now → IsOneOf r (normal_form rows.now) → HasAbsurd rows.now ⊎ HasClash rows.now ⊎ (normal_row r ≡ Kept r) }
+    ensures each { (r : Row) → HaveModuli rows.now → IsAmong r (normal_form rows.now) → HasAbsurd rows.now ⊎ HasClash rows.now ⊎ (normal_row r ≡ Kept r) }
 {}
 
 /// A form among other columns, of which none stands twice, is never wide.

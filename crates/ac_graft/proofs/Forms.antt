@@ -19,7 +19,7 @@ some-same x y e = cc
 
 -- ---- a coefficient added at a column
 
-get-added : (k : ℕ) (c : ℤ) (xs : List ℤ) → get_or (add_at k c xs) k (pos 0) ≡ get_or xs k (pos 0) +ℤ c
+pub get-added : (k : ℕ) (c : ℤ) (xs : List ℤ) → get_or (add_at k c xs) k (pos 0) ≡ get_or xs k (pos 0) +ℤ c
 get-added zero c [] = omega (arith, ints)
 get-added zero c (x ∷ xs) = refl
 get-added (suc k) c [] = get-added k c [] ∙ ap (λ z. z +ℤ c) (nothing k)
@@ -29,7 +29,7 @@ get-added (suc k) c [] = get-added k c [] ∙ ap (λ z. z +ℤ c) (nothing k)
     nothing (suc k) = refl
 get-added (suc k) c (x ∷ xs) = get-added k c xs
 
-get-beside : (k : ℕ) (c : ℤ) (xs : List ℤ) (j : ℕ) → (j ≡ k → ⊥) → get_or (add_at k c xs) j (pos 0) ≡ get_or xs j (pos 0)
+pub get-beside : (k : ℕ) (c : ℤ) (xs : List ℤ) (j : ℕ) → (j ≡ k → ⊥) → get_or (add_at k c xs) j (pos 0) ≡ get_or xs j (pos 0)
 get-beside zero c [] zero n = absurd (n refl)
 get-beside zero c [] (suc zero) n = refl
 get-beside zero c [] (suc (suc j)) n = refl

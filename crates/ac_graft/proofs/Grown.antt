@@ -54,13 +54,13 @@ get-appended (y ∷ xs) ys (suc i) x e = get-appended xs ys i x e
 pub stands-more : (xs ys : List ℕ) (d e : Conj) (i : ℕ) (r : Row) → IsOnto d e → length (form_of r).coefs ≤ length xs → StandsAt xs d i r → StandsAt (xs ++ ys) e i r
 stands-more xs ys d e i r o l a = record { form = a.form; at = rw o.rows (get-appended d.rows o.more i (with_form r a.form) a.at); is = a.is ∙ form-more xs ys (form_of r) l }
 
-stand-more : (xs ys : List ℕ) (d e : Conj) (rs : List Row) (is : List ℕ) → IsOnto d e → AreRowsOver (length xs) rs → Stand xs d rs is → Stand (xs ++ ys) e rs is
+pub stand-more : (xs ys : List ℕ) (d e : Conj) (rs : List Row) (is : List ℕ) → IsOnto d e → AreRowsOver (length xs) rs → Stand xs d rs is → Stand (xs ++ ys) e rs is
 stand-more xs ys d e [] [] o w h = tt
 stand-more xs ys d e [] (i ∷ is) o w h = absurd h
 stand-more xs ys d e (r ∷ rs) [] o w h = absurd h
 stand-more xs ys d e (r ∷ rs) (i ∷ is) o w h = (stands-more xs ys d e i r o w.0.0 h.0, stand-more xs ys d e rs is o w.1 h.1)
 
-stand-both : (xs : List ℕ) (d : Conj) (rs qs : List Row) (is js : List ℕ) → Stand xs d rs is → Stand xs d qs js → Stand xs d (rs ++ qs) (is ++ js)
+pub stand-both : (xs : List ℕ) (d : Conj) (rs qs : List Row) (is js : List ℕ) → Stand xs d rs is → Stand xs d qs js → Stand xs d (rs ++ qs) (is ++ js)
 stand-both xs d [] qs [] js h k = k
 stand-both xs d [] qs (i ∷ is) js h k = absurd h
 stand-both xs d (r ∷ rs) qs [] js h k = absurd h

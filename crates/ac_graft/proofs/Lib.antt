@@ -1,18 +1,18 @@
-mod Named
-mod Numbers
-mod Renamings
-mod Forms
+pub mod Named
+pub mod Numbers
+pub mod Renamings
+pub mod Forms
 mod Rows
 mod Sums
 mod Steps
-mod Views
-mod Selves
+pub mod Views
+pub mod Selves
 mod Moving
 mod Shapes
-mod Grown
+pub mod Grown
 mod Beside
-mod PlanParts
+pub mod PlanParts
 mod Classes
 mod Makers
 mod Serving
-mod Staying
+pub mod Staying

@@ -13,6 +13,8 @@ use Rattle.ac_forms.specs.Fits.{Fits, AllFit}
 use Rattle.ac_forms.specs.NormalRows.{trim, trim_onto}
 use Rattle.ac_cert.specs.Rules.{divides_each, all_zero}
 use Rattle.ac_cert.proofs.Truths.{and-true}
+use Rattle.ac_forms.proofs.Again.{zero_test}
+use Rattle.ac_forms.proofs.Trims.{test_zero}
 
 pub fits-zero : Fits (pos 0)
 fits-zero = record { sfits = lit< tt }
@@ -80,12 +82,6 @@ each-divides g (c ∷ cs) h (suc j) = each-divides g cs (and-true (divides (unsi
 pub divides-each : (g : ℤ) (cs : List ℤ) → ((j : ℕ) → divides (unsigned_abs g) (get_or cs j (pos 0)) ≡ true) → divides_each g cs ≡ true
 divides-each g [] h = refl
 divides-each g (c ∷ cs) h = rw (h 0) (divides-each g cs (λ j. h (suc j)))
-
-zero_test : (c : ℤ) → int_eq c (pos 0) ≡ true → c ≡ pos 0
-zero_test c e = grind (arith, ints)
-
-pub test_zero : (c : ℤ) → c ≡ pos 0 → int_eq c (pos 0) ≡ true
-test_zero c e = grind (arith, ints)
 
 pub each-zero : (cs : List ℤ) → all_zero cs ≡ true → (j : ℕ) → get_or cs j (pos 0) ≡ pos 0
 each-zero [] h zero = refl

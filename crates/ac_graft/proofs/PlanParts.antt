@@ -21,7 +21,7 @@ use Rattle.ac_graft.specs.Plans.{AcceptsPlan}
 use Rattle.ac_graft.specs.Sides.{AcceptsClasses}
 
 -- a plan without steps
-bare : (g : Pairing) (cs : List Claim) (t : Plan) (x : PlanNext) (h : Path) (k : ℕ) → t.steps ≡ [] → t.next ≡ x → plan_fault g cs t h k ≡ next_fault g cs x h k
+pub bare : (g : Pairing) (cs : List Claim) (t : Plan) (x : PlanNext) (h : Path) (k : ℕ) → t.steps ≡ [] → t.next ≡ x → plan_fault g cs t h k ≡ next_fault g cs x h k
 bare g cs t x h k empty next = ap (λ (steps : List Step). steps_fault steps (λ c. next_fault g cs t.next (at_rows h c)) h.conj k) empty ∙ ap (λ (y : PlanNext). next_fault g cs y h k) next
 
 two-none : (o : Option (Conj × Conj)) (k : ℕ) (left right : Conj → Fault) (a b : Conj) → o ≡ Some (a, b) → left a ≡ None → right b ≡ None → split_fault o k left right ≡ None
@@ -38,7 +38,7 @@ classes-list : Pairing → List Claim → List Plan → ℤ → Affine → ℕ �
 classes-list g cs [] m f i h k = None
 classes-list g cs (t ∷ ts) m f i h k = first_fault_of (plan_fault g cs t (at_rows h (class m f (pos i) h.conj)) k) (classes-list g cs ts m f (i + 1) h (k + plan_lines t))
 
-count-row : {w : _} (all : Row_of-Plan w) → count_of all ≡ length (items-the_row-Plan w all)
+pub count-row : {w : _} (all : Row_of-Plan w) → count_of all ≡ length (items-the_row-Plan w all)
 count-row end_of-Plan = refl
 count-row (more_of-Plan s t rest) = ap (λ (n : ℕ). suc n) (count-row rest)
 

@@ -75,7 +75,7 @@ stand-itself n path front (r ∷ rs) i e l h =
       stand-itself n path (front ++ r ∷ []) rs (i + 1) far longer h.1,
     )
 
-stands-itself : (c : Conj) → IsWellMade c → StandsOn (itself c.columns (length c.rows)) c c
+pub stands-itself : (c : Conj) → IsWellMade c → StandsOn (itself c.columns (length c.rows)) c c
 stands-itself c w = record {
   columns = length-range_with_len 0 c.columns;
   among = range-columns 0 c.columns c.columns (omega arith);

@@ -17,7 +17,7 @@ use Rattle.ac_graft.proofs.Views.{stand-long}
 use Rattle.ac_graft.specs.Sides.{on_side, side_of}
 use Rattle.ac_graft.specs.declared.branching.Part.{Part}
 
-stand-first : (xs : List ℕ) (d : Conj) (rs qs : List Row) (is js : List ℕ) → length rs ≡ length is → Stand xs d (rs ++ qs) (is ++ js) → Stand xs d rs is
+pub stand-first : (xs : List ℕ) (d : Conj) (rs qs : List Row) (is js : List ℕ) → length rs ≡ length is → Stand xs d (rs ++ qs) (is ++ js) → Stand xs d rs is
 stand-first xs d [] qs [] js l h = tt
 stand-first xs d [] qs (i ∷ is) js l h = absurd (omega (arith, l))
 stand-first xs d (r ∷ rs) qs [] js l h = absurd (omega (arith, l))

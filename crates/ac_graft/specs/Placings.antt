@@ -61,3 +61,7 @@ grown s columns rows = record {
   next_column = s.next_column + columns;
   next_row = s.next_row + rows;
 }
+
+-- the rows of the question are elsewhere
+abbrev pub with_places : Placing → List ℕ → Placing
+with_places s rows = record { columns = s.columns; rows = rows; next_column = s.next_column; next_row = s.next_row }

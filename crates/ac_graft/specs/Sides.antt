@@ -13,6 +13,7 @@ use Rattle.ac_paths.specs.Going.{Pairing, at_rows}
 use Rattle.ac_paths.specs.declared.path.Path.{Path}
 use Rattle.ac_claims.specs.declared.types.Claim.{Claim}
 use Rattle.ac_claims.specs.declared.types.Plan.{Plan}
+use Rattle.ac_graft.specs.Placings.{with_places}
 use Rattle.ac_graft.specs.Plans.{AcceptsPlan, Serves}
 use Rattle.ac_graft.specs.declared.placing.Placing.{Placing}
 use Rattle.ac_graft.specs.declared.branching.Part.{Part}
@@ -97,3 +98,7 @@ abbrev pub BranchServes : Placing → Row → Plan → List Plan → Plan → Ty
 BranchServes s r inside outside t =
     (g : Pairing) (cs : List Claim) (h : Path) (c : Conj) → IsWellMade c → IsRowOver c.columns r → CanBranch r
     → Serves g cs h (on_side s (inside_of r)) (side_of c (inside_of r)) inside → ServeEach g cs h s c (outside_of c.columns r) outside → Serves g cs h s c t
+
+-- so it does wherever the question's rows stand
+abbrev pub BranchServesAnywhere : Placing → Row → Plan → List Plan → Plan → Type 0
+BranchServesAnywhere s r inside outside t = (places : List ℕ) → BranchServes (with_places s places) r inside outside t

@@ -6,9 +6,8 @@ ghost use Rattle.ac_forms.specs.declared.conj.Conj.{Conj};
 ghost use Rattle.ac_graft.specs.Placings.{place_in, column_on, row_on, columns_on, moved_form, itself, grown, advanced};
 ghost use Rattle.ac_graft.specs.Standing.{StandsOn};
 
-use ac_forms::{Form, FormStop};
+use ac_forms::{Form, FormStop, column_after, push_range};
 use ac_items::Items;
-use ac_paths::columns::column_after;
 use std::alloc::{AllocError, Global};
 
 /// Where the columns and rows of a question stand on the path of its plan, and how many columns and rows the path has. What a
@@ -35,25 +34,14 @@ fn place(places: &[usize], next: usize, number: usize) -> Result<usize, AllocErr
     column_after(next, number - places.len())
 }
 
-/// Adds so many places from one on.
-#[tactic(auto, using(ac_paths::proofs::EqualSteps::range_steps))]
-fn push_places(list: &mut Items<usize>, first: usize, count: usize) -> Result<(), AllocError>
-    ensures { OnOk result (list.new ≡ list.old ++ range_with_len first count) }
-{
-    for k in 0..count {
-        list.push(column_after(first, k)?)?;
-    }
-    Ok(())
-}
-
 /// The placing of a question that is its own path.
 fn own_places(alloc: Global, columns: usize, rows: usize) -> Result<Placing, AllocError>
     ensures { IfOk result (λ placing. placing ≡ itself columns rows) }
 {
     let mut names = Items::new(alloc);
-    push_places(&mut names, 0, columns)?;
+    push_range(&mut names, 0, columns)?;
     let mut places = Items::new(alloc);
-    push_places(&mut places, 0, rows)?;
+    push_range(&mut places, 0, rows)?;
     Ok(Placing {
         columns: names,
         rows: places,
@@ -125,8 +113,8 @@ impl Placing {
     pub fn grow(&mut self, columns: usize, rows: usize) -> Result<(), AllocError>
         ensures { OnOk result (self.new ≡ grown self.old columns rows) }
     {
-        push_places(&mut self.columns, self.next_column, columns)?;
-        push_places(&mut self.rows, self.next_row, rows)?;
+        push_range(&mut self.columns, self.next_column, columns)?;
+        push_range(&mut self.rows, self.next_row, rows)?;
         self.advance(columns, rows)
     }
 

@@ -13,15 +13,14 @@ ghost use Rattle.ac_paths.specs.Going.{Pairing, at_rows};
 ghost use Rattle.ac_paths.specs.declared.path.Path.{Path};
 ghost use Rattle.ac_claims.specs.declared.types.Claim.{Claim};
 ghost use Rattle.ac_graft.specs.Plans.{AcceptsPlan};
-ghost use Rattle.ac_graft.specs.Sides.{AcceptsClasses, BranchServes, has_few};
+ghost use Rattle.ac_graft.specs.Sides.{AcceptsClasses, BranchServesAnywhere, has_few};
 
 use crate::grafting::plan_of;
 use crate::placing::Placing;
 use ac_cert::types::Step;
 use ac_claims::types::{Plan, PlanNext};
-use ac_forms::{Form, FormStop, Row};
+use ac_forms::{Form, FormStop, Row, column_after};
 use ac_items::Items;
-use ac_paths::columns::column_after;
 use std::alloc::{AllocError, Global};
 
 /// The greatest modulus that is negated by its other residue classes.
@@ -212,7 +211,7 @@ fn on_inequality(
     inside: Plan,
     outside: Vec<Plan>,
 ) -> Result<Plan, AllocError>
-    ensures { IfOk result (λ t. BranchServes placing.now (Ge form.now) inside outside.items t) }
+    ensures { IfOk result (λ t. BranchServesAnywhere placing.now (Ge form.now) inside outside.items t) }
 {
     let mut outside = outside;
     let form = placing.form(alloc, form)?;
@@ -231,7 +230,7 @@ fn on_equality(
     inside: Plan,
     outside: Vec<Plan>,
 ) -> Result<Plan, AllocError>
-    ensures { IfOk result (λ t. BranchServes placing.now (Eq form.now) inside outside.items t) }
+    ensures { IfOk result (λ t. BranchServesAnywhere placing.now (Eq form.now) inside outside.items t) }
 {
     let mut outside = outside;
     let form = placing.form(alloc, form)?;
@@ -255,7 +254,7 @@ fn on_classes(
     outside: Vec<Plan>,
 ) -> Result<Plan, AllocError>
     requires { has_few modulus.now ≡ true }
-    ensures { IfOk result (λ t. BranchServes placing.now (Div modulus.now form.now) inside outside.items t) }
+    ensures { IfOk result (λ t. BranchServesAnywhere placing.now (Div modulus.now form.now) inside outside.items t) }
 {
     see_form(form);
     let form = placing.form(alloc, form)?;
@@ -273,7 +272,7 @@ fn on_quotient(
     outside: Vec<Plan>,
 ) -> Result<Plan, AllocError>
     requires { has_few modulus.now ≡ false }
-    ensures { IfOk result (λ t. BranchServes placing.now (Div modulus.now form.now) inside outside.items t) }
+    ensures { IfOk result (λ t. BranchServesAnywhere placing.now (Div modulus.now form.now) inside outside.items t) }
 {
     let mut outside = outside;
     let form = placing.form(alloc, form)?;
@@ -301,7 +300,7 @@ pub fn branch_plan(
     inside: Plan,
     outside: Vec<Plan>,
 ) -> Result<Plan, AllocError>
-    ensures { IfOk result (λ t. BranchServes placing.now row.now inside outside.items t) }
+    ensures { IfOk result (λ t. BranchServesAnywhere placing.now row.now inside outside.items t) }
 {
     match row {
         Row::Ge(form) => on_inequality(alloc, placing, form, inside, outside),

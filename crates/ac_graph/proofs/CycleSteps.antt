@@ -6,7 +6,7 @@ use Rattle.std.proofs.lemmas.List.{take_all}
 use Rattle.std.proofs.lemmas.List.Sums.{sum_by-cons}
 use Rattle.std.proofs.lemmas.Option.{slice_get_within}
 use borrow.Author.Count.{below_more}
-use Rattle.ac_paths.specs.Pairs.{In}
+use Rattle.ac_forms.specs.Members.{IsAmong}
 use Rattle.ac_graph.specs.Ways.{Leads, one, more, Edge, IsMarked, AreMarks, AreCyclic, IsWithin, IsOutside, AreFalling}
 use Rattle.ac_graph.specs.Marking.{is_marked, mark_of}
 use Rattle.ac_graph.proofs.Members.{in_left, in_right, in_last, in_split, in_more, in_grown, get_left, get_before, get_last, get_split}
@@ -66,7 +66,7 @@ cycles_end next made node h e = record {
 }
 
 -- nodes that are chosen
-if_in : (j n : ℕ) (made : List ℕ) (b : Bool) → In j (made ++ cond b (n ∷ []) []) ↔ (In j made ⊎ ((j ≡ n) × (b ≡ true)))
+if_in : (j n : ℕ) (made : List ℕ) (b : Bool) → IsAmong j (made ++ cond b (n ∷ []) []) ↔ (IsAmong j made ⊎ ((j ≡ n) × (b ≡ true)))
 if_in j n made true = (
   (λ i. elim (in_last j n made i) [ inl a ↦ inl a | inr e ↦ inr (e, refl) ]),
   (λ i. elim i [ inl a ↦ in_left j made (n ∷ []) a | inr e ↦ in_right j made (n ∷ []) (inl e.0) ]),
@@ -76,11 +76,11 @@ if_in j n made false = (
   (λ i. elim i [ inl a ↦ in_left j made [] a | inr e ↦ absurd (let f = e.1 in cc) ]),
 )
 
-pub chosen_start : (P : ℕ → Type 0) (nodes made : List ℕ) → made ≡ [] → (j : ℕ) → In j made ↔ (In j (take 0 nodes) × P j)
-chosen_start P nodes made e j = ((λ i. absurd (subst (In j) e i)), (λ i. absurd i.0))
+pub chosen_start : (P : ℕ → Type 0) (nodes made : List ℕ) → made ≡ [] → (j : ℕ) → IsAmong j made ↔ (IsAmong j (take 0 nodes) × P j)
+chosen_start P nodes made e j = ((λ i. absurd (subst (IsAmong j) e i)), (λ i. absurd i.0))
 
-pub chosen_step : (P : ℕ → Type 0) (nodes : List ℕ) (i : ℕ) (old new : List ℕ) (b : Bool) → ((j : ℕ) → In j old ↔ (In j (take i nodes) × P j)) → i < length nodes → (b ≡ true) ↔ P (get_or nodes i 0)
-    → new ≡ old ++ cond b (get_or nodes i 0 ∷ []) [] → (j : ℕ) → In j new ↔ (In j (take (i + 1) nodes) × P j)
+pub chosen_step : (P : ℕ → Type 0) (nodes : List ℕ) (i : ℕ) (old new : List ℕ) (b : Bool) → ((j : ℕ) → IsAmong j old ↔ (IsAmong j (take i nodes) × P j)) → i < length nodes → (b ≡ true) ↔ P (get_or nodes i 0)
+    → new ≡ old ++ cond b (get_or nodes i 0 ∷ []) [] → (j : ℕ) → IsAmong j new ↔ (IsAmong j (take (i + 1) nodes) × P j)
 chosen_step P nodes i old new b h l t e j = rw e (
   (λ n. elim ((if_in j (get_or nodes i 0) old b).0 n) [
     | inl a ↦ let m = (h j).0 a in (in_grown j 0 nodes i l (inl m.0), m.1)
@@ -89,8 +89,8 @@ chosen_step P nodes i old new b h l t e j = rw e (
   (λ n. (if_in j (get_or nodes i 0) old b).1 (elim (in_more j 0 nodes i l n.0) [ inl a ↦ inl ((h j).1 (a, n.1)) | inr m ↦ inr (m, t.1 (subst P m n.1)) ])),
 )
 
-pub chosen_end : (P : ℕ → Type 0) (nodes : List ℕ) (i : ℕ) (made : List ℕ) → ((j : ℕ) → In j made ↔ (In j (take i nodes) × P j)) → length nodes ≤ i → (j : ℕ) → In j made ↔ (In j nodes × P j)
-chosen_end P nodes i made h l = subst (λ (ns : List ℕ). (j : ℕ) → In j made ↔ (In j ns × P j)) (take_all i nodes l) h
+pub chosen_end : (P : ℕ → Type 0) (nodes : List ℕ) (i : ℕ) (made : List ℕ) → ((j : ℕ) → IsAmong j made ↔ (IsAmong j (take i nodes) × P j)) → length nodes ≤ i → (j : ℕ) → IsAmong j made ↔ (IsAmong j nodes × P j)
+chosen_end P nodes i made h l = subst (λ (ns : List ℕ). (j : ℕ) → IsAmong j made ↔ (IsAmong j ns × P j)) (take_all i nodes l) h
 
 pub unmarked_is : (marks : List Bool) (v : ℕ) (b : Bool) → b ≡ not (is_marked marks v) → (b ≡ true) ↔ (¬ (IsMarked marks v))
 unmarked_is marks v b e = elim (true_or_not (is_marked marks v)) [
@@ -98,10 +98,10 @@ unmarked_is marks v b e = elim (true_or_not (is_marked marks v)) [
   | inr f ↦ ((λ t m. let g : false ≡ true = sym f ∙ (marked_is marks v).1 m in absurd cc), (λ n. e ∙ ap not f))
 ]
 
-pub nothing_behind : (marks : List Bool) (v : ℕ) (nodes made : List ℕ) (b : Bool) → b ≡ is_marked marks v → b ≡ false → made ≡ [] → (j : ℕ) → In j made ↔ (In j nodes × IsMarked marks v × IsMarked marks j)
-nothing_behind marks v nodes made b i f e j = ((λ n. absurd (subst (In j) e n)), (λ n. let g : false ≡ true = sym f ∙ i ∙ (marked_is marks v).1 n.1 in absurd cc))
+pub nothing_behind : (marks : List Bool) (v : ℕ) (nodes made : List ℕ) (b : Bool) → b ≡ is_marked marks v → b ≡ false → made ≡ [] → (j : ℕ) → IsAmong j made ↔ (IsAmong j nodes × IsMarked marks v × IsMarked marks j)
+nothing_behind marks v nodes made b i f e j = ((λ n. absurd (subst (IsAmong j) e n)), (λ n. let g : false ≡ true = sym f ∙ i ∙ (marked_is marks v).1 n.1 in absurd cc))
 
-pub all_behind : (marks : List Bool) (v : ℕ) (nodes made : List ℕ) (b : Bool) → b ≡ is_marked marks v → b ≡ true → ((j : ℕ) → In j made ↔ (In j nodes × IsMarked marks j)) → (j : ℕ) → In j made ↔ (In j nodes × IsMarked marks v × IsMarked marks j)
+pub all_behind : (marks : List Bool) (v : ℕ) (nodes made : List ℕ) (b : Bool) → b ≡ is_marked marks v → b ≡ true → ((j : ℕ) → IsAmong j made ↔ (IsAmong j nodes × IsMarked marks j)) → (j : ℕ) → IsAmong j made ↔ (IsAmong j nodes × IsMarked marks v × IsMarked marks j)
 all_behind marks v nodes made b i t h j = ((λ n. let m = (h j).0 n in (m.0, (marked_is marks v).0 (sym i ∙ t), m.1)), (λ n. (h j).1 (n.0, n.2)))
 
 -- the edges of a graph that is made node by node
@@ -115,7 +115,7 @@ edges_start P made e = record { wide = ap length e; edges = λ i l j. absurd (om
 list_is : (a b : List ℕ) → Some a ≡ Some b → a ≡ b
 list_is a b e = cc
 
-pub edges_step : (P : ℕ → ℕ → Type 0) (made new : List (List ℕ)) (node : ℕ) (nodes : List ℕ) → EdgesUpTo P made node → ((j : ℕ) → In j nodes ↔ P node j) → new ≡ made ++ nodes ∷ [] → EdgesUpTo P new (node + 1)
+pub edges_step : (P : ℕ → ℕ → Type 0) (made new : List (List ℕ)) (node : ℕ) (nodes : List ℕ) → EdgesUpTo P made node → ((j : ℕ) → IsAmong j nodes ↔ P node j) → new ≡ made ++ nodes ∷ [] → EdgesUpTo P new (node + 1)
 edges_step P made new node nodes h f e = rw e (record {
   wide = length-append made (nodes ∷ []) ∙ ap (λ n. n + 1) h.wide;
   edges = below_more (λ i. (j : ℕ) → Edge (made ++ nodes ∷ []) i j ↔ P i j) node
@@ -124,7 +124,7 @@ edges_step P made new node nodes h f e = rw e (record {
         (λ p. let x = (h.edges i l j).1 p in (x.0, get_left x.0 made (nodes ∷ []) i x.1, x.2)),
       ))
       (λ j. let g : slice_get (made ++ nodes ∷ []) node ≡ Some nodes = subst (λ (k : ℕ). slice_get (made ++ nodes ∷ []) k ≡ Some nodes) h.wide (get_last nodes made) in (
-        (λ x. (f j).0 (subst (In j) (list_is x.0 nodes (sym x.1 ∙ g)) x.2)),
+        (λ x. (f j).0 (subst (IsAmong j) (list_is x.0 nodes (sym x.1 ∙ g)) x.2)),
         (λ p. (nodes, g, (f j).1 p)),
       ));
 })
@@ -141,13 +141,13 @@ outside_end next marks made node h e = record {
   edges = λ i j. ((λ x. let l = edge_from made i j x in let w = h.wide in (h.edges i (omega arith) j).0 x), (λ p. let l = edge_from next i j p.0 in (h.edges i (omega arith) j).1 p));
 }
 
-pub edges_in : (next : List (List ℕ)) (node : ℕ) (nodes : List ℕ) (j : ℕ) → slice_get next node ≡ Some nodes → In j nodes ↔ Edge next node j
-edges_in next node nodes j e = ((λ i. (nodes, e, i)), (λ x. subst (In j) (list_is x.0 nodes (sym x.1 ∙ e)) x.2))
+pub edges_in : (next : List (List ℕ)) (node : ℕ) (nodes : List ℕ) (j : ℕ) → slice_get next node ≡ Some nodes → IsAmong j nodes ↔ Edge next node j
+edges_in next node nodes j e = ((λ i. (nodes, e, i)), (λ x. subst (IsAmong j) (list_is x.0 nodes (sym x.1 ∙ e)) x.2))
 
-pub within_at : (next : List (List ℕ)) (marks : List Bool) (node : ℕ) (nodes made : List ℕ) → slice_get next node ≡ Some nodes → ((j : ℕ) → In j made ↔ (In j nodes × IsMarked marks node × IsMarked marks j)) → (j : ℕ) → In j made ↔ (Edge next node j × IsMarked marks node × IsMarked marks j)
+pub within_at : (next : List (List ℕ)) (marks : List Bool) (node : ℕ) (nodes made : List ℕ) → slice_get next node ≡ Some nodes → ((j : ℕ) → IsAmong j made ↔ (IsAmong j nodes × IsMarked marks node × IsMarked marks j)) → (j : ℕ) → IsAmong j made ↔ (Edge next node j × IsMarked marks node × IsMarked marks j)
 within_at next marks node nodes made e h j = ((λ i. let m = (h j).0 i in ((edges_in next node nodes j e).0 m.0, m.1, m.2)), (λ p. (h j).1 ((edges_in next node nodes j e).1 p.0, p.1, p.2)))
 
-pub outside_at : (next : List (List ℕ)) (marks : List Bool) (node : ℕ) (nodes made : List ℕ) → slice_get next node ≡ Some nodes → ((j : ℕ) → In j made ↔ (In j nodes × (¬ (IsMarked marks j)))) → (j : ℕ) → In j made ↔ (Edge next node j × (¬ (IsMarked marks j)))
+pub outside_at : (next : List (List ℕ)) (marks : List Bool) (node : ℕ) (nodes made : List ℕ) → slice_get next node ≡ Some nodes → ((j : ℕ) → IsAmong j made ↔ (IsAmong j nodes × (¬ (IsMarked marks j)))) → (j : ℕ) → IsAmong j made ↔ (Edge next node j × (¬ (IsMarked marks j)))
 outside_at next marks node nodes made e h j = ((λ i. let m = (h j).0 i in ((edges_in next node nodes j e).0 m.0, m.1)), (λ p. (h j).1 ((edges_in next node nodes j e).1 p.0, p.1)))
 
 -- counts

@@ -3,7 +3,7 @@ use Rattle.std.proofs.Common.{◌≡◌, ◌↔◌, ◌⊎◌, inl, inr, ℕ, ze
 use Rattle.std.specs.List.{slice_get}
 use Rattle.std.proofs.lemmas.Option.{slice_get_within, slice_get-map}
 use Rattle.ac_syntax.specs.declared.tree.Position.{Position}
-use Rattle.ac_paths.specs.Pairs.{In}
+use Rattle.ac_forms.specs.Members.{IsAmong}
 use Rattle.ac_graph.specs.Marking.{is_marked}
 use Rattle.ac_graph.specs.Moves.{Dependences, Moves, AreDistinct, AreReached, HasReader, ReadingMove, IsRecurrent, AreRecurrent, AreRanks}
 use Rattle.ac_graph.specs.Outlines.{AreOutlinesOf, reads_at}
@@ -118,7 +118,7 @@ away_mirror d b starts pairs next marks o h r =
     }
 
 pub recurrent_are : (d : Dependences) (b : Both) (starts pairs recurrent : List (Position × Position)) (next : List (List ℕ)) (marks : List Bool) → AreOutlinesOf d.programs b → AreAllReached d starts pairs next → AreRecurring b pairs next marks
-    → ((p : Position × Position) → In p recurrent ↔ HasMark pairs marks (length pairs) p) → AreRecurrent d pairs recurrent
+    → ((p : Position × Position) → IsAmong p recurrent ↔ HasMark pairs marks (length pairs) p) → AreRecurrent d pairs recurrent
 recurrent_are d b starts pairs recurrent next marks o h r f p =
     let k = recurs_is d b starts pairs next marks o h r in (
       (λ i. let m = (f p).0 i in (in_at p pairs m.place m.is, (k m.place p m.is).0 m.marked)),
@@ -157,15 +157,15 @@ ranks_are d b starts pairs recurrent next marks ranks o h r f x c el er = record
 pub recurring_at : (b : Both) (pairs seen : List (Position × Position)) (next nodes : List (List ℕ)) (marks : List Bool) → seen ≡ pairs → nodes ≡ next → AreRecurring b seen nodes marks → AreRecurring b pairs next marks
 recurring_at b pairs seen next nodes marks e f h = subst (λ (ns : List (List ℕ)). AreRecurring b pairs ns marks) f (subst (λ (ps : List (Position × Position)). AreRecurring b ps nodes marks) e h)
 
-pub marked_at : (pairs seen recurrent : List (Position × Position)) (marks shown : List Bool) → seen ≡ pairs → shown ≡ marks → ((p : Position × Position) → In p recurrent ↔ HasMark seen shown (length seen) p) → (p : Position × Position) → In p recurrent ↔ HasMark pairs marks (length pairs) p
+pub marked_at : (pairs seen recurrent : List (Position × Position)) (marks shown : List Bool) → seen ≡ pairs → shown ≡ marks → ((p : Position × Position) → IsAmong p recurrent ↔ HasMark seen shown (length seen) p) → (p : Position × Position) → IsAmong p recurrent ↔ HasMark pairs marks (length pairs) p
 marked_at pairs seen recurrent marks shown e f h =
-    subst (λ (ms : List Bool). (p : Position × Position) → In p recurrent ↔ HasMark pairs ms (length pairs) p) f
-    (subst (λ (ps : List (Position × Position)). (p : Position × Position) → In p recurrent ↔ HasMark ps shown (length ps) p) e h)
+    subst (λ (ms : List Bool). (p : Position × Position) → IsAmong p recurrent ↔ HasMark pairs ms (length pairs) p) f
+    (subst (λ (ps : List (Position × Position)). (p : Position × Position) → IsAmong p recurrent ↔ HasMark ps shown (length ps) p) e h)
 
 pub falling_at : (next nodes : List (List ℕ)) (marks shown : List Bool) (ranks : List ℕ) → nodes ≡ next → shown ≡ marks → AreFallingOutside nodes shown ranks → AreFallingOutside next marks ranks
 falling_at next nodes marks shown ranks e f h = subst (λ (ms : List Bool). AreFallingOutside next ms ranks) f (subst (λ (ns : List (List ℕ)). AreFallingOutside ns shown ranks) e h)
 
-pub reached_from : (d : Dependences) (starts others pairs : List (Position × Position)) (next : List (List ℕ)) → AreAllReached d starts pairs next → ((p : Position × Position) → In p starts ↔ In p others) → AreReached d others pairs
+pub reached_from : (d : Dependences) (starts others pairs : List (Position × Position)) (next : List (List ℕ)) → AreAllReached d starts pairs next → ((p : Position × Position) → IsAmong p starts ↔ IsAmong p others) → AreReached d others pairs
 reached_from d starts others pairs next h f p = (
   (λ i. reaches_as d starts others (λ q. (f q).0) p ((h.reached p).0 i)),
   (λ r. (h.reached p).1 (reaches_as d others starts (λ q. (f q).1) p r)),

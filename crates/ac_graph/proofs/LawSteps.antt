@@ -24,7 +24,7 @@ use Rattle.ac_poly.specs.declared.types.NodeModel.{NodeModel}
 use Rattle.ac_poly.specs.declared.types.NodeModel.TheVariants as node
 use Rattle.ac_poly.specs.declared.types.StmtModel.{StmtModel}
 use Rattle.ac_flow.specs.declared.types.Flow.{Flow}
-use Rattle.ac_paths.specs.Pairs.{In}
+use Rattle.ac_forms.specs.Members.{IsAmong}
 use Rattle.ac_paths.specs.Places.{CallAt, cell_read, call_at, call_of, node_at, initial_of}
 use Rattle.ac_graph.specs.Moves.{Dependences, IsReader, IsEdge, target, ArgumentMove, Moves, HasReader, ReadingMove, IsRoot, IsRecurrent}
 use Rattle.ac_graph.specs.Ways.{Leads, one, more}
@@ -46,7 +46,7 @@ pub record Deeper (p q : Position) : Type 0 where
 pub record CallsDescend (m : Model) : Type 0 where
   pub falls : (p : Position) (call : CallAt) (i : ℕ) (q : Position) → call_at m p ≡ Some call → slice_get call.args i ≡ Some q → Deeper p q
 
-roots_above : {m : _} (k : Row_of-Value m) (at a : ℕ) → In a (roots k at) → at ≤ a
+roots_above : {m : _} (k : Row_of-Value m) (at a : ℕ) → IsAmong a (roots k at) → at ≤ a
 unfolding roots
 roots_above end_of-Value at a h = absurd h
 roots_above (more_of-Value v rest) at a (inl e) = omega arith
@@ -60,17 +60,17 @@ get_parts x (z ∷ zs) ys (suc k) e = elim (get_parts x zs ys k e) [ inl a ↦ i
 mutual
   unfolding nodes
 
-  calls_in : (its : List Affine) (v : Value) (at k : ℕ) (symbol : Symbol) (args : List ℕ) → slice_get (nodes its v at) k ≡ Some (node.Call symbol args) → (a : ℕ) → In a args → at + k < a
+  calls_in : (its : List Affine) (v : Value) (at k : ℕ) (symbol : Symbol) (args : List ℕ) → slice_get (nodes its v at) k ≡ Some (node.Call symbol args) → (a : ℕ) → IsAmong a args → at + k < a
   calls_in its (Number e) at zero symbol args h a i = absurd cc
   calls_in its (Number e) at (suc k) symbol args h a i = absurd cc
   calls_in its (Access array subs place) at zero symbol args h a i = absurd cc
   calls_in its (Access array subs place) at (suc k) symbol args h a i = absurd cc
   calls_in its (Call' f n row place) at zero symbol args h a i =
       let r : args ≡ roots row (at + 1) = cc in
-      let l = roots_above row (at + 1) a (subst (In a) r i) in omega arith
+      let l = roots_above row (at + 1) a (subst (IsAmong a) r i) in omega arith
   calls_in its (Call' f n row place) at (suc k) symbol args h a i = let r = calls_among its row (at + 1) k symbol args h a i in omega arith
 
-  calls_among : (its : List Affine) {m : _} (row : Row_of-Value m) (at k : ℕ) (symbol : Symbol) (args : List ℕ) → slice_get (nodes_in its row at) k ≡ Some (node.Call symbol args) → (a : ℕ) → In a args → at + k < a
+  calls_among : (its : List Affine) {m : _} (row : Row_of-Value m) (at k : ℕ) (symbol : Symbol) (args : List ℕ) → slice_get (nodes_in its row at) k ≡ Some (node.Call symbol args) → (a : ℕ) → IsAmong a args → at + k < a
   calls_among its end_of-Value at k symbol args h a i = absurd cc
   calls_among its (more_of-Value v rest) at k symbol args h a i =
       elim (get_parts (node.Call symbol args) (nodes its v at) (nodes_in its rest (at + size v)) k h) [
@@ -87,7 +87,7 @@ record FromValue (stmt : StmtModel) : Type 0 where
 mutual
   unfolding lower
 
-  stmt_value : (s : Stmt) (loop : ℕ) (sc : Scope) (x : StmtModel) → In x (lower s loop sc) → FromValue x
+  stmt_value : (s : Stmt) (loop : ℕ) (sc : Scope) (x : StmtModel) → IsAmong x (lower s loop sc) → FromValue x
   stmt_value (For' iter start cond step n body place) loop sc x h = stmts_value body (suc loop) (in_loop sc loop start cond step) x h
   stmt_value (If' cond n taken m other place) loop sc x h =
       elim (in_split x (lower_in taken loop (where_holds sc cond)) (lower_in other (loop + loop_count_in taken) (where_fails sc cond)) h) [
@@ -97,7 +97,7 @@ mutual
   stmt_value (Assign array subs value place) loop sc x (inl e) = record { its = sc.iters; value = value; is = ap (λ (y : StmtModel). y.nodes) e }
   stmt_value (Assign array subs value place) loop sc x (inr n) = absurd n
 
-  stmts_value : {m : _} (k : Row_of-Stmt m) (loop : ℕ) (sc : Scope) (x : StmtModel) → In x (lower_in k loop sc) → FromValue x
+  stmts_value : {m : _} (k : Row_of-Stmt m) (loop : ℕ) (sc : Scope) (x : StmtModel) → IsAmong x (lower_in k loop sc) → FromValue x
   stmts_value end_of-Stmt loop sc x h = absurd h
   stmts_value (more_of-Stmt s rest) loop sc x h =
       elim (in_split x (lower s loop sc) (lower_in rest (loop + loop_count s) sc) h) [
@@ -105,7 +105,7 @@ mutual
         | inr a ↦ stmts_value rest (loop + loop_count s) sc x a
       ]
 
-body_value : (ss : List Stmt) (loop : ℕ) (sc : Scope) (x : StmtModel) → In x (lower_all ss loop sc) → FromValue x
+body_value : (ss : List Stmt) (loop : ℕ) (sc : Scope) (x : StmtModel) → IsAmong x (lower_all ss loop sc) → FromValue x
 body_value [] loop sc x h = absurd h
 body_value (s ∷ ss) loop sc x h =
     elim (in_split x (lower s loop sc) (lower_all ss (loop + loop_count s) sc) h) [ inl a ↦ stmt_value s loop sc x a | inr a ↦ body_value ss (loop + loop_count s) sc x a ]
@@ -148,13 +148,13 @@ calls_descend p context = record { falls = descend p context }
 -- ---- edges lead to roots and initial positions
 
 pub record EdgesLead (edges : List (Position × Position)) : Type 0 where
-  pub lead : (a b : Position) → In (a, b) edges → IsRoot b ⊎ (b ≡ initial_of a)
+  pub lead : (a b : Position) → IsAmong (a, b) edges → IsRoot b ⊎ (b ≡ initial_of a)
 
 target_leads : (p : Position) (source : Option ℕ) → IsRoot (target p source) ⊎ (target p source ≡ initial_of p)
 target_leads p None = inr refl
 target_leads p (Some s) = inl refl
 
-pub edges_lead : (f : Flow) (edges : List (Position × Position)) → ((p q : Position) → In (p, q) edges ↔ IsEdge f p q) → EdgesLead edges
+pub edges_lead : (f : Flow) (edges : List (Position × Position)) → ((p q : Position) → IsAmong (p, q) edges ↔ IsEdge f p q) → EdgesLead edges
 edges_lead f edges h = record {
   lead = λ a b i. let e = (h a b).0 i in elim (target_leads e.read.position e.case.source) [
     | inl r ↦ inl (subst IsRoot (sym e.to_is) r)

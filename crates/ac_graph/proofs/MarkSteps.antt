@@ -3,7 +3,7 @@ use Rattle.std.proofs.Common.{◌≡◌, ◌⊎◌, inl, inr, ℕ, zero, suc, �
 use Rattle.std.specs.List.{slice_get}
 use Rattle.std.proofs.lemmas.Option.{slice_get-get_or, slice_get_within, slice_get_read}
 use Rattle.std.proofs.lemmas.List.{take_all, take_at, length-replicate}
-use Rattle.ac_paths.specs.Pairs.{In}
+use Rattle.ac_forms.specs.Members.{IsAmong}
 use Rattle.ac_graph.specs.Ways.{Leads, one, more, Edge, IsGraph, IsMarked, AreMarks}
 use Rattle.ac_graph.specs.Marking.{AreBelow, AreMatched, AreAdded, IsSpreading}
 use Rattle.ac_graph.proofs.Members.{in_left, in_right, in_last, in_at, at_in, get_before, in_more, in_grown}
@@ -14,7 +14,7 @@ below_at n [] i d b l = omega arith
 below_at n (k ∷ ks) zero d b l = b.0
 below_at n (k ∷ ks) (suc i) d b l = below_at n ks i d b.1 (omega arith)
 
-pub below_all : (n : ℕ) (ks : List ℕ) → ((k : ℕ) → In k ks → k < n) → AreBelow n ks
+pub below_all : (n : ℕ) (ks : List ℕ) → ((k : ℕ) → IsAmong k ks → k < n) → AreBelow n ks
 below_all n [] h = tt
 below_all n (k ∷ ks) h = (h k (inl refl), below_all n ks (λ j i. h j (inr i)))
 
@@ -65,7 +65,7 @@ added_known nodes old new marks i h l w m =
       more = h.more;
       is = h.is;
       has = λ v n. elim (h.has v n) [ inl o ↦ inl o | inr b ↦ inr (in_grown v 0 nodes i l (inl b)) ];
-      keeps = λ v n. elim (in_more v 0 nodes i l n) [ inl a ↦ h.keeps v a | inr e ↦ subst (λ (u : ℕ). In u new) (sym e) ((h.matched x).0 is_marked) ];
+      keeps = λ v n. elim (in_more v 0 nodes i l n) [ inl a ↦ h.keeps v a | inr e ↦ subst (λ (u : ℕ). IsAmong u new) (sym e) ((h.matched x).0 is_marked) ];
       matched = h.matched;
     }
 
@@ -95,8 +95,8 @@ nodes_below next u nodes g e = below_all (length next) nodes (λ k i. g.within u
 same_item : (m u : ℕ) (xs : List ℕ) (k : ℕ) → slice_get xs k ≡ Some m → slice_get xs k ≡ Some u → m ≡ u
 same_item m u xs k e f = cc
 
-edge_in : (next : List (List ℕ)) (u v : ℕ) (nodes : List ℕ) → slice_get next u ≡ Some nodes → Edge next u v → In v nodes
-edge_in next u v nodes e (other, is, h) = let same : other ≡ nodes = cc in subst (In v) same h
+edge_in : (next : List (List ℕ)) (u v : ℕ) (nodes : List ℕ) → slice_get next u ≡ Some nodes → Edge next u v → IsAmong v nodes
+edge_in next u v nodes e (other, is, h) = let same : other ≡ nodes = cc in subst (IsAmong v) same h
 
 none_marked : (n v : ℕ) → ¬ IsMarked (replicate n false) v
 none_marked zero v h = cc
@@ -118,8 +118,8 @@ spreading_start next from nodes new marks e w h = record {
 pub spreading_step : (next : List (List ℕ)) (from at u : ℕ) (nodes old new : List ℕ) (before marks : List Bool) → IsSpreading next from at before old → slice_get old at ≡ Some u → slice_get next u ≡ Some nodes → length marks ≡ length next
     → AreAdded nodes old new marks → IsSpreading next from (at + 1) marks new
 spreading_step next from at u nodes old new before marks h a e w s =
-    let grows : (v : ℕ) → In v old → In v new = λ v i. subst (In v) (sym s.is) (in_left v old s.more i) in
-    let Follows : ℕ → Type 0 = λ j. (k v : ℕ) → slice_get new j ≡ Some k → Edge next k v → In v new in
+    let grows : (v : ℕ) → IsAmong v old → IsAmong v new = λ v i. subst (IsAmong v) (sym s.is) (in_left v old s.more i) in
+    let Follows : ℕ → Type 0 = λ j. (k v : ℕ) → slice_get new j ≡ Some k → Edge next k v → IsAmong v new in
     let within : at < length old = slice_get_within old at u a in
     let get : (j k : ℕ) → j < length old → slice_get new j ≡ Some k → slice_get old j ≡ Some k = λ j k l g. get_before k old s.more j l (rw s.is at g) in
     record {
@@ -133,7 +133,7 @@ spreading_step next from at u nodes old new before marks h a e w s =
           j l k v g d;
     }
 
-reach : (next : List (List ℕ)) (from at : ℕ) (marks : List Bool) (found : List ℕ) → IsSpreading next from at marks found → length found ≤ at → (v : ℕ) → Leads (Edge next) from v → In v found
+reach : (next : List (List ℕ)) (from at : ℕ) (marks : List Bool) (found : List ℕ) → IsSpreading next from at marks found → length found ≤ at → (v : ℕ) → Leads (Edge next) from v → IsAmong v found
 reach next from at marks found h l v (one p q e) = h.first v e
 reach next from at marks found h l v (more p q s w e) =
     let i = at_in q found (reach next from at marks found h l q w) in

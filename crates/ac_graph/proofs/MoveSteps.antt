@@ -4,7 +4,7 @@ use Rattle.std.specs.Prelude.{nat_eq}
 use Rattle.std.proofs.lemmas.Bool.{eqb-true, eq-eqb}
 use Rattle.ac_syntax.specs.declared.tree.Position.{Position}
 use Rattle.ac_syntax.specs.declared.tree.Position.TheVariants.{Output, Node, InitialOutput, InitialNode}
-use Rattle.ac_paths.specs.Pairs.{In}
+use Rattle.ac_forms.specs.Members.{IsAmong}
 use Rattle.std.specs.List.{slice_get}
 use Rattle.std.proofs.lemmas.List.{take_all}
 use Rattle.std.proofs.lemmas.Option.{slice_get_within, slice_get-map}
@@ -19,33 +19,17 @@ use Rattle.ac_paths.specs.Places.{CallAt, call_at, call_of, read_of, node_at}
 use Rattle.ac_paths.specs.declared.places.CellForms.{CellForms}
 use Rattle.ac_paths.specs.Pairs.{ArgumentsMeet}
 use Rattle.ac_graph.specs.Moves.{Dependences, IsReader, ArgumentMove, Moves}
-use Rattle.ac_graph.specs.Spreading.{same_position, same_pair, IsMore, IsLeftOf, IsRightOf, IsArgumentOf, IsKeptOf, IsMetOf, IsArgumentMoveOf}
+use Rattle.ac_claims.specs.Ending.{same_position, same_pair}
+use Rattle.ac_graph.specs.Spreading.{IsMore, IsLeftOf, IsRightOf, IsArgumentOf, IsKeptOf, IsMetOf, IsArgumentMoveOf}
 use Rattle.ac_graph.proofs.Members.{in_left, in_right, in_last, in_more, in_grown}
+use Rattle.ac_claims.proofs.Plans.{position_is}
 
 both_true : (a b : Bool) → (a && b) ≡ true → (a ≡ true) × (b ≡ true)
 both_true true b e = (refl, e)
 both_true false b e = cc
 
-true_both : (a b : Bool) → a ≡ true → b ≡ true → (a && b) ≡ true
+pub true_both : (a b : Bool) → a ≡ true → b ≡ true → (a && b) ≡ true
 true_both a b e f = rw (e, f) refl
-
-pub position_is : (p q : Position) → same_position p q ≡ true → p ≡ q
-position_is (Output o) (Output p) e = ap Output (eqb-true o p e)
-position_is (Output o) (Node s k) e = absurd cc
-position_is (Output o) (InitialOutput p) e = absurd cc
-position_is (Output o) (InitialNode s k) e = absurd cc
-position_is (Node s k) (Output p) e = absurd cc
-position_is (Node s k) (Node t l) e = let b = both_true (nat_eq s t) (nat_eq k l) e in let x = eqb-true s t b.0 in let y = eqb-true k l b.1 in λ i. Node (x i) (y i)
-position_is (Node s k) (InitialOutput p) e = absurd cc
-position_is (Node s k) (InitialNode t l) e = absurd cc
-position_is (InitialOutput o) (Output p) e = absurd cc
-position_is (InitialOutput o) (Node s k) e = absurd cc
-position_is (InitialOutput o) (InitialOutput p) e = ap InitialOutput (eqb-true o p e)
-position_is (InitialOutput o) (InitialNode s k) e = absurd cc
-position_is (InitialNode s k) (Output p) e = absurd cc
-position_is (InitialNode s k) (Node t l) e = absurd cc
-position_is (InitialNode s k) (InitialOutput p) e = absurd cc
-position_is (InitialNode s k) (InitialNode t l) e = let b = both_true (nat_eq s t) (nat_eq k l) e in let x = eqb-true s t b.0 in let y = eqb-true k l b.1 in λ i. InitialNode (x i) (y i)
 
 pub same_self : (p : Position) → same_position p p ≡ true
 same_self (Output o) = eq-eqb o o refl
@@ -68,11 +52,11 @@ more_none P old n q = ((λ h. inl h), (λ h. elim h [ inl a ↦ a | inr b ↦ ab
 
 pub more_push : (P : Position × Position → Type 0) (old new : List (Position × Position)) (x : Position × Position) → new ≡ old ++ x ∷ [] → ((q : Position × Position) → P q ↔ (q ≡ x)) → IsMore P old new
 more_push P old new x e h q = (
-  (λ m. elim (in_last q x old (subst (In q) e m)) [ inl a ↦ inl a | inr b ↦ inr ((h q).1 b) ]),
-  (λ m. subst (In q) (sym e) (elim m [ inl a ↦ in_left q old (x ∷ []) a | inr b ↦ in_right q old (x ∷ []) (inl ((h q).0 b)) ])),
+  (λ m. elim (in_last q x old (subst (IsAmong q) e m)) [ inl a ↦ inl a | inr b ↦ inr ((h q).1 b) ]),
+  (λ m. subst (IsAmong q) (sym e) (elim m [ inl a ↦ in_left q old (x ∷ []) a | inr b ↦ in_right q old (x ∷ []) (inl ((h q).0 b)) ])),
 )
 
-pub more_known : (P : Position × Position → Type 0) (old : List (Position × Position)) → ((q : Position × Position) → P q → In q old) → IsMore P old old
+pub more_known : (P : Position × Position → Type 0) (old : List (Position × Position)) → ((q : Position × Position) → P q → IsAmong q old) → IsMore P old old
 more_known P old h q = ((λ m. inl m), (λ m. elim m [ inl a ↦ a | inr b ↦ h q b ]))
 
 pub more_then : (P Q R : Position × Position → Type 0) (old mid new : List (Position × Position)) → IsMore P old mid → IsMore Q mid new → ((q : Position × Position) → R q ↔ (P q ⊎ Q q)) → IsMore R old new
@@ -278,16 +262,16 @@ pub left_alone : (d : Dependences) (p : Position × Position) (edges made : List
 left_alone d p edges made e r h =
     more_same (IsLeftOf edges p) (Moves d p) [] made h
     (λ q. (
-      (λ m. elim m [ inl a ↦ (subst (In (p.0, q.0)) (sym e) a.edge, a.stays) | inr b ↦ elim b [ inl a ↦ absurd (a.no_reader r) | inr a ↦ absurd (not_both d.programs.left p.0 a.left a.left_is r) ] ]),
-      (λ m. inl (record { reader = r; edge = subst (In (p.0, q.0)) e m.0; stays = m.1 })),
+      (λ m. elim m [ inl a ↦ (subst (IsAmong (p.0, q.0)) (sym e) a.edge, a.stays) | inr b ↦ elim b [ inl a ↦ absurd (a.no_reader r) | inr a ↦ absurd (not_both d.programs.left p.0 a.left a.left_is r) ] ]),
+      (λ m. inl (record { reader = r; edge = subst (IsAmong (p.0, q.0)) e m.0; stays = m.1 })),
     ))
 
 pub right_alone : (d : Dependences) (p : Position × Position) (edges made : List (Position × Position)) → edges ≡ d.right → ¬ (IsReader d.programs.left p.0) → IsReader d.programs.right p.1 → IsMore (IsRightOf edges p) [] made → IsMore (Moves d p) [] made
 right_alone d p edges made e n r h =
     more_same (IsRightOf edges p) (Moves d p) [] made h
     (λ q. (
-      (λ m. elim m [ inl a ↦ absurd (n a.reader) | inr b ↦ elim b [ inl a ↦ (subst (In (p.1, q.1)) (sym e) a.edge, a.stays) | inr a ↦ absurd (not_both d.programs.right p.1 a.right a.right_is r) ] ]),
-      (λ m. inr (inl (record { no_reader = n; reader = r; edge = subst (In (p.1, q.1)) e m.0; stays = m.1 }))),
+      (λ m. elim m [ inl a ↦ absurd (n a.reader) | inr b ↦ elim b [ inl a ↦ (subst (IsAmong (p.1, q.1)) (sym e) a.edge, a.stays) | inr a ↦ absurd (not_both d.programs.right p.1 a.right a.right_is r) ] ]),
+      (λ m. inr (inl (record { no_reader = n; reader = r; edge = subst (IsAmong (p.1, q.1)) e m.0; stays = m.1 }))),
     ))
 
 pub calls_alone : (d : Dependences) (p : Position × Position) (made : List (Position × Position)) → ¬ (IsReader d.programs.left p.0) → ¬ (IsReader d.programs.right p.1) → IsMore (ArgumentMove d p) [] made → IsMore (Moves d p) [] made

@@ -17,15 +17,8 @@ use Rattle.ac_poly.specs.Steps.{roots_of}
 use Rattle.ac_graph.specs.Outlines.{outlined, outlined_in, outlined_all, outlines, outlines_in}
 use Rattle.ac_graph.specs.declared.outline.Outline.{Outline}
 use Rattle.ac_graph.specs.declared.outline.Outline.TheVariants as outline
-
-more : {A : Type 0} (xs : List A) (i : ℕ) (x : A) → i < length xs → x ≡ get_or xs i x → drop i xs ≡ x ∷ drop (i + 1) xs
-more xs i x l e = drop_more xs i x l ∙ ap (λ y. y ∷ drop (i + 1) xs) (sym e)
-
--- a call at lists
-roots_row : (m : _) (k : Row_of-Value m) (at : ℕ) → roots k at ≡ roots_of (items-the_row-Value m k) at
-unfolding roots
-roots_row m end_of-Value at = refl
-roots_row m (more_of-Value {n = n} v rest) at = ap (λ r. at ∷ r) (roots_row n rest (at + size v))
+use Rattle.ac_poly.proofs.Failing.{more}
+use Rattle.ac_poly.proofs.NodeSteps.{roots_row}
 
 outlined_row : (m : _) (k : Row_of-Value m) (at : ℕ) → outlined_in k at ≡ outlined_all (items-the_row-Value m k) at
 unfolding outlined

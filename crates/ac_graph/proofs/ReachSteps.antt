@@ -3,7 +3,7 @@ use Rattle.std.proofs.Common.{◌≡◌, ◌↔◌, inl, inr, ℕ, ◌+◌, ◌<
 use Rattle.std.specs.List.{slice_get}
 use Rattle.std.proofs.lemmas.Option.{slice_get_within, slice_get-get_or, slice_get_read}
 use Rattle.ac_syntax.specs.declared.tree.Position.{Position}
-use Rattle.ac_paths.specs.Pairs.{In}
+use Rattle.ac_forms.specs.Members.{IsAmong}
 use Rattle.ac_graph.specs.Moves.{Dependences, Moves, Reaches, start, move, AreDistinct}
 use Rattle.ac_graph.specs.Spreading.{IsMore, Extends, ArePlaces, IsReaching, AreAllReached}
 use Rattle.ac_graph.proofs.Members.{in_left, in_at, at_in, get_left, get_before, get_split}
@@ -39,14 +39,14 @@ places_as P Q pairs places f h = record {
 one_item : {A : Type 0} (x y : A) (xs : List A) (k : ℕ) → slice_get xs k ≡ Some x → slice_get xs k ≡ Some y → x ≡ y
 one_item x y xs k e f = cc
 
-moves_of : (d : Dependences) (p : Position × Position) (more : List (Position × Position)) → IsMore (Moves d p) [] more → (q : Position × Position) → In q more ↔ Moves d p q
+moves_of : (d : Dependences) (p : Position × Position) (more : List (Position × Position)) → IsMore (Moves d p) [] more → (q : Position × Position) → IsAmong q more ↔ Moves d p q
 moves_of d p more h q = ((λ i. elim ((h q).0 i) [ inl n ↦ absurd n | inr m ↦ m ]), (λ m. (h q).1 (inr m)))
 
 pub reaching_next : (d : Dependences) (starts pairs new : List (Position × Position)) (next grown : List (List ℕ)) (at : ℕ) (p : Position × Position) (more seen : List (Position × Position)) (nodes : List ℕ)
-    → IsReaching d starts pairs next at → slice_get pairs at ≡ Some p → IsMore (Moves d p) [] more → seen ≡ more → Extends pairs seen new → ArePlaces (λ q. In q seen) new nodes → grown ≡ next ++ nodes ∷ [] → IsReaching d starts new grown (at + 1)
+    → IsReaching d starts pairs next at → slice_get pairs at ≡ Some p → IsMore (Moves d p) [] more → seen ≡ more → Extends pairs seen new → ArePlaces (λ q. IsAmong q seen) new nodes → grown ≡ next ++ nodes ∷ [] → IsReaching d starts new grown (at + 1)
 reaching_next d starts pairs new next grown at p more seen nodes h a m s x l g =
     let inside : at < length pairs = slice_get_within pairs at p a in
-    let moved : (q : Position × Position) → In q seen ↔ Moves d p q = λ q. ((λ i. (moves_of d p more m q).0 (subst (In q) s i)), (λ n. subst (In q) (sym s) ((moves_of d p more m q).1 n))) in
+    let moved : (q : Position × Position) → IsAmong q seen ↔ Moves d p q = λ q. ((λ i. (moves_of d p more m q).0 (subst (IsAmong q) s i)), (λ n. subst (IsAmong q) (sym s) ((moves_of d p more m q).1 n))) in
     let down : (i : ℕ) (q : Position × Position) → i < length pairs → slice_get new i ≡ Some q → slice_get pairs i ≡ Some q = λ i q b f. get_before q pairs x.more i b (subst (λ (xs : List (Position × Position)). slice_get xs i ≡ Some q) x.is f) in
     record {
       more = h.more ++ x.more;
@@ -61,12 +61,12 @@ reaching_next d starts pairs new next grown at p more seen nodes h a m s x l g =
         | inr e ↦ let i_is : i ≡ at = e.0 ∙ h.each in
             let w : i < length pairs = omega arith in
             let same : p ≡ q = one_item p q pairs i (subst (λ (k : ℕ). slice_get pairs k ≡ Some p) (sym i_is) a) (down i q w f) in
-            subst (λ (r : Position × Position). ArePlaces (Moves d r) new ns) same (subst (λ (zs : List ℕ). ArePlaces (Moves d p) new zs) (sym e.1) (places_as (λ r. In r seen) (Moves d p) new nodes moved l))
+            subst (λ (r : Position × Position). ArePlaces (Moves d r) new ns) same (subst (λ (zs : List ℕ). ArePlaces (Moves d p) new zs) (sym e.1) (places_as (λ r. IsAmong r seen) (Moves d p) new nodes moved l))
       ];
     }
 
-reached_in : (d : Dependences) (starts pairs : List (Position × Position)) (next : List (List ℕ)) (at : ℕ) → IsReaching d starts pairs next at → length pairs ≤ at → (p : Position × Position) → Reaches d starts p → In p pairs
-reached_in d starts pairs next at h l p (start q i) = subst (In q) (sym h.is) (in_left q starts h.more i)
+reached_in : (d : Dependences) (starts pairs : List (Position × Position)) (next : List (List ℕ)) (at : ℕ) → IsReaching d starts pairs next at → length pairs ≤ at → (p : Position × Position) → Reaches d starts p → IsAmong p pairs
+reached_in d starts pairs next at h l p (start q i) = subst (IsAmong q) (sym h.is) (in_left q starts h.more i)
 reached_in d starts pairs next at h l p (move r q w m) =
     let i = at_in r pairs (reached_in d starts pairs next at h l r w) in
     let b : i.0 < length next = (let v = slice_get_within pairs i.0 r i.1 in let u = h.each in omega arith) in

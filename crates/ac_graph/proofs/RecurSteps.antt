@@ -8,7 +8,7 @@ use Rattle.std.proofs.lemmas.Option.{slice_get_within, slice_get-get_or}
 use borrow.Author.Count.{below_more}
 use Rattle.ac_syntax.specs.declared.tree.Position.{Position}
 use Rattle.ac_syntax.specs.declared.tree.Position.TheVariants.{Output, Node, InitialOutput, InitialNode}
-use Rattle.ac_paths.specs.Pairs.{In}
+use Rattle.ac_forms.specs.Members.{IsAmong}
 use Rattle.ac_graph.specs.Marking.{is_marked, mark_of}
 use Rattle.ac_graph.specs.Moves.{IsRoot}
 use Rattle.ac_graph.specs.Recurring.{has_reader, readers, is_root, recurs, ReadingEdge, AreRecurring, PlainEdge, AreFallingOutside, HasMark, AreMarkedBy}
@@ -138,7 +138,7 @@ falling_outside next rest marks ranks w f = record {
 }
 
 -- the pairs that are marked
-if_in : (p q : Position × Position) (made : List (Position × Position)) (b : Bool) → In p (made ++ cond b (q ∷ []) []) ↔ (In p made ⊎ ((p ≡ q) × (b ≡ true)))
+if_in : (p q : Position × Position) (made : List (Position × Position)) (b : Bool) → IsAmong p (made ++ cond b (q ∷ []) []) ↔ (IsAmong p made ⊎ ((p ≡ q) × (b ≡ true)))
 if_in p q made true = (
   (λ i. elim (in_last p q made i) [ inl a ↦ inl a | inr e ↦ inr (e, refl) ]),
   (λ i. elim i [ inl a ↦ in_left p made (q ∷ []) a | inr e ↦ in_right p made (q ∷ []) (inl e.0) ]),
@@ -148,18 +148,18 @@ if_in p q made false = (
   (λ i. elim i [ inl a ↦ in_left p made [] a | inr e ↦ absurd (let f = e.1 in cc) ]),
 )
 
-pub picked_start : (pairs : List (Position × Position)) (marks : List Bool) (made : List (Position × Position)) → made ≡ [] → (p : Position × Position) → In p made ↔ HasMark pairs marks 0 p
-picked_start pairs marks made e p = ((λ i. absurd (subst (In p) e i)), (λ h. let l = h.within in absurd (omega arith)))
+pub picked_start : (pairs : List (Position × Position)) (marks : List Bool) (made : List (Position × Position)) → made ≡ [] → (p : Position × Position) → IsAmong p made ↔ HasMark pairs marks 0 p
+picked_start pairs marks made e p = ((λ i. absurd (subst (IsAmong p) e i)), (λ h. let l = h.within in absurd (omega arith)))
 
-pub picked_step : (pairs : List (Position × Position)) (marks : List Bool) (at : ℕ) (d : Position × Position) (old new : List (Position × Position)) (b : Bool) → ((p : Position × Position) → In p old ↔ HasMark pairs marks at p) → at < length pairs → b ≡ is_marked marks at
-    → new ≡ old ++ cond b (get_or pairs at d ∷ []) [] → (p : Position × Position) → In p new ↔ HasMark pairs marks (at + 1) p
+pub picked_step : (pairs : List (Position × Position)) (marks : List Bool) (at : ℕ) (d : Position × Position) (old new : List (Position × Position)) (b : Bool) → ((p : Position × Position) → IsAmong p old ↔ HasMark pairs marks at p) → at < length pairs → b ≡ is_marked marks at
+    → new ≡ old ++ cond b (get_or pairs at d ∷ []) [] → (p : Position × Position) → IsAmong p new ↔ HasMark pairs marks (at + 1) p
 picked_step pairs marks at d old new b h l i e p = rw e (
   (λ n. elim ((if_in p (get_or pairs at d) old b).0 n) [
     | inl a ↦ let m = (h p).0 a in record { place = m.place; within = (let w = m.within in omega arith); is = m.is; marked = m.marked }
     | inr m ↦ record { place = at; within = omega arith; is = slice_get-get_or pairs at d l ∙ ap Some (sym m.0); marked = (marked_is marks at).0 (sym i ∙ m.1) }
   ]),
   (λ m. (if_in p (get_or pairs at d) old b).1
-      (below_more (λ k. slice_get pairs k ≡ Some p → IsMarked marks k → In p old ⊎ ((p ≡ get_or pairs at d) × (b ≡ true))) at
+      (below_more (λ k. slice_get pairs k ≡ Some p → IsMarked marks k → IsAmong p old ⊎ ((p ≡ get_or pairs at d) × (b ≡ true))) at
       (λ k w g x. inl ((h p).1 (record { place = k; within = w; is = g; marked = x })))
       (λ g x. inr (pair_is p (get_or pairs at d) (sym g ∙ slice_get-get_or pairs at d l), i ∙ (marked_is marks at).1 x))
       m.place m.within m.is m.marked)),

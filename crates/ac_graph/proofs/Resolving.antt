@@ -30,7 +30,8 @@ use Rattle.ac_omega.specs.declared.piece.Piece.{Piece}
 use Rattle.ac_cert.proofs.Keeping.{some-is}
 use Rattle.ac_paths.specs.Coordinates.{width}
 use Rattle.ac_paths.specs.Executions.{Execution, At, Describes, execution}
-use Rattle.ac_paths.specs.Pairs.{In, Placed, IsResolved, ResolvesTo}
+use Rattle.ac_forms.specs.Members.{IsAmong}
+use Rattle.ac_paths.specs.Pairs.{Placed, IsResolved, ResolvesTo}
 use Rattle.ac_paths.specs.Places.{initial_of, extent_rows}
 use Rattle.ac_paths.specs.declared.path.CopyNumbers.{CopyNumbers}
 use Rattle.ac_paths.proofs.Described.{models_describe}
@@ -45,13 +46,14 @@ use Rattle.ac_flow.specs.Writings.{reading as reading_of, writing, rows_of, conj
 use Rattle.ac_flow.specs.declared.types.Case.{Case}
 use Rattle.ac_flow.specs.declared.types.Flow.{Flow}
 use Rattle.ac_flow.specs.declared.types.Remainder.{Remainder}
-use Rattle.ac_flow.proofs.Exact.{ReadHere, formed, cases_exact}
+use Rattle.ac_flow.proofs.Exact.{ReadHere, formed, cases_exact, last_case, case_of_writing}
 use Rattle.ac_flow.proofs.Linking.{IsReader, OfNode, OfOutput, is_reader, at_reader}
 use Rattle.ac_flow.proofs.Overs.{is_over}
 use Rattle.ac_flow.proofs.Sourcing.{the_source_has_rows}
 use Rattle.ac_graph.specs.Moves.{IsEdge, target}
 use Rattle.ac_graph.specs.Steps.{HasFlow, IsNamed, Resolves, EdgesAreSources}
-use Rattle.ac_graph.proofs.Named.{named_reader, reader_named, flow_of_reader, reader_of_flow, reader_can, reader_cell}
+use Rattle.ac_graph.proofs.Named.{named_reader, reader_named, flow_of_reader, reader_of_flow, reader_cell}
+use Rattle.ac_flow.proofs.FlowSources.{reader_can}
 use Rattle.ac_graph.proofs.Standing.{node_there, reader_there}
 use Rattle.ac_forms.specs.Negation.{HasExtension}
 use Rattle.ac_forms.specs.Pieces.{IsInSome}
@@ -65,25 +67,12 @@ stmt_of w = w.entry.stmt
 -- the case of a reading's source is left
 record LeftCase (cases : List Case) (o : Option Writer) : Type 0 where
   case : Case
-  among : In case cases
+  among : IsAmong case cases
   left : ¬ (case.pieces ≡ [])
   source_is : case.source ≡ option_map stmt_of o
 
 not_empty : (pieces : List Remainder) (p : List ℤ) → IsLeft pieces p → ¬ (pieces ≡ [])
 not_empty pieces p h e = subst (λ (ps : List Remainder). IsLeft ps p) e h
-
-last_case : (m : Model) (r : Reads) (ws : List CopyNumbers) (cases : List Case) → AreCases m r ws cases → (case : Case) × In case cases × IsInitialCase m r case
-last_case m r [] [] h = absurd h
-last_case m r [] (c ∷ []) h = (c, inl refl, h)
-last_case m r [] (c ∷ d ∷ cs) h = absurd h
-last_case m r (w ∷ ws) [] h = absurd h
-last_case m r (w ∷ ws) (c ∷ cs) h = let z = last_case m r ws cs h.1 in (z.0, inr z.1, z.2)
-
-case_of_writing : (m : Model) (r : Reads) (ws : List CopyNumbers) (cases : List Case) → AreCases m r ws cases → (w : CopyNumbers) → In w ws → (case : Case) × In case cases × IsSourceCase m r w case
-case_of_writing m r [] cases h w k = absurd k
-case_of_writing m r (v ∷ ws) [] h w k = absurd h
-case_of_writing m r (v ∷ ws) (c ∷ cs) h w (inl e) = (c, inl refl, subst (λ (y : CopyNumbers). IsSourceCase m r y c) (sym e) h.0)
-case_of_writing m r (v ∷ ws) (c ∷ cs) h w (inr k) = let z = case_of_writing m r ws cs h.1 w k in (z.0, inr z.1, z.2)
 
 left_case : (m : Model) (params : List ℤ) (x : Execution) (r : Reads) (at : List ℤ) (cell : Cell) (before : List Entry) → ReadHere m params x r at cell before → CanRead m r → (cases : List Case) → AreCases m r (writings m r.position r.array None) cases
     → (o : Option Writer) → source cell before ≡ o → LeftCase cases o
@@ -94,7 +83,7 @@ left_case m params x r at cell before t can cases h None e =
 left_case m params x r at cell before t can cases h (Some u) e =
     let ws = writings m r.position r.array None in
     let s = the_source_has_rows m params x t.describes r.position t.forms t.read at cell before u t.here e in
-    let k : In s.writing ws = subst (λ a. In s.writing (writings m r.position a None)) (sym t.array) s.among in
+    let k : IsAmong s.writing ws = subst (λ a. IsAmong s.writing (writings m r.position a None)) (sym t.array) s.among in
     let c = case_of_writing m r ws cases h s.writing k in
     let g = c.2 in
     let same : g.stmt ≡ s.stmt = some-is g.stmt s.stmt (sym g.is ∙ s.is) in
@@ -291,7 +280,7 @@ goes_assigned p context r params at t u ys s =
       to_is = ap (λ k. Node k 0) s.instance.stmt;
     }
 
-case_kind : (m : Model) (r : Reads) (ws : List CopyNumbers) (cases : List Case) → AreCases m r ws cases → (case : Case) → In case cases → IsInitialCase m r case ⊎ ((w : CopyNumbers) × IsSourceCase m r w case)
+case_kind : (m : Model) (r : Reads) (ws : List CopyNumbers) (cases : List Case) → AreCases m r ws cases → (case : Case) → IsAmong case cases → IsInitialCase m r case ⊎ ((w : CopyNumbers) × IsSourceCase m r w case)
 case_kind m r [] [] h case i = absurd h
 case_kind m r [] (c ∷ []) h case (inl e) = inl (subst (IsInitialCase m r) (sym e) h)
 case_kind m r [] (c ∷ []) h case (inr i) = absurd i
@@ -301,7 +290,7 @@ case_kind m r (w ∷ ws) (c ∷ cs) h case (inl e) = inr (w, subst (IsSourceCase
 case_kind m r (w ∷ ws) (c ∷ cs) h case (inr i) = case_kind m r ws cs h.1 case i
 
 initial_source : (p : Program) (context : Cond) → ReadyProgram p → FitParts (length p.params) 0 context.parts → IsOver (model_of p context) → (r : Reads) → IsReader (model_of p context) r → (cases : List Case) → AreCases (model_of p context) r (writings (model_of p context) r.position r.array None) cases
-    → (case : Case) → In case cases → ¬ (case.pieces ≡ []) → IsInitialCase (model_of p context) r case → Resolves p context r.position (target r.position case.source)
+    → (case : Case) → IsAmong case cases → ¬ (case.pieces ≡ []) → IsInitialCase (model_of p context) r case → Resolves p context r.position (target r.position case.source)
 initial_source p context ready fit over r is cases are case i n h =
     let m = model_of p context in
     let can = reader_can m over r is in
@@ -319,7 +308,7 @@ initial_source p context ready fit over r is cases are case i n h =
     no_items (y ∷ ys) e = absurd (omega (arith, e))
 
 assigned_source : (p : Program) (context : Cond) → ReadyProgram p → FitParts (length p.params) 0 context.parts → IsOver (model_of p context) → (r : Reads) → IsReader (model_of p context) r → (cases : List Case) → AreCases (model_of p context) r (writings (model_of p context) r.position r.array None) cases
-    → (case : Case) → In case cases → ¬ (case.pieces ≡ []) → (w : CopyNumbers) → IsSourceCase (model_of p context) r w case → Resolves p context r.position (target r.position case.source)
+    → (case : Case) → IsAmong case cases → ¬ (case.pieces ≡ []) → (w : CopyNumbers) → IsSourceCase (model_of p context) r w case → Resolves p context r.position (target r.position case.source)
 assigned_source p context ready fit over r is cases are case i n w h =
     let m = model_of p context in
     let can = reader_can m over r is in

@@ -11,7 +11,7 @@ use Rattle.ac_syntax.specs.declared.tree.Position.{Position}
 use Rattle.ac_syntax.specs.declared.tree.Site.{Site}
 use Rattle.ac_syntax.specs.declared.tree.Symbol.{Symbol}
 use Rattle.ac_paths.specs.Going.{Pairing, same_symbol}
-use Rattle.ac_paths.specs.Pairs.{In}
+use Rattle.ac_forms.specs.Members.{IsAmong}
 use Rattle.ac_paths.specs.Places.{CallAt, call_at}
 use Rattle.ac_graph.specs.Moves.{Dependences, IsSite, AreSites, AreDistinct, Reaches, start, move, start_of, starts_of}
 use Rattle.ac_graph.specs.Spreading.{Extends}
@@ -23,7 +23,7 @@ same_some x y e = cc
 true_both : (a b : Bool) → a ≡ true → b ≡ true → (a && b) ≡ true
 true_both a b e f = rw (e, f) refl
 
-symbol_self : (f : Symbol) → same_symbol f f ≡ true
+pub symbol_self : (f : Symbol) → same_symbol f f ≡ true
 symbol_self f = true_both (nat_eq f.arity f.arity) (pointwise nat_eq f.name f.name) (eq-eqb f.arity f.arity refl) ((slice_eq-Decides Decides-eqb f.name f.name _ refl).1 refl)
 
 pub site_swaps : (g : Pairing) (swaps : Symbol → Bool) (p : Position × Position) (left right : CallAt) (r : Bool) → ((s : Symbol) → g.swaps s ≡ swaps s) → call_at g.left p.0 ≡ Some left → call_at g.right p.1 ≡ Some right → left.symbol ≡ right.symbol → r ≡ swaps left.symbol
@@ -41,14 +41,14 @@ no_site g p left right r a b i f = (
       i ∙ subst (λ (f : Symbol). same_symbol left.symbol f ≡ true) o (symbol_self left.symbol)),
 )
 
-pub sites_pushed : (old new : List Site) (p : Position × Position) (P : Type 0) → new ≡ old ++ record { left = p.0; right = p.1 } ∷ [] → P → (s : Site) → In s new ↔ (In s old ⊎ (((s.left, s.right) ≡ p) × P))
+pub sites_pushed : (old new : List Site) (p : Position × Position) (P : Type 0) → new ≡ old ++ record { left = p.0; right = p.1 } ∷ [] → P → (s : Site) → IsAmong s new ↔ (IsAmong s old ⊎ (((s.left, s.right) ≡ p) × P))
 sites_pushed old new p P e h s = (
-  (λ i. elim (in_last s (record { left = p.0; right = p.1 }) old (subst (In s) e i)) [ inl a ↦ inl a | inr b ↦ inr ((λ n. ((b n).left, (b n).right)), h) ]),
-  (λ i. subst (In s) (sym e) (elim i [ inl a ↦ in_left s old (record { left = p.0; right = p.1 } ∷ []) a | inr b ↦ let x = b.0 in in_right s old (record { left = p.0; right = p.1 } ∷ []) (inl (λ n. record { left = (x n).0; right = (x n).1 })) ])),
+  (λ i. elim (in_last s (record { left = p.0; right = p.1 }) old (subst (IsAmong s) e i)) [ inl a ↦ inl a | inr b ↦ inr ((λ n. ((b n).left, (b n).right)), h) ]),
+  (λ i. subst (IsAmong s) (sym e) (elim i [ inl a ↦ in_left s old (record { left = p.0; right = p.1 } ∷ []) a | inr b ↦ let x = b.0 in in_right s old (record { left = p.0; right = p.1 } ∷ []) (inl (λ n. record { left = (x n).0; right = (x n).1 })) ])),
 )
 
-pub sites_step : (g : Pairing) (pairs : List (Position × Position)) (i : ℕ) (d : Position × Position) (old new : List Site) → ((s : Site) → In s old ↔ (In (s.left, s.right) (take i pairs) × IsSite g (s.left, s.right))) → i < length pairs
-    → ((s : Site) → In s new ↔ (In s old ⊎ (((s.left, s.right) ≡ get_or pairs i d) × IsSite g (get_or pairs i d)))) → (s : Site) → In s new ↔ (In (s.left, s.right) (take (i + 1) pairs) × IsSite g (s.left, s.right))
+pub sites_step : (g : Pairing) (pairs : List (Position × Position)) (i : ℕ) (d : Position × Position) (old new : List Site) → ((s : Site) → IsAmong s old ↔ (IsAmong (s.left, s.right) (take i pairs) × IsSite g (s.left, s.right))) → i < length pairs
+    → ((s : Site) → IsAmong s new ↔ (IsAmong s old ⊎ (((s.left, s.right) ≡ get_or pairs i d) × IsSite g (get_or pairs i d)))) → (s : Site) → IsAmong s new ↔ (IsAmong (s.left, s.right) (take (i + 1) pairs) × IsSite g (s.left, s.right))
 sites_step g pairs i d old new h l f s = (
   (λ n. elim ((f s).0 n) [
     | inl a ↦ let m = (h s).0 a in (in_grown (s.left, s.right) d pairs i l (inl m.0), m.1)
@@ -57,16 +57,16 @@ sites_step g pairs i d old new h l f s = (
   (λ n. (f s).1 (elim (in_more (s.left, s.right) d pairs i l n.0) [ inl a ↦ inl ((h s).1 (a, n.1)) | inr b ↦ inr (b, subst (λ (p : Position × Position). IsSite g p) b n.1) ])),
 )
 
-pub sites_start : (g : Pairing) (pairs : List (Position × Position)) (made : List Site) → made ≡ [] → (s : Site) → In s made ↔ (In (s.left, s.right) (take 0 pairs) × IsSite g (s.left, s.right))
-sites_start g pairs made e s = ((λ i. absurd (subst (In s) e i)), (λ i. absurd i.0))
+pub sites_start : (g : Pairing) (pairs : List (Position × Position)) (made : List Site) → made ≡ [] → (s : Site) → IsAmong s made ↔ (IsAmong (s.left, s.right) (take 0 pairs) × IsSite g (s.left, s.right))
+sites_start g pairs made e s = ((λ i. absurd (subst (IsAmong s) e i)), (λ i. absurd i.0))
 
-pub sites_end : (g : Pairing) (pairs : List (Position × Position)) (i : ℕ) (made : List Site) → ((s : Site) → In s made ↔ (In (s.left, s.right) (take i pairs) × IsSite g (s.left, s.right))) → length pairs ≤ i → AreSites g pairs made
+pub sites_end : (g : Pairing) (pairs : List (Position × Position)) (i : ℕ) (made : List Site) → ((s : Site) → IsAmong s made ↔ (IsAmong (s.left, s.right) (take i pairs) × IsSite g (s.left, s.right))) → length pairs ≤ i → AreSites g pairs made
 sites_end g pairs i made h l = subst (λ (ps : List (Position × Position)). AreSites g ps made) (take_all i pairs l) h
 
 -- the pairs that all begins with
 pub record AreStarts (outputs : List ℕ) (made : List (Position × Position)) : Type 0 where
   pub distinct : AreDistinct made
-  pub are : (p : Position × Position) → In p made ↔ In p (starts_of outputs)
+  pub are : (p : Position × Position) → IsAmong p made ↔ IsAmong p (starts_of outputs)
 
 pub starts_start : (outputs : List ℕ) (made : List (Position × Position)) → made ≡ [] → AreStarts (take 0 outputs) made
 starts_start outputs made e = subst (λ (m : List (Position × Position)). AreStarts (take 0 outputs) m) (sym e) (record { distinct = λ i j p a b. absurd cc; are = λ p. ((λ h. absurd h), (λ h. absurd h)) })
@@ -77,9 +77,9 @@ starts_step outputs i old new h l x =
     record {
       distinct = x.distinct h.distinct;
       are = λ p. (
-        (λ n. subst (In p) (sym e) (elim (x.has p n) [ inl a ↦ in_left p (starts_of (take i outputs)) (start_of (get_or outputs i 0) ∷ []) ((h.are p).0 a) | inr b ↦ in_right p (starts_of (take i outputs)) (start_of (get_or outputs i 0) ∷ []) b ])),
-        (λ n. elim (in_last p (start_of (get_or outputs i 0)) (starts_of (take i outputs)) (subst (In p) e n)) [
-          | inl a ↦ subst (In p) (sym x.is) (in_left p old x.more ((h.are p).1 a))
+        (λ n. subst (IsAmong p) (sym e) (elim (x.has p n) [ inl a ↦ in_left p (starts_of (take i outputs)) (start_of (get_or outputs i 0) ∷ []) ((h.are p).0 a) | inr b ↦ in_right p (starts_of (take i outputs)) (start_of (get_or outputs i 0) ∷ []) b ])),
+        (λ n. elim (in_last p (start_of (get_or outputs i 0)) (starts_of (take i outputs)) (subst (IsAmong p) e n)) [
+          | inl a ↦ subst (IsAmong p) (sym x.is) (in_left p old x.more ((h.are p).1 a))
           | inr b ↦ x.keeps p (inl b)
         ]),
       );
@@ -89,7 +89,7 @@ pub starts_end : (outputs : List ℕ) (i : ℕ) (made : List (Position × Positi
 starts_end outputs i made h l = subst (λ (os : List ℕ). AreStarts os made) (take_all i outputs l) h
 
 -- what moves reach depends on which pairs all begins with, and not on their order
-pub reaches_as : (d : Dependences) (starts others : List (Position × Position)) → ((p : Position × Position) → In p starts → In p others) → (p : Position × Position) → Reaches d starts p → Reaches d others p
+pub reaches_as : (d : Dependences) (starts others : List (Position × Position)) → ((p : Position × Position) → IsAmong p starts → IsAmong p others) → (p : Position × Position) → Reaches d starts p → Reaches d others p
 reaches_as d starts others f p (start q i) = start q (f q i)
 reaches_as d starts others f p (move q r w m) = move q r (reaches_as d starts others f q w) m
 

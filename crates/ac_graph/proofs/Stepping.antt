@@ -17,7 +17,8 @@ use Rattle.ac_poly.proofs.Columns.{has_kinds}
 use Rattle.ac_poly.proofs.Whole.{has_context}
 use Rattle.ac_claims.specs.Soundness.{ArePaired}
 use Rattle.ac_paths.specs.Executions.{Execution, Describes, execution}
-use Rattle.ac_paths.specs.Pairs.{In, Placed, IsAt, IsReader as Reads, IsResolved, ResolvesTo, StepsTo}
+use Rattle.ac_forms.specs.Members.{IsAmong}
+use Rattle.ac_paths.specs.Pairs.{Placed, IsAt, IsReader as Reads, IsResolved, ResolvesTo, StepsTo}
 use Rattle.ac_paths.proofs.Described.{models_describe}
 use Rattle.ac_paths.proofs.Heres.{reading}
 use Rattle.ac_flow.specs.declared.types.Flow.{Flow}
@@ -27,6 +28,7 @@ use Rattle.ac_graph.specs.Steps.{HasFlow, IsNamed, HaveFlows, HaveEdges, AreSour
 use Rattle.ac_graph.proofs.Named.{initial_named}
 use Rattle.ac_graph.proofs.Resolving.{edge_there, edges_are_sources}
 use Rattle.ac_graph.proofs.Standing.{reader_there, call_there, call_of_place}
+use Rattle.ac_paths.proofs.Stepping.{get_map}
 
 -- ---- both programs
 
@@ -75,11 +77,6 @@ resolves_named m x a b ((c, before, r), h) = resolved_named m x a b c (source c 
 
 stays_named : (m : Model) (x : Execution) (b b' : Placed x) → IsAt x b' b.position b.at b.spot → IsNamed m b.position → IsNamed m b'.position
 stays_named m x b b' s n = subst (IsNamed m) (sym s.position_is) n
-
-get_map : {A B : Type 0} (f : A → B) (xs : List A) (k : ℕ) (x : A) → slice_get xs k ≡ Some x → slice_get (map f xs) k ≡ Some (f x)
-get_map f [] k x e = absurd cc
-get_map f (y ∷ xs) zero x e = let i : y ≡ x = cc in ap (λ z. Some (f z)) i
-get_map f (y ∷ xs) (suc k) x e = get_map f xs k x e
 
 -- ---- steps
 
@@ -133,7 +130,7 @@ met_named pair params c outputs o a b (met_start k a' b' i ea eb same) =
     (subst (IsNamed (model_of pair.left pair.context)) (sym ea) (o k i).0, subst (IsNamed (model_of pair.right pair.context)) (sym eb) (o k i).1)
 met_named pair params c outputs o a b (met_step order a' a'' b' b'' m s) = still_named pair params c order a' a'' b' b'' (met_named pair params c outputs o a' b' m) s
 
-in_starts : (outputs : List ℕ) (o : ℕ) → In o outputs → In (start_of o) (starts_of outputs)
+in_starts : (outputs : List ℕ) (o : ℕ) → IsAmong o outputs → IsAmong (start_of o) (starts_of outputs)
 in_starts [] o i = absurd i
 in_starts (p ∷ outputs) o (inl e) = inl (ap start_of e)
 in_starts (p ∷ outputs) o (inr i) = inr (in_starts outputs o i)
@@ -184,7 +181,7 @@ chains_recur pair left right ls rs outputs h o pairs recurrent ranks k params c 
 
 -- ---- a graph of a pair
 
-pub edges_sourced : (p : Program) (context : Cond) (f : Flow) (edges : List (Position × Position)) → HasFlow p context f → ((a b : Position) → In (a, b) edges ↔ IsEdge f a b) → AreSources p context edges
+pub edges_sourced : (p : Program) (context : Cond) (f : Flow) (edges : List (Position × Position)) → HasFlow p context f → ((a b : Position) → IsAmong (a, b) edges ↔ IsEdge f a b) → AreSources p context edges
 edges_sourced p context f edges h e from to = let s = edges_are_sources p context f h from to in ((λ i. s.0 ((e from to).0 i)), (λ i. (e from to).1 (s.1 i)))
 
 pub holds_met : (pair : Pair) (left right : Flow) (ls rs : List (Position × Position)) (outputs : List ℕ) (pairs : List (Position × Position)) → HaveEdges pair left right ls rs → HaveOutputs pair outputs → AreReached (dependences pair ls rs) (starts_of outputs) pairs → HoldMet pair outputs pairs

@@ -1,6 +1,6 @@
 -- What marking keeps: which nodes are found, and that their marks are set.
 use Rattle.std.specs.Prelude.{ℕ, ◌≡◌, ◌↔◌, ◌⊎◌, ◌<◌, List, [], ◌∷◌, ◌++◌, length, Option, Some, None, slice_get, Bool, false}
-use Rattle.ac_paths.specs.Pairs.{In}
+use Rattle.ac_forms.specs.Members.{IsAmong}
 use Rattle.ac_graph.specs.Ways.{Leads, Edge, IsMarked}
 
 abbrev pub mark_of : Option Bool → Bool
@@ -18,20 +18,20 @@ AreBelow n (k ∷ ks) = (k < n) × AreBelow n ks
 
 -- the marks of those that are found are set, and no others
 abbrev pub AreMatched : List Bool → List ℕ → Type 0
-AreMatched marks found = (v : ℕ) → IsMarked marks v ↔ In v found
+AreMatched marks found = (v : ℕ) → IsMarked marks v ↔ IsAmong v found
 
 -- those of some nodes that were not found stand behind those that were, and their marks are set
 pub record AreAdded (nodes old new : List ℕ) (marks : List Bool) : Type 0 where
   pub more : List ℕ
   pub is : new ≡ old ++ more
-  pub has : (v : ℕ) → In v new → In v old ⊎ In v nodes
-  pub keeps : (v : ℕ) → In v nodes → In v new
+  pub has : (v : ℕ) → IsAmong v new → IsAmong v old ⊎ IsAmong v nodes
+  pub keeps : (v : ℕ) → IsAmong v nodes → IsAmong v new
   pub matched : AreMatched marks new
 
 -- the nodes that are found from a node, where the edges of the first of them are followed
 pub record IsSpreading (next : List (List ℕ)) (from at : ℕ) (marks : List Bool) (found : List ℕ) : Type 0 where
   pub wide : length marks ≡ length next
   pub matched : AreMatched marks found
-  pub sound : (v : ℕ) → In v found → Leads (Edge next) from v
-  pub first : (v : ℕ) → Edge next from v → In v found
-  pub closed : (j u v : ℕ) → j < at → slice_get found j ≡ Some u → Edge next u v → In v found
+  pub sound : (v : ℕ) → IsAmong v found → Leads (Edge next) from v
+  pub first : (v : ℕ) → Edge next from v → IsAmong v found
+  pub closed : (j u v : ℕ) → j < at → slice_get found j ≡ Some u → Edge next u v → IsAmong v found

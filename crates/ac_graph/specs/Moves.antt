@@ -9,7 +9,8 @@ use Rattle.ac_syntax.specs.declared.tree.Site.{Site}
 use Rattle.ac_poly.specs.Model.{model_of}
 use Rattle.ac_poly.specs.declared.types.Model.{Model}
 use Rattle.ac_paths.specs.Going.{Pairing}
-use Rattle.ac_paths.specs.Pairs.{In, ArgumentsMeet}
+use Rattle.ac_forms.specs.Members.{IsAmong}
+use Rattle.ac_paths.specs.Pairs.{ArgumentsMeet}
 use Rattle.ac_paths.specs.Places.{CallAt, cell_read, call_at, initial_of}
 use Rattle.ac_paths.specs.declared.places.CellForms.{CellForms}
 use Rattle.ac_flow.specs.declared.types.Case.{Case}
@@ -38,9 +39,9 @@ target p None = initial_of p
 -- an edge: some case of a read or an output is left, and leads there
 pub record IsEdge (f : Flow) (from to : Position) : Type 0 where
   pub read : ReadFlow
-  pub among : In read f.reads
+  pub among : IsAmong read f.reads
   pub case : Case
-  pub case_among : In case read.cases
+  pub case_among : IsAmong case read.cases
   pub left : ¬ (case.pieces ≡ [])
   pub from_is : from ≡ read.position
   pub to_is : to ≡ target read.position case.source
@@ -57,14 +58,14 @@ dependences pair left right = record { programs = pairing_of pair; left = left; 
 -- a read or an output on the left moves along its edges
 pub record LeftMove (d : Dependences) (p q : Position × Position) : Type 0 where
   pub reader : IsReader d.programs.left p.0
-  pub edge : In (p.0, q.0) d.left
+  pub edge : IsAmong (p.0, q.0) d.left
   pub stays : q.1 ≡ p.1
 
 -- else one on the right
 pub record RightMove (d : Dependences) (p q : Position × Position) : Type 0 where
   pub no_reader : ¬ (IsReader d.programs.left p.0)
   pub reader : IsReader d.programs.right p.1
-  pub edge : In (p.1, q.1) d.right
+  pub edge : IsAmong (p.1, q.1) d.right
   pub stays : q.0 ≡ p.0
 
 -- two calls of one symbol move to two arguments that meet in some order
@@ -87,12 +88,12 @@ Moves d p q = LeftMove d p q ⊎ (RightMove d p q ⊎ ArgumentMove d p q)
 
 -- what moves reach from some pairs
 pub data Reaches (d : Dependences) (starts : List (Position × Position)) : Position × Position → Type 0 where
-  start : (p : Position × Position) → In p starts → Reaches d starts p
+  start : (p : Position × Position) → IsAmong p starts → Reaches d starts p
   move : (p q : Position × Position) → Reaches d starts p → Moves d p q → Reaches d starts q
 
 -- these are the pairs that moves reach from some pairs
 abbrev pub AreReached : Dependences → List (Position × Position) → List (Position × Position) → Type 0
-AreReached d starts pairs = (p : Position × Position) → In p pairs ↔ Reaches d starts p
+AreReached d starts pairs = (p : Position × Position) → IsAmong p pairs ↔ Reaches d starts p
 
 -- no pair stands there twice
 abbrev pub AreDistinct : List (Position × Position) → Type 0
@@ -100,8 +101,8 @@ AreDistinct pairs = (i j : ℕ) (p : Position × Position) → slice_get pairs i
 
 -- the places of the pairs that meet a condition
 pub record ArePlaces (P : Position × Position → Type 0) (pairs : List (Position × Position)) (places : List ℕ) : Type 0 where
-  pub sound : (j : ℕ) → In j places → (q : Position × Position) × P q × (slice_get pairs j ≡ Some q)
-  pub whole : (q : Position × Position) → P q → (j : ℕ) × In j places × (slice_get pairs j ≡ Some q)
+  pub sound : (j : ℕ) → IsAmong j places → (q : Position × Position) × P q × (slice_get pairs j ≡ Some q)
+  pub whole : (q : Position × Position) → P q → (j : ℕ) × IsAmong j places × (slice_get pairs j ≡ Some q)
 
 -- for each of the pairs the places among them of those to which it moves
 pub record AreTargets (d : Dependences) (pairs : List (Position × Position)) (next : List (List ℕ)) : Type 0 where
@@ -141,7 +142,7 @@ pub record IsRecurrent (d : Dependences) (p : Position × Position) : Type 0 whe
 
 -- those of the pairs that recur
 abbrev pub AreRecurrent : Dependences → List (Position × Position) → List (Position × Position) → Type 0
-AreRecurrent d pairs recurrent = (p : Position × Position) → In p recurrent ↔ (In p pairs × IsRecurrent d p)
+AreRecurrent d pairs recurrent = (p : Position × Position) → IsAmong p recurrent ↔ (IsAmong p pairs × IsRecurrent d p)
 
 -- the pair is one of these, and its number is below another
 pub record HasLess (pairs : List (Position × Position)) (ranks : List ℕ) (p : Position × Position) (rank : ℕ) : Type 0 where
@@ -154,7 +155,7 @@ pub record HasLess (pairs : List (Position × Position)) (ranks : List ℕ) (p :
 -- a number for each pair, in order: each move leads to a recurrence pair or to a pair with a smaller number
 pub record AreRanks (d : Dependences) (pairs recurrent : List (Position × Position)) (ranks : List ℕ) : Type 0 where
   pub each : length ranks ≡ length pairs
-  pub falls : (i rank : ℕ) (p q : Position × Position) → slice_get pairs i ≡ Some p → slice_get ranks i ≡ Some rank → Moves d p q → In q recurrent ⊎ HasLess pairs ranks q rank
+  pub falls : (i rank : ℕ) (p q : Position × Position) → slice_get pairs i ≡ Some p → slice_get ranks i ≡ Some rank → Moves d p q → IsAmong q recurrent ⊎ HasLess pairs ranks q rank
 
 -- two calls of one symbol of two arguments that is declared commutative
 pub record IsSite (g : Pairing) (p : Position × Position) : Type 0 where
@@ -167,4 +168,4 @@ pub record IsSite (g : Pairing) (p : Position × Position) : Type 0 where
 
 -- the sites among some pairs
 abbrev pub AreSites : Pairing → List (Position × Position) → List Site → Type 0
-AreSites g pairs sites = (s : Site) → In s sites ↔ (In (s.left, s.right) pairs × IsSite g (s.left, s.right))
+AreSites g pairs sites = (s : Site) → IsAmong s sites ↔ (IsAmong (s.left, s.right) pairs × IsSite g (s.left, s.right))

@@ -1,9 +1,9 @@
 -- What is kept while pairs are found from pairs.
 use Rattle.std.specs.Prelude.{ℕ, suc, ◌≡◌, ◌&&◌, ◌↔◌, ◌⊎◌, ◌≤◌, List, [], ◌++◌, length, Some, slice_get, Bool, false, nat_eq}
 use Rattle.ac_syntax.specs.declared.tree.Position.{Position}
-use Rattle.ac_syntax.specs.declared.tree.Position.TheVariants.{Output, Node, InitialOutput, InitialNode}
 use Rattle.ac_flow.specs.declared.types.Case.{Case}
-use Rattle.ac_paths.specs.Pairs.{In, ArgumentsMeet}
+use Rattle.ac_forms.specs.Members.{IsAmong}
+use Rattle.ac_paths.specs.Pairs.{ArgumentsMeet}
 use Rattle.ac_paths.specs.Places.{CallAt}
 use Rattle.ac_syntax.specs.declared.tree.Order.{Order}
 use Rattle.ac_syntax.specs.declared.tree.Symbol.{Symbol}
@@ -11,38 +11,27 @@ use Rattle.ac_flow.specs.declared.types.ReadFlow.{ReadFlow}
 use Rattle.ac_graph.specs.Moves.{Dependences, Moves, Reaches, AreDistinct, target}
 pub use Rattle.ac_graph.specs.Moves.{ArePlaces}
 
--- whether two positions are one
-abbrev pub same_position : Position → Position → Bool
-same_position (Output o) (Output p) = nat_eq o p
-same_position (Node s k) (Node t l) = nat_eq s t && nat_eq k l
-same_position (InitialOutput o) (InitialOutput p) = nat_eq o p
-same_position (InitialNode s k) (InitialNode t l) = nat_eq s t && nat_eq k l
-same_position _ _ = false
-
-abbrev pub same_pair : Position × Position → Position × Position → Bool
-same_pair p q = same_position p.0 q.0 && same_position p.1 q.1
-
 -- the pairs of the second list are those of the first, and those that meet a condition
 abbrev pub IsMore : (Position × Position → Type 0) → List (Position × Position) → List (Position × Position) → Type 0
-IsMore P old new = (q : Position × Position) → In q new ↔ (In q old ⊎ P q)
+IsMore P old new = (q : Position × Position) → IsAmong q new ↔ (IsAmong q old ⊎ P q)
 
 -- an edge of a case
 abbrev pub IsEdgeOf : Position → List Case → Position × Position → Type 0
-IsEdgeOf p cases q = (case : Case) × In case cases × (¬ (case.pieces ≡ [])) × (q ≡ (p, target p case.source))
+IsEdgeOf p cases q = (case : Case) × IsAmong case cases × (¬ (case.pieces ≡ [])) × (q ≡ (p, target p case.source))
 
 abbrev pub IsEdgeOfOne : Position → Case → Position × Position → Type 0
 IsEdgeOfOne p case q = (¬ (case.pieces ≡ [])) × (q ≡ (p, target p case.source))
 
 -- an edge of some reads and outputs
 abbrev pub IsEdgeAmong : List ReadFlow → Position × Position → Type 0
-IsEdgeAmong reads q = (read : ReadFlow) × In read reads × IsEdgeOf read.position read.cases q
+IsEdgeAmong reads q = (read : ReadFlow) × IsAmong read reads × IsEdgeOf read.position read.cases q
 
 -- along an edge on the left, or on the right
 abbrev pub IsLeftOf : List (Position × Position) → Position × Position → Position × Position → Type 0
-IsLeftOf edges p q = In (p.0, q.0) edges × (q.1 ≡ p.1)
+IsLeftOf edges p q = IsAmong (p.0, q.0) edges × (q.1 ≡ p.1)
 
 abbrev pub IsRightOf : List (Position × Position) → Position × Position → Position × Position → Type 0
-IsRightOf edges p q = In (p.1, q.1) edges × (q.0 ≡ p.0)
+IsRightOf edges p q = IsAmong (p.1, q.1) edges × (q.0 ≡ p.0)
 
 -- the arguments of two calls with these numbers
 abbrev pub IsArgumentOf : CallAt → ℕ → CallAt → ℕ → Position × Position → Type 0
@@ -64,8 +53,8 @@ IsArgumentMoveOf swaps left right q = (left.symbol ≡ right.symbol) × IsMetOf 
 pub record Extends (old added new : List (Position × Position)) : Type 0 where
   pub more : List (Position × Position)
   pub is : new ≡ old ++ more
-  pub has : (q : Position × Position) → In q new → In q old ⊎ In q added
-  pub keeps : (q : Position × Position) → In q added → In q new
+  pub has : (q : Position × Position) → IsAmong q new → IsAmong q old ⊎ IsAmong q added
+  pub keeps : (q : Position × Position) → IsAmong q added → IsAmong q new
   pub distinct : AreDistinct old → AreDistinct new
 
 -- the pairs that are found from some, where the first of them are followed
@@ -73,7 +62,7 @@ pub record IsReaching (d : Dependences) (starts pairs : List (Position × Positi
   pub more : List (Position × Position)
   pub is : pairs ≡ starts ++ more
   pub distinct : AreDistinct pairs
-  pub sound : (p : Position × Position) → In p pairs → Reaches d starts p
+  pub sound : (p : Position × Position) → IsAmong p pairs → Reaches d starts p
   pub each : length next ≡ at
   pub within : at ≤ length pairs
   pub follows : (i : ℕ) (nodes : List ℕ) (p : Position × Position) → slice_get next i ≡ Some nodes → slice_get pairs i ≡ Some p → ArePlaces (Moves d p) pairs nodes
@@ -83,6 +72,6 @@ pub record AreAllReached (d : Dependences) (starts pairs : List (Position × Pos
   pub more : List (Position × Position)
   pub is : pairs ≡ starts ++ more
   pub distinct : AreDistinct pairs
-  pub reached : (p : Position × Position) → In p pairs ↔ Reaches d starts p
+  pub reached : (p : Position × Position) → IsAmong p pairs ↔ Reaches d starts p
   pub each : length next ≡ length pairs
   pub follows : (i : ℕ) (nodes : List ℕ) (p : Position × Position) → slice_get next i ≡ Some nodes → slice_get pairs i ≡ Some p → ArePlaces (Moves d p) pairs nodes

@@ -15,7 +15,8 @@ use Rattle.ac_claims.specs.ProofFaults.{is_output_array}
 use Rattle.ac_claims.specs.Soundness.{ArePaired}
 use Rattle.ac_paths.specs.Executions.{Describes, execution}
 use Rattle.ac_paths.specs.OnPaths.{Compared}
-use Rattle.ac_paths.specs.Pairs.{In, Placed, ResolvesTo, StepsTo}
+use Rattle.ac_forms.specs.Members.{IsAmong}
+use Rattle.ac_paths.specs.Pairs.{Placed, ResolvesTo, StepsTo}
 use Rattle.ac_paths.specs.StepLaws.{compared}
 use Rattle.ac_flow.specs.Readers.{AreFlows, readers}
 use Rattle.ac_flow.specs.declared.types.Flow.{Flow}
@@ -54,7 +55,7 @@ EdgesAreSources = (p : Program) (context : Cond) (f : Flow) → HasFlow p contex
 
 -- the edges of a program under a context are its sources
 abbrev pub AreSources : Program → Cond → List (Position × Position) → Type 0
-AreSources p context edges = (from to : Position) → In (from, to) edges ↔ (IsNamed (model_of p context) from × Resolves p context from to)
+AreSources p context edges = (from to : Position) → IsAmong (from, to) edges ↔ (IsNamed (model_of p context) from × Resolves p context from to)
 
 -- ---- steps
 
@@ -67,8 +68,8 @@ pub record HaveFlows (pair : Pair) (left right : Flow) : Type 0 where
 -- the same, and the edges of these flows
 pub record HaveEdges (pair : Pair) (left right : Flow) (left_edges right_edges : List (Position × Position)) : Type 0 where
   pub flows : HaveFlows pair left right
-  pub left_are : (p q : Position) → In (p, q) left_edges ↔ IsEdge left p q
-  pub right_are : (p q : Position) → In (p, q) right_edges ↔ IsEdge right p q
+  pub left_are : (p q : Position) → IsAmong (p, q) left_edges ↔ IsEdge left p q
+  pub right_are : (p q : Position) → IsAmong (p, q) right_edges ↔ IsEdge right p q
 
 -- a valuation of the context, at which the models describe the executions of both programs
 pub record IsCompared (pair : Pair) (params : List ℤ) : Type 0 where
@@ -96,7 +97,7 @@ ValuationsAreCompared = (pair : Pair) (params : List ℤ) → ArePaired pair →
 
 -- the outputs are inputs with at least one dimension in both programs
 abbrev pub HaveOutputs : Pair → List ℕ → Type 0
-HaveOutputs pair outputs = (o : ℕ) → In o outputs → IsNamed (model_of pair.left pair.context) (Output o) × IsNamed (model_of pair.right pair.context) (Output o)
+HaveOutputs pair outputs = (o : ℕ) → IsAmong o outputs → IsNamed (model_of pair.left pair.context) (Output o) × IsNamed (model_of pair.right pair.context) (Output o)
 
 -- where a pair of positions steps, it moves
 abbrev pub StepsAreMoves : Type 0
@@ -106,7 +107,7 @@ StepsAreMoves =
 
 -- the pairs of positions that steps reach at a valuation from outputs, each of both programs against itself at one element
 pub data IsMet (pair : Pair) (params : List ℤ) (c : IsCompared pair params) (outputs : List ℕ) : LeftPlaced pair params → RightPlaced pair params → Type 0 where
-  start : (o : ℕ) (a : LeftPlaced pair params) (b : RightPlaced pair params) → In o outputs → a.position ≡ Output o → b.position ≡ Output o → a.at ≡ b.at → IsMet pair params c outputs a b
+  start : (o : ℕ) (a : LeftPlaced pair params) (b : RightPlaced pair params) → IsAmong o outputs → a.position ≡ Output o → b.position ≡ Output o → a.at ≡ b.at → IsMet pair params c outputs a b
   step : (order : Order) (a a' : LeftPlaced pair params) (b b' : RightPlaced pair params) → IsMet pair params c outputs a b → StepsTo (comparison pair params c) order a b a' b' → IsMet pair params c outputs a' b'
 
 -- moves reach the positions of each pair that is met
@@ -117,7 +118,7 @@ MetAreReached =
 
 -- the pairs are all that steps meet from outputs, and maybe others
 abbrev pub HoldMet : Pair → List ℕ → List (Position × Position) → Type 0
-HoldMet pair outputs pairs = (params : List ℤ) (c : IsCompared pair params) (a : LeftPlaced pair params) (b : RightPlaced pair params) → IsMet pair params c outputs a b → In (a.position, b.position) pairs
+HoldMet pair outputs pairs = (params : List ℤ) (c : IsCompared pair params) (a : LeftPlaced pair params) (b : RightPlaced pair params) → IsMet pair params c outputs a b → IsAmong (a.position, b.position) pairs
 
 -- ---- chains of steps
 
@@ -125,7 +126,7 @@ HoldMet pair outputs pairs = (params : List ℤ) (c : IsCompared pair params) (a
 pub data Avoids (pair : Pair) (params : List ℤ) (c : IsCompared pair params) (avoided : List (Position × Position)) (a : LeftPlaced pair params) (b : RightPlaced pair params) : ℕ → LeftPlaced pair params → RightPlaced pair params → Type 0 where
   none : Avoids pair params c avoided a b 0 a b
   more : (n : ℕ) (order : Order) (a' a'' : LeftPlaced pair params) (b' b'' : RightPlaced pair params) → Avoids pair params c avoided a b n a' b' → StepsTo (comparison pair params c) order a' b' a'' b''
-      → ¬ (In (a''.position, b''.position) avoided) → Avoids pair params c avoided a b (suc n) a'' b''
+      → ¬ (IsAmong (a''.position, b''.position) avoided) → Avoids pair params c avoided a b (suc n) a'' b''
 
 -- from a pair that is met, more steps than its rank lead through a recurrence pair
 abbrev pub BoundChains : Pair → List ℕ → List (Position × Position) → List (Position × Position) → List ℕ → Type 0

@@ -1,6 +1,6 @@
 -- Ways along a relation, and graphs whose nodes are numbers.
 use Rattle.std.specs.Prelude.{ℕ, ◌≡◌, ◌↔◌, ◌<◌, List, length, Some, slice_get, Bool, true}
-use Rattle.ac_paths.specs.Pairs.{In}
+use Rattle.ac_forms.specs.Members.{IsAmong}
 
 -- one step at least leads from the first to the second
 pub data Leads {A : Type 0} (R : A → A → Type 0) : A → A → Type 0 where
@@ -9,7 +9,7 @@ pub data Leads {A : Type 0} (R : A → A → Type 0) : A → A → Type 0 where
 
 -- a graph is a list: for each node, by its number, the nodes to which an edge leads
 abbrev pub Edge : List (List ℕ) → ℕ → ℕ → Type 0
-Edge next i j = (nodes : List ℕ) × (slice_get next i ≡ Some nodes) × In j nodes
+Edge next i j = (nodes : List ℕ) × (slice_get next i ≡ Some nodes) × IsAmong j nodes
 
 -- each edge leads to a node
 pub record IsGraph (next : List (List ℕ)) : Type 0 where

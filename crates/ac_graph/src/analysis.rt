@@ -1,7 +1,7 @@
 //! Which of the reached pairs recur, and their ranks.
 ghost use Rattle.std.specs.Prelude.{◌≡◌, ◌↔◌, ◌++◌, ◌∷◌, [], cond, length, IfOk, OnOk};
 ghost use Rattle.ac_syntax.specs.declared.tree.Position.{Position};
-ghost use Rattle.ac_paths.specs.Pairs.{In};
+ghost use Rattle.ac_forms.specs.Members.{IsAmong};
 ghost use Rattle.ac_graph.specs.Recurring.{AreFallingOutside, AreMarkedBy, AreRecurring, HasMark, is_root, readers, recurs};
 ghost use Rattle.ac_graph.specs.Ways.{IsGraph};
 
@@ -114,7 +114,7 @@ pub(crate) fn chosen(
     pairs: &[(Position, Position)],
     marks: &[bool],
 ) -> Result<Items<(Position, Position)>, AllocError>
-    ensures { IfOk result (λ made. (p : Position × Position) → In p made ↔ HasMark pairs.now marks.now (length pairs.now) p) }
+    ensures { IfOk result (λ made. (p : Position × Position) → IsAmong p made ↔ HasMark pairs.now marks.now (length pairs.now) p) }
 {
     let mut made = Items::new(alloc);
     for at in 0..pairs.len() {

@@ -1,11 +1,13 @@
 //! The edges of a program, from its flow.
 ghost use Rattle.std.specs.Prelude.{◌≡◌, ◌↔◌, IfOk, OnOk, Option, Some, MatchOption, slice_get};
 ghost use Rattle.ac_syntax.specs.declared.tree.Position.{Position};
-ghost use Rattle.ac_paths.specs.Pairs.{In};
+ghost use Rattle.ac_forms.specs.Members.{IsAmong};
 ghost use Rattle.ac_paths.specs.Places.{initial_of};
 ghost use Rattle.ac_graph.specs.Moves.{IsEdge, target};
-ghost use Rattle.ac_graph.specs.Spreading.{same_position, same_pair, IsMore, IsEdgeOf, IsEdgeOfOne, IsEdgeAmong};
+ghost use Rattle.ac_claims.specs.Ending.{same_pair};
+ghost use Rattle.ac_graph.specs.Spreading.{IsMore, IsEdgeOf, IsEdgeOfOne, IsEdgeAmong};
 
+use ac_claims::ending::same_position;
 use ac_flow::types::{Case, Flow};
 use ac_items::Items;
 use ac_syntax::tree::Position;
@@ -39,32 +41,16 @@ fn target(position: &Position, case: &Case) -> Position
     }
 }
 
-/// Whether two positions are one.
-pub(crate) fn same(first: &Position, second: &Position) -> bool
-    ensures { result ≡ same_position first.now second.now }
-{
-    match (first, second) {
-        (Position::Output(o), Position::Output(p)) => *o == *p,
-        (Position::Node { stmt: s, node: k }, Position::Node { stmt: t, node: l }) => {
-            *s == *t && *k == *l
-        }
-        (Position::InitialOutput(o), Position::InitialOutput(p)) => *o == *p,
-        (Position::InitialNode { stmt: s, node: k }, Position::InitialNode { stmt: t, node: l }) =>
-            *s == *t && *k == *l,
-        _ => false,
-    }
-}
-
 /// Whether two pairs of positions are one.
 fn same_pair(first: &(Position, Position), second: &(Position, Position)) -> bool
     ensures { result ≡ same_pair first.now second.now }
 {
-    same(&first.0, &second.0) && same(&first.1, &second.1)
+    same_position(&first.0, &second.0) && same_position(&first.1, &second.1)
 }
 
 /// The place of a pair in a list, if it stands there.
 pub(crate) fn place(pairs: &[(Position, Position)], pair: &(Position, Position)) -> Option<usize>
-    ensures { MatchOption result (¬ (In pair.now pairs.now)) (λ at. slice_get pairs.now at ≡ Some pair.now) }
+    ensures { MatchOption result (¬ (IsAmong pair.now pairs.now)) (λ at. slice_get pairs.now at ≡ Some pair.now) }
 {
     for at in 0..pairs.len() {
         if same_pair(&pairs[at], pair) {
@@ -122,7 +108,7 @@ fn push_edges(
 
 /// The edges of a program with this flow.
 pub(crate) fn edges(alloc: Global, flow: &Flow) -> Result<Items<(Position, Position)>, AllocError>
-    ensures { IfOk result (λ made. (p q : Position) → In (p, q) made ↔ IsEdge flow.now p q) }
+    ensures { IfOk result (λ made. (p q : Position) → IsAmong (p, q) made ↔ IsEdge flow.now p q) }
 {
     let mut out = Items::new(alloc);
     let reads = flow.reads.as_slice();

@@ -3,7 +3,7 @@ ghost use Rattle.std.specs.Prelude.{◌≡◌, ◌↔◌, ◌⊎◌, ◌∷◌, 
 ghost use Rattle.ac_syntax.specs.declared.tree.Position.{Position};
 ghost use Rattle.ac_syntax.specs.declared.tree.Site.{Site};
 ghost use Rattle.ac_paths.specs.Going.{Pairing};
-ghost use Rattle.ac_paths.specs.Pairs.{In};
+ghost use Rattle.ac_forms.specs.Members.{IsAmong};
 ghost use Rattle.ac_graph.specs.Moves.{IsEdge, IsSite, dependences, pairing_of, start_of, starts_of, AreDistinct, AreTargets, AreRanks, AreReached, AreRecurrent, AreSites};
 ghost use Rattle.ac_graph.specs.Outlines.{AreOutlinesOf};
 ghost use Rattle.ac_graph.specs.Steps.{AreSources, BoundChains, HaveFlows, HaveOutputs, HoldMet};
@@ -11,18 +11,19 @@ ghost use Rattle.ac_graph.specs.Steps.{AreSources, BoundChains, HaveFlows, HaveO
 use crate::analysis::{chosen, ranks, recurring};
 use crate::edges::edges;
 use crate::moves::Edges;
-use crate::programs::{Both, both_of, may_swap, same_symbol};
+use crate::programs::{Both, both_of};
 use crate::spread::{Reached, all_reached, placed};
 use crate::types::Graph;
 use ac_flow::types::Flow;
 use ac_items::Items;
+use ac_paths::symbols::{may_swap, same_symbol};
 use ac_syntax::tree::{Pair, Position, Site};
 use std::alloc::{AllocError, Global};
 
 /// Each output of both programs against itself, each pair once.
 fn starts_of(alloc: Global, outputs: &[usize]) -> Result<Items<(Position, Position)>, AllocError>
     ensures distinct { IfOk result AreDistinct }
-    ensures starts { IfOk result (λ made. (p : Position × Position) → In p made ↔ In p (starts_of outputs.now)) }
+    ensures starts { IfOk result (λ made. (p : Position × Position) → IsAmong p made ↔ IsAmong p (starts_of outputs.now)) }
 {
     let mut made = Items::new(alloc);
     for output in outputs {
@@ -62,8 +63,8 @@ fn start_of(alloc: Global, output: usize) -> Result<Items<(Position, Position)>,
 ///
 /// The only refusal is want of memory.
 pub fn graph(alloc: Global, pair: &Pair, left: &Flow, right: &Flow) -> Result<Graph, AllocError>
-    ensures left { IfOk result (λ made. (p q : Position) → In (p, q) made.left_edges ↔ IsEdge left.now p q) }
-    ensures right { IfOk result (λ made. (p q : Position) → In (p, q) made.right_edges ↔ IsEdge right.now p q) }
+    ensures left { IfOk result (λ made. (p q : Position) → IsAmong (p, q) made.left_edges ↔ IsEdge left.now p q) }
+    ensures right { IfOk result (λ made. (p q : Position) → IsAmong (p, q) made.right_edges ↔ IsEdge right.now p q) }
     ensures reachable { IfOk result (λ made. AreReached (dependences pair.now made.left_edges made.right_edges) (starts_of pair.now.outputs) made.reachable) }
     ensures distinct { IfOk result (λ made. AreDistinct made.reachable) }
     ensures targets { IfOk result (λ made. AreTargets (dependences pair.now made.left_edges made.right_edges) made.reachable made.targets) }
@@ -140,7 +141,7 @@ fn push_site(
     pair: &(Position, Position),
     out: &mut Items<Site>,
 ) -> Result<(), AllocError>
-    ensures { (g : Pairing) → AreOutlinesOf g both.now → OnOk result ((s : Site) → In s out.new ↔ (In s out.old ⊎ (((s.left, s.right) ≡ pair.now) × IsSite g pair.now))) }
+    ensures { (g : Pairing) → AreOutlinesOf g both.now → OnOk result ((s : Site) → IsAmong s out.new ↔ (IsAmong s out.old ⊎ (((s.left, s.right) ≡ pair.now) × IsSite g pair.now))) }
 {
     if is_site(both, pair) {
         out.push(Site {

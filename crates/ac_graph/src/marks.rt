@@ -1,6 +1,6 @@
 //! Which nodes of a graph lie on cycles. A graph is a list: for each node the nodes to which an edge leads.
 ghost use Rattle.std.specs.Prelude.{◌≡◌, ◌↔◌, ◌<◌, ◌++◌, ◌∷◌, [], ℕ, Some, false, cond, count_by, length, replicate, slice_get, OnOk, IfOk};
-ghost use Rattle.ac_paths.specs.Pairs.{In};
+ghost use Rattle.ac_forms.specs.Members.{IsAmong};
 ghost use Rattle.ac_graph.specs.Ways.{IsGraph, IsMarked, AreMarks, AreCyclic, AreFalling, IsWithin, IsOutside};
 ghost use Rattle.ac_graph.specs.Marking.{AreBelow, AreMatched, AreAdded, is_marked};
 
@@ -118,7 +118,7 @@ fn push_if(out: &mut Items<usize>, node: usize, wanted: bool) -> Result<(), Allo
 
 /// Those of the nodes that are marked.
 fn marked_among(alloc: Global, nodes: &[usize], marks: &[bool]) -> Result<Items<usize>, AllocError>
-    ensures { IfOk result (λ made. (j : ℕ) → In j made ↔ (In j nodes.now × IsMarked marks.now j)) }
+    ensures { IfOk result (λ made. (j : ℕ) → IsAmong j made ↔ (IsAmong j nodes.now × IsMarked marks.now j)) }
 {
     let mut made = Items::new(alloc);
     for node in nodes {
@@ -133,7 +133,7 @@ fn unmarked_among(
     nodes: &[usize],
     marks: &[bool],
 ) -> Result<Items<usize>, AllocError>
-    ensures { IfOk result (λ made. (j : ℕ) → In j made ↔ (In j nodes.now × (¬ (IsMarked marks.now j)))) }
+    ensures { IfOk result (λ made. (j : ℕ) → IsAmong j made ↔ (IsAmong j nodes.now × (¬ (IsMarked marks.now j)))) }
 {
     let mut made = Items::new(alloc);
     for node in nodes {
@@ -149,7 +149,7 @@ fn marked_behind(
     nodes: &[usize],
     marks: &[bool],
 ) -> Result<Items<usize>, AllocError>
-    ensures { IfOk result (λ made. (j : ℕ) → In j made ↔ (In j nodes.now × IsMarked marks.now node × IsMarked marks.now j)) }
+    ensures { IfOk result (λ made. (j : ℕ) → IsAmong j made ↔ (IsAmong j nodes.now × IsMarked marks.now node × IsMarked marks.now j)) }
 {
     if is_marked(marks, node) {
         marked_among(alloc, nodes, marks)

@@ -5,9 +5,10 @@ ghost use Rattle.ac_graph.specs.Moves.{Dependences, Moves, ArgumentMove};
 ghost use Rattle.ac_graph.specs.Outlines.{called, reads_at, AreOutlinesOf, AreEdgesOf};
 ghost use Rattle.ac_graph.specs.Spreading.{IsMore, IsLeftOf, IsRightOf, IsArgumentOf, IsKeptOf, IsMetOf, IsArgumentMoveOf};
 
-use crate::edges::same;
-use crate::programs::{Both, CallNode, may_swap, same_symbol};
+use crate::programs::{Both, CallNode};
+use ac_claims::ending::same_position;
 use ac_items::Items;
+use ac_paths::symbols::{may_swap, same_symbol};
 use ac_syntax::tree::Position;
 use std::alloc::{AllocError, Global};
 
@@ -27,7 +28,7 @@ fn push_left_edge(
 ) -> Result<(), AllocError>
     ensures { OnOk result (IsMore (λ q. (edge.now ≡ (pair.now.0, q.0)) × (q.1 ≡ pair.now.1)) out.old out.new) }
 {
-    if same(&edge.0, &pair.0) {
+    if same_position(&edge.0, &pair.0) {
         out.push((edge.1, pair.1))?;
         Ok(())
     } else {
@@ -57,7 +58,7 @@ fn push_right_edge(
 ) -> Result<(), AllocError>
     ensures { OnOk result (IsMore (λ q. (edge.now ≡ (pair.now.1, q.1)) × (q.0 ≡ pair.now.0)) out.old out.new) }
 {
-    if same(&edge.0, &pair.1) {
+    if same_position(&edge.0, &pair.1) {
         out.push((pair.0, edge.1))?;
         Ok(())
     } else {

@@ -1,9 +1,6 @@
 //! What stands at a position of a program.
-ghost use Rattle.std.specs.Prelude.{◌≡◌, List, map, length, IfOk, nat_eq, option_copied, option_map};
-ghost use Rattle.std.specs.Cmp.Lexicographic.{pointwise};
-ghost use Rattle.std.specs.List.{flat_map, list_any};
-ghost use Rattle.ac_syntax.specs.Outputs.{swaps_of};
-ghost use Rattle.ac_paths.specs.Going.{same_symbol};
+ghost use Rattle.std.specs.Prelude.{◌≡◌, List, map, length, IfOk, option_copied, option_map};
+ghost use Rattle.std.specs.List.{flat_map};
 ghost use Rattle.ac_graph.specs.Moves.{pairing_of};
 ghost use Rattle.ac_graph.specs.Outlines.{outlines, outline_at, reads_at, called_by, called_at, called, is_read, AreOutlinesOf};
 
@@ -102,32 +99,6 @@ impl Outlines {
             Position::Output(_) | Position::InitialOutput(_) | Position::InitialNode { .. } => None,
         }
     }
-}
-
-/// Whether two symbols are one.
-pub(crate) fn same_symbol(first: &Symbol, second: &Symbol) -> bool
-    ensures { result ≡ same_symbol first.now second.now }
-{
-    first.arity == second.arity && first.name == second.name
-}
-
-/// Whether a name is among those.
-fn has_name(names: &[Name], name: &[u8]) -> bool
-    ensures { result ≡ list_any (pointwise nat_eq name.now) names.now }
-{
-    for candidate in names {
-        if *name == *candidate.as_bytes() {
-            return true;
-        }
-    }
-    false
-}
-
-/// Whether the two arguments of a symbol may be swapped.
-pub(crate) fn may_swap(names: &[Name], symbol: &Symbol) -> bool
-    ensures { result ≡ swaps_of names.now symbol.now }
-{
-    symbol.arity == 2 && has_name(names, symbol.name.as_bytes())
 }
 
 /// Both programs, and the symbols whose arguments may be swapped.

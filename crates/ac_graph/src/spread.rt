@@ -1,6 +1,6 @@
 //! The pairs that moves reach from some pairs.
 ghost use Rattle.std.specs.Prelude.{◌≡◌, ◌∷◌, [], IfOk, OnOk, Some, slice_get};
-ghost use Rattle.ac_paths.specs.Pairs.{In};
+ghost use Rattle.ac_forms.specs.Members.{IsAmong};
 ghost use Rattle.ac_graph.specs.Moves.{Dependences, AreDistinct};
 ghost use Rattle.ac_graph.specs.Outlines.{AreEdgesOf};
 ghost use Rattle.ac_graph.specs.Spreading.{Extends, ArePlaces, AreAllReached};
@@ -43,7 +43,7 @@ fn places(
     more: &[(Position, Position)],
 ) -> Result<Items<usize>, AllocError>
     ensures extends { OnOk result (Extends pairs.old more.now pairs.new) }
-    ensures places { IfOk result (λ made. ArePlaces (λ q. In q more.now) pairs.new made) }
+    ensures places { IfOk result (λ made. ArePlaces (λ q. IsAmong q more.now) pairs.new made) }
 {
     let mut made = Items::new(alloc);
     for at in 0..more.len() {

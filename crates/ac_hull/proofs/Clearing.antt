@@ -9,7 +9,8 @@ use Rattle.ac_integers.specs.Gcd.{content}
 use Rattle.ac_hull.proofs.Lines.{content_positive}
 use Rattle.ac_integers.proofs.Columns.{dot-set_coef}
 use Rattle.ac_integers.proofs.Products.{mul_comm_ℤ, neg-mul_ℤ}
-use Rattle.ac_widen.specs.Combinations.{times, Each, IsAmong}
+use Rattle.ac_forms.specs.Members.{IsAmong}
+use Rattle.ac_widen.specs.Combinations.{times, Each}
 use Rattle.ac_widen.proofs.Combining.{dot_comm, dot-times}
 use Rattle.ac_hull.specs.Elimination.{entry, column_of, pivot_of}
 use Rattle.ac_hull.specs.Equalities.{unit, cleared_by, cleared, coefs_of, IsFree}

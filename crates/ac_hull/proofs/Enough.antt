@@ -7,7 +7,8 @@ use Rattle.ac_integers.specs.Dot.{dot, mix}
 use Rattle.ac_forms.specs.Affine.{value_at}
 use Rattle.ac_forms.specs.Rows.{Holds, Meets}
 use Rattle.ac_forms.specs.declared.row.Row.{Row}
-use Rattle.ac_widen.specs.Combinations.{Each, IsAmong, InHull, IsCombination, blend, times}
+use Rattle.ac_forms.specs.Members.{IsAmong}
+use Rattle.ac_widen.specs.Combinations.{Each, InHull, IsCombination, blend, times}
 use Rattle.ac_widen.specs.Narrowing.{narrowed}
 use Rattle.ac_widen.specs.Statements.{AreEnough}
 use Rattle.ac_widen.specs.Walks.{narrowed_by}

@@ -6,7 +6,7 @@ use Rattle.ac_integers.specs.Dot.{dot}
 use Rattle.ac_integers.specs.Gcd.{content}
 use Rattle.ac_integers.proofs.Dot.{dot-nil}
 use Rattle.ac_widen.specs.Combinations.{blend, Each}
-use Rattle.ac_widen.proofs.Combining.{no_divisor, dot-mix_point}
+use Rattle.ac_widen.proofs.Combining.{no_divisor, dot-mix_point, each_map}
 use Rattle.ac_hull.specs.Elimination.{entry, column_of, pivot_of, reduced_by, reduced_all, lowered, fresh, next_line, next_content, IsZero, Eliminates, none, more}
 use Rattle.ac_hull.specs.declared.line.Line.{Line}
 use Rattle.ac_hull.proofs.Entries.{entry_blend, lead_or}
@@ -28,10 +28,6 @@ pub record Facts (columns : ℕ) (ds : List (List ℤ)) (ls : List Line) : Type 
   pub over : Each (LineOver columns ds) ls
   pub echelon : Echelon ls
   pub count : length ls ≡ length ds
-
-pub each_map : {A : Type 0} (P Q : A → Type 0) (xs : List A) → ((x : A) → P x → Q x) → Each P xs → Each Q xs
-each_map P Q [] f h = tt
-each_map P Q (x ∷ xs) f h = (f x h.0, each_map P Q xs f h.1)
 
 pub each_snoc : {A : Type 0} (P : A → Type 0) (xs : List A) (x : A) → Each P xs → P x → Each P (xs ++ x ∷ [])
 each_snoc P [] x h p = (p, tt)

@@ -2,7 +2,7 @@
 use Rattle.std.proofs.Common.{◌≡◌, ◌⊎◌, ◌↔◌, inl, inr, ℕ, ◌+◌, ◌<◌, ◌≤◌, ℤ, pos, List, [], ◌∷◌, ◌++◌, length, take, get_or, refl, ap, ◌∙◌, arith, unsigned_abs, Bool, true, false, ◌==◌}
 use Rattle.std.proofs.lemmas.Bool.{cases_lt, eqb-true, eqb-false}
 use Rattle.std.proofs.lemmas.List.{take_more, take_all}
-use Rattle.ac_widen.specs.Combinations.{IsAmong}
+use Rattle.ac_forms.specs.Members.{IsAmong}
 use Rattle.ac_hull.specs.Differences.{AllMeetRow, IsOfPair, bound, class_of}
 use Rattle.ac_hull.specs.Inner.Finding.{AddsBounds, AddsClasses, AddsModuli, AddsRow}
 use Rattle.ac_hull.specs.declared.difference.Difference.{Difference}

@@ -1,12 +1,9 @@
 -- What a hull keeps, as it begins and grows.
-use Rattle.std.proofs.Common.{◌≡◌, ℕ, ◌<◌, ◌↔◌, Some, Err, ℤ, pos, neg_ℤ, List, [], ◌∷◌, ◌++◌, length, true, refl, ap, sym, ◌∙◌, arith}
+use Rattle.std.proofs.Common.{◌≡◌, ℕ, ◌<◌, ◌↔◌, Some, ℤ, pos, neg_ℤ, List, [], ◌∷◌, ◌++◌, length, true, refl, ap, sym, ◌∙◌, arith}
 use Rattle.std.specs.Prelude.{slice_get}
 use Rattle.std.proofs.lemmas.List.{map-append}
 use Rattle.ac_integers.specs.Gcd.{content}
 use Rattle.ac_forms.specs.Affine.{Affine}
-use Rattle.ac_forms.specs.Stops.{MadeIff, MadeWhere}
-use Rattle.ac_forms.specs.declared.stop.FormStop.{FormStop}
-use Rattle.ac_forms.specs.declared.stop.FormStop.TheVariants.{Wide, Memory}
 use Rattle.ac_widen.specs.Combinations.{Each, InHull}
 use Rattle.ac_widen.proofs.Combining.{first_of_some}
 use Rattle.ac_hull.specs.Elimination.{pivot_of, minus, next_line, next_content, IsZero, Eliminates, none, more}
@@ -15,7 +12,8 @@ use Rattle.ac_hull.specs.Hulls.{differences, lines_from, lines_of}
 use Rattle.ac_hull.specs.Inner.Keeping.{IsHull, IsGrowth, IsExtension, equalities_behind}
 use Rattle.ac_hull.specs.Fitting.{AllCross, CanNext, CanAdd, CanGrow}
 use Rattle.ac_hull.specs.declared.line.Line.{Line}
-use Rattle.ac_hull.proofs.Facts.{LineOver, facts_of, next_positive, each_map, each_snoc}
+use Rattle.ac_hull.proofs.Facts.{LineOver, facts_of, next_positive, each_snoc}
+use Rattle.ac_widen.proofs.Combining.{each_map}
 use Rattle.ac_hull.proofs.Frees.{true_free}
 use Rattle.ac_hull.proofs.Lines.{length_mix}
 use Rattle.ac_hull.proofs.Clearing.{free_content}
@@ -123,12 +121,3 @@ pub hull_can_add : (columns : ℕ) (ms : List (List ℤ)) (ls : List Line) (es :
     → AllCross (pos 1) p (pos 1) f × CanNext ls (minus p f) → (¬ (IsZero (next_line ls (minus p f)).coords) → CanGrow columns ms (next_line ls (minus p f))) → CanAdd columns ms p
 hull_can_add columns [] ls es f p h e a b = absurd cc
 hull_can_add columns (g ∷ ps) ls es f p h e a b = let i : g ≡ f = cc in (rw (h.2, ← i) at a, rw (h.2, ← i) at b)
-
--- a stop is handed on, where what could be done could be done before
-pub stop_kept : {T U : Type 0} (stop : FormStop) (P R : Type 0) (Q : T → Type 0) (S : U → Type 0) → (P → R) → MadeWhere {T = U} (Err stop) R S → MadeWhere {T = T} (Err stop) P Q
-stop_kept Wide P R Q S f m = λ p. m (f p)
-stop_kept (Memory e) P R Q S f m = tt
-
-pub stop_kept_iff : {T U : Type 0} (stop : FormStop) (P R : Type 0) (Q : T → Type 0) (v : U) → (P → R) → MadeIff {T = U} (Err stop) R v → MadeWhere {T = T} (Err stop) P Q
-stop_kept_iff Wide P R Q v f m = λ p. m (f p)
-stop_kept_iff (Memory e) P R Q v f m = tt

@@ -13,7 +13,8 @@ use Rattle.ac_hull.specs.Hulls.{differences}
 use Rattle.ac_hull.specs.declared.line.Line.{Line}
 use Rattle.ac_hull.proofs.Entries.{entry_past, lead_or, dot_single}
 use Rattle.ac_hull.proofs.Lines.{length_mix}
-use Rattle.ac_hull.proofs.Facts.{LineOver, Facts, Next, next_is, facts_of, Kills, KillsEach, kills_differences, zeros_map, dot_spans, dot_each_zero, dot_last, each_map}
+use Rattle.ac_hull.proofs.Facts.{LineOver, Facts, Next, next_is, facts_of, Kills, KillsEach, kills_differences, zeros_map, dot_spans, dot_each_zero, dot_last}
+use Rattle.ac_widen.proofs.Combining.{each_map}
 use Rattle.ac_hull.proofs.Clearing.{cleared_kills, cleared_zero, cleared_nonzero, length_unit, unit_one, unit_other, free_or}
 
 -- a form through the first point

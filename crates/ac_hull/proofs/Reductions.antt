@@ -1,8 +1,8 @@
 -- A row reduced by others, one after the other.
-use Rattle.std.proofs.Common.{◌≡◌, ℕ, ◌+◌, ◌<◌, ◌≤◌, List, ◌∷◌, length, drop, get_or, refl, arith, sym, ◌∙◌, ap}
+use Rattle.std.proofs.Common.{◌≡◌, ℕ, ◌+◌, ◌<◌, ◌≤◌, ℤ, List, ◌∷◌, length, drop, get_or, refl, arith, sym, ◌∙◌, ap}
 use Rattle.std.proofs.lemmas.List.{drop_more, drop_all}
-use Rattle.ac_hull.specs.Elimination.{reduced_by, reduced_all}
-use Rattle.ac_hull.specs.Fitting.{CanReduce, CanReduceAll}
+use Rattle.ac_hull.specs.Elimination.{entry, column_of, pivot_of, crossed, reduced_by, reduced_all}
+use Rattle.ac_hull.specs.Fitting.{AllCross, CanReduce, CanReduceAll}
 use Rattle.ac_hull.specs.declared.line.Line.{Line}
 
 -- before row i
@@ -11,6 +11,14 @@ pub record ReduceHalfway (os : List Line) (from line : Line) (i : ℕ) : Type 0 
   pub onward : CanReduceAll os from → CanReduceAll (drop i os) line
   pub back : CanReduceAll (drop i os) line → CanReduceAll os from
   pub value : reduced_all os from ≡ reduced_all (drop i os) line
+
+-- both parts of a row
+pub reduced_made : (o l : Line) (p n : ℤ) (xs ys ws vs cs ms : List ℤ) → p ≡ pivot_of o → n ≡ entry (column_of o) l.coords → xs ≡ l.coords → ys ≡ o.coords → ws ≡ l.weights → vs ≡ o.weights
+    → AllCross p xs n ys × (cs ≡ crossed p xs n ys) → AllCross p ws n vs × (ms ≡ crossed p ws n vs) → CanReduce o l × (record { coords = cs; weights = ms } ≡ reduced_by o l)
+reduced_made o l p n xs ys ws vs cs ms e f a b d g c m =
+    let coords = rw (e, f, a, b) at c in
+    let weights = rw (e, f, d, g) at m in
+    ((coords.0, weights.0), rw (coords.1, weights.1) refl)
 
 pub reduce_start : (os : List Line) (from : Line) → ReduceHalfway os from from 0
 reduce_start os from = record { room = omega arith; onward = λ f. f; back = λ f. f; value = refl }

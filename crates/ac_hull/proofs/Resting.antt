@@ -8,7 +8,8 @@ use Rattle.ac_integers.proofs.Dot.{dot-mix}
 use Rattle.ac_integers.proofs.Multiples.{multiple_add}
 use Rattle.ac_forms.specs.Affine.{Affine, value_at}
 use Rattle.ac_forms.specs.Fits.{Fits}
-use Rattle.ac_widen.specs.Combinations.{Each, IsAmong, IsCombination}
+use Rattle.ac_forms.specs.Members.{IsAmong}
+use Rattle.ac_widen.specs.Combinations.{Each, IsCombination}
 use Rattle.ac_widen.proofs.Combining.{equality_combined, each_among}
 use Rattle.ac_hull.specs.Elimination.{entry}
 use Rattle.ac_hull.specs.Differences.{gap, gap_of, GapsFit, HoldsWith, AllMeetRow, IsConstant, IsWeaker, IsSum, RestsOn, own, constant, weaker, sum}

@@ -4,7 +4,11 @@ use Rattle.std.proofs.lemmas.Int.{ints}
 use Rattle.std.proofs.lemmas.List.{drop_more, drop_all}
 use Rattle.std.specs.Int.{w128}
 use Rattle.ac_integers.proofs.Bits.{again_128}
+use Rattle.std.specs.Prelude.{Result, Ok, Err, IsErrAnd}
 use Rattle.ac_forms.specs.Fits.{Fits, AllFit}
+use Rattle.ac_forms.specs.Stops.{MadeWhere}
+use Rattle.ac_forms.specs.declared.stop.FormStop.{FormStop}
+use Rattle.ac_forms.specs.declared.stop.FormStop.TheVariants.{Wide}
 use Rattle.ac_forms.proofs.Signs.{AllFit-append}
 use Rattle.ac_widen.specs.Combinations.{total}
 use Rattle.ac_hull.specs.Hulls.{turned}
@@ -51,6 +55,11 @@ fit_at f (x ∷ xs) (suc n) (suc i) h l a = fit_at f xs n i (omega arith) (omega
 
 pub turn_fails : (t : ℤ) (xs : List ℤ) (n i : ℕ) → i < n → n ≤ length xs → ¬ (Fits (turned t (get_or xs i (pos 0)))) → ¬ (AllFit (map (turned t) (take n xs)))
 turn_fails t xs n i h l f a = f (fit_at (turned t) xs n i h l a)
+
+-- a number that does not fit, handed on
+pub wide_made : {T : Type 0} (r : Result T FormStop) (P : Type 0) (Q : T → Type 0) → IsErrAnd r (λ e. e ≡ Wide) → ¬ P → MadeWhere r P Q
+wide_made (Ok x) P Q h n = absurd h
+wide_made (Err e) P Q h n = rw h n
 
 pub ruleset turn_all_steps = (turn_start, turn_fails, again_128)
 

@@ -5,7 +5,8 @@ use Rattle.ac_forms.specs.Affine.{Affine}
 use Rattle.ac_forms.specs.Fits.{Fits}
 use Rattle.ac_forms.specs.declared.row.Row.{Row}
 use Rattle.ac_forms.specs.declared.row.Row.TheVariants.{Div, Ge}
-use Rattle.ac_widen.specs.Combinations.{Each, IsAmong}
+use Rattle.ac_forms.specs.Members.{IsAmong}
+use Rattle.ac_widen.specs.Combinations.{Each}
 use Rattle.ac_hull.specs.Elimination.{entry}
 use Rattle.ac_hull.specs.Templates.{difference}
 use Rattle.ac_hull.specs.declared.difference.Difference.{Difference}

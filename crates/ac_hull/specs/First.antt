@@ -1,6 +1,7 @@
 -- The first of some integers in the order 0, 1, -1, 2, -2, ..
 use Rattle.std.specs.Prelude.{◌≡◌, ◌⊎◌, ℕ, ◌+◌, ◌*◌, ◌<◌, ◌≤◌, ℤ, pos, negsuc, List, [], ◌∷◌, length}
-use Rattle.ac_widen.specs.Combinations.{Each, IsAmong}
+use Rattle.ac_forms.specs.Members.{IsAmong}
+use Rattle.ac_widen.specs.Combinations.{Each}
 
 -- what they are ordered by: the absolute value, and the positive number first
 abbrev pub rank : ℤ → ℕ

@@ -1,6 +1,6 @@
 ghost use Rattle.std.specs.Prelude.{◌≡◌, ◌≤◌, ◌^◌, ◌++◌, ℤ, IfOk, unsigned_abs};
 ghost use Rattle.std.specs.List.{flat_map};
-ghost use Rattle.ac_widen.specs.Combinations.{IsAmong};
+ghost use Rattle.ac_forms.specs.Members.{IsAmong};
 ghost use Rattle.ac_hull.specs.First.{AreFirst};
 ghost use Rattle.ac_hull.specs.Thresholds.{beside, near, small_size, thresholds_at, threshold_candidates, modulus_at, modulus_candidates};
 

@@ -1,7 +1,8 @@
 ghost use Rattle.std.specs.Prelude.{◌≡◌, ◌↔◌, ◌<◌, ◌^◌, ◌+◌, ◌≤ℤ◌, ℤ, pos, List, [], IfOk, IsTrue, length, map, ℕ};
 ghost use Rattle.ac_forms.specs.Fits.{Fits};
 ghost use Rattle.ac_forms.specs.Stops.{MadeWhere};
-ghost use Rattle.ac_widen.specs.Combinations.{Each, IsAmong};
+ghost use Rattle.ac_forms.specs.Members.{IsAmong};
+ghost use Rattle.ac_widen.specs.Combinations.{Each};
 ghost use Rattle.ac_widen.specs.Statements.{AreEnough};
 ghost use Rattle.ac_widen.specs.Walks.{narrowed_by};
 ghost use Rattle.ac_hull.specs.Claims.{AreClaimRows};

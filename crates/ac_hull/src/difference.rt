@@ -1,7 +1,8 @@
 ghost use Rattle.std.specs.Prelude.{◌≡◌, ◌↔◌, ◌+ℤ◌, ◌-ℤ◌, ◌≤ℤ◌, ℤ, pos, List, IfSome, IsTrue, OkIff};
 ghost use Rattle.ac_integers.specs.Multiple.{IsMultiple};
 ghost use Rattle.ac_forms.specs.Fits.{Fits};
-ghost use Rattle.ac_widen.specs.Combinations.{Each, IsAmong};
+ghost use Rattle.ac_forms.specs.Members.{IsAmong};
+ghost use Rattle.ac_widen.specs.Combinations.{Each};
 ghost use Rattle.ac_hull.specs.Differences.{AllMeetRow, GapsFit, HoldsWith, IsConstant, IsSum, IsWeaker, gap, gap_of};
 
 use ac_forms::{Wide, coefficient};

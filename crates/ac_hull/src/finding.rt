@@ -1,5 +1,6 @@
 ghost use Rattle.std.specs.Prelude.{◌≡◌, ◌↔◌, ◌⊎◌, ◌<◌, ◌≤◌, ◌^◌, ◌≤ℤ◌, ℕ, ℤ, pos, unsigned_abs, IfOk, IsTrue, length, IfSome};
-ghost use Rattle.ac_widen.specs.Combinations.{Each, IsAmong};
+ghost use Rattle.ac_forms.specs.Members.{IsAmong};
+ghost use Rattle.ac_widen.specs.Combinations.{Each};
 ghost use Rattle.ac_hull.specs.declared.difference.Difference.{Difference};
 ghost use Rattle.ac_hull.specs.Differences.{AllMeetRow, GapsFit, IsOfPair, bound, class_of};
 ghost use Rattle.ac_hull.specs.Inner.Finding.{AddsBounds, AddsClasses, AddsModuli, AddsRow};

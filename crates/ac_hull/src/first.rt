@@ -1,6 +1,7 @@
 //! The first of some numbers in the order 0, 1, -1, 2, -2, and so on.
 ghost use Rattle.std.specs.Prelude.{◌≡◌, ◌↔◌, ◌<◌, ◌≤◌, ℤ, IfOk, IfSome, IsTrue, length, slice_get, take};
-ghost use Rattle.ac_widen.specs.Combinations.{Each, IsAmong};
+ghost use Rattle.ac_forms.specs.Members.{IsAmong};
+ghost use Rattle.ac_widen.specs.Combinations.{Each};
 ghost use Rattle.ac_hull.specs.First.{AreFirst, rank};
 ghost use Rattle.ac_hull.specs.Inner.Placing.{inserted};
 

@@ -1,9 +1,9 @@
 ghost use Rattle.std.specs.Prelude.{ℤ, List, MatchResult, MatchOption, IsTrue, ◌↔◌, ◌≡◌, [], ◌∷◌, ◌++◌, length, MatchBool, IfOk, OnErr};
-ghost use Rattle.ac_forms.specs.Stops.{MadeWhere};
+ghost use Rattle.ac_forms.specs.Stops.{GivenWhere, MadeWhere};
 ghost use Rattle.ac_hull.specs.Hulls.{HullOf, IsGrown, IsWithin, Falls, IsFound, Vanish, CanVanish, equalities_of};
 ghost use Rattle.ac_hull.specs.Inner.Keeping.{IsGrowth, IsExtension, equalities_behind};
 ghost use Rattle.ac_widen.specs.Combinations.{InHull};
-ghost use Rattle.ac_hull.specs.Stops.{GivenWhere};
+ghost use Rattle.ac_hull.specs.Stops.{HandsBack};
 ghost use Rattle.ac_hull.specs.Fitting.{CanAdd, CanGrow, CanEqualities, CanCombine};
 
 use crate::combination::{Combination, read};
@@ -60,7 +60,7 @@ impl Hull {
         ensures exact { IfOk result (λ grew. MatchBool grew (IsGrown self.old point.now self.new) (IsWithin self.old point.now self.new)) }
         ensures falls { IfOk result (λ grew. IsTrue grew → Falls self.old self.new) }
         ensures stopped { OnErr result (self.new ≡ self.old) }
-        ensures overflow { GivenWhere result (CanAdd self.old.columns self.old.members point.now) (λ _. Unit {0}) (self.old.members ++ point.now ∷ []) }
+        ensures overflow { GivenWhere result (HandsBack (self.old.members ++ point.now ∷ [])) (CanAdd self.old.columns self.old.members point.now) (λ _. Unit {0}) }
     {
         match self.add_point(point) {
             Ok(grew) => Ok(grew),
@@ -120,7 +120,7 @@ impl Hull {
         point: &[i128],
     ) -> Result<Option<Combination>, HullStop>
         requires { length point.now ≡ self.now.columns }
-        ensures { GivenWhere result (CanCombine self.now.members point.now) (λ found. MatchOption found (¬ InHull self.now.members point.now) (IsFound self.now.members point.now)) (self.now.members ++ point.now ∷ []) }
+        ensures { GivenWhere result (HandsBack (self.now.members ++ point.now ∷ [])) (CanCombine self.now.members point.now) (λ found. MatchOption found (¬ InHull self.now.members point.now) (IsFound self.now.members point.now)) }
     {
         match self.combine(alloc, point) {
             Ok(found) => Ok(found),

@@ -1,5 +1,6 @@
 ghost use Rattle.std.specs.Prelude.{◌≡◌, ◌↔◌, ◌++◌, IsTrue, IfOk};
-ghost use Rattle.ac_widen.specs.Combinations.{Each, IsAmong};
+ghost use Rattle.ac_forms.specs.Members.{IsAmong};
+ghost use Rattle.ac_widen.specs.Combinations.{Each};
 ghost use Rattle.ac_hull.specs.declared.difference.Difference.{Difference};
 ghost use Rattle.ac_hull.specs.Differences.{AllMeetRow, GapsFit, IsSum, IsThin, IsWeaker};
 ghost use Rattle.ac_hull.specs.Inner.Thinning.{IsRedundant};

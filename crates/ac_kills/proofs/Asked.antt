@@ -90,7 +90,7 @@ sieved-have [] kept s = subst AllHavePoints (sym s) tt
 sieved-have (c ∷ cs) kept (inl (empty, s)) = sieved-have cs kept s
 sieved-have (c ∷ cs) kept (inr (rest, e, has, s)) = subst AllHavePoints (sym e) (has, sieved-have cs rest s)
 
-have-append : (cs ds : List Conj) → AllHavePoints cs → AllHavePoints ds → AllHavePoints (cs ++ ds)
+pub have-append : (cs ds : List Conj) → AllHavePoints cs → AllHavePoints ds → AllHavePoints (cs ++ ds)
 have-append [] ds a b = b
 have-append (c ∷ cs) ds a b = (a.0, have-append cs ds a.1 b)
 

@@ -10,7 +10,7 @@ use Rattle.ac_cert.proofs.Keeping.{made-push}
 use Rattle.ac_forms.specs.Standing.{is_among}
 use Rattle.ac_sets.specs.Unions.{ArePieces}
 use Rattle.ac_sets.proofs.Commons.{Over-more}
-use Rattle.ac_sets.proofs.Outsides.{outside-made}
+use Rattle.ac_sets.proofs.Outsides.{outside-made, row-at}
 use Rattle.ac_kills.specs.Causes.{IsCutCase, AreKillRows}
 use Rattle.ac_kills.proofs.Asked.{after-case, kill-row-at}
 use Rattle.ac_kills.specs.Cuts.{with_new, with_all_new, extended, row_parts, after_row, parts_outside, HasPoint, Sieved, AreKept, ArePartlyKept, Cuts, AreCut, CutsAll, AreAllCut, ArePartlyCut, AllHavePoints}
@@ -28,9 +28,6 @@ pub record NewHalfway (old now more : List Row) (i : ℕ) : Type 0 where
 
 pub new_start : (old now more : List Row) → now ≡ old → NewHalfway old now more 0
 new_start old now more e = record { made = ap (λ (rs : List Row). with_all_new rs more) e }
-
-row-at : (rs : List Row) (i : ℕ) (r : Row) → i < length rs → r ≡ get_or rs i r → drop i rs ≡ r ∷ drop (i + 1) rs
-row-at rs i r m e = rw e (drop_more rs i r m)
 
 pub new_step : (old now next more : List Row) (i : ℕ) (r : Row) → NewHalfway old now more i → i < length more → r ≡ get_or more i r → next ≡ with_new now r → NewHalfway old next more (i + 1)
 new_step old now next more i r h m e put =

@@ -21,6 +21,7 @@ use Rattle.ac_sets.proofs.Commons.{Meets-front, Meets-back, Meets-cut, Over-more
 use Rattle.ac_kills.specs.Cuts.{with_new, with_all_new, extended, row_parts, after_row, parts_outside, HasPoint, Sieved, ArePartlyKept, Cuts, AreCut, CutsAll, AreAllCut, ArePartlyCut, AllHavePoints, IsLeft}
 use Rattle.ac_kills.proofs.Cutting.{over-new, over-all-new, negation-made}
 use Rattle.ac_forms.proofs.InPieces.{some-append}
+use Rattle.ac_sets.proofs.Outsides.{holds-either}
 
 -- ---- rows added where they do not stand
 
@@ -41,17 +42,6 @@ all-new-meets rows (r ∷ rs) p =
     )
 
 -- ---- points over all columns of a conjunction
-
-pub holds-either : (r : Row) (p : List ℤ) → Holds r p ⊎ (¬ Holds r p)
-holds-either (Ge f) p = by_lt_z (value_at f p) (pos 0) (λ less. inr (λ h. omega (arith, ints, less, h))) (λ most. inl most)
-holds-either (Eq f) p =
-    by_lt_z (value_at f p) (pos 0) (λ less. inr (λ h. omega (arith, ints, less, h)))
-    (λ most. by_lt_z (pos 0) (value_at f p) (λ more. inr (λ h. omega (arith, ints, more, h))) (λ least. inl (omega (arith, ints, most, least))))
-holds-either (Div m f) p = by-test (divides (unsigned_abs m) (value_at f p)) refl
-  where
-    by-test : (b : Bool) → divides (unsigned_abs m) (value_at f p) ≡ b → IsMultiple m (value_at f p) ⊎ (¬ IsMultiple m (value_at f p))
-    by-test true e = inl (divides-true (unsigned_abs m) (value_at f p) e)
-    by-test false e = inr (divides-false (unsigned_abs m) (value_at f p) e)
 
 extended-out : (c d : Conj) (p : List ℤ) → IsWellMade c → length p ≡ c.columns → HasExtension (extended c d) p → Meets c.rows p × HasExtension d p
 extended-out c d p w l x =

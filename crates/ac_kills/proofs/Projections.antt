@@ -18,6 +18,7 @@ use Rattle.ac_omega.specs.Replays.{AreReached, HaveAllFrom, AreOver}
 use Rattle.ac_kills.specs.Kills.{columns_from, AreProjection}
 use Rattle.ac_forms.specs.Negation.{HasExtension}
 use Rattle.ac_forms.specs.Pieces.{IsInSome}
+use Rattle.ac_forms.proofs.Trimmed.{past}
 
 lt-true : (a b : ℕ) → nat_lt a b ≡ true → a < b
 lt-true a b e = grind (arith, e)
@@ -26,11 +27,6 @@ lt-false : (a b : ℕ) → nat_lt a b ≡ false → b ≤ a
 lt-false a b e = grind (arith, e)
 
 -- ---- the columns
-
-past : (cs : List ℤ) (j : ℕ) → length cs ≤ j → get_or cs j (pos 0) ≡ pos 0
-past [] j l = refl
-past (c ∷ cs) zero l = absurd (omega (arith, l))
-past (c ∷ cs) (suc j) l = past cs j (omega (arith, l))
 
 among-range : (from count j : ℕ) → from ≤ j → j < from + count → is_among j (range_with_len from count) ≡ true
 among-range from zero j low high = absurd (omega (arith, low, high))

@@ -2,7 +2,7 @@
 use Rattle.std.proofs.Common.{◌≡◌, ◌<◌, get_or, length, inl, inr, ℕ, zero, suc, List, [], ◌∷◌, true, refl, sym, subst, ◌∙◌, arith}
 use Rattle.ac_syntax.specs.declared.tree.Pair.{Pair}
 use Rattle.ac_syntax.specs.declared.tree.Position.{Position}
-use Rattle.ac_paths.specs.Pairs.{In}
+use Rattle.ac_forms.specs.Members.{IsAmong}
 use Rattle.ac_claims.specs.declared.types.Proof.{Proof}
 use Rattle.ac_setting.specs.Statements.{AreRecurring}
 use Rattle.ac_decided.specs.Statements.{AreNamed}
@@ -17,6 +17,7 @@ use Rattle.ac_stopping.specs.Parts.{AreAll, order_of, part_of}
 use Rattle.ac_stopping.specs.Stopped.{AreThose, NoMismatches, SearchesEqual}
 use Rattle.ac_stopping.specs.declared.part.ProofPart.{ProofPart}
 use Rattle.ac_matched.specs.Matches.{IsMatched, IsPartOf}
+use Rattle.ac_hull.proofs.Thinnings.{among_place}
 
 -- all recurrence pairs of a widening are those of the graph
 are_all : (s : Search) (w : Widening) → IsSearch s → IsWideningOf s.pair.now w → AreAll s.graph.now.recurrent w.recurrent
@@ -45,15 +46,10 @@ is_matched s output p proof h of named none equal =
     })
 
 -- an output that is named with a claim of the part
-pub named_one : (p : ProofPart) (proof : Proof) (output i : ℕ) → In (output, i) proof.outputs → part_of p i ≡ true → AreNamed proof (part_of p) (output ∷ [])
-named_one p proof output i n within o (inl e) = (i, subst (λ (x : ℕ). In {A = ℕ × ℕ} (x, i) proof.outputs) (sym e) n, within)
+pub named_one : (p : ProofPart) (proof : Proof) (output i : ℕ) → IsAmong (output, i) proof.outputs → part_of p i ≡ true → AreNamed proof (part_of p) (output ∷ [])
+named_one p proof output i n within o (inl e) = (i, subst (λ (x : ℕ). IsAmong {A = ℕ × ℕ} (x, i) proof.outputs) (sym e) n, within)
 named_one p proof output i n within o (inr m) = absurd m
-
-in_get : {A : Type 0} (xs : List A) (i : ℕ) (d : A) → i < length xs → In (get_or xs i d) xs
-in_get [] i d l = absurd (omega arith)
-in_get (y ∷ xs) zero d l = inl refl
-in_get (y ∷ xs) (suc i) d l = inr (in_get xs i d (omega arith))
 
 pub named_at : (p : ProofPart) (proof : Proof) (output : ℕ) (os : List (ℕ × ℕ)) (at : ℕ) (d : ℕ × ℕ) → os ≡ proof.outputs → at < length os → ((get_or os at d).0 ≡ output) × (part_of p (get_or os at d).1 ≡ true) → AreNamed proof (part_of p) (output ∷ [])
 named_at p proof output os at d e l h =
-    named_one p proof output (get_or os at d).1 (subst (λ (x : ℕ). In {A = ℕ × ℕ} (x, (get_or os at d).1) proof.outputs) h.0 (subst (In (get_or os at d)) e (in_get os at d l))) h.1
+    named_one p proof output (get_or os at d).1 (subst (λ (x : ℕ). IsAmong {A = ℕ × ℕ} (x, (get_or os at d).1) proof.outputs) h.0 (subst (IsAmong (get_or os at d)) e (among_place os at d l))) h.1

@@ -1,6 +1,6 @@
 //! The recurrence pairs of claims, with the template rows with which a search widens there.
 ghost use Rattle.std.specs.Prelude.{IfOk, OnOk};
-ghost use Rattle.ac_paths.specs.Pairs.{In};
+ghost use Rattle.ac_forms.specs.Members.{IsAmong};
 ghost use Rattle.ac_widen.specs.Combinations.{Each};
 ghost use Rattle.ac_refuted.specs.Searches.{IsSearch, IsWidenedBy};
 
@@ -30,7 +30,7 @@ fn push_claimed(
     made: &mut Items<Recurrence>,
 ) -> Result<(), AllocError>
     requires given { IsSearch given.now }
-    requires among { In key.now given.now.graph.now.recurrent }
+    requires among { IsAmong key.now given.now.graph.now.recurrent }
     ensures { OnOk result (Each (IsWidenedBy given.now) made.old → Each (IsWidenedBy given.now) made.new) }
 {
     if is_claimed(claims, key) {

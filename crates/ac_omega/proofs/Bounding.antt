@@ -137,15 +137,15 @@ choice-met (choice.Shadow z) s = tt
 choice-met (choice.Splinter z i k) s = tt
 
 -- numbers whose product is at most 2^120 are not large
-pub modest : (s : Maxima) (rows : List Row) (hs : List Choice) → s.factor * s.number ≤ 2 ^ 120 → Bounds s rows → AreModuliWithin s.factor hs → AreWithin2To120 rows hs
-modest s rows hs l b m = record { factor = s.factor; number = s.number; product = l; rows = b; moduli = m }
+pub within_2_to_120 : (s : Maxima) (rows : List Row) (hs : List Choice) → s.factor * s.number ≤ 2 ^ 120 → Bounds s rows → AreModuliWithin s.factor hs → AreWithin2To120 rows hs
+within_2_to_120 s rows hs l b m = record { factor = s.factor; number = s.number; product = l; rows = b; moduli = m }
 
 mutual
   unfolding IsWithin IsWithin2To120
 
   pub within-modest : (s : Maxima) (r : Refutation) → s.factor * s.number ≤ 2 ^ 120 → IsWithin s r → IsWithin2To120 r
-  within-modest s (Absurd c) l w = modest s c.rows [] l w tt
-  within-modest s (Open' c hs n below) l w = (modest s c.rows hs l w.0 w.1, each-modest s below l w.2)
+  within-modest s (Absurd c) l w = within_2_to_120 s c.rows [] l w tt
+  within-modest s (Open' c hs n below) l w = (within_2_to_120 s c.rows hs l w.0 w.1, each-modest s below l w.2)
 
   each-modest : (s : Maxima) {m : _} (k : Row_of-Refutation m) → s.factor * s.number ≤ 2 ^ 120 → AreAllWithin s k → AreAllWithin2To120 k
   each-modest s end_of-Refutation l w = tt

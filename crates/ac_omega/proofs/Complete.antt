@@ -22,10 +22,12 @@ use Rattle.ac_exact.specs.Tests.{economical, full, pairs_fit}
 use Rattle.ac_exact.proofs.Covering.{covers-needed}
 use Rattle.ac_exact.proofs.Implying.{economical-suffices, full-suffices}
 use Rattle.ac_cert.proofs.Lifting.{lifts-somewhere}
-use Rattle.ac_omega.specs.Stops.{MadeOf}
-use Rattle.ac_refutations.specs.Alternatives.{Alternatives, first_equality, has_divisibility, common_modulus, residues_from, residues, splinters_from, count_to, last_splinter_fits, splinters_by, splinters_of, splinters, by_bounds, alternatives_by, alternatives_for, all_of, IsAmong}
+use Rattle.ac_forms.specs.Stops.{GivenOf, IfWide}
+use Rattle.ac_forms.specs.Members.{IsAmong}
+use Rattle.ac_refutations.specs.Alternatives.{Alternatives, first_equality, has_divisibility, common_modulus, residues_from, residues, splinters_from, count_to, last_splinter_fits, splinters_by, splinters_of, splinters, by_bounds, alternatives_by, alternatives_for, all_of}
 use Rattle.ac_omega.proofs.Moduli.{common-grows}
-use Rattle.ac_omega.proofs.Legal.{Allowed, all-allowed, among-allowed, equality-found, only-bounds}
+use Rattle.ac_omega.proofs.Legal.{Allowed, all-allowed, among-allowed, only-bounds}
+use Rattle.ac_refutations.proofs.Tried.{equality-found}
 use Rattle.ac_refutations.specs.declared.strategy.Strategy.{Strategy}
 use Rattle.ac_refutations.specs.declared.strategy.Strategy.TheVariants.{Full, Economical}
 
@@ -45,7 +47,7 @@ tried-among h (Some x ∷ tries) hs t e = by h x (all_of tries) hs t e (λ rest 
     by h x None hs t e go = absurd cc
     by h x (Some rest) hs t e go =
         let is : x ∷ rest ≡ hs = cc in
-        subst (IsAmong h) is (elim t [ inl same ↦ inl same | inr later ↦ inr (go rest later refl) ])
+        subst (IsAmong h) is (elim t [ inl same ↦ inl (sym same) | inr later ↦ inr (go rest later refl) ])
 
 tried-first : (h : Choice) (xs ys : Alternatives) → IsTried h xs → IsTried h (xs ++ ys)
 unfolding IsTried
@@ -206,7 +208,7 @@ listed-complete strategy z c hs made within e p l =
         subst (λ (x : ℕ). (v : ℤ) × Meets c.rows (set p x v)) a.column
         (lifts-somewhere h c.rows p w a.allowed (rw a.column (omega (arith, l))) (subst (λ (x : ℕ). Meets (left_by h c.rows) (set p x w)) (sym a.column) m))
 
-pub made-complete : (strategy : Strategy) (z : ℕ) (c : Conj) (res : Result (List Choice) FormStop) → IsWellMade c → z < c.columns → MadeOf res (all_of (alternatives_for strategy z c.rows))
+pub made-complete : (strategy : Strategy) (z : ℕ) (c : Conj) (res : Result (List Choice) FormStop) → IsWellMade c → z < c.columns → GivenOf res IfWide (all_of (alternatives_for strategy z c.rows))
     → IfOk res (λ hs. (p : List ℤ) → length p ≡ c.columns → ((v : ℤ) × Meets c.rows (set p z v)) ↔ ((h : Choice) × IsAmong h hs × (w : ℤ) × Meets (left_by h c.rows) (set p z w)))
 made-complete strategy z c (Ok hs) made within e = λ p l. listed-complete strategy z c hs made within e p l
 made-complete strategy z c (Err Wide) made within e = tt

@@ -16,7 +16,7 @@ use Rattle.ac_forms.specs.Tests.{normal_fits}
 use Rattle.ac_exact.specs.Tests.{greatest_failing, is_exact, pair_fits, pairs_fit}
 use Rattle.ac_refutations.specs.Alternatives.{Alternatives, first_equality, has_divisibility, alternatives_for, need_of, splinters_by, splinters}
 use Rattle.ac_omega.specs.Maxima.{Maxima, with_choice}
-use Rattle.ac_omega.proofs.Legal.{equality-found}
+use Rattle.ac_refutations.proofs.Tried.{equality-found}
 use Rattle.ac_omega.proofs.DifferenceForms.{unit-at}
 use Rattle.ac_omega.proofs.DifferenceRows.{IsOver, IsRow, IsRaw, Each}
 use Rattle.ac_omega.proofs.DifferenceNormals.{both-true, row-fits}

@@ -13,15 +13,12 @@ use Rattle.ac_omega.specs.Differences.{IsDifference}
 use Rattle.ac_omega.specs.Projection.{is_among}
 use Rattle.ac_omega.proofs.DifferenceForms.{IsUnit, unit-at, sum-difference, same-difference}
 use Rattle.ac_omega.proofs.DifferenceRows.{IsOver, IsRow, IsRaw, Each, at-turned, over-turned}
+use Rattle.ac_refutations.proofs.Tried.{or-none}
 
 -- the columns but for one
 unfoldable pub leave : ℕ → List ℕ → List ℕ
 leave z [] = []
 leave z (y ∷ ys) = cond (z == y) (leave z ys) (y ∷ leave z ys)
-
-or-none : (a b : Bool) → (a || b) ≡ false → (a ≡ false) × (b ≡ false)
-or-none true b e = absurd cc
-or-none false b e = (refl, e)
 
 pub leave-within : (z j : ℕ) (vars : List ℕ) → is_among j (leave z vars) ≡ false → (j ≡ z) ⊎ (is_among j vars ≡ false)
 unfolding leave

@@ -143,7 +143,7 @@ gone-cost strategy budget q k s made l d e =
     let c : k ≤ 0 + cost q.columns = (comes-as strategy budget q (Empty k s) made l d e).0 in
     subst (λ (x : ℕ). k ≤ x) (sym (cube-is q.columns)) (omega arith)
 
-few-times : (a b n : ℕ) → a ≤ 1 → b ≤ n → a * b ≤ n
+pub few-times : (a b n : ℕ) → a ≤ 1 → b ≤ n → a * b ≤ n
 few-times zero b n h g = omega arith
 few-times (suc zero) b n h g = omega arith
 few-times (suc (suc a)) b n h g = absurd (omega arith)

@@ -47,7 +47,7 @@ or-rest : (a b : Bool) → a ≡ false → (a || b) ≡ true → b ≡ true
 or-rest true b e f = absurd cc
 or-rest false b e f = f
 
-differ : {t : Bool} → t ≡ true → t ≡ false → ⊥
+pub differ : {t : Bool} → t ≡ true → t ≡ false → ⊥
 differ e f = cc
 
 -- columns without one of them

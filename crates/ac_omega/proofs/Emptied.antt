@@ -15,7 +15,8 @@ use Rattle.ac_forms.specs.Affine.{Affine, coef, scaled}
 use Rattle.ac_forms.specs.NormalForm.{absurd_rows, alike, has_absurd, has_clash, in_order, left_rows, normal_form}
 use Rattle.ac_forms.specs.NormalRows.{normal_row, normal_ge, normal_eq, normal_div, divided, reduced, signed, leads_negative, modular_content, trim, trim_onto}
 use Rattle.ac_forms.specs.Rows.{form_of, HasModulus, AreRowsOver, IsWellMade}
-use Rattle.ac_forms.specs.Traces.{IsOneOf, IsLeftOf}
+use Rattle.ac_forms.specs.Members.{IsAmong}
+use Rattle.ac_forms.specs.Traces.{IsLeftOf}
 use Rattle.ac_forms.specs.declared.conj.Conj.{Conj}
 use Rattle.ac_forms.specs.declared.row.Row.{Row}
 use Rattle.ac_forms.specs.declared.row.Row.TheVariants.{Eq, Div, Ge}
@@ -187,7 +188,7 @@ no-columns c made normal a h = by c.rows made a h normal.1
     from : (t u : Bool) (r : Row) (rs : List Row) → are_absurd (r ∷ rs) ≡ false → r ∷ rs ≡ cond t absurd_rows (cond u absurd_rows (dedup alike (in_order (left_rows raw)))) → IsLeftOf r raw
     from true u r rs a e = absurd (let f : are_absurd absurd_rows ≡ false = subst (λ x. are_absurd x ≡ false) e a in cc)
     from false true r rs a e = absurd (let f : are_absurd absurd_rows ≡ false = subst (λ x. are_absurd x ≡ false) e a in cc)
-    from false false r rs a e = left_trace r raw (order_trace r (left_rows raw) (joined_trace r (in_order (left_rows raw)) (subst (IsOneOf r) e (inl refl))))
+    from false false r rs a e = left_trace r raw (order_trace r (left_rows raw) (joined_trace r (in_order (left_rows raw)) (subst (IsAmong r) e (inl refl))))
 
     by : (rows : List Row) → AreRowsOver c.columns rows → are_absurd rows ≡ false → ((z : ℕ) → z < c.columns → is_present z rows ≡ false) → rows ≡ normal_form raw → rows ≡ []
     by [] made a h e = refl

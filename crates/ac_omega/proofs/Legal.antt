@@ -1,9 +1,9 @@
 -- Each choice that is listed is legal.
-use Rattle.std.proofs.Common.{◌≡◌, inl, inr, add-zero, zero-add, ℕ, zero, suc, ◌+◌, ◌<◌, ℤ, pos, Bool, true, false, cond, not, ◌&&◌, ◌||◌, List, [], ◌∷◌, ◌++◌, slice_get, Option, Some, None, arith, refl, ap, subst}
+use Rattle.std.proofs.Common.{◌≡◌, inl, inr, add-zero, zero-add, ℕ, zero, suc, ◌+◌, ◌<◌, ℤ, pos, Bool, true, false, cond, not, ◌&&◌, ◌||◌, List, [], ◌∷◌, ◌++◌, slice_get, Option, Some, None, arith, refl, sym, ap, subst}
 use Rattle.std.specs.Prelude.{unsigned_abs, option_map, Result, Ok, Err, IfOk}
 use Rattle.ac_forms.specs.declared.stop.FormStop.{FormStop}
 use Rattle.ac_forms.specs.declared.stop.FormStop.TheVariants.{Wide, Memory}
-use Rattle.ac_omega.specs.Stops.{MadeOf}
+use Rattle.ac_forms.specs.Stops.{GivenOf, IfWide}
 use Rattle.std.specs.Int.{◌∣◌}
 use Rattle.std.proofs.lemmas.Int.{ints}
 use Rattle.std.proofs.lemmas.Bool.{lt-ltb}
@@ -23,11 +23,13 @@ use Rattle.ac_cert.specs.Bounds.{is_low, only_bounds, is_one_sided}
 use Rattle.ac_forms.specs.Columns.{has_column}
 use Rattle.ac_cert.specs.Choices.{column_of, are_absurd, is_equality_of, is_lower_row, is_common_multiple, allows, is_legal}
 use Rattle.ac_cert.proofs.Truths.{true-le}
-use Rattle.ac_refutations.specs.Alternatives.{Alternatives, first_equality, has_divisibility, lcm, common_modulus, residues_from, residues, splinters_from, count_to, last_splinter, last_splinter_fits, need_of, splinters_by, splinters_of, splinters, by_bounds, alternatives_by, alternatives_for, all_of, IsAmong}
+use Rattle.ac_forms.specs.Members.{IsAmong}
+use Rattle.ac_refutations.specs.Alternatives.{Alternatives, first_equality, has_divisibility, lcm, common_modulus, residues_from, residues, splinters_from, count_to, last_splinter, last_splinter_fits, need_of, splinters_by, splinters_of, splinters, by_bounds, alternatives_by, alternatives_for, all_of}
 use Rattle.ac_omega.specs.Walk.{IsTried}
 use Rattle.ac_omega.proofs.CommonMultiples.{IsLcm-lcm, lcm-positive}
 use Rattle.ac_omega.proofs.Moduli.{common-cons, row-grows, size_positive}
 use Rattle.ac_refutations.specs.declared.strategy.Strategy.{Strategy}
+use Rattle.ac_refutations.proofs.Tried.{equality-found, both-true, not-true, or-none}
 
 -- the choice takes the column, and the rows allow it
 pub record Allowed (z : ℕ) (rows : List Row) (h : Choice) : Type 0 where
@@ -50,36 +52,13 @@ among-allowed z rows [] (x ∷ hs) h a e i = absurd cc
 among-allowed z rows (None ∷ tries) hs h a e i = absurd cc
 among-allowed z rows (Some x ∷ tries) hs h a e i =
     let m = more_of x (all_of tries) hs e in
-    elim (subst (IsAmong h) m.2 i) [ inl is ↦ subst (Allowed z rows) is a.0 | inr later ↦ among-allowed z rows tries m.0 h a.1 m.1 later ]
+    elim (subst (IsAmong h) m.2 i) [ inl is ↦ subst (Allowed z rows) (sym is) a.0 | inr later ↦ among-allowed z rows tries m.0 h a.1 m.1 later ]
 
 allowed-both : (z : ℕ) (rows : List Row) (xs ys : Alternatives) → AreAllowed z rows xs → AreAllowed z rows ys → AreAllowed z rows (xs ++ ys)
 unfolding AreAllowed
 allowed-both z rows [] ys a b = b
 allowed-both z rows (None ∷ xs) ys a b = allowed-both z rows xs ys a b
 allowed-both z rows (Some h ∷ xs) ys a b = (a.0, allowed-both z rows xs ys a.1 b)
-
--- the place that is found has an equality with the column
-pub equality-found : (z i j : ℕ) (rows : List Row) → first_equality z i rows ≡ Some j → (k : ℕ) × (j ≡ i + k) × (is_equality_of z (slice_get rows k) ≡ true)
-equality-found z i j [] e = absurd cc
-equality-found z i j (Eq f ∷ rs) e = by z i j (Eq f) rs (has_column z (Eq f)) refl (equality-found z (suc i) j rs) e
-  where
-    by : (z i j : ℕ) (r : Row) (rs : List Row) (t : Bool) → is_equality_of z (Some r) ≡ t → (first_equality z (suc i) rs ≡ Some j → (k : ℕ) × (j ≡ suc i + k) × (is_equality_of z (slice_get rs k) ≡ true))
-        → cond t (Some i) (first_equality z (suc i) rs) ≡ Some j → (k : ℕ) × (j ≡ i + k) × (is_equality_of z (slice_get (r ∷ rs) k) ≡ true)
-    by z i j r rs true is rest e = let s : i ≡ j = cc in (zero, omega arith, is)
-    by z i j r rs false is rest e = let k = rest e in (suc k.0, omega (arith, k.1), k.2)
-equality-found z i j (Div m f ∷ rs) e = let k = equality-found z (suc i) j rs e in (suc k.0, omega (arith, k.1), k.2)
-equality-found z i j (Ge f ∷ rs) e = let k = equality-found z (suc i) j rs e in (suc k.0, omega (arith, k.1), k.2)
-
-both-true : (a b : Bool) → a ≡ true → b ≡ true → (a && b) ≡ true
-both-true true b e f = f
-both-true false b e f = e
-
-not-true : (a : Bool) → a ≡ false → not a ≡ true
-not-true a e = rw e refl
-
-or-none : (a b : Bool) → (a || b) ≡ false → (a ≡ false) × (b ≡ false)
-or-none true b e = absurd cc
-or-none false b e = (refl, e)
 
 -- without equalities and divisibilities of the column only bounds have it
 pub only-bounds : (z i : ℕ) (rows : List Row) → first_equality z i rows ≡ None → has_divisibility z rows ≡ false → only_bounds z rows ≡ true
@@ -192,7 +171,7 @@ listed-legal strategy z c hs h made within absurd_not e i =
     let a = among-allowed z c.rows (alternatives_for strategy z c.rows) hs h (all-allowed strategy z c.rows (moduli_of c.columns c.rows made)) e i in
     both-true _ _ (not-true (are_absurd c.rows) absurd_not) (both-true _ _ (rw a.column (lt-ltb z c.columns within)) a.allowed)
 
-pub made-legal : (strategy : Strategy) (z : ℕ) (c : Conj) (res : Result (List Choice) FormStop) → IsWellMade c → z < c.columns → are_absurd c.rows ≡ false → MadeOf res (all_of (alternatives_for strategy z c.rows)) → IfOk res (λ hs. (h : Choice) → IsAmong h hs → is_legal h c ≡ true)
+pub made-legal : (strategy : Strategy) (z : ℕ) (c : Conj) (res : Result (List Choice) FormStop) → IsWellMade c → z < c.columns → are_absurd c.rows ≡ false → GivenOf res IfWide (all_of (alternatives_for strategy z c.rows)) → IfOk res (λ hs. (h : Choice) → IsAmong h hs → is_legal h c ≡ true)
 made-legal strategy z c (Ok hs) made within absurd_not e = λ h i. listed-legal strategy z c hs h made within absurd_not e i
 made-legal strategy z c (Err Wide) made within absurd_not e = tt
 made-legal strategy z c (Err (Memory want)) made within absurd_not e = tt

@@ -27,7 +27,8 @@ use Rattle.ac_omega.specs.Elimination.{elimination}
 use Rattle.ac_omega.specs.Projection.{is_among, DiffersIn, HoldsFor, HaveNone, MeetsRest}
 use Rattle.ac_forms.specs.Pieces.{IsInSome}
 use Rattle.ac_omega.specs.Sweep.{Projects, Pieces, sweep}
-use Rattle.ac_refutations.specs.Alternatives.{Alternatives, alternatives_for, all_of, IsAmong}
+use Rattle.ac_forms.specs.Members.{IsAmong}
+use Rattle.ac_refutations.specs.Alternatives.{Alternatives, alternatives_for, all_of}
 use Rattle.ac_omega.specs.Maxima.{Maxima}
 use Rattle.ac_omega.specs.Walk.{IsTried, IsWhole, Covers, Empty, walk}
 use Rattle.ac_omega.proofs.Walks.{walk-gone}
@@ -40,6 +41,7 @@ use Rattle.ac_omega.proofs.Nexts.{next-among, allowed-each}
 use Rattle.ac_omega.proofs.Present.{next-within}
 use Rattle.ac_omega.proofs.Sweeps.{sweep-exact, AtEnd}
 use Rattle.ac_refutations.specs.declared.strategy.Strategy.{Strategy}
+use Rattle.ac_forms.proofs.Trimmed.{or-false}
 
 -- a dot product, where the points agree but at coefficients that are 0
 dot-agree : (cs p q : List ℤ) → length q ≡ length p → ((j : ℕ) → (get_or q j (pos 0) ≡ get_or p j (pos 0)) ⊎ (get_or cs j (pos 0) ≡ pos 0)) → dot cs q ≡ dot cs p
@@ -62,10 +64,6 @@ holds-agree : (r : Row) (p q : List ℤ) → length q ≡ length p → ((j : ℕ
 holds-agree (Eq f) p q l h m = rw (value-agree f p q l h) at m
 holds-agree (Div n f) p q l h m = rw (value-agree f p q l h) at m
 holds-agree (Ge f) p q l h m = rw (value-agree f p q l h) at m
-
-or-false : (a b : Bool) → (a || b) ≡ false → (a ≡ false) × (b ≡ false)
-or-false true b e = absurd cc
-or-false false b e = (refl, e)
 
 meets-agree : (rows : List Row) (p q : List ℤ) → length q ≡ length p → ((j : ℕ) → (get_or q j (pos 0) ≡ get_or p j (pos 0)) ⊎ (is_present j rows ≡ false)) → Meets rows q → Meets rows p
 meets-agree [] p q l h m = tt
@@ -120,7 +118,7 @@ among-tried h (Some x ∷ hs) gs e i = by (all_of hs) e (λ rest f j. among-trie
     by None e f = absurd cc
     by (Some rest) e f =
         let s : x ∷ rest ≡ gs = cc in
-        elim (subst (IsAmong h) (sym s) i) [ inl is ↦ inl (ap (λ y. Some y) is) | inr later ↦ inr (f rest refl later) ]
+        elim (subst (IsAmong h) (sym s) i) [ inl is ↦ inl (ap (λ y. Some y) (sym is)) | inr later ↦ inr (f rest refl later) ]
 
 -- the point with another number for one of the columns
 set-differs : (vars : List ℕ) (p q : List ℤ) (z : ℕ) (v : ℤ) → is_among z vars ≡ true → DiffersIn vars p q → DiffersIn vars p (set q z v)

@@ -138,7 +138,7 @@ then-some : {A B : Type 0} (o : Option A) (f : A → Option B) (z : B) → optio
 then-some None f z e = absurd cc
 then-some (Some x) f z e = (x, refl, e)
 
-first-true : (a b : Bool) → (a && b) ≡ true → a ≡ true
+pub first-true : (a b : Bool) → (a && b) ≡ true → a ≡ true
 first-true true b e = refl
 first-true false b e = absurd cc
 

@@ -68,13 +68,6 @@ Settles (Err (stop.Overflow c)) q w = (c ≡ q) × (IsWide q w ⊎ IsLarge w)
 Settles (Err (stop.Spent c k)) q w = (c ≡ q) × IsSpent k w
 Settles (Err (stop.Memory e)) q w = Unit {0}
 
--- there is a certificate exactly where the greatest numbers are not large
-abbrev pub Certifies : Result (Tree Absurd) Halt → Maxima → Type 0
-Certifies (Ok t) s = s.factor * s.number ≤ 2 ^ 120
-Certifies (Err halt.Wide) s = 2 ^ 120 < s.factor * s.number
-Certifies (Err (halt.Spent c)) s = ⊥
-Certifies (Err (halt.Memory e)) s = Unit {0}
-
 abbrev pub IfEmpty : Decided → Type 0 → Type 0
 IfEmpty (answer.Empty s) P = P
 IfEmpty (answer.Point p) P = Unit {0}

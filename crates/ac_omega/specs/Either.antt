@@ -1,15 +1,15 @@
 -- A question that is asked of two walks: of the second where the first stops. An answer is that of one of the two, a stop the second one's. Want of memory may come at any time.
-use Rattle.std.specs.Prelude.{◌≡◌, ◌⊎◌, ℕ, List, Result, Ok, Err}
+use Rattle.std.specs.Prelude.{◌≡◌, ◌⊎◌, ℕ, List, Result, MatchResult}
 use Rattle.ac_forms.specs.declared.conj.Conj.{Conj}
 use Rattle.ac_cert.specs.declared.choose.Choice.{Choice}
 use Rattle.ac_omega.specs.declared.decision.Decided.{Decided}
 use Rattle.ac_omega.specs.declared.decision.Decision.{Decision}
 use Rattle.ac_omega.specs.declared.piece.Piece.{Piece}
 use Rattle.ac_omega.specs.declared.pieces.Stop.{Stop}
-use Rattle.ac_omega.specs.declared.pieces.Stop.TheVariants as stop
 use Rattle.ac_omega.specs.Answers.{Eliminates}
 use Rattle.ac_omega.specs.Decisions.{Finds, Settles, IsWide, IsLarge}
 use Rattle.ac_omega.specs.Maxima.{Maxima}
+use Rattle.ac_omega.specs.Stops.{UnlessMemory}
 use Rattle.ac_omega.specs.Sweep as whole
 use Rattle.ac_omega.specs.Walk as def
 
@@ -25,20 +25,15 @@ StopsDeciding q w = (IsWide q w ⊎ IsLarge w) ⊎ ((j : ℕ) × (w ≡ def.Spen
 abbrev pub StopsEliminating : whole.Projected Conj Choice → Type 0
 StopsEliminating w = (w ≡ whole.Wide) ⊎ ((j : ℕ) × (w ≡ whole.Spent j))
 
+-- an answer of the first walk; or the first one stops, and it is the second's
+abbrev pub OfEither : {T : Type 0} → Result T Stop → (first stops second : Type 0) → Type 0
+OfEither r first stops second = MatchResult r (λ _. first ⊎ (stops × second)) (λ stop. UnlessMemory stop (stops × second))
+
 abbrev pub FindsEither : Result Decided Stop → Conj → (first second : def.Walked Maxima) → Type 0
-FindsEither (Ok d) q first second = Finds (Ok d) q first ⊎ (StopsFinding q first × Finds (Ok d) q second)
-FindsEither (Err (stop.Overflow c)) q first second = StopsFinding q first × Finds (Err (stop.Overflow c)) q second
-FindsEither (Err (stop.Spent c k)) q first second = StopsFinding q first × Finds (Err (stop.Spent c k)) q second
-FindsEither (Err (stop.Memory e)) q first second = Unit {0}
+FindsEither r q first second = OfEither r (Finds r q first) (StopsFinding q first) (Finds r q second)
 
 abbrev pub SettlesEither : Result Decision Stop → Conj → (first second : def.Walked Maxima) → Type 0
-SettlesEither (Ok d) q first second = Settles (Ok d) q first ⊎ (StopsDeciding q first × Settles (Ok d) q second)
-SettlesEither (Err (stop.Overflow c)) q first second = StopsDeciding q first × Settles (Err (stop.Overflow c)) q second
-SettlesEither (Err (stop.Spent c k)) q first second = StopsDeciding q first × Settles (Err (stop.Spent c k)) q second
-SettlesEither (Err (stop.Memory e)) q first second = Unit {0}
+SettlesEither r q first second = OfEither r (Settles r q first) (StopsDeciding q first) (Settles r q second)
 
 abbrev pub EliminatesEither : Result (List Piece) Stop → Conj → (first second : whole.Projected Conj Choice) → Type 0
-EliminatesEither (Ok pieces) q first second = Eliminates (Ok pieces) q first ⊎ (StopsEliminating first × Eliminates (Ok pieces) q second)
-EliminatesEither (Err (stop.Overflow c)) q first second = StopsEliminating first × Eliminates (Err (stop.Overflow c)) q second
-EliminatesEither (Err (stop.Spent c k)) q first second = StopsEliminating first × Eliminates (Err (stop.Spent c k)) q second
-EliminatesEither (Err (stop.Memory e)) q first second = Unit {0}
+EliminatesEither r q first second = OfEither r (Eliminates r q first) (StopsEliminating first) (Eliminates r q second)

@@ -56,13 +56,6 @@ Searches (Err halt.Wide) w = w ≡ def.Wide
 Searches (Err (halt.Spent c)) w = (j : ℕ) × (w ≡ def.Spent j) × (c ≡ min j (2 ^ 64 - 1))
 Searches (Err (halt.Memory e)) w = Unit {0}
 
--- what a choice leaves; too wide exactly where there is none
-abbrev pub Leaves : Result Conj Halt → Option Conj → Type 0
-Leaves (Ok c) made = made ≡ Some c
-Leaves (Err halt.Wide) made = made ≡ None
-Leaves (Err (halt.Spent c)) made = ⊥
-Leaves (Err (halt.Memory e)) made = Unit {0}
-
 -- each of the choices is legal
 abbrev pub AreLegal : Alternatives → Conj → Type 0
 AreLegal hs c = (h : Choice) → IsTried h hs → is_legal h c ≡ true

@@ -1,16 +1,17 @@
--- What an answer of this crate says of what is to be made. Want of memory may come at any time.
-use Rattle.std.specs.Prelude.{◌≡◌, Option, Some, None, Result, Ok, Err}
-use Rattle.ac_forms.specs.declared.stop.FormStop.{FormStop}
-use Rattle.ac_forms.specs.declared.stop.FormStop.TheVariants.{Wide, Memory}
+-- What the stops of a walk and of a question tell. Want of memory may come at any time, and tells nothing.
+use Rattle.ac_omega.specs.declared.halt.Halt.{Halt}
+use Rattle.ac_omega.specs.declared.halt.Halt.TheVariants.{Wide, Spent, Memory}
+use Rattle.ac_omega.specs.declared.pieces.Stop.{Stop}
+use Rattle.ac_omega.specs.declared.pieces.Stop.TheVariants as stop
 
--- Ok with the value that is to be made; Wide exactly where there is none
-abbrev pub MadeOf : {T : Type 0} → Result T FormStop → Option T → Type 0
-MadeOf (Ok x) made = made ≡ Some x
-MadeOf (Err Wide) made = made ≡ None
-MadeOf (Err (Memory e)) made = Unit {0}
+-- a number leaves `i128`; no budget is spent
+abbrev pub OnlyWide : Halt → Type 0 → Type 0
+OnlyWide Wide P = P
+OnlyWide (Spent c) P = ⊥
+OnlyWide (Memory e) P = Unit {0}
 
--- Ok where the value has become the one that is to be made; Wide exactly where there is none
-abbrev pub Becomes : {A T : Type 0} → Result A FormStop → Option T → T → Type 0
-Becomes (Ok x) made new = made ≡ Some new
-Becomes (Err Wide) made new = made ≡ None
-Becomes (Err (Memory e)) made new = Unit {0}
+-- P, where the stop is not want of memory
+abbrev pub UnlessMemory : Stop → Type 0 → Type 0
+UnlessMemory (stop.Overflow c) P = P
+UnlessMemory (stop.Spent c k) P = P
+UnlessMemory (stop.Memory e) P = Unit {0}

@@ -1,11 +1,12 @@
-ghost use Rattle.std.specs.Prelude.{◌≡◌, ◌+◌, ◌^◌, ◌≤◌, ℤ, List, [], IfOk, IfErr, IfSome, IsSome, MatchResult};
+ghost use Rattle.std.specs.Prelude.{◌≡◌, ◌+◌, ◌*◌, ◌^◌, ◌<◌, ◌≤◌, ℤ, List, [], IfOk, IfErr, IfSome, IsSome, MatchResult};
 ghost use Rattle.ac_omega.specs.Differences.{AreDifferences, StopsBelow};
 ghost use Rattle.ac_forms.specs.Rows.{IsWellMade, CanTest};
 ghost use Rattle.ac_cert.specs.Accepted.{Accepts, absurd_refusals};
 ghost use Rattle.ac_cert.specs.Points.{IsPoint};
 ghost use Rattle.ac_omega.specs.Elimination.{eliminating};
 ghost use Rattle.ac_omega.specs.Searching.{Searches, IfFound, IfWalkedEmpty, IsRefuted, IsNormal, WantsPoint, WantsRefutation, columns_to};
-ghost use Rattle.ac_omega.specs.Decisions.{Decides, Finds, Settles, Certifies, IfEmpty, IfPoint, IfCertified, IfMet, walk_of};
+ghost use Rattle.ac_omega.specs.Stops.{OnlyWide};
+ghost use Rattle.ac_omega.specs.Decisions.{Decides, Finds, Settles, IfEmpty, IfPoint, IfCertified, IfMet, walk_of};
 ghost use Rattle.ac_omega.specs.Walk.{walk};
 ghost use Rattle.ac_omega.specs.Within.{Bounds, HaveRisen, IsWithin};
 ghost use Rattle.ac_refutations.specs.Refutations.{IsRefutationOf};
@@ -270,7 +271,7 @@ fn certificate(
     requires refuted { IsRefutationOf conj.now refutation.now }
     requires within { IsWithin all.now refutation.now }
     requires bound { Bounds all.now conj.now.rows }
-    ensures exact { Certifies result all.now }
+    ensures exact { MatchResult result (λ _. all.now.factor * all.now.number ≤ 2 ^ 120) (λ stop. OnlyWide stop (2 ^ 120 < all.now.factor * all.now.number)) }
     ensures accepted { IfOk result (λ tree. Accepts tree absurd_refusals conj.now) }
 {
     if are_large(all) {

@@ -24,5 +24,4 @@ pub use listing::{choices, choices_by};
 pub use piece::Piece;
 pub use pieces::{Stop, eliminate, eliminate_by};
 pub use ranking::are_columns;
-pub use scan::are_absurd;
 pub use settling::{settle, settle_pieces, settle_point};

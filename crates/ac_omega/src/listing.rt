@@ -2,8 +2,9 @@ ghost use Rattle.std.specs.Prelude.{◌≡◌, ◌<◌, ℤ, List, length, set, 
 ghost use Rattle.ac_forms.specs.Rows.{IsWellMade, HaveModuli, Meets};
 ghost use Rattle.ac_cert.specs.declared.choose.Choice.{Choice};
 ghost use Rattle.ac_cert.specs.Choices.{are_absurd, is_legal, left_by};
-ghost use Rattle.ac_omega.specs.Stops.{MadeOf};
-ghost use Rattle.ac_refutations.specs.Alternatives.{alternatives_for, all_of, IsAmong};
+ghost use Rattle.ac_forms.specs.Stops.{GivenOf, IfWide};
+ghost use Rattle.ac_forms.specs.Members.{IsAmong};
+ghost use Rattle.ac_refutations.specs.Alternatives.{alternatives_for, all_of};
 ghost use Rattle.ac_refutations.specs.declared.strategy.Strategy.TheVariants.{Full};
 
 use crate::cursor::{Next, advance, first};
@@ -22,7 +23,7 @@ pub fn choices(alloc: Global, conj: &Conj, z: usize) -> Result<Items<Choice>, Fo
     requires made { IsWellMade conj.now }
     requires column { z < conj.now.columns }
     requires not_absurd { are_absurd conj.now.rows ≡ false }
-    ensures exact { MadeOf result (all_of (alternatives_for Full z conj.now.rows)) }
+    ensures exact { GivenOf result IfWide (all_of (alternatives_for Full z conj.now.rows)) }
     ensures legal { IfOk result (λ hs. (h : Choice) → IsAmong h hs → is_legal h conj.now ≡ true) }
     ensures complete { IfOk result (λ hs. (p : List ℤ) → length p ≡ conj.now.columns → ((v : ℤ) × Meets conj.now.rows (set p z v)) ↔ ((h : Choice) × IsAmong h hs × (w : ℤ) × Meets (left_by h conj.now.rows) (set p z w))) }
 {
@@ -42,7 +43,7 @@ pub fn choices_by(
     requires made { IsWellMade conj.now }
     requires column { z < conj.now.columns }
     requires not_absurd { are_absurd conj.now.rows ≡ false }
-    ensures exact { MadeOf result (all_of (alternatives_for strategy z conj.now.rows)) }
+    ensures exact { GivenOf result IfWide (all_of (alternatives_for strategy z conj.now.rows)) }
     ensures legal { IfOk result (λ hs. (h : Choice) → IsAmong h hs → is_legal h conj.now ≡ true) }
     ensures complete { IfOk result (λ hs. (p : List ℤ) → length p ≡ conj.now.columns → ((v : ℤ) × Meets conj.now.rows (set p z v)) ↔ ((h : Choice) × IsAmong h hs × (w : ℤ) × Meets (left_by h conj.now.rows) (set p z w))) }
 {
@@ -57,7 +58,7 @@ fn listed(
     rows: &[Row],
 ) -> Result<Items<Choice>, FormStop>
     requires { HaveModuli rows.now }
-    ensures { MadeOf result (all_of (alternatives_for strategy z rows.now)) }
+    ensures { GivenOf result IfWide (all_of (alternatives_for strategy z rows.now)) }
 {
     let mut made = Items::new(alloc);
     let mut cursor = first(strategy, z, rows);

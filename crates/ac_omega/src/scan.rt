@@ -3,24 +3,13 @@ ghost use Rattle.ac_forms.specs.Fits.{Fits};
 ghost use Rattle.ac_forms.specs.Rows.{HasModulus, HaveModuli};
 ghost use Rattle.ac_cert.specs.Bounds.{lows, highs, is_none, is_one_sided};
 ghost use Rattle.ac_forms.specs.Columns.{has_column};
-ghost use Rattle.ac_cert.specs.Choices.{are_absurd, is_equality_of, is_lower_row};
+ghost use Rattle.ac_cert.specs.Choices.{is_equality_of, is_lower_row};
 ghost use Rattle.ac_cert.specs.ChoiceFits.{sizes_fit};
 ghost use Rattle.ac_omega.specs.CommonMultiple.{IsLcm};
 ghost use Rattle.ac_refutations.specs.Alternatives.{first_equality, has_divisibility, lcm, common_modulus, greatest_size, last_splinter, last_splinter_fits};
 
 use ac_forms::{Row, has_column};
 use ac_integers::greatest_common_divisor;
-
-/// Whether rows are those of the absurd conjunction: `-1 >= 0` alone.
-#[tactic(auto, using(ac_integers::proofs::Bits::again_128))]
-pub fn are_absurd(rows: &[Row]) -> bool
-    ensures { result ≡ are_absurd rows.now }
-{
-    match rows {
-        [Row::Ge(form)] => form.columns() == 0 && form.konst() == -1,
-        _ => false,
-    }
-}
 
 /// Whether a row is an equality that has a column.
 fn is_equality_of(z: usize, row: &Row) -> bool

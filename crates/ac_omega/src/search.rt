@@ -4,7 +4,9 @@ ghost use Rattle.ac_forms.specs.declared.conj.Conj.{Conj};
 ghost use Rattle.ac_cert.specs.Choices.{are_absurd, is_legal, left_by};
 ghost use Rattle.ac_cert.specs.ChoiceFits.{after_choice};
 ghost use Rattle.ac_cert.specs.Points.{IsPoint};
-ghost use Rattle.ac_omega.specs.Searching.{lifted_to, Leaves, IfFound, IfWalkedEmpty, IsRefuted, IsRefutedBehind, HasGrown, AreLegal, IsNormal, SettleFor, WantsPoint, WantsRefutation, wanted, with_choice_behind, with_refutation};
+ghost use Rattle.ac_forms.specs.Stops.{GivenOf};
+ghost use Rattle.ac_omega.specs.Stops.{OnlyWide};
+ghost use Rattle.ac_omega.specs.Searching.{lifted_to, IfFound, IfWalkedEmpty, IsRefuted, IsRefutedBehind, HasGrown, AreLegal, IsNormal, SettleFor, WantsPoint, WantsRefutation, wanted, with_choice_behind, with_refutation};
 ghost use Rattle.ac_omega.specs.declared.piece.Piece.{Piece};
 ghost use Rattle.ac_omega.specs.Visits.{Visits, Tried, visiting, seen, at_leaf};
 ghost use Rattle.ac_refutations.specs.Alternatives.{alternatives_for};
@@ -17,8 +19,7 @@ use crate::extent::{Maxima, with_choice, with_rows};
 use crate::halt::Halt;
 use crate::piece::Piece;
 use crate::ranking::next_column;
-use crate::scan::are_absurd;
-use ac_cert::{Choice, StepStop};
+use ac_cert::{Choice, StepStop, are_absurd};
 use ac_forms::{Conj, FormStop, Row};
 use ac_items::Items;
 use ac_refutations::{Refutation, Strategy};
@@ -93,7 +94,7 @@ fn zeros(alloc: Global, columns: usize) -> Result<Vec<i128>, AllocError>
 pub(crate) fn left_by(alloc: Global, conj: &Conj, choice: &Choice) -> Result<Conj, Halt>
     requires made { IsWellMade conj.now }
     requires legal { is_legal choice.now conj.now ≡ true }
-    ensures exact { Leaves result (after_choice choice.now conj.now) }
+    ensures exact { GivenOf result OnlyWide (after_choice choice.now conj.now) }
     ensures made { IfOk result (λ rest. IsWellMade rest) }
     ensures columns { IfOk result (λ rest. rest.columns ≡ conj.now.columns) }
     ensures normal { IfOk result (λ rest. IsNormal rest) }

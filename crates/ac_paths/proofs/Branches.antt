@@ -26,37 +26,37 @@ use Rattle.ac_paths.specs.Going.{Pairing, cases_of, cases_from, model_of}
 use Rattle.ac_paths.specs.Places.{CellForms, levels_to, levels_at}
 use Rattle.ac_paths.specs.declared.path.Path.{Path}
 use Rattle.ac_paths.specs.declared.path.Side.{Side}
-pub use Rattle.ac_paths.specs.Pairs.{In}
+use Rattle.ac_forms.specs.Members.{IsAmong}
 use Rattle.ac_paths.proofs.Moving.{all-cons}
 use Rattle.ac_forms.specs.Pieces.{IsInSome}
 use Rattle.ac_forms.proofs.InPieces.{some-at}
 
-pub in_left : {A : Type 0} (x : A) (xs ys : List A) → In x xs → In x (xs ++ ys)
+pub in_left : {A : Type 0} (x : A) (xs ys : List A) → IsAmong x xs → IsAmong x (xs ++ ys)
 in_left x [] ys h = absurd h
 in_left x (y ∷ xs) ys (inl e) = inl e
 in_left x (y ∷ xs) ys (inr h) = inr (in_left x xs ys h)
 
-pub in_right : {A : Type 0} (x : A) (xs ys : List A) → In x ys → In x (xs ++ ys)
+pub in_right : {A : Type 0} (x : A) (xs ys : List A) → IsAmong x ys → IsAmong x (xs ++ ys)
 in_right x [] ys h = h
 in_right x (y ∷ xs) ys h = inr (in_right x xs ys h)
 
-pub in_map : {A B : Type 0} (f : A → B) (x : A) (xs : List A) → In x xs → In (f x) (map f xs)
+pub in_map : {A B : Type 0} (f : A → B) (x : A) (xs : List A) → IsAmong x xs → IsAmong (f x) (map f xs)
 in_map f x [] h = absurd h
 in_map f x (y ∷ xs) (inl e) = inl (ap f e)
 in_map f x (y ∷ xs) (inr h) = inr (in_map f x xs h)
 
-pub in_flat_map : {A B : Type 0} (f : A → List B) (x : A) (xs : List A) (y : B) → In x xs → In y (f x) → In y (flat_map f xs)
+pub in_flat_map : {A B : Type 0} (f : A → List B) (x : A) (xs : List A) (y : B) → IsAmong x xs → IsAmong y (f x) → IsAmong y (flat_map f xs)
 in_flat_map f x [] y h k = absurd h
-in_flat_map f x (z ∷ xs) y (inl e) k = subst (In y) (sym (flat_map-cons f z xs)) (in_left y (f z) (flat_map f xs) (subst (λ a. In y (f a)) e k))
-in_flat_map f x (z ∷ xs) y (inr h) k = subst (In y) (sym (flat_map-cons f z xs)) (in_right y (f z) (flat_map f xs) (in_flat_map f x xs y h k))
+in_flat_map f x (z ∷ xs) y (inl e) k = subst (IsAmong y) (sym (flat_map-cons f z xs)) (in_left y (f z) (flat_map f xs) (subst (λ a. IsAmong y (f a)) e k))
+in_flat_map f x (z ∷ xs) y (inr h) k = subst (IsAmong y) (sym (flat_map-cons f z xs)) (in_right y (f z) (flat_map f xs) (in_flat_map f x xs y h k))
 
-pub in_all : {A : Type 0} (o : Option A) (os : List (Option A)) (xs : List A) → all_of os ≡ Some xs → In o os → (x : A) × (o ≡ Some x) × In x xs
+pub in_all : {A : Type 0} (o : Option A) (os : List (Option A)) (xs : List A) → all_of os ≡ Some xs → IsAmong o os → (x : A) × (o ≡ Some x) × IsAmong x xs
 in_all o [] xs e h = absurd h
-in_all o (p ∷ os) xs e (inl i) = let b = all-cons p os xs e in (b.0, i ∙ b.2, subst (In b.0) (sym b.4) (inl refl))
-in_all o (p ∷ os) xs e (inr h) = let b = all-cons p os xs e in let r = in_all o os b.1 b.3 h in (r.0, r.1, subst (In r.0) (sym b.4) (inr r.2))
+in_all o (p ∷ os) xs e (inl i) = let b = all-cons p os xs e in (b.0, i ∙ b.2, subst (IsAmong b.0) (sym b.4) (inl refl))
+in_all o (p ∷ os) xs e (inr h) = let b = all-cons p os xs e in let r = in_all o os b.1 b.3 h in (r.0, r.1, subst (IsAmong r.0) (sym b.4) (inr r.2))
 
 -- a piece that a point meets
-pub somewhere_in : (qs : List (List Row)) (p : List ℤ) → IsInSome Meets qs p → (q : List Row) × In q qs × Meets q p
+pub somewhere_in : (qs : List (List Row)) (p : List ℤ) → IsInSome Meets qs p → (q : List Row) × IsAmong q qs × Meets q p
 somewhere_in [] p h = absurd h
 somewhere_in (q ∷ qs) p (inl h) = (q, inl refl, h)
 somewhere_in (q ∷ qs) p (inr h) = let r = somewhere_in qs p h in (r.0, inr r.1, r.2)
@@ -66,14 +66,14 @@ array_test a b xs ys e = let i : nat_eq a b ≡ true = (Decides-eqb a b).1 e in 
 
 -- the cases of one assignment are among those of all
 pub in_cases : (g : Pairing) (h : Path) (side : Side) (cell : CellForms) (first j u : ℕ) (stmts : List StmtModel) (stmt : StmtModel) (o : Option Path)
-    → slice_get stmts j ≡ Some stmt → stmt.array ≡ cell.array → first + j ≡ u → In o (cases_of g.params (model_of g side) h side cell u stmt) → In o (cases_from g.params (model_of g side) h side cell first stmts)
+    → slice_get stmts j ≡ Some stmt → stmt.array ≡ cell.array → first + j ≡ u → IsAmong o (cases_of g.params (model_of g side) h side cell u stmt) → IsAmong o (cases_from g.params (model_of g side) h side cell first stmts)
 in_cases g h side cell first j u [] stmt o e a n k = absurd cc
 in_cases g h side cell first zero u (s ∷ stmts) stmt o e a n k =
     let i : s ≡ stmt = cc in
     let m : first ≡ u = omega (arith, n) in
-    let c : In o (cases_of g.params (model_of g side) h side cell first s) = rw (i, m) k in
+    let c : IsAmong o (cases_of g.params (model_of g side) h side cell first s) = rw (i, m) k in
     let t = array_test s.array cell.array (cases_of g.params (model_of g side) h side cell first s) [] (ap (λ (x : StmtModel). x.array) i ∙ a) in
-    in_left o _ (cases_from g.params (model_of g side) h side cell (suc first) stmts) (subst (In o) (sym t) c)
+    in_left o _ (cases_from g.params (model_of g side) h side cell (suc first) stmts) (subst (IsAmong o) (sym t) c)
 in_cases g h side cell first (suc j) u (s ∷ stmts) stmt o e a n k = in_right o _ (cases_from g.params (model_of g side) h side cell (suc first) stmts) (in_cases g h side cell (suc first) j u stmts stmt o e a (omega (arith, n)) k)
 
 -- an entry at which a position stands
@@ -90,12 +90,12 @@ stands_all x P at s c before w h (an_access v array subs place) k = stands_withi
 
 -- the level by which an entry stands before a read or an output
 pub level_in : (m : Model) (params : List ℤ) (x : Execution) → Describes m params x → (P : Position) (at : List ℤ) (s : Spot) (c : Cell) (before : List Entry) (w : Writer) (stmt : StmtModel) → At x P at s → Reads x.trace s c before
-    → Stands before w → slice_get m.stmts w.entry.stmt ≡ Some stmt → (level : List Row) × In level (levels_to m w.entry.stmt stmt P) × Meets level (params ++ (x.coords w.entry ++ at))
+    → Stands before w → slice_get m.stmts w.entry.stmt ≡ Some stmt → (level : List Row) × IsAmong level (levels_to m w.entry.stmt stmt P) × Meets level (params ++ (x.coords w.entry ++ at))
 unfolding At
 level_in m params x d (Output o) at s c before w stmt h r b e = ([], inl refl, tt)
 level_in m params x d (Node k j) at s c before w stmt (u, i, v, n, is) r b e = by s c before r is b
   where
-    at_read : Stands u.earlier w → (level : List Row) × In level (levels_to m w.entry.stmt stmt (Node k j)) × Meets level (params ++ (x.coords w.entry ++ at))
+    at_read : Stands u.earlier w → (level : List Row) × IsAmong level (levels_to m w.entry.stmt stmt (Node k j)) × Meets level (params ++ (x.coords w.entry ++ at))
     at_read b =
         let reader = d.entry u i.stands in
         let a : Stands x.trace w = stands_within i.stands b in
@@ -104,9 +104,9 @@ level_in m params x d (Node k j) at s c before w stmt (u, i, v, n, is) r b e = b
         let is : slice_get m.stmts k ≡ Some reader.stmt = ap (slice_get m.stmts) (sym i.stmt) ∙ reader.is in
         let same : levels_before (length params) w.entry.stmt stmt u.entry.stmt reader.stmt ≡ levels_to m w.entry.stmt stmt (Node k j) =
         (λ z. levels_before (sym d.count z) w.entry.stmt stmt (i.stmt z) reader.stmt) ∙ ap (levels_at m w.entry.stmt stmt k) (sym is) in
-        (r.0, subst (In r.0) same r.1, subst (λ (y : List ℤ). Meets r.0 (params ++ (x.coords w.entry ++ y))) i.coords r.2)
+        (r.0, subst (IsAmong r.0) same r.1, subst (λ (y : List ℤ). Meets r.0 (params ++ (x.coords w.entry ++ y))) i.coords r.2)
 
-    by : (s : Spot) (c : Cell) (before : List Entry) → Reads x.trace s c before → s ≡ AtNode u v → Stands before w → (level : List Row) × In level (levels_to m w.entry.stmt stmt (Node k j)) × Meets level (params ++ (x.coords w.entry ++ at))
+    by : (s : Spot) (c : Cell) (before : List Entry) → Reads x.trace s c before → s ≡ AtNode u v → Stands before w → (level : List Row) × IsAmong level (levels_to m w.entry.stmt stmt (Node k j)) × Meets level (params ++ (x.coords w.entry ++ at))
     by s c before (an_output d) e b = absurd cc
     by s c before (an_access z array subs place) e b = let q : z ≡ u = cc in at_read (subst (λ (y : Writer). Stands y.earlier w) q b)
 level_in m params x d (InitialOutput o) at s c before w stmt h r b e = by s c before r h.1

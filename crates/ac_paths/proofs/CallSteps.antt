@@ -36,8 +36,9 @@ use Rattle.ac_paths.specs.Places.{CallAt, call_of, call_at, node_at}
 use Rattle.ac_paths.specs.declared.path.Path.{Path}
 use Rattle.ac_paths.proofs.OnPaths.{Compared, InPath, OnPath}
 use Rattle.ac_paths.proofs.Heres.{node_model}
-use Rattle.ac_paths.proofs.Branches.{In}
+use Rattle.ac_forms.specs.Members.{IsAmong}
 use Rattle.ac_paths.proofs.ReadSteps.{Behind}
+use Rattle.ac_poly.proofs.NodeSteps.{roots_row}
 
 -- positions of arguments, each at its value
 abbrev pub Each : Execution → List ℤ → Writer → List Position → List Value → Type 0
@@ -52,12 +53,6 @@ pub record CallHere (x : Execution) (call : CallAt) (at : List ℤ) (s : Spot) :
   pub place : Place
   pub is : s ≡ AtNode writer (Call call.symbol args place)
   pub each : Each x at writer call.args args
-
--- the values of a call, as a list
-roots_row : (m : _) (k : Row_of-Value m) (at : ℕ) → roots k at ≡ roots_of (items-the_row-Value m k) at
-unfolding roots
-roots_row m end_of-Value at = refl
-roots_row m (more_of-Value {n = n} v rest) at = ap (λ r. at ∷ r) (roots_row n rest (at + size v))
 
 shows_row : (p : List ℤ) (point : Point) (s : Symbol) (n : _) (args : Row_of-Value _) (place : Place) (number : ℕ) (o : Option NodeModel) → Shows p point (Call' s n args place) number o ≡ (o ≡ Some (Applied s (roots_of (items-the_row-Value _ args) (number + 1))))
 shows_row p point s n args place number o = λ i. o ≡ Some (Applied s (roots_row _ args (number + 1) i))
@@ -103,7 +98,7 @@ symbol_is f k h =
     let n : f.name ≡ k.name = (slice_eq-Decides Decides-eqb f.name k.name _ refl).0 b.1 in
     λ i. record { name = n i; arity = a i }
 
-argument_behind : (g : Compared) (h : Path) (hs : List Path) (p : List ℤ) (s t s' t' : Spot) (P Q : Position) → OnPath g h p s t → At g.left P (picked (columns_of h.left) p) s' → At g.right Q (picked (columns_of h.right) p) t' → In (argument_path h P Q) hs → Behind g hs p s' t'
+argument_behind : (g : Compared) (h : Path) (hs : List Path) (p : List ℤ) (s t s' t' : Spot) (P Q : Position) → OnPath g h p s t → At g.left P (picked (columns_of h.left) p) s' → At g.right Q (picked (columns_of h.right) p) t' → IsAmong (argument_path h P Q) hs → Behind g hs p s' t'
 argument_behind g h hs p s t s' t' P Q a l r n = record {
   path = argument_path h P Q;
   among = n;
@@ -124,7 +119,7 @@ abbrev pub BothBehind : Compared → List Path → List ℤ → Writer → Write
 BothBehind g hs p w u (v ∷ v' ∷ []) (z ∷ z' ∷ []) = Behind g hs p (AtNode w v) (AtNode u z') × Behind g hs p (AtNode w v') (AtNode u z)
 BothBehind g hs p w u vs us = ⊥
 
-kept_behind : (g : Compared) (h : Path) (p : List ℤ) (s t : Spot) → OnPath g h p s t → (all : List Path) (Ps Qs : List Position) (hs : List Path) → kept h Ps Qs ≡ Some hs → ((k : Path) → In k hs → In k all)
+kept_behind : (g : Compared) (h : Path) (p : List ℤ) (s t : Spot) → OnPath g h p s t → (all : List Path) (Ps Qs : List Position) (hs : List Path) → kept h Ps Qs ≡ Some hs → ((k : Path) → IsAmong k hs → IsAmong k all)
     → (w u : Writer) (vs us : List Value) → Each g.left (picked (columns_of h.left) p) w Ps vs → Each g.right (picked (columns_of h.right) p) u Qs us → EachBehind g all p w u vs us
 kept_behind g h p s t a all [] [] hs e n w u [] [] x y = tt
 kept_behind g h p s t a all [] [] hs e n w u [] (v ∷ us) x y = absurd y
@@ -135,16 +130,16 @@ kept_behind g h p s t a all (P ∷ Ps) (Q ∷ Qs) hs e n w u [] us x y = absurd 
 kept_behind g h p s t a all (P ∷ Ps) (Q ∷ Qs) hs e n w u (v ∷ vs) [] x y = absurd y
 kept_behind g h p s t a all (P ∷ Ps) (Q ∷ Qs) hs e n w u (v ∷ vs) (v' ∷ us) x y =
     let b = map-some (kept h Ps Qs) (λ rest. argument_path h P Q ∷ rest) hs e in (
-      argument_behind g h all p s t (AtNode w v) (AtNode u v') P Q a x.0 y.0 (n (argument_path h P Q) (subst (In (argument_path h P Q)) (sym b.2) (inl refl))),
-      kept_behind g h p s t a all Ps Qs b.0 b.1 (λ k i. n k (subst (In k) (sym b.2) (inr i))) w u vs us x.1 y.1,
+      argument_behind g h all p s t (AtNode w v) (AtNode u v') P Q a x.0 y.0 (n (argument_path h P Q) (subst (IsAmong (argument_path h P Q)) (sym b.2) (inl refl))),
+      kept_behind g h p s t a all Ps Qs b.0 b.1 (λ k i. n k (subst (IsAmong k) (sym b.2) (inr i))) w u vs us x.1 y.1,
     )
 
 swapped_behind : (g : Compared) (h : Path) (p : List ℤ) (s t : Spot) → OnPath g h p s t → (Ps Qs : List Position) (hs : List Path) → swapped h Ps Qs ≡ Some hs
     → (w u : Writer) (vs us : List Value) → Each g.left (picked (columns_of h.left) p) w Ps vs → Each g.right (picked (columns_of h.right) p) u Qs us → BothBehind g hs p w u vs us
 swapped_behind g h p s t a (P ∷ P' ∷ []) (Q ∷ Q' ∷ []) hs e w u (v ∷ v' ∷ []) (z ∷ z' ∷ []) x y =
     let is : hs ≡ argument_path h P Q' ∷ argument_path h P' Q ∷ [] = cc in (
-      argument_behind g h hs p s t (AtNode w v) (AtNode u z') P Q' a x.0 y.1.0 (subst (In (argument_path h P Q')) (sym is) (inl refl)),
-      argument_behind g h hs p s t (AtNode w v') (AtNode u z) P' Q a x.1.0 y.0 (subst (In (argument_path h P' Q)) (sym is) (inr (inl refl))),
+      argument_behind g h hs p s t (AtNode w v) (AtNode u z') P Q' a x.0 y.1.0 (subst (IsAmong (argument_path h P Q')) (sym is) (inl refl)),
+      argument_behind g h hs p s t (AtNode w v') (AtNode u z) P' Q a x.1.0 y.0 (subst (IsAmong (argument_path h P' Q)) (sym is) (inr (inl refl))),
     )
 swapped_behind g h p s t a (P ∷ P' ∷ []) (Q ∷ Q' ∷ []) hs e w u [] us x y = absurd x
 swapped_behind g h p s t a (P ∷ P' ∷ []) (Q ∷ Q' ∷ []) hs e w u (v ∷ []) us x y = absurd x.1
@@ -219,20 +214,20 @@ calls_step g Swap h c d hs ec ed e p s t a =
 argument_in : (params : ℕ) (h : Path) (P Q : Position) → IsFormed params h → IsFormed params (argument_path h P Q)
 argument_in params h P Q i = record { made = i.made; base_in = i.base_in; left_in = i.left_in; right_in = i.right_in; last_in = tt }
 
-kept_in : (params : ℕ) (h : Path) → IsFormed params h → (Ps Qs : List Position) (hs : List Path) → kept h Ps Qs ≡ Some hs → (k : Path) → In k hs → IsFormed params k
-kept_in params h i [] [] hs e k n = let j : [] ≡ hs = cc in absurd (subst (In k) (sym j) n)
+kept_in : (params : ℕ) (h : Path) → IsFormed params h → (Ps Qs : List Position) (hs : List Path) → kept h Ps Qs ≡ Some hs → (k : Path) → IsAmong k hs → IsFormed params k
+kept_in params h i [] [] hs e k n = let j : [] ≡ hs = cc in absurd (subst (IsAmong k) (sym j) n)
 kept_in params h i [] (Q ∷ Qs) hs e k n = absurd cc
 kept_in params h i (P ∷ Ps) [] hs e k n = absurd cc
 kept_in params h i (P ∷ Ps) (Q ∷ Qs) hs e k n =
     let b = map-some (kept h Ps Qs) (λ rest. argument_path h P Q ∷ rest) hs e in
-    elim (subst (In k) b.2 n) as (λ x. IsFormed params k) [ inl j ↦ subst (λ (y : Path). IsFormed params y) (sym j) (argument_in params h P Q i) | inr j ↦ kept_in params h i Ps Qs b.0 b.1 k j ]
+    elim (subst (IsAmong k) b.2 n) as (λ x. IsFormed params k) [ inl j ↦ subst (λ (y : Path). IsFormed params y) (sym j) (argument_in params h P Q i) | inr j ↦ kept_in params h i Ps Qs b.0 b.1 k j ]
 
-swapped_in : (params : ℕ) (h : Path) → IsFormed params h → (Ps Qs : List Position) (hs : List Path) → swapped h Ps Qs ≡ Some hs → (k : Path) → In k hs → IsFormed params k
+swapped_in : (params : ℕ) (h : Path) → IsFormed params h → (Ps Qs : List Position) (hs : List Path) → swapped h Ps Qs ≡ Some hs → (k : Path) → IsAmong k hs → IsFormed params k
 swapped_in params h i (P ∷ P' ∷ []) (Q ∷ Q' ∷ []) hs e k n =
     let is : hs ≡ argument_path h P Q' ∷ argument_path h P' Q ∷ [] = cc in
-    by (subst (In k) is n)
+    by (subst (IsAmong k) is n)
   where
-    by : In k (argument_path h P Q' ∷ argument_path h P' Q ∷ []) → IsFormed params k
+    by : IsAmong k (argument_path h P Q' ∷ argument_path h P' Q ∷ []) → IsFormed params k
     by (inl j) = subst (λ (y : Path). IsFormed params y) (sym j) (argument_in params h P Q' i)
     by (inr (inl j)) = subst (λ (y : Path). IsFormed params y) (sym j) (argument_in params h P' Q i)
     by (inr (inr j)) = absurd j
@@ -243,9 +238,9 @@ swapped_in params h i (P ∷ P' ∷ []) [] hs e k n = absurd cc
 swapped_in params h i (P ∷ P' ∷ []) (Q ∷ []) hs e k n = absurd cc
 swapped_in params h i (P ∷ P' ∷ []) (Q ∷ Q' ∷ Q'' ∷ Qs) hs e k n = absurd cc
 
-pub calls_formed : (g : Pairing) (order : Order) (h : Path) (c d : CallAt) (hs : List Path) → IsFormed g.params h → call_branches g order h c d ≡ Some hs → (k : Path) → In k hs → IsFormed g.params k
+pub calls_formed : (g : Pairing) (order : Order) (h : Path) (c d : CallAt) (hs : List Path) → IsFormed g.params h → call_branches g order h c d ≡ Some hs → (k : Path) → IsAmong k hs → IsFormed g.params k
 calls_formed g Keep h c d hs i e = kept_in g.params h i c.args d.args hs (if-some (same_symbol c.symbol d.symbol) (kept h c.args d.args) hs e).1
 calls_formed g Swap h c d hs i e = swapped_in g.params h i c.args d.args hs (if-some (same_symbol c.symbol d.symbol && g.swaps c.symbol) (swapped h c.args d.args) hs e).1
 
-pub calls_in : (g : Compared) (order : Order) (h : Path) (c d : CallAt) (hs : List Path) → InPath g h → call_branches g.pairing order h c d ≡ Some hs → (k : Path) → In k hs → InPath g k
+pub calls_in : (g : Compared) (order : Order) (h : Path) (c d : CallAt) (hs : List Path) → InPath g h → call_branches g.pairing order h c d ≡ Some hs → (k : Path) → IsAmong k hs → InPath g k
 calls_in g = calls_formed g.pairing

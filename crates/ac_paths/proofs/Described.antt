@@ -27,7 +27,7 @@ use Rattle.ac_paths.specs.Coordinates.{width, coordinates, levels_before}
 use Rattle.ac_paths.specs.StepLaws.{ModelsHaveModuli}
 use Rattle.ac_paths.specs.Executions.{ModelsDescribe}
 use Rattle.ac_paths.specs.Places.{extent_rows}
-use Rattle.ac_paths.proofs.Moving.{column-value}
+use Rattle.ac_poly.proofs.Differences.{column-value}
 use Rattle.ac_paths.proofs.LevelModuli.{levels_moduli}
 use Rattle.ac_paths.proofs.Heres.{get_at, open_front, length-one}
 use Rattle.ac_forms.specs.Pieces.{IsInSome}

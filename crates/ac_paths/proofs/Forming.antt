@@ -17,7 +17,7 @@ use Rattle.ac_paths.specs.declared.path.Branch.{Branch}
 use Rattle.ac_paths.specs.declared.path.Path.{Path}
 use Rattle.ac_paths.specs.declared.path.Side.{Side}
 use Rattle.ac_paths.specs.declared.path.Side.TheVariants.{Left, Right}
-use Rattle.ac_paths.proofs.Branches.{In}
+use Rattle.ac_forms.specs.Members.{IsAmong}
 use Rattle.ac_paths.proofs.CallSteps.{calls_formed}
 use Rattle.ac_paths.proofs.InBranches.{in_branches}
 
@@ -36,16 +36,16 @@ pub equal_result : (ks : List ℕ) (fs : List Affine) (ls : List ℕ) (gs : List
 equal_result ks fs ls gs (Ok made) e = subst HaveIf (sym e) (equal_have ks fs ls gs)
 equal_result ks fs ls gs (Err a) e = tt
 
-all_formed : (params : ℕ) (hs : List Path) → ((k : Path) → In k hs → IsFormed params k) → AllFormed params hs
+all_formed : (params : ℕ) (hs : List Path) → ((k : Path) → IsAmong k hs → IsFormed params k) → AllFormed params hs
 all_formed params [] each = tt
 all_formed params (h ∷ hs) each = (each h (inl refl), all_formed params hs (λ k n. each k (inr n)))
 
-calls_all : (g : Pairing) (order : Order) (h : Path) (o p : Option CallAt) (hs : List Path) → IsFormed g.params h → branches_of_calls g order h o p ≡ Some hs → (k : Path) → In k hs → IsFormed g.params k
+calls_all : (g : Pairing) (order : Order) (h : Path) (o p : Option CallAt) (hs : List Path) → IsFormed g.params h → branches_of_calls g order h o p ≡ Some hs → (k : Path) → IsAmong k hs → IsFormed g.params k
 calls_all g order h (Some c) (Some d) hs i e = calls_formed g order h c d hs i e
 calls_all g order h None p hs i e = absurd cc
 calls_all g order h (Some c) None hs i e = absurd cc
 
-branches_all : (g : Pairing) → ((side : Side) → HasModuli (model_of g side)) → (order : Order) (h : Path) (o p : Option CellForms) (hs : List Path) → IsFormed g.params h → branches_by g order h o p ≡ Some hs → (k : Path) → In k hs → IsFormed g.params k
+branches_all : (g : Pairing) → ((side : Side) → HasModuli (model_of g side)) → (order : Order) (h : Path) (o p : Option CellForms) (hs : List Path) → IsFormed g.params h → branches_by g order h o p ≡ Some hs → (k : Path) → IsAmong k hs → IsFormed g.params k
 branches_all g hm Keep h (Some cell) p hs i e = in_branches g hm h Left cell hs i e
 branches_all g hm Swap h (Some cell) p hs i e = absurd cc
 branches_all g hm Keep h None (Some cell) hs i e = in_branches g hm h Right cell hs i e

@@ -21,36 +21,36 @@ use Rattle.ac_paths.specs.declared.path.Side.{Side}
 use Rattle.ac_paths.specs.declared.path.Side.TheVariants.{Left, Right}
 use Rattle.ac_paths.proofs.Moving.{all-cons, made-both}
 use Rattle.ac_paths.specs.Formed.{SeatIn, LastIn, IsFormed, HasModuli}
-use Rattle.ac_paths.proofs.Branches.{In}
+use Rattle.ac_forms.specs.Members.{IsAmong}
 use Rattle.ac_paths.proofs.ReadSteps.{case_parts, case_made}
 
-first : {A : Type 0} (x : A) (p : Option A) (y : A) (os : List (Option A)) (ys : List A) → (x ≡ y) ⊎ In x ys → p ≡ Some y → (In x ys → In (Some x) os) → (Some x ≡ p) ⊎ In (Some x) os
+first : {A : Type 0} (x : A) (p : Option A) (y : A) (os : List (Option A)) (ys : List A) → (x ≡ y) ⊎ IsAmong x ys → p ≡ Some y → (IsAmong x ys → IsAmong (Some x) os) → (Some x ≡ p) ⊎ IsAmong (Some x) os
 first x p y os ys (inl i) q f = inl (ap Some i ∙ sym q)
 first x p y os ys (inr k) q f = inr (f k)
 
-pub all_among : {A : Type 0} (x : A) (os : List (Option A)) (xs : List A) → all_of os ≡ Some xs → In x xs → In (Some x) os
-all_among x [] xs e h = let i : [] ≡ xs = cc in absurd (subst (In x) (sym i) h)
-all_among x (p ∷ os) xs e h = let b = all-cons p os xs e in first x p b.0 os b.1 (subst (In x) b.4 h) b.2 (λ k. all_among x os b.1 b.3 k)
+pub all_among : {A : Type 0} (x : A) (os : List (Option A)) (xs : List A) → all_of os ≡ Some xs → IsAmong x xs → IsAmong (Some x) os
+all_among x [] xs e h = let i : [] ≡ xs = cc in absurd (subst (IsAmong x) (sym i) h)
+all_among x (p ∷ os) xs e h = let b = all-cons p os xs e in first x p b.0 os b.1 (subst (IsAmong x) b.4 h) b.2 (λ k. all_among x os b.1 b.3 k)
 
-pub in_either : {A : Type 0} (x : A) (xs ys : List A) → In x (xs ++ ys) → In x xs ⊎ In x ys
+pub in_either : {A : Type 0} (x : A) (xs ys : List A) → IsAmong x (xs ++ ys) → IsAmong x xs ⊎ IsAmong x ys
 in_either x [] ys h = inr h
 in_either x (y ∷ xs) ys (inl e) = inl (inl e)
-in_either x (y ∷ xs) ys (inr h) = elim (in_either x xs ys h) as (λ k. In x (y ∷ xs) ⊎ In x ys) [ inl k ↦ inl (inr k) | inr k ↦ inr k ]
+in_either x (y ∷ xs) ys (inr h) = elim (in_either x xs ys h) as (λ k. IsAmong x (y ∷ xs) ⊎ IsAmong x ys) [ inl k ↦ inl (inr k) | inr k ↦ inr k ]
 
-map_of : {A B : Type 0} (f : A → B) (y : B) (xs : List A) → In y (map f xs) → (x : A) × In x xs × (y ≡ f x)
+map_of : {A B : Type 0} (f : A → B) (y : B) (xs : List A) → IsAmong y (map f xs) → (x : A) × IsAmong x xs × (y ≡ f x)
 map_of f y [] h = absurd h
 map_of f y (x ∷ xs) (inl e) = (x, inl refl, e)
 map_of f y (x ∷ xs) (inr h) = let r = map_of f y xs h in (r.0, inr r.1, r.2)
 
-flat_map_of : {A B : Type 0} (f : A → List B) (y : B) (xs : List A) → In y (flat_map f xs) → (x : A) × In x xs × In y (f x)
+flat_map_of : {A B : Type 0} (f : A → List B) (y : B) (xs : List A) → IsAmong y (flat_map f xs) → (x : A) × IsAmong x xs × IsAmong y (f x)
 flat_map_of f y [] h = absurd h
-flat_map_of {A = A} {B = B} f y (x ∷ xs) h = by (in_either y (f x) (flat_map f xs) (subst (In y) (flat_map-cons f x xs) h)) (λ k. flat_map_of f y xs k)
+flat_map_of {A = A} {B = B} f y (x ∷ xs) h = by (in_either y (f x) (flat_map f xs) (subst (IsAmong y) (flat_map-cons f x xs) h)) (λ k. flat_map_of f y xs k)
   where
-    by : In y (f x) ⊎ In y (flat_map f xs) → (In y (flat_map f xs) → (z : A) × In z xs × In y (f z)) → (z : A) × In z (x ∷ xs) × In y (f z)
+    by : IsAmong y (f x) ⊎ IsAmong y (flat_map f xs) → (IsAmong y (flat_map f xs) → (z : A) × IsAmong z xs × IsAmong y (f z)) → (z : A) × IsAmong z (x ∷ xs) × IsAmong y (f z)
     by (inl k) next = (x, inl refl, k)
     by (inr k) next = let r = next k in (r.0, inr r.1, r.2)
 
-pub in_get : {A : Type 0} (x : A) (xs : List A) → In x xs → (k : ℕ) × (slice_get xs k ≡ Some x)
+pub in_get : {A : Type 0} (x : A) (xs : List A) → IsAmong x xs → (k : ℕ) × (slice_get xs k ≡ Some x)
 in_get x [] h = absurd h
 in_get x (y ∷ xs) (inl e) = (0, ap Some (sym e))
 in_get x (y ∷ xs) (inr h) = let r = in_get x xs h in (suc r.0, r.1)
@@ -61,20 +61,20 @@ pub record CaseOf (g : Pairing) (h : Path) (side : Side) (cell : CellForms) (fir
   pub stmt : StmtModel
   pub is : slice_get stmts j ≡ Some stmt
   pub piece : List Row
-  pub pieces : In piece stmt.pieces
+  pub pieces : IsAmong piece stmt.pieces
   pub level : List Row
-  pub levels : In level (levels_to (model_of g side) (first + j) stmt (seat_of h side).position)
+  pub levels : IsAmong level (levels_to (model_of g side) (first + j) stmt (seat_of h side).position)
   pub case : o ≡ case_path g.params h side cell (first + j) stmt piece level
 
-in_cond : {A : Type 0} (b : Bool) (x : A) (xs : List A) → In x (cond b xs []) → In x xs
+in_cond : {A : Type 0} (b : Bool) (x : A) (xs : List A) → IsAmong x (cond b xs []) → IsAmong x xs
 in_cond true x xs h = h
 in_cond false x xs h = absurd h
 
-pub case_of : (g : Pairing) (h : Path) (side : Side) (cell : CellForms) (first : ℕ) (stmts : List StmtModel) (o : Option Path) → In o (cases_from g.params (model_of g side) h side cell first stmts) → CaseOf g h side cell first stmts o
+pub case_of : (g : Pairing) (h : Path) (side : Side) (cell : CellForms) (first : ℕ) (stmts : List StmtModel) (o : Option Path) → IsAmong o (cases_from g.params (model_of g side) h side cell first stmts) → CaseOf g h side cell first stmts o
 case_of g h side cell first [] o k = absurd k
 case_of g h side cell first (s ∷ stmts) o k = by (in_either o (cond (nat_eq s.array cell.array) (cases_of g.params (model_of g side) h side cell first s) []) (cases_from g.params (model_of g side) h side cell (suc first) stmts) k) (λ n. case_of g h side cell (suc first) stmts o n)
   where
-    by : In o (cond (nat_eq s.array cell.array) (cases_of g.params (model_of g side) h side cell first s) []) ⊎ In o (cases_from g.params (model_of g side) h side cell (suc first) stmts) → (In o (cases_from g.params (model_of g side) h side cell (suc first) stmts) → CaseOf g h side cell (suc first) stmts o)
+    by : IsAmong o (cond (nat_eq s.array cell.array) (cases_of g.params (model_of g side) h side cell first s) []) ⊎ IsAmong o (cases_from g.params (model_of g side) h side cell (suc first) stmts) → (IsAmong o (cases_from g.params (model_of g side) h side cell (suc first) stmts) → CaseOf g h side cell (suc first) stmts o)
         → CaseOf g h side cell first (s ∷ stmts) o
     by (inl n) next =
         let a = in_cond (nat_eq s.array cell.array) o (cases_of g.params (model_of g side) h side cell first s) n in
@@ -88,7 +88,7 @@ case_of g h side cell first (s ∷ stmts) o k = by (in_either o (cond (nat_eq s.
           piece = b.0;
           pieces = b.1;
           level = c.0;
-          levels = subst (λ u. In c.0 (levels_to (model_of g side) u s (seat_of h side).position)) e c.1;
+          levels = subst (λ u. IsAmong c.0 (levels_to (model_of g side) u s (seat_of h side).position)) e c.1;
           case = c.2 ∙ ap (λ u. case_path g.params h side cell u s b.0 c.0) e;
         }
     by (inr n) next =
@@ -101,7 +101,7 @@ case_of g h side cell first (s ∷ stmts) o k = by (in_either o (cond (nat_eq s.
           piece = r.piece;
           pieces = r.pieces;
           level = r.level;
-          levels = subst (λ u. In r.level (levels_to (model_of g side) u r.stmt (seat_of h side).position)) e r.levels;
+          levels = subst (λ u. IsAmong r.level (levels_to (model_of g side) u r.stmt (seat_of h side).position)) e r.levels;
           case = r.case ∙ ap (λ u. case_path g.params h side cell u r.stmt r.piece r.level) e;
         }
 
@@ -170,12 +170,12 @@ in_case g hm h side cell k i c =
     let made = case_made g.params reader cell source c.stmt c.piece c.level made_rows.0 (n + width c.stmt) b r (omega arith) hp hl parts in
     subst (λ (y : Path). IsFormed g.params y) (sym made_rows.2) (in_gone g h side (width c.stmt) made_rows.0 source (Some (record { side = side; reader = reader; source = Some source })) i made (omega arith) (r, omega arith))
 
-pub in_branches : (g : Pairing) (hm : (side : Side) → HasModuli (model_of g side)) (h : Path) (side : Side) (cell : CellForms) (hs : List Path) → IsFormed g.params h → read_branches g.params (model_of g side) h side cell ≡ Some hs → (k : Path) → In k hs → IsFormed g.params k
+pub in_branches : (g : Pairing) (hm : (side : Side) → HasModuli (model_of g side)) (h : Path) (side : Side) (cell : CellForms) (hs : List Path) → IsFormed g.params h → read_branches g.params (model_of g side) h side cell ≡ Some hs → (k : Path) → IsAmong k hs → IsFormed g.params k
 in_branches g hm h side cell hs i br k a =
     let os = cases_from g.params (model_of g side) h side cell 0 (model_of g side).stmts in
     by (in_either (Some k) os (Some (initial_path h side) ∷ []) (all_among k (os ++ Some (initial_path h side) ∷ []) hs br a))
   where
-    by : In (Some k) (cases_from g.params (model_of g side) h side cell 0 (model_of g side).stmts) ⊎ In (Some k) (Some (initial_path h side) ∷ []) → IsFormed g.params k
+    by : IsAmong (Some k) (cases_from g.params (model_of g side) h side cell 0 (model_of g side).stmts) ⊎ IsAmong (Some k) (Some (initial_path h side) ∷ []) → IsFormed g.params k
     by (inl c) = in_case g hm h side cell k i (case_of g h side cell 0 (model_of g side).stmts (Some k) c)
     by (inr (inl e)) = let j : k ≡ initial_path h side = cc in subst (λ (y : Path). IsFormed g.params y) (sym j) (in_initial g h side i)
     by (inr (inr n)) = absurd n

@@ -120,7 +120,7 @@ choices_lift columns n (x ∷ xs) c left e wc l b p z lp m len =
     (set y (column_of h - n) v.0, length-set y (column_of h - n) v.0 ∙ r.1, subst (λ (q : List ℤ). Meets c.rows q) w back.meets)
 
 -- what the rows of a case say at a point
-case_says : (params : ℕ) (given : List ℤ) (reader : Seat) (cell : CellForms) (source : Seat) (stmt : StmtModel) (piece level rows : List Row) (q x z : List ℤ) → CaseParts params reader cell source stmt piece level rows
+pub case_says : (params : ℕ) (given : List ℤ) (reader : Seat) (cell : CellForms) (source : Seat) (stmt : StmtModel) (piece level rows : List Row) (q x z : List ℤ) → CaseParts params reader cell source stmt piece level rows
     → picked (base params) q ≡ given → picked (columns_of reader) q ≡ x → picked (columns_of source) q ≡ z → Meets rows q
     → Meets piece (given ++ z) × (values_at (given ++ x) cell.subs ≡ values_at (given ++ z) stmt.subs) × Meets level (given ++ (z ++ x))
 case_says params given reader cell source stmt piece level rows q x z c b r s h =
@@ -240,7 +240,7 @@ stand_at : (ks : List ℕ) (rows left : List Row) (p : List ℤ) (made : Option 
 stand_at ks rows left p None e b hr hl m = absurd cc
 stand_at ks rows left p (Some wanted) e b hr hl m = (rows-value ks left wanted p e).0 (all-hold rows wanted p b hr (rows_moduli ks left wanted hl e) m)
 
-zeros : (n : ℕ) → (z : List ℤ) × (length z ≡ n)
+pub zeros : (n : ℕ) → (z : List ℤ) × (length z ≡ n)
 zeros zero = ([], refl)
 zeros (suc n) = let r = zeros n in (pos 0 ∷ r.0, (let e = r.1 in omega (arith, e)))
 

@@ -15,22 +15,10 @@ use Rattle.ac_forms.specs.Renaming.{picked, renamed, sums_fit, renaming, rows_re
 use Rattle.ac_forms.proofs.Renamings.{form-within}
 use Rattle.ac_forms.proofs.Distinct.{renaming-value, rows_renaming-points, rows_renaming-over}
 use Rattle.ac_paths.specs.Columns.{all_of, appended, difference, equal_forms}
+use Rattle.ac_poly.proofs.Differences.{no_more, dot-unit, column-value}
 
 pub pick-append : (ks ls : List ℕ) (p : List ℤ) → picked (ks ++ ls) p ≡ picked ks p ++ picked ls p
 pick-append ks ls p = map-append (λ k. get_or p k (pos 0)) ks ls
-
--- a column has the number that the point has there
-no_more : (k : ℕ) → k + 1 - k - 1 ≡ 0
-no_more k = omega arith
-
-dot-unit : (k : ℕ) (p : List ℤ) → dot (replicate k (pos 0) ++ pos 1 ∷ []) p ≡ get_or p k (pos 0)
-dot-unit zero [] = refl
-dot-unit zero (x ∷ p) = let e : dot [] p ≡ pos 0 = refl in omega (arith, ints)
-dot-unit (suc k) [] = refl
-dot-unit (suc k) (x ∷ p) = omega (arith, ints, dot-unit k p)
-
-pub column-value : (k : ℕ) (p : List ℤ) → value_at (column_form (k + 1) k) p ≡ get_or p k (pos 0)
-column-value k p = rw (no_more k) (omega (arith, ints, dot-unit k p))
 
 -- columns that are there
 abbrev pub InColumns : List ℕ → ℕ → Type 0

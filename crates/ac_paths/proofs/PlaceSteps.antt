@@ -10,7 +10,7 @@ use Rattle.ac_poly.specs.declared.types.StmtModel.{StmtModel}
 use Rattle.ac_paths.specs.Coordinates.{levels_before}
 use Rattle.ac_paths.specs.Places.{element_forms, levels_to, levels_at}
 use Rattle.ac_syntax.specs.declared.tree.Position.TheVariants.{Node}
-use Rattle.ac_paths.proofs.EqualSteps.{range_more}
+use Rattle.ac_forms.proofs.Ranges.{range_more}
 
 pub record Elements (params k : ℕ) (forms : List Affine) : Type 0 where
   pub value : forms ≡ element_forms params k

@@ -28,7 +28,8 @@ use Rattle.ac_paths.specs.declared.path.Side.TheVariants.{Left, Right}
 use Rattle.ac_paths.proofs.Moving.{pick-append, rows-value, rows-within, equal-values, equal-within, appended-parts, meets-both, made-both}
 use Rattle.ac_paths.proofs.OnPaths.{Compared, execution_of, describes_of, AtSeat, SeatIn, ReaderAt, LastAt, InPath, OnPath, in-append, seat_columns, base_columns, pick_more, pick_new, at_more, reader_more, starts_more}
 use Rattle.ac_paths.proofs.Heres.{reading, cell_with, read_cell}
-use Rattle.ac_paths.proofs.Branches.{In, in_left, in_right, in_map, in_flat_map, in_all, somewhere_in, in_cases, stands_all, level_in, source_cell}
+use Rattle.ac_forms.specs.Members.{IsAmong}
+use Rattle.ac_paths.proofs.Branches.{in_left, in_right, in_map, in_flat_map, in_all, somewhere_in, in_cases, stands_all, level_in, source_cell}
 
 -- the case of a source by its cause
 pub of_source : (C : Spot → Type 0) (c : Cell) (o : Option Writer) → (o ≡ None → C (AtStart c)) → ((w : Writer) → o ≡ Some w → C (AtNode w w.entry.value)) → C (resolved c o)
@@ -92,7 +93,7 @@ pub record SourceCase (g : Compared) (h : Path) (side : Side) (p : List ℤ) (w 
   pub seat : Seat
   pub last : Option Assumed
   pub more : List ℤ
-  pub among : In (gone_to h side conj seat last) hs
+  pub among : IsAmong (gone_to h side conj seat last) hs
   pub point : IsPoint conj (p ++ more)
   pub at : AtSeat (execution_of g side) seat (p ++ more) (AtNode w w.entry.value)
   pub assumed : LastAt g last (p ++ more)
@@ -129,9 +130,9 @@ source_case g h side cell hs p r w bi ri made point starts e br src =
     let lp : length p ≡ n = point.long in
     let lz : length z ≡ width stmt = mo.width in
     let o = case_path g.pairing.params h side cell u stmt pieces.0 level.0 in
-    let in_one : In o (cases_of g.pairing.params (model_of g.pairing side) h side cell u stmt) =
+    let in_one : IsAmong o (cases_of g.pairing.params (model_of g.pairing side) h side cell u stmt) =
     in_flat_map (λ piece. map (case_path g.pairing.params h side cell u stmt piece) (levels_to m u stmt reader.position)) pieces.0 stmt.pieces o pieces.1 (in_map (case_path g.pairing.params h side cell u stmt pieces.0) level.0 (levels_to m u stmt reader.position) level.1) in
-    let in_them : In o (cases_from g.pairing.params (model_of g.pairing side) h side cell 0 m.stmts) = in_cases g.pairing h side cell 0 u u m.stmts stmt o mo.is (sym (ap (λ (c : Cell). c.array) same)) (omega arith) in_one in
+    let in_them : IsAmong o (cases_from g.pairing.params (model_of g.pairing side) h side cell 0 m.stmts) = in_cases g.pairing h side cell 0 u u m.stmts stmt o mo.is (sym (ap (λ (c : Cell). c.array) same)) (omega arith) in_one in
     let all = in_all o (cases_from g.pairing.params (model_of g.pairing side) h side cell 0 m.stmts ++ Some (initial_path h side) ∷ []) hs br (in_left o (cases_from g.pairing.params (model_of g.pairing side) h side cell 0 m.stmts) (Some (initial_path h side) ∷ []) in_them) in
     let made_rows = map-some (case_rows g.pairing.params reader cell source stmt pieces.0 level.0)
     (λ rows. gone_to h side (extended h.conj (width stmt) rows) source (Some (record { side = side; reader = reader; source = Some source }))) all.0 all.1 in
@@ -145,7 +146,7 @@ source_case g h side cell hs p r w bi ri made point starts e br src =
       seat = source;
       last = Some (record { side = side; reader = reader; source = Some source });
       more = z;
-      among = subst (λ (y : Path). In y hs) made_rows.2 all.2;
+      among = subst (λ (y : Path). IsAmong y hs) made_rows.2 all.2;
       point = record {
         long = length-append p z ∙ (λ i. lp i + lz i);
         meets = meets-both h.conj.rows made_rows.0 (p ++ z) (Meets-append h.conj.rows n p z (omega (arith, lp)) made point.meets) rows_meet;
@@ -178,18 +179,18 @@ on_right g h p s t i a c seat last more t' point at assumed = record {
 }
 
 -- the branch of the initial contents
-pub initial_among : (g : Compared) (h : Path) (side : Side) (cell : CellForms) (hs : List Path) → read_branches g.pairing.params (model_of g.pairing side) h side cell ≡ Some hs → In (initial_path h side) hs
+pub initial_among : (g : Compared) (h : Path) (side : Side) (cell : CellForms) (hs : List Path) → read_branches g.pairing.params (model_of g.pairing side) h side cell ≡ Some hs → IsAmong (initial_path h side) hs
 initial_among g h side cell hs br =
     let m = model_of g.pairing side in
     let os = cases_from g.pairing.params (model_of g.pairing side) h side cell 0 m.stmts in
     let all = in_all (Some (initial_path h side)) (os ++ Some (initial_path h side) ∷ []) hs br (in_right (Some (initial_path h side)) os (Some (initial_path h side) ∷ []) (inl refl)) in
     let same : initial_path h side ≡ all.0 = cc in
-    subst (λ (y : Path). In y hs) (sym same) all.2
+    subst (λ (y : Path). IsAmong y hs) (sym same) all.2
 
 -- a branch at which a pair of spots stands, at a point that goes on from p
 pub record Behind (g : Compared) (hs : List Path) (p : List ℤ) (s t : Spot) : Type 0 where
   pub path : Path
-  pub among : In path hs
+  pub among : IsAmong path hs
   pub gone : path.gone ≡ true
   pub more : List ℤ
   pub on : OnPath g path (p ++ more) s t

@@ -32,7 +32,8 @@ use Rattle.ac_paths.specs.Coordinates.{width}
 use Rattle.ac_paths.specs.Executions.{Execution, InstanceAt, At, Describes}
 use Rattle.ac_paths.specs.Killing.{assignment_of, assignment_at}
 use Rattle.ac_paths.specs.Going.{Pairing, model_of, seat_of, gone_to, root, extended, case_rows, cases_from, read_branches, initial_path, argument_path, kept, swapped, same_symbol, call_branches, branches, branches_by, branches_of_calls, by_keep}
-use Rattle.ac_paths.specs.Pairs.{Placed, IsAt, IsReader, IsResolved, ResolvesTo, IsCallOf, CallPlace, ArgumentPlace, ArgumentsMeet, CallStep, StepsTo, StandsOn, In, StandsBehind}
+use Rattle.ac_forms.specs.Members.{IsAmong}
+use Rattle.ac_paths.specs.Pairs.{Placed, IsAt, IsReader, IsResolved, ResolvesTo, IsCallOf, CallPlace, ArgumentPlace, ArgumentsMeet, CallStep, StepsTo, StandsOn, StandsBehind}
 use Rattle.ac_paths.specs.StepLaws.{compared, BranchesAreSteps}
 use Rattle.ac_paths.specs.Places.{CallAt, cell_read, call_at, call_of, node_at, initial_of, read_of, element_forms}
 use Rattle.ac_paths.specs.declared.path.Assumed.{Assumed}
@@ -120,7 +121,7 @@ record ReadBranch (g : Compared) (h : Path) (side : Side) (hs : List Path) (p : 
   pub seat : Seat
   pub last : Option Assumed
   pub more : List ℤ
-  pub among : In (gone_to h side conj seat last) hs
+  pub among : IsAmong (gone_to h side conj seat last) hs
   pub point : IsPoint conj (p ++ more)
   pub at : AtSeat (execution_of g side) seat (p ++ more) (resolved c o)
   pub assumed : LastAt g last (p ++ more)
@@ -215,27 +216,27 @@ right_forward g h cell hs i e br p a a' b b' st ((c, before, reads), res) same =
     )
 
 -- the arguments of two calls
-get_map : {A B : Type 0} (f : A → B) (xs : List A) (k : ℕ) (x : A) → slice_get xs k ≡ Some x → slice_get (map f xs) k ≡ Some (f x)
+pub get_map : {A B : Type 0} (f : A → B) (xs : List A) (k : ℕ) (x : A) → slice_get xs k ≡ Some x → slice_get (map f xs) k ≡ Some (f x)
 get_map f [] k x e = absurd cc
 get_map f (y ∷ xs) zero x e = let i : y ≡ x = cc in ap (λ z. Some (f z)) i
 get_map f (y ∷ xs) (suc k) x e = get_map f xs k x e
 
-of_map : {A B : Type 0} (f : A → B) (xs : List A) (k : ℕ) (y : B) → slice_get (map f xs) k ≡ Some y → (x : A) × (slice_get xs k ≡ Some x) × (y ≡ f x)
+pub of_map : {A B : Type 0} (f : A → B) (xs : List A) (k : ℕ) (y : B) → slice_get (map f xs) k ≡ Some y → (x : A) × (slice_get xs k ≡ Some x) × (y ≡ f x)
 of_map f [] k y e = absurd cc
 of_map f (x ∷ xs) zero y e = let i : f x ≡ y = cc in (x, refl, sym i)
 of_map f (x ∷ xs) (suc k) y e = of_map f xs k y e
 
-kept_in : (h : Path) (Ps Qs : List Position) (hs : List Path) → kept h Ps Qs ≡ Some hs → (k : ℕ) (P Q : Position) → slice_get Ps k ≡ Some P → slice_get Qs k ≡ Some Q → In (argument_path h P Q) hs
+kept_in : (h : Path) (Ps Qs : List Position) (hs : List Path) → kept h Ps Qs ≡ Some hs → (k : ℕ) (P Q : Position) → slice_get Ps k ≡ Some P → slice_get Qs k ≡ Some Q → IsAmong (argument_path h P Q) hs
 kept_in h [] Qs hs e k P Q a b = absurd cc
 kept_in h (P' ∷ Ps) [] hs e k P Q a b = absurd cc
 kept_in h (P' ∷ Ps) (Q' ∷ Qs) hs e zero P Q a b =
     let r = map-some (kept h Ps Qs) (λ rest. argument_path h P' Q' ∷ rest) hs e in
     let i : P' ≡ P = cc in
     let j : Q' ≡ Q = cc in
-    subst (In (argument_path h P Q)) (sym r.2) (inl (λ z. argument_path h (sym i z) (sym j z)))
+    subst (IsAmong (argument_path h P Q)) (sym r.2) (inl (λ z. argument_path h (sym i z) (sym j z)))
 kept_in h (P' ∷ Ps) (Q' ∷ Qs) hs e (suc k) P Q a b =
     let r = map-some (kept h Ps Qs) (λ rest. argument_path h P' Q' ∷ rest) hs e in
-    subst (In (argument_path h P Q)) (sym r.2) (inr (kept_in h Ps Qs r.0 r.1 k P Q a b))
+    subst (IsAmong (argument_path h P Q)) (sym r.2) (inr (kept_in h Ps Qs r.0 r.1 k P Q a b))
 
 -- a branch of two lists of arguments
 record ArgumentOf (h : Path) (Ps Qs : List Position) (z : Path) : Type 0 where
@@ -247,31 +248,31 @@ record ArgumentOf (h : Path) (Ps Qs : List Position) (z : Path) : Type 0 where
   pub right_is : slice_get Qs right_number ≡ Some right
   pub is : z ≡ argument_path h left right
 
-kept_of : (h : Path) (Ps Qs : List Position) (hs : List Path) → kept h Ps Qs ≡ Some hs → (z : Path) → In z hs → (r : ArgumentOf h Ps Qs z) × (r.left_number ≡ r.right_number)
-kept_of h [] [] hs e z n = let i : [] ≡ hs = cc in absurd (subst (In z) (sym i) n)
+kept_of : (h : Path) (Ps Qs : List Position) (hs : List Path) → kept h Ps Qs ≡ Some hs → (z : Path) → IsAmong z hs → (r : ArgumentOf h Ps Qs z) × (r.left_number ≡ r.right_number)
+kept_of h [] [] hs e z n = let i : [] ≡ hs = cc in absurd (subst (IsAmong z) (sym i) n)
 kept_of h [] (Q ∷ Qs) hs e z n = absurd cc
 kept_of h (P ∷ Ps) [] hs e z n = absurd cc
 kept_of h (P ∷ Ps) (Q ∷ Qs) hs e z n =
     let r = map-some (kept h Ps Qs) (λ rest. argument_path h P Q ∷ rest) hs e in
-    by r.0 (subst (In z) r.2 n) (λ m. kept_of h Ps Qs r.0 r.1 z m)
+    by r.0 (subst (IsAmong z) r.2 n) (λ m. kept_of h Ps Qs r.0 r.1 z m)
   where
-    by : (rest : List Path) → In z (argument_path h P Q ∷ rest) → (In z rest → (r : ArgumentOf h Ps Qs z) × (r.left_number ≡ r.right_number)) → (r : ArgumentOf h (P ∷ Ps) (Q ∷ Qs) z) × (r.left_number ≡ r.right_number)
+    by : (rest : List Path) → IsAmong z (argument_path h P Q ∷ rest) → (IsAmong z rest → (r : ArgumentOf h Ps Qs z) × (r.left_number ≡ r.right_number)) → (r : ArgumentOf h (P ∷ Ps) (Q ∷ Qs) z) × (r.left_number ≡ r.right_number)
     by rest (inl i) next = (record { left_number = 0; right_number = 0; left = P; right = Q; left_is = refl; right_is = refl; is = i }, refl)
     by rest (inr m) next =
         let f = next m in
         (record { left_number = suc f.0.left_number; right_number = suc f.0.right_number; left = f.0.left; right = f.0.right; left_is = f.0.left_is; right_is = f.0.right_is; is = f.0.is }, ap suc f.1)
 
-swapped_in : (h : Path) (Ps Qs : List Position) (hs : List Path) → swapped h Ps Qs ≡ Some hs → (k l : ℕ) (P Q : Position) → k + l ≡ 1 → slice_get Ps k ≡ Some P → slice_get Qs l ≡ Some Q → In (argument_path h P Q) hs
+swapped_in : (h : Path) (Ps Qs : List Position) (hs : List Path) → swapped h Ps Qs ≡ Some hs → (k l : ℕ) (P Q : Position) → k + l ≡ 1 → slice_get Ps k ≡ Some P → slice_get Qs l ≡ Some Q → IsAmong (argument_path h P Q) hs
 swapped_in h (P ∷ P' ∷ []) (Q ∷ Q' ∷ []) hs e zero (suc zero) A B n a b =
     let is : argument_path h P Q' ∷ argument_path h P' Q ∷ [] ≡ hs = cc in
     let i : P ≡ A = cc in
     let j : Q' ≡ B = cc in
-    subst (In (argument_path h A B)) is (inl (λ z. argument_path h (sym i z) (sym j z)))
+    subst (IsAmong (argument_path h A B)) is (inl (λ z. argument_path h (sym i z) (sym j z)))
 swapped_in h (P ∷ P' ∷ []) (Q ∷ Q' ∷ []) hs e (suc zero) zero A B n a b =
     let is : argument_path h P Q' ∷ argument_path h P' Q ∷ [] ≡ hs = cc in
     let i : P' ≡ A = cc in
     let j : Q ≡ B = cc in
-    subst (In (argument_path h A B)) is (inr (inl (λ z. argument_path h (sym i z) (sym j z))))
+    subst (IsAmong (argument_path h A B)) is (inr (inl (λ z. argument_path h (sym i z) (sym j z))))
 swapped_in h (P ∷ P' ∷ []) (Q ∷ Q' ∷ []) hs e zero zero A B n a b = absurd (omega (arith, n))
 swapped_in h (P ∷ P' ∷ []) (Q ∷ Q' ∷ []) hs e zero (suc (suc l)) A B n a b = absurd (omega (arith, n))
 swapped_in h (P ∷ P' ∷ []) (Q ∷ Q' ∷ []) hs e (suc zero) (suc l) A B n a b = absurd (omega (arith, n))
@@ -283,12 +284,12 @@ swapped_in h (P ∷ P' ∷ []) [] hs e k l A B n a b = absurd cc
 swapped_in h (P ∷ P' ∷ []) (Q ∷ []) hs e k l A B n a b = absurd cc
 swapped_in h (P ∷ P' ∷ []) (Q ∷ Q' ∷ Q'' ∷ Qs) hs e k l A B n a b = absurd cc
 
-swapped_of : (h : Path) (Ps Qs : List Position) (hs : List Path) → swapped h Ps Qs ≡ Some hs → (z : Path) → In z hs → (r : ArgumentOf h Ps Qs z) × (r.left_number + r.right_number ≡ 1)
+swapped_of : (h : Path) (Ps Qs : List Position) (hs : List Path) → swapped h Ps Qs ≡ Some hs → (z : Path) → IsAmong z hs → (r : ArgumentOf h Ps Qs z) × (r.left_number + r.right_number ≡ 1)
 swapped_of h (P ∷ P' ∷ []) (Q ∷ Q' ∷ []) hs e z n =
     let is : hs ≡ argument_path h P Q' ∷ argument_path h P' Q ∷ [] = cc in
-    by (subst (In z) is n)
+    by (subst (IsAmong z) is n)
   where
-    by : In z (argument_path h P Q' ∷ argument_path h P' Q ∷ []) → (r : ArgumentOf h (P ∷ P' ∷ []) (Q ∷ Q' ∷ []) z) × (r.left_number + r.right_number ≡ 1)
+    by : IsAmong z (argument_path h P Q' ∷ argument_path h P' Q ∷ []) → (r : ArgumentOf h (P ∷ P' ∷ []) (Q ∷ Q' ∷ []) z) × (r.left_number + r.right_number ≡ 1)
     by (inl i) = (record { left_number = 0; right_number = 1; left = P; right = Q'; left_is = refl; right_is = refl; is = i }, refl)
     by (inr (inl i)) = (record { left_number = 1; right_number = 0; left = P'; right = Q; left_is = refl; right_is = refl; is = i }, refl)
     by (inr (inr i)) = absurd i
@@ -317,10 +318,10 @@ call_is m params x d stmt node at s call e (w', i, v', n', is) w v f ks q h =
     some-is _ call (ap (call_of stmt) (sym o) ∙ b.2)
 
 -- a call of the model is a call of the program
-abbrev CallIs : (x : Execution) → Placed x → CallAt → Type 0
+abbrev pub CallIs : (x : Execution) → Placed x → CallAt → Type 0
 CallIs x a call = (c : CallPlace x a) × (record { symbol = c.symbol; args = map (Node c.stmt) c.arguments } ≡ call)
 
-call_place : (m : Model) (params : List ℤ) (x : Execution) → Describes m params x → (a : Placed x) (P : Position) (at : List ℤ) (call : CallAt) → a.position ≡ P → call_at m P ≡ Some call → At x P at a.spot → CallIs x a call
+pub call_place : (m : Model) (params : List ℤ) (x : Execution) → Describes m params x → (a : Placed x) (P : Position) (at : List ℤ) (call : CallAt) → a.position ≡ P → call_at m P ≡ Some call → At x P at a.spot → CallIs x a call
 unfolding At
 call_place m params x d a (Output o) at call p e h = absurd cc
 call_place m params x d a (Node k j) at call p e (w, i, v, n, is) = by v n is
@@ -354,7 +355,7 @@ call_model m params x d a c P at call p e h =
     call_is m params x d c.stmt c.node at a.spot call (subst (λ (z : Position). call_at m z ≡ Some call) q e) (subst (λ (z : Position). At x z at a.spot) q h) c.writer c.value c.symbol c.arguments c.spot_is c.is_call
 
 -- the pair of two arguments stands at its branch
-arguments_stand : (g : Compared) (h : Path) (hs : List Path) (p : List ℤ) (a a' : Placed g.left) (b b' : Placed g.right) (P Q : Position) → StandsOn g h p a b → In (argument_path h P Q) hs
+arguments_stand : (g : Compared) (h : Path) (hs : List Path) (p : List ℤ) (a a' : Placed g.left) (b b' : Placed g.right) (P Q : Position) → StandsOn g h p a b → IsAmong (argument_path h P Q) hs
     → a'.position ≡ P → a'.at ≡ a.at → b'.position ≡ Q → b'.at ≡ b.at → StandsBehind g hs p a' b'
 arguments_stand g h hs p a a' b b' P Q st n pa ka pb kb =
     let k = argument_path h P Q in
@@ -398,7 +399,7 @@ argument_place x a a' call c k P e p at =
     record { root = m.0; root_is = m.1; position_is = p ∙ m.2; at_is = at }
 
 calls_back : (g : Compared) (order : Order) (h : Path) (call call' : CallAt) (hs : List Path) → InPath g h → call_at g.pairing.left h.left.position ≡ Some call → call_at g.pairing.right h.right.position ≡ Some call' → call_branches g.pairing order h call call' ≡ Some hs
-    → (p more : List ℤ) (a a' : Placed g.left) (b b' : Placed g.right) → StandsOn g h p a b → (z : Path) → In z hs → StandsOn g z (p ++ more) a' b' → CallStep g order a b a' b'
+    → (p more : List ℤ) (a a' : Placed g.left) (b b' : Placed g.right) → StandsOn g h p a b → (z : Path) → IsAmong z hs → StandsOn g z (p ++ more) a' b' → CallStep g order a b a' b'
 calls_back g order h call call' hs i ec ed e p more a a' b b' st z n sz = by order e
   where
     x : CallIs g.left a call
@@ -449,14 +450,14 @@ record BranchOf (h : Path) (side : Side) (k : Path) : Type 0 where
   pub is : k ≡ gone_to h side conj seat (Some (record { side = side; reader = seat_of h side; source = source }))
   pub for : SeatFor (seat_of h side) seat source
 
-branch_of : (g : Pairing) (h : Path) (side : Side) (cell : CellForms) (hs : List Path) → read_branches g.params (model_of g side) h side cell ≡ Some hs → (k : Path) → In k hs → BranchOf h side k
+branch_of : (g : Pairing) (h : Path) (side : Side) (cell : CellForms) (hs : List Path) → read_branches g.params (model_of g side) h side cell ≡ Some hs → (k : Path) → IsAmong k hs → BranchOf h side k
 unfolding SeatFor
 branch_of g h side cell hs br k n =
     let m = model_of g side in
     let os = cases_from g.params m h side cell 0 m.stmts in
     by (in_either (Some k) os (Some (initial_path h side) ∷ []) (all_among k (os ++ Some (initial_path h side) ∷ []) hs br n))
   where
-    by : In (Some k) (cases_from g.params (model_of g side) h side cell 0 (model_of g side).stmts) ⊎ In (Some k) (Some (initial_path h side) ∷ []) → BranchOf h side k
+    by : IsAmong (Some k) (cases_from g.params (model_of g side) h side cell 0 (model_of g side).stmts) ⊎ IsAmong (Some k) (Some (initial_path h side) ∷ []) → BranchOf h side k
     by (inl c) =
         let co = case_of g h side cell 0 (model_of g side).stmts (Some k) c in
         let source = root h.conj.columns (0 + co.j) co.stmt in
@@ -525,7 +526,7 @@ stayed g side seat p more n lp si b b' i h i' h' = record {
 }
 
 left_back : (g : Compared) (h : Path) (cell : CellForms) (hs : List Path) → InPath g h → cell_read g.pairing.left h.left.position ≡ Some cell → read_branches g.pairing.params g.pairing.left h Left cell ≡ Some hs
-    → (p more : List ℤ) (a a' : Placed g.left) (b b' : Placed g.right) → StandsOn g h p a b → (z : Path) → In z hs → StandsOn g z (p ++ more) a' b' → ResolvesTo g.left a a' × IsAt g.right b' b.position b.at b.spot
+    → (p more : List ℤ) (a a' : Placed g.left) (b b' : Placed g.right) → StandsOn g h p a b → (z : Path) → IsAmong z hs → StandsOn g z (p ++ more) a' b' → ResolvesTo g.left a a' × IsAt g.right b' b.position b.at b.spot
 left_back g h cell hs i e br p more a a' b b' st z n sz =
     let k = branch_of g.pairing h Left cell hs br z n in
     let last : Option Assumed = Some (record { side = Left; reader = h.left; source = k.source }) in
@@ -536,7 +537,7 @@ left_back g h cell hs i e br p more a a' b b' st z n sz =
     )
 
 right_back : (g : Compared) (h : Path) (cell : CellForms) (hs : List Path) → InPath g h → cell_read g.pairing.right h.right.position ≡ Some cell → read_branches g.pairing.params g.pairing.right h Right cell ≡ Some hs
-    → (p more : List ℤ) (a a' : Placed g.left) (b b' : Placed g.right) → StandsOn g h p a b → (z : Path) → In z hs → StandsOn g z (p ++ more) a' b' → ResolvesTo g.right b b' × IsAt g.left a' a.position a.at a.spot
+    → (p more : List ℤ) (a a' : Placed g.left) (b b' : Placed g.right) → StandsOn g h p a b → (z : Path) → IsAmong z hs → StandsOn g z (p ++ more) a' b' → ResolvesTo g.right b b' × IsAt g.left a' a.position a.at a.spot
 right_back g h cell hs i e br p more a a' b b' st z n sz =
     let k = branch_of g.pairing h Right cell hs br z n in
     let last : Option Assumed = Some (record { side = Right; reader = h.right; source = k.source }) in
@@ -578,7 +579,7 @@ steps_are_branches g order h hs i e p a a' b b' st step = by (cell_read g.pairin
     by None None q q' e (inr (inr c)) = calls (call_at g.pairing.left h.left.position) (call_at g.pairing.right h.right.position) refl refl e c
 
 -- each pair on a branch is behind a step
-pub branches_are_steps : (g : Compared) (order : Order) (h : Path) (hs : List Path) → InPath g h → branches g.pairing order h ≡ Some hs → (p more : List ℤ) (a a' : Placed g.left) (b b' : Placed g.right) → StandsOn g h p a b → (z : Path) → In z hs → StandsOn g z (p ++ more) a' b' → StepsTo g order a b a' b'
+pub branches_are_steps : (g : Compared) (order : Order) (h : Path) (hs : List Path) → InPath g h → branches g.pairing order h ≡ Some hs → (p more : List ℤ) (a a' : Placed g.left) (b b' : Placed g.right) → StandsOn g h p a b → (z : Path) → IsAmong z hs → StandsOn g z (p ++ more) a' b' → StepsTo g order a b a' b'
 branches_are_steps g order h hs i e p more a a' b b' st z n sz = by (cell_read g.pairing.left h.left.position) (cell_read g.pairing.right h.right.position) refl refl e
   where
     calls : (o o' : Option CallAt) → call_at g.pairing.left h.left.position ≡ o → call_at g.pairing.right h.right.position ≡ o' → branches_of_calls g.pairing order h o o' ≡ Some hs → CallStep g order a b a' b'

@@ -13,6 +13,7 @@ use Rattle.ac_syntax.specs.declared.tree.Position.TheVariants.{Node}
 use Rattle.ac_syntax.specs.declared.tree.Symbol.{Symbol}
 use Rattle.ac_syntax.specs.declared.tree.Value.{Value}
 use Rattle.ac_syntax.specs.declared.tree.Value.TheVariants.{Number, Access, Call'}
+use Rattle.ac_forms.specs.Members.{IsAmong}
 use Rattle.ac_forms.specs.Renaming.{picked}
 use Rattle.ac_poly.specs.Nodes.{roots}
 use Rattle.ac_paths.specs.Columns.{columns_of}
@@ -131,11 +132,6 @@ pub record StandsOn (g : Compared) (h : Path) (p : List ℤ) (a : Placed g.left)
   pub left : IsAt g.left a h.left.position (picked (columns_of h.left) p) a.spot
   pub right : IsAt g.right b h.right.position (picked (columns_of h.right) p) b.spot
 
--- one of several
-abbrev pub In : {A : Type 0} → A → List A → Type 0
-In x [] = ⊥
-In x (y ∷ ys) = (x ≡ y) ⊎ In x ys
-
 -- a pair that stands on one of some paths, at a point that goes on from p
 abbrev pub StandsBehind : (g : Compared) → List Path → List ℤ → Placed g.left → Placed g.right → Type 0
-StandsBehind g hs p a b = (h : Path) × In h hs × (more : List ℤ) × StandsOn g h (p ++ more) a b
+StandsBehind g hs p a b = (h : Path) × IsAmong h hs × (more : List ℤ) × StandsOn g h (p ++ more) a b

@@ -1,9 +1,6 @@
 //! The steps of a pair of calls.
 ghost use Rattle.std.specs.Prelude.{◌≡◌, ℕ, ◌+◌, ◌<◌, ◌++◌, [], ◌∷◌, map, IfOk, Option, Some, None, List, length, get_or};
 ghost use Rattle.ac_syntax.specs.declared.tree.Position.TheVariants.{Node};
-ghost use Rattle.std.specs.List.{list_any};
-ghost use Rattle.std.specs.Cmp.Lexicographic.{pointwise};
-ghost use Rattle.std.specs.Prelude.{nat_eq};
 ghost use Rattle.ac_syntax.specs.Outputs.{swaps_of};
 ghost use Rattle.ac_paths.specs.Branching.{onto, all_onto};
 ghost use Rattle.ac_paths.specs.Calls.{pairing, called};
@@ -12,36 +9,11 @@ ghost use Rattle.ac_paths.specs.Places.{call_at};
 
 use crate::path::{Branch, Path, Programs, Seat};
 use crate::places::{CallNode, call_at};
+use crate::symbols::{may_swap, same_symbol};
 use ac_items::Items;
 use ac_syntax::name::Name;
 use ac_syntax::tree::{Order, Position, Symbol};
 use std::alloc::{AllocError, Global};
-
-/// Whether two symbols are one.
-fn same_symbol(first: &Symbol, second: &Symbol) -> bool
-    ensures { result ≡ same_symbol first.now second.now }
-{
-    first.arity == second.arity && first.name == second.name
-}
-
-/// Whether a name is among those.
-fn has_name(names: &[Name], name: &[u8]) -> bool
-    ensures { result ≡ list_any (pointwise nat_eq name.now) names.now }
-{
-    for candidate in names {
-        if *name == *candidate.as_bytes() {
-            return true;
-        }
-    }
-    false
-}
-
-/// Whether the two arguments of a symbol may be swapped.
-fn may_swap(names: &[Name], symbol: &Symbol) -> bool
-    ensures { result ≡ swaps_of names.now symbol.now }
-{
-    symbol.arity == 2 && has_name(names, symbol.name.as_bytes())
-}
 
 /// What is added by a step to two arguments.
 #[tactic(auto, using(crate::proofs::CallLoops::argument_steps))]

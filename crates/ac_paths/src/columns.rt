@@ -8,7 +8,7 @@ ghost use Rattle.ac_forms.specs.Renaming.{renaming, rows_renaming};
 ghost use Rattle.ac_paths.specs.Columns.{difference, equal_forms, base, columns_of};
 
 use crate::path::Seat;
-use ac_forms::{Form, FormStop, Row, renamed_rows};
+use ac_forms::{Form, FormStop, Row, push_range, renamed_rows};
 use ac_items::Items;
 use std::alloc::{AllocError, Global};
 
@@ -114,28 +114,6 @@ pub fn equal_forms(
         }
     }
     Ok(Some(made))
-}
-
-/// The column so many behind another.
-pub fn column_after(first: usize, k: usize) -> Result<usize, AllocError>
-    ensures { IfOk result (λ column. column ≡ first + k) }
-{
-    first.checked_add(k).ok_or(AllocError)
-}
-
-/// Adds so many columns from one on.
-#[tactic(auto, using(crate::proofs::EqualSteps::range_steps))]
-pub(crate) fn push_range(
-    list: &mut Items<usize>,
-    first: usize,
-    count: usize,
-) -> Result<(), AllocError>
-    ensures { OnOk result (list.new ≡ list.old ++ range_with_len first count) }
-{
-    for k in 0..count {
-        list.push(column_after(first, k)?)?;
-    }
-    Ok(())
 }
 
 /// The columns of the parameters and of a position's coordinates.

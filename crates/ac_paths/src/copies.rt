@@ -12,12 +12,11 @@ ghost use Rattle.ac_paths.specs.Killing.{assignment_at, after_rows, copy_rows, s
 ghost use Rattle.ac_paths.specs.Made.{IsMadeIf};
 ghost use Rattle.ac_paths.specs.Places.{levels_to};
 
-use crate::columns::column_after;
 use crate::going::{appended, case_rows, moved_at_both, root};
 use crate::killing::case_width;
 use crate::path::{Assumed, CopyNumbers, Programs, Seat, Side};
 use crate::places::{CellForms, cell_read, levels_to};
-use ac_forms::{Conj, FormStop, Row};
+use ac_forms::{Conj, FormStop, Row, column_after};
 use ac_items::Items;
 use ac_poly::types::{Model, StmtModel};
 use ac_syntax::tree::Position;

@@ -13,10 +13,10 @@ ghost use Rattle.ac_paths.specs.Adding.{Adds};
 ghost use Rattle.ac_paths.specs.Formed.{HasModuli, IsFormed, AreFormedIf};
 
 use crate::calls::steps_of_calls;
-use crate::columns::{column_after, columns_at, columns_of_both, forms_equal, rows_moved};
+use crate::columns::{columns_at, columns_of_both, forms_equal, rows_moved};
 use crate::path::{Assumed, Branch, Path, Programs, Seat, Side};
 use crate::places::{CellForms, cell_read, levels_to};
-use ac_forms::{Conj, Row};
+use ac_forms::{Conj, Row, column_after};
 use ac_items::Items;
 use ac_poly::types::{Model, StmtModel};
 use ac_syntax::tree::{Order, Position};

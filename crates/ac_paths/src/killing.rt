@@ -5,11 +5,11 @@ ghost use Rattle.ac_forms.specs.Rows.{HaveModuli, IsWellMade};
 ghost use Rattle.ac_paths.specs.Made.{IsMadeIf};
 ghost use Rattle.ac_paths.specs.Killing.{source_columns, case_columns, source_width, case_width, by_column, taken_legally, chosen, ends_before, is_killed};
 
-use crate::columns::{column_after, moved_rows, push_range};
+use crate::columns::moved_rows;
 use crate::path::{Assumed, Seat};
 use crate::standing::made_and_stand;
 use ac_cert::{Choice, StepStop};
-use ac_forms::{Conj, Row};
+use ac_forms::{Conj, Row, column_after, push_range};
 use ac_items::Items;
 use ac_standing::NormalForms;
 use std::alloc::{AllocError, Global};

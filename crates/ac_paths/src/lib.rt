@@ -11,3 +11,4 @@ pub mod laws;
 pub mod path;
 pub mod places;
 pub mod standing;
+pub mod symbols;

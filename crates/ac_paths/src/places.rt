@@ -5,8 +5,7 @@ ghost use Rattle.ac_poly.specs.declared.types.StmtModel.{StmtModel};
 ghost use Rattle.ac_paths.specs.Places.{element_forms, node_at, read_of, output_cell, cell_read, levels_to, number_of, number_at, initial_cell, call_of, call_at};
 ghost use Rattle.ac_paths.specs.Calls.{called};
 
-use crate::columns::column_after;
-use ac_forms::{Form, Row};
+use ac_forms::{Form, Row, column_after};
 use ac_items::Items;
 use ac_poly::types::{Model, NodeModel};
 use ac_syntax::tree::{Position, Symbol};

@@ -1,7 +1,7 @@
 -- Answers that may be faults.
 use Rattle.std.proofs.Common.{◌≡◌, Result, Ok, Err, ap}
 use Rattle.std.specs.Result.{IsErrAnd}
-use Rattle.ac_forms.specs.Stops.{MadeIff}
+use Rattle.ac_forms.specs.Stops.{IfWide}
 use Rattle.ac_forms.specs.declared.stop.FormStop.{FormStop}
 use Rattle.ac_forms.specs.declared.stop.FormStop.TheVariants.{Wide as FormWide, Memory as FormMemory}
 use Rattle.ac_poly.specs.Faults.{Answers}
@@ -19,9 +19,9 @@ err_map (Pieces p) Q R F G b h = b (Pieces p) h
 err_map (Wide p) Q R F G b h = b (Wide p) h
 err_map (Memory e) Q R F G b h = tt
 
-pub wide_not : {T : Type 0} (stop : FormStop) (P : Type 0) (v : T) → stop ≡ FormWide → MadeIff (Err stop) P v → ¬ P
-wide_not FormWide P v e h = h
-wide_not (FormMemory m) P v e h = cc
+pub wide_not : (stop : FormStop) (P : Type 0) → stop ≡ FormWide → IfWide stop (¬ P) → ¬ P
+wide_not FormWide P e h = h
+wide_not (FormMemory m) P e h = cc
 
 pub err_is : {T : Type 0} (r : Result T LowerFault) (stop : LowerFault) → IsErrAnd r (λ e. e ≡ stop) → r ≡ Err stop
 err_is (Ok x) stop h = absurd h

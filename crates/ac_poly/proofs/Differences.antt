@@ -9,10 +9,10 @@ use Rattle.ac_poly.specs.Laws.{values_at}
 use Rattle.ac_poly.proofs.Values.{length-mix, narrow-column}
 
 -- a column has the number that the point has there
-no_more : (k : ℕ) → k + 1 - k - 1 ≡ 0
+pub no_more : (k : ℕ) → k + 1 - k - 1 ≡ 0
 no_more k = omega arith
 
-dot-unit : (k : ℕ) (p : List ℤ) → dot (replicate k (pos 0) ++ pos 1 ∷ []) p ≡ get_or p k (pos 0)
+pub dot-unit : (k : ℕ) (p : List ℤ) → dot (replicate k (pos 0) ++ pos 1 ∷ []) p ≡ get_or p k (pos 0)
 dot-unit zero [] = refl
 dot-unit zero (x ∷ p) = let e : dot [] p ≡ pos 0 = refl in omega (arith, ints)
 dot-unit (suc k) [] = refl

@@ -10,7 +10,7 @@ use Rattle.ac_poly.specs.Pieces.{negations, with_each, failing}
 use Rattle.ac_poly.specs.Steps.{way, failing_by, ways_by, ways}
 use Rattle.ac_poly.specs.declared.pieces.Way.{Way}
 
-more : {A : Type 0} (xs : List A) (i : ℕ) (x : A) → i < length xs → x ≡ get_or xs i x → drop i xs ≡ x ∷ drop (i + 1) xs
+pub more : {A : Type 0} (xs : List A) (i : ℕ) (x : A) → i < length xs → x ≡ get_or xs i x → drop i xs ≡ x ∷ drop (i + 1) xs
 more xs i x l e = drop_more xs i x l ∙ ap (λ y. y ∷ drop (i + 1) xs) (sym e)
 
 -- a piece with each of some rows

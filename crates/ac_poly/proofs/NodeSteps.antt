@@ -36,7 +36,7 @@ root_end vs first i made at h l = sym ((h.value ∙ ap (λ r. made ++ roots_of r
 pub ruleset root_steps = (root_start, root_step, root_end)
 
 -- a call at lists
-roots_row : (m : _) (k : Row_of-Value m) (at : ℕ) → roots k at ≡ roots_of (items-the_row-Value m k) at
+pub roots_row : (m : _) (k : Row_of-Value m) (at : ℕ) → roots k at ≡ roots_of (items-the_row-Value m k) at
 unfolding roots
 roots_row m end_of-Value at = refl
 roots_row m (more_of-Value {n = n} v rest) at = ap (λ r. at ∷ r) (roots_row n rest (at + size v))

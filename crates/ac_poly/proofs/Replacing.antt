@@ -3,7 +3,7 @@ use Rattle.std.proofs.Common.{◌≡◌, ℕ, ◌+◌, ◌<◌, ◌≤◌, List,
 use Rattle.std.proofs.lemmas.List.{drop_more, drop_all, get_or_default}
 use Rattle.std.proofs.lemmas.Int.{to_z-of_z}
 use Rattle.std.specs.Result.{IsErrAnd}
-use Rattle.ac_forms.specs.Stops.{MadeIff}
+use Rattle.ac_forms.specs.Stops.{IfWide, MadeIff}
 use Rattle.ac_forms.specs.declared.stop.FormStop.{FormStop}
 use Rattle.ac_forms.specs.declared.stop.FormStop.TheVariants.{Wide, Memory}
 use Rattle.ac_forms.specs.Affine.{Affine, combined, CanAddTimes}
@@ -72,17 +72,17 @@ replacing_made f0 cs gs f i g new r h k e z made =
     let m = rw (to_z-of_z w64 (get_or cs i (pos 0)) z) at made in
     replacing_step f0 cs gs f new i (get_or cs i (pos 0)) g r h k (got cs i (pos 0) h) e m
 
-replacing_stops : (f0 : Affine) (cs : List ℤ) (gs : List Affine) (f : Affine) (i : ℕ) (g v w : Affine) (stop : FormStop) → Replacing f0 cs gs f i → i < length cs → i < length gs → g ≡ get_or gs i g → FitsSigned w64 (get_or cs i (pos 0))
-    → MadeIff (Err stop) (CanAddTimes f (again (get_or cs i (pos 0))) g) v → MadeIff (Err stop) (CanReplace f0 cs gs) w
-replacing_stops f0 cs gs f i g v w Wide r h k e z made =
+replacing_stops : (f0 : Affine) (cs : List ℤ) (gs : List Affine) (f : Affine) (i : ℕ) (g : Affine) (stop : FormStop) → Replacing f0 cs gs f i → i < length cs → i < length gs → g ≡ get_or gs i g → FitsSigned w64 (get_or cs i (pos 0))
+    → IfWide stop (¬ (CanAddTimes f (again (get_or cs i (pos 0))) g)) → IfWide stop (¬ (CanReplace f0 cs gs))
+replacing_stops f0 cs gs f i g Wide r h k e z made =
     λ can. (rw (to_z-of_z w64 (get_or cs i (pos 0)) z) at made) (replacing_fits f0 cs gs f i (get_or cs i (pos 0)) g r h k (got cs i (pos 0) h) e can)
-replacing_stops f0 cs gs f i g v w (Memory m) r h k e z made = tt
+replacing_stops f0 cs gs f i g (Memory m) r h k e z made = tt
 
-pub replacing_err : (r : Result Affine FormStop) (f0 : Affine) (es cs : List ℤ) (gs : List Affine) (f : Affine) (i : ℕ) (g v w : Affine) (stop : FormStop) → Replacing f0 cs gs f i → cs ≡ es → i < length cs → i < length gs → g ≡ get_or gs i g → FitsSigned w64 (get_or cs i (pos 0))
-    → MadeIff (Err stop) (CanAddTimes f (again (get_or cs i (pos 0))) g) v → IsErrAnd r (λ e. e ≡ stop) → MadeIff r (CanReplace f0 es gs) w
-replacing_err (Ok x) f0 es cs gs f i g v w stop r c h k e z made is = absurd is
-replacing_err (Err x) f0 es cs gs f i g v w stop r c h k e z made is =
-    let P : FormStop → Type 0 = λ s. MadeIff {T = Affine} (Err s) (CanReplace f0 es gs) w in
-    subst P (sym is) (subst (λ l. MadeIff (Err stop) (CanReplace f0 l gs) w) c (replacing_stops f0 cs gs f i g v w stop r h k e z made))
+pub replacing_err : (r : Result Affine FormStop) (f0 : Affine) (es cs : List ℤ) (gs : List Affine) (f : Affine) (i : ℕ) (g w : Affine) (stop : FormStop) → Replacing f0 cs gs f i → cs ≡ es → i < length cs → i < length gs → g ≡ get_or gs i g → FitsSigned w64 (get_or cs i (pos 0))
+    → IfWide stop (¬ (CanAddTimes f (again (get_or cs i (pos 0))) g)) → IsErrAnd r (λ e. e ≡ stop) → MadeIff r (CanReplace f0 es gs) w
+replacing_err (Ok x) f0 es cs gs f i g w stop r c h k e z made is = absurd is
+replacing_err (Err x) f0 es cs gs f i g w stop r c h k e z made is =
+    let P : FormStop → Type 0 = λ s. IfWide s (¬ (CanReplace f0 es gs)) in
+    subst P (sym is) (subst (λ l. IfWide stop (¬ (CanReplace f0 l gs))) c (replacing_stops f0 cs gs f i g stop r h k e z made))
 
 pub ruleset replacing = (replacing_start, replacing_end, replacing_end_forms)

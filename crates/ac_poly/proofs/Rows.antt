@@ -15,7 +15,9 @@ use Rattle.ac_forms.specs.Pieces.{IsInSome}
 use Rattle.ac_poly.specs.Forms.{lowered, row_by, rows_of}
 use Rattle.ac_poly.specs.Pieces.{negations, with_each, failing}
 use Rattle.ac_syntax.specs.Ready.{FitParts}
-use Rattle.ac_poly.proofs.Values.{worth, value-lowered, value-below, value-above}
+use Rattle.ac_poly.proofs.Values.{worth, value-lowered}
+use Rattle.ac_forms.proofs.Negations.{value-above}
+use Rattle.ac_forms.proofs.Negations.{value-below}
 use Rattle.ac_forms.proofs.InPieces.{some-append}
 
 pub nonneg : (z : ℤ) → (is_nonnegative z ≡ true) ↔ (pos 0 ≤ℤ z)

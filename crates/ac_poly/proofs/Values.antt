@@ -11,6 +11,7 @@ use Rattle.ac_syntax.specs.Ready.{Fits}
 use Rattle.ac_syntax.specs.declared.tree.IndexExpr.{IndexExpr}
 use Rattle.ac_forms.specs.Negation.{below, above}
 use Rattle.ac_poly.specs.Forms.{replaced, lowered, stepping}
+use Rattle.ac_forms.proofs.Negations.{value-below, value-above}
 
 -- what each form is worth
 abbrev pub worth : List ℤ → List Affine → List ℤ
@@ -90,12 +91,6 @@ value-stepping f step n p z h w =
     ∙ ap (λ v. pos 1 *ℤ value_at f (p ++ z ∷ []) +ℤ step *ℤ v) (value-column n p z h)
     ∙ ap (λ v. pos 1 *ℤ v +ℤ step *ℤ z) (value-narrow f p (z ∷ []) (omega arith))
     ∙ omega (arith, ints)
-
-pub value-below : (f : Affine) (p : List ℤ) → value_at (below f) p ≡ neg_ℤ (value_at f p) +ℤ negsuc 0
-value-below f p = let e = value_at-scaled (negsuc 0) f p in omega (arith, ints, e)
-
-pub value-above : (f : Affine) (p : List ℤ) → value_at (above f) p ≡ value_at f p +ℤ negsuc 0
-value-above f p = omega (arith, ints)
 
 -- several index expressions
 pub all_values : (ps zs : List ℤ) (its : List Affine) (es : List IndexExpr) → AllByRecursion (Fits (length ps) (length its)) es

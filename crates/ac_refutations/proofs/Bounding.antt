@@ -64,10 +64,10 @@ shown-at z all n low (x ∷ rows) (suc i) r h l e = shown-at z all n low rows i 
 
 pub margin-at : (z : ℕ) (all : List Row) (n : ℤ) (f : Affine) (rows : List Row) (i : ℕ) (r : Row) → IsMargin z all n f rows → i < length rows → r ≡ get_or rows i r → IsMargin z all n f (r ∷ [])
 margin-at z all n f rows i r m l e =
-    let k = m.taken.modest in
+    let k = m.taken.within_2_to_120 in
     record {
       taken = record {
-        modest = record { factor = k.factor; number = k.number; product = k.product; rows = (k.rows.0, (row-within k.factor k.number rows i r k.rows.1 l e, tt)); moduli = tt };
+        within_2_to_120 = record { factor = k.factor; number = k.number; product = k.product; rows = (k.rows.0, (row-within k.factor k.number rows i r k.rows.1 l e, tt)); moduli = tt };
         low = m.taken.low;
         some = m.taken.some;
         within = m.taken.within;
@@ -80,7 +80,7 @@ margin-at z all n f rows i r m l e =
 pub row-margin : (z n : ℕ) (f : Affine) (rows : List Row) → AreWithin2To120 (Ge f ∷ rows) [] → SufficesAt z rows (Ge f) n → is_low z f ≡ true → IsMargin z rows (pos n) f rows
 row-margin z n f rows m s h =
     let k = s.0 h in
-    record { taken = record { modest = m; low = low-size (coef z f) h; some = omega (arith, ints); within = k.within }; around = m; shown = k.shown }
+    record { taken = record { within_2_to_120 = m; low = low-size (coef z f) h; some = omega (arith, ints); within = k.within }; around = m; shown = k.shown }
 
 pub suffices-at : (z : ℕ) (all rows : List Row) (ns : List ℕ) (i : ℕ) (r : Row) (n : ℕ) → Suffice z all rows ns → i < length rows → r ≡ get_or rows i r → n ≡ get_or ns i 0 → SufficesAt z all r n
 suffices-at z all [] ns i r n s l e f = absurd (omega arith)

@@ -1,4 +1,4 @@
--- What modest rows allow where one of them is an equality that replaces a column, and what is left of them on a path.
+-- What rows within 2^120 allow where one of them is an equality that replaces a column, and what is left of them on a path.
 use Rattle.std.proofs.Common.{◌≡◌, ℕ, zero, suc, ◌<◌, pos, Bool, true, false, not, List, [], ◌∷◌, length, get_or, slice_get, Some, arith, refl, ◌∙◌}
 use Rattle.std.specs.Prelude.{◌≢◌}
 use Rattle.std.specs.Ordering.{int_eq}

@@ -20,7 +20,7 @@ use Rattle.ac_cert.specs.Choices.{are_absurd, left_by}
 use Rattle.ac_cert.specs.ChoiceFits.{choice_fits}
 use Rattle.ac_cert.specs.Ends.{is_absurd}
 use Rattle.ac_cert.specs.Faults.{Refusal}
-use Rattle.ac_refutations.specs.Branches.{counts_from, Stage, IsRefutedBy, IsBranch, IsTry, AreAlternatives, RefuteAll, AllModest, IsSettled, IsFirst}
+use Rattle.ac_refutations.specs.Branches.{counts_from, Stage, IsRefutedBy, IsBranch, IsTry, AreAlternatives, RefuteAll, EachIsWithin2To120, IsSettled, IsFirst}
 use Rattle.ac_refutations.specs.Descents.{StandOn, Carries, Settles, base_of}
 use Rattle.ac_refutations.specs.Refutations.{conj_of, Refutes, AreWithin2To120, IsWithin2To120, IsRefutationOf}
 use Rattle.ac_refutations.specs.declared.branch.Branch.{Branch}
@@ -79,10 +79,10 @@ counts-length i (suc n) hs = ap (λ (k : ℕ). suc k) (counts-length (suc i) n h
 
 pub record Opened (c : Conj) (hs : List Choice) (rs : List Refutation) (counts : List ℕ) : Type 0 where
   pub made : IsWellMade c
-  pub modest : AreWithin2To120 c.rows hs
+  pub within_2_to_120 : AreWithin2To120 c.rows hs
   pub fan : Fan c counts hs
   pub refuted : RefuteAll c hs rs
-  pub all_modest : AllModest rs
+  pub each_is_within_2_to_120 : EachIsWithin2To120 rs
   pub long : length counts ≡ length c.rows
 
 pub opened : (r : Refutation) (c : Conj) (hs hs' : List Choice) (rs rs' : List Refutation) (counts counts' : List ℕ) (n : ℕ) → r ≡ Open c hs rs → hs' ≡ hs → rs' ≡ rs → counts' ≡ counts → counts ≡ counts_from 0 n hs' → n ≡ length c.rows → Refutes r → IsWithin2To120 r
@@ -92,7 +92,7 @@ opened r c hs hs' rs rs' counts counts' n e eh er ec are en h m =
     let l = modest_open c hs rs (subst IsWithin2To120 e m) in
     let counted : counts' ≡ counts_from 0 (length c.rows) hs = ec ∙ are ∙ ap (λ (k : ℕ). counts_from 0 k hs') en ∙ ap (counts_from 0 (length c.rows)) eh in
     rw (eh, er)
-    (record { made = g.0; modest = l.0; fan = choices_fan c counts' hs g.0 g.1 counted; refuted = g.2; all_modest = l.1; long = ap length counted ∙ counts-length 0 (length c.rows) hs })
+    (record { made = g.0; within_2_to_120 = l.0; fan = choices_fan c counts' hs g.0 g.1 counted; refuted = g.2; each_is_within_2_to_120 = l.1; long = ap length counted ∙ counts-length 0 (length c.rows) hs })
 
 -- ---- a choice and its refutation
 
@@ -116,30 +116,30 @@ choice-fits c hs (r ∷ rs) j h f l e =
     own-refuted (x ∷ xs) (suc j) d l = own-refuted xs j d (omega arith)
 
 pub record Chosen (c : Conj) (h : Choice) (r : Refutation) (counts : List ℕ) : Type 0 where
-  pub modest : AreWithin2To120 c.rows (h ∷ [])
+  pub within_2_to_120 : AreWithin2To120 c.rows (h ∷ [])
   pub tried : IsTry c.columns c.rows counts h
   pub fits : choice_fits h c.rows ≡ true
   pub columns : (conj_of r).columns ≡ c.columns
   pub rows : (conj_of r).rows ≡ normal_form (left_by h c.rows)
   pub rows_fit' : rows_fit (left_by h c.rows) ≡ true
   pub refutes : Refutes r
-  pub is_modest : IsWithin2To120 r
+  pub is_within_2_to_120 : IsWithin2To120 r
 
-pub chosen : (c : Conj) (hs : List Choice) (rs : List Refutation) (counts : List ℕ) (j : ℕ) (h : Choice) (r : Refutation) → AreWithin2To120 c.rows hs → AreAlternatives c.columns c.rows counts hs → RefuteAll c hs rs → AllModest rs → j < length rs → h ≡ get_or hs j h → r ≡ get_or rs j r
+pub chosen : (c : Conj) (hs : List Choice) (rs : List Refutation) (counts : List ℕ) (j : ℕ) (h : Choice) (r : Refutation) → AreWithin2To120 c.rows hs → AreAlternatives c.columns c.rows counts hs → RefuteAll c hs rs → EachIsWithin2To120 rs → j < length rs → h ≡ get_or hs j h → r ≡ get_or rs j r
     → Chosen c h r counts
 chosen c hs rs counts j h r m t f a l e g =
     let long : j < length hs = omega (arith, refute-lengths c hs rs f) in
     let x = refuted-at c hs rs j h r f l e g in
     let y = after-choice h c (conj_of r) x.0 in
     record {
-      modest = modest-at c.rows hs j h m long e;
+      within_2_to_120 = modest-at c.rows hs j h m long e;
       tried = try-at c.columns c.rows counts hs j h t long e;
       fits = y.0;
       columns = ap (λ (d : Conj). d.columns) y.2;
       rows = ap (λ (d : Conj). d.rows) y.2;
       rows_fit' = y.1;
       refutes = x.1;
-      is_modest = all_modest-at rs j r a l g;
+      is_within_2_to_120 = all_modest-at rs j r a l g;
     }
 
 -- what `beneath` asks of a branch

@@ -20,7 +20,8 @@ use Rattle.ac_forms.specs.declared.normal.NormalRow.TheVariants.{Dropped, Absurd
 use Rattle.ac_cert.specs.Ends.{is_absurd, is_false}
 use Rattle.ac_cert.specs.Rules.{all_zero}
 use Rattle.ac_refutations.specs.declared.path.Trail.{Trail}
-use Rattle.ac_refutations.specs.Standing.{place_of, coef_of, Alike, Renames, StandsAt, with_form, Reaches, Leads, LeftStands, Shows}
+use Rattle.ac_forms.specs.Renaming.{with_form}
+use Rattle.ac_refutations.specs.Standing.{place_of, coef_of, Alike, Renames, StandsAt, Reaches, Leads, LeftStands, Shows}
 use Rattle.ac_refutations.proofs.Quotients.{coef-divided, divides-coef, zeros}
 use Rattle.ac_refutations.proofs.Renaming.{renames-alike}
 use Rattle.ac_refutations.proofs.Paths.{onto-self}

@@ -22,7 +22,8 @@ use Rattle.ac_refutations.specs.Leaves.{less, under, HasRoom, GoesOn, AcceptsFro
 use Rattle.ac_refutations.specs.Standing.{Alike}
 use Rattle.ac_refutations.proofs.Terms.{once}
 use Rattle.ac_refutations.proofs.Renaming.{fits-zero, blends-can}
-use Rattle.ac_refutations.proofs.Quotients.{test_zero, zeros}
+use Rattle.ac_refutations.proofs.Quotients.{zeros}
+use Rattle.ac_forms.proofs.Trims.{test_zero}
 use Rattle.ac_refutations.proofs.Divisibilities.{get_or-scaled}
 
 -- ---- a form and its opposite

@@ -37,6 +37,7 @@ pub mod Equated
 pub mod ReplacedRows
 pub mod Divided
 pub mod ByEquality
+pub mod Distinct
 pub mod Places
 pub mod SpreadNumbers
 pub mod Spreading

@@ -1,4 +1,4 @@
--- The numbers of modest rows, of which products are at most 2^120: what choices make of them stays in `i128`, and is calm.
+-- The numbers of rows of which products are at most 2^120: what choices make of them is at most 2^122.
 use Rattle.std.proofs.Common.{◌≡◌, ℕ, zero, suc, ◌+◌, ◌*◌, ◌≤◌, ◌^◌, ℤ, pos, negsuc, neg_ℤ, ◌+ℤ◌, ◌*ℤ◌, ◌≤ℤ◌, List, [], ◌∷◌, ◌++◌, map, get_or, ◌⊎◌, inl, inr, set, Bool, true, false, cond, unsigned_abs, refl, arith, mul_comm, mul-le-mul}
 use Rattle.std.specs.Prelude.{◌≢◌}
 use Rattle.std.specs.Int.{w128}
@@ -160,7 +160,7 @@ pub can-replace-all : (p q z : ℕ) (g : Affine) (rs : List Row) → p * q ≤ 2
 can-replace-all p q z g [] m b n w h = tt
 can-replace-all p q z g (r ∷ rs) m b n w h = (can-replace p q z g r m b n w.0 h.0, can-replace-all p q z g rs m b n w.1 h.1)
 
--- what is left is calm
+-- what is left is at most 2^122
 replaced-calm : (p q z : ℕ) (g : Affine) (r : Row) → p * q ≤ 2 ^ 120 → IsFormWithin p q g → IsRowWithin p q r → IsRowUpTo2To122 (replaced_row z g r)
 replaced-calm p q z g (Eq f) m b w = inr (replaced-moderate p q z f g m w b)
 replaced-calm p q z g (Div d f) m b w = (replaced-moderate p q z f g m w.0 b, (let k = product-size (size_of (coef z g)) d p q (2 ^ 120) (b.factors z) w.2 m in omega arith))
@@ -182,7 +182,7 @@ rest-calm p q z g m b n =
 pub equality-calm : (p q z : ℕ) (g : Affine) (rs : List Row) → p * q ≤ 2 ^ 120 → IsFormWithin p q g → coef z g ≢ pos 0 → AreRowsWithin p q rs → AreRowsUpTo2To122 (map (replaced_row z g) rs ++ Div (size_of (coef z g)) (without z g) ∷ [])
 equality-calm p q z g rs m b n w = calm-append (map (replaced_row z g) rs) _ (all-replaced-calm p q z g rs m b w) (rest-calm p q z g m b n, tt)
 
--- modest rows are calm
+-- rows within 2^120 are at most 2^122
 each_none : (cs : List ℤ) → ((j : ℕ) → get_or cs j (pos 0) ≡ pos 0) → DividesEach 0 cs
 each_none [] h = tt
 each_none (c ∷ cs) h = (rw (h 0) (dvd-zero 0), each_none cs (λ j. h (suc j)))

@@ -1,4 +1,4 @@
--- The numbers of a splinter of a lower row stay in `i128`, and are calm.
+-- The numbers of a splinter of a lower row are at most 2^122.
 use Rattle.std.proofs.Common.{◌≡◌, ℕ, zero, suc, ◌+◌, ◌≤◌, ◌<◌, ◌^◌, ℤ, pos, negsuc, neg_ℤ, ◌-ℤ◌, ◌≤ℤ◌, List, [], ◌∷◌, ◌++◌, inr, true, Some, slice_get, get_or, length, unsigned_abs, refl, arith}
 use Rattle.std.specs.Prelude.{◌≢◌}
 use Rattle.std.specs.Int.Signed.{lt_z}

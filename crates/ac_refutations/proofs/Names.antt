@@ -5,6 +5,7 @@ use Rattle.std.proofs.lemmas.Bool.{cases_lt}
 use borrow.Author.Tests.{eqb-true, eqb-false}
 use Rattle.ac_forms.specs.Affine.{Affine, coef}
 use Rattle.ac_refutations.specs.Descents.{AreNames}
+use Rattle.ac_refutations.proofs.Distinct.{name-within}
 use Rattle.ac_refutations.specs.Standing.{place_of, coef_of, Renames}
 
 -- the coefficient that stands at column j of the path, where the names are those of columns k, k + 1 and so on
@@ -99,7 +100,7 @@ named_renames names columns f g h e a = record { konst = e; coefs = λ j. by j }
     inside j l = h.coefs j l ∙ named-all j names f
 
     outside : (j : ℕ) → columns ≤ j → coef j g ≡ coef_of (place_of j names) f
-    outside j l = rw (place-within j names columns a.within l) (past_end g.coefs j (omega (arith, h.size)))
+    outside j l = rw (place-within j names columns (name-within columns names a.within) l) (past_end g.coefs j (omega (arith, h.size)))
 
     by : (j : ℕ) → coef j g ≡ coef_of (place_of j names) f
     by j = elim (cases_lt j columns) [ inl l ↦ inside j l | inr l ↦ outside j l ]

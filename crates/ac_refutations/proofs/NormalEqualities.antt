@@ -224,7 +224,7 @@ bounds_kept u start path names i d k f e h q a l = rw (eq_kept d f e h q) (recor
 pub shows_behind : (u : Trail) (start b c : Conj) (names : List ℕ) (i : ℕ) (r : NormalRow) → IsOnto b c → Shows u start c names i r → Shows u start b names i r
 shows_behind u start b c names i r o s = record { further = s.further; reaches = s.reaches; onto = onto-again b c s.further o s.onto; stands = s.stands }
 
--- the content of moderate coefficients is one of `i128`
+-- the content of coefficients up to 2^122 is one of `i128`
 pub content_small : (f : Affine) → IsFormUpTo2To122 f → content f.coefs < 2 ^ 127
 content_small f m = gcd_all_small (2 ^ 127) 0 f.coefs (omega arith) (λ j. omega (arith, m.coefs j))
 
@@ -276,7 +276,7 @@ equality_left t u v x a b i g f bounds left l d m start path names h o s =
     let c = bounds start path names f h o s l d m in
     shows_behind v start path c.further names i (normal_eq f) c.onto (left start c.further names c.reaches c.low c.high)
 
--- a divisor other than 0 is positive, and the numbers are moderate
+-- a divisor other than 0 is positive, and the numbers are at most 2^122
 pub divisor_some : (g : ℤ) (d : ℕ) → g ≡ pos d → (g ≡ pos 0 → ⊥) → pos 1 ≤ℤ g
 divisor_some g zero e n = absurd (n e)
 divisor_some g (suc d) e n = rw e (omega (arith, ints))

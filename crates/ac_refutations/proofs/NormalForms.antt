@@ -7,7 +7,8 @@ use Rattle.ac_integers.specs.Multiple.{divides}
 use Rattle.ac_forms.specs.Affine.{Affine, coef, scaled}
 use Rattle.ac_forms.specs.NormalForm.{clash, same_coefs, normal_form}
 use Rattle.ac_forms.specs.NormalRows.{divided, leads_negative, signed, normal_row}
-use Rattle.ac_forms.specs.Traces.{IsOneOf, IsLeftOf, HasAbsurd, HasClash}
+use Rattle.ac_forms.specs.Members.{IsAmong}
+use Rattle.ac_forms.specs.Traces.{IsLeftOf, HasAbsurd, HasClash}
 use Rattle.ac_forms.specs.declared.conj.Conj.{Conj}
 use Rattle.ac_forms.specs.declared.row.Row.{Row}
 use Rattle.ac_forms.specs.declared.row.Row.TheVariants.{Eq, Div, Ge}
@@ -75,7 +76,7 @@ clash_of (Div m f) s ls n h k e = cc
 clash_of (Ge f) s ls n h k e = cc
 
 -- where no row is absurd and none clash, the rows of the normal form are among what is left
-one_left : (rs : List Row) (ls : List Left) → AreLeftOf ls rs → ¬ HasLeft Absurd ls → HaveNoClash ls → (r : Row) → IsOneOf r (normal_form rs) → HasLeft (Kept r) ls
+one_left : (rs : List Row) (ls : List Left) → AreLeftOf ls rs → ¬ HasLeft Absurd ls → HaveNoClash ls → (r : Row) → IsAmong r (normal_form rs) → HasLeft (Kept r) ls
 one_left rs ls e a n r h = by (form_trace rs r h)
   where
     by : HasAbsurd rs ⊎ HasClash rs ⊎ IsLeftOf r rs → HasLeft (Kept r) ls
@@ -83,7 +84,7 @@ one_left rs ls e a n r h = by (form_trace rs r h)
     by (inr (inl c)) = absurd (clash_of c.0 c.1 ls n (from-rows (Kept c.0) ls rs e (kept-among c.0 rs c.2)) (from-rows (Kept c.1) ls rs e (kept-among c.1 rs c.3)) c.4)
     by (inr (inr l)) = from-rows (Kept r) ls rs e (kept-among r rs l)
 
-all_left : (xs : List Row) (ls : List Left) → ((r : Row) → IsOneOf r xs → HasLeft (Kept r) ls) → HaveLeft xs ls
+all_left : (xs : List Row) (ls : List Left) → ((r : Row) → IsAmong r xs → HasLeft (Kept r) ls) → HaveLeft xs ls
 all_left [] ls h = tt
 all_left (x ∷ xs) ls h = (h x (inl refl), all_left xs ls (λ r o. h r (inr o)))
 
@@ -139,7 +140,7 @@ no_content : (n : ℕ) → (n == 0) ≡ false → n ≡ 0 → ⊥
 no_content n e z = grind arith
 
 kept_moderate : (x : Row) (f : Affine) → IsRowUpTo2To122 x → normal_row x ≡ Kept (Eq f) → IsFormUpTo2To122 f
-kept_moderate (Eq e) f calm is = by calm (eq_cases e f (content e.coefs == 0) (int_eq e.konst (pos 0)) (divides (content e.coefs) e.konst) is)
+kept_moderate (Eq e) f up_to_2_to_122 is = by up_to_2_to_122 (eq_cases e f (content e.coefs == 0) (int_eq e.konst (pos 0)) (divides (content e.coefs) e.konst) is)
   where
     by : (content e.coefs ≡ 0) ⊎ IsFormUpTo2To122 e → ((content e.coefs == 0) ≡ false) × (f ≡ signed (divided (pos (content e.coefs)) e)) → IsFormUpTo2To122 f
     by (inl z) c = absurd (no_content (content e.coefs) c.0 z)
@@ -147,11 +148,11 @@ kept_moderate (Eq e) f calm is = by calm (eq_cases e f (content e.coefs == 0) (i
       where
         some : (n : ℕ) → (n == 0) ≡ false → 0 < n
         some n e = grind arith
-kept_moderate (Div m e) f calm is = absurd (other (div_kept m e (Eq f) is).1)
+kept_moderate (Div m e) f up_to_2_to_122 is = absurd (other (div_kept m e (Eq f) is).1)
   where
     other : {n : ℤ} {g : Affine} → Eq f ≡ Div n g → ⊥
     other q = cc
-kept_moderate (Ge e) f calm is = absurd (by (content e.coefs == 0) (int_le (pos 0) e.konst) is)
+kept_moderate (Ge e) f up_to_2_to_122 is = absurd (by (content e.coefs == 0) (int_le (pos 0) e.konst) is)
   where
     by : (c z : Bool) → cond c (cond z Dropped Absurd) (Kept (Ge (divided (pos (content e.coefs)) e))) ≡ Kept (Eq f) → ⊥
     by true true q = cc
@@ -159,9 +160,9 @@ kept_moderate (Ge e) f calm is = absurd (by (content e.coefs == 0) (int_le (pos 
     by false z q = cc
 
 calm_kept : (rs : List Row) (f : Affine) → AreRowsUpTo2To122 rs → Among (Kept (Eq f)) (map normal_row rs) → IsFormUpTo2To122 f
-calm_kept [] f calm h = absurd h
-calm_kept (x ∷ rs) f calm (inl e) = kept_moderate x f calm.0 e
-calm_kept (x ∷ rs) f calm (inr h) = calm_kept rs f calm.1 h
+calm_kept [] f up_to_2_to_122 h = absurd h
+calm_kept (x ∷ rs) f up_to_2_to_122 (inl e) = kept_moderate x f up_to_2_to_122.0 e
+calm_kept (x ∷ rs) f up_to_2_to_122 (inr h) = calm_kept rs f up_to_2_to_122.1 h
 
 -- ---- two that clash
 coefs_same : (f g : Affine) → same_coefs f g ≡ true → (j : ℕ) → coef j f ≡ coef j g
@@ -186,11 +187,11 @@ abbrev pub ShowsClash : Trail → Trail → ℕ → ℕ → ℕ → Type 0
 ShowsClash u v x y i = (start path : Conj) (names : List ℕ) (f g : Affine) → Reaches u start path → StandsAt names path x (Eq f) → StandsAt names path y (Eq g) → Clash f g → Blends (pos 1) f (negsuc 0) g → Shows v start path names i Absurd
 
 pub clash_settles : (u v : Trail) (start : Conj) (names : List ℕ) (rs : List Row) (is : List ℕ) (ls : List Left) (x y i : ℕ) → AreRowsUpTo2To122 rs → AreLeftOf ls rs → HaveClashAt x y ls → ShowsClash u v x y i → CarriesLefts u start names rs is ls → ShowsAbsurd v start i
-clash_settles u v start names rs is ls x y i calm e h shows c =
+clash_settles u v start names rs is ls x y i up_to_2_to_122 e h shows c =
     let f = h.0 in
     let g = h.2.0 in
-    let mf = calm_kept rs f calm (to-rows (Kept (Eq f)) ls rs e (at-left x (Kept (Eq f)) ls h.1)) in
-    let mg = calm_kept rs g calm (to-rows (Kept (Eq g)) ls rs e (at-left y (Kept (Eq g)) ls h.2.1)) in
+    let mf = calm_kept rs f up_to_2_to_122 (to-rows (Kept (Eq f)) ls rs e (at-left x (Kept (Eq f)) ls h.1)) in
+    let mg = calm_kept rs g up_to_2_to_122 (to-rows (Kept (Eq g)) ls rs e (at-left y (Kept (Eq g)) ls h.2.1)) in
     let s = shows start c.path names f g (stand_reaches u start c.path names rs is c.steps c.stand) (lefts_at names c.path ls x (Kept (Eq f)) c.lefts h.1) (lefts_at names c.path ls y (Kept (Eq g)) c.lefts h.2.1) (clashing f g h.2.2) (clash_blends f g mf mg) in
     record { path = s.further; steps = s.reaches.steps; row = s.stands }
 

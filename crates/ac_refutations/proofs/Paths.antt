@@ -10,7 +10,8 @@ use Rattle.ac_cert.specs.Accepted.{after_steps}
 use Rattle.ac_cert.specs.Rules.{after_step, with_row}
 use Rattle.ac_cert.proofs.Keeping.{bind-some, some-is}
 use Rattle.ac_refutations.specs.declared.path.Trail.{Trail}
-use Rattle.ac_refutations.specs.Standing.{Renames, Blends, StandsAt, Stand, CanAdd, sum_of, with_form, IsOnto, Reaches, Leads, Grows}
+use Rattle.ac_forms.specs.Renaming.{with_form}
+use Rattle.ac_refutations.specs.Standing.{Renames, Blends, StandsAt, Stand, CanAdd, sum_of, IsOnto, Reaches, Leads, Grows}
 use Rattle.ac_refutations.proofs.Terms.{summed, two_terms, two_renamed}
 
 pub steps-further : (steps : List Step) (s : Step) (c d e : Conj) → after_steps steps c ≡ Some d → after_step s d ≡ Some e → after_steps (steps ++ s ∷ []) c ≡ Some e

@@ -6,6 +6,7 @@ use Rattle.std.proofs.Math.ListN.{get_or-append}
 use borrow.Author.Tests.{eqb-true, eqb-false}
 use Rattle.ac_refutations.specs.Descents.{AreNames}
 use Rattle.ac_refutations.specs.Standing.{place_of}
+use Rattle.ac_refutations.proofs.Distinct.{name-within, same-place, columns-of, distinct-of}
 
 -- ---- the place of a number
 
@@ -92,9 +93,9 @@ wide-last names q j e is =
 wide-some : (names : List ℕ) (q j k : ℕ) → AreNames q names → place_of j names ≡ Some k → place_of j (names ++ q ∷ []) ≡ Some k
 wide-some names q j k h e =
     let r = place-some j names k e in
-    let below : get_or names k 0 < q = h.within k r.0 in
+    let below : get_or names k 0 < q = name-within q names h.within k r.0 in
     place-is j k (names ++ q ∷ []) (omega (arith, long names q, r.0)) (get_or-append names (q ∷ []) 0 k r.0 ∙ r.1)
-    (λ i l s. first-or-last (length names) i (omega (arith, long names q, l)) (λ a. h.apart i k a r.0 (sym (get_or-append names (q ∷ []) 0 i a) ∙ s ∙ sym r.1)) (λ b. absurd (omega (arith, below, r.1, last-at names q i b, s))))
+    (λ i l s. first-or-last (length names) i (omega (arith, long names q, l)) (λ a. same-place names h.apart i k a r.0 (sym (get_or-append names (q ∷ []) 0 i a) ∙ s ∙ sym r.1)) (λ b. absurd (omega (arith, below, r.1, last-at names q i b, s))))
 
 -- the names with the further one in the place of another
 new-none : (names : List ℕ) (z q j : ℕ) → z < length names → place_of j names ≡ None → j ≢ q → place_of j (set names z q) ≡ None
@@ -110,19 +111,19 @@ new-last names z q j l e is =
 new-gone : (names : List ℕ) (z q j : ℕ) → AreNames q names → z < length names → place_of j names ≡ Some z → place_of j (set names z q) ≡ None
 new-gone names z q j h l e =
     let r = place-some j names z e in
-    let below : get_or names z 0 < q = h.within z l in
+    let below : get_or names z 0 < q = name-within q names h.within z l in
     no-place j (set names z q) (λ k m. is-or-not k z
     (λ is. λ s. absurd (omega (arith, below, r.1, s, ap (λ (i : ℕ). get_or (set names z q) i 0) is ∙ get_or-set_same names z q 0 l)))
-    (λ off. λ s. off (h.apart k z (omega (arith, length-set names z q, m)) l (sym (replaced-at names z q k l off) ∙ s ∙ sym r.1))))
+    (λ off. λ s. off (same-place names h.apart k z (omega (arith, length-set names z q, m)) l (sym (replaced-at names z q k l off) ∙ s ∙ sym r.1))))
 
 new-some : (names : List ℕ) (z q j k : ℕ) → AreNames q names → z < length names → place_of j names ≡ Some k → k ≢ z → place_of j (set names z q) ≡ Some k
 new-some names z q j k h l e ne =
     let r = place-some j names k e in
-    let below : get_or names k 0 < q = h.within k r.0 in
+    let below : get_or names k 0 < q = name-within q names h.within k r.0 in
     place-is j k (set names z q) (omega (arith, length-set names z q, r.0)) (replaced-at names z q k l ne ∙ r.1)
     (λ i m s. is-or-not i z
     (λ is. absurd (omega (arith, below, r.1, s, ap (λ (x : ℕ). get_or (set names z q) x 0) is ∙ get_or-set_same names z q 0 l)))
-    (λ off. h.apart i k (omega (arith, length-set names z q, m)) r.0 (sym (replaced-at names z q i l off) ∙ s ∙ sym r.1)))
+    (λ off. same-place names h.apart i k (omega (arith, length-set names z q, m)) r.0 (sym (replaced-at names z q i l off) ∙ s ∙ sym r.1)))
 
 -- where a number stands in the names, with the further one at the end, and with it in the place of name z
 pub by-places : (names : List ℕ) (z q j : ℕ) (P : Option ℕ → Option ℕ → Option ℕ → Type 0) → AreNames q names → z < length names
@@ -134,7 +135,7 @@ pub by-places : (names : List ℕ) (z q j : ℕ) (P : Option ℕ → Option ℕ 
 by-places names z q j P h l none further gone other = by (place_of j names) refl
   where
     not-further : (k : ℕ) → place_of j names ≡ Some k → j ≢ q
-    not-further k e = λ is. let r = place-some j names k e in absurd (omega (arith, h.within k r.0, r.1, is))
+    not-further k e = λ is. let r = place-some j names k e in absurd (omega (arith, name-within q names h.within k r.0, r.1, is))
 
     by : (o : Option ℕ) → place_of j names ≡ o → P (place_of j names) (place_of j (names ++ q ∷ [])) (place_of j (set names z q))
     by None e = is-or-not j q
@@ -147,7 +148,7 @@ by-places names z q j P h l none further gone other = by (place_of j names) refl
 
 -- the new names are different columns of a path with one more
 pub new-names : (names : List ℕ) (z q : ℕ) → AreNames q names → z < length names → AreNames (q + 1) (set names z q)
-new-names names z q h l = record { within = within; apart = apart }
+new-names names z q h l = record { within = columns-of (q + 1) (set names z q) within; apart = distinct-of (set names z q) apart }
   where
     at : (k : ℕ) → k ≡ z → get_or (set names z q) k 0 ≡ q
     at k is = ap (λ (i : ℕ). get_or (set names z q) i 0) is ∙ get_or-set_same names z q 0 l
@@ -155,14 +156,14 @@ new-names names z q h l = record { within = within; apart = apart }
     within : (k : ℕ) → k < length (set names z q) → get_or (set names z q) k 0 < q + 1
     within k m = is-or-not k z
         (λ is. omega (arith, at k is))
-        (λ off. omega (arith, replaced-at names z q k l off, h.within k (omega (arith, length-set names z q, m))))
+        (λ off. omega (arith, replaced-at names z q k l off, name-within q names h.within k (omega (arith, length-set names z q, m))))
 
     old-below : (k : ℕ) → k < length (set names z q) → k ≢ z → get_or (set names z q) k 0 < q
-    old-below k m off = omega (arith, replaced-at names z q k l off, h.within k (omega (arith, length-set names z q, m)))
+    old-below k m off = omega (arith, replaced-at names z q k l off, name-within q names h.within k (omega (arith, length-set names z q, m)))
 
     apart : (j k : ℕ) → j < length (set names z q) → k < length (set names z q) → get_or (set names z q) j 0 ≡ get_or (set names z q) k 0 → j ≡ k
     apart j k a b e = is-or-not j z
         (λ is. is-or-not k z (λ too. is ∙ sym too) (λ off. absurd (omega (arith, at j is, old-below k b off, e))))
         (λ off. is-or-not k z
         (λ is. absurd (omega (arith, at k is, old-below j a off, e)))
-        (λ too. h.apart j k (omega (arith, length-set names z q, a)) (omega (arith, length-set names z q, b)) (sym (replaced-at names z q j l off) ∙ e ∙ replaced-at names z q k l too)))
+        (λ too. same-place names h.apart j k (omega (arith, length-set names z q, a)) (omega (arith, length-set names z q, b)) (sym (replaced-at names z q j l off) ∙ e ∙ replaced-at names z q k l too)))

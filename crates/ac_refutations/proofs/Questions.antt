@@ -9,8 +9,10 @@ use Rattle.ac_forms.specs.declared.conj.Conj.{Conj}
 use Rattle.ac_forms.specs.declared.row.Row.{Row}
 use Rattle.ac_forms.specs.declared.row.Row.TheVariants.{Eq, Div, Ge}
 use Rattle.ac_refutations.specs.Branches.{numbers_from}
+use Rattle.ac_refutations.proofs.Distinct.{columns-of, distinct-of}
 use Rattle.ac_refutations.specs.Descents.{AreNames, Carries}
-use Rattle.ac_refutations.specs.Standing.{place_of, coef_of, Renames, with_form, Stand, Starts}
+use Rattle.ac_forms.specs.Renaming.{with_form}
+use Rattle.ac_refutations.specs.Standing.{place_of, coef_of, Renames, Stand, Starts}
 use Rattle.ac_refutations.specs.declared.path.Trail.{Trail}
 use Rattle.ac_refutations.proofs.Branching.{at-front}
 
@@ -76,8 +78,8 @@ stand-first n path front (r ∷ rs) more i e l h =
 
 names-first : (n m : ℕ) → n ≤ m → AreNames m (numbers_from 0 n)
 names-first n m h = record {
-  within = λ k l. rw (number-at 0 n k (short k l)) (omega (arith, short k l));
-  apart = λ j k l g e. omega (arith, number-at 0 n j (short j l), number-at 0 n k (short k g), e);
+  within = columns-of m (numbers_from 0 n) (λ k l. rw (number-at 0 n k (short k l)) (omega (arith, short k l)));
+  apart = distinct-of (numbers_from 0 n) (λ j k l g e. omega (arith, number-at 0 n j (short j l), number-at 0 n k (short k g), e));
 }
   where
     short : (k : ℕ) → k < length (numbers_from 0 n) → k < n

@@ -20,9 +20,11 @@ use Rattle.ac_cert.specs.Rules.{after_step, with_row, with_column_row, divides_f
 use Rattle.ac_cert.specs.StepRows.{IsAt}
 use Rattle.ac_cert.proofs.Equations.{div_mod-row}
 use Rattle.ac_refutations.specs.declared.path.Trail.{Trail}
+use Rattle.ac_refutations.proofs.Distinct.{name-within}
 use Rattle.ac_refutations.specs.Descents.{AreNames, column_less}
 use Rattle.ac_refutations.specs.Residues.{quotient_form, less_times, CanTake}
-use Rattle.ac_refutations.specs.Standing.{Renames, Alike, Blends, StandsAt, CanAdd, sum_of, with_form, IsOnto, Reaches, Leads, Grows}
+use Rattle.ac_forms.specs.Renaming.{with_form}
+use Rattle.ac_refutations.specs.Standing.{Renames, Alike, Blends, StandsAt, CanAdd, sum_of, IsOnto, Reaches, Leads, Grows}
 use Rattle.ac_refutations.proofs.Terms.{once}
 use Rattle.ac_refutations.proofs.Renaming.{fits-zero, none_fits, renames-blends, blends-can, renames-alike}
 use Rattle.ac_refutations.proofs.Quotients.{each-true}
@@ -100,7 +102,7 @@ pub quotient_leads : (t u v : Trail) (start path : Conj) (names : List ℕ) (z c
     → Reaches t start path → AreNames t.columns names → StandsAt names path class (Div m (column_less (length names) z r)) → Leads v start path (names ++ t.columns ∷ []) i (Eq (quotient_form (length names) z m r))
 quotient_leads t u v start path names z class said i m r form is l one low fm fr g place quot h ns s =
     let own : Renames names (column_less (length names) z r) form = rw is (renames-class names z t.columns r ns l) in
-    let name : get_or names z 0 < t.columns = ns.within z l in
+    let name : get_or names z 0 < t.columns = name-within t.columns names ns.within z l in
     let long : length form.coefs ≡ get_or names z 0 + 1 = rw is (class-long (get_or names z 0) (pos 1) (record { konst = neg_ℤ r; coefs = [] }) refl) in
     let short : length form.coefs ≤ path.columns = omega (arith, long, name, h.columns) in
     let first = with_row path (Div m form) in

@@ -19,6 +19,8 @@ use Rattle.ac_refutations.specs.declared.path.Trail.{Trail}
 use Rattle.ac_refutations.specs.Standing.{place_of, coef_of, Renames, Blends, StandsAt, Reaches, Leads, Grows, AreOpposite}
 use Rattle.ac_refutations.proofs.Renaming.{renames-blends, blends-can}
 use Rattle.ac_refutations.proofs.Paths.{row_leads}
+use Rattle.ac_forms.proofs.Again.{zero_test}
+use Rattle.ac_forms.proofs.Trims.{test_zero}
 
 pub zero_over : (g : ℤ) → pos 1 ≤ℤ g → int_div_euclid (pos 0) g ≡ pos 0
 zero_over g h = let s = positive_is g h in rw s.2 (by s.0 s.1)
@@ -31,12 +33,6 @@ get_or-floored g [] zero h = sym (zero_over g h)
 get_or-floored g [] (suc j) h = sym (zero_over g h)
 get_or-floored g (c ∷ cs) zero h = refl
 get_or-floored g (c ∷ cs) (suc j) h = get_or-floored g cs j h
-
-zero_test : (c : ℤ) → int_eq c (pos 0) ≡ true → c ≡ pos 0
-zero_test c e = grind (arith, ints)
-
-pub test_zero : (c : ℤ) → c ≡ pos 0 → int_eq c (pos 0) ≡ true
-test_zero c e = grind (arith, ints)
 
 get_or-onto : (c : ℤ) (cs : List ℤ) (j : ℕ) → get_or (trim_onto c cs) j (pos 0) ≡ get_or (c ∷ cs) j (pos 0)
 get_or-onto c (d ∷ ds) j = refl

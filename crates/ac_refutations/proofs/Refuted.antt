@@ -13,7 +13,7 @@ use Rattle.ac_cert.specs.declared.types.Tree.{Tree}
 use Rattle.ac_cert.specs.ChoiceFits.{choice_fits, raw, after_choice}
 use Rattle.ac_cert.specs.Choices.{are_absurd, left_by}
 use Rattle.ac_cert.proofs.Truths.{and-true}
-use Rattle.ac_refutations.specs.Branches.{Stage, IsRefutedBy, AreRefutedBy, IsTry, AreAlternatives, RefuteAll, AllModest}
+use Rattle.ac_refutations.specs.Branches.{Stage, IsRefutedBy, AreRefutedBy, IsTry, AreAlternatives, RefuteAll, EachIsWithin2To120}
 use Rattle.ac_refutations.specs.Refutations.{conj_of, AreChoicesOf, Refutes, RefuteEach, AreModuliWithin, AreWithin2To120, IsWithin2To120, AreAllWithin2To120}
 use Rattle.ac_refutations.specs.declared.refutation.Refutation.{Refutation, Row_of-Refutation, end_of-Refutation, more_of-Refutation, items-the_row-Refutation, the_lemmas}
 use Rattle.ac_refutations.specs.declared.refutation.Refutation.TheVariants.{Absurd, Open, Open'}
@@ -38,17 +38,17 @@ pub refutes_absurd : (c : Conj) → Refutes (Absurd c) → are_absurd c.rows ≡
 unfolding Refutes
 refutes_absurd c h = h.1
 
-modest_row : (m : _) (k : Row_of-Refutation m) → AreAllWithin2To120 k → AllModest (items-the_row-Refutation m k)
+modest_row : (m : _) (k : Row_of-Refutation m) → AreAllWithin2To120 k → EachIsWithin2To120 (items-the_row-Refutation m k)
 unfolding IsWithin2To120
 modest_row m end_of-Refutation h = tt
 modest_row m (more_of-Refutation {n = n} r rest) h = (h.0, modest_row n rest h.1)
 
-open_modest_row : (c : Conj) (hs : List Choice) (n : _) (below : Row_of-Refutation _) → IsWithin2To120 (Open' c hs n below) → AreWithin2To120 c.rows hs × AllModest (items-the_row-Refutation _ below)
+open_modest_row : (c : Conj) (hs : List Choice) (n : _) (below : Row_of-Refutation _) → IsWithin2To120 (Open' c hs n below) → AreWithin2To120 c.rows hs × EachIsWithin2To120 (items-the_row-Refutation _ below)
 unfolding IsWithin2To120
 open_modest_row c hs n below h = (h.0, modest_row _ below h.1)
 
-pub modest_open : (c : Conj) (hs : List Choice) (below : List Refutation) → IsWithin2To120 (Open c hs below) → AreWithin2To120 c.rows hs × AllModest below
-modest_open c hs below h = let r : AreWithin2To120 c.rows hs × AllModest below = search (rules, the_lemmas, open_modest_row c hs _ _ h) in r
+pub modest_open : (c : Conj) (hs : List Choice) (below : List Refutation) → IsWithin2To120 (Open c hs below) → AreWithin2To120 c.rows hs × EachIsWithin2To120 below
+modest_open c hs below h = let r : AreWithin2To120 c.rows hs × EachIsWithin2To120 below = search (rules, the_lemmas, open_modest_row c hs _ _ h) in r
 
 -- ---- each in turn
 
@@ -65,7 +65,7 @@ refuted-at c (x ∷ hs) [] j h r a l e f = absurd a
 refuted-at c (x ∷ hs) (s ∷ rs) zero h r a l e f = rw (e, f) (a.0, a.1)
 refuted-at c (x ∷ hs) (s ∷ rs) (suc j) h r a l e f = refuted-at c hs rs j h r a.2 (omega arith) e f
 
-pub all_modest-at : (rs : List Refutation) (j : ℕ) (r : Refutation) → AllModest rs → j < length rs → r ≡ get_or rs j r → IsWithin2To120 r
+pub all_modest-at : (rs : List Refutation) (j : ℕ) (r : Refutation) → EachIsWithin2To120 rs → j < length rs → r ≡ get_or rs j r → IsWithin2To120 r
 all_modest-at [] j r a l e = absurd (omega arith)
 all_modest-at (s ∷ rs) zero r a l e = rw e a.0
 all_modest-at (s ∷ rs) (suc j) r a l e = all_modest-at rs j r a.1 (omega arith) e

@@ -65,7 +65,7 @@ again-is x y e f = again_128 x f ∙ e
 pub high-size : (c : ℤ) → lt_z c (pos 0) ≡ true → pos 1 ≤ℤ neg_ℤ c
 high-size c e = grind (arith, ints, e)
 
--- a lower row and an upper one, of modest rows
+-- a lower row and an upper one, of rows within 2^120
 pub pair-of : (z : ℕ) (f g : Affine) (n : ℤ) → AreWithin2To120 (Ge f ∷ Ge g ∷ []) [] → pos 1 ≤ℤ coef z f → is_high z g ≡ true → pos 0 ≤ℤ n → n ≤ℤ coef z f → IsPair f g (neg_ℤ (coef z g)) (coef z f) n
 pair-of z f g n m l h s w =
     let low = m.rows.0 in

@@ -3,6 +3,7 @@ use Rattle.std.proofs.Common.{◌≡◌, ℕ, ◌≤◌, List, [], ◌∷◌, �
 use Rattle.ac_forms.specs.Rows.{AreRowsOver, HaveModuli}
 use Rattle.ac_forms.specs.declared.conj.Conj.{Conj}
 use Rattle.ac_forms.specs.declared.row.Row.{Row}
+use Rattle.ac_refutations.proofs.Distinct.{name-within, columns-of}
 use Rattle.ac_refutations.specs.Descents.{AreNames, StandOn, Carries, base_of}
 use Rattle.ac_refutations.specs.Shadowing.{Continues}
 use Rattle.ac_refutations.specs.Standing.{Stand, Reaches}
@@ -26,7 +27,7 @@ front-on : (b : Base) (names : List ℕ) (rs ss : List Row) (is js : List ℕ) (
 front-on b names rs ss is js c l h = record { columns = h.columns; rows = h.rows; one = h.one; names = h.names; stand = stand-front names c rs ss is js l h.stand }
 
 more-names : (m n : ℕ) (names : List ℕ) → m ≤ n → AreNames m names → AreNames n names
-more-names m n names l h = record { within = λ k w. let i = h.within k w in omega arith; apart = h.apart }
+more-names m n names l h = record { within = columns-of n names (λ k w. let i = name-within m names h.within k w in omega arith); apart = h.apart }
 
 pub carries-shadows : (t u : Trail) (names : List ℕ) (rs ss : List Row) (is js : List ℕ) (made more : Standing) → length is ≡ length rs
     → ((b : Base) (path : Conj) (names : List ℕ) → StandOn b names rs is path → StandOn b names made.rows.items made.places.items path)

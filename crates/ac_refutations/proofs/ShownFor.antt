@@ -153,16 +153,16 @@ one-for z f g n m = record {
   fits = λ e. moderate-fits (shown_form n (low_bound z f) (high_bound z g)) m;
 }
 
--- rows in the place of others, and calm
+-- rows in the place of others, up to 2^122
 record AreRowsUpTo2To122For (rs ss : List Row) : Type 0 where
-  calm : AreRowsUpTo2To122 rs
+  up_to_2_to_122 : AreRowsUpTo2To122 rs
   each : AreFor rs ss
 
 none-for : AreRowsUpTo2To122For [] []
-none-for = record { calm = tt; each = tt }
+none-for = record { up_to_2_to_122 = tt; each = tt }
 
 append-for : (rs ss rs' ss' : List Row) → AreRowsUpTo2To122For rs ss → AreRowsUpTo2To122For rs' ss' → AreRowsUpTo2To122For (rs ++ rs') (ss ++ ss')
-append-for rs ss rs' ss' h k = record { calm = calm-append rs rs' h.calm k.calm; each = both-for rs ss rs' ss' h.each k.each }
+append-for rs ss rs' ss' h k = record { up_to_2_to_122 = calm-append rs rs' h.up_to_2_to_122 k.up_to_2_to_122; each = both-for rs ss rs' ss' h.each k.each }
 
 -- those of a lower row
 with-for : (z p q : ℕ) (f : Affine) (n : ℤ) (rows : List Row) → p * q ≤ 2 ^ 120 → IsFormWithin p q f → is_low z f ≡ true → AreRowsWithin p q rows → AreRowsUpTo2To122For (shown_with n (low_bound z f) (highs z rows)) (shadows_with (low_bound z f) (highs z rows))
@@ -175,7 +175,7 @@ with-for z p q f n (Ge g ∷ rows) l w h k = by (is_high z g) refl (with-for z p
         → AreRowsUpTo2To122For (shown_with n (low_bound z f) (cond t (high_bound z g ∷ highs z rows) (highs z rows))) (shadows_with (low_bound z f) (cond t (high_bound z g ∷ highs z rows) (highs z rows)))
     by true e rest =
         let m = shown-moderate z f g n (record { factor = p; number = q; product = l; rows = (w, (k.0, tt)); moduli = tt }) (low-size (coef z f) h) e in
-        record { calm = (inr m, rest.calm); each = (one-for z f g n m, rest.each) }
+        record { up_to_2_to_122 = (inr m, rest.up_to_2_to_122); each = (one-for z f g n m, rest.each) }
     by false e rest = rest
 
 -- those of all lower rows
@@ -199,4 +199,4 @@ shown-stand n z rows made more ns m e f g =
     rw (g, f) (stand-for n (rows_without z rows ++ shown_rows z rows rows ns) (rows_without z rows ++ shadows (lows z rows) (highs z rows)) (both-for (rows_without z rows) (rows_without z rows) (shown_rows z rows rows ns) (shadows (lows z rows) (highs z rows)) (self-for (rows_without z rows)) (all-for z rows ns m e).each))
 
 pub shown-calm : (z : ℕ) (rows made more : List Row) (ns : List ℕ) → AreWithin2To120 rows [] → length ns ≡ length rows → AreRowsUpTo2To122 made → more ≡ made ++ shown_rows z rows rows ns → AreRowsUpTo2To122 more
-shown-calm z rows made more ns m e h g = rw g (calm-append made (shown_rows z rows rows ns) h (all-for z rows ns m e).calm)
+shown-calm z rows made more ns m e h g = rw g (calm-append made (shown_rows z rows rows ns) h (all-for z rows ns m e).up_to_2_to_122)

@@ -63,7 +63,7 @@ normal-moderate d s h m =
         let l = m.coefs j in
         rw (coef-divided (pos d) s j (omega (arith, ints))) (omega (arith, k, l))
 
--- the normal form of a moderate form
+-- the normal form of a form up to 2^122
 left-moderate : (f : Affine) → IsFormUpTo2To122 f → IsFormUpTo2To122 (left_or f (normal_ge f))
 left-moderate f m = by (content f.coefs == 0) (int_le (pos 0) f.konst) refl
   where
@@ -92,7 +92,7 @@ shown-moderate z f g n m l k = by (is_enough n (low_bound z f) (high_bound z g))
     by false true = subst IsFormUpTo2To122 (real-is z f g l k) (real-moderate f g (neg_ℤ (coef z g)) (coef z f) (pos 0) (plain-pair z f g m l k))
     by false false = left-moderate (shadow_form (low_bound z f) (high_bound z g)) dark
 
--- the normal form of a moderate row is made in `i128`
+-- the normal form of a row up to 2^122 is made in `i128`
 pub moderate-fits : (f : Affine) → IsFormUpTo2To122 f → normal_fits (Ge f) ≡ true
 moderate-fits f m = (all_fit-is (absolutes f.coefs)).1 (each f.coefs m.coefs)
   where
@@ -136,7 +136,7 @@ can-test k f l g h =
     both (all_fit (mix_numbers k f.coefs l g.coefs)) _ ((all_fit-is (mix_numbers k f.coefs l g.coefs)).1 h.0)
     (both (fits (k *ℤ f.konst)) _ (fits_true _ h.1.0) (both (fits (l *ℤ g.konst)) (fits (k *ℤ f.konst +ℤ l *ℤ g.konst)) (fits_true _ h.1.1) (fits_true _ h.1.2)))
 
--- where the rows are modest, the test of a pair stays in `i128`
+-- where the rows are within 2^120, the test of a pair stays in `i128`
 pub pair-fits : (z : ℕ) (f g : Affine) → AreWithin2To120 (Ge f ∷ Ge g ∷ []) [] → pos 1 ≤ℤ coef z f → is_high z g ≡ true → pair_fits (low_bound z f) (high_bound z g) ≡ true
 pair-fits z f g m l k =
     let a = neg_ℤ (coef z g) in
@@ -152,7 +152,7 @@ pair-fits z f g m l k =
     (both (can_combine a (without z f) b (without z g)) _ sum (both (fits (dark_gap a b)) _ lost dark))
     (moderate-fits (shadow_form (low_bound z f) (high_bound z g)) (dark-moderate z f g m l k)))
 
--- ---- rows that imply a moderate one
+-- ---- rows that imply one up to 2^122
 
 -- a row that was read
 pub row-is : (rows : List Row) (i : ℕ) (r s : Row) → i < length rows → r ≡ get_or rows i r → get_or rows i r ≡ s → slice_get rows i ≡ Some s
@@ -184,7 +184,7 @@ row-small z i low f rows m l e =
     let w : IsFormWithin m.factor m.number f = within-at m.factor m.number rows i (Ge f) m.rows.1 e in
     (let k = w.konst in omega (arith, k, few), λ j. let k = w.coefs j in omega (arith, k, few))
 
--- one row, raised to a moderate one
+-- one row, raised to one up to 2^122
 pub one-fits : (z i : ℕ) (low f g : Affine) (rows : List Row) → AreWithin2To120 (Ge low ∷ rows) [] → pos 1 ≤ℤ coef z low → slice_get rows i ≡ Some (Ge f) → IsFormUpTo2To122 g → CanRaise f (g.konst -ℤ f.konst)
 one-fits z i low f g rows m l e r =
     let w = row-small z i low f rows m l e in
@@ -199,7 +199,7 @@ one-fits z i low f g rows m l e r =
       coefs = λ j. let c = w.1 j in fits_within _ (omega (arith, c));
     }
 
--- the sum of two rows, raised to a moderate one
+-- the sum of two rows, raised to one up to 2^122
 pub two-blend : (z i j : ℕ) (low f h : Affine) (rows : List Row) → AreWithin2To120 (Ge low ∷ rows) [] → pos 1 ≤ℤ coef z low → slice_get rows i ≡ Some (Ge f) → slice_get rows j ≡ Some (Ge h) → Blends (pos 1) f (pos 1) h
 two-blend z i j low f h rows m l e d =
     let v = row-small z i low f rows m l e in

@@ -1,4 +1,4 @@
--- The numbers of the rows that a residue leaves, from those of modest rows.
+-- The numbers of the rows that a residue leaves, from those of rows within 2^120.
 use Rattle.std.proofs.Common.{◌≡◌, ℕ, zero, suc, ◌+◌, ◌*◌, ◌^◌, ◌<◌, ◌≤◌, ℤ, pos, negsuc, neg_ℤ, ◌+ℤ◌, ◌*ℤ◌, ◌≤ℤ◌, ◌<ℤ◌, List, [], ◌∷◌, map, set, get_or, inr, unsigned_abs, refl, arith, mul-le-mul}
 use Rattle.std.specs.Int.{w128}
 use Rattle.std.proofs.lemmas.Int.{ints, unsigned_abs-mul, fits_signed_from_abs}

@@ -15,6 +15,7 @@ use Rattle.ac_cert.specs.Rules.{with_column_row}
 use Rattle.ac_cert.specs.StepRows.{IsAt}
 use Rattle.ac_cert.proofs.Equations.{quot-row}
 use Rattle.ac_refutations.specs.declared.path.Trail.{Trail}
+use Rattle.ac_refutations.proofs.Distinct.{same-place}
 use Rattle.ac_refutations.specs.Descents.{AreNames, column_less}
 use Rattle.ac_refutations.specs.Residues.{quotient_form}
 use Rattle.ac_refutations.specs.Standing.{place_of, coef_of, Renames, Reaches}
@@ -181,7 +182,7 @@ renames-class names z q r h l = record { konst = sym (less-nothing r); coefs = �
         let p = place-some j names k e in
         is-or-not k z
         (λ is. rw (e, is) (here j (sym p.1 ∙ ap (λ (i : ℕ). get_or names i 0) is) ∙ sym (column-at (length names) z r)))
-        (λ off. rw e (there j (λ is. off (h.apart k z p.0 l (p.1 ∙ is))) ∙ sym (column-off (length names) z k r off)))
+        (λ off. rw e (there j (λ is. off (same-place names h.apart k z p.0 l (p.1 ∙ is))) ∙ sym (column-off (length names) z k r off)))
 
 -- ---- steps
 

@@ -150,14 +150,14 @@ shadow-counts z rs ns e = subst (λ (n : ℕ). counts_from 0 n (choice.Shadow z 
 
 -- ---- what the rows allow
 
-both-true : (a b : Bool) → a ≡ true → b ≡ true → (a && b) ≡ true
+pub both-true : (a b : Bool) → a ≡ true → b ≡ true → (a && b) ≡ true
 both-true true b e f = f
 both-true false b e f = e
 
-not-true : (a : Bool) → a ≡ false → not a ≡ true
+pub not-true : (a : Bool) → a ≡ false → not a ≡ true
 not-true a e = rw e refl
 
-or-none : (a b : Bool) → (a || b) ≡ false → (a ≡ false) × (b ≡ false)
+pub or-none : (a b : Bool) → (a || b) ≡ false → (a ≡ false) × (b ≡ false)
 or-none true b e = absurd cc
 or-none false b e = (refl, e)
 
@@ -177,7 +177,7 @@ residue-made n z m q [] h = tt
 residue-made n z m q (r ∷ rs) h = (substitute_residue-made n z m q r h.0, residue-made n z m q rs h.1)
 
 -- the place that is found has an equality with the column
-equality-found : (z i j : ℕ) (rows : List Row) → first_equality z i rows ≡ Some j → (k : ℕ) × (j ≡ i + k) × (is_equality_of z (slice_get rows k) ≡ true)
+pub equality-found : (z i j : ℕ) (rows : List Row) → first_equality z i rows ≡ Some j → (k : ℕ) × (j ≡ i + k) × (is_equality_of z (slice_get rows k) ≡ true)
 equality-found z i j [] e = absurd cc
 equality-found z i j (Eq f ∷ rs) e = by z i j (Eq f) rs (has_column z (Eq f)) refl (equality-found z (suc i) j rs) e
   where

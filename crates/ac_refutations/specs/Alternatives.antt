@@ -1,5 +1,5 @@
 -- The choices for a column (W. Pugh, The Omega test, 1991), in order; none in the place of choices for which a number leaves `i128`.
-use Rattle.std.specs.Prelude.{◌≡◌, ◌⊎◌, ℕ, zero, suc, ◌*◌, ◌/◌, Bool, false, ◌&&◌, ◌||◌, cond, ℤ, pos, ◌-ℤ◌, ◌*ℤ◌, unsigned_abs, List, [], ◌∷◌, ◌++◌, Option, Some, None, option_map}
+use Rattle.std.specs.Prelude.{ℕ, zero, suc, ◌*◌, ◌/◌, Bool, false, ◌&&◌, ◌||◌, cond, ℤ, pos, ◌-ℤ◌, ◌*ℤ◌, unsigned_abs, List, [], ◌∷◌, ◌++◌, Option, Some, None, option_map}
 use Rattle.ac_integers.specs.Gcd.{gcd}
 use Rattle.ac_forms.specs.Affine.{Affine, coef}
 use Rattle.ac_forms.specs.Fits.{fits}
@@ -107,8 +107,3 @@ abbrev pub gathered : List Choice → Alternatives → Option (List Choice)
 gathered made [] = Some made
 gathered made (None ∷ hs) = None
 gathered made (Some h ∷ hs) = gathered (made ++ h ∷ []) hs
-
--- the choice stands among these
-abbrev pub IsAmong : Choice → List Choice → Type 0
-IsAmong h [] = ⊥
-IsAmong h (x ∷ xs) = (x ≡ h) ⊎ IsAmong h xs

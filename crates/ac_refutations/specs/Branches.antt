@@ -20,7 +20,8 @@ use Rattle.ac_refutations.specs.Descents.{StandOn, AreRowsUpTo2To122, Carries}
 use Rattle.ac_refutations.specs.Leaves.{less}
 use Rattle.ac_refutations.specs.Refutations.{conj_of, Refutes, IsWithin2To120}
 use Rattle.ac_refutations.specs.Shown.{StandFor}
-use Rattle.ac_refutations.specs.Standing.{Renames, with_form}
+use Rattle.ac_forms.specs.Renaming.{with_form}
+use Rattle.ac_refutations.specs.Standing.{Renames}
 use Rattle.ac_refutations.specs.Sufficing.{Suffice}
 use Rattle.ac_refutations.specs.declared.branch.Branch.{Branch}
 use Rattle.ac_refutations.specs.declared.descent.Base.{Base}
@@ -140,7 +141,7 @@ pub record IsBranch (s : Stage) (h : Choice) (b : Branch) : Type 0 where
   pub names : length b.names.items ≡ length s.names
   pub long : length b.standing.places.items ≡ length b.standing.rows.items
   pub rows : StandFor (length s.names) b.standing.rows.items (left_by h s.rows)
-  pub calm : AreRowsUpTo2To122 b.standing.rows.items
+  pub up_to_2_to_122 : AreRowsUpTo2To122 b.standing.rows.items
   pub carries : (c d : Conj) → IsOn s c → Begins s h c d → Carries b.trail d b.names.items b.standing.rows.items b.standing.places.items
 
 -- the tree is accepted wherever the choice's tree begins
@@ -223,9 +224,9 @@ RefuteAll c [] [] = Unit {0}
 RefuteAll c (h ∷ hs) (r ∷ rs) = (after_choice h c ≡ Some (conj_of r)) × Refutes r × RefuteAll c hs rs
 RefuteAll c _ _ = ⊥
 
-abbrev pub AllModest : List Refutation → Type 0
-AllModest [] = Unit {0}
-AllModest (r ∷ rs) = IsWithin2To120 r × AllModest rs
+abbrev pub EachIsWithin2To120 : List Refutation → Type 0
+EachIsWithin2To120 [] = Unit {0}
+EachIsWithin2To120 (r ∷ rs) = IsWithin2To120 r × EachIsWithin2To120 rs
 
 -- there are as many places as rows
 abbrev pub HasPlaces : Below → List Row → Type 0
@@ -247,5 +248,5 @@ pub record IsFirst (question : Conj) (b : Branch) : Type 0 where
   pub names : length b.names.items ≡ question.columns
   pub long : length b.standing.places.items ≡ length b.standing.rows.items
   pub rows : b.standing.rows.items ≡ question.rows
-  pub calm : AreRowsUpTo2To122 b.standing.rows.items
+  pub up_to_2_to_122 : AreRowsUpTo2To122 b.standing.rows.items
   pub carries : Carries b.trail question b.names.items b.standing.rows.items b.standing.places.items

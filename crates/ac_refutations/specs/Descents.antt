@@ -2,6 +2,7 @@
 use Rattle.std.specs.Prelude.{◌≡◌, ◌⊎◌, ℕ, ◌<◌, ◌≤◌, ◌^◌, ℤ, neg_ℤ, unsigned_abs, List, [], ◌∷◌, length, get_or, cond, true, Some, slice_get}
 use Rattle.ac_integers.specs.Gcd.{content}
 use Rattle.ac_forms.specs.Affine.{Affine, coef, shifted, column_form}
+use Rattle.ac_forms.specs.Renaming.{AreColumns, AreDistinct}
 use Rattle.ac_forms.specs.declared.conj.Conj.{Conj}
 use Rattle.ac_forms.specs.declared.row.Row.{Row}
 use Rattle.ac_forms.specs.declared.row.Row.TheVariants.{Eq, Div, Ge}
@@ -17,8 +18,8 @@ use Rattle.ac_refutations.specs.declared.path.Trail.{Trail}
 
 -- different columns of a path of that many
 pub record AreNames (columns : ℕ) (names : List ℕ) : Type 0 where
-  pub within : (k : ℕ) → k < length names → get_or names k 0 < columns
-  pub apart : (j k : ℕ) → j < length names → k < length names → get_or names j 0 ≡ get_or names k 0 → j ≡ k
+  pub within : AreColumns columns names
+  pub apart : AreDistinct names
 
 -- the path has these columns and rows, and on it the rows stand at their places, under these names, beside `1 >= 0`
 pub record StandOn (b : Base) (ns : List ℕ) (rs : List Row) (places : List ℕ) (path : Conj) : Type 0 where

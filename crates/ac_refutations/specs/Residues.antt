@@ -6,7 +6,8 @@ use Rattle.ac_forms.specs.Rows.{form_of, HasModulus}
 use Rattle.ac_forms.specs.declared.conj.Conj.{Conj}
 use Rattle.ac_forms.specs.declared.row.Row.{Row}
 use Rattle.ac_refutations.specs.Descents.{column_less}
-use Rattle.ac_refutations.specs.Standing.{Blends, IsOnto, Reaches, Stand, with_form}
+use Rattle.ac_forms.specs.Renaming.{with_form}
+use Rattle.ac_refutations.specs.Standing.{Blends, IsOnto, Reaches, Stand}
 use Rattle.ac_refutations.specs.declared.path.Trail.{Trail}
 
 -- column z of that many, less r and m times a further column

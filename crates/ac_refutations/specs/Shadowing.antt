@@ -14,7 +14,7 @@ use Rattle.ac_refutations.specs.declared.path.Trail.{Trail}
 
 -- n may be taken from a lower row of the column beside these rows: at most its coefficient
 pub record IsTaken (z : ℕ) (n : ℤ) (form : Affine) (rows : List Row) : Type 0 where
-  pub modest : AreWithin2To120 (Ge form ∷ rows) []
+  pub within_2_to_120 : AreWithin2To120 (Ge form ∷ rows) []
   pub low : pos 1 ≤ℤ coef z form
   pub some : pos 0 ≤ℤ n
   pub within : n ≤ℤ coef z form

@@ -3,6 +3,7 @@ use Rattle.std.specs.Prelude.{◌≡◌, ◌≢◌, ℕ, suc, ◌+◌, ◌≤◌
 use Rattle.ac_integers.specs.Multiple.{IsMultiple}
 use Rattle.ac_forms.specs.Affine.{Affine, coef, combined, MixFits}
 use Rattle.ac_forms.specs.Fits.{Fits}
+use Rattle.ac_forms.specs.Renaming.{with_form}
 use Rattle.ac_forms.specs.Rows.{form_of}
 use Rattle.ac_forms.specs.declared.conj.Conj.{Conj}
 use Rattle.ac_forms.specs.declared.row.Row.{Row}
@@ -34,12 +35,6 @@ pub record Renames (names : List ℕ) (f g : Affine) : Type 0 where
 pub record Alike (f g : Affine) : Type 0 where
   pub konst : g.konst ≡ f.konst
   pub coefs : (j : ℕ) → coef j g ≡ coef j f
-
--- the row with another form
-abbrev pub with_form : Row → Affine → Row
-with_form (Eq f) g = Eq g
-with_form (Div m f) g = Div m g
-with_form (Ge f) g = Ge g
 
 -- the row stands on the path at a place
 pub record StandsAt (names : List ℕ) (path : Conj) (i : ℕ) (r : Row) : Type 0 where

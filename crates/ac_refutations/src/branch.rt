@@ -35,7 +35,7 @@ fn drop_branch(
 ) -> Result<Branch, AllocError>
     requires long { length places.now ≡ length rows.now }
     requires made { AreRowsOver (length names.now) rows.now }
-    requires modest { AreWithin2To120 rows.now [] }
+    requires within_2_to_120 { AreWithin2To120 rows.now [] }
     ensures { IfOk result (λ b. (counts : List ℕ) (depth : ℕ) → IsBranch (stage base names.now places.now rows.now counts depth) (Drop z) b) }
 {
     let standing = free_rows(alloc, z, rows, places)?;
@@ -60,7 +60,7 @@ fn equal_branch(
 ) -> Result<Branch, AllocError>
     requires long { length places.now ≡ length rows.now }
     requires made { AreRowsOver (length names.now) rows.now }
-    requires modest { AreWithin2To120 rows.now [] }
+    requires within_2_to_120 { AreWithin2To120 rows.now [] }
     requires equality { is_equality_of z (slice_get rows.now i) ≡ true }
     requires fits { choice_fits (Equal z i) rows.now ≡ true }
     ensures { IfOk result (λ b. (counts : List ℕ) (depth : ℕ) → IsBranch (stage base names.now places.now rows.now counts depth) (Equal z i) b) }
@@ -89,7 +89,7 @@ fn residue_branch(
     requires long { length places.now ≡ length rows.now }
     requires column { z < length names.now }
     requires made { AreRowsOver (length names.now) rows.now }
-    requires modest { AreWithin2To120 rows.now (Residue z m r ∷ []) }
+    requires within_2_to_120 { AreWithin2To120 rows.now (Residue z m r ∷ []) }
     requires modulus { pos 1 ≤ℤ m }
     requires low { pos 0 ≤ℤ r }
     requires high { r <ℤ m }
@@ -206,7 +206,7 @@ fn shadow_branch(
     requires counts { length counts.now ≡ length rows.now }
     requires suffices { Suffice z rows.now rows.now counts.now }
     requires made { AreRowsOver (length names.now) rows.now }
-    requires modest { AreWithin2To120 rows.now [] }
+    requires within_2_to_120 { AreWithin2To120 rows.now [] }
     requires bounds { only_bounds z rows.now ≡ true }
     requires fits { choice_fits (Shadow z) rows.now ≡ true }
     ensures { IfOk result (λ b. (depth : ℕ) → IsBranch (stage base names.now places.now rows.now counts.now depth) (Shadow z) b) }
@@ -250,7 +250,7 @@ fn splinter_branch(
     requires long { length places.now ≡ length rows.now }
     requires counts { length counts.now ≡ length rows.now }
     requires made { AreRowsOver (length names.now) rows.now }
-    requires modest { AreWithin2To120 rows.now [] }
+    requires within_2_to_120 { AreWithin2To120 rows.now [] }
     requires lower { IsSplinterOf z i k rows.now }
     ensures { IfOk result (λ b. IsBranch (stage base names.now places.now rows.now counts.now depth) (Splinter z i k) b) }
 {
@@ -286,7 +286,7 @@ pub(crate) fn branch_of(
     requires names { length names.now ≡ conj.now.columns }
     requires counts { length counts.now ≡ length conj.now.rows }
     requires made { IsWellMade conj.now }
-    requires modest { AreWithin2To120 conj.now.rows (choice.now ∷ []) }
+    requires within_2_to_120 { AreWithin2To120 conj.now.rows (choice.now ∷ []) }
     requires tried { IsTry conj.now.columns conj.now.rows counts.now choice.now }
     requires fits { choice_fits choice.now conj.now.rows ≡ true }
     ensures { IfOk result (λ b. IsBranch (stage base names.now places.now conj.now.rows counts.now depth) choice.now b) }

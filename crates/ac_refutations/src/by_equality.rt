@@ -51,11 +51,11 @@ pub(crate) fn free_rows(
     places: &[usize],
 ) -> Result<Standing, AllocError>
     requires long { length places.now ≡ length rows.now }
-    requires modest { AreWithin2To120 rows.now [] }
+    requires within_2_to_120 { AreWithin2To120 rows.now [] }
     requires moduli { HaveModuli rows.now }
     ensures long { IfOk result (λ s. length s.places.items ≡ length s.rows.items) }
     ensures rows { IfOk result (λ s. s.rows.items ≡ left_by (Drop z) rows.now) }
-    ensures calm { IfOk result (λ s. AreRowsUpTo2To122 s.rows.items) }
+    ensures up_to_2_to_122 { IfOk result (λ s. AreRowsUpTo2To122 s.rows.items) }
     ensures stand { IfOk result (λ s. (b : Base) (path : Conj) (names : List ℕ) → StandOn b names rows.now places.now path → StandOn b names s.rows.items s.places.items path) }
 {
     let mut kept = no_rows(alloc);
@@ -97,14 +97,14 @@ pub(crate) fn splinter_rows(
     place: usize,
 ) -> Result<Standing, AllocError>
     requires long { length places.now ≡ length rows.now }
-    requires modest { AreWithin2To120 rows.now [] }
+    requires within_2_to_120 { AreWithin2To120 rows.now [] }
     requires moduli { HaveModuli rows.now }
     requires lower { i < length rows.now }
     requires low { pos 0 ≤ℤ k }
     requires last { (f : _) → slice_get rows.now i ≡ Some (Ge f) → (is_low z f ≡ true) × (k ≤ℤ coef z f) }
     ensures long { IfOk result (λ s. length s.places.items ≡ length s.rows.items) }
     ensures rows { IfOk result (λ s. s.rows.items ≡ left_by (Splinter z i k) rows.now) }
-    ensures calm { IfOk result (λ s. AreRowsUpTo2To122 s.rows.items) }
+    ensures up_to_2_to_122 { IfOk result (λ s. AreRowsUpTo2To122 s.rows.items) }
     ensures stand { IfOk result (λ s. (b : Base) (path : Conj) (names : List ℕ) → StandOn b names rows.now places.now path → ((f : Affine) → slice_get rows.now i ≡ Some (Ge f) → StandsAt names path place (Eq (record { konst = f.konst -ℤ k; coefs = f.coefs }))) → StandOn b names s.rows.items s.places.items path) }
 {
     let mut kept = Standing {
@@ -239,12 +239,12 @@ impl Trail {
     ) -> Result<Standing, AllocError>
         requires long { length places.now ≡ length rows.now }
         requires made { AreRowsOver (length names.now) rows.now }
-        requires modest { AreWithin2To120 rows.now [] }
+        requires within_2_to_120 { AreWithin2To120 rows.now [] }
         requires equality { is_equality_of z (slice_get rows.now i) ≡ true }
         requires fits { equality_fits z i (slice_get rows.now i) rows.now ≡ true }
         ensures long { IfOk result (λ s. length s.places.items ≡ length s.rows.items) }
         ensures rows { IfOk result (λ s. s.rows.items ≡ left_by (Equal z i) rows.now) }
-        ensures calm { IfOk result (λ s. AreRowsUpTo2To122 s.rows.items) }
+        ensures up_to_2_to_122 { IfOk result (λ s. AreRowsUpTo2To122 s.rows.items) }
         ensures carries { IfOk result (λ s. (start : Conj) → Carries self.old start names.now rows.now places.now → Carries self.new start names.now s.rows.items s.places.items) }
     {
         match &rows[i] {

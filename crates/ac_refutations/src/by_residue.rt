@@ -191,7 +191,7 @@ impl Trail {
         requires long { length places.now ≡ length rows.now }
         requires column { z < length names.now }
         requires made { AreRowsOver (length names.now) rows.now }
-        requires modest { AreWithin2To120 rows.now (Residue z m r ∷ []) }
+        requires within_2_to_120 { AreWithin2To120 rows.now (Residue z m r ∷ []) }
         requires modulus { pos 1 ≤ℤ m }
         requires low { pos 0 ≤ℤ r }
         requires high { r <ℤ m }
@@ -199,7 +199,7 @@ impl Trail {
         ensures columns { OnOk result (self.new.columns ≡ self.old.columns + 1) }
         ensures long { IfOk result (λ s. length s.places.items ≡ length s.rows.items) }
         ensures rows { IfOk result (λ s. s.rows.items ≡ left_by (Residue z m r) rows.now) }
-        ensures calm { IfOk result (λ s. AreRowsUpTo2To122 s.rows.items) }
+        ensures up_to_2_to_122 { IfOk result (λ s. AreRowsUpTo2To122 s.rows.items) }
         ensures carries { IfOk result (λ s. (start : Conj) → Carries self.old start names.now (Div m (column_less (length names.now) z r) ∷ rows.now) (class ∷ places.now) → Carries self.new start (set names.now z self.old.columns) s.rows.items s.places.items) }
     {
         let equality = self.show_class_quotient(alloc, names, z, m, r, class)?;

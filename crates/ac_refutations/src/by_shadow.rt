@@ -92,7 +92,7 @@ impl Trail {
         made: &mut Standing,
     ) -> Result<usize, AllocError>
         requires long { length bounded.now.places.now ≡ length bounded.now.rows.now }
-        requires modest { AreWithin2To120 (row.now ∷ bounded.now.rows.now) [] }
+        requires within_2_to_120 { AreWithin2To120 (row.now ∷ bounded.now.rows.now) [] }
         requires suffices { SufficesAt bounded.now.column bounded.now.rows.now row.now count }
         requires raised { used + length (lows bounded.now.column (row.now ∷ [])) ≤ length raised.now }
         ensures used { IfOk result (λ n. n ≡ used + length (lows bounded.now.column (row.now ∷ []))) }
@@ -126,7 +126,7 @@ impl Trail {
         made: &mut Standing,
     ) -> Result<(), AllocError>
         requires long { length bounded.now.places.now ≡ length bounded.now.rows.now }
-        requires modest { AreWithin2To120 bounded.now.rows.now [] }
+        requires within_2_to_120 { AreWithin2To120 bounded.now.rows.now [] }
         requires suffices { Suffice bounded.now.column bounded.now.rows.now bounded.now.rows.now counts.now }
         requires raised { length raised.now ≡ length (lows bounded.now.column bounded.now.rows.now) }
         ensures rows { IfOk result (λ _. made.new.rows.items ≡ made.old.rows.items ++ shown_rows bounded.now.column bounded.now.rows.now bounded.now.rows.now counts.now) }
@@ -158,13 +158,13 @@ impl Trail {
         requires long { length places.now ≡ length rows.now }
         requires lows { length raised.now ≡ length (lows z rows.now) }
         requires made { AreRowsOver (length names.now) rows.now }
-        requires modest { AreWithin2To120 rows.now [] }
+        requires within_2_to_120 { AreWithin2To120 rows.now [] }
         requires bounds { only_bounds z rows.now ≡ true }
         requires fits { choice_fits (Shadow z) rows.now ≡ true }
         requires suffices { Suffice z rows.now rows.now counts.now }
         ensures long { IfOk result (λ s. length s.places.items ≡ length s.rows.items) }
         ensures rows { IfOk result (λ s. StandFor (length names.now) s.rows.items (left_by (Shadow z) rows.now)) }
-        ensures calm { IfOk result (λ s. AreRowsUpTo2To122 s.rows.items) }
+        ensures up_to_2_to_122 { IfOk result (λ s. AreRowsUpTo2To122 s.rows.items) }
         ensures carries { IfOk result (λ s. (start : Conj) → Carries self.old start names.now (rows.now ++ raised_rows z rows.now counts.now) (places.now ++ raised.now) → Carries self.new start names.now s.rows.items s.places.items) }
     {
         let mut made = free_rows(alloc, z, rows, places)?;

@@ -5,7 +5,7 @@ ghost use Rattle.ac_forms.specs.Rows.{AreRowsOver, IsWellMade};
 ghost use Rattle.ac_forms.specs.Tests.{rows_fit};
 ghost use Rattle.ac_forms.specs.declared.conj.Conj.{Conj};
 ghost use Rattle.ac_cert.specs.Accepted.{Accepts, absurd_refusals};
-ghost use Rattle.ac_refutations.specs.Branches.{AllModest, AreAlternatives, HasPlaces, IsSettled, RefuteAll, AreRefutedBy, stage};
+ghost use Rattle.ac_refutations.specs.Branches.{EachIsWithin2To120, AreAlternatives, HasPlaces, IsSettled, RefuteAll, AreRefutedBy, stage};
 ghost use Rattle.ac_refutations.specs.Descents.{AreRowsUpTo2To122, Carries, StandOn};
 ghost use Rattle.ac_refutations.specs.Refutations.{IsRefutationOf, IsWithin2To120, AreWithin2To120, Refutes, conj_of};
 
@@ -31,7 +31,7 @@ fn certify_at(
     requires long { length places.now ≡ length (conj_of refutation.now).rows }
     requires names { length names.now ≡ (conj_of refutation.now).columns }
     requires refutes { Refutes refutation.now }
-    requires modest { IsWithin2To120 refutation.now }
+    requires within_2_to_120 { IsWithin2To120 refutation.now }
     ensures { IfOk result (λ t. (c : Conj) → StandOn base names.now (conj_of refutation.now).rows places.now c → Accepts t absurd_refusals c) }
 {
     match refutation {
@@ -72,10 +72,10 @@ fn certify_each(
     requires names { length names.now ≡ conj.now.columns }
     requires counts { length counts.now ≡ length conj.now.rows }
     requires made { IsWellMade conj.now }
-    requires modest { AreWithin2To120 conj.now.rows choices.now }
+    requires within_2_to_120 { AreWithin2To120 conj.now.rows choices.now }
     requires tries { AreAlternatives conj.now.columns conj.now.rows counts.now choices.now }
     requires refuted { RefuteAll conj.now choices.now below.now }
-    requires below { AllModest below.now }
+    requires below { EachIsWithin2To120 below.now }
     ensures served { IfOk result (λ ts. AreRefutedBy (stage base names.now places.now conj.now.rows counts.now depth) choices.now ts.items) }
     ensures each { IfOk result (λ ts. length ts.items ≡ length choices.now) }
 {
@@ -95,10 +95,10 @@ fn beneath(alloc: Global, branch: Branch, child: &Refutation) -> Result<Tree<Abs
     requires names { length branch.names.items ≡ (conj_of child.now).columns }
     requires made { AreRowsOver (length branch.names.items) branch.standing.rows.items }
     requires fits { rows_fit branch.standing.rows.items ≡ true }
-    requires calm { AreRowsUpTo2To122 branch.standing.rows.items }
+    requires up_to_2_to_122 { AreRowsUpTo2To122 branch.standing.rows.items }
     requires normal { (conj_of child.now).rows ≡ normal_form branch.standing.rows.items }
     requires refutes { Refutes child.now }
-    requires modest { IsWithin2To120 child.now }
+    requires within_2_to_120 { IsWithin2To120 child.now }
     ensures { IfOk result (λ t. (start : Conj) → Carries branch.trail start branch.names.items branch.standing.rows.items branch.standing.places.items → Accepts t absurd_refusals start) }
 {
     let Branch {
@@ -124,7 +124,7 @@ fn certify_below(
     requires long { HasPlaces below (conj_of refutation.now).rows }
     requires names { length names.now ≡ (conj_of refutation.now).columns }
     requires refutes { Refutes refutation.now }
-    requires modest { IsWithin2To120 refutation.now }
+    requires within_2_to_120 { IsWithin2To120 refutation.now }
     ensures { IfOk result (λ t. (path : Conj) → IsSettled base names.now below (conj_of refutation.now).rows path → Accepts t absurd_refusals path) }
 {
     match below {
@@ -142,7 +142,7 @@ pub fn certify(
 ) -> Result<Tree<Absurd>, AllocError>
     requires made { IsWellMade question.now }
     requires refuted { IsRefutationOf question.now refutation.now }
-    requires modest { IsWithin2To120 refutation.now }
+    requires within_2_to_120 { IsWithin2To120 refutation.now }
     requires numbers { AreWithin2To120 question.now.rows [] }
     ensures accepted { IfOk result (λ t. Accepts t absurd_refusals question.now) }
 {

@@ -93,7 +93,7 @@ fn raised_from(
 ) -> Result<Tree<Absurd>, AllocError>
     requires long { length places.now ≡ length rows.now }
     requires counts { (z : ℕ) × Suffice z rows.now rows.now counts.now }
-    requires modest { AreWithin2To120 rows.now [] }
+    requires within_2_to_120 { AreWithin2To120 rows.now [] }
     requires deep { length splinters.items ≤ 2 ^ depth }
     requires here { i ≤ length rows.now }
     requires end { end ≡ base.rows + lift_count (take i counts.now) }
@@ -158,7 +158,7 @@ pub(crate) fn choice_tree(
     requires names { length names.now ≡ conj.now.columns }
     requires counts { length counts.now ≡ length conj.now.rows }
     requires made { IsWellMade conj.now }
-    requires modest { AreWithin2To120 conj.now.rows choices.now }
+    requires within_2_to_120 { AreWithin2To120 conj.now.rows choices.now }
     requires all { AreAll conj.now.columns conj.now.rows counts.now choices.now }
     requires deep { length choices.now ≤ 2 ^ depth }
     requires served { AreRefutedBy (stage base names.now places.now conj.now.rows counts.now depth) choices.now trees.items }

@@ -54,7 +54,7 @@ impl Trail {
     ) -> Result<Left, AllocError>
         requires modulus { HasModulus row.now }
         requires fits { normal_fits row.now ≡ true }
-        requires calm { IsRowUpTo2To122 row.now }
+        requires up_to_2_to_122 { IsRowUpTo2To122 row.now }
         ensures base { OnOk result (IsSameBase self.old self.new) }
         ensures row { IfOk result (λ left. left.row ≡ normal_row row.now) }
         ensures shows { IfOk result (λ left. (start path : Conj) → Reaches self.old start path → HasOne self.old path → AreNames path.columns names.now → StandsAt names.now path x row.now → Shows self.new start path names.now left.place (normal_row row.now)) }
@@ -80,7 +80,7 @@ impl Trail {
         normal: &NormalRow,
     ) -> Result<usize, AllocError>
         requires modulus { HasModulus row.now }
-        requires calm { IsRowUpTo2To122 row.now }
+        requires up_to_2_to_122 { IsRowUpTo2To122 row.now }
         requires normal { normal.now ≡ normal_row row.now }
         ensures base { OnOk result (IsSameBase self.old self.new) }
         ensures shows { IfOk result (λ i. (start path : Conj) → Reaches self.old start path → HasOne self.old path → AreNames path.columns names.now → StandsAt names.now path x row.now → Shows self.new start path names.now i (normal_row row.now)) }

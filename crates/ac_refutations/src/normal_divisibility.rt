@@ -43,7 +43,7 @@ impl Trail {
         requires normal { normal.now ≡ normal_div modulus form.now }
         requires positive { pos 1 ≤ℤ modulus }
         requires small { unsigned_abs modulus ≤ 2 ^ 122 }
-        requires moderate { IsFormUpTo2To122 form.now }
+        requires up_to_2_to_122 { IsFormUpTo2To122 form.now }
         ensures base { OnOk result (IsSameBase self.old self.new) }
         ensures shows { IfOk result (λ i. (start path : Conj) → Reaches self.old start path → AreNames path.columns names.now → StandsAt names.now path x (Div modulus form.now) → Shows self.new start path names.now i (normal_div modulus form.now)) }
     {
@@ -93,7 +93,7 @@ impl Trail {
         requires absurdity { normal_div modulus form.now ≡ Absurd }
         requires positive { pos 1 ≤ℤ modulus }
         requires small { unsigned_abs modulus ≤ 2 ^ 122 }
-        requires moderate { IsFormUpTo2To122 form.now }
+        requires up_to_2_to_122 { IsFormUpTo2To122 form.now }
         ensures base { OnOk result (IsSameBase self.old self.new) }
         ensures shows { IfOk result (λ i. (start path : Conj) (names : List ℕ) → Reaches self.old start path → AreNames path.columns names → StandsAt names path x (Div modulus form.now) → Shows self.new start path names i (normal_div modulus form.now)) }
     {

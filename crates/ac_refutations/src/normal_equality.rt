@@ -80,7 +80,7 @@ impl Trail {
         form: &Form,
     ) -> Result<usize, AllocError>
         requires unit { content form.now.coefs ≡ 1 }
-        requires moderate { IsFormUpTo2To122 form.now }
+        requires up_to_2_to_122 { IsFormUpTo2To122 form.now }
         ensures base { OnOk result (IsSameBase self.old self.new) }
         ensures shows { IfOk result (λ i. (start path : Conj) (names : List ℕ) → Reaches self.old start path → StandsAt names path x (Eq form.now) → Shows self.new start path names i (normal_eq form.now)) }
     {
@@ -121,7 +121,7 @@ impl Trail {
     ) -> Result<usize, AllocError>
         requires divisor { size ≡ pos (content form.now.coefs) }
         requires some { pos 1 ≤ℤ size }
-        requires moderate { IsFormUpTo2To122 form.now }
+        requires up_to_2_to_122 { IsFormUpTo2To122 form.now }
         ensures base { OnOk result (IsSameBase self.old self.new) }
         ensures shows { IfOk result (λ i. (start path : Conj) (names : List ℕ) → Reaches self.old start path → StandsAt names path low (Ge (divided size (scaled (pos 1) form.now))) → StandsAt names path high (Ge (divided size (scaled (negsuc 0) form.now))) → Shows self.new start path names i (normal_eq form.now)) }
     {

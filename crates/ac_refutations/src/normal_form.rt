@@ -28,7 +28,7 @@ impl Trail {
         requires long { length standing.now.places.items ≡ length standing.now.rows.items }
         requires made { AreRowsOver (length names.now) standing.now.rows.items }
         requires fits { rows_fit standing.now.rows.items ≡ true }
-        requires calm { AreRowsUpTo2To122 standing.now.rows.items }
+        requires up_to_2_to_122 { AreRowsUpTo2To122 standing.now.rows.items }
         requires normal { normal.now ≡ normal_form standing.now.rows.items }
         ensures long { IfOk result (λ b. HasPlaces b normal.now) }
         ensures settles { IfOk result (λ b. (start : Conj) → Carries self.old start names.now standing.now.rows.items standing.now.places.items → Settles self.new start names.now b normal.now) }
@@ -62,7 +62,7 @@ impl Trail {
         requires long { length places.now ≡ length rows.now }
         requires made { AreRowsOver (length names.now) rows.now }
         requires fits { rows_fit rows.now ≡ true }
-        requires calm { AreRowsUpTo2To122 rows.now }
+        requires up_to_2_to_122 { AreRowsUpTo2To122 rows.now }
         ensures rows { IfOk result (λ lefts. map (λ left. left.row) lefts.items ≡ map normal_row rows.now) }
         ensures carries { IfOk result (λ lefts. (start : Conj) → Carries self.old start names.now rows.now places.now → CarriesLefts self.new start names.now rows.now places.now lefts.items) }
     {

@@ -26,7 +26,7 @@ fn first_numbers(alloc: Global, count: usize) -> Result<Vec<usize>, AllocError>
 /// The branch of a question: its rows at their places, under the numbers of their columns, behind the row `1 >= 0`.
 pub(crate) fn question_branch(alloc: Global, question: &Conj) -> Result<Branch, AllocError>
     requires made { IsWellMade question.now }
-    requires modest { AreWithin2To120 question.now.rows [] }
+    requires within_2_to_120 { AreWithin2To120 question.now.rows [] }
     ensures { IfOk result (λ b. IsFirst question.now b) }
 {
     let trail = Trail::start(alloc, question.columns, question.rows.len())?;

@@ -26,7 +26,7 @@ impl Trail {
         high: &Form,
         y: usize,
     ) -> Result<usize, AllocError>
-        requires modest { AreWithin2To120 (Ge low.now ∷ Ge high.now ∷ []) [] }
+        requires within_2_to_120 { AreWithin2To120 (Ge low.now ∷ Ge high.now ∷ []) [] }
         requires low { pos 1 ≤ℤ coef z low.now }
         requires high { is_high z high.now ≡ true }
         ensures base { OnOk result (IsSameBase self.old self.new) }

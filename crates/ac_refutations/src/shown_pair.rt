@@ -73,7 +73,7 @@ fn less(alloc: Global, form: &Form, number: i128) -> Result<Form, AllocError>
 /// The real shadow of a lower row `b z + e >= 0` and an upper row `-a z + f >= 0`: `a e + b f`.
 #[tactic(auto, using(ac_integers::proofs::Bits::again_128))]
 fn real_of(alloc: Global, z: usize, low: &Form, high: &Form) -> Result<Form, AllocError>
-    requires modest { AreWithin2To120 (Ge low.now ∷ Ge high.now ∷ []) [] }
+    requires within_2_to_120 { AreWithin2To120 (Ge low.now ∷ Ge high.now ∷ []) [] }
     requires low { pos 1 ≤ℤ coef z low.now }
     requires high { is_high z high.now ≡ true }
     ensures { IfOk result (λ f. f ≡ real_form (low_bound z low.now) (high_bound z high.now)) }
@@ -87,7 +87,7 @@ fn real_of(alloc: Global, z: usize, low: &Form, high: &Form) -> Result<Form, All
 /// Their dark shadow: `a e + b f - (a - 1) (b - 1)`.
 #[tactic(auto, using(ac_integers::proofs::Bits::again_128))]
 fn shadow_of(alloc: Global, z: usize, low: &Form, high: &Form) -> Result<Form, AllocError>
-    requires modest { AreWithin2To120 (Ge low.now ∷ Ge high.now ∷ []) [] }
+    requires within_2_to_120 { AreWithin2To120 (Ge low.now ∷ Ge high.now ∷ []) [] }
     requires low { pos 1 ≤ℤ coef z low.now }
     requires high { is_high z high.now ≡ true }
     ensures { IfOk result (λ f. f ≡ shadow_form (low_bound z low.now) (high_bound z high.now)) }
@@ -101,7 +101,7 @@ fn shadow_of(alloc: Global, z: usize, low: &Form, high: &Form) -> Result<Form, A
 
 /// The normal form of their dark shadow, where a row is left of it.
 fn left_shadow(alloc: Global, z: usize, low: &Form, high: &Form) -> Result<Form, AllocError>
-    requires modest { AreWithin2To120 (Ge low.now ∷ Ge high.now ∷ []) [] }
+    requires within_2_to_120 { AreWithin2To120 (Ge low.now ∷ Ge high.now ∷ []) [] }
     requires low { pos 1 ≤ℤ coef z low.now }
     requires high { is_high z high.now ≡ true }
     requires left { (g : Affine) × (normal_ge (shadow_form (low_bound z low.now) (high_bound z high.now)) ≡ Kept (Ge g)) }
@@ -123,7 +123,7 @@ fn reason_for(
     low: &Form,
     high: &Form,
 ) -> Result<Reason, AllocError>
-    requires modest { AreWithin2To120 (Ge low.now ∷ Ge high.now ∷ []) [] }
+    requires within_2_to_120 { AreWithin2To120 (Ge low.now ∷ Ge high.now ∷ []) [] }
     requires low { pos 1 ≤ℤ coef z low.now }
     requires high { is_high z high.now ≡ true }
     requires exact { is_exact z rows.now (low_bound z low.now) (high_bound z high.now) ≡ true }
@@ -183,7 +183,7 @@ impl Trail {
         i: usize,
     ) -> Result<Shown, AllocError>
         requires long { length bounded.now.places.now ≡ length bounded.now.rows.now }
-        requires modest { AreWithin2To120 (Ge low.now ∷ Ge high.now ∷ []) [] }
+        requires within_2_to_120 { AreWithin2To120 (Ge low.now ∷ Ge high.now ∷ []) [] }
         requires around { AreWithin2To120 (Ge low.now ∷ bounded.now.rows.now) [] }
         requires low { pos 1 ≤ℤ coef bounded.now.column low.now }
         requires high { is_high bounded.now.column high.now ≡ true }
@@ -211,7 +211,7 @@ impl Trail {
         j: usize,
     ) -> Result<Shown, AllocError>
         requires long { length bounded.now.places.now ≡ length bounded.now.rows.now }
-        requires modest { AreWithin2To120 (Ge low.now ∷ Ge high.now ∷ []) [] }
+        requires within_2_to_120 { AreWithin2To120 (Ge low.now ∷ Ge high.now ∷ []) [] }
         requires around { AreWithin2To120 (Ge low.now ∷ bounded.now.rows.now) [] }
         requires low { pos 1 ≤ℤ coef bounded.now.column low.now }
         requires high { is_high bounded.now.column high.now ≡ true }

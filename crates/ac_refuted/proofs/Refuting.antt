@@ -7,7 +7,7 @@ use Rattle.ac_syntax.specs.declared.tree.Site.{Site}
 use Rattle.ac_match.specs.Orders.{OrdersOf, Extends as ExtendsSites, ExtendsRefuted, HasOrder, IsNext, IsOrderOf}
 use Rattle.ac_match.specs.declared.orders.Next.TheVariants.{Done}
 use Rattle.ac_match.specs.declared.orders.Refuted.{Refuted}
-use Rattle.ac_setting.proofs.Lawful.{search_decides_pairs}
+use Rattle.ac_setting.proofs.Lawful.{search_decides_pairs, Key, is-false}
 use Rattle.ac_widen.specs.Combinations.{Each}
 use Rattle.ac_widen.specs.Derivations.{EntryOf}
 use Rattle.ac_widen.specs.Obligations.{Obligation, HasMismatch}
@@ -20,9 +20,7 @@ use Rattle.ac_derived.specs.Deriving.{AreRecurrences, Refutes, setting_of}
 use Rattle.ac_derived.specs.Hulls.{entries_of}
 use Rattle.ac_derived.specs.declared.pairs.Checked.{Checked}
 use Rattle.ac_refuted.specs.Mismatches.{AreRefuted, EachOrderHasMismatch, NoSearchSaysEqual}
-
-abbrev Key : Type 0
-Key = Position × Position
+use Rattle.ac_widen.proofs.Refuting.{refuted_mismatch}
 
 -- ---- the orders of the sites that an order of the pairs gives
 
@@ -50,17 +48,6 @@ extends_choices order sites (c ∷ partial) h = (order_of order sites c.0 c.1 h.
 pub refutes_same : (c : Checked) (partial other : List (Site × Order)) (es fs : List Entry) → partial ≡ other → es ≡ fs → Refutes c partial es → Refutes c other fs
 refutes_same c partial other es fs e f h = subst (λ (x : List (Site × Order)). Refutes c x fs) e (subst (λ (y : List Entry). Refutes c partial y) f h)
 
-each_last : {A : Type 0} (P : A → Type 0) (xs : List A) (x : A) → Each P (xs ++ x ∷ []) → P x
-each_last P [] x h = h.0
-each_last P (z ∷ xs) x h = each_last P xs x h.1
-
--- in each setting, also where its laws are not known
-refuted_mismatch : {K : Type 0} (s : Setting K) (partial : List (K × Order)) (es : List (EntryOf K)) (order : K → Order) → IsRefuted s partial es → Extends order partial → HasMismatch s order
-refuted_mismatch s partial es order r x =
-    let m = r.mismatch in
-    let all : Each (λ e. Obligation s order e.key e.point) (m.0 ++ m.1 ∷ []) = rw m.2 at (derived_obligation s order es (r.derivation order x)) in
-    (m.1.key, m.1.point, each_last (λ e. Obligation s order e.key e.point) m.0 m.1 all, m.3)
-
 extended_mismatch : (c : Checked) (recurrent : Key → Bool) (template : Key → List Row) (order : Key → Order) (sites : List Site) → AreRecurrences c.recurrences.now recurrent template → (list : List Refuted) → AreRefuted c list
     → ExtendsRefuted (map (chosen_by order) sites) list → HasMismatch (setting_of c recurrent template) order
 extended_mismatch c recurrent template order sites are [] h x = absurd x
@@ -72,10 +59,6 @@ pub each_mismatch : (c : Checked) (orders : OrdersOf) → AreRefuted c orders.re
 each_mismatch c orders h next recurrent template are order = extended_mismatch c recurrent template order orders.sites are orders.refuted h (next (map (chosen_by order) orders.sites) (of_sites order orders.sites))
 
 -- ---- searches
-
-is-false : (b : Bool) → ¬ (b ≡ true) → b ≡ false
-is-false true h = absurd (h refl)
-is-false false h = refl
 
 pub none_equal : (c : Checked) → EachOrderHasMismatch c → NoSearchSaysEqual c
 none_equal c h recurrent template are recur d = is-false (is_equal d) (λ t. let x = (search_decides_pairs c.pair.now c.outputs.now recurrent template recur d).0 t in x.1 (h recurrent template are x.0))

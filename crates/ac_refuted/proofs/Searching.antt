@@ -5,7 +5,7 @@ use Rattle.ac_syntax.specs.declared.tree.Pair.{Pair}
 use Rattle.ac_syntax.specs.declared.tree.Position.{Position}
 use Rattle.ac_hull.specs.Templates.{template_rows}
 use Rattle.ac_match.specs.declared.orders.Refuted.{Refuted}
-use Rattle.ac_paths.specs.Pairs.{In}
+use Rattle.ac_forms.specs.Members.{IsAmong}
 use Rattle.ac_setting.specs.Programs.{point_width, setting}
 use Rattle.ac_setting.specs.Statements.{AreRecurring}
 use Rattle.ac_widen.specs.Combinations.{Each}
@@ -21,18 +21,16 @@ use Rattle.ac_searched.proofs.Widening.{graphs_widen, widenings_are_one, widenin
 use Rattle.ac_refuted.specs.Mismatches.{AreRefuted, EachOrderHasMismatch, NoSearchSaysEqual}
 use Rattle.ac_refuted.specs.Searches.{IsSearch, IsWidenedBy, IsCheckedOf, AreUnmatchedIn, IsUnmatched}
 use Rattle.ac_refuted.specs.declared.searches.Search.{Search}
-
-abbrev pub Key : Type 0
-Key = Position × Position
+use Rattle.ac_setting.proofs.Lawful.{Key}
 
 abbrev pub rows_of : Pair → Widening → Key → List Row
 rows_of pair w key = template_rows (point_width pair key) w.thresholds w.moduli
 
 -- a pair that stands in a list
-pub in_keys : (keys list : List Key) (at : ℕ) (d : Key) → list ≡ keys → at < length list → In (get_or list at d) keys
-in_keys keys list at d e l = subst (In (get_or list at d)) e (by list at l)
+pub in_keys : (keys list : List Key) (at : ℕ) (d : Key) → list ≡ keys → at < length list → IsAmong (get_or list at d) keys
+in_keys keys list at d e l = subst (IsAmong (get_or list at d)) e (by list at l)
   where
-    by : (xs : List Key) (k : ℕ) → k < length xs → In (get_or xs k d) xs
+    by : (xs : List Key) (k : ℕ) → k < length xs → IsAmong (get_or xs k d) xs
     by [] k l = absurd (omega arith)
     by (x ∷ xs) zero l = inl refl
     by (x ∷ xs) (suc k) l = inr (by xs k (omega arith))

@@ -8,7 +8,7 @@ use Rattle.ac_flow.specs.Flows.{CasesAreSources}
 use Rattle.ac_graph.specs.Steps.{HaveFlows}
 use Rattle.ac_hull.specs.Templates.{template_rows}
 use Rattle.ac_match.specs.declared.orders.Refuted.{Refuted}
-use Rattle.ac_paths.specs.Pairs.{In}
+use Rattle.ac_forms.specs.Members.{IsAmong}
 use Rattle.ac_setting.specs.Programs.{point_width}
 use Rattle.ac_widen.specs.Combinations.{Each}
 use Rattle.ac_widen.specs.Obligations.{HasMismatch}
@@ -33,7 +33,7 @@ pub record IsSearch (s : Search) : Type 0 where
 
 -- one of the graph's recurrence pairs, with the template rows over the columns there
 abbrev pub IsWidenedBy : Search → Recurrence → Type 0
-IsWidenedBy s r = In (r.left, r.right) s.graph.now.recurrent × (r.template ≡ template_rows (point_width s.pair.now (r.left, r.right)) s.thresholds.now s.moduli.now)
+IsWidenedBy s r = IsAmong (r.left, r.right) s.graph.now.recurrent × (r.template ≡ template_rows (point_width s.pair.now (r.left, r.right)) s.thresholds.now s.moduli.now)
 
 -- a check against the pair, with this output alone and recurrence pairs of the search
 pub record IsCheckedOf (s : Search) (output : ℕ) (c : Checked) : Type 0 where

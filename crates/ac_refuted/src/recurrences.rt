@@ -1,7 +1,7 @@
 //! The recurrence pairs of a search, with the template rows with which it widens there.
 ghost use Rattle.std.specs.Prelude.{◌≡◌, ◌+◌, ◌<◌, IfOk, OnOk};
 ghost use Rattle.ac_hull.specs.Templates.{template_rows};
-ghost use Rattle.ac_paths.specs.Pairs.{In};
+ghost use Rattle.ac_forms.specs.Members.{IsAmong};
 ghost use Rattle.ac_setting.specs.Programs.{coordinate_count, point_width};
 ghost use Rattle.ac_widen.specs.Combinations.{Each};
 ghost use Rattle.ac_refuted.specs.Searches.{IsSearch, IsWidenedBy};
@@ -69,7 +69,7 @@ pub fn recurrence(
     key: &(Position, Position),
 ) -> Result<Recurrence, AllocError>
     requires given { IsSearch given.now }
-    requires among { In key.now given.now.graph.now.recurrent }
+    requires among { IsAmong key.now given.now.graph.now.recurrent }
     ensures { IfOk result (IsWidenedBy given.now) }
 {
     let columns = columns(given, key)?;
@@ -117,7 +117,7 @@ fn push_wanted(
     made: &mut Items<Recurrence>,
 ) -> Result<(), AllocError>
     requires given { IsSearch given.now }
-    requires among { In key.now given.now.graph.now.recurrent }
+    requires among { IsAmong key.now given.now.graph.now.recurrent }
     ensures { OnOk result (Each (IsWidenedBy given.now) made.old → Each (IsWidenedBy given.now) made.new) }
 {
     if is_wanted(list, key) {

@@ -1,6 +1,7 @@
 -- The first of some integers are one list.
 use Rattle.std.proofs.Common.{◌≡◌, inl, inr, ℕ, zero, suc, ◌<◌, ◌≤◌, ℤ, pos, negsuc, List, [], ◌∷◌, refl, sym, ap, subst, arith}
-use Rattle.ac_widen.specs.Combinations.{Each, IsAmong}
+use Rattle.ac_forms.specs.Members.{IsAmong}
+use Rattle.ac_widen.specs.Combinations.{Each}
 use Rattle.ac_hull.specs.First.{rank, AreFirst}
 
 rank_same : (x y : ℤ) → rank x ≡ rank y → x ≡ y

@@ -2,16 +2,14 @@
 use Rattle.std.proofs.Common.{inl, inr, List}
 use Rattle.ac_syntax.specs.declared.tree.Pair.{Pair}
 use Rattle.ac_syntax.specs.declared.tree.Position.{Position}
-use Rattle.ac_paths.specs.Pairs.{In}
+use Rattle.ac_forms.specs.Members.{IsAmong}
 use Rattle.ac_graph.specs.Moves.{Moves, ReadingMove, IsRecurrent, Reaches, start, move, dependences}
 use Rattle.ac_graph.proofs.RecurSteps.{leads_map}
-
-abbrev Key : Type 0
-Key = Position × Position
+use Rattle.ac_setting.proofs.Lawful.{Key}
 
 -- each edge is one of the others
 abbrev pub AreAmong : List Key → List Key → Type 0
-AreAmong edges others = (p q : Position) → In (p, q) edges → In (p, q) others
+AreAmong edges others = (p q : Position) → IsAmong (p, q) edges → IsAmong (p, q) others
 
 module _ (pair : Pair) (ls rs ms ns : List Key) (f : AreAmong ls ms) (g : AreAmong rs ns) where
   moves_as : (p q : Key) → Moves (dependences pair ls rs) p q → Moves (dependences pair ms ns) p q

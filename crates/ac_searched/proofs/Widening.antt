@@ -4,9 +4,9 @@ use Rattle.std.specs.List.{list_any}
 use Rattle.ac_syntax.specs.declared.tree.Pair.{Pair}
 use Rattle.ac_syntax.specs.declared.tree.Position.{Position}
 use Rattle.ac_flow.specs.declared.types.Flow.{Flow}
-use Rattle.ac_paths.specs.Pairs.{In}
+use Rattle.ac_forms.specs.Members.{IsAmong}
 use Rattle.ac_graph.specs.Moves.{starts_of}
-use Rattle.ac_graph.specs.Spreading.{same_pair}
+use Rattle.ac_claims.specs.Ending.{same_pair}
 use Rattle.ac_graph.specs.Steps.{HaveFlows}
 use Rattle.ac_graph.specs.declared.types.Graph.{Graph}
 use Rattle.ac_graph.proofs.MoveSteps.{pair_is, pair_not}
@@ -14,14 +14,11 @@ use Rattle.ac_graph.proofs.RecurSteps.{or_is}
 use Rattle.ac_graph.proofs.Resolving.{edges_are_sources}
 use Rattle.ac_graph.proofs.Stepping.{edges_sourced, left_flow, right_flow}
 use Rattle.ac_hull.specs.Thresholds.{threshold_candidates, modulus_candidates}
-use Rattle.ac_widen.specs.Combinations.{IsAmong}
 use Rattle.ac_searched.specs.Searched.{Widening, IsWideningOf}
 use Rattle.ac_searched.specs.Statements.{IsGraphOf, AreNumbersOf, GraphsWiden, WideningsAreOne, WideningsRecur, widening_of}
 use Rattle.ac_searched.proofs.Firsts.{first_is_one}
 use Rattle.ac_searched.proofs.Moving.{AreAmong, recurs_as, reaches_as}
-
-abbrev Key : Type 0
-Key = Position × Position
+use Rattle.ac_setting.proofs.Lawful.{Key}
 
 -- ---- pairs in a list
 
@@ -32,7 +29,7 @@ same_key p q = (pair_is p q, λ e. by (same_pair p q) refl e)
     by true t e = refl
     by false t e = absurd (pair_not p q t e)
 
-pub any_is : (p : Key) (list : List Key) → (list_any (same_pair p) list ≡ true) ↔ In p list
+pub any_is : (p : Key) (list : List Key) → (list_any (same_pair p) list ≡ true) ↔ IsAmong p list
 any_is p [] = ((λ e. absurd cc), (λ h. absurd h))
 any_is p (q ∷ list) =
     let o = or_is (same_pair p q) (list_any (same_pair p) list) in (
@@ -81,7 +78,7 @@ graphs_widen pair left right graph thresholds moduli flows made numbers = record
 }
 
 -- what a graph holds as a recurrence pair is one in each widening
-pub graph_recurs : (pair : Pair) (left right : Flow) (graph : Graph) (thresholds moduli : List ℤ) (w : Widening) → HaveFlows pair left right → IsGraphOf pair left right graph → AreNumbersOf pair thresholds moduli → IsWideningOf pair w → (key : Key) → In key graph.recurrent → w.recurrent key ≡ true
+pub graph_recurs : (pair : Pair) (left right : Flow) (graph : Graph) (thresholds moduli : List ℤ) (w : Widening) → HaveFlows pair left right → IsGraphOf pair left right graph → AreNumbersOf pair thresholds moduli → IsWideningOf pair w → (key : Key) → IsAmong key graph.recurrent → w.recurrent key ≡ true
 graph_recurs pair left right graph thresholds moduli w flows made numbers h key i =
     let one = widenings_are_one pair w (widening_of graph thresholds moduli) h (graphs_widen pair left right graph thresholds moduli flows made numbers) in
     one.recurrent key ∙ (any_is key graph.recurrent).1 i

@@ -8,7 +8,7 @@ use Rattle.ac_hull.specs.First.{AreFirst}
 use Rattle.ac_hull.specs.Templates.{template_rows}
 use Rattle.ac_hull.specs.Thresholds.{threshold_candidates, modulus_candidates}
 use Rattle.ac_setting.specs.Programs.{point_width, setting}
-use Rattle.ac_widen.specs.Combinations.{IsAmong}
+use Rattle.ac_forms.specs.Members.{IsAmong}
 use Rattle.ac_widen.specs.Setting.{Setting}
 
 -- which pairs are taken for recurrence pairs, and the numbers of the template rows

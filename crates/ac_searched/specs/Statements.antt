@@ -5,20 +5,19 @@ use Rattle.ac_syntax.specs.declared.tree.Pair.{Pair}
 use Rattle.ac_syntax.specs.declared.tree.Position.{Position}
 use Rattle.ac_flow.specs.declared.types.Flow.{Flow}
 use Rattle.ac_graph.specs.Moves.{IsEdge, AreReached, AreRecurrent, dependences, starts_of}
-use Rattle.ac_graph.specs.Spreading.{same_pair}
+use Rattle.ac_claims.specs.Ending.{same_pair}
 use Rattle.ac_graph.specs.Steps.{HaveFlows}
 use Rattle.ac_graph.specs.declared.types.Graph.{Graph}
 use Rattle.ac_hull.specs.First.{AreFirst}
 use Rattle.ac_hull.specs.Thresholds.{threshold_candidates, modulus_candidates}
-use Rattle.ac_paths.specs.Pairs.{In}
+use Rattle.ac_forms.specs.Members.{IsAmong}
 use Rattle.ac_setting.specs.Statements.{AreRecurring}
-use Rattle.ac_widen.specs.Combinations.{IsAmong}
 use Rattle.ac_searched.specs.Searched.{Widening, IsWideningOf}
 
 -- the edges of both flows, and the recurrence pairs among those that moves along them reach
 pub record IsGraphOf (pair : Pair) (left right : Flow) (graph : Graph) : Type 0 where
-  pub left_are : (p q : Position) → In (p, q) graph.left_edges ↔ IsEdge left p q
-  pub right_are : (p q : Position) → In (p, q) graph.right_edges ↔ IsEdge right p q
+  pub left_are : (p q : Position) → IsAmong (p, q) graph.left_edges ↔ IsEdge left p q
+  pub right_are : (p q : Position) → IsAmong (p, q) graph.right_edges ↔ IsEdge right p q
   pub reachable_are : AreReached (dependences pair graph.left_edges graph.right_edges) (starts_of pair.outputs) graph.reachable
   pub recurrent_are : AreRecurrent (dependences pair graph.left_edges graph.right_edges) graph.reachable graph.recurrent
 

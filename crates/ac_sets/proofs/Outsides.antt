@@ -36,7 +36,7 @@ pub record OutsideHalfway (c : Conj) (rs : List Row) (here : Conj) (pieces : Lis
 pub outside_start : (c here : Conj) (rs : List Row) → here ≡ c → OutsideHalfway c rs here [] 0
 outside_start c here rs e = record { room = omega arith; columns = ap (λ (d : Conj). d.columns) e; made = ap (λ (d : Conj). outside d rs) e; onward = λ f. f; back = λ f. f }
 
-row-at : (rs : List Row) (i : ℕ) (r : Row) → i < length rs → r ≡ get_or rs i r → drop i rs ≡ r ∷ drop (i + 1) rs
+pub row-at : (rs : List Row) (i : ℕ) (r : Row) → i < length rs → r ≡ get_or rs i r → drop i rs ≡ r ∷ drop (i + 1) rs
 row-at rs i r m e = rw e (drop_more rs i r m)
 
 pub outside_step : (c : Conj) (rs : List Row) (here : Conj) (pieces new : List Conj) (rows : List Row) (i : ℕ) (r : Row) → OutsideHalfway c rs here pieces i → i < length rs → r ≡ get_or rs i r → NegationFits r
@@ -68,7 +68,7 @@ pub ruleset outside_steps = (outside_start, outside_step, outside_wide, outside_
 -- ---- what the pieces of a row's negation are
 
 -- each row either holds or not
-holds-either : (r : Row) (p : List ℤ) → Holds r p ⊎ (¬ Holds r p)
+pub holds-either : (r : Row) (p : List ℤ) → Holds r p ⊎ (¬ Holds r p)
 holds-either (Ge f) p = by_lt_z (value_at f p) (pos 0) (λ less. inr (λ h. omega (arith, ints, less, h))) (λ most. inl most)
 holds-either (Eq f) p =
     by_lt_z (value_at f p) (pos 0) (λ less. inr (λ h. omega (arith, ints, less, h)))

@@ -5,21 +5,9 @@ ghost use Rattle.ac_forms.specs.Renaming.{renamed_row, AreDistinct};
 ghost use Rattle.ac_sets.specs.Moves.{quotients_from, common};
 
 use ac_forms::laws::renaming_to_distinct_columns;
-use ac_forms::{Conj, FormStop, Row};
+use ac_forms::{Conj, FormStop, Row, push_range};
 use ac_items::Items;
 use std::alloc::{AllocError, Global};
-
-/// Adds so many columns from one on.
-#[tactic(auto, using(crate::proofs::Moving::range_steps))]
-fn push_range(list: &mut Items<usize>, first: usize, count: usize) -> Result<(), AllocError>
-    requires { first + count < 2 ^ 64 }
-    ensures { OnOk result (list.new ≡ list.old ++ range_with_len first count) }
-{
-    for k in 0..count {
-        list.push(first + k)?;
-    }
-    Ok(())
-}
 
 /// Where columns go: the visible ones stay, and those behind them, the quotients, stand from one column up to another.
 #[tactic(auto, using(crate::proofs::Moving::two_ranges))]

@@ -19,6 +19,7 @@ use Rattle.ac_paths.specs.Places.{CallAt, call_at, call_of, node_at}
 use Rattle.ac_paths.proofs.Heres.{node_model, reading}
 use Rattle.ac_graph.specs.Moves.{IsReader}
 use Rattle.ac_setting.specs.Programs.{coordinate_count, extent_count, counter_count}
+use Rattle.ac_paths.proofs.Stepping.{CallIs, call_place}
 
 -- as many coordinates as the model gives the position
 pub at_width : (m : Model) (params : List ℤ) (x : Execution) → Describes m params x → (P : Position) (at : List ℤ) (s : Spot) → At x P at s → length at ≡ coordinate_count m P
@@ -36,38 +37,8 @@ reads_there m params x d a P p r =
     let rd = reading m params x d P a.at r.0 a.spot r.1 (subst (λ (z : Position). At x z a.at a.spot) p a.here) in
     (rd.read, rd.before, rd.reads)
 
--- and so is a call
-abbrev pub CallThere : (x : Execution) → Placed x → CallAt → Type 0
-CallThere x a call = (c : CallPlace x a) × (record { symbol = c.symbol; args = map (Node c.stmt) c.arguments } ≡ call)
-
-called : (m : Model) (params : List ℤ) (x : Execution) → Describes m params x → (a : Placed x) (P : Position) (at : List ℤ) (call : CallAt) → a.position ≡ P → call_at m P ≡ Some call → At x P at a.spot → CallThere x a call
-unfolding At
-called m params x d a (Output o) at call p e h = absurd cc
-called m params x d a (Node k j) at call p e (w, i, v, n, is) = by v n is
-  where
-    b : (node : NodeModel) × (node_at m k j ≡ Some node) × (call_of k node ≡ Some call)
-    b = bind-some (node_at m k j) (call_of k) call e
-
-    by : (v : Value) → node_of w.entry.value j ≡ Some v → a.spot ≡ AtNode w v → CallThere x a call
-    by (Number form) n is =
-        let sh = node_model m params x d k j at w (Number form) b.0 i n b.1 in
-        let o : b.0 ≡ Constant sh.0 = some-is b.0 (Constant sh.0) sh.1 in
-        let q : None ≡ Some call = ap (call_of k) (sym o) ∙ b.2 in
-        absurd cc
-    by (Access array subs place) n is =
-        let sh = node_model m params x d k j at w (Access array subs place) b.0 i n b.1 in
-        let o : b.0 ≡ Read array sh.0 = some-is b.0 (Read array sh.0) sh.1 in
-        let q : None ≡ Some call = ap (call_of k) (sym o) ∙ b.2 in
-        absurd cc
-    by (Call' f count args place) n is =
-        let sh : Some b.0 ≡ Some (Applied f (roots args (j + 1))) = node_model m params x d k j at w (Call' f count args place) b.0 i n b.1 in
-        let o : b.0 ≡ Applied f (roots args (j + 1)) = some-is b.0 (Applied f (roots args (j + 1))) sh in
-        (record { stmt = k; node = j; writer = w; value = Call' f count args place; symbol = f; arguments = roots args (j + 1); position_is = p; spot_is = is; is_call = (refl, refl) }, some-is _ call (ap (call_of k) (sym o) ∙ b.2))
-called m params x d a (InitialOutput o) at call p e h = absurd cc
-called m params x d a (InitialNode k j) at call p e h = absurd cc
-
-pub call_there : (m : Model) (params : List ℤ) (x : Execution) → Describes m params x → (a : Placed x) (P : Position) (call : CallAt) → a.position ≡ P → call_at m P ≡ Some call → CallThere x a call
-call_there m params x d a P call p e = called m params x d a P a.at call p e (subst (λ (z : Position). At x z a.at a.spot) p a.here)
+pub call_there : (m : Model) (params : List ℤ) (x : Execution) → Describes m params x → (a : Placed x) (P : Position) (call : CallAt) → a.position ≡ P → call_at m P ≡ Some call → CallIs x a call
+call_there m params x d a P call p e = call_place m params x d a P a.at call p e (subst (λ (z : Position). At x z a.at a.spot) p a.here)
 
 -- an output of an execution reads
 pub output_reads : (x : Execution) (a : Placed x) (o : ℕ) → a.position ≡ Output o → Reads x a

@@ -31,8 +31,10 @@ use Rattle.ac_widen.proofs.Refuting.{equal_exactly}
 use Rattle.ac_setting.specs.Programs.{PairAt, IsOutputPair, IsMismatchPair, coordinate_count, point_width, is_site_key, may_swap, order_at, setting}
 use Rattle.ac_setting.specs.Statements.{AreRecurring, PairsAreASetting, SearchDecidesPairs, SitesAreDeclared, MatchesAgree}
 use Rattle.ac_setting.proofs.Calls.{at_width, reads_there, call_there, output_reads}
+use Rattle.ac_graph.proofs.MoveSteps.{true_both}
+use Rattle.ac_graph.proofs.SiteSteps.{symbol_self}
 
-abbrev Key : Type 0
+abbrev pub Key : Type 0
 Key = Position × Position
 
 -- ---- points
@@ -70,7 +72,7 @@ no_root pair ls rs key o l r h = by h.root
     by (inl a) = subst IsRoot l a
     by (inr b) = subst IsRoot r b
 
-is-false : (b : Bool) → ¬ (b ≡ true) → b ≡ false
+pub is-false : (b : Bool) → ¬ (b ≡ true) → b ≡ false
 is-false true h = absurd (h refl)
 is-false false h = refl
 
@@ -111,12 +113,6 @@ pub search_decides_pairs : SearchDecidesPairs
 search_decides_pairs pair outputs recurrent template are = λ d. equal_exactly (setting pair outputs recurrent template) (pairs_are_a_setting pair outputs recurrent template are) d
 
 -- ---- sites
-
-true_both : (a b : Bool) → a ≡ true → b ≡ true → (a && b) ≡ true
-true_both a b e f = rw (e, f) refl
-
-pub symbol_self : (f : Symbol) → same_symbol f f ≡ true
-symbol_self f = true_both (nat_eq f.arity f.arity) (pointwise nat_eq f.name f.name) (eq-eqb f.arity f.arity refl) ((slice_eq-Decides Decides-eqb f.name f.name _ refl).1 refl)
 
 pub sites_are_declared : SitesAreDeclared
 sites_are_declared pair key = by (call_at (model_of pair.left pair.context) key.0) (call_at (model_of pair.right pair.context) key.1) refl refl

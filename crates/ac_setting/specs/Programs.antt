@@ -13,7 +13,8 @@ use Rattle.ac_poly.specs.declared.types.Model.{Model}
 use Rattle.ac_poly.specs.declared.types.StmtModel.{StmtModel}
 use Rattle.ac_paths.specs.Coordinates.{width}
 use Rattle.ac_paths.specs.Going.{Pairing, same_symbol}
-use Rattle.ac_paths.specs.Pairs.{In, StepsTo, IsMismatch}
+use Rattle.ac_forms.specs.Members.{IsAmong}
+use Rattle.ac_paths.specs.Pairs.{StepsTo, IsMismatch}
 use Rattle.ac_paths.specs.Places.{CallAt, call_at}
 use Rattle.ac_graph.specs.Moves.{pairing_of}
 use Rattle.ac_graph.specs.Steps.{IsCompared, comparison, LeftPlaced, RightPlaced}
@@ -58,7 +59,7 @@ pub record PairAt (pair : Pair) (key : Position × Position) (p : List ℤ) : Ty
 pub record IsOutputPair (pair : Pair) (outputs : List ℕ) (key : Position × Position) (p : List ℤ) : Type 0 where
   pub there : PairAt pair key p
   pub output : ℕ
-  pub among : In output outputs
+  pub among : IsAmong output outputs
   pub left_is : there.a.position ≡ Output output
   pub right_is : there.b.position ≡ Output output
   pub one_element : there.a.at ≡ there.b.at

@@ -12,54 +12,43 @@ use Rattle.ac_forms.specs.Orders.{row_eq}
 use Rattle.ac_forms.specs.declared.row.Row.{Row}
 use Rattle.ac_forms.proofs.Joining.{either_of}
 use Rattle.ac_forms.proofs.Standings.{row_same}
-use Rattle.ac_paths.specs.Pairs.{In}
-use Rattle.ac_widen.specs.Combinations.{Each, IsAmong}
-use Rattle.ac_claims.specs.Ending.{same_position}
-use Rattle.ac_decided.specs.Stopping.{same_key}
+use Rattle.ac_forms.specs.Members.{IsAmong}
+use Rattle.ac_widen.specs.Combinations.{Each}
+use Rattle.ac_claims.specs.Ending.{same_position, same_pair}
 use Rattle.ac_decided.proofs.Handled.{not_both}
 use Rattle.ac_stopping.specs.Parts.{order_of}
+use Rattle.ac_graph.proofs.MoveSteps.{true_both}
+use Rattle.ac_decided.proofs.Claimed.{same_if}
 
 -- ---- pairs of positions
-
-true_both : (a b : Bool) → a ≡ true → b ≡ true → (a && b) ≡ true
-true_both a b e f = rw (e, f) refl
-
-position_self : (P : Position) → same_position P P ≡ true
-position_self (Output o) = eq-eqb o o refl
-position_self (Node s k) = true_both (nat_eq s s) (nat_eq k k) (eq-eqb s s refl) (eq-eqb k k refl)
-position_self (InitialOutput o) = eq-eqb o o refl
-position_self (InitialNode s k) = true_both (nat_eq s s) (nat_eq k k) (eq-eqb s s refl) (eq-eqb k k refl)
-
-pub same_if : (j k : Position × Position) → j ≡ k → same_key j k ≡ true
-same_if j k e = subst (λ (z : Position × Position). same_key j z ≡ true) e (true_both (same_position j.0 j.0) (same_position j.1 j.1) (position_self j.0) (position_self j.1))
 
 -- ---- recurrence pairs
 
 -- the pair is another one
 abbrev pub IsOther : Position × Position → Position × Position → Type 0
-IsOther key k = same_key k key ≡ false
+IsOther key k = same_pair k key ≡ false
 
-pub other_step : (keys : List (Position × Position)) (key : Position × Position) (i : ℕ) (d : Position × Position) → Each (IsOther key) (take i keys) → i < length keys → same_key (get_or keys i d) key ≡ false → Each (IsOther key) (take (i + 1) keys)
+pub other_step : (keys : List (Position × Position)) (key : Position × Position) (i : ℕ) (d : Position × Position) → Each (IsOther key) (take i keys) → i < length keys → same_pair (get_or keys i d) key ≡ false → Each (IsOther key) (take (i + 1) keys)
 other_step [] key i d h l e = absurd (omega arith)
 other_step (k ∷ keys) key zero d h l e = (e, tt)
 other_step (k ∷ keys) key (suc i) d h l e = rw (add-one (suc i)) (h.0, rw (add-one i) at (other_step keys key i d h.1 (omega arith) e))
 
-pub not_among : (keys : List (Position × Position)) (key : Position × Position) → Each (IsOther key) keys → ¬ (In key keys)
+pub not_among : (keys : List (Position × Position)) (key : Position × Position) → Each (IsOther key) keys → ¬ (IsAmong key keys)
 not_among [] key h n = absurd n
 not_among (k ∷ keys) key h n = by n (not_among keys key h.1)
   where
-    by : (key ≡ k) ⊎ In key keys → (In key keys → ⊥) → ⊥
-    by (inl e) next = not_both (same_key k key) (same_if k key (sym e)) h.0
+    by : (key ≡ k) ⊎ IsAmong key keys → (IsAmong key keys → ⊥) → ⊥
+    by (inl e) next = not_both (same_pair k key) (same_if k key (sym e)) h.0
     by (inr m) next = next m
 
 -- ---- orders
 
-pub order_found : (cs : List (Site × Order)) (i : ℕ) (c : Site × Order) (key : Position × Position) → i < length cs → c ≡ get_or cs i c → same_key (c.0.left, c.0.right) key ≡ true → order_of (drop i cs) key ≡ c.1
+pub order_found : (cs : List (Site × Order)) (i : ℕ) (c : Site × Order) (key : Position × Position) → i < length cs → c ≡ get_or cs i c → same_pair (c.0.left, c.0.right) key ≡ true → order_of (drop i cs) key ≡ c.1
 order_found cs i c key l e s =
     let d : drop i cs ≡ c ∷ drop (i + 1) cs = rw e (drop_more cs i c l) in
     ap (λ (xs : List (Site × Order)). order_of xs key) d ∙ ap (λ (b : Bool). cond b c.1 (order_of (drop (i + 1) cs) key)) s
 
-pub order_next : (cs : List (Site × Order)) (i : ℕ) (c : Site × Order) (key : Position × Position) → i < length cs → c ≡ get_or cs i c → same_key (c.0.left, c.0.right) key ≡ false → order_of (drop i cs) key ≡ order_of (drop (i + 1) cs) key
+pub order_next : (cs : List (Site × Order)) (i : ℕ) (c : Site × Order) (key : Position × Position) → i < length cs → c ≡ get_or cs i c → same_pair (c.0.left, c.0.right) key ≡ false → order_of (drop i cs) key ≡ order_of (drop (i + 1) cs) key
 order_next cs i c key l e s =
     let d : drop i cs ≡ c ∷ drop (i + 1) cs = rw e (drop_more cs i c l) in
     ap (λ (xs : List (Site × Order)). order_of xs key) d ∙ ap (λ (b : Bool). cond b c.1 (order_of (drop (i + 1) cs) key)) s

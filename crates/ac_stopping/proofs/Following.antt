@@ -8,7 +8,7 @@ use Rattle.ac_syntax.specs.declared.tree.Order.{Order}
 use Rattle.ac_syntax.specs.declared.tree.Position.{Position}
 use Rattle.ac_paths.specs.Branching.{onto}
 use Rattle.ac_paths.specs.Going.{at_rows}
-use Rattle.ac_paths.specs.Pairs.{In}
+use Rattle.ac_forms.specs.Members.{IsAmong}
 use Rattle.ac_paths.specs.declared.path.Branch.{Branch}
 use Rattle.ac_paths.specs.declared.path.Path.{Path}
 use Rattle.ac_claims.specs.declared.types.Kill.{Kill}
@@ -33,7 +33,7 @@ may_go : (p : ProofPart) (key : Position × Position) (gone : Bool) → MayGoOnF
 may_go p key gone may recurrent all h e g there = by (recurrent (key_at h)) refl
   where
     by : (b : Bool) → recurrent (key_at h) ≡ b → b ≡ false
-    by true r = absurd (may (sym g ∙ there) (subst (λ (k : Position × Position). In k p.recurrent.now) e (all (key_at h) r)))
+    by true r = absurd (may (sym g ∙ there) (subst (λ (k : Position × Position). IsAmong k p.recurrent.now) e (all (key_at h) r)))
     by false r = refl
 
 pub hit_stops : (p : ProofPart) (x : PlanNext) (c : ℕ) (key : Position × Position) (gone : Bool) → x ≡ Hit c → part_of p c ≡ true → StopsFrom p x key gone
@@ -69,7 +69,7 @@ residue_stops p x m f kids key gone is s =
 
 -- ---- cases
 
-row_cases : (p : ProofPart) (recurrent : Position × Position → Bool) → AreAll p.recurrent.now recurrent → {w : _} (kids : Row_of-Plan w) (at : Path) (bs : List Branch) (hs : List Path) → AreAlike hs (map (onto at) bs) → ((k : Path) → In k hs → k.gone ≡ true)
+row_cases : (p : ProofPart) (recurrent : Position × Position → Bool) → AreAll p.recurrent.now recurrent → {w : _} (kids : Row_of-Plan w) (at : Path) (bs : List Branch) (hs : List Path) → AreAlike hs (map (onto at) bs) → ((k : Path) → IsAmong k hs → k.gone ≡ true)
     → CasesFrom p (items-the_row-Plan w kids) bs → CasesStop p.pair.now (order_of p.order.now) recurrent (part_of p) kids hs
 row_cases p recurrent all end_of-Plan at bs hs a g c = tt
 row_cases p recurrent all (more_of-Plan s t rest) at bs [] a g c = tt

@@ -12,7 +12,7 @@ use Rattle.ac_cert.specs.declared.types.Rule.TheVariants as rule
 use Rattle.ac_cert.proofs.Keeping.{map-some}
 use Rattle.ac_cert.proofs.Soundness.{first-none}
 use Rattle.ac_paths.specs.Going.{Pairing, at_rows}
-use Rattle.ac_paths.specs.Pairs.{In}
+use Rattle.ac_forms.specs.Members.{IsAmong}
 use Rattle.ac_paths.specs.declared.path.Path.{Path}
 use Rattle.ac_paths.proofs.InBranches.{in_either}
 use Rattle.ac_claims.specs.PlanFaults.{plan_lines}
@@ -45,20 +45,20 @@ begun g c a b l r h e =
     }) h e in
     (ap key_at s.2, ap (λ (z : Path). z.gone) s.2)
 
-map_of : {A B : Type 0} (f : A → B) (y : B) (xs : List A) → In y (map f xs) → (x : A) × (y ≡ f x)
+map_of : {A B : Type 0} (f : A → B) (y : B) (xs : List A) → IsAmong y (map f xs) → (x : A) × (y ≡ f x)
 map_of f y [] h = absurd h
 map_of f y (x ∷ xs) (inl e) = (x, e)
 map_of f y (x ∷ xs) (inr h) = map_of f y xs h
 
-flat_map_of : {A B : Type 0} (f : A → List B) (y : B) (xs : List A) → In y (flat_map f xs) → (x : A) × In y (f x)
+flat_map_of : {A B : Type 0} (f : A → List B) (y : B) (xs : List A) → IsAmong y (flat_map f xs) → (x : A) × IsAmong y (f x)
 flat_map_of f y [] h = absurd h
-flat_map_of {A = A} {B = B} f y (x ∷ xs) h = by (in_either y (f x) (flat_map f xs) (subst (In y) (flat_map-cons f x xs) h)) (λ k. flat_map_of f y xs k)
+flat_map_of {A = A} {B = B} f y (x ∷ xs) h = by (in_either y (f x) (flat_map f xs) (subst (IsAmong y) (flat_map-cons f x xs) h)) (λ k. flat_map_of f y xs k)
   where
-    by : In y (f x) ⊎ In y (flat_map f xs) → (In y (flat_map f xs) → (z : A) × In y (f z)) → (z : A) × In y (f z)
+    by : IsAmong y (f x) ⊎ IsAmong y (flat_map f xs) → (IsAmong y (flat_map f xs) → (z : A) × IsAmong y (f z)) → (z : A) × IsAmong y (f z)
     by (inl k) next = (x, k)
     by (inr k) next = next k
 
-due_begun : (g : Pairing) (i : ℕ) (c : Claim) (o o' : Option Domain) (d : DuePlan) → In d (due_at g i c o o') → (d.claim ≡ i) × ((h : Path) → d.path ≡ Some h → IsBegun c h)
+due_begun : (g : Pairing) (i : ℕ) (c : Claim) (o o' : Option Domain) (d : DuePlan) → IsAmong d (due_at g i c o o') → (d.claim ≡ i) × ((h : Path) → d.path ≡ Some h → IsBegun c h)
 due_begun g i c None o' d n = absurd n
 due_begun g i c (Some a) None d n = absurd n
 due_begun g i c (Some a) (Some b) d n =
@@ -66,17 +66,17 @@ due_begun g i c (Some a) (Some b) d n =
     let y = map_of (λ (r : ℕ × List Row). record { claim = i; left_piece = x.0.0; right_piece = r.0; path = start g c a b x.0.1 r.1 }) d (numbered 0 b.pieces) x.1 in
     (ap (λ (z : DuePlan). z.claim) y.1, (λ h e. begun g c a b x.0.1 y.0.1 h (sym (ap (λ (z : DuePlan). z.path) y.1) ∙ e)))
 
-pub due_of : (g : Pairing) (first : ℕ) (cs : List Claim) (d : DuePlan) → In d (due_from g first cs) → IsDueOf cs first d
+pub due_of : (g : Pairing) (first : ℕ) (cs : List Claim) (d : DuePlan) → IsAmong d (due_from g first cs) → IsDueOf cs first d
 due_of g first [] d n = absurd n
 due_of g first (c ∷ cs) d n = by (in_either d (due_at g first c (domain g.left c.left) (domain g.right c.right)) (due_from g (first + 1) cs) n) (due_of g (first + 1) cs d)
   where
-    by : In d (due_at g first c (domain g.left c.left) (domain g.right c.right)) ⊎ In d (due_from g (first + 1) cs) → (In d (due_from g (first + 1) cs) → IsDueOf cs (first + 1) d) → IsDueOf (c ∷ cs) first d
+    by : IsAmong d (due_at g first c (domain g.left c.left) (domain g.right c.right)) ⊎ IsAmong d (due_from g (first + 1) cs) → (IsAmong d (due_from g (first + 1) cs) → IsDueOf cs (first + 1) d) → IsDueOf (c ∷ cs) first d
     by (inl m) next h e = let b = due_begun g first c (domain g.left c.left) (domain g.right c.right) d m in let z : first ≡ first + 0 = omega arith in (0, c, b.0 ∙ z, refl, b.1 h e)
     by (inr m) next h e = let r = next m h e in let z : first + 1 + r.0 ≡ first + suc r.0 = omega arith in (suc r.0, r.1, r.2 ∙ z, r.3, r.4)
 
 -- plans of a valid proof, which stop for the claims that they name, stop where they are due
 pub trees_stop : (p : ProofPart) (cs : List Claim) (recurrent : Position × Position → Bool) → AreAll p.recurrent.now recurrent → (g : Pairing) (ts : List ClaimTree) (ds : List DuePlan) (k : ℕ) → trees_fault g cs ts ds k ≡ None → Each (TreeStops p cs) ts
-    → ((d : DuePlan) → In d ds → IsDueOf cs 0 d) → TreesStop p.pair.now (order_of p.order.now) recurrent (part_of p) ts ds
+    → ((d : DuePlan) → IsAmong d ds → IsDueOf cs 0 d) → TreesStop p.pair.now (order_of p.order.now) recurrent (part_of p) ts ds
 trees_stop p cs recurrent all g [] ds k e s due = tt
 trees_stop p cs recurrent all g (t ∷ ts) [] k e s due = tt
 trees_stop p cs recurrent all g (t ∷ ts) (d ∷ ds) k e s due =

@@ -9,7 +9,7 @@ use Rattle.ac_cert.specs.Faults.{first_fault_of}
 use Rattle.ac_cert.specs.declared.types.Rule.TheVariants as rule
 use Rattle.ac_cert.proofs.Keeping.{some-is}
 use Rattle.ac_cert.proofs.Soundness.{first-none}
-use Rattle.ac_paths.specs.Pairs.{In}
+use Rattle.ac_forms.specs.Members.{IsAmong}
 use Rattle.ac_claims.specs.PlanFaults.{fault_unless}
 use Rattle.ac_claims.specs.ProofFaults.{IsValidProof, claim_lines, claims_fault, due_from, head_lines, heads_fault, is_point, outputs_fault, trees_fault}
 use Rattle.ac_claims.specs.Soundness.{pairing_of}
@@ -29,7 +29,7 @@ use Rattle.ac_stopping.specs.declared.part.ProofPart.{ProofPart}
 use Rattle.ac_stopping.proofs.Starting.{due_of, trees_stop}
 
 -- the template rows of a recurrence pair are those listed
-template_is : (rs : List Recurrence) (recurrent : Position × Position → Bool) (template : Position × Position → List Row) → AreRecurrences rs recurrent template → (r : Recurrence) → In r rs → template (r.left, r.right) ≡ r.template
+template_is : (rs : List Recurrence) (recurrent : Position × Position → Bool) (template : Position × Position → List Row) → AreRecurrences rs recurrent template → (r : Recurrence) → IsAmong r rs → template (r.left, r.right) ≡ r.template
 template_is [] recurrent template h r n = absurd n
 template_is (q ∷ rs) recurrent template h r (inl e) = subst (λ (z : Recurrence). template (z.left, z.right) ≡ z.template) (sym e) h.0.1
 template_is (q ∷ rs) recurrent template h r (inr n) = template_is rs recurrent template h.1 r n
@@ -40,7 +40,7 @@ record Numbered (p : ProofPart) (cs : List Claim) (c : Claim) : Type 0 where
   pub is : slice_get cs number ≡ Some c
   pub within : part_of p number ≡ true
 
-numbered : (p : ProofPart) (cs : List Claim) (c : Claim) → In c (claims_of (part_of p) 0 cs) → Numbered p cs c
+numbered : (p : ProofPart) (cs : List Claim) (c : Claim) → IsAmong c (claims_of (part_of p) 0 cs) → Numbered p cs c
 numbered p cs c n =
     let w = within_claim (part_of p) 0 cs c n in
     let z : 0 + w.0 ≡ w.0 = omega arith in

@@ -4,7 +4,7 @@ use Rattle.ac_syntax.specs.declared.tree.Order.{Order}
 use Rattle.ac_syntax.specs.declared.tree.Position.{Position}
 use Rattle.ac_paths.specs.Branching.{onto}
 use Rattle.ac_paths.specs.Going.{branches}
-use Rattle.ac_paths.specs.Pairs.{In}
+use Rattle.ac_forms.specs.Members.{IsAmong}
 use Rattle.ac_paths.specs.declared.path.Branch.{Branch}
 use Rattle.ac_paths.specs.declared.path.Path.{Path}
 use Rattle.ac_claims.specs.declared.types.Claim.{Claim}
@@ -26,7 +26,7 @@ StopsFrom p next key gone =
 
 -- a plan may go on from the pair: no step was taken yet, or it is no recurrence pair
 abbrev pub MayGoOnFrom : ProofPart → Position × Position → Bool → Type 0
-MayGoOnFrom p key gone = gone ≡ true → ¬ (In key p.recurrent.now)
+MayGoOnFrom p key gone = gone ≡ true → ¬ (IsAmong key p.recurrent.now)
 
 -- the pair of positions of a branch
 abbrev pub key_behind : Branch → Position × Position
@@ -52,7 +52,7 @@ IsAlone part cs i key = (j : ℕ) (d : Claim) → slice_get cs j ≡ Some d → 
 
 -- a claim of the part at a recurrence pair is alone there, and of claim rows
 abbrev pub ClaimFits : ProofPart → List Claim → ℕ → Claim → Type 0
-ClaimFits p cs i c = part_of p i ≡ true → In (key_of c) p.recurrent.now → IsAlone (part_of p) cs i (key_of c) × ((r : Recurrence) × IsThere p.recurrences.now (key_of c) r × Each (IsClaimRow r.template) c.rows)
+ClaimFits p cs i c = part_of p i ≡ true → IsAmong (key_of c) p.recurrent.now → IsAlone (part_of p) cs i (key_of c) × ((r : Recurrence) × IsThere p.recurrences.now (key_of c) r × Each (IsClaimRow r.template) c.rows)
 
 abbrev pub AllFit : ProofPart → List Claim → Type 0
 AllFit p cs = (i : ℕ) (c : Claim) → slice_get cs i ≡ Some c → ClaimFits p cs i c

@@ -1,8 +1,5 @@
 //! The order of the arguments at a pair of positions.
 ghost use Rattle.std.specs.Prelude.{◌≡◌, ◌&&◌};
-ghost use Rattle.std.specs.Cmp.Lexicographic.{pointwise};
-ghost use Rattle.std.specs.List.{list_any};
-ghost use Rattle.std.specs.Prelude.{nat_eq};
 ghost use Rattle.ac_claims.specs.Soundness.{AreModels};
 ghost use Rattle.ac_paths.specs.Going.{same_symbol};
 ghost use Rattle.ac_setting.specs.Programs.{is_site_key, order_at};
@@ -12,41 +9,9 @@ ghost use Rattle.ac_stopping.specs.Parts.{order_of};
 use crate::part::ProofPart;
 use crate::same::same_pair;
 use ac_paths::places::call_at;
+use ac_paths::symbols::swaps_both;
 use ac_syntax::name::Name;
 use ac_syntax::tree::{Order, Position, Site, Symbol};
-
-/// Whether a name is among those.
-fn has_name(names: &[Name], name: &[u8]) -> bool
-    ensures { result ≡ list_any (pointwise nat_eq name.now) names.now }
-{
-    for candidate in names {
-        if *name == *candidate.as_bytes() {
-            return true;
-        }
-    }
-    false
-}
-
-/// Whether the two arguments of a symbol may be swapped.
-fn may_swap(names: &[Name], symbol: &Symbol) -> bool
-    ensures { result ≡ swaps_of names.now symbol.now }
-{
-    symbol.arity == 2 && has_name(names, symbol.name.as_bytes())
-}
-
-/// Whether two symbols are one.
-fn same_symbol(first: &Symbol, second: &Symbol) -> bool
-    ensures { result ≡ same_symbol first.now second.now }
-{
-    first.arity == second.arity && first.name == second.name
-}
-
-/// Whether two symbols are one whose arguments may be swapped.
-fn swaps_both(names: &[Name], left: &Symbol, right: &Symbol) -> bool
-    ensures { result ≡ (same_symbol left.now right.now && swaps_of names.now left.now) }
-{
-    same_symbol(left, right) && may_swap(names, left)
-}
 
 /// Whether a pair of positions is a site: two calls of one symbol whose arguments may be swapped.
 fn is_site(part: &ProofPart<'_>, left: &Position, right: &Position) -> bool

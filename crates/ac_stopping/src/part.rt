@@ -1,6 +1,6 @@
 //! Parts of proofs, and the pairs of positions at which they stop.
 ghost use Rattle.std.specs.Prelude.{◌≡◌, true, false, IfSome};
-ghost use Rattle.ac_paths.specs.Pairs.{In};
+ghost use Rattle.ac_forms.specs.Members.{IsAmong};
 ghost use Rattle.ac_decided.specs.Stopping.{key_at};
 ghost use Rattle.ac_stopping.specs.Parts.{IsThere, part_of};
 ghost use Rattle.ac_stopping.specs.Following.{MayGoOnFrom};
@@ -45,7 +45,7 @@ pub(crate) fn is_recurrent(
     left: &Position,
     right: &Position,
 ) -> bool
-    ensures { result ≡ false → ¬ (In (left.now, right.now) recurrent.now) }
+    ensures { result ≡ false → ¬ (IsAmong (left.now, right.now) recurrent.now) }
 {
     for key in recurrent {
         if same_pair(&key.0, &key.1, left, right) {

@@ -1,9 +1,8 @@
 //! The state of an unfolding: a question, where it stands on the path of its plan, and the pairs of positions so far.
 
-use ac_forms::{Conj, Row};
+use ac_forms::{Conj, Row, column_after};
 use ac_graft::{Part, Placing};
 use ac_items::Items;
-use ac_paths::columns::column_after;
 use ac_paths::going::onto;
 use ac_paths::path::{Branch, Path, Seat, at_rows};
 use std::alloc::{AllocError, Global};

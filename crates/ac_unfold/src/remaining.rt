@@ -5,9 +5,8 @@ use crate::ends::{Search, too_wide};
 use crate::node::{Node, with_rows};
 use crate::types::UnfoldStop;
 use crate::witness::continued;
-use ac_forms::{Conj, FormStop, Row, renamed_rows};
+use ac_forms::{Conj, FormStop, Row, column_after, renamed_rows};
 use ac_items::Items;
-use ac_paths::columns::column_after;
 use ac_paths::killing::case_columns;
 use std::alloc::{AllocError, Global};
 

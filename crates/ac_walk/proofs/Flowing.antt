@@ -4,7 +4,7 @@ use Rattle.ac_syntax.specs.declared.tree.Pair.{Pair}
 use Rattle.ac_syntax.specs.declared.tree.Position.{Position}
 use Rattle.ac_poly.specs.Model.{model_of}
 use Rattle.ac_poly.specs.declared.types.Model.{Model}
-use Rattle.ac_paths.specs.Pairs.{In}
+use Rattle.ac_forms.specs.Members.{IsAmong}
 use Rattle.ac_claims.specs.Soundness.{ArePaired}
 use Rattle.ac_flow.specs.Readers.{AreFlows, readers}
 use Rattle.ac_flow.specs.declared.types.Flow.{Flow}
@@ -23,6 +23,6 @@ have_flows pair left right f g t a b x y = record {
 pub numbers_at : (pair : Pair) (thresholds moduli ts ms : List ℤ) → ts ≡ thresholds → ms ≡ moduli → AreNumbersOf pair thresholds moduli → AreNumbersOf pair ts ms
 numbers_at pair thresholds moduli ts ms t m h = subst (AreNumbersOf pair ts) (sym m) (subst (λ (xs : List ℤ). AreNumbersOf pair xs moduli) (sym t) h)
 
-pub is_graph : (pair : Pair) (left right : Flow) (graph : Graph) → ((p q : Position) → In (p, q) graph.left_edges ↔ IsEdge left p q) → ((p q : Position) → In (p, q) graph.right_edges ↔ IsEdge right p q)
+pub is_graph : (pair : Pair) (left right : Flow) (graph : Graph) → ((p q : Position) → IsAmong (p, q) graph.left_edges ↔ IsEdge left p q) → ((p q : Position) → IsAmong (p, q) graph.right_edges ↔ IsEdge right p q)
     → AreReached (dependences pair graph.left_edges graph.right_edges) (starts_of pair.outputs) graph.reachable → AreRecurrent (dependences pair graph.left_edges graph.right_edges) graph.reachable graph.recurrent → IsGraphOf pair left right graph
 is_graph pair left right graph l r a b = record { left_are = l; right_are = r; reachable_are = a; recurrent_are = b }

@@ -4,3 +4,4 @@ pub mod Spelling
 pub mod Contexts
 pub mod Flowing
 pub mod Causing
+pub mod Terms

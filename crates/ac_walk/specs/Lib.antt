@@ -3,3 +3,4 @@ pub mod Stops
 pub mod Gathering
 pub mod Deciding
 pub mod Causes
+pub mod Terms

@@ -7,6 +7,7 @@ mod entries;
 mod following;
 mod judging;
 mod keys;
+pub mod laws;
 mod parts;
 mod positions;
 mod proving;

@@ -10,7 +10,8 @@ use Rattle.ac_forms.specs.Affine.{Affine, value_at}
 use Rattle.ac_forms.specs.Rows.{Holds, Meets}
 use Rattle.ac_forms.specs.declared.row.Row.{Row}
 use Rattle.ac_forms.specs.declared.row.Row.TheVariants.{Eq}
-use Rattle.ac_widen.specs.Combinations.{blend, total, times, IsCombination, IsAmong, Each}
+use Rattle.ac_forms.specs.Members.{IsAmong}
+use Rattle.ac_widen.specs.Combinations.{blend, total, times, IsCombination, Each}
 use Rattle.ac_widen.specs.Obligations.{BrokenBy}
 use Rattle.ac_widen.specs.Claims.{IsClaimRow}
 use Rattle.ac_widen.proofs.Tests.{holds_or}
@@ -62,7 +63,7 @@ pub first_of_some : (q : List ℤ) (m : ℤ) (ws : List ℤ) → ¬ (IsCombinati
 first_of_some q m [] c = c.nonzero (sym c.sum)
 first_of_some q m (w ∷ ws) c = absurd (omega (arith, c.lengths))
 
-each_map : {A : Type 0} (P Q : A → Type 0) (xs : List A) → ((x : A) → P x → Q x) → Each P xs → Each Q xs
+pub each_map : {A : Type 0} (P Q : A → Type 0) (xs : List A) → ((x : A) → P x → Q x) → Each P xs → Each Q xs
 each_map P Q [] f h = tt
 each_map P Q (x ∷ xs) f h = (f x h.0, each_map P Q xs f h.1)
 

@@ -4,7 +4,8 @@ use Rattle.std.specs.Prelude.{slice_get}
 use Rattle.ac_syntax.specs.declared.tree.Order.{Order}
 use Rattle.ac_forms.specs.Rows.{Holds, Meets}
 use Rattle.ac_forms.specs.declared.row.Row.{Row}
-use Rattle.ac_widen.specs.Combinations.{IsCombination, IsAmong, Each}
+use Rattle.ac_forms.specs.Members.{IsAmong}
+use Rattle.ac_widen.specs.Combinations.{IsCombination, Each}
 use Rattle.ac_widen.specs.Setting.{Setting}
 use Rattle.ac_widen.specs.Obligations.{Obligation, Obligations, BrokenBy, output, step, hull, none, more}
 use Rattle.ac_widen.specs.Derivations.{EntryOf, StandsAt, Weighs, BrokenEarlier, Justified, Derives, IsDerivation}

@@ -9,7 +9,7 @@ use Rattle.ac_forms.specs.Affine.{value_at}
 use Rattle.ac_forms.specs.Rows.{Holds}
 use Rattle.ac_forms.specs.declared.row.Row.{Row}
 use Rattle.ac_forms.specs.declared.row.Row.TheVariants.{Eq, Div, Ge}
-use Rattle.ac_widen.specs.Combinations.{IsAmong}
+use Rattle.ac_forms.specs.Members.{IsAmong}
 use Rattle.ac_widen.specs.Narrowing.{is_met, narrowed}
 
 nonnegative : (v : ℤ) → (int_le (pos 0) v ≡ true) ↔ (pos 0 ≤ℤ v)

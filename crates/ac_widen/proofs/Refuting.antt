@@ -2,7 +2,8 @@
 use Rattle.std.proofs.Common.{◌≡◌, ◌↔◌, inl, inr, ℤ, List, [], ◌∷◌, ◌++◌, Some, Bool, true, false, refl, sym, ◌∙◌, append_assoc}
 use Rattle.std.specs.Prelude.{slice_get}
 use Rattle.ac_syntax.specs.declared.tree.Order.{Order}
-use Rattle.ac_widen.specs.Combinations.{IsAmong, Each}
+use Rattle.ac_forms.specs.Members.{IsAmong}
+use Rattle.ac_widen.specs.Combinations.{Each}
 use Rattle.ac_widen.specs.Setting.{Setting, IsLawful}
 use Rattle.ac_widen.specs.Obligations.{Obligation, HasMismatch}
 use Rattle.ac_widen.specs.Derivations.{EntryOf, Justified, Derives, IsDerivation}
@@ -20,6 +21,21 @@ among_last (z ∷ xs) x ys = inr (among_last xs x ys)
 each_last : {A : Type 0} (P : A → Type 0) (xs : List A) (x : A) → Each P (xs ++ x ∷ []) → P x
 each_last P [] x h = h.0
 each_last P (z ∷ xs) x h = each_last P xs x h.1
+
+module _ {K : Type 0} (s : Setting K) where
+  -- each order that extends a refuted one has a mismatch
+  pub refuted_mismatch : (partial : List (K × Order)) (es : List (EntryOf K)) (order : K → Order) → IsRefuted s partial es → Extends order partial → HasMismatch s order
+  refuted_mismatch partial es order r x =
+      let m = r.mismatch in
+      let all : Each (λ e. Obligation s order e.key e.point) (m.0 ++ m.1 ∷ []) = rw m.2 at (derived_obligation s order es (r.derivation order x)) in
+      (m.1.key, m.1.point, each_last (λ e. Obligation s order e.key e.point) m.0 m.1 all, m.3)
+
+  -- unmatched: each order has a mismatch
+  pub each_mismatch : (list : List (List (K × Order) × List (EntryOf K))) → Each (λ c. IsRefuted s c.0 c.1) list
+      → ((order : K → Order) → (c : List (K × Order) × List (EntryOf K)) × IsAmong c list × Extends order c.0) → (order : K → Order) → HasMismatch s order
+  each_mismatch list h g order =
+      let x = g order in
+      refuted_mismatch x.0.0 x.0.1 order (each_among (λ c. IsRefuted s c.0 c.1) x.0 list h x.1) x.2
 
 module _ {K : Type 0} (s : Setting K) (laws : IsLawful s) where
   -- the orders agree where it matters
@@ -56,21 +72,7 @@ module _ {K : Type 0} (s : Setting K) (laws : IsLawful s) where
         mismatch = (front, last, is, m);
       }
 
-  -- each order that extends a refuted one has a mismatch
-  pub refuted_mismatch : (partial : List (K × Order)) (es : List (EntryOf K)) (order : K → Order) → IsRefuted s partial es → Extends order partial → HasMismatch s order
-  refuted_mismatch partial es order r x =
-      let m = r.mismatch in
-      let all : Each (λ e. Obligation s order e.key e.point) (m.0 ++ m.1 ∷ []) = rw m.2 at (derived_obligation s order es (r.derivation order x)) in
-      (m.1.key, m.1.point, each_last (λ e. Obligation s order e.key e.point) m.0 m.1 all, m.3)
-
-  -- unmatched: each order has a mismatch
-  pub each_mismatch : (list : List (List (K × Order) × List (EntryOf K))) → Each (λ c. IsRefuted s c.0 c.1) list
-      → ((order : K → Order) → (c : List (K × Order) × List (EntryOf K)) × IsAmong c list × Extends order c.0) → (order : K → Order) → HasMismatch s order
-  each_mismatch list h g order =
-      let x = g order in
-      refuted_mismatch x.0.0 x.0.1 order (each_among (λ c. IsRefuted s c.0 c.1) x.0 list h x.1) x.2
-
   -- equal exactly where for some order no obligation is a mismatch
   pub equal_exactly : (d : Decided s) → (is_equal d ≡ true) ↔ ((order : K → Order) × ¬ (HasMismatch s order))
   equal_exactly (Equal order claim h) = ((λ _. (order, stands_no_mismatch s laws order claim h)), (λ _. refl))
-  equal_exactly (Unmatched list h g) = ((λ e. absurd cc), (λ x. absurd (x.1 (each_mismatch list h g x.0))))
+  equal_exactly (Unmatched list h g) = ((λ e. absurd cc), (λ x. absurd (x.1 (each_mismatch s list h g x.0))))

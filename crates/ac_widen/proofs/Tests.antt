@@ -7,7 +7,8 @@ use Rattle.ac_forms.specs.Affine.{value_at}
 use Rattle.ac_forms.specs.Rows.{Holds}
 use Rattle.ac_forms.specs.declared.row.Row.{Row}
 use Rattle.ac_forms.specs.declared.row.Row.TheVariants.{Eq, Div, Ge}
-use Rattle.ac_widen.specs.Combinations.{IsAmong, Each}
+use Rattle.ac_forms.specs.Members.{IsAmong}
+use Rattle.ac_widen.specs.Combinations.{Each}
 
 zero_or : (z : ℤ) → (z ≡ pos 0) ⊎ (¬ (z ≡ pos 0))
 zero_or z =

@@ -6,7 +6,8 @@ use Rattle.ac_forms.specs.Affine.{Affine, value_at}
 use Rattle.ac_forms.specs.Rows.{Holds, Meets}
 use Rattle.ac_forms.specs.declared.row.Row.{Row}
 use Rattle.ac_forms.specs.declared.row.Row.TheVariants.{Eq, Ge}
-use Rattle.ac_widen.specs.Combinations.{IsCombination, InHull, IsAmong, Each}
+use Rattle.ac_forms.specs.Members.{IsAmong}
+use Rattle.ac_widen.specs.Combinations.{IsCombination, InHull, Each}
 use Rattle.ac_widen.specs.Setting.{Setting}
 use Rattle.ac_widen.specs.Claims.{IsClaimRow, IsClaimOf}
 use Rattle.ac_widen.specs.Derivations.{EntryOf, StandsAt, IsDerivation}

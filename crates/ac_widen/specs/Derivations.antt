@@ -4,7 +4,8 @@ use Rattle.ac_syntax.specs.declared.tree.Order.{Order}
 use Rattle.ac_syntax.specs.declared.tree.Position.{Position}
 use Rattle.ac_forms.specs.Rows.{Holds}
 use Rattle.ac_forms.specs.declared.row.Row.{Row}
-use Rattle.ac_widen.specs.Combinations.{IsCombination, IsAmong}
+use Rattle.ac_forms.specs.Members.{IsAmong}
+use Rattle.ac_widen.specs.Combinations.{IsCombination}
 use Rattle.ac_widen.specs.Setting.{Setting}
 use Rattle.ac_widen.specs.declared.derivation.Entry.{Entry}
 use Rattle.ac_widen.specs.declared.derivation.Reason.{Reason}

@@ -3,7 +3,8 @@ use Rattle.std.specs.Prelude.{◌≡◌, ℤ, List, [], ◌∷◌, true}
 use Rattle.ac_syntax.specs.declared.tree.Order.{Order}
 use Rattle.ac_forms.specs.Rows.{Holds}
 use Rattle.ac_forms.specs.declared.row.Row.{Row}
-use Rattle.ac_widen.specs.Combinations.{IsCombination, IsAmong}
+use Rattle.ac_forms.specs.Members.{IsAmong}
+use Rattle.ac_widen.specs.Combinations.{IsCombination}
 use Rattle.ac_widen.specs.Setting.{Setting}
 
 -- each template row that q breaks is broken by one of the points

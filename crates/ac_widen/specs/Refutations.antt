@@ -3,7 +3,8 @@ use Rattle.std.specs.Prelude.{◌≡◌, ℕ, List, [], ◌∷◌, ◌++◌, Som
 use Rattle.ac_syntax.specs.declared.tree.Order.{Order}
 use Rattle.ac_forms.specs.declared.row.Row.{Row}
 use Rattle.ac_widen.specs.Claims.{Stand}
-use Rattle.ac_widen.specs.Combinations.{IsAmong, Each}
+use Rattle.ac_forms.specs.Members.{IsAmong}
+use Rattle.ac_widen.specs.Combinations.{Each}
 use Rattle.ac_widen.specs.Derivations.{EntryOf, IsDerivation}
 use Rattle.ac_widen.specs.declared.derivation.Reason.TheVariants.{Step}
 use Rattle.ac_widen.specs.Setting.{Setting}

@@ -5,7 +5,8 @@ use Rattle.ac_forms.specs.Affine.{Affine, value_at}
 use Rattle.ac_forms.specs.Rows.{Holds, Meets}
 use Rattle.ac_forms.specs.declared.row.Row.{Row}
 use Rattle.ac_widen.specs.Claims.{IsClaimRow, IsClaimOf, IsFine, IsStart, Leads}
-use Rattle.ac_widen.specs.Combinations.{Each, InHull, IsAmong, IsCombination}
+use Rattle.ac_forms.specs.Members.{IsAmong}
+use Rattle.ac_widen.specs.Combinations.{Each, InHull, IsCombination}
 use Rattle.ac_widen.specs.Derivations.{EntryOf, IsDerivation, Justified, StandsAt}
 use Rattle.ac_widen.specs.declared.derivation.Reason.TheVariants.{Output, Hull}
 use Rattle.ac_widen.specs.Narrowing.{narrowed}

@@ -5,7 +5,8 @@ use Rattle.ac_forms.specs.Rows.{Holds, Meets}
 use Rattle.ac_forms.specs.declared.row.Row.{Row}
 use Rattle.ac_forms.specs.declared.row.Row.TheVariants.{Eq}
 use Rattle.ac_forms.specs.NormalForm.{absurd_rows}
-use Rattle.ac_widen.specs.Combinations.{InHull, IsAmong, Each}
+use Rattle.ac_forms.specs.Members.{IsAmong}
+use Rattle.ac_widen.specs.Combinations.{InHull, Each}
 use Rattle.ac_widen.specs.Derivations.{EntryOf}
 use Rattle.ac_widen.specs.Narrowing.{narrowed}
 use Rattle.ac_widen.specs.Paths.{AreAt}

@@ -1,6 +1,6 @@
 -- Rows that points meet, added to others.
 use Rattle.std.specs.Prelude.{◌≡◌, ◌↔◌, ◌⊎◌, ◌<◌, ℕ, ℤ, List, unsigned_abs}
-use Rattle.ac_widen.specs.Combinations.{IsAmong}
+use Rattle.ac_forms.specs.Members.{IsAmong}
 use Rattle.ac_hull.specs.Differences.{AllMeetRow, bound, class_of}
 use Rattle.ac_hull.specs.declared.difference.Difference.{Difference}
 

@@ -1,6 +1,6 @@
 -- The template rows that points meet, gathered pair by pair of columns.
 use Rattle.std.specs.Prelude.{◌⊎◌, ◌<◌, ℕ, ℤ, List}
-use Rattle.ac_widen.specs.Combinations.{IsAmong}
+use Rattle.ac_forms.specs.Members.{IsAmong}
 use Rattle.ac_hull.specs.Differences.{AllMeetRow, IsOfPair, RestsOn}
 use Rattle.ac_hull.specs.declared.difference.Difference.{Difference}
 

@@ -1,6 +1,6 @@
 -- When a row is left out of others.
 use Rattle.std.specs.Prelude.{◌⊎◌, ℤ, List}
-use Rattle.ac_widen.specs.Combinations.{IsAmong}
+use Rattle.ac_forms.specs.Members.{IsAmong}
 use Rattle.ac_hull.specs.Differences.{IsConstant, IsSum, IsWeaker}
 use Rattle.ac_hull.specs.declared.difference.Difference.{Difference}
 

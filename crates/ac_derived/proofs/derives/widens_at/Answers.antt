@@ -11,7 +11,7 @@ returns c =
     let e = c.args.entry.now in
     on_true c.combines.result
     (λ k. record {
-      key_is = λ i. (c.if-not-same_position.ensures refl i, c.if-not-same_position-2.ensures refl i);
+      key_is = λ i. (c.if-not-same_position.ensures.equal refl i, c.if-not-same_position-2.ensures.equal refl i);
       combines = subst (λ (q : List ℤ). Combines es (e.left, e.right) q c.args.m.now c.args.weights.now) c.as_slice-point.ensures k;
       broken = subst (λ (q : List ℤ). BrokenEarlier es (e.left, e.right) c.args.recurrence.now.template q) c.as_slice-point.ensures
           (subst (λ (rows : List Row). BrokenEarlier es (e.left, e.right) rows c.as_slice-point.result.now) c.as_slice-rows.ensures (c.if-not-all_broken.ensures refl));

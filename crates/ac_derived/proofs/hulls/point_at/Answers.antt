@@ -8,6 +8,6 @@ returns-then-same_position-2 c =
     let a = c.in-Some.ensures.lookup in (
       entry_of c.in-Some.entry.now,
       slice_get-map entry_of c.args.entries.now c.args.at ∙ ap (option_map entry_of) (slice_get_read c.args.entries.now (length c.args.entries.now) c.args.at c.in-Some.entry.now refl a.3.0 a.1),
-      (λ i. (c.if-same_position.ensures refl i, c.if-same_position-2.ensures refl i)),
+      (λ i. (c.if-same_position.ensures.equal refl i, c.if-same_position-2.ensures.equal refl i)),
       sym c.as_slice.ensures,
     )

@@ -8,7 +8,7 @@ returns c =
     IfOk-weaker c.is_left.result _ _
     (λ found h t. record {
       source = c.requires;
-      to_is = c.if-not-same_position.ensures refl ∙ c.initial_of.ensures;
+      to_is = c.if-not-same_position.ensures.equal refl ∙ c.initial_of.ensures;
       at_is = c.if-not-same_numbers.ensures refl;
       left = left_moved _ _ _ _ c.as_slice.ensures (c.as_slice-2.ensures ∙ c.in_ok-point.ensures) (h t);
     })

@@ -17,7 +17,7 @@ returns c =
       stmt = c.in-Some.stmt.now;
       source = c.requires;
       is = ap (λ (l : List StmtModel). slice_get l c.args.number) (sym c.as_slice.ensures) ∙ slice_get_read c.as_slice.result.now (length c.as_slice.result.now) c.args.number c.in-Some.stmt.now refl a.3.0 a.1;
-      to_is = c.if-not-same_position.ensures refl;
+      to_is = c.if-not-same_position.ensures.equal refl;
       long = omega (arith, c.width.ensures);
       left = left_moved _ _ _ _ c.as_slice-3.ensures (c.as_slice-4.ensures ∙ whole) (h t);
     })

@@ -9,7 +9,7 @@ pub loop-row-init : goal.loop-row-init
 loop-row-init c = need_start (is_exact c.args.z c.args.rows.now (low_bound c.args.z c.args.low.now)) (low_bound c.args.z c.args.low.now) c.args.z c.args.rows.now
 
 pub returns-in-Err-clause-exact : goal.returns-in-Err-clause-exact
-returns-in-Err-clause-exact c = need-err (is_exact c.args.z c.args.rows.now (low_bound c.args.z c.args.low.now)) (low_bound c.args.z c.args.low.now) c.args.z c.loop-row.row-index c.args.rows.now c.row-item.result _ _ _ c.in-Err.stop c.loop-row.invariant c.loop-row-test.true c.row-item.is c.in-Err.ensures
+returns-in-Err-clause-exact c = need-err (is_exact c.args.z c.args.rows.now (low_bound c.args.z c.args.low.now)) (low_bound c.args.z c.args.low.now) c.args.z c.loop-row.row-index c.args.rows.now c.row-item.result _ c.in-Err.stop c.loop-row.invariant c.loop-row-test.true c.row-item.is c.in-Err.ensures
 
 pub loop-row-preserved : goal.loop-row-preserved
 loop-row-preserved c =

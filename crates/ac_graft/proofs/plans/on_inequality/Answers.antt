@@ -1,7 +1,8 @@
+use Rattle.ac_graft.specs.Placings.{with_places}
 use Rattle.ac_graft.proofs.Serving.{for_ge, popped}
 use Rattle.ac_graft.proofs.plans.on_inequality.Goals as goal
 
 pub returns : goal.returns
-returns c =
-    for_ge c.args.placing.now c.args.form.now c.in_ok-form.form c.args.inside c.in-Some.below c.in_ok-made.made c.args.outside.items c.pop.new.self.items c.in_ok-form.ensures
+returns c = λ places.
+    for_ge (with_places c.args.placing.now places) c.args.form.now c.in_ok-form.form c.args.inside c.in-Some.below c.in_ok-made.made c.args.outside.items c.pop.new.self.items c.in_ok-form.ensures
     (popped c.args.outside.items c.pop.new.self.items c.pop.result c.in-Some.below c.pop.ensures.items c.in-Some.is) c.in_ok-made.ensures

@@ -1,6 +1,6 @@
 use Rattle.std.proofs.Common.{◌≡◌, ◌↔◌, subst, ℕ, length, arith}
 use Rattle.ac_syntax.specs.declared.tree.Position.{Position}
-use Rattle.ac_paths.specs.Pairs.{In}
+use Rattle.ac_forms.specs.Members.{IsAmong}
 use Rattle.ac_graph.specs.Recurring.{HasMark}
 use Rattle.ac_graph.proofs.RecurSteps.{picked_start, picked_step}
 use Rattle.ac_graph.proofs.analysis.chosen.Goals as goal
@@ -14,4 +14,4 @@ loop-at-preserved c = picked_step c.args.pairs.now c.args.marks.now c.loop-at.at
 pub returns : goal.returns
 returns c =
     let e : c.loop-at.at ≡ length c.args.pairs.now = omega arith in
-    subst (λ (n : ℕ). (p : Position × Position) → In p c.loop-at.made ↔ HasMark c.args.pairs.now c.args.marks.now n p) e c.loop-at.invariant
+    subst (λ (n : ℕ). (p : Position × Position) → IsAmong p c.loop-at.made ↔ HasMark c.args.pairs.now c.args.marks.now n p) e c.loop-at.invariant

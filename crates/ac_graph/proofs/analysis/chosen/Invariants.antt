@@ -1,8 +1,8 @@
 use Rattle.std.proofs.Common.{◌↔◌}
 use Rattle.ac_syntax.specs.declared.tree.Position.{Position}
-use Rattle.ac_paths.specs.Pairs.{In}
+use Rattle.ac_forms.specs.Members.{IsAmong}
 use Rattle.ac_graph.specs.Recurring.{HasMark}
 use Rattle.ac_graph.proofs.analysis.chosen.Given as goal
 
 abbrev pub invariant-loop-at : goal.invariant-loop-at
-invariant-loop-at l = (p : Position × Position) → In p l.made ↔ HasMark l.pairs l.marks l.at p
+invariant-loop-at l = (p : Position × Position) → IsAmong p l.made ↔ HasMark l.pairs l.marks l.at p

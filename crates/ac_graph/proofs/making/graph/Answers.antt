@@ -1,6 +1,6 @@
 use Rattle.std.proofs.Common.{◌∙◌, ◌↔◌, sym, ap, subst, List, ℕ, length}
 use Rattle.ac_syntax.specs.declared.tree.Position.{Position}
-use Rattle.ac_paths.specs.Pairs.{In}
+use Rattle.ac_forms.specs.Members.{IsAmong}
 use Rattle.ac_graph.specs.Moves.{dependences, starts_of}
 use Rattle.ac_graph.specs.Ways.{IsGraph}
 use Rattle.ac_graph.proofs.GraphSteps.{graph_of, recurrent_are, ranks_are, recurring_at, marked_at, falling_at, reached_from}
@@ -34,7 +34,7 @@ returns-clause-reachable c =
     let d = dependences c.args.pair.now c.in_ok-left_edges.left_edges c.in_ok-right_edges.right_edges in
     let all = c.in_ok-pairs.ensures d (record { programs = c.in_ok-both.ensures; left = c.as_slice.ensures; right = c.as_slice-2.ensures }) in
     reached_from d c.in_ok-starts.starts (starts_of c.args.pair.now.outputs) c.in_ok-pairs.field-0.pairs c.in_ok-pairs.field-0.next all
-    (subst (λ (os : List ℕ). (p : Position × Position) → In p c.in_ok-starts.starts ↔ In p (starts_of os)) c.as_slice-3.ensures c.in_ok-starts.ensures.starts)
+    (subst (λ (os : List ℕ). (p : Position × Position) → IsAmong p c.in_ok-starts.starts ↔ IsAmong p (starts_of os)) c.as_slice-3.ensures c.in_ok-starts.ensures.starts)
 
 pub returns-clause-distinct : goal.returns-clause-distinct
 returns-clause-distinct c =

@@ -1,5 +1,5 @@
 use Rattle.std.proofs.Common.{◌∙◌, ◌≡◌, ◌++◌, ap}
-use Rattle.ac_widen.specs.Combinations.{IsAmong}
+use Rattle.ac_forms.specs.Members.{IsAmong}
 use Rattle.ac_hull.specs.Differences.{AllMeetRow, IsThin}
 use Rattle.ac_hull.specs.Inner.Gathering.{Gathers, OfPair}
 use Rattle.ac_hull.proofs.Comparing.{each_from}

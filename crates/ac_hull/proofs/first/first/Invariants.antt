@@ -1,5 +1,5 @@
 use Rattle.std.proofs.Common.{take}
-use Rattle.ac_widen.specs.Combinations.{IsAmong}
+use Rattle.ac_forms.specs.Members.{IsAmong}
 use Rattle.ac_hull.specs.First.{AreFirst}
 use Rattle.ac_hull.proofs.first.first.Given as goal
 

@@ -15,7 +15,7 @@ lower_taken-returns-in-Ok t c =
 pub lower_taken-returns-in-Err-Wide : goal.lower_taken-returns-in-Err-Wide
 lower_taken-returns-in-Err-Wide t c =
     unknown c.seek_all.result c.args.scope.now.params _ c.args.body.now c.args.number (where_holds c.args.scope.now c.args.cond.now) (CanHold c.args.scope.now.iters c.args.cond.now.parts) _ _ c.requires.body
-    (inl (wide_not _ _ (where_holds c.args.scope.now c.args.cond.now) c.in-Err-Wide.field-0-is c.in-Err-Wide.ensures)) (c.len.ensures ∙ count_taken c.args.scope.now c.args.cond.now) c.seek_all.ensures
+    (inl (wide_not _ _ c.in-Err-Wide.field-0-is c.in-Err-Wide.ensures)) (c.len.ensures ∙ count_taken c.args.scope.now c.args.cond.now) c.seek_all.ensures
 
 pub lower_other-returns-in-Ok : goal.lower_other-returns-in-Ok
 lower_other-returns-in-Ok t c =
@@ -24,7 +24,7 @@ lower_other-returns-in-Ok t c =
 pub lower_other-returns-in-Err-Wide : goal.lower_other-returns-in-Err-Wide
 lower_other-returns-in-Err-Wide t c =
     unknown c.seek_all-in-Err-Wide.result c.args.scope.now.params _ c.args.body.now c.args.number (where_fails c.args.scope.now c.args.cond.now) (CanFail c.args.scope.now.iters c.args.cond.now.parts) _ _ c.requires.body
-    (inl (wide_not _ _ (where_fails c.args.scope.now c.args.cond.now) c.in-Err-Wide.field-0-is c.in-Err-Wide.ensures)) (count_other c.args.scope.now c.args.cond.now _ c.in_ok-pieces.ensures c.requires.few) c.seek_all-in-Err-Wide.ensures
+    (inl (wide_not _ _ c.in-Err-Wide.field-0-is c.in-Err-Wide.ensures)) (count_other c.args.scope.now c.args.cond.now _ c.in_ok-pieces.ensures c.requires.few) c.seek_all-in-Err-Wide.ensures
 
 pub lower_other-returns-then-pieces-gt16 : goal.lower_other-returns-then-pieces-gt16
 lower_other-returns-then-pieces-gt16 t c =
@@ -54,7 +54,7 @@ lower_loop-returns-in-Err-Wide t c =
     rw (to_z-of_z w64 c.args.step c.ranges.step) at
     (unknown c.seek_all.result c.args.scope.now.params _ c.args.body.now (suc c.args.number) (in_loop c.args.scope.now c.args.number c.args.start.now c.args.cond.now (to_z w64 (of_z w64 c.args.step)))
     (CanEnter c.args.scope.now c.args.start.now c.args.cond.now (to_z w64 (of_z w64 c.args.step))) _ c.args.out.now c.requires.body
-    (inl (wide_not _ _ (in_loop c.args.scope.now c.args.number c.args.start.now c.args.cond.now (to_z w64 (of_z w64 c.args.step))) c.in-Err-Wide.field-0-is c.in-Err-Wide.ensures))
+    (inl (wide_not _ _ c.in-Err-Wide.field-0-is c.in-Err-Wide.ensures))
     (c.len.ensures ∙ count_in_loop c.args.scope.now c.args.number c.args.start.now c.args.cond.now (to_z w64 (of_z w64 c.args.step))) (rw e at c.seek_all.ensures))
 
 pub lower_one-returns-in-For : goal.lower_one-returns-in-For
@@ -96,4 +96,4 @@ lower_one-returns-in_ok-push-in-Ok t c =
 pub lower_one-returns-in-Err-Wide : goal.lower_one-returns-in-Err-Wide
 lower_one-returns-in-Err-Wide t c =
     walk_assign_wide c.args.s.now c.in-Assign.array c.in-Assign.subs c.as_slice-in-Assign.result.now c.in-Assign.value c.in-Assign.place c.args.number c.args.scope.now c.args.out.now c.args.out.now
-    c.in-Assign.is c.as_slice-in-Assign.ensures c.requires.few (wide_not _ _ _ c.in-Err-Wide.field-0-is c.in-Err-Wide.ensures)
+    c.in-Assign.is c.as_slice-in-Assign.ensures c.requires.few (wide_not _ _ c.in-Err-Wide.field-0-is c.in-Err-Wide.ensures)

@@ -13,7 +13,7 @@ returns c = λ counts depth. record {
   names = ap length c.in_ok-names.ensures.items;
   long = c.in_ok-standing.ensures.long;
   rows = stand-same (length c.args.names.now) _ _ (c.in_ok-standing.ensures.rows);
-  calm = c.in_ok-standing.ensures.calm;
+  up_to_2_to_122 = c.in_ok-standing.ensures.up_to_2_to_122;
   carries = λ p d on is.
       let here : StandOn c.args.base c.args.names.now c.args.rows.now c.args.places.now d = subst (StandOn c.args.base c.args.names.now c.args.rows.now c.args.places.now) (sym is) on in
       carries-behind c.behind-trail.result c.args.base d _ _ _ c.behind-trail.ensures.steps c.behind-trail.ensures.base

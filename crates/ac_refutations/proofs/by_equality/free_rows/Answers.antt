@@ -8,8 +8,8 @@ loop-i-preserved c =
     free-more c.args.z c.loop-i.i c.args.rows.now c.args.places.now c.loop-i.kept.rows.items c.loop-i.kept.places.items c.index-rows-i.result c.keep_free.new.kept.rows.items c.keep_free.new.kept.places.items
     c.loop-i.invariant (omega arith) c.index-rows-i.is c.in_ok-keep_free.ensures.rows c.in_ok-keep_free.ensures.long c.in_ok-keep_free.ensures.stand
 
-pub returns-clause-calm : goal.returns-clause-calm
-returns-clause-calm c =
+pub returns-clause-up_to_2_to_122 : goal.returns-clause-up_to_2_to_122
+returns-clause-up_to_2_to_122 c =
     let past : length c.args.rows.now ≤ c.loop-i.i = omega arith in
     rw (free-rows c.args.z c.loop-i.i c.args.rows.now c.args.places.now c.loop-i.kept.rows.items c.loop-i.kept.places.items c.loop-i.invariant past)
-    (rows_without-calm c.args.z c.args.rows.now (modest-calm c.args.rows.now c.requires.modest c.requires.moduli))
+    (rows_without-calm c.args.z c.args.rows.now (modest-calm c.args.rows.now c.requires.within_2_to_120 c.requires.moduli))

@@ -13,7 +13,7 @@ worth-requires c =
     let fk : FitsSigned w128 c.args.k = c.ranges.k in
     let e : slice_get c.args.rows.now c.args.i ≡ Some (Ge c.in-Ge.form) = rw (← c.in-Ge.is) (slice_get_read c.args.rows.now (length c.args.rows.now) c.args.i c.index-rows-i.result refl c.requires.lower c.index-rows-i.is) in
     let l = c.requires.last c.in-Ge.form e in
-    simp read_back (splinter_fits c.args.rows.now c.args.z c.args.i c.args.k c.in-Ge.form c.requires.modest e c.requires.low l.0 l.1)
+    simp read_back (splinter_fits c.args.rows.now c.args.z c.args.i c.args.k c.in-Ge.form c.requires.within_2_to_120 e c.requires.low l.0 l.1)
 
 pub returns-in_ok-keep-in-Ge-clause-rows : goal.returns-in_ok-keep-in-Ge-clause-rows
 returns-in_ok-keep-in-Ge-clause-rows c =
@@ -21,14 +21,14 @@ returns-in_ok-keep-in-Ge-clause-rows c =
     let x = simp read_back at c.in_ok-row-in-Ge.ensures in
     splinter-is c.args.k c.args.rows.now c.args.i c.index-rows-i.result c.in-Ge.form c.keep.new.kept.rows.items c.in_ok-row-in-Ge.row c.requires.lower c.index-rows-i.is c.in-Ge.is x (rw (← c.in_ok-copied.ensures) c.in_ok-keep-in-Ge.ensures.rows)
 
-pub returns-in_ok-keep-in-Ge-clause-calm : goal.returns-in_ok-keep-in-Ge-clause-calm
-returns-in_ok-keep-in-Ge-clause-calm c =
+pub returns-in_ok-keep-in-Ge-clause-up_to_2_to_122 : goal.returns-in_ok-keep-in-Ge-clause-up_to_2_to_122
+returns-in_ok-keep-in-Ge-clause-up_to_2_to_122 c =
     let fk : FitsSigned w128 c.args.k = c.ranges.k in
     let x = simp read_back at c.in_ok-row-in-Ge.ensures in
     let e : slice_get c.args.rows.now c.args.i ≡ Some (Ge c.in-Ge.form) = rw (← c.in-Ge.is) (slice_get_read c.args.rows.now (length c.args.rows.now) c.args.i c.index-rows-i.result refl c.requires.lower c.index-rows-i.is) in
     let l = c.requires.last c.in-Ge.form e in
     rw (c.in_ok-keep-in-Ge.ensures.rows, c.in_ok-copied.ensures, x)
-    (splinter-calm c.args.rows.now c.args.z c.args.i c.args.k c.in-Ge.form c.requires.modest c.requires.moduli e c.requires.low l.0 l.1)
+    (splinter-calm c.args.rows.now c.args.z c.args.i c.args.k c.in-Ge.form c.requires.within_2_to_120 c.requires.moduli e c.requires.low l.0 l.1)
 
 pub returns-in_ok-keep-in-Ge-clause-stand : goal.returns-in_ok-keep-in-Ge-clause-stand
 returns-in_ok-keep-in-Ge-clause-stand c = λ b path names h s.
@@ -44,5 +44,5 @@ returns-in-Eq-clause-rows c = no-splinter c.args.k c.args.rows.now c.args.i c.in
     other : (f : Affine) → c.index-rows-i.result ≡ Ge f → ⊥
     other f e = elim c.in-Eq.is [ inl d ↦ (let x = d.1 in cc) | inr d ↦ (let x = d.2 in cc) ]
 
-pub returns-in-Eq-clause-calm : goal.returns-in-Eq-clause-calm
-returns-in-Eq-clause-calm c = rw (c.in_ok-copied.ensures) (modest-calm c.args.rows.now c.requires.modest c.requires.moduli)
+pub returns-in-Eq-clause-up_to_2_to_122 : goal.returns-in-Eq-clause-up_to_2_to_122
+returns-in-Eq-clause-up_to_2_to_122 c = rw (c.in_ok-copied.ensures) (modest-calm c.args.rows.now c.requires.within_2_to_120 c.requires.moduli)

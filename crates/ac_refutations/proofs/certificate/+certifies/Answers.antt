@@ -18,38 +18,38 @@ certify_at-returns-in-Absurd t c = λ path on. c.absurd_tree.ensures.accepted pa
 pub certify_at-certify_each-requires : goal.certify_at-certify_each-requires
 certify_at-certify_each-requires t c = (
   search (rules, the_lemmas),
-  let o : Opened c.in-Open.conj c.as_slice-choices.result.now c.as_slice-below.result.now c.deref.result.now = opened c.args.refutation.now c.in-Open.conj c.in-Open.choices c.as_slice-choices.result.now c.in-Open.below c.as_slice-below.result.now c.in_ok-counts-in-Open.counts.items c.deref.result.now c.len.result c.in-Open.is c.as_slice-choices.ensures c.as_slice-below.ensures c.deref.ensures.value c.in_ok-counts-in-Open.ensures c.len.ensures c.requires.refutes c.requires.modest in
+  let o : Opened c.in-Open.conj c.as_slice-choices.result.now c.as_slice-below.result.now c.deref.result.now = opened c.args.refutation.now c.in-Open.conj c.in-Open.choices c.as_slice-choices.result.now c.in-Open.below c.as_slice-below.result.now c.in_ok-counts-in-Open.counts.items c.deref.result.now c.len.result c.in-Open.is c.as_slice-choices.ensures c.as_slice-below.ensures c.deref.ensures.value c.in_ok-counts-in-Open.ensures c.len.ensures c.requires.refutes c.requires.within_2_to_120 in
       let conj = open-conj c.args.refutation.now c.in-Open.conj c.in-Open.choices c.in-Open.below c.in-Open.is in
-      (c.requires.long ∙ ap (λ (d : Conj). length d.rows) conj, (c.requires.names ∙ ap (λ (d : Conj). d.columns) conj, (o.long, (o.made, (o.modest, (o.fan.tries, (o.refuted, o.all_modest))))))),
+      (c.requires.long ∙ ap (λ (d : Conj). length d.rows) conj, (c.requires.names ∙ ap (λ (d : Conj). d.columns) conj, (o.long, (o.made, (o.within_2_to_120, (o.fan.tries, (o.refuted, o.each_is_within_2_to_120))))))),
 )
 
 pub certify_at-choice_tree-requires-clause-counts : goal.certify_at-choice_tree-requires-clause-counts
 certify_at-choice_tree-requires-clause-counts t c =
-    let o : Opened c.in-Open.conj c.as_slice-choices.result.now c.as_slice-below.result.now c.deref-in-Open.result.now = opened c.args.refutation.now c.in-Open.conj c.in-Open.choices c.as_slice-choices.result.now c.in-Open.below c.as_slice-below.result.now c.in_ok-counts-in-Open.counts.items c.deref-in-Open.result.now c.len.result c.in-Open.is c.as_slice-choices.ensures c.as_slice-below.ensures c.deref-in-Open.ensures.value c.in_ok-counts-in-Open.ensures c.len.ensures c.requires.refutes c.requires.modest in
+    let o : Opened c.in-Open.conj c.as_slice-choices.result.now c.as_slice-below.result.now c.deref-in-Open.result.now = opened c.args.refutation.now c.in-Open.conj c.in-Open.choices c.as_slice-choices.result.now c.in-Open.below c.as_slice-below.result.now c.in_ok-counts-in-Open.counts.items c.deref-in-Open.result.now c.len.result c.in-Open.is c.as_slice-choices.ensures c.as_slice-below.ensures c.deref-in-Open.ensures.value c.in_ok-counts-in-Open.ensures c.len.ensures c.requires.refutes c.requires.within_2_to_120 in
     o.long
 
 pub certify_at-choice_tree-requires-clause-made : goal.certify_at-choice_tree-requires-clause-made
 certify_at-choice_tree-requires-clause-made t c =
-    let o : Opened c.in-Open.conj c.as_slice-choices.result.now c.as_slice-below.result.now c.deref-in-Open.result.now = opened c.args.refutation.now c.in-Open.conj c.in-Open.choices c.as_slice-choices.result.now c.in-Open.below c.as_slice-below.result.now c.in_ok-counts-in-Open.counts.items c.deref-in-Open.result.now c.len.result c.in-Open.is c.as_slice-choices.ensures c.as_slice-below.ensures c.deref-in-Open.ensures.value c.in_ok-counts-in-Open.ensures c.len.ensures c.requires.refutes c.requires.modest in
+    let o : Opened c.in-Open.conj c.as_slice-choices.result.now c.as_slice-below.result.now c.deref-in-Open.result.now = opened c.args.refutation.now c.in-Open.conj c.in-Open.choices c.as_slice-choices.result.now c.in-Open.below c.as_slice-below.result.now c.in_ok-counts-in-Open.counts.items c.deref-in-Open.result.now c.len.result c.in-Open.is c.as_slice-choices.ensures c.as_slice-below.ensures c.deref-in-Open.ensures.value c.in_ok-counts-in-Open.ensures c.len.ensures c.requires.refutes c.requires.within_2_to_120 in
     o.made
 
-pub certify_at-choice_tree-requires-clause-modest : goal.certify_at-choice_tree-requires-clause-modest
-certify_at-choice_tree-requires-clause-modest t c =
-    let o : Opened c.in-Open.conj c.as_slice-choices.result.now c.as_slice-below.result.now c.deref-in-Open.result.now = opened c.args.refutation.now c.in-Open.conj c.in-Open.choices c.as_slice-choices.result.now c.in-Open.below c.as_slice-below.result.now c.in_ok-counts-in-Open.counts.items c.deref-in-Open.result.now c.len.result c.in-Open.is c.as_slice-choices.ensures c.as_slice-below.ensures c.deref-in-Open.ensures.value c.in_ok-counts-in-Open.ensures c.len.ensures c.requires.refutes c.requires.modest in
-    o.modest
+pub certify_at-choice_tree-requires-clause-within_2_to_120 : goal.certify_at-choice_tree-requires-clause-within_2_to_120
+certify_at-choice_tree-requires-clause-within_2_to_120 t c =
+    let o : Opened c.in-Open.conj c.as_slice-choices.result.now c.as_slice-below.result.now c.deref-in-Open.result.now = opened c.args.refutation.now c.in-Open.conj c.in-Open.choices c.as_slice-choices.result.now c.in-Open.below c.as_slice-below.result.now c.in_ok-counts-in-Open.counts.items c.deref-in-Open.result.now c.len.result c.in-Open.is c.as_slice-choices.ensures c.as_slice-below.ensures c.deref-in-Open.ensures.value c.in_ok-counts-in-Open.ensures c.len.ensures c.requires.refutes c.requires.within_2_to_120 in
+    o.within_2_to_120
 
 pub certify_at-choice_tree-requires-clause-all : goal.certify_at-choice_tree-requires-clause-all
 certify_at-choice_tree-requires-clause-all t c =
-    let o : Opened c.in-Open.conj c.as_slice-choices.result.now c.as_slice-below.result.now c.deref-in-Open.result.now = opened c.args.refutation.now c.in-Open.conj c.in-Open.choices c.as_slice-choices.result.now c.in-Open.below c.as_slice-below.result.now c.in_ok-counts-in-Open.counts.items c.deref-in-Open.result.now c.len.result c.in-Open.is c.as_slice-choices.ensures c.as_slice-below.ensures c.deref-in-Open.ensures.value c.in_ok-counts-in-Open.ensures c.len.ensures c.requires.refutes c.requires.modest in
+    let o : Opened c.in-Open.conj c.as_slice-choices.result.now c.as_slice-below.result.now c.deref-in-Open.result.now = opened c.args.refutation.now c.in-Open.conj c.in-Open.choices c.as_slice-choices.result.now c.in-Open.below c.as_slice-below.result.now c.in_ok-counts-in-Open.counts.items c.deref-in-Open.result.now c.len.result c.in-Open.is c.as_slice-choices.ensures c.as_slice-below.ensures c.deref-in-Open.ensures.value c.in_ok-counts-in-Open.ensures c.len.ensures c.requires.refutes c.requires.within_2_to_120 in
     o.fan.all
 
 pub certify_each-bounds-choices-j : goal.certify_each-bounds-choices-j
 certify_each-bounds-choices-j t c = omega (arith, c.loop-j-test.true, refute-lengths c.args.conj.now c.args.choices.now c.args.below.now c.requires.refuted)
 
-pub certify_each-branch_of-requires-clause-modest : goal.certify_each-branch_of-requires-clause-modest
-certify_each-branch_of-requires-clause-modest t c =
+pub certify_each-branch_of-requires-clause-within_2_to_120 : goal.certify_each-branch_of-requires-clause-within_2_to_120
+certify_each-branch_of-requires-clause-within_2_to_120 t c =
     let l = c.loop-j-test.true in
-    modest-at c.args.conj.now.rows c.args.choices.now c.loop-j.j _ c.requires.modest (omega (arith, l, refute-lengths c.args.conj.now c.args.choices.now c.args.below.now c.requires.refuted)) (choice-own c.args.conj.now c.args.choices.now c.args.below.now c.loop-j.j c.requires.refuted l)
+    modest-at c.args.conj.now.rows c.args.choices.now c.loop-j.j _ c.requires.within_2_to_120 (omega (arith, l, refute-lengths c.args.conj.now c.args.choices.now c.args.below.now c.requires.refuted)) (choice-own c.args.conj.now c.args.choices.now c.args.below.now c.loop-j.j c.requires.refuted l)
 
 pub certify_each-branch_of-requires-clause-tried : goal.certify_each-branch_of-requires-clause-tried
 certify_each-branch_of-requires-clause-tried t c =
@@ -66,10 +66,10 @@ certify_each-beneath-requires t c = (
   let l = c.loop-j-test.true in
       let s : Stage = stage c.args.base c.args.names.now c.args.places.now c.args.conj.now.rows c.args.counts.now c.args.depth in
       let x : Chosen c.args.conj.now (get_or c.args.choices.now c.loop-j.j (Drop 0)) c.index-below-j.result c.args.counts.now =
-      chosen c.args.conj.now c.args.choices.now c.args.below.now c.args.counts.now c.loop-j.j (get_or c.args.choices.now c.loop-j.j (Drop 0)) c.index-below-j.result c.requires.modest c.requires.tries c.requires.refuted c.requires.below l (choice-own c.args.conj.now c.args.choices.now c.args.below.now c.loop-j.j c.requires.refuted l) c.index-below-j.is in
+      chosen c.args.conj.now c.args.choices.now c.args.below.now c.args.counts.now c.loop-j.j (get_or c.args.choices.now c.loop-j.j (Drop 0)) c.index-below-j.result c.requires.within_2_to_120 c.requires.tries c.requires.refuted c.requires.below l (choice-own c.args.conj.now c.args.choices.now c.args.below.now c.loop-j.j c.requires.refuted l) c.index-below-j.is in
       let r : Ready c.in_ok-branch.branch c.index-below-j.result = ready s c.args.conj.now (get_or c.args.choices.now c.loop-j.j (Drop 0)) c.index-below-j.result c.in_ok-branch.branch refl c.requires.names x c.in_ok-branch.ensures in
       let i : IsBranch s (get_or c.args.choices.now c.loop-j.j (Drop 0)) c.in_ok-branch.branch = c.in_ok-branch.ensures in
-      (i.long, (r.names, (r.made, (r.fits, (i.calm, (r.normal, (x.refutes, x.is_modest))))))),
+      (i.long, (r.names, (r.made, (r.fits, (i.up_to_2_to_122, (r.normal, (x.refutes, x.is_within_2_to_120))))))),
 )
 
 pub certify_each-loop-j-preserved : goal.certify_each-loop-j-preserved

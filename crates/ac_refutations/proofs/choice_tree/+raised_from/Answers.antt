@@ -22,7 +22,7 @@ raised_from-requires t c = (
       let within : c.args.i < length c.args.counts.now = omega arith in
       let none : get_or c.args.counts.now c.args.i 0 ≡ 0 = c.if-count-eq0.true in
       let same : lift_count (take (c.args.i + 1) c.args.counts.now) ≡ lift_count (take c.args.i c.args.counts.now) = lift_same c.args.counts.now c.args.i (c.args.i + 1) refl refl within (omega arith) in
-      (c.requires.long, (c.requires.counts, (c.requires.modest, (c.requires.deep, (omega arith, (c.requires.end ∙ ap (λ (n : ℕ). c.args.base.rows + n) (sym same), (serves-same s c.args.i c.args.splinters.items within none c.requires.served, c.requires.shadow))))))),
+      (c.requires.long, (c.requires.counts, (c.requires.within_2_to_120, (c.requires.deep, (omega arith, (c.requires.end ∙ ap (λ (n : ℕ). c.args.base.rows + n) (sym same), (serves-same s c.args.i c.args.splinters.items within none c.requires.served, c.requires.shadow))))))),
 )
 
 pub returns-then-count-eq0 : goal.returns-then-count-eq0
@@ -47,7 +47,7 @@ raised_from-requires-2 t c = (
       let p : Served s c.args.i c.args.splinters.items c.split_off.new.self.items c.in_ok-later.later.items = serves-parts s c.args.i c.args.splinters.items c.split_off.new.self.items c.in_ok-later.later.items within c.in_ok-later.ensures.items c.in_ok-later.ensures.tail c.requires.served in
       let more : lift_count (take (c.args.i + 1) c.args.counts.now) ≡ lift_count (take c.args.i c.args.counts.now) + 1 = lift_more c.args.counts.now c.args.i (c.args.i + 1) refl within some in
       let next : c.in-Some.next ≡ c.args.end + 1 = first_of (omega arith, search rules) in
-      (c.requires.long, (c.requires.counts, (c.requires.modest, (omega (arith, p.back-long, c.requires.deep), (omega arith, (omega (arith, c.requires.end, next, more), (p.later, c.requires.shadow))))))),
+      (c.requires.long, (c.requires.counts, (c.requires.within_2_to_120, (omega (arith, p.back-long, c.requires.deep), (omega arith, (omega (arith, c.requires.end, next, more), (p.later, c.requires.shadow))))))),
 )
 
 pub raised_tree-requires-clause-room : goal.raised_tree-requires-clause-room
@@ -60,7 +60,7 @@ raised_tree-requires-clause-room t c =
     let p : Served s c.args.i c.args.splinters.items c.split_off.new.self.items c.in_ok-later.later.items = serves-parts s c.args.i c.args.splinters.items c.split_off.new.self.items c.in_ok-later.later.items within c.in_ok-later.ensures.items c.in_ok-later.ensures.tail c.requires.served in
     let lower : IsLower c.index-rows-i.result = lower-row c.args.rows.now c.args.counts.now c.args.i c.index-rows-i.result c.requires.counts here c.index-rows-i.is some in
     let small : length c.split_off.new.self.items < 2 ^ 64 = omega (arith, p.front-long, (c.type_inv.counts c.args.i).fits) in
-    lower-room c.args.rows.now c.args.i c.index-rows-i.result c.in_ok-form.form (length c.split_off.new.self.items) c.requires.modest here c.index-rows-i.is lower (c.in_ok-form.ensures.konst ∙ ap (λ (f : Affine). f.konst) c.form.ensures) (rw c.form.ensures at c.in_ok-form.ensures.sizes) small
+    lower-room c.args.rows.now c.args.i c.index-rows-i.result c.in_ok-form.form (length c.split_off.new.self.items) c.requires.within_2_to_120 here c.index-rows-i.is lower (c.in_ok-form.ensures.konst ∙ ap (λ (f : Affine). f.konst) c.form.ensures) (rw c.form.ensures at c.in_ok-form.ensures.sizes) small
 
 pub returns : goal.returns
 returns t c =

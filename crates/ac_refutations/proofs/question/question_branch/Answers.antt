@@ -15,6 +15,6 @@ returns c =
       names = ap length c.in_ok-names.ensures ∙ numbers-length q.columns;
       long = ap length places ∙ numbers-length (length q.rows) ∙ sym (ap length rows);
       rows = rows;
-      calm = subst AreRowsUpTo2To122 (sym rows) (modest-calm q.rows c.requires.modest (moduli_of q.columns q.rows c.requires.made));
+      up_to_2_to_122 = subst AreRowsUpTo2To122 (sym rows) (modest-calm q.rows c.requires.within_2_to_120 (moduli_of q.columns q.rows c.requires.made));
       carries = first-carries c.in_ok-trail.trail q c.in_ok-names.names.items c.in_ok-places.places.items c.in_ok-rows.rows.items c.in_ok-names.ensures places rows c.requires.made (c.in_ok-trail.ensures q refl (sym c.len.ensures));
     }

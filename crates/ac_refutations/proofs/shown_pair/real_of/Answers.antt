@@ -6,13 +6,13 @@ use Rattle.ac_refutations.proofs.ShownSteps.{real-is}
 use Rattle.ac_refutations.proofs.shown_pair.real_of.Goals as goal
 
 pub opposite_coef-a-requires : goal.opposite_coef-a-requires
-opposite_coef-a-requires c = size-fits c.args.z c.args.low.now c.args.high.now c.requires.modest
+opposite_coef-a-requires c = size-fits c.args.z c.args.low.now c.args.high.now c.requires.within_2_to_120
 
 pub sum_of-requires : goal.sum_of-requires
 sum_of-requires c =
     let f = c.args.low.now in
     let g = c.args.high.now in
-    let p = plain-pair c.args.z f g c.requires.modest c.requires.low c.requires.high in
+    let p = plain-pair c.args.z f g c.requires.within_2_to_120 c.requires.low c.requires.high in
     let a = again-is c.opposite_coef-a.result _ c.opposite_coef-a.ensures (record { sfits = c.opposite_coef-a.type_inv }) in
     let b = again-is c.coef-b.result _ c.coef-b.ensures (record { sfits = c.coef-b.type_inv }) in
     rw (a, b) (blends-can _ f _ g (pair-blends f g _ _ _ p))

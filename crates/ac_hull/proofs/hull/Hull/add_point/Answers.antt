@@ -3,7 +3,8 @@ use Rattle.std.specs.Prelude.{slice_get}
 use Rattle.ac_widen.specs.Combinations.{InHull}
 use Rattle.ac_hull.specs.Fitting.{CanAdd, CanGrow}
 use Rattle.ac_hull.specs.Elimination.{next_line, minus, IsZero}
-use Rattle.ac_hull.proofs.Hulls.{hull_content, hull_row, hull_can_grow, none_in, stop_kept}
+use Rattle.ac_hull.proofs.Hulls.{hull_content, hull_row, hull_can_grow, none_in}
+use Rattle.ac_forms.proofs.Stops.{wide_inside}
 use Rattle.ac_hull.proofs.Counts.{grown_law}
 use Rattle.ac_hull.proofs.hull.Hull.add_point.Goals as goal
 
@@ -45,7 +46,7 @@ returns-in-Err-clause-wide c =
     let k : c.args.self.now.columns ≡ c.self.inside.columns = cc in
     let go : CanAdd c.args.self.now.columns c.args.self.now.members c.args.point.now → CanGrow c.args.self.now.columns c.args.self.now.members c.in_ok-line.line =
     rw (e, k) (hull_can_grow c.self.inside.columns c.self.inside.members c.self.inside.lines c.self.inside.equalities c.in-Some.first.now c.args.point.now c.in_ok-line.line c.self.invariant f is z) in
-    stop_kept c.in-Err.stop _ _ _ _ go c.in-Err.ensures.made
+    wide_inside c.in-Err.stop _ _ c.in-Err.ensures.made go
   where
     false_true : false ≡ true → ⊥
     false_true e = cc

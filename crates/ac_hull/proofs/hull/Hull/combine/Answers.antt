@@ -2,7 +2,8 @@ use Rattle.std.proofs.Common.{◌≡◌, length, Some, rules, refl}
 use Rattle.std.specs.Prelude.{slice_get}
 use Rattle.ac_hull.specs.Elimination.{IsZero}
 use Rattle.ac_hull.specs.Fitting.{CanCombine, CanRead}
-use Rattle.ac_hull.proofs.Hulls.{hull_content, hull_row, stop_kept_iff}
+use Rattle.ac_hull.proofs.Hulls.{hull_content, hull_row}
+use Rattle.ac_forms.proofs.Stops.{wide_inside}
 use Rattle.ac_hull.proofs.Founds.{hull_long, hull_found, hull_can_combine, hull_combine_read}
 use Rattle.ac_hull.proofs.hull.Hull.combine.Goals as goal
 
@@ -53,4 +54,4 @@ returns c =
     let e : c.args.self.now.members ≡ c.self.inside.members = cc in
     let go : CanCombine c.args.self.now.members c.args.point.now → CanRead c.len.result c.in_ok-line.line =
     rw e (hull_combine_read c.self.inside.columns c.self.inside.members c.self.inside.lines c.self.inside.equalities c.in-Some.first.now c.args.point.now c.in_ok-line.line c.len.result c.self.invariant f l made.1 c.len.ensures z) in
-    stop_kept_iff c.in-Err.stop _ _ _ _ go c.in-Err.ensures
+    wide_inside c.in-Err.stop _ _ c.in-Err.ensures go

@@ -11,7 +11,7 @@ show_implied_by_one-requires-clause-fits c =
     let rows = c.args.bounded.now.rows.now in
     let l = at-within rows c.args.i _ c.requires.implied.2.stands.at in
     let at : slice_get rows c.args.i ≡ Some (Ge c.in-Ge.by) = row-is rows c.args.i c.index-bounded-i.result _ l c.index-bounded-i.is c.in-Ge.is in
-    one-fits z c.args.i c.args.low.now c.in-Ge.by c.in_ok-form.form rows c.requires.around c.requires.low at (kept-moderate z c.args.low.now c.args.high.now c.in_ok-form.form c.requires.modest c.requires.low c.requires.high c.in_ok-form.ensures)
+    one-fits z c.args.i c.args.low.now c.in-Ge.by c.in_ok-form.form rows c.requires.around c.requires.low at (kept-moderate z c.args.low.now c.args.high.now c.in_ok-form.form c.requires.within_2_to_120 c.requires.low c.requires.high c.in_ok-form.ensures)
 
 pub returns-clause-leads : goal.returns-clause-leads
 returns-clause-leads c = λ start path names h o s.

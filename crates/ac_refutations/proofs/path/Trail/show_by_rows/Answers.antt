@@ -22,7 +22,7 @@ show_implied_by_two-requires-clause-fits c =
     let k = at-within rows c.args.j _ c.requires.implied.2.rest.stands.at in
     let at : slice_get rows c.args.i ≡ Some (Ge c.in-Ge-Ge.first) = row-is rows c.args.i c.index-bounded-i.result _ l c.index-bounded-i.is c.in-Ge-Ge.is-0 in
     let too : slice_get rows c.args.j ≡ Some (Ge c.in-Ge-Ge.second) = row-is rows c.args.j c.index-bounded-j.result _ k c.index-bounded-j.is c.in-Ge-Ge.is-1 in
-    two-fit z c.args.i c.args.j c.args.low.now c.in-Ge-Ge.first c.in-Ge-Ge.second c.in_ok-form.form rows c.requires.around c.requires.low at too (kept-moderate z c.args.low.now c.args.high.now c.in_ok-form.form c.requires.modest c.requires.low c.requires.high c.in_ok-form.ensures)
+    two-fit z c.args.i c.args.j c.args.low.now c.in-Ge-Ge.first c.in-Ge-Ge.second c.in_ok-form.form rows c.requires.around c.requires.low at too (kept-moderate z c.args.low.now c.args.high.now c.in_ok-form.form c.requires.within_2_to_120 c.requires.low c.requires.high c.in_ok-form.ensures)
 
 pub returns-clause-leads : goal.returns-clause-leads
 returns-clause-leads c = λ start path names h o s.

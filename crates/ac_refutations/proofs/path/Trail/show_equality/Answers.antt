@@ -7,12 +7,12 @@ use Rattle.ac_refutations.proofs.path.Trail.show_equality.Goals as goal
 pub show_replacing-requires-clause-column : goal.show_replacing-requires-clause-column
 show_replacing-requires-clause-column c =
     let e = equality-at c.args.rows.now c.args.i c.index-rows-i.result c.in-Eq.equality (equality-within c.args.z c.args.rows.now c.args.i c.requires.equality) c.index-rows-i.is c.in-Eq.is in
-    modest-divides c.args.z c.args.rows.now c.args.i c.in-Eq.equality c.requires.modest e c.requires.equality
+    modest-divides c.args.z c.args.rows.now c.args.i c.in-Eq.equality c.requires.within_2_to_120 e c.requires.equality
 
 pub show_replacing-requires-clause-fits : goal.show_replacing-requires-clause-fits
 show_replacing-requires-clause-fits c =
     let e = equality-at c.args.rows.now c.args.i c.index-rows-i.result c.in-Eq.equality (equality-within c.args.z c.args.rows.now c.args.i c.requires.equality) c.index-rows-i.is c.in-Eq.is in
-    modest-replaces (length c.args.names.now) c.args.z c.args.rows.now c.args.i c.in-Eq.equality c.requires.modest c.requires.made e c.requires.equality
+    modest-replaces (length c.args.names.now) c.args.z c.args.rows.now c.args.i c.in-Eq.equality c.requires.within_2_to_120 c.requires.made e c.requires.equality
 
 pub unreachable-requires : goal.unreachable-requires
 unreachable-requires c = other-equality c.args.z c.args.rows.now c.args.i c.index-rows-i.result (equality-within c.args.z c.args.rows.now c.args.i c.requires.equality) c.index-rows-i.is other c.requires.equality
@@ -25,10 +25,10 @@ returns-clause-rows c =
     let e = equality-at c.args.rows.now c.args.i c.index-rows-i.result c.in-Eq.equality (equality-within c.args.z c.args.rows.now c.args.i c.requires.equality) c.index-rows-i.is c.in-Eq.is in
     rw e c.in_ok-left-in-Eq.ensures.rows
 
-pub returns-clause-calm : goal.returns-clause-calm
-returns-clause-calm c =
+pub returns-clause-up_to_2_to_122 : goal.returns-clause-up_to_2_to_122
+returns-clause-up_to_2_to_122 c =
     let e = equality-at c.args.rows.now c.args.i c.index-rows-i.result c.in-Eq.equality (equality-within c.args.z c.args.rows.now c.args.i c.requires.equality) c.index-rows-i.is c.in-Eq.is in
-    rw c.in_ok-left-in-Eq.ensures.rows (by-equality-calm c.args.z c.args.rows.now c.args.i c.in-Eq.equality c.requires.modest e c.requires.equality)
+    rw c.in_ok-left-in-Eq.ensures.rows (by-equality-calm c.args.z c.args.rows.now c.args.i c.in-Eq.equality c.requires.within_2_to_120 e c.requires.equality)
 
 pub returns-clause-carries : goal.returns-clause-carries
 returns-clause-carries c = λ start h.

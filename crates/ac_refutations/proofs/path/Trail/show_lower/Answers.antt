@@ -10,7 +10,7 @@ pub show_uppers-requires-clause-margin : goal.show_uppers-requires-clause-margin
 show_uppers-requires-clause-margin c =
     let low : is_low c.args.bounded.now.column c.in-Ge.form ≡ true = sym c.is_low.ensures ∙ c.if-not-is_low.false in
     rw (count-is c.args.count c.ranges.count.fits)
-    (row-margin c.args.bounded.now.column c.args.count c.in-Ge.form c.args.bounded.now.rows.now (rw c.in-Ge.is at c.requires.modest) (rw c.in-Ge.is at c.requires.suffices) low)
+    (row-margin c.args.bounded.now.column c.args.count c.in-Ge.form c.args.bounded.now.rows.now (rw c.in-Ge.is at c.requires.within_2_to_120) (rw c.in-Ge.is at c.requires.suffices) low)
 
 pub returns-clause-rows : goal.returns-clause-rows
 returns-clause-rows c =

@@ -12,8 +12,8 @@ bounds-counts-i c =
     let long = suffices-long c.args.bounded.now.column c.args.bounded.now.rows.now c.args.bounded.now.rows.now c.args.counts.now c.requires.suffices in
     omega (arith, long, c.loop-i-test.true)
 
-pub show_lower-requires-clause-modest : goal.show_lower-requires-clause-modest
-show_lower-requires-clause-modest c = rw (← c.index-bounded-i.is) (modest-beside c.args.bounded.now.rows.now c.loop-i.i c.index-bounded-i.result c.requires.modest c.loop-i-test.true c.index-bounded-i.is)
+pub show_lower-requires-clause-within_2_to_120 : goal.show_lower-requires-clause-within_2_to_120
+show_lower-requires-clause-within_2_to_120 c = rw (← c.index-bounded-i.is) (modest-beside c.args.bounded.now.rows.now c.loop-i.i c.index-bounded-i.result c.requires.within_2_to_120 c.loop-i-test.true c.index-bounded-i.is)
 
 pub show_lower-requires-clause-suffices : goal.show_lower-requires-clause-suffices
 show_lower-requires-clause-suffices c =

@@ -18,7 +18,7 @@ join_bounds-requires c =
     rw (again_128 size fits) (record {
       divisor = c.divisor_of-size.ensures;
       some = divisor_some size (content c.args.form.now.coefs) c.divisor_of-size.ensures some;
-      moderate = moderate_of size c.args.form.now c.divisor_of-size.ensures some c.requires;
+      up_to_2_to_122 = moderate_of size c.args.form.now c.divisor_of-size.ensures some c.requires;
     })
 
 pub returns-clause-shows : goal.returns-clause-shows

@@ -19,7 +19,7 @@ returns-in-Some-clash_places c =
     let at : HaveClashAt c.in-Some-clash_places.first c.in-Some-clash_places.second ls = rw (← c.as_slice-4.ensures.value) c.in-Some-clash_places.ensures.some in
     let e : AreLeftOf ls s.rows.items = rw (← c.as_slice.ensures.value) c.in_ok-lefts.ensures.rows in
     let carries : (start : Conj) → Carries c.args.self.now start c.args.names.now s.rows.items s.places.items → CarriesLefts c.show_all_left.new.self start c.args.names.now s.rows.items s.places.items ls = rw (← c.as_slice.ensures.value, ← c.as_slice-2.ensures.value) c.in_ok-lefts.ensures.carries in
-    record { long = tt; settles = λ start k. clash_settles c.show_all_left.new.self c.show_clash.new.self start c.args.names.now s.rows.items s.places.items ls c.in-Some-clash_places.first c.in-Some-clash_places.second c.in_ok-place.place c.requires.calm e at c.in_ok-place.ensures.shows (carries start k) }
+    record { long = tt; settles = λ start k. clash_settles c.show_all_left.new.self c.show_clash.new.self start c.args.names.now s.rows.items s.places.items ls c.in-Some-clash_places.first c.in-Some-clash_places.second c.in_ok-place.place c.requires.up_to_2_to_122 e at c.in_ok-place.ensures.shows (carries start k) }
 
 pub places_of-requires : goal.places_of-requires
 places_of-requires c =

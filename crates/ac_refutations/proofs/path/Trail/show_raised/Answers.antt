@@ -5,7 +5,7 @@ use Rattle.ac_refutations.proofs.Shadowed.{again-is, pair-of, size-fits, pair-le
 use Rattle.ac_refutations.proofs.path.Trail.show_raised.Goals as goal
 
 pub opposite_coef-a-requires : goal.opposite_coef-a-requires
-opposite_coef-a-requires c = size-fits c.args.z c.args.low.now.form.now c.args.high.now c.requires.taken.modest
+opposite_coef-a-requires c = size-fits c.args.z c.args.low.now.form.now c.args.high.now c.requires.taken.within_2_to_120
 
 pub returns-clause-leads : goal.returns-clause-leads
 returns-clause-leads c = λ start path names h o x y.
@@ -14,7 +14,7 @@ returns-clause-leads c = λ start path names h o x y.
     let z = c.args.z in
     let n = c.args.low.now.margin in
     let m = c.requires.taken in
-    let p = pair-of z f g n m.modest m.low c.requires.high m.some m.within in
+    let p = pair-of z f g n m.within_2_to_120 m.low c.requires.high m.some m.within in
     let a = again-is c.opposite_coef-a.result (neg_ℤ (coef z g)) c.opposite_coef-a.ensures (record { sfits = c.opposite_coef-a.type_inv }) in
     let b = again-is c.coef-b.result (coef z f) c.coef-b.ensures (record { sfits = c.coef-b.type_inv }) in
     let d = again-is c.raised_gap_of-rest.result _ c.raised_gap_of-rest.ensures (record { sfits = c.raised_gap_of-rest.type_inv }) in

@@ -10,12 +10,12 @@ use Rattle.ac_refutations.proofs.path.Trail.show_residue.Goals as goal
 
 pub take_each-requires-clause-small : goal.take_each-requires-clause-small
 take_each-requires-clause-small c =
-    let h = c.requires.modest in
+    let h = c.requires.within_2_to_120 in
     all-small h.factor h.number c.args.z c.args.m c.args.r c.args.rows.now (residue-bound c.args.z c.args.m c.args.r c.args.rows.now h c.requires.modulus c.requires.low c.requires.high) h.rows
 
-pub returns-clause-calm : goal.returns-clause-calm
-returns-clause-calm c =
-    let h = c.requires.modest in
+pub returns-clause-up_to_2_to_122 : goal.returns-clause-up_to_2_to_122
+returns-clause-up_to_2_to_122 c =
+    let h = c.requires.within_2_to_120 in
     let fm : FitsSigned w128 c.args.m = c.ranges.m in
     let fr : FitsSigned w128 c.args.r = c.ranges.r in
     let made = simp read_back at c.in_ok-rows.ensures in
@@ -23,7 +23,7 @@ returns-clause-calm c =
 
 pub returns-clause-carries : goal.returns-clause-carries
 returns-clause-carries c = λ start carries.
-    let h = c.requires.modest in
+    let h = c.requires.within_2_to_120 in
     let fm : FitsSigned w128 c.args.m = c.ranges.m in
     let fr : FitsSigned w128 c.args.r = c.ranges.r in
     let made = simp read_back at c.in_ok-rows.ensures in

@@ -11,12 +11,12 @@ free_rows-requires-clause-moduli c = over-moduli (length c.args.names.now) c.arg
 pub returns-clause-rows : goal.returns-clause-rows
 returns-clause-rows c =
     let long = suffices-long c.args.z c.args.rows.now c.args.rows.now c.args.counts.now c.requires.suffices in
-    shown-stand (length c.args.names.now) c.args.z c.args.rows.now c.in_ok-made.made.rows.items c.show_lowers.new.made.rows.items c.args.counts.now c.requires.modest long c.in_ok-made.ensures.rows c.in_ok-show_lowers.ensures.rows
+    shown-stand (length c.args.names.now) c.args.z c.args.rows.now c.in_ok-made.made.rows.items c.show_lowers.new.made.rows.items c.args.counts.now c.requires.within_2_to_120 long c.in_ok-made.ensures.rows c.in_ok-show_lowers.ensures.rows
 
-pub returns-clause-calm : goal.returns-clause-calm
-returns-clause-calm c =
+pub returns-clause-up_to_2_to_122 : goal.returns-clause-up_to_2_to_122
+returns-clause-up_to_2_to_122 c =
     let long = suffices-long c.args.z c.args.rows.now c.args.rows.now c.args.counts.now c.requires.suffices in
-    shown-calm c.args.z c.args.rows.now c.in_ok-made.made.rows.items c.show_lowers.new.made.rows.items c.args.counts.now c.requires.modest long c.in_ok-made.ensures.calm c.in_ok-show_lowers.ensures.rows
+    shown-calm c.args.z c.args.rows.now c.in_ok-made.made.rows.items c.show_lowers.new.made.rows.items c.args.counts.now c.requires.within_2_to_120 long c.in_ok-made.ensures.up_to_2_to_122 c.in_ok-show_lowers.ensures.rows
 
 pub returns-clause-carries : goal.returns-clause-carries
 returns-clause-carries c =

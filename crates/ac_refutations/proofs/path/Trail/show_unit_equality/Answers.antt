@@ -13,4 +13,4 @@ pub returns-clause-shows : goal.returns-clause-shows
 returns-clause-shows c = λ start path names h a.
     let l : leads_negative c.args.form.now.coefs ≡ true = search rules in
     unit_turned c.add_two.new.self start path names c.in_ok-place.place c.args.form.now c.requires.unit l
-    (c.in_ok-place.ensures.leads start path names (Eq c.args.form.now) (Eq c.args.form.now) h a a tt tt (turned_blends c.args.form.now c.requires.moderate))
+    (c.in_ok-place.ensures.leads start path names (Eq c.args.form.now) (Eq c.args.form.now) h a a tt tt (turned_blends c.args.form.now c.requires.up_to_2_to_122))

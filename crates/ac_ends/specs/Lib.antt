@@ -1,0 +1,3 @@
+pub mod Standing
+pub mod Ends
+pub mod Kills

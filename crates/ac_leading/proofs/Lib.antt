@@ -1,0 +1,12 @@
+pub mod Picks
+pub mod Arguments
+pub mod Trails
+pub mod Pieces
+pub mod Calling
+pub mod Starting
+pub mod Cases
+pub mod Reading
+pub mod Surviving
+pub mod Reaching
+pub mod Ending
+pub mod Entries

@@ -1,0 +1,13 @@
+use Rattle.ac_leading.proofs.Calling.{calls_lead}
+use Rattle.ac_leading.proofs.Reading.{reads_lead}
+use Rattle.ac_leading.proofs.Surviving.{survivors_lead}
+use Rattle.ac_leading.proofs.laws.steps_lead.Goals as goal
+
+pub returns-clause-calls : goal.returns-clause-calls
+returns-clause-calls c = calls_lead
+
+pub returns-clause-reads : goal.returns-clause-reads
+returns-clause-reads c = reads_lead
+
+pub returns-clause-survivors : goal.returns-clause-survivors
+returns-clause-survivors c = survivors_lead

@@ -1,0 +1,9 @@
+pub mod Along
+pub mod Placed
+pub mod Branching
+pub mod Going
+pub mod Stepping
+pub mod Serving
+pub mod Starting
+pub mod Covering
+pub mod Sides

@@ -1,0 +1,5 @@
+pub mod Following
+pub mod Branching
+pub mod Serving
+pub mod Starting
+pub mod Covering
