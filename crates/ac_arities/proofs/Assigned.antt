@@ -24,7 +24,7 @@ use Rattle.ac_affine.specs.declared.fault.Rule.{Rule}
 use Rattle.ac_affine.specs.Faults.{broken_where}
 use Rattle.ac_affine.specs.Meanings.{meaning}
 use Rattle.ac_rules.specs.Declarations.{param_count}
-use Rattle.ac_rules.specs.Values.{read_of, value}
+use Rattle.ac_values.specs.Values.{read_of, value}
 use Rattle.ac_rules.specs.Statements.{assigned_value, assignment_broken, statement_broken, stmt, stmts, inside}
 use Rattle.ac_rules.specs.Files.{body_scope, names_of, file_broken, program_of}
 use Rattle.ac_rules.proofs.Stepping.{broken-loop, broken-branch, broken-assign, stmt-loop, stmt-branch, stmt-assign}

@@ -16,9 +16,9 @@ use Rattle.ac_affine.specs.declared.scope.Entry.{Entry}
 use Rattle.ac_affine.specs.declared.scope.Scope.{Scope}
 use Rattle.ac_affine.specs.declared.scope.Meaning.{Meaning}
 use Rattle.ac_affine.specs.Meanings.{meaning}
-use Rattle.ac_rules.specs.Values.{Reading, number, other, reading, value_of, value, placed, access_reading, call_reading, negative_reading, group_reading, applied_values, applied, joined_reading, chained_reading, chain_reading}
+use Rattle.ac_values.specs.Values.{Reading, number, other, reading, value_of, value, placed, access_reading, call_reading, negative_reading, group_reading, applied_values, applied, joined_reading, chained_reading, chain_reading}
 use Rattle.ac_affine.proofs.Absent.{each_map}
-use Rattle.ac_rules.proofs.Readings.{reading-number, reading-decimal, reading-access, reading-call, reading-negative, reading-group, reading-chain}
+use Rattle.ac_values.proofs.Readings.{reading-number, reading-decimal, reading-access, reading-call, reading-negative, reading-group, reading-chain}
 use Rattle.ac_affine.proofs.Trees.{every_expr}
 use Rattle.ac_arities.specs.Arities.{count, HasArities, EachHasArities}
 

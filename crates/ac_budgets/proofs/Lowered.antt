@@ -5,7 +5,7 @@ use Rattle.std.proofs.lemmas.Int.{ints, unsigned_abs-mul}
 use Rattle.ac_forms.specs.Affine.{Affine, coef, combined, column_form}
 use Rattle.ac_syntax.specs.declared.tree.IndexExpr.{IndexExpr}
 use Rattle.ac_integers.proofs.Products.{add-mul_ℤ}
-use Rattle.ac_cert.proofs.OneColumn.{coef-combined}
+use Rattle.ac_choices.proofs.OneColumn.{coef-combined}
 use Rattle.ac_poly.specs.Forms.{replaced, lowered, stepping}
 use Rattle.ac_omega.specs.Differences.{one_in, IsDifference, IsDifferenceWithin}
 use Rattle.ac_omega.proofs.DifferenceForms.{weight, weight-two}

@@ -11,7 +11,7 @@ use Rattle.ac_forms.specs.Rows.{IsRowOver, AreRowsOver}
 use Rattle.ac_forms.specs.declared.conj.Conj.{Conj}
 use Rattle.ac_forms.specs.declared.row.Row.{Row}
 use Rattle.ac_forms.specs.declared.row.Row.TheVariants.{Eq, Div, Ge}
-use Rattle.ac_cert.proofs.Fitting.{true_fits}
+use Rattle.ac_choices.proofs.Fitting.{true_fits}
 use Rattle.ac_paths.proofs.InBranches.{made-wide}
 use Rattle.ac_paths.proofs.Moving.{made-both}
 use Rattle.ac_omega.specs.Differences.{IsDifferenceWithin, IsDifferenceRow, AreDifferences}

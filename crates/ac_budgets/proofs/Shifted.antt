@@ -7,8 +7,8 @@ use Rattle.ac_forms.specs.Affine.{Affine, coef, column_form, combined, shifted, 
 use Rattle.ac_forms.specs.Fits.{Fits, AllFit}
 use Rattle.ac_forms.specs.declared.row.Row.{Row}
 use Rattle.ac_forms.specs.declared.row.Row.TheVariants.{Eq, Ge}
-use Rattle.ac_cert.proofs.Fitting.{combination_some}
-use Rattle.ac_cert.proofs.OneColumn.{coef-combined}
+use Rattle.ac_choices.proofs.Fitting.{combination_some}
+use Rattle.ac_choices.proofs.OneColumn.{coef-combined}
 use Rattle.ac_poly.specs.Before.{levels_from, difference as counter_difference}
 use Rattle.ac_poly.specs.Columns.{CanBound}
 use Rattle.ac_paths.specs.Columns.{difference, equal_forms}

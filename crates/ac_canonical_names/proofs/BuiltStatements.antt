@@ -23,7 +23,7 @@ use Rattle.ac_affine.specs.Faults.{earlier, broken_where, rule_broken}
 use Rattle.ac_affine.specs.Meanings.{meaning, word_broken}
 use Rattle.ac_affine.specs.IndexExpressions.{is_long}
 use Rattle.ac_affine.specs.Comparisons.{index, index_broken, condition, condition_broken}
-use Rattle.ac_rules.specs.Values.{array_number}
+use Rattle.ac_values.specs.Values.{array_number}
 use Rattle.ac_rules.specs.Statements.{inside, in_start, loop_rule, step_broken, step_number, is_endless, head_broken, assigned_value, statement_broken, statements_broken, stmt, stmts}
 use Rattle.ac_affine.proofs.Absent.{NoneBroken, neither, none_of, not_where}
 use Rattle.ac_rules.proofs.Stepping.{broken-loop, broken-branch, stmt-loop, stmt-branch, stmt-assign}

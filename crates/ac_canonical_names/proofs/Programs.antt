@@ -27,7 +27,7 @@ use Rattle.ac_affine.specs.declared.scope.Meaning.TheVariants as means
 use Rattle.ac_affine.specs.declared.scope.Scope.{Scope}
 use Rattle.ac_affine.specs.Faults.{rule_broken}
 use Rattle.ac_affine.specs.Meanings.{declared_meaning}
-use Rattle.ac_rules.specs.Values.{array_number}
+use Rattle.ac_values.specs.Values.{array_number}
 use Rattle.ac_rules.specs.Declarations.{is_whole, is_loop_name, param_count, input_count, fixed_scope, array_of, arrays_from, param_names}
 use Rattle.ac_rules.specs.Statements.{statements_broken, stmts}
 use Rattle.ac_rules.specs.Numbers.{IsSlotOf}

@@ -19,10 +19,10 @@ use Rattle.ac_affine.specs.declared.scope.Scope.{Scope}
 use Rattle.ac_affine.specs.Meanings.{meaning, is_array, read_rule}
 use Rattle.ac_affine.specs.IndexExpressions.{judged_name}
 use Rattle.ac_affine.specs.Comparisons.{index_expr, index}
-use Rattle.ac_rules.specs.Values.{Reading, number, other, reading, value_place, value_of, symbol, operator_name, array_number, access_broken, read_of, access_reading, call_reading, negative_reading, group_reading, applied_values, joined_reading, chained_reading, chain_reading, value}
+use Rattle.ac_values.specs.Values.{Reading, number, other, reading, value_place, value_of, symbol, operator_name, array_number, access_broken, read_of, access_reading, call_reading, negative_reading, group_reading, applied_values, joined_reading, chained_reading, chain_reading, value}
 use Rattle.ac_rules.specs.Statements.{assigned_value}
 use Rattle.ac_affine.proofs.Absent.{each_further, each_map}
-use Rattle.ac_rules.proofs.Readings.{reading-number, reading-decimal, reading-access, reading-call, reading-negative, reading-group, reading-chain}
+use Rattle.ac_values.proofs.Readings.{reading-number, reading-decimal, reading-access, reading-call, reading-negative, reading-group, reading-chain}
 use Rattle.ac_canonical.specs.Words.{IsOperator}
 use Rattle.ac_canonical.specs.Words as words
 use Rattle.ac_canonical_tree.specs.Names as names

@@ -11,7 +11,7 @@ use Rattle.ac_syntax.specs.declared.tree.Symbol.{Symbol}
 use Rattle.ac_syntax.specs.declared.tree.Value.{Value, Row_of-Value, end_of-Value, more_of-Value, items-the_row-Value, the_lemmas}
 use Rattle.ac_syntax.specs.declared.tree.Value.TheVariants.{Number, Access, Call, Call'}
 use Rattle.ac_rules.specs.Numbers.{ReadsOf, ReadsIn}
-use Rattle.ac_rules.specs.Values.{placed}
+use Rattle.ac_values.specs.Values.{placed}
 use Rattle.ac_canonical.specs.Words.{Fits64, IsWritable, AreWritable, AreComparisons, IsSymbol, argument_count, HasValueWords, HaveValueWords}
 use Rattle.ac_canonical_tree.specs.Names.{IsName, NamesArray, HasLiterals, HaveLiterals, IsCallName, count, HasValueNames, HaveValueNames}
 

@@ -28,7 +28,7 @@ use Rattle.ac_affine.specs.Laws.{IsNumbered}
 use Rattle.ac_rules.specs.LawsOfNames.{IsNamed}
 use Rattle.ac_affine.specs.Meanings.{declared_meaning, iterator_number, is_reserved, word_broken}
 use Rattle.ac_rules.specs.Statements.{statements_broken, stmts}
-use Rattle.ac_rules.specs.Values.{array_number}
+use Rattle.ac_values.specs.Values.{array_number}
 use Rattle.ac_rules.specs.Files.{context_parts, commutative_words, output_words, has_output_line, output_rule, output_broken, pragma_broken, output_numbers, output_line, body_scope, context_under, names_of, file_broken, program_of}
 use Rattle.ac_affine.proofs.Absent.{NoneBroken, neither, none_of, both_true, each_append, each_map}
 use Rattle.ac_affine.proofs.NumberedMeanings.{declared_has}

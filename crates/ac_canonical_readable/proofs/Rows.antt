@@ -17,7 +17,7 @@ use Rattle.ac_affine.specs.declared.scope.Meaning.TheVariants.{Nothing}
 use Rattle.ac_affine.specs.declared.scope.Entry.{Entry}
 use Rattle.ac_affine.specs.declared.scope.Scope.{Scope}
 use Rattle.ac_rules.specs.Statements.{inside, in_start}
-use Rattle.ac_rules.specs.Values.{placed}
+use Rattle.ac_values.specs.Values.{placed}
 use Rattle.ac_canonical_tree.specs.Names.{count}
 use Rattle.ac_canonical_rules.specs.Columns.{Stands, FitsScope}
 use Rattle.ac_canonical_rules.specs.Readable.{FitScope, PartsFitScope, ArrayStands, is_number, some_other, FitsCall, IsReadable, AreReadable, FitsLoop, IsReadableStmt, AreReadableStmts}

@@ -35,10 +35,10 @@ use Rattle.ac_affine.specs.Meanings.{meaning, declared_meaning, word_broken}
 use Rattle.ac_affine.specs.IndexExpressions.{is_long}
 use Rattle.ac_affine.specs.Comparisons.{whole_broken, form_or_zero, placed_form, index_expr, index, index_broken, rel_of, compared, comparison, condition, condition_broken}
 use Rattle.ac_rules.specs.Declarations.{is_declared}
-use Rattle.ac_rules.specs.Values.{array_number, read_of, access_broken, value_broken}
+use Rattle.ac_values.specs.Values.{array_number, read_of, access_broken, value_broken}
 use Rattle.ac_rules.specs.Statements.{inside, in_start, is_running, untyped_rule, loop_rule, step_broken, step_number, form_bounds, may_bound, is_endless, head_broken, target_rule, assigned_value, statement_broken, statements_broken, stmt, stmts}
 use Rattle.ac_affine.proofs.Absent.{NoneBroken, neither, none_of, not_where}
-use Rattle.ac_rules.proofs.ArraysRead.{rule_holds}
+use Rattle.ac_values.proofs.Accesses.{rule_holds}
 use Rattle.ac_affine.proofs.Collecting.{IsKnown}
 use Rattle.ac_affine.proofs.Judges.{Judges, neither_is, compared_judges, whole_known}
 use Rattle.ac_rules.proofs.Stepping.{broken-loop, broken-branch, broken-assign, stmt-loop, stmt-branch, stmt-assign}

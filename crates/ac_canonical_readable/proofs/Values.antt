@@ -24,12 +24,12 @@ use Rattle.ac_affine.specs.Faults.{earlier, rule_broken}
 use Rattle.ac_affine.specs.Meanings.{meaning, is_array, read_rule, call_rule, misused_unless, word_broken}
 use Rattle.ac_affine.specs.IndexExpressions.{judged_name}
 use Rattle.ac_affine.specs.Comparisons.{first_of, index_expr, index, index_broken}
-use Rattle.ac_rules.specs.Values.{Reading, number, other, reading, reading_broken, value_place, value_of, symbol, operator_name, access_broken, read_of, access_reading, call_reading, negative_reading, group_reading, applied_values, joined_reading, chained_reading, chain_reading, value, value_broken}
+use Rattle.ac_values.specs.Values.{Reading, number, other, reading, reading_broken, value_place, value_of, symbol, operator_name, access_broken, read_of, access_reading, call_reading, negative_reading, group_reading, applied_values, joined_reading, chained_reading, chain_reading, value, value_broken}
 use Rattle.ac_rules.specs.Statements.{assigned_value}
 use Rattle.ac_affine.proofs.Absent.{NoneBroken, neither, none_of, both_true}
-use Rattle.ac_rules.proofs.ArraysRead.{rule_holds}
+use Rattle.ac_values.proofs.Accesses.{rule_holds}
 use Rattle.ac_affine.proofs.Judges.{Judges, number_judges, name_judges, negative_judges, group_judges, joined_judges}
-use Rattle.ac_rules.proofs.Readings.{reading-number, reading-decimal, reading-access, reading-call, reading-negative, reading-group, reading-chain}
+use Rattle.ac_values.proofs.Readings.{reading-number, reading-decimal, reading-access, reading-call, reading-negative, reading-group, reading-chain}
 use Rattle.ac_canonical_rules.specs.Columns.{Stands}
 use Rattle.ac_canonical_rules.specs.Readable.{FitScope, ArrayStands, is_number, IsReadable}
 use Rattle.ac_canonical_names.specs.Spelled.{AreSpelled}

@@ -32,9 +32,9 @@ use Rattle.ac_affine.specs.declared.fault.Broken.{Broken}
 use Rattle.ac_affine.specs.Faults.{earlier, broken_where}
 use Rattle.ac_affine.specs.IndexExpressions.{form_of, judged, judged_number, judged_negative, name_form, joined, chained}
 use Rattle.ac_affine.specs.Comparisons.{whole_broken, index_expr}
-use Rattle.ac_rules.specs.Values.{reading, number, negative_reading, chained_reading}
+use Rattle.ac_values.specs.Values.{reading, number, negative_reading, chained_reading}
 use Rattle.ac_affine.proofs.Absent.{both_true}
-use Rattle.ac_rules.proofs.Readings.{reading-number, reading-access, reading-negative, reading-chain}
+use Rattle.ac_values.proofs.Readings.{reading-number, reading-access, reading-negative, reading-chain}
 use Rattle.ac_affine.proofs.Collecting.{Shaped}
 use Rattle.ac_affine.proofs.Judges.{judges}
 use Rattle.ac_affine.proofs.Judging.{judged-number, judged-access, judged-negative, judged-chain}

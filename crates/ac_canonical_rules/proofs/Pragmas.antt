@@ -15,7 +15,7 @@ use Rattle.ac_affine.specs.declared.scope.Entry.{Entry}
 use Rattle.ac_affine.specs.declared.scope.Scope.{Scope}
 use Rattle.ac_affine.specs.Meanings.{declared_meaning, is_reserved, word_broken}
 use Rattle.ac_affine.specs.Comparisons.{condition}
-use Rattle.ac_rules.specs.Values.{array_number}
+use Rattle.ac_values.specs.Values.{array_number}
 use Rattle.ac_rules.specs.Files.{context_parts, commutative_words, output_words, has_output_line, output_broken, pragma_broken, output_numbers}
 use Rattle.ac_affine.proofs.Absent.{NoneBroken}
 use Rattle.ac_canonical_tree.specs.Trees.{Each, IsWordOf, AreContext, AreCommutative, AreOutput}

@@ -34,7 +34,7 @@ use Rattle.ac_affine.specs.declared.scope.Meaning.TheVariants as means
 use Rattle.ac_affine.specs.Faults.{earlier, broken_where, rule_broken}
 use Rattle.ac_affine.specs.Meanings.{meaning, is_reserved, word_broken}
 use Rattle.ac_affine.specs.Comparisons.{index, index_broken, rel_of, compared, condition, condition_broken}
-use Rattle.ac_rules.specs.Values.{reading, value}
+use Rattle.ac_values.specs.Values.{reading, value}
 use Rattle.ac_rules.specs.Statements.{inside, in_start, loop_rule, step_broken, step_number, may_bound, is_endless, head_broken, statement_broken, statements_broken, stmt, stmts}
 use Rattle.ac_affine.proofs.Absent.{NoneBroken}
 use Rattle.ac_rules.proofs.Stepping.{broken-loop, broken-branch, broken-assign, stmt-loop, stmt-branch, stmt-assign}

@@ -21,9 +21,9 @@ use Rattle.ac_affine.specs.declared.scope.Meaning.TheVariants as means
 use Rattle.ac_affine.specs.Forms.{is_within}
 use Rattle.ac_affine.specs.Meanings.{meaning, read_rule, is_reserved}
 use Rattle.ac_affine.specs.Comparisons.{index, index_broken, index_expr}
-use Rattle.ac_rules.specs.Values.{Reading, number, other, reading, value_of, reading_broken, symbol, operator_name, placed, access_broken, call_reading, negative_reading, group_reading, joined_reading, value_place}
+use Rattle.ac_values.specs.Values.{Reading, number, other, reading, value_of, reading_broken, symbol, operator_name, placed, access_broken, call_reading, negative_reading, group_reading, joined_reading, value_place}
 use Rattle.ac_affine.proofs.Absent.{NoneBroken}
-use Rattle.ac_rules.proofs.Readings.{reading-decimal, reading-access, reading-call, reading-negative, reading-group, reading-chain}
+use Rattle.ac_values.proofs.Readings.{reading-decimal, reading-access, reading-call, reading-negative, reading-group, reading-chain}
 use Rattle.ac_canonical_tree.specs.Trees.{Each, IsWordOf, IsFormTree, sign, IsCallTree, negation, operation, decimal, function, IsValueTree, AreValueTrees}
 use Rattle.ac_canonical_tree.specs.Names.{count}
 use Rattle.ac_canonical_rules.specs.Places.{nowhere, form_without_place, forms_without_places, value_without_places, values_without_places}

@@ -13,7 +13,7 @@ use Rattle.ac_grammar.specs.declared.tree.File.{File}
 use Rattle.ac_affine.specs.declared.scope.Entry.{Entry}
 use Rattle.ac_affine.specs.declared.scope.Scope.{Scope}
 use Rattle.ac_affine.specs.Comparisons.{index, index_broken, condition, condition_broken}
-use Rattle.ac_rules.specs.Values.{value, value_broken}
+use Rattle.ac_values.specs.Values.{value, value_broken}
 use Rattle.ac_rules.specs.Statements.{statement_broken, stmt}
 use Rattle.ac_rules.specs.Files.{file_broken, program_of}
 use Rattle.ac_canonical_tree.specs.Trees.{IsFormTree, IsConditionTree, IsValueTree, IsStatementTree, IsFileTree}

@@ -9,6 +9,8 @@ use Rattle.ac_forms.specs.Rows.{Holds, IsRowOver, IsWellMade}
 use Rattle.ac_forms.specs.declared.conj.Conj.{Conj}
 use Rattle.ac_forms.specs.declared.row.Row.{Row}
 use Rattle.ac_forms.specs.declared.row.Row.TheVariants.{Div, Ge}
+use Rattle.ac_choices.proofs.Keeping.{bind-some, map-some, if-some, some-is, made-push}
+use Rattle.ac_choices.proofs.Truths.{and-true, le-true}
 use Rattle.ac_cert.specs.Accepted.{Accepts, AcceptsEach, IsSplit, after_steps}
 use Rattle.ac_cert.specs.Apart.{AcceptsNext, IsOnto}
 use Rattle.ac_cert.specs.Faults.{Refusal, later, step_fault, path_fault, split_fault, fault_of, tree_fault, kids_fault, size_of}
@@ -23,11 +25,9 @@ use Rattle.ac_cert.specs.declared.types.Step.{Step}
 use Rattle.ac_cert.specs.declared.types.Tree.{Tree, roll-Tree}
 use Rattle.ac_cert.proofs.Behind.{step-onto}
 use Rattle.ac_cert.proofs.EveryNumber.{tree-at}
-use Rattle.ac_cert.proofs.Keeping.{bind-some, map-some, if-some, some-is, made-push}
 use Rattle.ac_cert.proofs.Kids.{fault-at-split, fault-at-residue}
 use Rattle.ac_cert.proofs.Soundness.{first-none, no-refusal, if-none}
 use Rattle.ac_cert.proofs.StepRules.{rest-value, rest_within}
-use Rattle.ac_cert.proofs.Truths.{and-true, le-true}
 use borrow.Author.Tests.{leb-true}
 
 -- ---- trees

@@ -5,6 +5,7 @@ use Rattle.ac_forms.specs.Fits.{fits}
 use Rattle.ac_forms.specs.Rows.{IsWellMade}
 use Rattle.ac_forms.specs.declared.conj.Conj.{Conj}
 use Rattle.ac_forms.specs.declared.row.Row.{Row}
+use Rattle.ac_choices.proofs.Truths.{and-true}
 use Rattle.ac_cert.specs.declared.types.Step.{Step}
 use Rattle.ac_cert.specs.declared.types.TreeFault.{TreeFault}
 use Rattle.ac_cert.specs.declared.types.TreeFault.TheVariants as fault
@@ -16,7 +17,6 @@ use Rattle.std.proofs.lemmas.List.{at_drop_more}
 use Rattle.std.proofs.Math.Seq.{take-append_seam}
 use Rattle.std.proofs.lemmas.Int.{ints}
 use borrow.Author.Tests.{ltb-true, lt-ltb}
-use Rattle.ac_cert.proofs.Truths.{and-true}
 use Rattle.ac_cert.proofs.StepRules.{class-made, class-fits}
 use Rattle.ac_cert.proofs.Behind.{Onto, steps-onto}
 use Rattle.ac_cert.specs.Accepted.{after_steps}

@@ -1,5 +1,5 @@
 -- Each of the nine rules, and both branches, keeps each point.
-use Rattle.std.proofs.Common.{◌≡◌, ℕ, zero, suc, ◌<◌, ◌≤◌, ℤ, pos, negsuc, ◌+ℤ◌, ◌-ℤ◌, ◌*ℤ◌, neg_ℤ, ◌≤ℤ◌, List, [], ◌∷◌, length, Option, Some, None, Bool, true, false, ◌&&◌, cond, nat_le, nat_eq, int_le, slice_get, refl, sym, ap, ◌∙◌, subst, arith}
+use Rattle.std.proofs.Common.{◌≡◌, ℕ, zero, suc, ◌<◌, ◌≤◌, ℤ, pos, negsuc, ◌+ℤ◌, ◌-ℤ◌, ◌*ℤ◌, neg_ℤ, ◌≤ℤ◌, List, [], ◌∷◌, length, append-nil, Option, Some, None, Bool, true, false, ◌&&◌, cond, nat_le, nat_eq, int_le, slice_get, refl, sym, ap, ◌∙◌, subst, arith}
 use Rattle.std.specs.Prelude.{option_and_then, option_map, unsigned_abs}
 use Rattle.std.specs.Int.{int_div_euclid}
 use Rattle.std.specs.Ordering.{int_eq}
@@ -23,12 +23,20 @@ use Rattle.ac_forms.specs.declared.conj.Conj.{Conj}
 use Rattle.ac_forms.specs.declared.row.Row.{Row}
 use Rattle.ac_forms.specs.declared.row.Row.TheVariants.{Eq, Div, Ge}
 use Rattle.ac_forms.proofs.Values.{value_at-scaled}
+use Rattle.ac_choices.specs.Combination.{combination}
+use Rattle.ac_choices.proofs.Truths.{and-true, le-true}
+use Rattle.ac_choices.proofs.Keeping.{bind-some, map-some, if-some, unless-some, some-is, Meets-push, made-push, row-holds, row-made, combination-within, combination-value}
 use Rattle.ac_cert.specs.AbsurdLaw.{no_terms}
 use Rattle.ac_cert.specs.Points.{Keeps}
-use Rattle.ac_cert.specs.Rules.{combination, multiple_of, with_row, term_form, sum_from, is_equality, are_equalities, zero_form, sum_row, divides_each, quotient_form, cut_row, greater_modulus, div_scale_row, div_add_row, div_mod_stands, divides_form, reduced_row, div_mod_row, div_eq_row, all_zero, is_zero, eq_cut_row}
+use Rattle.ac_cert.specs.Rules.{multiple_of, with_row, term_form, sum_from, is_equality, are_equalities, zero_form, sum_row, divides_each, quotient_form, cut_row, greater_modulus, div_scale_row, div_add_row, div_mod_stands, divides_form, reduced_row, div_mod_row, div_eq_row, all_zero, is_zero, eq_cut_row}
 use Rattle.ac_cert.proofs.Stands.{product_positive}
-use Rattle.ac_cert.proofs.Truths.{and-true, le-true}
-use Rattle.ac_cert.proofs.Keeping.{bind-some, map-some, if-some, unless-some, some-is, row-holds, row-made, keeps-push, combination-within, combination-value}
+
+-- a further row that holds wherever the rows do
+pub keeps-push : (c : Conj) (r : Row) → IsWellMade c → IsRowOver c.columns r → ((p : List ℤ) → Meets c.rows p → Holds r p) → Keeps c (with_row c r)
+keeps-push c r w l h = record {
+  made = made-push c.columns c.rows r w l;
+  goes_on = λ p at. (p, ([], sym (append-nil p)), record { long = at.long; meets = Meets-push c.rows r p at.meets (h p at.meets) });
+}
 
 -- a row that is given, and holds wherever the rows do
 abbrev pub Follows : Conj → Option Row → Type 0

@@ -18,7 +18,10 @@ use Rattle.ac_forms.specs.declared.row.Row.{Row}
 use Rattle.ac_forms.specs.declared.row.Row.TheVariants.{Eq, Div, Ge}
 use Rattle.ac_forms.proofs.Negations.{length-with_column, value-with_column}
 use Rattle.ac_forms.proofs.Values.{value_at-scaled}
-use Rattle.ac_cert.specs.Points.{IsPoint, Extends, Keeps}
+use Rattle.ac_choices.specs.Points.{IsPoint}
+use Rattle.ac_choices.proofs.Truths.{and-true, le-true}
+use Rattle.ac_choices.proofs.Keeping.{bind-some, map-some, if-some, some-is, Meets-append, Meets-push, made-push, made-more, row-holds, row-made}
+use Rattle.ac_cert.specs.Points.{Extends, Keeps}
 use Rattle.std.specs.Prelude.{Result, Ok, Err, IfOk}
 use Rattle.ac_forms.specs.Stops.{GivenOf}
 use Rattle.ac_cert.specs.Stops.{Refuses}
@@ -27,8 +30,6 @@ use Rattle.ac_cert.specs.declared.types.Rule.TheVariants as rule
 use Rattle.ac_cert.specs.declared.types.Step.{Step}
 use Rattle.ac_cert.specs.declared.types.Step.TheVariants.{Add, Cut, DivScale, DivAdd, DivMod, DivEq, Quot, Floor, EqCut}
 use Rattle.ac_cert.specs.Rules.{rest_of, with_row, less_column, with_column_row, quotient, floor_of, after_step, rule_of, side_rows, both_sides, has_class, class, class_of}
-use Rattle.ac_cert.proofs.Truths.{and-true, le-true}
-use Rattle.ac_cert.proofs.Keeping.{bind-some, map-some, if-some, some-is, Meets-append, Meets-push, made-push, made-more, row-holds, row-made}
 use Rattle.ac_cert.proofs.RowRules.{follows-keeps, sum-follows, cut-follows, scale-follows, add-follows, mod-follows, eq-follows, eq_cut-follows, exact_quotient}
 
 -- a further column and a row

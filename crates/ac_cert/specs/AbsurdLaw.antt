@@ -12,9 +12,9 @@ use Rattle.ac_forms.specs.Rows.{form_of, Holds, Meets}
 use Rattle.ac_forms.specs.declared.conj.Conj.{Conj}
 use Rattle.ac_forms.specs.declared.row.Row.{Row}
 use Rattle.ac_forms.specs.declared.row.Row.TheVariants.{Eq, Div, Ge}
+use Rattle.ac_choices.specs.Points.{IsPoint}
 use Rattle.ac_cert.specs.declared.types.Rule.TheVariants as rule
 use Rattle.ac_cert.specs.Ends.{is_false, is_absurd, absurd_refusal}
-use Rattle.ac_cert.specs.Points.{IsPoint}
 use Rattle.ac_cert.specs.Rules.{all_zero}
 
 both : (a b : Bool) → (a && b) ≡ true → (a ≡ true) × (b ≡ true)

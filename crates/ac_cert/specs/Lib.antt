@@ -8,11 +8,5 @@ pub mod Ends
 pub mod AbsurdLaw
 pub mod Accepted
 pub mod StepRows
-pub mod Bounds
-pub mod Choices
-pub mod LeftRows
-pub mod ChoiceFits
-pub mod Splinters
-pub mod Extremes
 pub mod Apart
 pub mod Branches

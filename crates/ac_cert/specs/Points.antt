@@ -1,12 +1,8 @@
--- Integer points of a conjunction, and what a step keeps of them.
-use Rattle.std.specs.Prelude.{◌≡◌, ℤ, List, ◌++◌, length}
-use Rattle.ac_forms.specs.Rows.{Meets, IsWellMade}
+-- What a step keeps of the integer points of a conjunction.
+use Rattle.std.specs.Prelude.{◌≡◌, ℤ, List, ◌++◌}
+use Rattle.ac_forms.specs.Rows.{IsWellMade}
 use Rattle.ac_forms.specs.declared.conj.Conj.{Conj}
-
--- a number for each column, at which all rows hold
-pub record IsPoint (c : Conj) (p : List ℤ) : Type 0 where
-  pub long : length p ≡ c.columns
-  pub meets : Meets c.rows p
+use Rattle.ac_choices.specs.Points.{IsPoint}
 
 -- the second point is the first one with numbers for further columns
 abbrev pub Extends : List ℤ → List ℤ → Type 0

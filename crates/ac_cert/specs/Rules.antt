@@ -4,21 +4,18 @@ use Rattle.std.specs.Int.{int_div_euclid}
 use Rattle.std.specs.Ordering.{int_eq}
 use Rattle.ac_integers.specs.Dot.{floored}
 use Rattle.ac_integers.specs.Multiple.{divides}
-use Rattle.ac_forms.specs.Affine.{Affine, combined, scaled, shifted}
+use Rattle.ac_forms.specs.Affine.{Affine, scaled, shifted}
 use Rattle.ac_forms.specs.Fits.{fits}
 use Rattle.ac_forms.specs.Negation.{opposite, with_column}
-use Rattle.ac_forms.specs.Tests.{form_fits, can_combine}
+use Rattle.ac_forms.specs.Tests.{form_fits}
 use Rattle.ac_forms.specs.declared.conj.Conj.{Conj}
 use Rattle.ac_forms.specs.declared.row.Row.{Row}
 use Rattle.ac_forms.specs.declared.row.Row.TheVariants.{Eq, Div, Ge}
+use Rattle.ac_choices.specs.Combination.{combination}
 use Rattle.ac_cert.specs.declared.types.Rule.{Rule}
 use Rattle.ac_cert.specs.declared.types.Rule.TheVariants as rule
 use Rattle.ac_cert.specs.declared.types.Step.{Step}
 use Rattle.ac_cert.specs.declared.types.Step.TheVariants.{Add, Cut, DivScale, DivAdd, DivMod, DivEq, Quot, Floor, EqCut}
-
--- k times a form plus l times another, where the numbers stay in `i128`
-unfoldable pub combination : ℤ → Affine → ℤ → Affine → Option Affine
-combination k f l g = cond (can_combine k f l g) (Some (combined k f l g)) None
 
 -- a number less the form, where the numbers stay in `i128`
 unfoldable pub rest_of : ℤ → Affine → Option Affine

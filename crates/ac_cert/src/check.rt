@@ -2,8 +2,8 @@ ghost use Rattle.std.specs.Prelude.{◌≡◌, ℕ, ◌+◌, ℤ, List, pos, ◌
 ghost use Rattle.ac_forms.specs.Fits.{fits};
 ghost use Rattle.ac_forms.specs.Rows.{IsWellMade};
 ghost use Rattle.ac_forms.specs.declared.conj.Conj.{Conj};
+ghost use Rattle.ac_choices.specs.Points.{IsPoint};
 ghost use Rattle.ac_cert.specs.declared.types.Rule.{Rule};
-ghost use Rattle.ac_cert.specs.Points.{IsPoint};
 ghost use Rattle.ac_cert.specs.Rules.{class_row, first_of, is_partition, with_row};
 ghost use Rattle.ac_cert.specs.Accepted.{after_steps};
 ghost use Rattle.ac_cert.specs.Stops.{RefusedBy, at_node, Fails, Checked};
@@ -175,7 +175,7 @@ fn stands(m: &i128, e: &Form, count: usize, columns: usize) -> bool
 }
 
 /// Shows that the constant of a form is one of `i128`.
-#[tactic(auto, using(crate::proofs::Fitting::fits_true))]
+#[tactic(auto, using(ac_choices::proofs::Fitting::fits_true))]
 fn see_constant(e: &Form)
     ensures { fits e.now.konst ≡ true }
 {

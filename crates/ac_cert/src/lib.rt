@@ -2,31 +2,21 @@
 //! no integer point is lost.
 #![tactic(auto)]
 
-mod back;
 pub mod branch_laws;
 mod check;
-mod choose;
-mod column;
 mod ends;
 pub mod laws;
-mod leave;
-mod legal;
 mod make;
 mod names;
-mod normal;
 mod numbers;
 mod path;
-mod replace;
 mod row_branches;
 mod rows;
-mod shadow;
 mod steps;
 pub mod types;
 
 pub use check::{End, check_tree, walk};
-pub use choose::{Choice, StepStop, lift, step};
 pub use ends::Absurd;
-pub use legal::are_absurd;
 pub use make::{absurd_tree, behind_steps, end_tree, residue_tree, split_tree};
 pub use path::{row_of_class, rows_of_sides, with_row};
 pub use row_branches::{at_divisibility, at_equality, at_inequality};

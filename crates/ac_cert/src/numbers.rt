@@ -2,28 +2,10 @@ ghost use Rattle.std.specs.Prelude.{◌≡◌, pos, negsuc, ◌≤ℤ◌, ◌-�
 ghost use Rattle.ac_integers.specs.Dot.{floored};
 ghost use Rattle.ac_integers.specs.Multiple.{divides};
 ghost use Rattle.ac_forms.specs.Fits.{fits};
-ghost use Rattle.ac_cert.specs.Rules.{combination, rest_of, multiple_of, greater_modulus, quotient_form, divides_each, all_zero, is_zero};
+ghost use Rattle.ac_cert.specs.Rules.{rest_of, multiple_of, greater_modulus, quotient_form, divides_each, all_zero, is_zero};
 
 use ac_forms::{Form, FormStop};
 use std::alloc::{AllocError, Global};
-
-/// `left` times a form plus `right` times another, where the numbers stay in `i128`.
-#[tactic(auto, using(crate::proofs::Fitting::combination_some, crate::proofs::Fitting::combination_none, ac_integers::proofs::Bits::again_128))]
-pub(crate) fn combination(
-    alloc: Global,
-    left: i128,
-    form: &Form,
-    right: i128,
-    other: &Form,
-) -> Result<Option<Form>, AllocError>
-    ensures { IfOk result (λ made. made ≡ combination left form.now right other.now) }
-{
-    match form.combine(alloc, left, other, right) {
-        Ok(form) => Ok(Some(form)),
-        Err(FormStop::Wide) => Ok(None),
-        Err(FormStop::Memory(want)) => Err(want),
-    }
-}
 
 /// `k` times a form, where the numbers stay in `i128`.
 #[tactic(auto, using(crate::proofs::Fitting::number_steps))]

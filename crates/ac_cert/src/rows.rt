@@ -2,11 +2,13 @@ ghost use Rattle.std.specs.Prelude.{◌≡◌, ℕ, Option, Some, true, option_m
 ghost use Rattle.std.specs.Ordering.{int_eq};
 ghost use Rattle.ac_forms.specs.Fits.{Fits};
 ghost use Rattle.ac_forms.specs.declared.row.Row.TheVariants.{Eq, Div, Ge};
-ghost use Rattle.ac_cert.specs.Rules.{term_form, sum_from, are_equalities, is_equality, sum_row, cut_row, div_scale_row, div_add_row, div_mod_stands, divides_form, div_mod_row, reduced_row, combination, div_eq_row, eq_cut_row, zero_form};
+ghost use Rattle.ac_choices.specs.Combination.{combination};
+ghost use Rattle.ac_cert.specs.Rules.{term_form, sum_from, are_equalities, is_equality, sum_row, cut_row, div_scale_row, div_add_row, div_mod_stands, divides_form, div_mod_row, reduced_row, div_eq_row, eq_cut_row, zero_form};
 
 use crate::numbers::{
-    combination, divides_each, divides_number, greater_modulus, is_zero, multiple, quotient_form,
+    divides_each, divides_number, greater_modulus, is_zero, multiple, quotient_form,
 };
+use ac_choices::combination;
 use ac_forms::{Conj, Form, Row};
 use std::alloc::{AllocError, Global};
 

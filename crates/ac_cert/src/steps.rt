@@ -3,8 +3,9 @@ ghost use Rattle.ac_forms.specs.Affine.{shifted};
 ghost use Rattle.ac_forms.specs.Fits.{fits};
 ghost use Rattle.ac_forms.specs.Negation.{with_column};
 ghost use Rattle.ac_forms.specs.Rows.{IsWellMade};
+ghost use Rattle.ac_choices.specs.Points.{IsPoint};
 ghost use Rattle.ac_cert.specs.declared.types.Rule.{Rule};
-ghost use Rattle.ac_cert.specs.Points.{IsPoint, Keeps};
+ghost use Rattle.ac_cert.specs.Points.{Keeps};
 ghost use Rattle.ac_cert.specs.Rules.{after_step, rule_of, with_row, less_column, with_column_row, quotient, floor_of, rest_of, side_rows, both_sides, has_class, class, class_row, class_of};
 ghost use Rattle.ac_forms.specs.Stops.{GivenOf};
 ghost use Rattle.ac_cert.specs.Stops.{Refuses};
@@ -315,7 +316,7 @@ pub(crate) fn has_class(m: &i128, e: &Form, r: &i128, columns: usize) -> bool
 }
 
 /// The row of child `r` of a residue branch: the number divides the form less `r`.
-#[tactic(auto, using(ac_integers::proofs::Bits::again_128, crate::proofs::Fitting::true_fits))]
+#[tactic(auto, using(ac_integers::proofs::Bits::again_128, ac_choices::proofs::Fitting::true_fits))]
 pub(crate) fn class_row(alloc: Global, m: &i128, e: &Form, r: &i128) -> Result<Row, AllocError>
     requires low { pos 0 ≤ℤ r.now }
     requires fits { fits (e.now.konst -ℤ r.now) ≡ true }
@@ -326,7 +327,7 @@ pub(crate) fn class_row(alloc: Global, m: &i128, e: &Form, r: &i128) -> Result<R
 }
 
 /// A form less a number.
-#[tactic(auto, using(ac_integers::proofs::Bits::again_128, crate::proofs::Fitting::true_fits))]
+#[tactic(auto, using(ac_integers::proofs::Bits::again_128, ac_choices::proofs::Fitting::true_fits))]
 fn less_number(alloc: Global, e: &Form, r: &i128) -> Result<Form, AllocError>
     requires low { pos 0 ≤ℤ r.now }
     requires fits { fits (e.now.konst -ℤ r.now) ≡ true }

@@ -11,10 +11,10 @@ use Rattle.ac_syntax.specs.declared.tree.Order.{Order}
 use Rattle.ac_syntax.specs.declared.tree.Pair.{Pair}
 use Rattle.ac_poly.specs.declared.types.Model.{Model}
 use Rattle.ac_cert.specs.Faults.{Fault}
-use Rattle.ac_cert.specs.declared.choose.Choice.{Choice}
+use Rattle.ac_choices.specs.declared.choose.Choice.{Choice}
 use Rattle.ac_cert.specs.declared.types.Rule.{Rule}
 use Rattle.ac_cert.specs.declared.types.Step.{Step}
-use Rattle.ac_cert.proofs.Parts.{drop-at}
+use Rattle.ac_choices.proofs.Parts.{drop-at}
 use Rattle.ac_paths.specs.Calls.{pairing}
 use Rattle.ac_paths.specs.Going.{Pairing}
 use Rattle.ac_claims.specs.Feeding.{fed_by, Reaches, Feeds, of_step, of_choice, of_row, of_claim, of_output, of_tree, of_heads, HasAnswer, HasRefusal, IsBehind, IsVerdict, IsFirstFault}

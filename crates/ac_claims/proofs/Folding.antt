@@ -7,7 +7,7 @@ use Rattle.ac_forms.specs.declared.conj.Conj.{Conj}
 use Rattle.ac_cert.specs.Ends.{absurd_refusal}
 use Rattle.ac_cert.specs.Faults.{Fault, Onward, first_fault_of, split_fault, step_fault}
 use Rattle.ac_cert.specs.Rules.{after_step, rule_of, both_sides, class, has_class, is_partition}
-use Rattle.ac_cert.specs.declared.choose.Choice.{Choice}
+use Rattle.ac_choices.specs.declared.choose.Choice.{Choice}
 use Rattle.ac_cert.specs.declared.types.Rule.{Rule}
 use Rattle.ac_cert.specs.declared.types.Rule.TheVariants as rule
 use Rattle.ac_cert.specs.declared.types.Step.{Step}

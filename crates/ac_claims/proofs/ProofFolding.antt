@@ -3,7 +3,7 @@ use Rattle.std.proofs.Common.{◌≡◌, ℕ, suc, ◌+◌, List, [], ◌∷◌,
 use Rattle.ac_forms.specs.Rows.{form_of}
 use Rattle.ac_forms.specs.declared.row.Row.{Row}
 use Rattle.ac_cert.specs.Faults.{Fault, first_fault_of}
-use Rattle.ac_cert.specs.declared.choose.Choice.{Choice}
+use Rattle.ac_choices.specs.declared.choose.Choice.{Choice}
 use Rattle.ac_cert.specs.declared.types.Rule.{Rule}
 use Rattle.ac_cert.specs.declared.types.Rule.TheVariants as rule
 use Rattle.ac_cert.specs.declared.types.Step.{Step}

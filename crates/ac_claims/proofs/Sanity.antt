@@ -6,7 +6,7 @@ use Rattle.ac_syntax.specs.declared.tree.Kind.TheVariants.{Input}
 use Rattle.ac_syntax.specs.declared.tree.Order.TheVariants.{Keep}
 use Rattle.ac_syntax.specs.declared.tree.Position.TheVariants.{Output}
 use Rattle.ac_poly.specs.declared.types.Model.{Model}
-use Rattle.ac_cert.specs.Rules.{combination}
+use Rattle.ac_choices.specs.Combination.{combination}
 use Rattle.ac_cert.specs.declared.types.Rule.TheVariants as rule
 use Rattle.ac_paths.specs.Going.{Pairing}
 use Rattle.ac_claims.specs.ProofMachine.{unknown}

@@ -6,7 +6,7 @@ use Rattle.ac_forms.specs.declared.conj.Conj.{Conj}
 use Rattle.ac_cert.specs.Ends.{absurd_refusal}
 use Rattle.ac_cert.specs.Faults.{Fault}
 use Rattle.ac_cert.specs.Rules.{after_step, rule_of, both_sides, class, has_class}
-use Rattle.ac_cert.specs.declared.choose.Choice.{Choice}
+use Rattle.ac_choices.specs.declared.choose.Choice.{Choice}
 use Rattle.ac_cert.specs.declared.types.Rule.{Rule}
 use Rattle.ac_cert.specs.declared.types.Rule.TheVariants as rule
 use Rattle.ac_cert.specs.declared.types.Step.{Step}

@@ -19,8 +19,8 @@ use crate::copies::{
 use crate::item::Item;
 use crate::stepper::Stepper;
 use crate::types::{Claim, ClaimTree, Heads, Kill, Plan, PlanNext, Proof, ProofFault};
-use ac_cert::Choice;
 use ac_cert::types::Step;
+use ac_choices::Choice;
 use ac_forms::Row;
 use ac_poly::types::Model;
 use ac_syntax::tree::Pair;

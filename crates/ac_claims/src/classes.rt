@@ -95,7 +95,7 @@ fn from_next(classes: Classes, next: &i128) -> Classes
 }
 
 /// Shows that the constant of a form is one of `i128`.
-#[tactic(auto, using(ac_cert::proofs::Fitting::fits_true, ac_integers::proofs::Bits::again_128))]
+#[tactic(auto, using(ac_choices::proofs::Fitting::fits_true, ac_integers::proofs::Bits::again_128))]
 fn see_constant(form: &Form)
     ensures { fits form.now.konst ≡ true }
 {

@@ -7,8 +7,8 @@ ghost use Rattle.ac_claims.specs.Domains.{size_of, stmt_at, piece_by};
 use ac_forms::{Form, FormStop, Row};
 use ac_items::Items;
 use ac_paths::places::initial_cell;
-use ac_poly::element_rows;
 use ac_poly::types::{Model, StmtModel};
+use ac_poly::{element_rows, width};
 use ac_syntax::tree::{Kind, Position};
 use std::alloc::{AllocError, Global};
 
@@ -108,7 +108,7 @@ fn node_size(model: &Model, stmt: usize, node: usize) -> Option<Size>
 {
     match stmt_at(model, stmt, node) {
         Some(found) => Some(Size {
-            width: found.loops.len(),
+            width: width(found),
             pieces: found.pieces.len(),
         }),
         None => None,
@@ -185,7 +185,7 @@ fn node_piece(
     };
     match found.pieces.get(number) {
         Some(rows) => Ok(Some(Piece {
-            width: found.loops.len(),
+            width: width(found),
             rows: copy_rows(alloc, rows.as_slice())?,
         })),
         None => Ok(None),

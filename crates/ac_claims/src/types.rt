@@ -1,5 +1,6 @@
+use ac_cert::Rule;
 use ac_cert::types::Step;
-use ac_cert::{Choice, Rule};
+use ac_choices::Choice;
 use ac_forms::{Form, Row};
 use ac_items::Items;
 use ac_syntax::tree::{Order, Position};

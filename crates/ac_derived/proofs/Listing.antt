@@ -10,7 +10,7 @@ use Rattle.ac_forms.specs.Affine.{Affine, value_at}
 use Rattle.ac_forms.specs.Rows.{Holds, Meets}
 use Rattle.ac_forms.specs.declared.row.Row.{Row}
 use Rattle.ac_poly.specs.Laws.{values_at}
-use Rattle.ac_cert.proofs.Keeping.{some-is}
+use Rattle.ac_choices.proofs.Keeping.{some-is}
 use Rattle.ac_forms.specs.Members.{IsAmong}
 use Rattle.ac_widen.specs.Combinations.{Each}
 use Rattle.ac_forms.specs.Pieces.{IsInSome}

@@ -21,10 +21,10 @@ use Rattle.ac_affine.specs.declared.scope.Meaning.TheVariants as means
 use Rattle.ac_affine.specs.Meanings.{meaning, misused_unless}
 use Rattle.ac_affine.specs.IndexExpressions.{judged_name}
 use Rattle.ac_affine.specs.Comparisons.{index}
-use Rattle.ac_rules.specs.Values.{Reading, number, other, reading, reading_broken, value_of, value, value_broken, placed, access_broken, array_number, read_of, access_reading, call_reading, negative_reading, group_reading, applied_values, applied, joined_reading, chained_reading, chain_reading}
-use Rattle.ac_rules.proofs.ArraysRead.{rule_holds}
+use Rattle.ac_values.specs.Values.{Reading, number, other, reading, reading_broken, value_of, value, value_broken, placed, access_broken, array_number, read_of, access_reading, call_reading, negative_reading, group_reading, applied_values, applied, joined_reading, chained_reading, chain_reading}
+use Rattle.ac_values.proofs.Accesses.{rule_holds}
 use Rattle.ac_affine.proofs.Absent.{NoneBroken, each_map, neither, none_of}
-use Rattle.ac_rules.proofs.Readings.{reading-number, reading-decimal, reading-access, reading-call, reading-negative, reading-group, reading-chain}
+use Rattle.ac_values.proofs.Readings.{reading-number, reading-decimal, reading-access, reading-call, reading-negative, reading-group, reading-chain}
 use Rattle.ac_dimensions.proofs.Meant.{MeansIn, NamesIn, meaning-in, cell-of}
 use Rattle.ac_affine.proofs.Trees.{every_expr}
 

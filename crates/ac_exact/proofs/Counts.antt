@@ -7,8 +7,8 @@ use Rattle.ac_integers.proofs.Bits.{again_128}
 use Rattle.ac_integers.proofs.Floor.{floor_low, floor_high}
 use Rattle.ac_integers.proofs.Products.{mul-le-mul_ℤ, mul-add_ℤ, mul-neg_ℤ}
 use Rattle.ac_forms.specs.Fits.{Fits}
-use Rattle.ac_cert.specs.Bounds.{last_splinter}
-use Rattle.ac_cert.proofs.DarkShadows.{less_one}
+use Rattle.ac_choices.specs.Bounds.{last_splinter}
+use Rattle.ac_choices.proofs.DarkShadows.{less_one}
 use Rattle.ac_exact.specs.Exact.{count_to}
 
 count-within : (a b : ℕ) (q : ℤ) → (pos (suc a) *ℤ q) ≤ℤ (pos (suc a) *ℤ pos (suc b) -ℤ pos (suc a) -ℤ pos (suc b)) → count_to q ≤ b

@@ -12,14 +12,14 @@ use Rattle.ac_forms.specs.Rows.{Meets}
 use Rattle.ac_forms.specs.declared.row.Row.{Row}
 use Rattle.ac_forms.specs.declared.row.Row.TheVariants.{Eq, Div, Ge}
 use Rattle.ac_forms.proofs.Values.{value_at-combined}
-use Rattle.ac_cert.specs.declared.column.Bound.{Bound}
-use Rattle.ac_cert.specs.declared.choose.Choice.TheVariants as choice
-use Rattle.ac_cert.specs.Bounds.{without, is_low, low_bound, lows, highs, rows_without, only_bounds, last_splinter}
-use Rattle.ac_cert.specs.Choices.{left_by, shadow_form, shadows_with, shadows, splinter}
-use Rattle.ac_cert.proofs.OneColumn.{value-split, meets-free, meets-both, meets-first, meets-second}
-use Rattle.ac_cert.proofs.ColumnParts.{AllBelow, HaveSizes, parts, high-sizes}
-use Rattle.ac_cert.proofs.DarkShadows.{shadow-value, less_one, between-lifts}
-use Rattle.ac_cert.proofs.Lifting.{left-free}
+use Rattle.ac_choices.specs.declared.column.Bound.{Bound}
+use Rattle.ac_choices.specs.declared.choose.Choice.TheVariants as choice
+use Rattle.ac_choices.specs.Bounds.{without, is_low, low_bound, lows, highs, rows_without, only_bounds, last_splinter}
+use Rattle.ac_choices.specs.Choices.{left_by, shadow_form, shadows_with, shadows, splinter}
+use Rattle.ac_choices.proofs.OneColumn.{value-split, meets-free, meets-both, meets-first, meets-second}
+use Rattle.ac_choices.proofs.ColumnParts.{AllBelow, HaveSizes, parts, high-sizes}
+use Rattle.ac_choices.proofs.DarkShadows.{shadow-value, less_one, between-lifts}
+use Rattle.ac_choices.proofs.Lifting.{left-free}
 use Rattle.ac_exact.specs.Exact.{real_form, LosesNothing, Needs, SufficesFor, Suffices, IsOnNeeded, HasNumber, HasSplinter}
 
 -- the quotient rounded down is the greatest number whose product is at most x

@@ -18,12 +18,12 @@ use Rattle.ac_forms.specs.declared.normal.NormalRow.{NormalRow}
 use Rattle.ac_forms.specs.declared.normal.NormalRow.TheVariants.{Kept, Dropped, Absurd}
 use Rattle.ac_forms.proofs.NormalLaws.{ge_keeps}
 use Rattle.ac_forms.proofs.Values.{value_at-added}
-use Rattle.ac_cert.specs.declared.column.Bound.{Bound}
-use Rattle.ac_cert.specs.Bounds.{is_none, low_bound, highs, rows_without, greatest_size}
-use Rattle.ac_cert.specs.Choices.{shadow_form}
-use Rattle.ac_cert.proofs.Truths.{and-true}
+use Rattle.ac_choices.specs.declared.column.Bound.{Bound}
+use Rattle.ac_choices.specs.Bounds.{is_none, low_bound, highs, rows_without, greatest_size}
+use Rattle.ac_choices.specs.Choices.{shadow_form}
+use Rattle.ac_choices.proofs.Truths.{and-true}
 use Rattle.std.specs.Int.{int_max}
-use Rattle.ac_cert.proofs.ColumnParts.{HaveSizes, high-sizes}
+use Rattle.ac_choices.proofs.ColumnParts.{HaveSizes, high-sizes}
 use Rattle.ac_exact.specs.Exact.{real_form, LosesNothing, SufficesFor, Suffices}
 use Rattle.ac_exact.specs.Tests.{is_same_left, is_at_most, is_implied_by_one, is_implied_with, is_implied_by_two, is_implied, is_exact, greatest_failing, economical, full}
 

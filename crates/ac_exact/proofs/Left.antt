@@ -7,11 +7,11 @@ use Rattle.ac_forms.specs.NormalRows.{normal_ge}
 use Rattle.ac_forms.specs.Tests.{normal_fits}
 use Rattle.ac_forms.specs.declared.row.Row.{Row}
 use Rattle.ac_forms.specs.declared.row.Row.TheVariants.{Ge}
-use Rattle.ac_cert.specs.declared.column.Bound.{Bound}
-use Rattle.ac_cert.specs.Bounds.{without, low_bound, high_bound, rows_without}
-use Rattle.ac_cert.specs.ChoiceFits.{shadow_fits}
-use Rattle.ac_cert.specs.Choices.{shadow_form}
-use Rattle.ac_cert.proofs.Parts.{and-assoc}
+use Rattle.ac_choices.specs.declared.column.Bound.{Bound}
+use Rattle.ac_choices.specs.Bounds.{without, low_bound, high_bound, rows_without}
+use Rattle.ac_choices.specs.ChoiceFits.{shadow_fits}
+use Rattle.ac_choices.specs.Choices.{shadow_form}
+use Rattle.ac_choices.proofs.Parts.{and-assoc}
 use Rattle.ac_exact.specs.Exact.{real_form}
 use Rattle.ac_exact.specs.Reasons.{IsLeftFor, IsReason}
 use Rattle.ac_exact.specs.Tests.{is_same_left, is_implied, is_exact, pair_fits}

@@ -4,10 +4,10 @@ use Rattle.ac_forms.specs.Affine.{Affine, coef, combined, value_at}
 use Rattle.ac_forms.specs.Rows.{Meets}
 use Rattle.ac_forms.specs.declared.row.Row.{Row}
 use Rattle.ac_forms.specs.declared.row.Row.TheVariants.{Ge}
-use Rattle.ac_cert.specs.declared.column.Bound.{Bound}
-use Rattle.ac_cert.specs.declared.choose.Choice.TheVariants.{Splinter}
-use Rattle.ac_cert.specs.Bounds.{is_low, low_bound, highs, rows_without, last_splinter}
-use Rattle.ac_cert.specs.Choices.{left_by, shadow_form}
+use Rattle.ac_choices.specs.declared.column.Bound.{Bound}
+use Rattle.ac_choices.specs.declared.choose.Choice.TheVariants.{Splinter}
+use Rattle.ac_choices.specs.Bounds.{is_low, low_bound, highs, rows_without, last_splinter}
+use Rattle.ac_choices.specs.Choices.{left_by, shadow_form}
 
 -- the real shadow of a lower row b z + e >= 0 and an upper row -a z + f >= 0: a e + b f
 abbrev pub real_form : Bound → Bound → Affine

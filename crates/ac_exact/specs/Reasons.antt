@@ -6,9 +6,9 @@ use Rattle.ac_forms.specs.declared.normal.NormalRow.{NormalRow}
 use Rattle.ac_forms.specs.declared.normal.NormalRow.TheVariants.{Kept}
 use Rattle.ac_forms.specs.declared.row.Row.{Row}
 use Rattle.ac_forms.specs.declared.row.Row.TheVariants.{Ge}
-use Rattle.ac_cert.specs.declared.column.Bound.{Bound}
+use Rattle.ac_choices.specs.declared.column.Bound.{Bound}
 use Rattle.ac_forms.specs.Columns.{has_column}
-use Rattle.ac_cert.specs.Choices.{shadow_form}
+use Rattle.ac_choices.specs.Choices.{shadow_form}
 use Rattle.ac_exact.specs.Exact.{real_form}
 use Rattle.ac_exact.specs.Tests.{is_same_left, is_at_most}
 use Rattle.ac_exact.specs.declared.pairs.Reason.{Reason}

@@ -11,10 +11,10 @@ use Rattle.ac_forms.specs.declared.row.Row.{Row}
 use Rattle.ac_forms.specs.declared.row.Row.TheVariants.{Eq, Div, Ge}
 use Rattle.ac_forms.specs.declared.normal.NormalRow.{NormalRow}
 use Rattle.ac_forms.specs.declared.normal.NormalRow.TheVariants.{Kept, Dropped, Absurd}
-use Rattle.ac_cert.specs.declared.column.Bound.{Bound}
-use Rattle.ac_cert.specs.Bounds.{low_bound, highs, rows_without, greatest_size}
-use Rattle.ac_cert.specs.ChoiceFits.{shadow_fits}
-use Rattle.ac_cert.specs.Choices.{shadow_form}
+use Rattle.ac_choices.specs.declared.column.Bound.{Bound}
+use Rattle.ac_choices.specs.Bounds.{low_bound, highs, rows_without, greatest_size}
+use Rattle.ac_choices.specs.ChoiceFits.{shadow_fits}
+use Rattle.ac_choices.specs.Choices.{shadow_form}
 use Rattle.ac_exact.specs.Exact.{real_form, Needs}
 
 -- the same of two inequalities is left

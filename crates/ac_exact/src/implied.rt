@@ -3,7 +3,7 @@ ghost use Rattle.std.specs.Prelude.{◌≡◌, ◌+ℤ◌, int_le, not, is_some,
 ghost use Rattle.std.specs.Ordering.{int_eq, is_eq};
 ghost use Rattle.ac_forms.specs.Affine.{plus, added};
 ghost use Rattle.ac_forms.specs.Orders.{columns_cmp};
-ghost use Rattle.ac_cert.specs.Bounds.{rows_without};
+ghost use Rattle.ac_choices.specs.Bounds.{rows_without};
 ghost use Rattle.ac_forms.specs.Columns.{has_column};
 ghost use Rattle.ac_exact.specs.Tests.{is_at_most, is_implied_by_one, is_implied_with, is_implied_by_two};
 ghost use Rattle.ac_exact.specs.Reasons.{ImpliesAt, ImpliesWith, ImplyAt};

@@ -4,10 +4,10 @@ ghost use Rattle.ac_forms.specs.NormalRows.{normal_ge, normal_row};
 ghost use Rattle.ac_forms.specs.Rows.{Meets};
 ghost use Rattle.ac_forms.specs.declared.normal.NormalRow.TheVariants.{Kept};
 ghost use Rattle.ac_forms.specs.declared.row.Row.{Row};
-ghost use Rattle.ac_cert.specs.declared.column.Bound.{Bound};
-ghost use Rattle.ac_cert.specs.declared.choose.Choice.TheVariants.{Shadow};
-ghost use Rattle.ac_cert.specs.Bounds.{rows_without, highs, is_none, only_bounds};
-ghost use Rattle.ac_cert.specs.Choices.{left_by};
+ghost use Rattle.ac_choices.specs.declared.column.Bound.{Bound};
+ghost use Rattle.ac_choices.specs.declared.choose.Choice.TheVariants.{Shadow};
+ghost use Rattle.ac_choices.specs.Bounds.{rows_without, highs, is_none, only_bounds};
+ghost use Rattle.ac_choices.specs.Choices.{left_by};
 ghost use Rattle.ac_exact.specs.Exact.{HasNumber, HasSplinter, IsOnNeeded, LosesNothing, Needs, Suffices};
 ghost use Rattle.ac_exact.specs.Tests.{economical, full, is_exact};
 

@@ -1,7 +1,7 @@
 //! How large the upper rows are for which a lower row needs splinters, and how many of these it has.
 ghost use Rattle.std.specs.Prelude.{◌≡◌, pos, ◌≤ℤ◌, true, [], ◌∷◌, IfOk};
 ghost use Rattle.ac_forms.specs.Stops.{MadeIff};
-ghost use Rattle.ac_cert.specs.Bounds.{is_low, is_high, low_bound, highs, last_splinter};
+ghost use Rattle.ac_choices.specs.Bounds.{is_low, is_high, low_bound, highs, last_splinter};
 ghost use Rattle.ac_exact.specs.Exact.{count_to};
 ghost use Rattle.ac_exact.specs.Tests.{is_exact, greatest_failing, economical, pairs_fit};
 

@@ -7,10 +7,10 @@ ghost use Rattle.ac_forms.specs.Rows.{HasModulus};
 ghost use Rattle.ac_forms.specs.Standing.{normal_of};
 ghost use Rattle.ac_forms.specs.Stops.{MadeIff, MadeWhere};
 ghost use Rattle.ac_forms.specs.Tests.{normal_fits};
-ghost use Rattle.ac_cert.specs.Bounds.{without, is_low, is_high, low_bound, high_bound, rows_without};
-ghost use Rattle.ac_cert.specs.ChoiceFits.{shadow_fits};
-ghost use Rattle.ac_cert.specs.Choices.{shadow_form};
-ghost use Rattle.ac_cert.specs.Rules.{combination};
+ghost use Rattle.ac_choices.specs.Bounds.{without, is_low, is_high, low_bound, high_bound, rows_without};
+ghost use Rattle.ac_choices.specs.ChoiceFits.{shadow_fits};
+ghost use Rattle.ac_choices.specs.Choices.{shadow_form};
+ghost use Rattle.ac_choices.specs.Combination.{combination};
 ghost use Rattle.ac_exact.specs.Exact.{real_form};
 ghost use Rattle.ac_exact.specs.Reasons.{IsImpliedBy, IsLeftFor, IsReason};
 ghost use Rattle.ac_exact.specs.Tests.{is_same_left, is_implied, is_exact, pair_fits};
@@ -46,7 +46,7 @@ struct LeftShadows {
 }
 
 /// The coefficients with 0 in a column.
-#[tactic(auto, using(ac_integers::proofs::Bits::again_128, ac_cert::proofs::Parts::set_beyond))]
+#[tactic(auto, using(ac_integers::proofs::Bits::again_128, ac_choices::proofs::Parts::set_beyond))]
 fn clear(coefs: &mut [i128], z: usize)
     ensures { coefs.new ≡ set coefs.old z (pos 0) }
 {
@@ -66,7 +66,7 @@ fn without(alloc: Global, z: usize, form: &Form) -> Result<Form, AllocError>
 }
 
 /// `left` times a form plus `right` times another, where the numbers stay in `i128`.
-#[tactic(auto, using(ac_cert::proofs::Fitting::combination_some, ac_cert::proofs::Fitting::combination_none, ac_integers::proofs::Bits::again_128))]
+#[tactic(auto, using(ac_choices::proofs::Fitting::combination_some, ac_choices::proofs::Fitting::combination_none, ac_integers::proofs::Bits::again_128))]
 fn combination(
     alloc: Global,
     left: i128,
@@ -84,7 +84,7 @@ fn combination(
 }
 
 /// The opposite of a column's coefficient, if it is a number of `i128`.
-#[tactic(auto, using(ac_integers::proofs::Bits::again_128, ac_cert::proofs::Fitting::fits_true, ac_cert::proofs::Fitting::fits_false))]
+#[tactic(auto, using(ac_integers::proofs::Bits::again_128, ac_choices::proofs::Fitting::fits_true, ac_choices::proofs::Fitting::fits_false))]
 fn opposite_coef(z: usize, form: &Form) -> Option<i128>
     ensures { result ≡ cond (fits (neg_ℤ (coef z form.now))) (Some (neg_ℤ (coef z form.now))) None }
 {
@@ -101,7 +101,7 @@ fn less_one(number: &i128) -> i128
 }
 
 /// A product, if it is a number of `i128`.
-#[tactic(auto, using(ac_integers::proofs::Bits::again_128, ac_cert::proofs::Fitting::fits_true, ac_cert::proofs::Fitting::fits_false))]
+#[tactic(auto, using(ac_integers::proofs::Bits::again_128, ac_choices::proofs::Fitting::fits_true, ac_choices::proofs::Fitting::fits_false))]
 fn product(left: &i128, right: &i128) -> Option<i128>
     ensures { result ≡ cond (fits (left.now *ℤ right.now)) (Some (left.now *ℤ right.now)) None }
 {
@@ -109,7 +109,7 @@ fn product(left: &i128, right: &i128) -> Option<i128>
 }
 
 /// A difference, if it is a number of `i128`.
-#[tactic(auto, using(ac_integers::proofs::Bits::again_128, ac_cert::proofs::Fitting::fits_true, ac_cert::proofs::Fitting::fits_false))]
+#[tactic(auto, using(ac_integers::proofs::Bits::again_128, ac_choices::proofs::Fitting::fits_true, ac_choices::proofs::Fitting::fits_false))]
 fn difference(left: &i128, right: &i128) -> Option<i128>
     ensures { result ≡ cond (fits (left.now -ℤ right.now)) (Some (left.now -ℤ right.now)) None }
 {
@@ -117,7 +117,7 @@ fn difference(left: &i128, right: &i128) -> Option<i128>
 }
 
 /// The shadows of bounds `b z + e >= 0` and `-a z + f >= 0`, where the numbers of the dark one stay in `i128`.
-#[tactic(auto, unfolding(ac_cert::specs::Rules::combination), using(ac_integers::proofs::Bits::again_128))]
+#[tactic(auto, unfolding(ac_choices::specs::Combination::combination), using(ac_integers::proofs::Bits::again_128))]
 fn shadows_between(
     alloc: Global,
     b: &i128,

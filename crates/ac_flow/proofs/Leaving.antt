@@ -7,7 +7,7 @@ use Rattle.ac_forms.specs.declared.conj.Conj.{Conj}
 use Rattle.ac_forms.specs.declared.row.Row.{Row}
 use Rattle.ac_omega.specs.declared.piece.Piece.{Piece}
 use Rattle.ac_poly.specs.declared.types.Model.{Model}
-use Rattle.ac_cert.proofs.Keeping.{Meets-append}
+use Rattle.ac_choices.proofs.Keeping.{Meets-append}
 use Rattle.ac_kills.specs.Remaining.{AllKills}
 use Rattle.ac_kills.proofs.Remains.{remains}
 use Rattle.ac_paths.proofs.Moving.{meets-parts, meets-both}

@@ -9,11 +9,11 @@ use Rattle.ac_forms.specs.declared.conj.Conj.{Conj}
 use Rattle.ac_forms.specs.declared.row.Row.{Row}
 use Rattle.ac_forms.proofs.Joining.{both_of}
 use Rattle.ac_claims.specs.declared.types.Kill.{Kill}
-use Rattle.ac_cert.specs.Choices.{is_legal, column_of}
-use Rattle.ac_cert.specs.ChoiceFits.{after_choice}
-use Rattle.ac_cert.specs.declared.choose.Choice.{Choice}
-use Rattle.ac_cert.specs.declared.choose.Choice.TheVariants as choice
-use Rattle.ac_cert.proofs.Keeping.{bind-some, map-some, if-some}
+use Rattle.ac_choices.specs.Choices.{is_legal, column_of}
+use Rattle.ac_choices.specs.ChoiceFits.{after_choice}
+use Rattle.ac_choices.specs.declared.choose.Choice.{Choice}
+use Rattle.ac_choices.specs.declared.choose.Choice.TheVariants as choice
+use Rattle.ac_choices.proofs.Keeping.{bind-some, map-some, if-some}
 use Rattle.ac_kills.specs.Kills.{columns_from}
 use Rattle.ac_kills.specs.Remaining.{AllKills}
 use Rattle.ac_omega.specs.Projection.{is_among}

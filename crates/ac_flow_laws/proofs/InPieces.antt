@@ -9,7 +9,7 @@ use Rattle.ac_poly.specs.Model.{model_of, PiecesAreApart}
 use Rattle.ac_forms.specs.Pieces.{IsInOneAtMost}
 use Rattle.ac_poly.specs.declared.types.Model.{Model}
 use Rattle.ac_poly.proofs.PiecesApart.{pieces_are_apart}
-use Rattle.ac_cert.proofs.Keeping.{Meets-append}
+use Rattle.ac_choices.proofs.Keeping.{Meets-append}
 use Rattle.ac_paths.specs.Executions.{Execution, execution}
 use Rattle.ac_forms.specs.Members.{IsAmong}
 use Rattle.ac_paths.specs.Pairs.{Placed}

@@ -3,10 +3,10 @@ use Rattle.std.proofs.Common.{◌≡◌, ℕ, ◌+◌, ◌-◌, ◌≤◌, nat_l
 use Rattle.std.specs.Prelude.{nat_eq, slice_get, option_and_then}
 use Rattle.ac_forms.specs.declared.conj.Conj.{Conj}
 use Rattle.ac_forms.specs.declared.row.Row.{Row}
-use Rattle.ac_cert.specs.Choices.{column_of}
-use Rattle.ac_cert.specs.declared.choose.Choice.{Choice}
-use Rattle.ac_cert.specs.declared.choose.Choice.TheVariants as choice
-use Rattle.ac_cert.proofs.Keeping.{bind-some, if-some}
+use Rattle.ac_choices.specs.Choices.{column_of}
+use Rattle.ac_choices.specs.declared.choose.Choice.{Choice}
+use Rattle.ac_choices.specs.declared.choose.Choice.TheVariants as choice
+use Rattle.ac_choices.proofs.Keeping.{bind-some, if-some}
 use Rattle.ac_syntax.specs.Outputs.{swaps_of}
 use Rattle.ac_poly.specs.declared.types.Model.{Model}
 use Rattle.ac_poly.specs.declared.types.StmtModel.{StmtModel}

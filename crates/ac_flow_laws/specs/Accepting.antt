@@ -5,8 +5,8 @@ use Rattle.ac_forms.specs.Rows.{Meets, form_of}
 use Rattle.ac_forms.specs.Tests.{form_fits, rows_fit}
 use Rattle.ac_forms.specs.declared.conj.Conj.{Conj}
 use Rattle.ac_forms.specs.declared.row.Row.{Row}
-use Rattle.ac_cert.specs.Choices.{column_of}
-use Rattle.ac_cert.specs.declared.choose.Choice.{Choice}
+use Rattle.ac_choices.specs.Choices.{column_of}
+use Rattle.ac_choices.specs.declared.choose.Choice.{Choice}
 use Rattle.ac_claims.specs.PlanFaults.{kill_fault}
 use Rattle.ac_claims.specs.declared.types.Kill.{Kill}
 use Rattle.ac_poly.specs.declared.types.Model.{Model}

@@ -17,10 +17,10 @@ use Rattle.ac_forms.specs.declared.row.Row.TheVariants.{Eq, Div, Ge}
 use Rattle.ac_forms.proofs.Negations.{length-with_column}
 use Rattle.ac_cert.specs.Branches.{with_floor, behind, under, over_zero, with_rest}
 use Rattle.ac_cert.specs.Rules.{with_row, class, class_row, has_class, is_partition}
-use Rattle.ac_cert.proofs.Fitting.{fits_true}
-use Rattle.ac_cert.proofs.Keeping.{made-push, made-more}
+use Rattle.ac_choices.proofs.Fitting.{fits_true}
+use Rattle.ac_choices.proofs.Keeping.{made-push, made-more}
 use Rattle.ac_cert.proofs.StepRules.{class-over}
-use Rattle.ac_cert.proofs.Truths.{le-true, true-le, true-nat_le}
+use Rattle.ac_choices.proofs.Truths.{le-true, true-le, true-nat_le}
 use Rattle.ac_paths.specs.Going.{Pairing, at_rows}
 use Rattle.ac_paths.specs.declared.path.Path.{Path}
 use Rattle.ac_claims.specs.declared.types.Claim.{Claim}

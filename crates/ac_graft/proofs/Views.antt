@@ -6,7 +6,7 @@ use Rattle.ac_forms.specs.Renaming.{AreColumns, IsApartFrom, AreDistinct}
 use Rattle.ac_forms.specs.Rows.{form_of, IsWellMade}
 use Rattle.ac_forms.specs.declared.conj.Conj.{Conj}
 use Rattle.ac_forms.specs.declared.row.Row.{Row}
-use Rattle.ac_cert.proofs.Keeping.{row-made}
+use Rattle.ac_choices.proofs.Keeping.{row-made}
 use Rattle.ac_graft.specs.Placings.{row_on}
 use Rattle.ac_graft.specs.Standing.{StandsAt, Stand, StandsOn}
 use Rattle.ac_graft.specs.declared.placing.Placing.{Placing}

@@ -6,7 +6,7 @@ use Rattle.ac_forms.specs.Rows.{IsRowOver, AreRowsOver, IsWellMade}
 use Rattle.ac_forms.specs.declared.conj.Conj.{Conj}
 use Rattle.ac_forms.specs.declared.row.Row.{Row}
 use Rattle.ac_forms.specs.declared.row.Row.TheVariants.{Eq, Div, Ge}
-use Rattle.ac_cert.proofs.Keeping.{made-push}
+use Rattle.ac_choices.proofs.Keeping.{made-push}
 use Rattle.ac_forms.specs.Standing.{is_among}
 use Rattle.ac_sets.specs.Unions.{ArePieces}
 use Rattle.ac_sets.proofs.Commons.{Over-more}

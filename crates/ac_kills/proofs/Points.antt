@@ -14,7 +14,7 @@ use Rattle.ac_forms.specs.declared.row.Row.{Row}
 use Rattle.ac_forms.specs.declared.row.Row.TheVariants.{Eq, Div, Ge}
 use Rattle.ac_forms.proofs.Negations.{complement}
 use Rattle.ac_forms.proofs.Standings.{among-holds}
-use Rattle.ac_cert.proofs.Keeping.{Meets-append, Meets-push}
+use Rattle.ac_choices.proofs.Keeping.{Meets-append, Meets-push}
 use Rattle.ac_forms.specs.Standing.{is_among}
 use Rattle.ac_sets.specs.Unions.{ArePieces}
 use Rattle.ac_sets.proofs.Commons.{Meets-front, Meets-back, Meets-cut, Over-more}

@@ -7,7 +7,7 @@ use Rattle.std.proofs.Math.ListN.{get_or-append}
 use Rattle.ac_forms.specs.Rows.{Meets}
 use Rattle.ac_forms.specs.declared.conj.Conj.{Conj}
 use Rattle.ac_sets.proofs.Commons.{Meets-cut}
-use Rattle.ac_cert.proofs.Keeping.{Meets-append}
+use Rattle.ac_choices.proofs.Keeping.{Meets-append}
 use Rattle.ac_omega.specs.Either.{EliminatesEither}
 use Rattle.ac_refutations.specs.declared.strategy.Strategy.TheVariants.{Full, Economical}
 use Rattle.ac_omega.specs.Elimination.{pieces_of}

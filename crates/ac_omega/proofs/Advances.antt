@@ -4,11 +4,11 @@ use Rattle.std.specs.Prelude.{unsigned_abs, IfSome}
 use Rattle.ac_forms.specs.declared.row.Row.{Row}
 use Rattle.ac_forms.specs.Fits.{Fits, fits}
 use Rattle.ac_forms.proofs.Twins.{fits-is}
-use Rattle.ac_cert.specs.declared.choose.Choice.TheVariants as choice
+use Rattle.ac_choices.specs.declared.choose.Choice.TheVariants as choice
 use Rattle.ac_forms.specs.Affine.{Affine, coef}
 use Rattle.ac_forms.specs.declared.row.Row.TheVariants.{Eq, Div, Ge}
-use Rattle.ac_cert.specs.Bounds.{is_low, low_bound, is_one_sided, highs}
-use Rattle.ac_cert.specs.ChoiceFits.{sizes_fit}
+use Rattle.ac_choices.specs.Bounds.{is_low, low_bound, is_one_sided, highs}
+use Rattle.ac_choices.specs.ChoiceFits.{sizes_fit}
 use Rattle.ac_refutations.specs.Alternatives.{Alternatives, first_equality, has_divisibility, common_modulus, alternatives_for, residues_from, splinters_from, splinters_by, splinters_of, splinters, greatest_size, need_of, last_splinter_fits, last_splinter, count_to}
 use Rattle.ac_exact.specs.Tests.{economical, is_exact, pairs_fit}
 use Rattle.ac_exact.proofs.Implying.{failing-some}

@@ -11,17 +11,17 @@ use Rattle.ac_forms.specs.declared.row.Row.{Row}
 use Rattle.ac_forms.specs.declared.row.Row.TheVariants.{Ge}
 use Rattle.ac_forms.specs.declared.stop.FormStop.{FormStop}
 use Rattle.ac_forms.specs.declared.stop.FormStop.TheVariants.{Wide, Memory}
-use Rattle.ac_cert.specs.declared.choose.Choice.{Choice}
-use Rattle.ac_cert.specs.declared.choose.Choice.TheVariants as choice
-use Rattle.ac_cert.specs.Bounds.{is_low, low_bound, lows, highs, is_none, only_bounds, is_one_sided, last_splinter}
-use Rattle.ac_cert.specs.Choices.{is_equality_of, left_by}
-use Rattle.ac_cert.specs.ChoiceFits.{sizes_fit}
-use Rattle.ac_cert.proofs.Covering.{covers-equal, covers-residue, covers-drop}
+use Rattle.ac_choices.specs.declared.choose.Choice.{Choice}
+use Rattle.ac_choices.specs.declared.choose.Choice.TheVariants as choice
+use Rattle.ac_choices.specs.Bounds.{is_low, low_bound, lows, highs, is_none, only_bounds, is_one_sided, last_splinter}
+use Rattle.ac_choices.specs.Choices.{is_equality_of, left_by}
+use Rattle.ac_choices.specs.ChoiceFits.{sizes_fit}
+use Rattle.ac_choices.proofs.Covering.{covers-equal, covers-residue, covers-drop}
 use Rattle.ac_exact.specs.Exact.{Needs, Suffices, IsOnNeeded}
 use Rattle.ac_exact.specs.Tests.{economical, full, pairs_fit}
 use Rattle.ac_exact.proofs.Covering.{covers-needed}
 use Rattle.ac_exact.proofs.Implying.{economical-suffices, full-suffices}
-use Rattle.ac_cert.proofs.Lifting.{lifts-somewhere}
+use Rattle.ac_choices.proofs.Lifting.{lifts-somewhere}
 use Rattle.ac_forms.specs.Stops.{GivenOf, IfWide}
 use Rattle.ac_forms.specs.Members.{IsAmong}
 use Rattle.ac_refutations.specs.Alternatives.{Alternatives, first_equality, has_divisibility, common_modulus, residues_from, residues, splinters_from, count_to, last_splinter_fits, splinters_by, splinters_of, splinters, by_bounds, alternatives_by, alternatives_for, all_of}

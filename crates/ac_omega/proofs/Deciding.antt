@@ -6,7 +6,7 @@ use Rattle.ac_forms.specs.Rows.{IsWellMade, Meets}
 use Rattle.ac_forms.specs.Tests.{rows_fit}
 use Rattle.ac_forms.specs.declared.conj.Conj.{Conj}
 use Rattle.ac_forms.proofs.Twins.{rows_fit-is}
-use Rattle.ac_cert.specs.Points.{IsPoint}
+use Rattle.ac_choices.specs.Points.{IsPoint}
 use Rattle.ac_omega.specs.declared.halt.Halt.{Halt}
 use Rattle.ac_omega.specs.declared.halt.Halt.TheVariants as halt
 use Rattle.ac_omega.specs.Decisions.{Decides, walk_of}
@@ -18,7 +18,7 @@ use Rattle.ac_omega.specs.Within.{Bounds, HaveRisen}
 use Rattle.ac_omega.proofs.Bounding.{rows-met, rows-on}
 use Rattle.ac_refutations.specs.Refutations.{IsRefutationOf}
 use Rattle.ac_refutations.specs.declared.refutation.Refutation.{Refutation}
-use Rattle.ac_cert.proofs.LeftMade.{conj_made}
+use Rattle.ac_choices.proofs.LeftMade.{conj_made}
 use Rattle.ac_refutations.specs.declared.strategy.Strategy.{Strategy}
 
 pub normal-made : (q d : Conj) → IsWellMade q → d ≡ normal_conj q → IsWellMade d

@@ -4,13 +4,13 @@ use Rattle.std.specs.Int.{int_max}
 use Rattle.ac_forms.specs.Affine.{Affine, coef}
 use Rattle.ac_forms.specs.declared.row.Row.{Row}
 use Rattle.ac_forms.specs.declared.row.Row.TheVariants.{Eq, Div, Ge}
-use Rattle.ac_cert.specs.declared.column.Bound.{Bound}
-use Rattle.ac_cert.specs.declared.choose.Choice.{Choice}
-use Rattle.ac_cert.specs.declared.choose.Choice.TheVariants as choice
-use Rattle.ac_cert.specs.Bounds.{is_low, low_bound, lows, highs, rows_without, is_none, is_one_sided, greatest_size}
+use Rattle.ac_choices.specs.declared.column.Bound.{Bound}
+use Rattle.ac_choices.specs.declared.choose.Choice.{Choice}
+use Rattle.ac_choices.specs.declared.choose.Choice.TheVariants as choice
+use Rattle.ac_choices.specs.Bounds.{is_low, low_bound, lows, highs, rows_without, is_none, is_one_sided, greatest_size}
 use Rattle.ac_forms.specs.Columns.{has_column}
-use Rattle.ac_cert.specs.Choices.{is_equality_of, by_equality, shadow_form, shadows, left_by, lifted, solved}
-use Rattle.ac_cert.specs.ChoiceFits.{choice_fits, equality_fits, sizes_fit, shadow_fits, shadows_fit, lift_fits, solved_fits}
+use Rattle.ac_choices.specs.Choices.{is_equality_of, by_equality, shadow_form, shadows, left_by, lifted, solved}
+use Rattle.ac_choices.specs.ChoiceFits.{choice_fits, equality_fits, sizes_fit, shadow_fits, shadows_fit, lift_fits, solved_fits}
 use Rattle.ac_forms.specs.Fits.{fits}
 use Rattle.ac_forms.specs.Tests.{normal_fits}
 use Rattle.ac_exact.specs.Tests.{greatest_failing, is_exact, pair_fits, pairs_fit}

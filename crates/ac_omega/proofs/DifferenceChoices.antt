@@ -6,9 +6,9 @@ use borrow.Author.Tests.{eqb-true}
 use Rattle.ac_forms.specs.Affine.{Affine, coef, combined, scaled}
 use Rattle.ac_forms.specs.declared.row.Row.{Row}
 use Rattle.ac_forms.specs.declared.row.Row.TheVariants.{Eq, Div, Ge}
-use Rattle.ac_cert.specs.Bounds.{without}
-use Rattle.ac_cert.specs.Choices.{size_of, against, replaced, replaced_row, others, by_equality}
-use Rattle.ac_cert.proofs.OneColumn.{coef-combined}
+use Rattle.ac_choices.specs.Bounds.{without}
+use Rattle.ac_choices.specs.Choices.{size_of, against, replaced, replaced_row, others, by_equality}
+use Rattle.ac_choices.proofs.OneColumn.{coef-combined}
 use Rattle.ac_omega.specs.Differences.{IsDifference}
 use Rattle.ac_omega.specs.Projection.{is_among}
 use Rattle.ac_omega.proofs.DifferenceForms.{IsUnit, unit-at, sum-difference, same-difference}

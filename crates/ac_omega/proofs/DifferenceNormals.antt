@@ -19,7 +19,7 @@ use Rattle.ac_forms.specs.declared.row.Row.TheVariants.{Eq, Div, Ge}
 use Rattle.ac_forms.specs.declared.normal.NormalRow.{NormalRow}
 use Rattle.ac_forms.specs.declared.normal.NormalRow.TheVariants.{Kept, Dropped, Absurd}
 use Rattle.ac_forms.proofs.Sizes.{common_small}
-use Rattle.ac_cert.proofs.Fitting.{fits_true}
+use Rattle.ac_choices.proofs.Fitting.{fits_true}
 use Rattle.ac_omega.proofs.DifferenceForms.{IsUnit, no-difference}
 use Rattle.ac_omega.proofs.DifferenceRows.{IsOver, IsRow, IsRaw, IsLeft, IsBit, Each, AreUnits, all-bit, cond-left, left-ge, left-eq, form-units, over-divided}
 

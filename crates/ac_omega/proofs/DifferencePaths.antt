@@ -4,9 +4,9 @@ use borrow.Author.Tests.{ltb-true}
 use Rattle.ac_forms.specs.NormalForm.{normal_conj}
 use Rattle.ac_forms.specs.Tests.{rows_fit}
 use Rattle.ac_forms.specs.declared.conj.Conj.{Conj}
-use Rattle.ac_cert.specs.Choices.{are_absurd, left_by, lifted}
-use Rattle.ac_cert.specs.ChoiceFits.{after_choice, choice_fits, lift_fits, raw}
-use Rattle.ac_cert.specs.declared.choose.Choice.{Choice}
+use Rattle.ac_choices.specs.Choices.{are_absurd, left_by, lifted}
+use Rattle.ac_choices.specs.ChoiceFits.{after_choice, choice_fits, lift_fits, raw}
+use Rattle.ac_choices.specs.declared.choose.Choice.{Choice}
 use Rattle.ac_refutations.specs.Alternatives.{Alternatives, alternatives_for}
 use Rattle.ac_omega.specs.Columns.{next_column}
 use Rattle.ac_omega.specs.Elimination.{eliminating, look_at}

@@ -11,11 +11,11 @@ use Rattle.ac_forms.specs.Fits.{AllFit, fits}
 use Rattle.ac_forms.specs.Tests.{can_evaluate}
 use Rattle.ac_forms.specs.declared.row.Row.{Row}
 use Rattle.ac_forms.specs.declared.row.Row.TheVariants.{Eq, Div, Ge}
-use Rattle.ac_cert.specs.Bounds.{is_low, is_high, is_none, lows}
-use Rattle.ac_cert.specs.Choices.{rest_at, low_values, high_values, greatest, least, between, solved}
-use Rattle.ac_cert.specs.ChoiceFits.{low_values_fit, high_values_fit, between_fits, solved_fits}
-use Rattle.ac_cert.proofs.Fitting.{evaluate_true}
-use Rattle.ac_cert.proofs.OneColumn.{value-rest}
+use Rattle.ac_choices.specs.Bounds.{is_low, is_high, is_none, lows}
+use Rattle.ac_choices.specs.Choices.{rest_at, low_values, high_values, greatest, least, between, solved}
+use Rattle.ac_choices.specs.ChoiceFits.{low_values_fit, high_values_fit, between_fits, solved_fits}
+use Rattle.ac_choices.proofs.Fitting.{evaluate_true}
+use Rattle.ac_choices.proofs.OneColumn.{value-rest}
 use Rattle.ac_omega.proofs.DifferenceForms.{unit-at, weight, weight-two}
 use Rattle.ac_omega.proofs.DifferenceRows.{IsOver, IsRow, Each, by-one}
 use Rattle.ac_omega.proofs.DifferenceNormals.{fits-within, both-true}

@@ -9,9 +9,9 @@ use Rattle.ac_forms.specs.Tests.{rows_fit}
 use Rattle.ac_forms.specs.declared.conj.Conj.{Conj}
 use Rattle.ac_forms.specs.declared.row.Row.{Row}
 use Rattle.ac_forms.specs.declared.row.Row.TheVariants.{Eq, Div, Ge}
-use Rattle.ac_cert.specs.Choices.{are_absurd, left_by}
-use Rattle.ac_cert.specs.ChoiceFits.{after_choice, raw}
-use Rattle.ac_cert.specs.declared.choose.Choice.{Choice}
+use Rattle.ac_choices.specs.Choices.{are_absurd, left_by}
+use Rattle.ac_choices.specs.ChoiceFits.{after_choice, raw}
+use Rattle.ac_choices.specs.declared.choose.Choice.{Choice}
 use Rattle.ac_refutations.specs.Alternatives.{Alternatives, alternatives_for}
 use Rattle.ac_omega.specs.declared.pieces.Stop.{Stop}
 use Rattle.ac_omega.specs.declared.pieces.Stop.TheVariants as stop

@@ -22,7 +22,7 @@ use Rattle.ac_forms.specs.declared.row.Row.{Row}
 use Rattle.ac_forms.specs.declared.row.Row.TheVariants.{Eq, Div, Ge}
 use Rattle.ac_forms.specs.declared.normal.NormalRow.TheVariants.{Kept, Dropped, Absurd}
 use Rattle.ac_forms.proofs.Traces.{left_trace, order_trace, joined_trace}
-use Rattle.ac_cert.specs.Choices.{are_absurd}
+use Rattle.ac_choices.specs.Choices.{are_absurd}
 use Rattle.ac_forms.specs.Columns.{is_present}
 use Rattle.ac_omega.specs.Searching.{IsNormal}
 

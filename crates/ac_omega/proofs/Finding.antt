@@ -5,13 +5,13 @@ use Rattle.ac_forms.specs.Rows.{IsWellMade}
 use Rattle.ac_forms.specs.Tests.{rows_fit}
 use Rattle.ac_forms.specs.declared.conj.Conj.{Conj}
 use Rattle.ac_forms.proofs.Joining.{form_keeps}
-use Rattle.ac_cert.specs.Points.{IsPoint}
+use Rattle.ac_choices.specs.Points.{IsPoint}
 use Rattle.ac_omega.specs.Decisions.{walk_of}
 use Rattle.ac_omega.specs.Elimination.{elimination, eliminating}
 use Rattle.ac_omega.specs.Maxima.{Maxima, nothing_met, with_rows}
 use Rattle.ac_omega.specs.Searching.{columns_to}
 use Rattle.ac_omega.specs.Walk as def
-use Rattle.ac_cert.proofs.LeftMade.{conj_made}
+use Rattle.ac_choices.proofs.LeftMade.{conj_made}
 use Rattle.ac_omega.proofs.Projecting.{gone-empty}
 use Rattle.ac_refutations.specs.declared.strategy.Strategy.{Strategy}
 

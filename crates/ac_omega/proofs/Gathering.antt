@@ -1,7 +1,7 @@
 -- A list of choices that is made by adding them one at a time.
 use Rattle.std.proofs.Common.{◌≡◌, List, [], ◌∷◌, ◌++◌, append_assoc, Option, Some, None, refl, ap, ◌∙◌}
 use Rattle.std.specs.Prelude.{option_map}
-use Rattle.ac_cert.specs.declared.choose.Choice.{Choice}
+use Rattle.ac_choices.specs.declared.choose.Choice.{Choice}
 use Rattle.ac_refutations.specs.Alternatives.{Alternatives, all_of, gathered}
 
 pub gathered-all : (made : List Choice) (hs : Alternatives) → gathered made hs ≡ option_map (λ rest. made ++ rest) (all_of hs)

@@ -9,8 +9,8 @@ use Rattle.ac_integers.proofs.Bits.{again_128}
 use Rattle.ac_forms.specs.Affine.{coef}
 use Rattle.ac_forms.specs.declared.row.Row.{Row}
 use Rattle.ac_forms.specs.declared.row.Row.TheVariants.{Eq, Div, Ge}
-use Rattle.ac_cert.specs.declared.column.Bound.{Bound}
-use Rattle.ac_cert.specs.Bounds.{lows, highs, is_low, is_high}
+use Rattle.ac_choices.specs.declared.column.Bound.{Bound}
+use Rattle.ac_choices.specs.Bounds.{lows, highs, is_low, is_high}
 use Rattle.ac_omega.specs.Columns.{is_unit, are_units, is_unit_with, are_unit_pairs, excess}
 
 unit-with : (b : Bound) (hs : List Bound) → is_unit_with b hs ≡ (is_unit b || are_units hs)

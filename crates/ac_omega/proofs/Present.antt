@@ -10,7 +10,7 @@ use Rattle.ac_forms.specs.Rows.{IsWellMade, AreRowsOver, form_of}
 use Rattle.ac_forms.specs.declared.conj.Conj.{Conj}
 use Rattle.ac_forms.specs.declared.row.Row.{Row}
 use Rattle.ac_forms.specs.declared.row.Row.TheVariants.{Eq, Div, Ge}
-use Rattle.ac_cert.specs.Bounds.{is_low, low_bound, lows, highs, is_none, is_one_sided}
+use Rattle.ac_choices.specs.Bounds.{is_low, low_bound, lows, highs, is_none, is_one_sided}
 use Rattle.ac_forms.specs.Columns.{has_column, is_present}
 use Rattle.ac_refutations.specs.Alternatives.{has_divisibility}
 use Rattle.ac_omega.specs.Columns.{is_two_sided, are_unit_pairs, least_by, or_else, by_equality, by_rule, passes, key, size_key, precedes, precedes_by_two, splinter_key, excess_key, by_splinters, next_column}

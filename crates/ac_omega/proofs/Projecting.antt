@@ -14,12 +14,12 @@ use Rattle.ac_forms.specs.declared.row.Row.{Row}
 use Rattle.ac_forms.specs.declared.row.Row.TheVariants.{Eq, Div, Ge}
 use Rattle.ac_forms.proofs.Joining.{form_keeps}
 use Rattle.ac_forms.specs.Columns.{has_column, is_present}
-use Rattle.ac_cert.specs.Choices.{are_absurd, column_of, is_legal, left_by, lifted}
-use Rattle.ac_cert.specs.ChoiceFits.{after_choice, choice_fits, raw}
-use Rattle.ac_cert.specs.declared.choose.Choice.{Choice}
-use Rattle.ac_cert.proofs.LeftMade.{conj_made, raw_made}
-use Rattle.ac_cert.proofs.Lifting.{lifts, lifted_at}
-use Rattle.ac_cert.proofs.OneColumn.{has-not}
+use Rattle.ac_choices.specs.Choices.{are_absurd, column_of, is_legal, left_by, lifted}
+use Rattle.ac_choices.specs.ChoiceFits.{after_choice, choice_fits, raw}
+use Rattle.ac_choices.specs.declared.choose.Choice.{Choice}
+use Rattle.ac_choices.proofs.LeftMade.{conj_made, raw_made}
+use Rattle.ac_choices.proofs.Lifting.{lifts, lifted_at}
+use Rattle.ac_choices.proofs.OneColumn.{has-not}
 use Rattle.ac_omega.specs.declared.piece.Piece.{Piece}
 use Rattle.ac_omega.specs.Answers.{parts}
 use Rattle.ac_omega.specs.Columns.{next_column}

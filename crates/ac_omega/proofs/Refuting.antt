@@ -5,8 +5,8 @@ use Rattle.std.specs.List.{AllByRecursion}
 use Rattle.ac_forms.specs.Rows.{IsWellMade}
 use Rattle.ac_forms.specs.declared.conj.Conj.{Conj}
 use Rattle.ac_forms.specs.declared.row.Row.{Row}
-use Rattle.ac_cert.specs.Choices.{are_absurd}
-use Rattle.ac_cert.specs.declared.choose.Choice.{Choice}
+use Rattle.ac_choices.specs.Choices.{are_absurd}
+use Rattle.ac_choices.specs.declared.choose.Choice.{Choice}
 use Rattle.ac_omega.specs.Maxima.{Maxima}
 use Rattle.ac_omega.specs.Searching.{IfWalkedEmpty, IsRefuted, IsRefutedBehind, WantsRefutation, wanted, with_choice_behind, with_refutation}
 use Rattle.ac_omega.specs.Within.{Bounds, HaveRisen, IsWithin, AreAllWithin}

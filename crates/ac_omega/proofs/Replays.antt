@@ -7,10 +7,10 @@ use Rattle.ac_forms.specs.Rows.{IsWellMade, AreRowsOver}
 use Rattle.ac_forms.specs.Tests.{rows_fit}
 use Rattle.ac_forms.specs.declared.conj.Conj.{Conj}
 use Rattle.ac_forms.proofs.Trimmed.{normal-trimmed, rows-short}
-use Rattle.ac_cert.specs.Choices.{is_legal, column_of}
-use Rattle.ac_cert.specs.ChoiceFits.{after_choice, raw}
-use Rattle.ac_cert.specs.declared.choose.Choice.{Choice}
-use Rattle.ac_cert.proofs.LeftMade.{conj_made, raw_made}
+use Rattle.ac_choices.specs.Choices.{is_legal, column_of}
+use Rattle.ac_choices.specs.ChoiceFits.{after_choice, raw}
+use Rattle.ac_choices.specs.declared.choose.Choice.{Choice}
+use Rattle.ac_choices.proofs.LeftMade.{conj_made, raw_made}
 use Rattle.ac_omega.specs.Answers.{Eliminates, parts}
 use Rattle.ac_omega.specs.Elimination.{elimination, look, pieces_of}
 use Rattle.ac_omega.specs.Projection.{is_among, AllEmpty}

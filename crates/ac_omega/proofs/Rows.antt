@@ -3,7 +3,7 @@ use Rattle.std.proofs.Common.{◌≡◌, ℕ, ◌≤◌, List, [], ◌∷◌, Op
 use Rattle.std.specs.List.{filter}
 use Rattle.ac_forms.specs.declared.conj.Conj.{Conj}
 use Rattle.ac_forms.specs.declared.row.Row.{Row}
-use Rattle.ac_cert.specs.Choices.{are_absurd}
+use Rattle.ac_choices.specs.Choices.{are_absurd}
 use Rattle.ac_omega.specs.Columns.{or_else, by_rule, passes, key, precedes, precedes_by_two, least_from, is_two_sided, splinter_key, excess_key, by_splinters, next_column}
 use Rattle.ac_omega.specs.declared.ranking.Rule.{Rule}
 use Rattle.ac_omega.specs.declared.ranking.Rule.TheVariants as rule

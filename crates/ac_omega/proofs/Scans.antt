@@ -2,7 +2,7 @@
 use Rattle.std.proofs.Common.{◌≡◌, ℕ, ◌+◌, List, ◌∷◌, Some, cond, refl, add-one}
 use Rattle.ac_forms.specs.declared.row.Row.{Row}
 use Rattle.ac_forms.specs.declared.row.Row.TheVariants.{Eq, Div, Ge}
-use Rattle.ac_cert.specs.Choices.{is_equality_of}
+use Rattle.ac_choices.specs.Choices.{is_equality_of}
 use Rattle.ac_refutations.specs.Alternatives.{first_equality}
 
 pub first-cons : (z i : ℕ) (r : Row) (rs : List Row) → first_equality z i (r ∷ rs) ≡ cond (is_equality_of z (Some r)) (Some i) (first_equality z (i + 1) rs)

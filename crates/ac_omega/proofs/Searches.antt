@@ -6,10 +6,10 @@ use Rattle.ac_forms.specs.NormalForm.{normal_conj}
 use Rattle.ac_forms.specs.Rows.{IsWellMade}
 use Rattle.ac_forms.specs.declared.conj.Conj.{Conj}
 use Rattle.ac_forms.specs.Tests.{rows_fit}
-use Rattle.ac_cert.specs.Choices.{are_absurd, left_by}
-use Rattle.ac_cert.specs.ChoiceFits.{after_choice, choice_fits, raw}
-use Rattle.ac_cert.specs.Points.{IsPoint}
-use Rattle.ac_cert.specs.declared.choose.Choice.{Choice}
+use Rattle.ac_choices.specs.Choices.{are_absurd, left_by}
+use Rattle.ac_choices.specs.ChoiceFits.{after_choice, choice_fits, raw}
+use Rattle.ac_choices.specs.Points.{IsPoint}
+use Rattle.ac_choices.specs.declared.choose.Choice.{Choice}
 use Rattle.ac_omega.specs.Columns.{next_column}
 use Rattle.ac_omega.specs.Maxima.{with_rows}
 use Rattle.ac_omega.specs.Searching.{IfFound, IsNormal, Settle, SettleFor, WantsPoint}

@@ -8,12 +8,12 @@ use Rattle.ac_forms.specs.Affine.{Affine, coef}
 use Rattle.ac_forms.specs.Fits.{Fits, fits}
 use Rattle.ac_forms.specs.declared.row.Row.{Row}
 use Rattle.ac_forms.specs.declared.row.Row.TheVariants.{Eq, Div, Ge}
-use Rattle.ac_cert.specs.declared.column.Bound.{Bound}
-use Rattle.ac_cert.specs.Bounds.{is_low, is_high, low_bound, high_bound, lows, highs, is_none, is_one_sided}
-use Rattle.ac_cert.specs.Choices.{is_lower_row}
-use Rattle.ac_cert.specs.ChoiceFits.{sizes_fit}
-use Rattle.ac_cert.proofs.Fitting.{fits_true, fits_false}
-use Rattle.ac_cert.proofs.Truths.{and-true}
+use Rattle.ac_choices.specs.declared.column.Bound.{Bound}
+use Rattle.ac_choices.specs.Bounds.{is_low, is_high, low_bound, high_bound, lows, highs, is_none, is_one_sided}
+use Rattle.ac_choices.specs.Choices.{is_lower_row}
+use Rattle.ac_choices.specs.ChoiceFits.{sizes_fit}
+use Rattle.ac_choices.proofs.Fitting.{fits_true, fits_false}
+use Rattle.ac_choices.proofs.Truths.{and-true}
 use Rattle.ac_integers.proofs.Bits.{again_128}
 use Rattle.ac_omega.proofs.Moduli.{drop-at}
 use Rattle.ac_refutations.specs.Alternatives.{greatest_size}

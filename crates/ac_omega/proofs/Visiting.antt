@@ -2,8 +2,8 @@
 use Rattle.std.proofs.Common.{◌≡◌, ℕ, zero, suc, ◌+◌, nat_lt, ℤ, List, [], ◌∷◌, ◌++◌, append_assoc, append-nil, length, Option, Some, None, Result, Ok, Err, Bool, true, false, cond, refl, ◌∙◌, ap, sym, subst}
 use Rattle.std.specs.Prelude.{option_map}
 use Rattle.ac_forms.specs.declared.conj.Conj.{Conj}
-use Rattle.ac_cert.specs.ChoiceFits.{after_choice}
-use Rattle.ac_cert.specs.declared.choose.Choice.{Choice}
+use Rattle.ac_choices.specs.ChoiceFits.{after_choice}
+use Rattle.ac_choices.specs.declared.choose.Choice.{Choice}
 use Rattle.ac_omega.specs.declared.halt.Halt.{Halt}
 use Rattle.ac_omega.specs.declared.halt.Halt.TheVariants as halt
 use Rattle.ac_omega.specs.declared.piece.Piece.{Piece}

@@ -6,8 +6,8 @@ use Rattle.ac_forms.specs.Affine.{Affine, coef}
 use Rattle.ac_forms.specs.Fits.{fits}
 use Rattle.ac_forms.specs.declared.row.Row.{Row}
 use Rattle.ac_forms.specs.declared.row.Row.TheVariants.{Eq, Div, Ge}
-use Rattle.ac_cert.specs.declared.column.Bound.{Bound}
-use Rattle.ac_cert.specs.Bounds.{is_low, lows, highs, is_one_sided}
+use Rattle.ac_choices.specs.declared.column.Bound.{Bound}
+use Rattle.ac_choices.specs.Bounds.{is_low, lows, highs, is_one_sided}
 use Rattle.ac_forms.specs.Columns.{has_column, is_present}
 use Rattle.ac_refutations.specs.Alternatives.{has_divisibility, common_modulus, count_to, last_splinter, last_splinter_fits, need_of}
 use Rattle.ac_refutations.specs.declared.strategy.Strategy.{Strategy}

@@ -1,9 +1,9 @@
 -- Where one stands among the choices for a column.
 use Rattle.std.specs.Prelude.{◌≡◌, ℕ, ℤ, suc, ◌-◌, ◌<◌, ◌≤◌, ◌^◌, length, false, cond, pos, ◌≤ℤ◌, unsigned_abs, List, [], ◌∷◌, ◌++◌, drop, Option, Some, None}
 use Rattle.ac_forms.specs.declared.row.Row.{Row}
-use Rattle.ac_cert.specs.declared.choose.Choice.TheVariants as choice
-use Rattle.ac_cert.specs.Bounds.{highs, is_one_sided}
-use Rattle.ac_cert.specs.ChoiceFits.{sizes_fit}
+use Rattle.ac_choices.specs.declared.choose.Choice.TheVariants as choice
+use Rattle.ac_choices.specs.Bounds.{highs, is_one_sided}
+use Rattle.ac_choices.specs.ChoiceFits.{sizes_fit}
 use Rattle.ac_omega.specs.declared.cursor.Cursor.{Cursor}
 use Rattle.ac_omega.specs.declared.cursor.Cursor.TheVariants as at
 use Rattle.ac_omega.specs.declared.cursor.Next.{Next}

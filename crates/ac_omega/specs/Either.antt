@@ -1,7 +1,7 @@
 -- A question that is asked of two walks: of the second where the first stops. An answer is that of one of the two, a stop the second one's. Want of memory may come at any time.
 use Rattle.std.specs.Prelude.{◌≡◌, ◌⊎◌, ℕ, List, Result, MatchResult}
 use Rattle.ac_forms.specs.declared.conj.Conj.{Conj}
-use Rattle.ac_cert.specs.declared.choose.Choice.{Choice}
+use Rattle.ac_choices.specs.declared.choose.Choice.{Choice}
 use Rattle.ac_omega.specs.declared.decision.Decided.{Decided}
 use Rattle.ac_omega.specs.declared.decision.Decision.{Decision}
 use Rattle.ac_omega.specs.declared.piece.Piece.{Piece}

@@ -5,9 +5,9 @@ use Rattle.ac_forms.specs.NormalForm.{normal_conj}
 use Rattle.ac_forms.specs.Rows.{AreRowsOver}
 use Rattle.ac_forms.specs.Tests.{rows_fit}
 use Rattle.ac_forms.specs.declared.conj.Conj.{Conj}
-use Rattle.ac_cert.specs.Choices.{is_legal, column_of}
-use Rattle.ac_cert.specs.ChoiceFits.{after_choice}
-use Rattle.ac_cert.specs.declared.choose.Choice.{Choice}
+use Rattle.ac_choices.specs.Choices.{is_legal, column_of}
+use Rattle.ac_choices.specs.ChoiceFits.{after_choice}
+use Rattle.ac_choices.specs.declared.choose.Choice.{Choice}
 use Rattle.ac_omega.specs.Projection.{is_among, HaveNone}
 use Rattle.ac_omega.specs.declared.piece.Piece.{Piece}
 

@@ -4,9 +4,9 @@ use Rattle.ac_forms.specs.NormalForm.{normal_form}
 use Rattle.ac_forms.specs.Rows.{IsWellMade}
 use Rattle.ac_forms.specs.declared.conj.Conj.{Conj}
 use Rattle.ac_forms.specs.declared.row.Row.{Row}
-use Rattle.ac_cert.specs.Choices.{are_absurd, is_legal, lifted}
-use Rattle.ac_cert.specs.ChoiceFits.{after_choice, lift_fits}
-use Rattle.ac_cert.specs.declared.choose.Choice.{Choice}
+use Rattle.ac_choices.specs.Choices.{are_absurd, is_legal, lifted}
+use Rattle.ac_choices.specs.ChoiceFits.{after_choice, lift_fits}
+use Rattle.ac_choices.specs.declared.choose.Choice.{Choice}
 use Rattle.ac_omega.specs.declared.halt.Halt.{Halt}
 use Rattle.ac_omega.specs.declared.halt.Halt.TheVariants as halt
 use Rattle.ac_omega.specs.declared.search.Aim.{Aim}

@@ -1,9 +1,9 @@
 -- One walk for a point, for a refutation and for pieces: over conjunctions, each with the choices that led to it; it keeps the greatest numbers met and the pieces so far.
 use Rattle.std.specs.Prelude.{◌≡◌, ℕ, ◌+◌, ◌-◌, ◌<◌, ◌^◌, min, cond, pos, ℤ, List, [], ◌∷◌, ◌++◌, length, replicate, Some, None, option_map, Result, Ok, Err}
 use Rattle.ac_forms.specs.declared.conj.Conj.{Conj}
-use Rattle.ac_cert.specs.Choices.{lifted}
-use Rattle.ac_cert.specs.ChoiceFits.{after_choice, lift_fits}
-use Rattle.ac_cert.specs.declared.choose.Choice.{Choice}
+use Rattle.ac_choices.specs.Choices.{lifted}
+use Rattle.ac_choices.specs.ChoiceFits.{after_choice, lift_fits}
+use Rattle.ac_choices.specs.declared.choose.Choice.{Choice}
 use Rattle.ac_omega.specs.declared.halt.Halt.{Halt}
 use Rattle.ac_omega.specs.declared.halt.Halt.TheVariants as halt
 use Rattle.ac_omega.specs.declared.piece.Piece.{Piece}

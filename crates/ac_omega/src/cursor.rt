@@ -1,12 +1,12 @@
 ghost use Rattle.std.specs.Prelude.{◌≡◌, ◌<◌, ◌≤◌, ◌^◌, ◌-◌, ◌++◌, suc, List, [], ◌∷◌, Some, pos, ◌≤ℤ◌, unsigned_abs, length, false, drop, IfOk};
 ghost use Rattle.ac_forms.specs.Rows.{HaveModuli};
-ghost use Rattle.ac_cert.specs.Bounds.{is_one_sided};
+ghost use Rattle.ac_choices.specs.Bounds.{is_one_sided};
 ghost use Rattle.ac_omega.specs.Cursors.{kept_for, alternatives_left, IsSound, IsNext};
 ghost use Rattle.ac_refutations.specs.Alternatives.{residues_from, splinters_from, splinters, alternatives_for};
 
 use crate::needs::{kept_for, splinter_count};
 use crate::scan::{common_modulus, first_equality, has_divisibility, is_one_sided};
-use ac_cert::Choice;
+use ac_choices::Choice;
 use ac_forms::Row;
 use ac_refutations::Strategy;
 use std::alloc::{AllocError, Global};

@@ -2,7 +2,7 @@ ghost use Rattle.std.specs.Prelude.{◌≡◌, ◌+◌, ◌*◌, ◌^◌, ◌<�
 ghost use Rattle.ac_omega.specs.Differences.{AreDifferences, StopsBelow};
 ghost use Rattle.ac_forms.specs.Rows.{IsWellMade, CanTest};
 ghost use Rattle.ac_cert.specs.Accepted.{Accepts, absurd_refusals};
-ghost use Rattle.ac_cert.specs.Points.{IsPoint};
+ghost use Rattle.ac_choices.specs.Points.{IsPoint};
 ghost use Rattle.ac_omega.specs.Elimination.{eliminating};
 ghost use Rattle.ac_omega.specs.Searching.{Searches, IfFound, IfWalkedEmpty, IsRefuted, IsNormal, WantsPoint, WantsRefutation, columns_to};
 ghost use Rattle.ac_omega.specs.Stops.{OnlyWide};

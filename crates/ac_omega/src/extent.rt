@@ -1,7 +1,7 @@
 ghost use Rattle.std.specs.Prelude.{◌≡◌, ◌*◌, ◌<◌, ◌^◌, ◌↔◌, IsTrue};
 ghost use Rattle.ac_omega.specs.Maxima.{greatest_abs, with_form, with_modulus, with_row, with_rows, with_choice};
 
-use ac_cert::Choice;
+use ac_choices::Choice;
 use ac_forms::{Form, Row};
 
 /// The greatest absolute values that a walk meets.

@@ -1,7 +1,7 @@
 //! The column with the fewest splinters.
 ghost use Rattle.std.specs.Prelude.{◌≡◌, ℕ, List, Option, Some, IfOk, false, option_map};
 ghost use Rattle.ac_forms.specs.declared.row.Row.{Row};
-ghost use Rattle.ac_cert.specs.Bounds.{is_one_sided};
+ghost use Rattle.ac_choices.specs.Bounds.{is_one_sided};
 ghost use Rattle.ac_omega.specs.Columns.{better, excess_key, fewest, precedes, precedes_by_two, splinter_key};
 ghost use Rattle.ac_omega.specs.Fewest.{candidate_of};
 

@@ -3,7 +3,7 @@
 ghost use Rattle.std.specs.Prelude.{◌≡◌, ◌<◌, ◌≤◌, ◌+◌, ℕ, ℤ, Bool, List, [], Option, Some, None, true, false, length};
 ghost use Rattle.ac_forms.specs.Rows.{IsWellMade, Meets};
 ghost use Rattle.ac_forms.specs.declared.row.Row.{Row};
-ghost use Rattle.ac_cert.specs.Choices.{are_absurd};
+ghost use Rattle.ac_choices.specs.Choices.{are_absurd};
 ghost use Rattle.ac_omega.specs.Columns.{least_by, next_column, precedes, precedes_by_two};
 ghost use Rattle.ac_forms.specs.Columns.{is_present};
 ghost use Rattle.ac_omega.specs.Searching.{IsNormal};

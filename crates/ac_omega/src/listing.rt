@@ -1,14 +1,14 @@
 ghost use Rattle.std.specs.Prelude.{◌≡◌, ◌<◌, ℤ, List, length, set, IfOk, ◌↔◌, true, false};
 ghost use Rattle.ac_forms.specs.Rows.{IsWellMade, HaveModuli, Meets};
-ghost use Rattle.ac_cert.specs.declared.choose.Choice.{Choice};
-ghost use Rattle.ac_cert.specs.Choices.{are_absurd, is_legal, left_by};
+ghost use Rattle.ac_choices.specs.declared.choose.Choice.{Choice};
+ghost use Rattle.ac_choices.specs.Choices.{are_absurd, is_legal, left_by};
 ghost use Rattle.ac_forms.specs.Stops.{GivenOf, IfWide};
 ghost use Rattle.ac_forms.specs.Members.{IsAmong};
 ghost use Rattle.ac_refutations.specs.Alternatives.{alternatives_for, all_of};
 ghost use Rattle.ac_refutations.specs.declared.strategy.Strategy.TheVariants.{Full};
 
 use crate::cursor::{Next, advance, first};
-use ac_cert::Choice;
+use ac_choices::Choice;
 use ac_forms::{Conj, FormStop, Row};
 use ac_items::Items;
 use ac_refutations::Strategy;

@@ -1,7 +1,7 @@
 //! How many splinters the lower rows of a column have (W. Pugh, The Omega test, 1991).
 ghost use Rattle.std.specs.Prelude.{◌≡◌, ◌≤◌, ◌^◌, ◌≤ℤ◌, pos, true, false, IfOk, IfSome};
 ghost use Rattle.ac_forms.specs.Affine.{coef};
-ghost use Rattle.ac_cert.specs.Bounds.{is_low, is_one_sided};
+ghost use Rattle.ac_choices.specs.Bounds.{is_low, is_one_sided};
 ghost use Rattle.ac_omega.specs.Columns.{count_for, count_of};
 ghost use Rattle.ac_omega.specs.Cursors.{kept_for};
 ghost use Rattle.ac_refutations.specs.Alternatives.{count_to, need_of};

@@ -1,4 +1,4 @@
-use ac_cert::Choice;
+use ac_choices::Choice;
 use ac_forms::Conj;
 use ac_items::Items;
 

@@ -1,7 +1,7 @@
 ghost use Rattle.std.specs.Prelude.{◌≡◌, ◌↔◌, IsTrue, IfOk, ◌<◌, ◌≤◌, ◌+◌, ◌^◌, ◌||◌, Some, pos, [], ◌∷◌, length, unsigned_abs, filter, cond};
 ghost use Rattle.ac_forms.specs.Affine.{coef};
 ghost use Rattle.ac_forms.specs.Rows.{HaveModuli, form_of};
-ghost use Rattle.ac_cert.specs.Bounds.{is_low, is_high, lows, highs, is_one_sided};
+ghost use Rattle.ac_choices.specs.Bounds.{is_low, is_high, lows, highs, is_one_sided};
 ghost use Rattle.ac_forms.specs.Columns.{has_column, is_present};
 ghost use Rattle.ac_omega.specs.Columns.{AreColumns, are_units, are_unit_pairs, excess, less, precedes, better, by_equality, passes, key, by_rule, by_splinters, least_by, size_key, next_column};
 

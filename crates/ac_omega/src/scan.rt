@@ -1,10 +1,10 @@
 ghost use Rattle.std.specs.Prelude.{◌≡◌, ◌<◌, ◌^◌, not, pos, ◌≤ℤ◌, SomeIff, IfSome, Some, true, [], ◌∷◌};
 ghost use Rattle.ac_forms.specs.Fits.{Fits};
 ghost use Rattle.ac_forms.specs.Rows.{HasModulus, HaveModuli};
-ghost use Rattle.ac_cert.specs.Bounds.{lows, highs, is_none, is_one_sided};
+ghost use Rattle.ac_choices.specs.Bounds.{lows, highs, is_none, is_one_sided};
 ghost use Rattle.ac_forms.specs.Columns.{has_column};
-ghost use Rattle.ac_cert.specs.Choices.{is_equality_of, is_lower_row};
-ghost use Rattle.ac_cert.specs.ChoiceFits.{sizes_fit};
+ghost use Rattle.ac_choices.specs.Choices.{is_equality_of, is_lower_row};
+ghost use Rattle.ac_choices.specs.ChoiceFits.{sizes_fit};
 ghost use Rattle.ac_omega.specs.CommonMultiple.{IsLcm};
 ghost use Rattle.ac_refutations.specs.Alternatives.{first_equality, has_divisibility, lcm, common_modulus, greatest_size, last_splinter, last_splinter_fits};
 

@@ -2,7 +2,7 @@
 ghost use Rattle.std.specs.Prelude.{◌≡◌, ◌≤◌, ◌*◌, ◌^◌, ◌↔◌, ℕ, ℤ, List, length, IfOk, IfErr};
 ghost use Rattle.ac_forms.specs.Rows.{IsWellMade};
 ghost use Rattle.ac_cert.specs.Accepted.{Accepts, absurd_refusals};
-ghost use Rattle.ac_cert.specs.Points.{IsPoint};
+ghost use Rattle.ac_choices.specs.Points.{IsPoint};
 ghost use Rattle.ac_omega.specs.Decisions.{IfEmpty, IfPoint, IfCertified, IfMet, walk_of};
 ghost use Rattle.ac_omega.specs.Differences.{AreDifferences, AreAllDifferences, StopsBelow};
 ghost use Rattle.ac_omega.specs.Either.{EliminatesEither, FindsEither, SettlesEither};

@@ -4,7 +4,7 @@ use Rattle.std.specs.Prelude.{Ok, option_map}
 use Rattle.std.specs.List.{flat_map}
 use Rattle.std.proofs.lemmas.List.{drop_all}
 use Rattle.std.proofs.lemmas.List.Concat.{flat_map-cons}
-use Rattle.ac_cert.proofs.Parts.{drop-at}
+use Rattle.ac_choices.proofs.Parts.{drop-at}
 use Rattle.ac_forms.specs.declared.row.Row.{Row}
 use Rattle.ac_paths.specs.Adding.{Adds}
 use Rattle.ac_paths.specs.Columns.{all_of}

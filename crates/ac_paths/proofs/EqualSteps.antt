@@ -6,7 +6,7 @@ use Rattle.std.proofs.lemmas.List.{drop_all}
 use Rattle.ac_forms.specs.Affine.{Affine}
 use Rattle.ac_forms.specs.declared.row.Row.{Row}
 use Rattle.ac_forms.specs.declared.row.Row.TheVariants.{Eq}
-use Rattle.ac_cert.proofs.Parts.{drop-at}
+use Rattle.ac_choices.proofs.Parts.{drop-at}
 use Rattle.ac_paths.specs.Columns.{difference, equal_forms}
 
 pub unequal : (ks : List ℕ) (fs : List Affine) (ls : List ℕ) (gs : List Affine) → length fs ≢ length gs → equal_forms ks fs ls gs ≡ None

@@ -1,9 +1,9 @@
 -- What the code of copies rests on.
 use Rattle.std.proofs.Common.{◌≡◌, true, false, Some, None, refl}
 use Rattle.ac_forms.specs.declared.conj.Conj.{Conj}
-use Rattle.ac_cert.specs.ChoiceFits.{after_choice}
-use Rattle.ac_cert.specs.Choices.{is_legal}
-use Rattle.ac_cert.specs.declared.choose.Choice.{Choice}
+use Rattle.ac_choices.specs.ChoiceFits.{after_choice}
+use Rattle.ac_choices.specs.Choices.{is_legal}
+use Rattle.ac_choices.specs.declared.choose.Choice.{Choice}
 use Rattle.ac_paths.specs.Killing.{taken_legally}
 
 pub choice_taken : (x : Choice) (c d : Conj) → is_legal x c ≡ true → after_choice x c ≡ Some d → Some d ≡ taken_legally x c

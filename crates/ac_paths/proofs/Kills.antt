@@ -20,13 +20,13 @@ use Rattle.ac_syntax.proofs.Sources.{source_last, source_none}
 use Rattle.ac_poly.specs.Laws.{values_at, cell_of}
 use Rattle.ac_poly.specs.declared.types.Model.{Model}
 use Rattle.ac_poly.specs.declared.types.StmtModel.{StmtModel}
-use Rattle.ac_cert.specs.ChoiceFits.{after_choice, choice_fits, raw}
-use Rattle.ac_cert.specs.Choices.{column_of, is_legal, left_by, lifted}
-use Rattle.ac_cert.specs.declared.choose.Choice.{Choice}
-use Rattle.ac_cert.specs.declared.choose.Choice.TheVariants as choice
-use Rattle.ac_cert.proofs.Keeping.{bind-some, some-is, if-some, Meets-append}
-use Rattle.ac_cert.proofs.LeftMade.{conj_made, raw_made}
-use Rattle.ac_cert.proofs.Lifting.{after-columns, lifts-after, lifted_at}
+use Rattle.ac_choices.specs.ChoiceFits.{after_choice, choice_fits, raw}
+use Rattle.ac_choices.specs.Choices.{column_of, is_legal, left_by, lifted}
+use Rattle.ac_choices.specs.declared.choose.Choice.{Choice}
+use Rattle.ac_choices.specs.declared.choose.Choice.TheVariants as choice
+use Rattle.ac_choices.proofs.Keeping.{bind-some, some-is, if-some, Meets-append}
+use Rattle.ac_choices.proofs.LeftMade.{conj_made, raw_made}
+use Rattle.ac_choices.proofs.Lifting.{after-columns, lifts-after, lifted_at}
 use Rattle.ac_forms.specs.Renaming.{picked, rows_renaming}
 use Rattle.ac_paths.specs.Columns.{base, columns_of, appended}
 use Rattle.ac_paths.specs.Coordinates.{width, levels_before}

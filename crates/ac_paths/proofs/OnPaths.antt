@@ -7,7 +7,8 @@ use Rattle.ac_forms.specs.declared.conj.Conj.{Conj}
 use Rattle.ac_syntax.specs.Trace.{Entry}
 use Rattle.ac_syntax.specs.Algebra.{Cell}
 use Rattle.ac_syntax.specs.Spot.{Spot}
-use Rattle.ac_cert.specs.Points.{IsPoint, Extends}
+use Rattle.ac_choices.specs.Points.{IsPoint}
+use Rattle.ac_cert.specs.Points.{Extends}
 use Rattle.ac_forms.specs.Renaming.{picked}
 use Rattle.ac_paths.specs.Columns.{base, columns_of}
 use Rattle.ac_paths.specs.Executions.{Execution, InstanceAt, At, Describes}

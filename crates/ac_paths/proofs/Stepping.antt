@@ -25,8 +25,8 @@ use Rattle.ac_poly.specs.declared.types.Model.{Model}
 use Rattle.ac_poly.specs.declared.types.NodeModel.{NodeModel}
 use Rattle.ac_poly.specs.declared.types.NodeModel.TheVariants.{Number as Constant, Read, Call as Applied}
 use Rattle.ac_poly.specs.declared.types.StmtModel.{StmtModel}
-use Rattle.ac_cert.specs.Points.{IsPoint}
-use Rattle.ac_cert.proofs.Keeping.{bind-some, map-some, some-is, if-some}
+use Rattle.ac_choices.specs.Points.{IsPoint}
+use Rattle.ac_choices.proofs.Keeping.{bind-some, map-some, some-is, if-some}
 use Rattle.ac_paths.specs.Columns.{base, columns_of}
 use Rattle.ac_paths.specs.Coordinates.{width}
 use Rattle.ac_paths.specs.Executions.{Execution, InstanceAt, At, Describes}

@@ -5,7 +5,7 @@ use Rattle.std.specs.List.{flat_map}
 use Rattle.std.specs.declared.alloc.AllocError.{AllocError}
 use Rattle.std.proofs.lemmas.Bool.Decides.{Decides-eqb}
 use Rattle.std.proofs.lemmas.List.{drop_all}
-use Rattle.ac_cert.proofs.Parts.{drop-at}
+use Rattle.ac_choices.proofs.Parts.{drop-at}
 use Rattle.ac_forms.specs.declared.row.Row.{Row}
 use Rattle.ac_poly.specs.declared.types.Model.{Model}
 use Rattle.ac_poly.specs.declared.types.StmtModel.{StmtModel}

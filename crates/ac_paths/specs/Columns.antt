@@ -5,7 +5,7 @@ use Rattle.ac_forms.specs.Affine.{Affine}
 use Rattle.ac_forms.specs.Renaming.{renaming}
 use Rattle.ac_forms.specs.declared.row.Row.{Row}
 use Rattle.ac_forms.specs.declared.row.Row.TheVariants.{Eq}
-use Rattle.ac_cert.specs.Rules.{combination}
+use Rattle.ac_choices.specs.Combination.{combination}
 use Rattle.ac_paths.specs.declared.path.Seat.{Seat}
 
 -- the columns of the parameters

@@ -9,10 +9,10 @@ use Rattle.ac_syntax.specs.declared.tree.Position.{Position}
 use Rattle.ac_syntax.specs.declared.tree.Position.TheVariants.{Output, Node, InitialOutput, InitialNode}
 use Rattle.ac_poly.specs.declared.types.Model.{Model}
 use Rattle.ac_poly.specs.declared.types.StmtModel.{StmtModel}
-use Rattle.ac_cert.specs.ChoiceFits.{after_choice}
-use Rattle.ac_cert.specs.Choices.{column_of, is_legal}
-use Rattle.ac_cert.specs.declared.choose.Choice.{Choice}
-use Rattle.ac_cert.specs.declared.choose.Choice.TheVariants as choice
+use Rattle.ac_choices.specs.ChoiceFits.{after_choice}
+use Rattle.ac_choices.specs.Choices.{column_of, is_legal}
+use Rattle.ac_choices.specs.declared.choose.Choice.{Choice}
+use Rattle.ac_choices.specs.declared.choose.Choice.TheVariants as choice
 use Rattle.ac_forms.specs.Renaming.{rows_renaming}
 use Rattle.ac_paths.specs.Columns.{base, columns_of, appended}
 use Rattle.ac_paths.specs.Coordinates.{width, levels_before}

@@ -5,7 +5,7 @@ use Rattle.ac_syntax.specs.Source.{Writer, source}
 use Rattle.ac_syntax.specs.Spot.{Spot, Reads}
 use Rattle.ac_syntax.specs.Trace.{Entry}
 use Rattle.ac_poly.specs.Model.{is_input}
-use Rattle.ac_cert.specs.Points.{IsPoint}
+use Rattle.ac_choices.specs.Points.{IsPoint}
 use Rattle.ac_forms.specs.Renaming.{picked}
 use Rattle.ac_paths.specs.Columns.{base, columns_of}
 use Rattle.ac_paths.specs.Executions.{Execution, InstanceAt, At, Describes}

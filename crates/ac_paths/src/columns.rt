@@ -1,7 +1,7 @@
 //! Forms and rows of a model among the columns of a path.
 ghost use Rattle.std.specs.Prelude.{◌≡◌, ℕ, pos, negsuc, map, IfOk, [], ◌∷◌, ◌+◌, Option, Some, option_map, option_and_then, ◌++◌, OnOk};
 ghost use Rattle.std.specs.List.{range_with_len};
-ghost use Rattle.ac_cert.specs.Rules.{combination};
+ghost use Rattle.ac_choices.specs.Combination.{combination};
 ghost use Rattle.ac_forms.specs.Rows.{HaveModuli};
 ghost use Rattle.ac_paths.specs.Made.{HaveIf};
 ghost use Rattle.ac_forms.specs.Renaming.{renaming, rows_renaming};
@@ -13,7 +13,7 @@ use ac_items::Items;
 use std::alloc::{AllocError, Global};
 
 /// `left` times a form plus `right` times another, where the numbers stay in `i128`.
-#[tactic(auto, using(ac_cert::proofs::Fitting::combination_some, ac_cert::proofs::Fitting::combination_none, ac_integers::proofs::Bits::again_128))]
+#[tactic(auto, using(ac_choices::proofs::Fitting::combination_some, ac_choices::proofs::Fitting::combination_none, ac_integers::proofs::Bits::again_128))]
 fn combination(
     alloc: Global,
     left: i128,

@@ -19,6 +19,7 @@ use crate::places::{CellForms, cell_read, levels_to};
 use ac_forms::{Conj, Row, column_after};
 use ac_items::Items;
 use ac_poly::types::{Model, StmtModel};
+use ac_poly::width;
 use ac_syntax::tree::{Order, Position};
 use std::alloc::{AllocError, Global};
 
@@ -119,7 +120,7 @@ pub(crate) fn root(first: usize, u: usize, stmt: &StmtModel) -> Seat
     Seat {
         position: Position::Node { stmt: u, node: 0 },
         first,
-        width: stmt.loops.len(),
+        width: width(stmt),
     }
 }
 

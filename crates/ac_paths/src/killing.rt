@@ -1,6 +1,6 @@
 //! Copies: assignments that write a cell again between the source that is assumed for a read and the read.
 ghost use Rattle.std.specs.Prelude.{◌≡◌, ◌+◌, ◌++◌, IfOk, OnOk};
-ghost use Rattle.ac_cert.specs.Choices.{column_of};
+ghost use Rattle.ac_choices.specs.Choices.{column_of};
 ghost use Rattle.ac_forms.specs.Rows.{HaveModuli, IsWellMade};
 ghost use Rattle.ac_paths.specs.Made.{IsMadeIf};
 ghost use Rattle.ac_paths.specs.Killing.{source_columns, case_columns, source_width, case_width, by_column, taken_legally, chosen, ends_before, is_killed};
@@ -8,7 +8,7 @@ ghost use Rattle.ac_paths.specs.Killing.{source_columns, case_columns, source_wi
 use crate::columns::moved_rows;
 use crate::path::{Assumed, Seat};
 use crate::standing::made_and_stand;
-use ac_cert::{Choice, StepStop};
+use ac_choices::{Choice, StepStop};
 use ac_forms::{Conj, Row, column_after, push_range};
 use ac_items::Items;
 use ac_standing::NormalForms;
@@ -89,7 +89,7 @@ fn taken_legally(alloc: Global, choice: &Choice, conj: &Conj) -> Result<Option<C
     requires { IsWellMade conj.now }
     ensures { IfOk result (λ left. left ≡ taken_legally choice.now conj.now) }
 {
-    match ac_cert::step(alloc, conj, choice) {
+    match ac_choices::step(alloc, conj, choice) {
         Ok(left) => Ok(Some(left)),
         Err(StepStop::Illegal) | Err(StepStop::Wide) => Ok(None),
         Err(StepStop::Memory(want)) => Err(want),

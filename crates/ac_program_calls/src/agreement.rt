@@ -7,8 +7,8 @@ use ac_case_text::CaseStop;
 use ac_forms::{Form, Row};
 use ac_items::Items;
 use ac_plain::slow::{self, Execution};
-use ac_poly::before;
 use ac_poly::types::{Model, NodeModel, StmtModel};
+use ac_poly::{before, width};
 use ac_syntax::tree::Program;
 use std::alloc::{AllocError, Global};
 
@@ -88,7 +88,7 @@ fn box_agrees(
     number: u64,
     stmt: &StmtModel,
 ) -> Result<bool, CaseStop> {
-    let depth = stmt.loops.len();
+    let depth = width(stmt);
     for at in 0..size(depth) {
         let counters = counters(alloc, depth, at)?;
         let listed = stands(executions, number, counters.as_slice());

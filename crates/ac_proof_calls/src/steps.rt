@@ -1,7 +1,7 @@
 //! Steps of plans and choices of copies, as answers show them.
 use crate::forms::push_form;
-use ac_cert::Choice;
 use ac_cert::types::Step;
+use ac_choices::Choice;
 use std::alloc::AllocError;
 use std::fmt::Write;
 

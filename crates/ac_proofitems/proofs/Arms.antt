@@ -7,8 +7,8 @@ use Rattle.ac_forms.specs.Affine.{Affine}
 use Rattle.ac_forms.specs.Fits.{Fits}
 use Rattle.ac_forms.specs.declared.row.Row.{Row}
 use Rattle.ac_forms.specs.declared.row.Row.TheVariants as row
-use Rattle.ac_cert.specs.declared.choose.Choice.{Choice}
-use Rattle.ac_cert.specs.declared.choose.Choice.TheVariants as choice
+use Rattle.ac_choices.specs.declared.choose.Choice.{Choice}
+use Rattle.ac_choices.specs.declared.choose.Choice.TheVariants as choice
 use Rattle.ac_proofitems.proofs.Numerals.{same_integer}
 use Rattle.ac_proofitems.proofs.Naming.{tail, head, differ}
 use Rattle.ac_proofitems.specs.Spelling.{form_words, row_words, step_words, choice_words, item_words, pair_word, dotted_word, position_word, order_word, level_word}

@@ -3,7 +3,7 @@ use Rattle.std.proofs.Common.{◌≡◌, ℕ, List, [], ◌∷◌, Option, None,
 use Rattle.std.specs.List.{AllByRecursion}
 use Rattle.ac_forms.specs.declared.row.Row.{Row}
 use Rattle.ac_cert.specs.declared.types.Step.{Step}
-use Rattle.ac_cert.specs.declared.choose.Choice.{Choice}
+use Rattle.ac_choices.specs.declared.choose.Choice.{Choice}
 use Rattle.ac_claims.specs.declared.item.Item.{Item}
 use Rattle.ac_claims.specs.declared.item.Item.TheVariants as item
 use Rattle.ac_proofitems.specs.Reading.{Reads, IsHead, IsNode, IsSpellableHead, IsSpellableNode}

@@ -6,7 +6,7 @@ ghost use Rattle.ac_proofitems.specs.Spelling.{choice_words};
 
 use crate::fields::{natural_two_integers, one_natural, two_naturals, two_naturals_integer};
 use crate::words::{Words, is};
-use ac_cert::Choice;
+use ac_choices::Choice;
 
 fn drop_choice(words: &Words<'_>) -> Option<Choice>
     ensures { Reads IsSpellableChoice choice_words (codes "drop" ∷ words.now) result }

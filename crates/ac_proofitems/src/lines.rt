@@ -10,8 +10,8 @@ use crate::push::{
     push_form, push_integer, push_integers, push_level, push_multiples, push_natural,
     push_naturals, push_order, push_position, push_shapes,
 };
-use ac_cert::Choice;
 use ac_cert::types::Step;
+use ac_choices::Choice;
 use ac_claims::item::Item;
 use ac_forms::{Form, Row};
 use ac_syntax::tree::Position;

@@ -9,7 +9,7 @@ use Rattle.ac_forms.specs.Affine.{Affine}
 use Rattle.ac_forms.specs.Rows.{HaveModuli}
 use Rattle.ac_forms.specs.declared.row.Row.{Row}
 use Rattle.ac_forms.specs.declared.row.Row.TheVariants.{Ge, Eq, Div}
-use Rattle.ac_cert.specs.declared.choose.Choice.{Choice}
+use Rattle.ac_choices.specs.declared.choose.Choice.{Choice}
 use Rattle.ac_cert.specs.declared.types.Step.{Step}
 use Rattle.ac_claims.specs.Feeding.{of_choice, of_row}
 use Rattle.ac_claims.specs.Machine.{next_items, IsSpelled, AreSpelled}

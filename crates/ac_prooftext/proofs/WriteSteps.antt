@@ -6,7 +6,7 @@ use Rattle.std.specs.declared.alloc.Global.{Global}
 use Rattle.std.proofs.lemmas.List.{drop_all}
 use Rattle.ac_forms.specs.Affine.{Affine}
 use Rattle.ac_cert.specs.declared.types.Step.{Step}
-use Rattle.ac_cert.proofs.Parts.{drop-at}
+use Rattle.ac_choices.proofs.Parts.{drop-at}
 use Rattle.ac_claims.specs.Feeding.{of_step, of_claim, of_output, of_tree, of_heads}
 use Rattle.ac_claims.specs.Machine.{next_items}
 use Rattle.ac_claims.specs.ProofMachine.{items_of, lines_of}

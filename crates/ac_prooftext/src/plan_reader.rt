@@ -4,8 +4,8 @@ ghost use Rattle.ac_claims.specs.declared.item.Item.TheVariants as item;
 ghost use Rattle.ac_prooftext.specs.Building.{IsNext, Closes, Ends, EndsWith, Branches, Chosen, Copied, TakesItem, inner, opened_by, kill_lines};
 
 use crate::forks::{Fork, Joined, OpenBranch, go_next, join, residue_next};
-use ac_cert::Choice;
 use ac_cert::types::Step;
+use ac_choices::Choice;
 use ac_claims::item::Item;
 use ac_claims::types::{Kill, Plan, PlanNext};
 use ac_forms::Form;

@@ -7,8 +7,8 @@ ghost use Rattle.ac_claims.specs.ProofMachine.{items_of};
 ghost use Rattle.ac_claims.specs.declared.item.Item.TheVariants as item;
 ghost use Rattle.ac_prooftext.specs.Writing.{Adds};
 
-use ac_cert::Choice;
 use ac_cert::types::Step;
+use ac_choices::Choice;
 use ac_claims::item::Item;
 use ac_claims::types::{Kill, Plan, PlanNext};
 use ac_forms::Form;

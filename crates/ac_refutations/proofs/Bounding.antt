@@ -6,8 +6,8 @@ use Rattle.std.proofs.lemmas.List.{append-nil}
 use Rattle.ac_forms.specs.Affine.{Affine, coef}
 use Rattle.ac_forms.specs.declared.row.Row.{Row}
 use Rattle.ac_forms.specs.declared.row.Row.TheVariants.{Eq, Div, Ge}
-use Rattle.ac_cert.specs.declared.column.Bound.{Bound}
-use Rattle.ac_cert.specs.Bounds.{is_low, low_bound, lows, is_high, high_bound, highs}
+use Rattle.ac_choices.specs.declared.column.Bound.{Bound}
+use Rattle.ac_choices.specs.Bounds.{is_low, low_bound, lows, is_high, high_bound, highs}
 use Rattle.ac_refutations.specs.Shadowing.{IsMargin}
 use Rattle.ac_refutations.specs.Shown.{shown_form, shown_with, shown_rows}
 use Rattle.ac_refutations.specs.Sufficing.{AreShown, SufficesAt, Suffice}

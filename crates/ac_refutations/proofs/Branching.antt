@@ -7,9 +7,9 @@ use Rattle.ac_forms.specs.Rows.{form_of}
 use Rattle.ac_forms.specs.declared.conj.Conj.{Conj}
 use Rattle.ac_forms.specs.declared.row.Row.{Row}
 use Rattle.ac_forms.specs.declared.row.Row.TheVariants.{Eq, Div, Ge}
-use Rattle.ac_cert.specs.declared.choose.Choice.{Choice}
-use Rattle.ac_cert.specs.Bounds.{is_low}
-use Rattle.ac_cert.specs.Choices.{is_lower_row}
+use Rattle.ac_choices.specs.declared.choose.Choice.{Choice}
+use Rattle.ac_choices.specs.Bounds.{is_low}
+use Rattle.ac_choices.specs.Choices.{is_lower_row}
 use Rattle.ac_cert.specs.Rules.{class_row}
 use Rattle.ac_refutations.specs.Branches.{lift_count, lifts, raised_places, IsAlong, AreAlong, with_rows, Stage, IsOn, IsClass, IsRaised, worth, IsSplintered, IsBranch, stage}
 use Rattle.ac_refutations.specs.Descents.{StandOn, Carries, base_of, column_less, raised_rows}

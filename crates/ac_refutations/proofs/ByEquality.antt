@@ -9,7 +9,7 @@ use Rattle.ac_forms.specs.Rows.{AreRowsOver, HaveModuli}
 use Rattle.ac_forms.specs.declared.conj.Conj.{Conj}
 use Rattle.ac_forms.specs.declared.row.Row.{Row}
 use Rattle.ac_forms.specs.declared.row.Row.TheVariants.{Eq, Div, Ge}
-use Rattle.ac_cert.specs.Choices.{others, by_equality, is_equality_of}
+use Rattle.ac_choices.specs.Choices.{others, by_equality, is_equality_of}
 use Rattle.ac_refutations.specs.Descents.{AreNames, AreRowsUpTo2To122, Carries}
 use Rattle.ac_refutations.specs.Refutations.{AreWithin2To120, AreRowsWithin, IsFormWithin}
 use Rattle.ac_refutations.specs.Replacements.{CanDivide, CanReplaceAll, LeadsAll}

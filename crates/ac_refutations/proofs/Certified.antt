@@ -11,13 +11,13 @@ use Rattle.ac_forms.specs.Tests.{rows_fit}
 use Rattle.ac_forms.specs.declared.conj.Conj.{Conj}
 use Rattle.ac_forms.specs.declared.row.Row.{Row}
 use Rattle.ac_forms.specs.declared.row.Row.TheVariants.{Eq, Div, Ge}
-use Rattle.ac_cert.specs.declared.choose.Choice.{Choice}
-use Rattle.ac_cert.specs.declared.choose.Choice.TheVariants as choice
+use Rattle.ac_choices.specs.declared.choose.Choice.{Choice}
+use Rattle.ac_choices.specs.declared.choose.Choice.TheVariants as choice
 use Rattle.ac_cert.specs.declared.ends.Absurd.{Absurd as End}
 use Rattle.ac_cert.specs.declared.types.Tree.{Tree}
 use Rattle.ac_cert.specs.Accepted.{Accepts, absurd_refusals, after_steps}
-use Rattle.ac_cert.specs.Choices.{are_absurd, left_by}
-use Rattle.ac_cert.specs.ChoiceFits.{choice_fits}
+use Rattle.ac_choices.specs.Choices.{are_absurd, left_by}
+use Rattle.ac_choices.specs.ChoiceFits.{choice_fits}
 use Rattle.ac_cert.specs.Ends.{is_absurd}
 use Rattle.ac_cert.specs.Faults.{Refusal}
 use Rattle.ac_refutations.specs.Branches.{counts_from, Stage, IsRefutedBy, IsBranch, IsTry, AreAlternatives, RefuteAll, EachIsWithin2To120, IsSettled, IsFirst}

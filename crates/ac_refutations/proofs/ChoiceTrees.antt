@@ -6,8 +6,8 @@ use Rattle.ac_forms.specs.Affine.{Affine, column_form}
 use Rattle.ac_forms.specs.Fits.{Fits}
 use Rattle.ac_forms.specs.declared.conj.Conj.{Conj}
 use Rattle.ac_forms.specs.declared.row.Row.{Row}
-use Rattle.ac_cert.specs.declared.choose.Choice.{Choice}
-use Rattle.ac_cert.specs.declared.choose.Choice.TheVariants as choice
+use Rattle.ac_choices.specs.declared.choose.Choice.{Choice}
+use Rattle.ac_choices.specs.declared.choose.Choice.TheVariants as choice
 use Rattle.ac_cert.specs.declared.ends.Absurd.{Absurd}
 use Rattle.ac_cert.specs.declared.types.Tree.{Tree}
 use Rattle.ac_cert.specs.Accepted.{Accepts, AcceptsEach, absurd_refusals}

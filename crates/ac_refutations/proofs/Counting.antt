@@ -1,8 +1,8 @@
 -- How many choices are splinters of a row, one choice and one row further.
 use Rattle.std.proofs.Common.{◌≡◌, ℕ, zero, suc, ◌+◌, ◌-◌, ◌<◌, nat_eq, true, false, List, [], ◌∷◌, ◌++◌, length, drop, get_or, eq-eqb, refl, ap, ◌∙◌, arith, append_assoc}
 use Rattle.std.proofs.lemmas.Bool.{ne_eqb}
-use Rattle.ac_cert.specs.declared.choose.Choice.{Choice}
-use Rattle.ac_cert.specs.declared.choose.Choice.TheVariants as choice
+use Rattle.ac_choices.specs.declared.choose.Choice.{Choice}
+use Rattle.ac_choices.specs.declared.choose.Choice.TheVariants as choice
 use Rattle.ac_refutations.specs.Branches.{count_of, counts_from}
 use Rattle.ac_refutations.proofs.Tried.{count-append}
 

@@ -8,8 +8,8 @@ use Rattle.ac_forms.specs.Affine.{Affine, coef}
 use Rattle.ac_forms.specs.Fits.{Fits}
 use Rattle.ac_forms.specs.declared.conj.Conj.{Conj}
 use Rattle.ac_forms.specs.declared.row.Row.TheVariants.{Eq, Div}
-use Rattle.ac_cert.specs.Bounds.{without}
-use Rattle.ac_cert.specs.Choices.{size_of}
+use Rattle.ac_choices.specs.Bounds.{without}
+use Rattle.ac_choices.specs.Choices.{size_of}
 use Rattle.ac_refutations.specs.declared.path.Trail.{Trail}
 use Rattle.ac_refutations.specs.Replacements.{CanDivide}
 use Rattle.ac_refutations.specs.Standing.{Blends, Renames, StandsAt, Reaches, Leads, LeavesMultiple}

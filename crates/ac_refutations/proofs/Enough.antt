@@ -7,12 +7,12 @@ use Rattle.ac_integers.proofs.Floor.{floor_high}
 use Rattle.ac_integers.proofs.Shadows.{smaller_factor}
 use Rattle.ac_forms.specs.Affine.{Affine, coef}
 use Rattle.ac_forms.specs.declared.row.Row.{Row}
-use Rattle.ac_cert.specs.declared.column.Bound.{Bound}
-use Rattle.ac_cert.specs.Bounds.{is_low, is_none, low_bound, highs, greatest_size, last_splinter}
-use Rattle.ac_cert.specs.ChoiceFits.{ArePositive, sizes_fit}
-use Rattle.ac_cert.proofs.DarkShadows.{less_one}
-use Rattle.ac_cert.proofs.Parts.{highs_positive}
-use Rattle.ac_cert.proofs.Truths.{true-le}
+use Rattle.ac_choices.specs.declared.column.Bound.{Bound}
+use Rattle.ac_choices.specs.Bounds.{is_low, is_none, low_bound, highs, greatest_size, last_splinter}
+use Rattle.ac_choices.specs.ChoiceFits.{ArePositive, sizes_fit}
+use Rattle.ac_choices.proofs.DarkShadows.{less_one}
+use Rattle.ac_choices.proofs.Parts.{highs_positive}
+use Rattle.ac_choices.proofs.Truths.{true-le}
 use Rattle.ac_exact.specs.Tests.{is_exact, greatest_failing, economical, pairs_fit}
 use Rattle.ac_exact.proofs.Counts.{splinters-within}
 use Rattle.ac_exact.proofs.Implying.{failing-some}

@@ -7,7 +7,7 @@ use Rattle.ac_forms.specs.Rows.{form_of}
 use Rattle.ac_forms.specs.declared.conj.Conj.{Conj}
 use Rattle.ac_forms.specs.declared.row.Row.{Row}
 use Rattle.ac_forms.specs.declared.row.Row.TheVariants.{Eq, Div, Ge}
-use Rattle.ac_cert.specs.Choices.{size_of, against, replaced_row}
+use Rattle.ac_choices.specs.Choices.{size_of, against, replaced_row}
 use Rattle.ac_refutations.specs.Replacements.{CanDivide, CanReplace, LeadsAll}
 use Rattle.ac_refutations.specs.Standing.{Blends, StandsAt, Stand, Reaches, Leads, CanAdd, sum_of}
 use Rattle.ac_refutations.specs.declared.path.Trail.{Trail}

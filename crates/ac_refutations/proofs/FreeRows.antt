@@ -4,9 +4,9 @@ use Rattle.std.proofs.lemmas.List.{drop_all, append-nil}
 use Rattle.std.proofs.lemmas.Option.{slice_get_read}
 use Rattle.ac_forms.specs.declared.conj.Conj.{Conj}
 use Rattle.ac_forms.specs.declared.row.Row.{Row}
-use Rattle.ac_cert.specs.Bounds.{rows_without}
+use Rattle.ac_choices.specs.Bounds.{rows_without}
 use Rattle.ac_forms.specs.Columns.{has_column}
-use Rattle.ac_cert.proofs.Parts.{drop-at}
+use Rattle.ac_choices.proofs.Parts.{drop-at}
 use Rattle.ac_refutations.specs.Descents.{IsRowUpTo2To122, AreRowsUpTo2To122, StandOn}
 use Rattle.ac_refutations.specs.Standing.{StandsAt, Stand}
 use Rattle.ac_refutations.specs.declared.descent.Base.{Base}

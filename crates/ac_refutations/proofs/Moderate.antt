@@ -15,8 +15,8 @@ use Rattle.ac_forms.specs.Orders.{modulus_of}
 use Rattle.ac_forms.specs.Rows.{form_of, HasModulus, HaveModuli}
 use Rattle.ac_forms.specs.declared.row.Row.{Row}
 use Rattle.ac_forms.specs.declared.row.Row.TheVariants.{Eq, Div, Ge}
-use Rattle.ac_cert.specs.Bounds.{without}
-use Rattle.ac_cert.specs.Choices.{size_of, against, replaced, replaced_row}
+use Rattle.ac_choices.specs.Bounds.{without}
+use Rattle.ac_choices.specs.Choices.{size_of, against, replaced, replaced_row}
 use Rattle.ac_refutations.specs.Standing.{Blends}
 use Rattle.ac_refutations.specs.Descents.{IsFormUpTo2To122, IsRowUpTo2To122, AreRowsUpTo2To122}
 use Rattle.ac_refutations.specs.Refutations.{IsFormWithin, IsRowWithin, AreRowsWithin, AreWithin2To120}

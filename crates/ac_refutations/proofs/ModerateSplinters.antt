@@ -9,8 +9,8 @@ use Rattle.ac_forms.specs.Fits.{Fits}
 use Rattle.ac_forms.specs.Rows.{HaveModuli}
 use Rattle.ac_forms.specs.declared.row.Row.{Row}
 use Rattle.ac_forms.specs.declared.row.Row.TheVariants.{Eq, Div, Ge}
-use Rattle.ac_cert.specs.Choices.{splinter}
-use Rattle.ac_cert.specs.Bounds.{is_low}
+use Rattle.ac_choices.specs.Choices.{splinter}
+use Rattle.ac_choices.specs.Bounds.{is_low}
 use Rattle.ac_forms.specs.declared.conj.Conj.{Conj}
 use Rattle.ac_refutations.specs.Descents.{AreRowsUpTo2To122, StandOn}
 use Rattle.ac_refutations.specs.Standing.{StandsAt}

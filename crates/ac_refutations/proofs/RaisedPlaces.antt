@@ -3,8 +3,8 @@ use Rattle.std.proofs.Common.{◌≡◌, ℕ, zero, suc, ◌+◌, ◌<◌, ◌�
 use Rattle.std.proofs.lemmas.List.{at_drop_more}
 use Rattle.ac_forms.specs.declared.row.Row.{Row}
 use Rattle.ac_forms.specs.declared.row.Row.TheVariants.{Eq, Div, Ge}
-use Rattle.ac_cert.specs.Bounds.{is_low, low_bound, lows}
-use Rattle.ac_cert.specs.Choices.{is_lower_row}
+use Rattle.ac_choices.specs.Bounds.{is_low, low_bound, lows}
+use Rattle.ac_choices.specs.Choices.{is_lower_row}
 use Rattle.ac_refutations.specs.Branches.{lift_count, place_after, raised_place, raised_places}
 
 lift-none : (ns : List ℕ) (i : ℕ) → i < length ns → get_or ns i 0 ≡ 0 → lift_count (take (suc i) ns) ≡ lift_count (take i ns)

@@ -10,11 +10,11 @@ use Rattle.ac_forms.specs.Rows.{form_of}
 use Rattle.ac_forms.specs.declared.conj.Conj.{Conj}
 use Rattle.ac_forms.specs.declared.row.Row.{Row}
 use Rattle.ac_forms.specs.declared.row.Row.TheVariants.{Eq, Div, Ge}
-use Rattle.ac_cert.specs.declared.choose.Choice.{Choice}
+use Rattle.ac_choices.specs.declared.choose.Choice.{Choice}
 use Rattle.ac_cert.specs.declared.ends.Absurd.{Absurd}
 use Rattle.ac_cert.specs.declared.types.Tree.{Tree}
 use Rattle.ac_cert.specs.Accepted.{Accepts, absurd_refusals}
-use Rattle.ac_cert.specs.Bounds.{is_low}
+use Rattle.ac_choices.specs.Bounds.{is_low}
 use Rattle.ac_cert.specs.Rules.{with_row}
 use Rattle.ac_refutations.specs.Branches.{lift_count, lifts, IsAlong, AreAlong, with_rows, Stage, IsOn, IsRaised, worth, IsSplintered, AreRefutedBy, ServeLeaves, splinter_choices, leaf_choices}
 use Rattle.ac_refutations.specs.Leaves.{less, under, HasRoom, GoesOn, IsLikeAt, AcceptsFrom}

@@ -6,13 +6,13 @@ use Rattle.ac_forms.specs.Rows.{IsWellMade}
 use Rattle.ac_forms.specs.Tests.{rows_fit}
 use Rattle.ac_forms.specs.declared.conj.Conj.{Conj}
 use Rattle.ac_forms.specs.declared.row.Row.{Row}
-use Rattle.ac_cert.specs.declared.choose.Choice.{Choice}
-use Rattle.ac_cert.specs.declared.choose.Choice.TheVariants as choice
+use Rattle.ac_choices.specs.declared.choose.Choice.{Choice}
+use Rattle.ac_choices.specs.declared.choose.Choice.TheVariants as choice
 use Rattle.ac_cert.specs.declared.ends.Absurd.{Absurd as End}
 use Rattle.ac_cert.specs.declared.types.Tree.{Tree}
-use Rattle.ac_cert.specs.ChoiceFits.{choice_fits, raw, after_choice}
-use Rattle.ac_cert.specs.Choices.{are_absurd, left_by}
-use Rattle.ac_cert.proofs.Truths.{and-true}
+use Rattle.ac_choices.specs.ChoiceFits.{choice_fits, raw, after_choice}
+use Rattle.ac_choices.specs.Choices.{are_absurd, left_by}
+use Rattle.ac_choices.proofs.Truths.{and-true}
 use Rattle.ac_refutations.specs.Branches.{Stage, IsRefutedBy, AreRefutedBy, IsTry, AreAlternatives, RefuteAll, EachIsWithin2To120}
 use Rattle.ac_refutations.specs.Refutations.{conj_of, AreChoicesOf, Refutes, RefuteEach, AreModuliWithin, AreWithin2To120, IsWithin2To120, AreAllWithin2To120}
 use Rattle.ac_refutations.specs.declared.refutation.Refutation.{Refutation, Row_of-Refutation, end_of-Refutation, more_of-Refutation, items-the_row-Refutation, the_lemmas}

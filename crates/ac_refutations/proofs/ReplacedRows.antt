@@ -6,8 +6,8 @@ use Rattle.ac_forms.specs.Affine.{Affine}
 use Rattle.ac_forms.specs.declared.conj.Conj.{Conj}
 use Rattle.ac_forms.specs.declared.row.Row.{Row}
 use Rattle.ac_forms.specs.declared.row.Row.TheVariants.{Eq}
-use Rattle.ac_cert.specs.Choices.{replaced_row}
-use Rattle.ac_cert.proofs.Parts.{drop-at}
+use Rattle.ac_choices.specs.Choices.{replaced_row}
+use Rattle.ac_choices.proofs.Parts.{drop-at}
 use Rattle.ac_refutations.specs.declared.path.Trail.{Trail}
 use Rattle.ac_refutations.specs.Standing.{StandsAt, Stand, Reaches, IsSameBase}
 use Rattle.ac_refutations.specs.Descents.{AreNames}

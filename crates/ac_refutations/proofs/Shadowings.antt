@@ -7,9 +7,9 @@ use Rattle.ac_forms.specs.Affine.{Affine, shifted}
 use Rattle.ac_forms.specs.declared.conj.Conj.{Conj}
 use Rattle.ac_forms.specs.declared.row.Row.{Row}
 use Rattle.ac_forms.specs.declared.row.Row.TheVariants.{Eq, Div, Ge}
-use Rattle.ac_cert.specs.declared.column.Bound.{Bound}
-use Rattle.ac_cert.specs.Bounds.{is_low, low_bound, lows, highs}
-use Rattle.ac_cert.proofs.Parts.{drop-at}
+use Rattle.ac_choices.specs.declared.column.Bound.{Bound}
+use Rattle.ac_choices.specs.Bounds.{is_low, low_bound, lows, highs}
+use Rattle.ac_choices.proofs.Parts.{drop-at}
 use Rattle.ac_refutations.specs.Descents.{raised_rows}
 use Rattle.ac_refutations.specs.Leaves.{less}
 use Rattle.ac_refutations.specs.Shadowing.{IsBeside, ShowsAll, Continues}

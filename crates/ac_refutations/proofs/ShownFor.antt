@@ -14,11 +14,11 @@ use Rattle.ac_forms.specs.declared.row.Row.{Row}
 use Rattle.ac_forms.specs.declared.row.Row.TheVariants.{Eq, Div, Ge}
 use Rattle.ac_forms.specs.declared.normal.NormalRow.{NormalRow}
 use Rattle.ac_forms.specs.declared.normal.NormalRow.TheVariants.{Kept, Dropped, Absurd}
-use Rattle.ac_cert.specs.declared.column.Bound.{Bound}
-use Rattle.ac_cert.specs.declared.choose.Choice.TheVariants as choice
-use Rattle.ac_cert.specs.Bounds.{is_low, is_high, low_bound, high_bound, lows, highs, rows_without}
-use Rattle.ac_cert.specs.Choices.{shadow_form, shadows_with, shadows, left_by}
-use Rattle.ac_cert.proofs.Truths.{and-true}
+use Rattle.ac_choices.specs.declared.column.Bound.{Bound}
+use Rattle.ac_choices.specs.declared.choose.Choice.TheVariants as choice
+use Rattle.ac_choices.specs.Bounds.{is_low, is_high, low_bound, high_bound, lows, highs, rows_without}
+use Rattle.ac_choices.specs.Choices.{shadow_form, shadows_with, shadows, left_by}
+use Rattle.ac_choices.proofs.Truths.{and-true}
 use Rattle.ac_exact.specs.Exact.{real_form}
 use Rattle.ac_exact.specs.Tests.{is_same_left}
 use Rattle.ac_exact.proofs.Again.{again-ge}

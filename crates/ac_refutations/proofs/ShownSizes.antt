@@ -14,10 +14,10 @@ use Rattle.ac_forms.specs.declared.normal.NormalRow.TheVariants.{Kept, Dropped, 
 use Rattle.ac_forms.specs.declared.row.Row.{Row}
 use Rattle.ac_forms.specs.declared.row.Row.TheVariants.{Ge}
 use Rattle.ac_forms.proofs.Twins.{all_fit-is}
-use Rattle.ac_cert.specs.Bounds.{is_high, low_bound, high_bound, without}
-use Rattle.ac_cert.specs.ChoiceFits.{shadow_fits}
-use Rattle.ac_cert.specs.Choices.{shadow_form}
-use Rattle.ac_cert.proofs.Fitting.{fits_true}
+use Rattle.ac_choices.specs.Bounds.{is_high, low_bound, high_bound, without}
+use Rattle.ac_choices.specs.ChoiceFits.{shadow_fits}
+use Rattle.ac_choices.specs.Choices.{shadow_form}
+use Rattle.ac_choices.proofs.Fitting.{fits_true}
 use Rattle.ac_exact.specs.Exact.{real_form}
 use Rattle.ac_exact.specs.Tests.{is_same_left, pair_fits}
 use Rattle.ac_refutations.specs.Descents.{IsFormUpTo2To122}

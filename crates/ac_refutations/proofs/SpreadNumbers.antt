@@ -5,7 +5,7 @@ use Rattle.std.proofs.lemmas.Int.{ints, fits_signed_from_abs}
 use Rattle.ac_integers.proofs.Bits.{again_128}
 use Rattle.ac_forms.specs.Fits.{Fits, fits}
 use Rattle.ac_forms.proofs.Twins.{fits-is, and-is}
-use Rattle.ac_cert.specs.ChoiceFits.{spread_fits}
+use Rattle.ac_choices.specs.ChoiceFits.{spread_fits}
 
 pub spread_parts : (m r c k : ℤ) → spread_fits m r c k ≡ true → Fits (c *ℤ m) × Fits (c *ℤ r) × Fits (k +ℤ c *ℤ r)
 spread_parts m r c k h =

@@ -7,8 +7,8 @@ use Rattle.ac_forms.specs.Rows.{form_of, AreRowsOver}
 use Rattle.ac_forms.specs.declared.conj.Conj.{Conj}
 use Rattle.ac_forms.specs.declared.row.Row.{Row}
 use Rattle.ac_forms.specs.declared.row.Row.TheVariants.{Eq, Div, Ge}
-use Rattle.ac_cert.specs.ChoiceFits.{spread_row_fits, all_spread_fit}
-use Rattle.ac_cert.specs.Choices.{substitute_residue_row}
+use Rattle.ac_choices.specs.ChoiceFits.{spread_row_fits, all_spread_fit}
+use Rattle.ac_choices.specs.Choices.{substitute_residue_row}
 use Rattle.ac_refutations.specs.declared.path.Trail.{Trail}
 use Rattle.ac_refutations.specs.Descents.{AreNames, Carries, column_less}
 use Rattle.ac_refutations.specs.Residues.{quotient_form, less_times, AreSmall, CanTake, AllCanTake, LeadsAll}

@@ -7,8 +7,8 @@ use Rattle.ac_forms.specs.Fits.{Fits}
 use Rattle.ac_forms.specs.Rows.{form_of, AreRowsOver}
 use Rattle.ac_forms.specs.declared.row.Row.{Row}
 use Rattle.ac_forms.specs.declared.row.Row.TheVariants.{Eq, Div, Ge}
-use Rattle.ac_cert.specs.declared.choose.Choice.TheVariants.{Residue}
-use Rattle.ac_cert.specs.Choices.{substitute_residue, substitute_residue_row}
+use Rattle.ac_choices.specs.declared.choose.Choice.TheVariants.{Residue}
+use Rattle.ac_choices.specs.Choices.{substitute_residue, substitute_residue_row}
 use Rattle.ac_refutations.specs.Descents.{AreRowsUpTo2To122, IsRowUpTo2To122, IsFormUpTo2To122}
 use Rattle.ac_refutations.specs.Refutations.{AreWithin2To120, AreRowsWithin, IsFormWithin, IsRowWithin}
 use Rattle.ac_refutations.specs.Residues.{quotient_form, AreSmall, AllCanTake}

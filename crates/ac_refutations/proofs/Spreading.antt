@@ -9,7 +9,7 @@ use Rattle.ac_forms.specs.Affine.{Affine, coef, column_form, combined}
 use Rattle.ac_forms.specs.Negation.{with_column}
 use Rattle.ac_forms.specs.declared.conj.Conj.{Conj}
 use Rattle.ac_forms.specs.declared.row.Row.TheVariants.{Eq, Div}
-use Rattle.ac_cert.specs.Choices.{substitute_residue}
+use Rattle.ac_choices.specs.Choices.{substitute_residue}
 use Rattle.ac_cert.specs.declared.types.Step.TheVariants.{Quot}
 use Rattle.ac_cert.specs.Rules.{with_column_row}
 use Rattle.ac_cert.specs.StepRows.{IsAt}

@@ -14,14 +14,14 @@ use Rattle.ac_forms.specs.declared.conj.Conj.{Conj}
 use Rattle.ac_forms.specs.declared.row.Row.{Row}
 use Rattle.ac_forms.specs.declared.row.Row.TheVariants.{Eq, Div, Ge}
 use Rattle.ac_forms.proofs.Passes.{moduli_of}
-use Rattle.ac_cert.specs.declared.choose.Choice.{Choice}
-use Rattle.ac_cert.specs.declared.choose.Choice.TheVariants as choice
-use Rattle.ac_cert.specs.Bounds.{is_low, is_none, lows, highs, only_bounds, is_one_sided, last_splinter}
+use Rattle.ac_choices.specs.declared.choose.Choice.{Choice}
+use Rattle.ac_choices.specs.declared.choose.Choice.TheVariants as choice
+use Rattle.ac_choices.specs.Bounds.{is_low, is_none, lows, highs, only_bounds, is_one_sided, last_splinter}
 use Rattle.ac_forms.specs.Columns.{has_column}
-use Rattle.ac_cert.specs.Choices.{column_of, are_absurd, is_equality_of, allows, substitute_residue_row, left_by}
-use Rattle.ac_cert.proofs.LeftMade.{raw_made}
-use Rattle.ac_cert.proofs.Fitting.{true_fits}
-use Rattle.ac_cert.proofs.Truths.{true-le}
+use Rattle.ac_choices.specs.Choices.{column_of, are_absurd, is_equality_of, allows, substitute_residue_row, left_by}
+use Rattle.ac_choices.proofs.LeftMade.{raw_made}
+use Rattle.ac_choices.proofs.Fitting.{true_fits}
+use Rattle.ac_choices.proofs.Truths.{true-le}
 use Rattle.ac_refutations.specs.Branches.{count_of, counts_from, IsTry, AreAlternatives, residue_choices, splinter_choices, leaf_choices, AreResidues, AreAll}
 use Rattle.ac_refutations.specs.Refutations.{AreChoicesOf}
 use Rattle.ac_refutations.specs.Sufficing.{SufficesAt, Suffice}

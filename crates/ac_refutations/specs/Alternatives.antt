@@ -5,12 +5,12 @@ use Rattle.ac_forms.specs.Affine.{Affine, coef}
 use Rattle.ac_forms.specs.Fits.{fits}
 use Rattle.ac_forms.specs.declared.row.Row.{Row}
 use Rattle.ac_forms.specs.declared.row.Row.TheVariants.{Eq, Div, Ge}
-use Rattle.ac_cert.specs.declared.choose.Choice.{Choice}
-use Rattle.ac_cert.specs.declared.choose.Choice.TheVariants as choice
-use Rattle.ac_cert.specs.Bounds.{is_low, low_bound, highs, is_one_sided}
+use Rattle.ac_choices.specs.declared.choose.Choice.{Choice}
+use Rattle.ac_choices.specs.declared.choose.Choice.TheVariants as choice
+use Rattle.ac_choices.specs.Bounds.{is_low, low_bound, highs, is_one_sided}
 use Rattle.ac_forms.specs.Columns.{has_column}
-pub use Rattle.ac_cert.specs.Bounds.{greatest_size, last_splinter}
-use Rattle.ac_cert.specs.ChoiceFits.{sizes_fit}
+pub use Rattle.ac_choices.specs.Bounds.{greatest_size, last_splinter}
+use Rattle.ac_choices.specs.ChoiceFits.{sizes_fit}
 pub use Rattle.ac_exact.specs.Exact.{count_to}
 use Rattle.ac_exact.specs.Tests.{economical, pairs_fit}
 use Rattle.ac_refutations.specs.declared.strategy.Strategy.{Strategy}

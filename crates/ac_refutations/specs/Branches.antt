@@ -6,14 +6,14 @@ use Rattle.ac_forms.specs.Rows.{AreRowsOver, form_of}
 use Rattle.ac_forms.specs.declared.conj.Conj.{Conj}
 use Rattle.ac_forms.specs.declared.row.Row.{Row}
 use Rattle.ac_forms.specs.declared.row.Row.TheVariants.{Eq, Ge}
-use Rattle.ac_cert.specs.declared.choose.Choice.{Choice}
-use Rattle.ac_cert.specs.declared.choose.Choice.TheVariants as choice
+use Rattle.ac_choices.specs.declared.choose.Choice.{Choice}
+use Rattle.ac_choices.specs.declared.choose.Choice.TheVariants as choice
 use Rattle.ac_cert.specs.declared.ends.Absurd.{Absurd}
 use Rattle.ac_cert.specs.declared.types.Tree.{Tree}
 use Rattle.ac_cert.specs.Accepted.{Accepts, absurd_refusals}
-use Rattle.ac_cert.specs.Bounds.{is_low, only_bounds}
-use Rattle.ac_cert.specs.ChoiceFits.{after_choice}
-use Rattle.ac_cert.specs.Choices.{is_equality_of, is_lower_row, left_by}
+use Rattle.ac_choices.specs.Bounds.{is_low, only_bounds}
+use Rattle.ac_choices.specs.ChoiceFits.{after_choice}
+use Rattle.ac_choices.specs.Choices.{is_equality_of, is_lower_row, left_by}
 use Rattle.ac_cert.specs.Ends.{is_absurd}
 use Rattle.ac_cert.specs.Rules.{class}
 use Rattle.ac_refutations.specs.Descents.{StandOn, AreRowsUpTo2To122, Carries}

@@ -6,7 +6,7 @@ use Rattle.ac_forms.specs.Renaming.{AreColumns, AreDistinct}
 use Rattle.ac_forms.specs.declared.conj.Conj.{Conj}
 use Rattle.ac_forms.specs.declared.row.Row.{Row}
 use Rattle.ac_forms.specs.declared.row.Row.TheVariants.{Eq, Div, Ge}
-use Rattle.ac_cert.specs.Bounds.{is_low}
+use Rattle.ac_choices.specs.Bounds.{is_low}
 use Rattle.ac_cert.specs.Ends.{is_absurd}
 use Rattle.ac_cert.specs.Accepted.{after_steps}
 use Rattle.ac_refutations.specs.Leaves.{less}

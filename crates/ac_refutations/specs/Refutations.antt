@@ -7,10 +7,10 @@ use Rattle.ac_forms.specs.Tests.{rows_fit}
 use Rattle.ac_forms.specs.declared.conj.Conj.{Conj}
 use Rattle.ac_forms.specs.declared.row.Row.{Row}
 use Rattle.ac_forms.specs.declared.row.Row.TheVariants.{Eq, Div, Ge}
-use Rattle.ac_cert.specs.declared.choose.Choice.{Choice}
-use Rattle.ac_cert.specs.declared.choose.Choice.TheVariants as choice
-use Rattle.ac_cert.specs.Choices.{are_absurd}
-use Rattle.ac_cert.specs.ChoiceFits.{after_choice}
+use Rattle.ac_choices.specs.declared.choose.Choice.{Choice}
+use Rattle.ac_choices.specs.declared.choose.Choice.TheVariants as choice
+use Rattle.ac_choices.specs.Choices.{are_absurd}
+use Rattle.ac_choices.specs.ChoiceFits.{after_choice}
 use Rattle.ac_refutations.specs.Alternatives.{alternatives_for, all_of}
 use Rattle.ac_refutations.specs.declared.refutation.Refutation.{Refutation, Row_of-Refutation, end_of-Refutation, more_of-Refutation}
 use Rattle.ac_refutations.specs.declared.refutation.Refutation.TheVariants.{Absurd, Open'}

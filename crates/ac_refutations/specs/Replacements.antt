@@ -6,8 +6,8 @@ use Rattle.ac_forms.specs.Orders.{modulus_of}
 use Rattle.ac_forms.specs.Rows.{HasModulus, form_of}
 use Rattle.ac_forms.specs.declared.conj.Conj.{Conj}
 use Rattle.ac_forms.specs.declared.row.Row.{Row}
-use Rattle.ac_cert.specs.Bounds.{without}
-use Rattle.ac_cert.specs.Choices.{size_of, against}
+use Rattle.ac_choices.specs.Bounds.{without}
+use Rattle.ac_choices.specs.Choices.{size_of, against}
 use Rattle.ac_refutations.specs.Standing.{Blends, IsOnto, Reaches, Stand}
 use Rattle.ac_refutations.specs.declared.path.Trail.{Trail}
 

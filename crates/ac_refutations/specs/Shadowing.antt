@@ -4,7 +4,7 @@ use Rattle.ac_forms.specs.Affine.{Affine, coef, shifted}
 use Rattle.ac_forms.specs.declared.conj.Conj.{Conj}
 use Rattle.ac_forms.specs.declared.row.Row.{Row}
 use Rattle.ac_forms.specs.declared.row.Row.TheVariants.{Ge}
-use Rattle.ac_cert.specs.Bounds.{low_bound, highs}
+use Rattle.ac_choices.specs.Bounds.{low_bound, highs}
 use Rattle.ac_refutations.specs.Refutations.{AreWithin2To120}
 use Rattle.ac_refutations.specs.Standing.{IsOnto, Reaches, HasOne, StandsAt, Stand}
 pub use Rattle.ac_refutations.specs.Sufficing.{dark_gap}

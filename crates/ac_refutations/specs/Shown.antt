@@ -9,9 +9,9 @@ use Rattle.ac_forms.specs.declared.row.Row.{Row}
 use Rattle.ac_forms.specs.declared.row.Row.TheVariants.{Eq, Div, Ge}
 use Rattle.ac_forms.specs.declared.normal.NormalRow.{NormalRow}
 use Rattle.ac_forms.specs.declared.normal.NormalRow.TheVariants.{Kept, Dropped, Absurd}
-use Rattle.ac_cert.specs.declared.column.Bound.{Bound}
-use Rattle.ac_cert.specs.Bounds.{is_low, low_bound, highs}
-use Rattle.ac_cert.specs.Choices.{shadow_form}
+use Rattle.ac_choices.specs.declared.column.Bound.{Bound}
+use Rattle.ac_choices.specs.Bounds.{is_low, low_bound, highs}
+use Rattle.ac_choices.specs.Choices.{shadow_form}
 use Rattle.ac_exact.specs.Exact.{real_form}
 use Rattle.ac_exact.specs.Tests.{is_same_left}
 use Rattle.ac_refutations.specs.Sufficing.{is_enough}

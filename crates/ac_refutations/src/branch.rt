@@ -1,10 +1,10 @@
 //! Where the rows that a choice leaves stand.
 ghost use Rattle.std.specs.Prelude.{◌≡◌, ◌<◌, ◌≤ℤ◌, ◌<ℤ◌, pos, ℕ, List, [], ◌∷◌, true, length, slice_get, Some, ◌+◌, ◌++◌, cond, IfOk, IfSome};
 ghost use Rattle.ac_forms.specs.Rows.{AreRowsOver, IsWellMade};
-ghost use Rattle.ac_cert.specs.Bounds.{only_bounds};
-ghost use Rattle.ac_cert.specs.ChoiceFits.{choice_fits};
-ghost use Rattle.ac_cert.specs.Choices.{is_equality_of, is_lower_row};
-ghost use Rattle.ac_cert.specs.declared.choose.Choice.TheVariants.{Drop, Equal, Residue, Shadow, Splinter};
+ghost use Rattle.ac_choices.specs.Bounds.{only_bounds};
+ghost use Rattle.ac_choices.specs.ChoiceFits.{choice_fits};
+ghost use Rattle.ac_choices.specs.Choices.{is_equality_of, is_lower_row};
+ghost use Rattle.ac_choices.specs.declared.choose.Choice.TheVariants.{Drop, Equal, Residue, Shadow, Splinter};
 ghost use Rattle.ac_refutations.specs.Branches.{IsBranch, IsSplinterOf, IsTry, lift_count, place_after, raised_place, raised_places, stage};
 ghost use Rattle.ac_refutations.specs.Refutations.{AreWithin2To120};
 ghost use Rattle.ac_refutations.specs.Sufficing.{Suffice};
@@ -12,7 +12,7 @@ ghost use Rattle.ac_refutations.specs.Sufficing.{Suffice};
 use crate::by_equality::{free_rows, splinter_rows};
 use crate::descent::{Base, Standing};
 use crate::path::Trail;
-use ac_cert::Choice;
+use ac_choices::Choice;
 use ac_forms::{Conj, Row};
 use std::alloc::{AllocError, Global};
 

@@ -6,10 +6,10 @@ ghost use Rattle.ac_forms.specs.Fits.{Fits};
 ghost use Rattle.ac_forms.specs.Rows.{AreRowsOver, HaveModuli};
 ghost use Rattle.ac_forms.specs.declared.conj.Conj.{Conj};
 ghost use Rattle.ac_forms.specs.declared.row.Row.TheVariants.{Eq, Div, Ge};
-ghost use Rattle.ac_cert.specs.Bounds.{rows_without, without, is_low};
-ghost use Rattle.ac_cert.specs.ChoiceFits.{equality_fits};
-ghost use Rattle.ac_cert.specs.Choices.{size_of, by_equality, is_equality_of, left_by};
-ghost use Rattle.ac_cert.specs.declared.choose.Choice.TheVariants.{Drop, Equal, Splinter};
+ghost use Rattle.ac_choices.specs.Bounds.{rows_without, without, is_low};
+ghost use Rattle.ac_choices.specs.ChoiceFits.{equality_fits};
+ghost use Rattle.ac_choices.specs.Choices.{size_of, by_equality, is_equality_of, left_by};
+ghost use Rattle.ac_choices.specs.declared.choose.Choice.TheVariants.{Drop, Equal, Splinter};
 ghost use Rattle.ac_refutations.specs.Descents.{AreNames, AreRowsUpTo2To122, Carries, StandOn};
 ghost use Rattle.ac_refutations.specs.Refutations.{AreWithin2To120};
 ghost use Rattle.ac_refutations.specs.Replacements.{CanDivide, CanReplaceAll, LeadsAll};
@@ -122,7 +122,7 @@ pub(crate) fn splinter_rows(
 }
 
 /// The form without the column.
-#[tactic(auto, using(ac_integers::proofs::Bits::again_128, ac_cert::proofs::Parts::set_beyond))]
+#[tactic(auto, using(ac_integers::proofs::Bits::again_128, ac_choices::proofs::Parts::set_beyond))]
 fn without(alloc: Global, z: usize, form: &Form) -> Result<Form, AllocError>
     ensures { IfOk result (λ rest. rest ≡ without z form.now) }
 {

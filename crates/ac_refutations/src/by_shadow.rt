@@ -3,10 +3,10 @@ ghost use Rattle.std.specs.Prelude.{◌≡◌, ℕ, ◌+◌, ◌≤◌, List, []
 ghost use Rattle.ac_forms.specs.Rows.{AreRowsOver};
 ghost use Rattle.ac_forms.specs.declared.conj.Conj.{Conj};
 ghost use Rattle.ac_forms.specs.declared.row.Row.{Row};
-ghost use Rattle.ac_cert.specs.Bounds.{highs, lows, low_bound, only_bounds};
-ghost use Rattle.ac_cert.specs.ChoiceFits.{choice_fits};
-ghost use Rattle.ac_cert.specs.Choices.{left_by};
-ghost use Rattle.ac_cert.specs.declared.choose.Choice.TheVariants.{Shadow};
+ghost use Rattle.ac_choices.specs.Bounds.{highs, lows, low_bound, only_bounds};
+ghost use Rattle.ac_choices.specs.ChoiceFits.{choice_fits};
+ghost use Rattle.ac_choices.specs.Choices.{left_by};
+ghost use Rattle.ac_choices.specs.declared.choose.Choice.TheVariants.{Shadow};
 ghost use Rattle.ac_refutations.specs.Descents.{AreRowsUpTo2To122, Carries, raised_rows};
 ghost use Rattle.ac_refutations.specs.Refutations.{AreWithin2To120};
 ghost use Rattle.ac_refutations.specs.Shadowing.{IsMargin, IsBeside, Continues};

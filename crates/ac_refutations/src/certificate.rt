@@ -15,7 +15,8 @@ use crate::descent::{Base, Below};
 use crate::question::question_branch;
 use crate::refutation::Refutation;
 use crate::splinter_tree::depth_of;
-use ac_cert::{Absurd, Choice, Tree, absurd_tree, behind_steps};
+use ac_cert::{Absurd, Tree, absurd_tree, behind_steps};
+use ac_choices::Choice;
 use ac_forms::Conj;
 use std::alloc::{AllocError, Global};
 

@@ -12,7 +12,8 @@ use crate::descent::Base;
 use crate::renamed::renamed;
 use crate::residues::class_tree;
 use crate::splinter_tree::raised_tree;
-use ac_cert::{Absurd, Choice, Tree};
+use ac_cert::{Absurd, Tree};
+use ac_choices::Choice;
 use ac_forms::{Conj, Form, Row};
 use std::alloc::{AllocError, Global};
 

@@ -2,7 +2,7 @@
 ghost use Rattle.std.specs.Prelude.{◌≡◌, pos, ◌≤ℤ◌, ◌-ℤ◌, ◌*ℤ◌, neg_ℤ};
 ghost use Rattle.ac_forms.specs.Affine.{coef};
 ghost use Rattle.ac_forms.specs.Fits.{Fits};
-ghost use Rattle.ac_cert.specs.Bounds.{is_low, is_high};
+ghost use Rattle.ac_choices.specs.Bounds.{is_low, is_high};
 ghost use Rattle.ac_refutations.specs.Shadowing.{dark_gap};
 
 use ac_forms::Form;

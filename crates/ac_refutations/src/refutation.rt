@@ -1,7 +1,7 @@
 ghost use Rattle.std.specs.Prelude.{◌≡◌};
 ghost use Rattle.ac_refutations.specs.Refutations.{conj_of};
 
-use ac_cert::Choice;
+use ac_choices::Choice;
 use ac_forms::Conj;
 use ac_items::Items;
 

@@ -5,7 +5,7 @@ ghost use Rattle.ac_forms.specs.Affine.{coef, combined, CanCombine};
 ghost use Rattle.ac_forms.specs.Fits.{Fits};
 ghost use Rattle.ac_forms.specs.declared.conj.Conj.{Conj};
 ghost use Rattle.ac_forms.specs.declared.row.Row.TheVariants.{Eq};
-ghost use Rattle.ac_cert.specs.Choices.{size_of, against, replaced_row};
+ghost use Rattle.ac_choices.specs.Choices.{size_of, against, replaced_row};
 ghost use Rattle.ac_refutations.specs.Replacements.{CanDivide, CanReplace, CanReplaceAll, LeadsAll};
 ghost use Rattle.ac_refutations.specs.Standing.{StandsAt, Stand, Reaches, Leads, IsSameBase};
 

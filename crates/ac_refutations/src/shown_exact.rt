@@ -3,7 +3,7 @@ ghost use Rattle.std.specs.Prelude.{◌≡◌, ℕ, List, [], ◌∷◌, pos, �
 ghost use Rattle.ac_forms.specs.Affine.{added, coef, combined};
 ghost use Rattle.ac_forms.specs.declared.conj.Conj.{Conj};
 ghost use Rattle.ac_forms.specs.declared.row.Row.TheVariants.{Ge};
-ghost use Rattle.ac_cert.specs.Bounds.{is_high, low_bound, high_bound};
+ghost use Rattle.ac_choices.specs.Bounds.{is_high, low_bound, high_bound};
 ghost use Rattle.ac_exact.specs.Exact.{real_form};
 ghost use Rattle.ac_exact.specs.Tests.{is_at_most};
 ghost use Rattle.ac_refutations.specs.Refutations.{AreWithin2To120};

@@ -3,7 +3,7 @@
 use crate::shown::{push_conj, push_point};
 use crate::written::{NOT_WELL_MADE, column, conj_of, place, point, unless_wide};
 use ac_case_text::{CaseStop, Words};
-use ac_cert::{Choice, StepStop};
+use ac_choices::{Choice, StepStop};
 use ac_forms::Conj;
 use std::alloc::Global;
 
@@ -68,7 +68,7 @@ fn show_next(
     if !conj.is_well_made() {
         return Err(NOT_WELL_MADE);
     }
-    match ac_cert::step(alloc, conj, choice) {
+    match ac_choices::step(alloc, conj, choice) {
         Ok(next) => Ok(push_conj(out, &next)?),
         Err(stop) => push_stop(out, stop),
     }
@@ -118,13 +118,13 @@ fn back(
     if !conj.is_well_made() || point.len() != conj.columns {
         return Err(NOT_WELL_MADE);
     }
-    match ac_cert::step(alloc, conj, choice) {
+    match ac_choices::step(alloc, conj, choice) {
         Ok(next) => {
             if point.len() != next.columns {
                 return Err(NOT_WELL_MADE);
             }
             match next.holds_at(point) {
-                Ok(true) => unless_wide(ac_cert::lift(alloc, conj, choice, point)),
+                Ok(true) => unless_wide(ac_choices::lift(alloc, conj, choice, point)),
                 _ => Err(CaseStop::Malformed("a point of what is left")),
             }
         }

@@ -6,7 +6,7 @@ use crate::shown::{push_choice, push_choices, push_conj, push_point, push_truth}
 use crate::trees::check;
 use crate::written::{NOT_WELL_MADE, column, columns, conj_of, unless_wide};
 use ac_case_text::{CaseStop, Words};
-use ac_cert::are_absurd;
+use ac_choices::are_absurd;
 use ac_forms::Conj;
 use ac_items::Items;
 use ac_omega::{Decided, Decision, Piece, Stop, Strategy, are_columns};

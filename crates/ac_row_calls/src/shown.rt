@@ -1,5 +1,5 @@
 //! Forms, rows, conjunctions, choices and points, as answers show them.
-use ac_cert::Choice;
+use ac_choices::Choice;
 use ac_forms::{Conj, Form, Row};
 use std::alloc::AllocError;
 use std::fmt::Write;

@@ -10,7 +10,7 @@ use Rattle.ac_grammar.specs.declared.tree.Word.{Word}
 use Rattle.ac_grammar.specs.declared.tree.Pragma.{Pragma}
 use Rattle.ac_affine.specs.declared.scope.Entry.{Entry}
 use Rattle.ac_affine.specs.Meanings.{declared_meaning}
-use Rattle.ac_rules.specs.Values.{array_number}
+use Rattle.ac_values.specs.Values.{array_number}
 use Rattle.ac_rules.specs.Files.{IsAnswer, file_broken, program_of, broken_of, line_words, output_words, output_numbers, output_line, arrays_under, body_under, context_under, commutative_words, program_under}
 use Rattle.ac_rules.specs.Declarations.{param_names, slots_from}
 use Rattle.ac_syntax.specs.declared.tree.Array.{Array}

@@ -16,13 +16,13 @@ use Rattle.ac_affine.specs.declared.scope.Entry.{Entry}
 use Rattle.ac_affine.specs.declared.scope.Scope.{Scope}
 use Rattle.ac_affine.specs.declared.scope.Meaning.{Meaning}
 use Rattle.ac_affine.specs.declared.scope.Meaning.TheVariants as means
-use Rattle.ac_affine.specs.Faults.{rule_broken}
 use Rattle.ac_affine.specs.Meanings.{meaning, misused_unless}
 use Rattle.ac_affine.specs.IndexExpressions.{judged_name}
-use Rattle.ac_rules.specs.Values.{Reading, number, other, reading, reading_broken, value_of, value, value_broken, placed, access_broken, array_number, read_of, access_reading, call_reading, negative_reading, group_reading, applied_values, applied, joined_reading, chained_reading, chain_reading}
+use Rattle.ac_values.specs.Values.{Reading, number, other, reading, reading_broken, value_of, value, value_broken, placed, access_broken, array_number, read_of, access_reading, call_reading, negative_reading, group_reading, applied_values, applied, joined_reading, chained_reading, chain_reading}
 use Rattle.ac_rules.specs.Numbers.{ReadsOf, ReadsIn}
 use Rattle.ac_affine.proofs.Absent.{NoneBroken, each_map, neither, none_of}
-use Rattle.ac_rules.proofs.Readings.{reading-number, reading-decimal, reading-access, reading-call, reading-negative, reading-group, reading-chain}
+use Rattle.ac_values.proofs.Accesses.{rule_holds}
+use Rattle.ac_values.proofs.Readings.{reading-number, reading-decimal, reading-access, reading-call, reading-negative, reading-group, reading-chain}
 use Rattle.ac_rules.proofs.DeclaredNumbers.{MeansBelow, NamesBelow, meaning_below}
 use Rattle.ac_affine.proofs.Trees.{every_expr}
 
@@ -65,14 +65,6 @@ value_reads n scope (other b x) h e = h e
 values_read : (n : ℕ) (scope : Scope) (rs : List Reading) → AllByRecursion (Reads n) rs → NoneBroken (map reading_broken rs) → AllByRecursion (ReadsOf n) (map (value_of scope) rs)
 values_read n scope [] h e = tt
 values_read n scope (r ∷ rs) h e = (value_reads n scope r h.0 e.0, values_read n scope rs h.1 e.1)
-
--- a name of which a rule is broken
-pub rule_holds : (names : List Entry) (scope : Scope) (rule : Option Rule) (word : Word) (subs : List Expr) → access_broken names scope rule word subs ≡ None → rule ≡ None
-rule_holds names scope rule word subs h = by rule (neither _ _ (neither _ _ h).0).1
-  where
-    by : (rule : Option Rule) → rule_broken rule word.place ≡ None → rule ≡ None
-    by None e = refl
-    by (Some r) e = absurd cc
 
 not_misused : (b : Bool) → b ≡ false → ¬ (misused_unless b ≡ None)
 not_misused true f e = absurd cc

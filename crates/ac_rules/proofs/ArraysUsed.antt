@@ -22,14 +22,15 @@ use Rattle.ac_affine.specs.declared.scope.Meaning.{Meaning}
 use Rattle.ac_affine.specs.declared.scope.Meaning.TheVariants as means
 use Rattle.ac_affine.specs.Meanings.{meaning}
 use Rattle.ac_rules.specs.Declarations.{param_count}
-use Rattle.ac_rules.specs.Values.{array_number, read_of, value}
+use Rattle.ac_values.specs.Values.{array_number, read_of, value}
 use Rattle.ac_rules.specs.Statements.{target_rule, assigned_value, assignment_broken, statement_broken, stmt, stmts, inside}
 use Rattle.ac_rules.specs.Files.{body_scope, arrays_under, names_of, broken_under, file_broken, program_under, program_of}
 use Rattle.ac_rules.specs.Numbers.{ReadsOf, ArraysOf, ArraysIn, HasDeclaredNumbers}
 use Rattle.ac_rules.proofs.Stepping.{broken-loop, broken-branch, broken-assign, stmt-loop, stmt-branch, stmt-assign}
 use Rattle.ac_rules.proofs.DeclaredNumbers.{MeansBelow, NamesBelow, meaning_below, names_below, has_slots}
 use Rattle.ac_affine.proofs.Absent.{NoneBroken, each, neither, none_of}
-use Rattle.ac_rules.proofs.ArraysRead.{rule_holds, access_reads, applied_reads, value_read}
+use Rattle.ac_rules.proofs.ArraysRead.{access_reads, applied_reads, value_read}
+use Rattle.ac_values.proofs.Accesses.{rule_holds}
 use Rattle.ac_affine.proofs.Trees.{every_statement}
 
 row_used : (n : ℕ) (m : _) (k : Row_of-Stmt m) → AllByRecursion (ArraysOf n) (items-the_row-Stmt m k) → ArraysIn n k

@@ -11,10 +11,10 @@ use Rattle.ac_grammar.specs.declared.tree.Expr.{Expr}
 use Rattle.ac_affine.specs.declared.scope.Entry.{Entry}
 use Rattle.ac_affine.specs.declared.scope.Scope.{Scope}
 use Rattle.ac_affine.specs.Comparisons.{index_expr, index}
-use Rattle.ac_rules.specs.Values.{array_number, placed}
+use Rattle.ac_values.specs.Values.{array_number, placed}
 use Rattle.ac_rules.specs.Statements.{assigned_value}
 use Rattle.ac_affine.proofs.Absent.{each, each_map}
-use Rattle.ac_rules.proofs.EachValue.{assigned_has}
+use Rattle.ac_rules.proofs.AssignedValues.{assigned_has}
 use Rattle.ac_affine.proofs.Judges.{index_expr_fits, index_fits}
 
 placed_fits : (ps xs : ℕ) (place : Place) (x : Value) → FitsValue ps xs x → FitsValue ps xs (placed place x)

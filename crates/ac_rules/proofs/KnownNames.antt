@@ -22,14 +22,14 @@ use Rattle.ac_affine.specs.declared.scope.Meaning.TheVariants as means
 use Rattle.ac_affine.specs.declared.scope.Scope.{Scope}
 use Rattle.ac_rules.specs.Declarations.{is_declared}
 use Rattle.ac_affine.specs.Meanings.{declared_meaning, meaning, meaning_behind, iterator_number, is_starting, is_array}
-use Rattle.ac_rules.specs.Values.{operator_name}
+use Rattle.ac_values.specs.Values.{operator_name}
 use Rattle.ac_affine.specs.WrittenValues.{meant_integer, integer_of, on_both, operated, operated_all, chain_value, expression_value}
-use Rattle.ac_rules.specs.WrittenTerms.{Written, index, other, as_term, in_front, all_of, applied_to, cell_of, call_written, negative_written, joined_written, chained_written, chain_written, written}
+use Rattle.ac_values.specs.WrittenTerms.{Written, index, other, as_term, in_front, all_of, applied_to, cell_of, call_written, negative_written, joined_written, chained_written, chain_written, written}
 use Rattle.ac_rules.specs.LawsOfNames.{reads, IsKnown, ReadsKnown}
 use Rattle.ac_affine.proofs.Absent.{both_true, each_append}
 use Rattle.ac_affine.proofs.Trees.{every_expr}
 use Rattle.ac_affine.proofs.WrittenExpressions.{value-access, value-call, value-negative, value-group, value-chain}
-use Rattle.ac_rules.proofs.WrittenParts.{written-access, written-call, written-negative, written-group, written-chain}
+use Rattle.ac_values.proofs.WrittenParts.{written-access, written-call, written-negative, written-group, written-chain}
 
 flat_all : {A B : Type 0} (f : A → List B) (xs : List A) → flat_map (λ (ys : List B). ys) (map f xs) ≡ flat_map f xs
 flat_all f [] = refl

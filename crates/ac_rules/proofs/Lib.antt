@@ -1,5 +1,4 @@
-pub mod Readings
-pub mod Kept
+pub mod AssignedValues
 pub mod Running
 pub mod Stepping
 pub mod Targets
@@ -8,7 +7,6 @@ pub mod DeclaredNumbers
 pub mod ArraysRead
 pub mod ArraysUsed
 pub mod EachArray
-pub mod EachValue
 pub mod FittingValues
 pub mod ReadyStatements
 pub mod ReadyPrograms
@@ -16,8 +14,6 @@ pub mod SmallValues
 pub mod SmallStatements
 pub mod SmallPrograms
 pub mod NumberedNames
-pub mod WrittenParts
-pub mod WrittenTerms
 pub mod WrittenPrograms
 pub mod DeclaredOnce
 pub mod KnownNames

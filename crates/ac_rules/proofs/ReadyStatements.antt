@@ -26,7 +26,7 @@ use Rattle.ac_affine.specs.declared.scope.Scope.{Scope}
 use Rattle.ac_affine.specs.Faults.{earlier, broken_where, rule_broken}
 use Rattle.ac_affine.specs.Meanings.{meaning, word_broken}
 use Rattle.ac_affine.specs.Comparisons.{whole_broken, form_or_zero, placed_form, index, index_broken, compared, comparison, rel_of, condition, condition_broken}
-use Rattle.ac_rules.specs.Values.{array_number}
+use Rattle.ac_values.specs.Values.{array_number}
 use Rattle.ac_rules.specs.Statements.{inside, in_start, loop_rule, step_broken, step_number, form_bounds, may_bound, is_endless, head_broken, assigned_value, statement_broken, statements_broken, stmt, stmts}
 use Rattle.ac_rules.specs.Numbers.{has_conditions}
 use Rattle.ac_affine.proofs.Absent.{neither, none_of, not_where, each, each_map, each_of_map, in_rest, in_front, both_true}

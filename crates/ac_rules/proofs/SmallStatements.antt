@@ -25,7 +25,7 @@ use Rattle.ac_affine.specs.declared.scope.Scope.{Scope}
 use Rattle.ac_affine.specs.Faults.{earlier, broken_where}
 use Rattle.ac_affine.specs.Meanings.{meaning}
 use Rattle.ac_affine.specs.Comparisons.{index, condition, condition_broken}
-use Rattle.ac_rules.specs.Values.{array_number}
+use Rattle.ac_values.specs.Values.{array_number}
 use Rattle.ac_rules.specs.Statements.{inside, in_start, step_number, head_broken, assigned_value, statement_broken, statements_broken, stmt, stmts}
 use Rattle.ac_affine.proofs.Absent.{NoneBroken, each, neither, none_of, not_where}
 use Rattle.ac_rules.proofs.Stepping.{broken-loop, broken-branch, stmt-loop, stmt-branch, stmt-assign}

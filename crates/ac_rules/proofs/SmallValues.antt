@@ -13,9 +13,9 @@ use Rattle.ac_grammar.specs.declared.tree.Expr.{Expr}
 use Rattle.ac_affine.specs.declared.scope.Entry.{Entry}
 use Rattle.ac_affine.specs.declared.scope.Scope.{Scope}
 use Rattle.ac_affine.specs.Comparisons.{index_expr, index}
-use Rattle.ac_rules.specs.Values.{placed, array_number}
+use Rattle.ac_values.specs.Values.{placed, array_number}
 use Rattle.ac_rules.specs.Statements.{assigned_value}
-use Rattle.ac_rules.proofs.EachValue.{assigned_has}
+use Rattle.ac_rules.proofs.AssignedValues.{assigned_has}
 use Rattle.ac_affine.proofs.SmallForms.{Few, small_index_expr, small_indices}
 
 -- calls

@@ -15,7 +15,7 @@ use Rattle.ac_affine.specs.declared.scope.Scope.{Scope}
 use Rattle.ac_affine.specs.Faults.{earlier}
 use Rattle.ac_affine.specs.Meanings.{meaning}
 use Rattle.ac_affine.specs.Comparisons.{first_of, index, condition, condition_broken}
-use Rattle.ac_rules.specs.Values.{array_number}
+use Rattle.ac_values.specs.Values.{array_number}
 use Rattle.ac_rules.specs.Statements.{inside, in_start, head_broken, assignment_broken, assigned_value, first_in, statement_broken, statements_broken, targets, all_targets, each_in, step_number, stmt, stmts}
 
 applied_each : {A B C : Type 0} (f : A → B → C) (b : B) (xs : List A) → map (λ (g : B → C). g b) (map f xs) ≡ map (λ x. f x b) xs

@@ -29,12 +29,12 @@ use Rattle.ac_affine.specs.Comparisons.{whole_broken, index_broken, compared, co
 use Rattle.ac_rules.specs.Declarations.{is_declared, param_count, input_count, fixed_scope}
 use Rattle.ac_affine.specs.Meanings.{declared_meaning, meaning, iterator_number}
 use Rattle.ac_rules.specs.Statements.{inside, in_start, other_rule, step_word_broken, source_broken, head_broken, target_rule, statement_broken, statements_broken}
-use Rattle.ac_rules.specs.Values.{value_broken, access_broken}
+use Rattle.ac_values.specs.Values.{value_broken, access_broken}
 use Rattle.ac_rules.specs.Files.{context_parts, output_words, output_rule, output_broken, pragma_broken, body_scope, names_of}
 use Rattle.ac_affine.specs.Laws.{AreNumbered, IsPointOf}
 use Rattle.ac_rules.specs.LawsOfNames.{IsKnown, ReadsKnown, ComparesKnown, SourceKnown, UsesKnown, loop, branch, assignment, AllUseKnown, no_statement, one_more, NoneIsUndeclared}
 use Rattle.ac_affine.proofs.Absent.{NoneBroken, neither, none_of, each, each_of_map, each_append}
-use Rattle.ac_rules.proofs.ArraysRead.{rule_holds}
+use Rattle.ac_values.proofs.Accesses.{rule_holds}
 use Rattle.ac_rules.proofs.KnownNames.{IsUsed, used_declared, used_known, tells, says_known}
 use Rattle.ac_rules.proofs.NumberedNames.{files_are_numbered}
 use Rattle.ac_rules.proofs.SmallPrograms.{same_name}
@@ -43,7 +43,7 @@ use Rattle.ac_affine.proofs.Trees.{every_statement}
 use Rattle.ac_affine.proofs.WrittenConditions.{comparison_holds_as}
 use Rattle.ac_affine.proofs.WrittenExpressions.{indices_have_values}
 use Rattle.ac_rules.proofs.WrittenPrograms.{context_none}
-use Rattle.ac_rules.proofs.WrittenTerms.{value_says}
+use Rattle.ac_values.proofs.WrittenTerms.{value_says}
 
 -- some point of a scope, and some state
 abbrev origin : Scope → Point

@@ -26,20 +26,20 @@ use Rattle.ac_affine.specs.Comparisons.{first_from, whole_broken, index, index_b
 use Rattle.ac_rules.specs.Declarations.{param_count, input_count, fixed_scope}
 use Rattle.ac_affine.specs.Meanings.{meaning}
 use Rattle.ac_rules.specs.Statements.{inside, in_start, head_broken, target_rule, assigned_value, statement_broken, statements_broken, stmt, stmts}
-use Rattle.ac_rules.specs.Values.{value, value_broken, array_number, read_of, access_broken}
+use Rattle.ac_values.specs.Values.{value, value_broken, array_number, read_of, access_broken}
 use Rattle.ac_rules.specs.Files.{context_parts, pragma_broken, body_scope, names_of}
 use Rattle.ac_affine.specs.WrittenValues.{integer_of, expression_value}
-use Rattle.ac_rules.specs.WrittenTerms.{all_of, cell_of, as_term, written, target_cell, assigned_term}
+use Rattle.ac_values.specs.WrittenTerms.{all_of, cell_of, as_term, written, target_cell, assigned_term}
 use Rattle.ac_affine.specs.Laws.{AreNumbered, IsPointOf}
 use Rattle.ac_rules.specs.LawsOfPrograms.{IsIndexOf, IsConditionOf, IsStatementOf, loop, branch, assignment, AreStatementsOf, no_statement, one_more, ProgramsDoAsWritten}
 use Rattle.ac_affine.proofs.Absent.{NoneBroken, neither, none_of, each, each_of_map}
-use Rattle.ac_rules.proofs.ArraysRead.{rule_holds}
+use Rattle.ac_values.proofs.Accesses.{rule_holds}
 use Rattle.ac_rules.proofs.NumberedNames.{files_are_numbered}
 use Rattle.ac_rules.proofs.Stepping.{broken-loop, broken-branch, broken-assign, stmt-loop, stmt-branch, stmt-assign}
 use Rattle.ac_affine.proofs.Trees.{every_statement}
 use Rattle.ac_affine.proofs.WrittenConditions.{conditions_hold}
 use Rattle.ac_affine.proofs.WrittenExpressions.{indices_have_values}
-use Rattle.ac_rules.proofs.WrittenTerms.{with_all, access_term, both_applied, subscripts_there, value_says}
+use Rattle.ac_values.proofs.WrittenTerms.{with_all, access_term, both_applied, subscripts_there, value_says}
 
 -- a target in which no rule is broken is the cell of an array
 target_there : (m : Meaning) (subs : List (Option ℤ)) (at : List ℤ) → target_rule m (length subs) ≡ None → all_of subs ≡ Some at → cell_of m subs ≡ Some (record { array = array_number m; at = at })

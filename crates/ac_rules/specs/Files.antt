@@ -24,7 +24,7 @@ use Rattle.ac_affine.specs.declared.scope.Scope.{Scope}
 use Rattle.ac_affine.specs.Faults.{earlier, broken, rule_broken}
 use Rattle.ac_affine.specs.Meanings.{declared_meaning, misused_unless, word_broken}
 use Rattle.ac_affine.specs.Comparisons.{first_of, condition, condition_broken}
-use Rattle.ac_rules.specs.Values.{array_number}
+use Rattle.ac_values.specs.Values.{array_number}
 use Rattle.ac_rules.specs.Declarations.{is_whole, is_loop_name, param_count, input_count, entries, fixed_scope, each_declared_broken, arrays_from, slots_from, param_names}
 use Rattle.ac_rules.specs.Statements.{statements_broken, all_targets, stmts}
 

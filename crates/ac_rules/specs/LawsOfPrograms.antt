@@ -1,4 +1,4 @@
--- That a program does what its text says: its right sides, its statements in order, its context and its extents.
+-- That a program does what its text says: its statements in order and its context.
 use Rattle.std.specs.Prelude.{◌≡◌, ◌↔◌, ℕ, List, [], ◌∷◌, map, true, Bool, Option, Some, None}
 use Rattle.std.specs.List.{AllByRecursion}
 use Rattle.ac_syntax.specs.Index.{Point, index_value, holds}
@@ -23,16 +23,10 @@ use Rattle.ac_affine.specs.declared.scope.Entry.{Entry}
 use Rattle.ac_affine.specs.declared.scope.Scope.{Scope}
 use Rattle.ac_rules.specs.Declarations.{param_count, fixed_scope}
 use Rattle.ac_rules.specs.Statements.{inside, in_start, step_number}
-use Rattle.ac_rules.specs.Values.{value, value_broken}
 use Rattle.ac_rules.specs.Files.{context_parts, body_scope, names_of, file_broken, program_of}
 use Rattle.ac_affine.specs.WrittenValues.{integer_of, expression_value}
-use Rattle.ac_rules.specs.WrittenTerms.{as_term, written, target_cell, assigned_term}
-use Rattle.ac_affine.specs.Laws.{AreNumbered, IsPointOf, IsTrueAt}
-
--- a right side that breaks no rule has in the program the term that it has as it is written
-abbrev pub ValuesHaveTerms : Type 0
-ValuesHaveTerms = (names : List Entry) (scope : Scope) (p : Point) (state : Cell → Term) → AreNumbered scope.params names → IsPointOf scope p
-    → (e : Expr) → value_broken names scope e ≡ None → as_term (written names scope p state e) ≡ Some (value_of free p state (value names scope e))
+use Rattle.ac_values.specs.WrittenTerms.{target_cell, assigned_term}
+use Rattle.ac_affine.specs.Laws.{IsPointOf, IsTrueAt}
 
 -- at each point of its scope an expression of the text has the value of an index expression of the program
 abbrev pub IsIndexOf : List Entry → Scope → Expr → IndexExpr → Type 0

@@ -1,9 +1,6 @@
-pub mod Values
-pub mod Measures
 pub mod Declarations
 pub mod Statements
 pub mod Files
 pub mod Numbers
-pub mod WrittenTerms
 pub mod LawsOfPrograms
 pub mod LawsOfNames

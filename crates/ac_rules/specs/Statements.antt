@@ -32,7 +32,7 @@ use Rattle.ac_affine.specs.Faults.{earlier, broken_where, rule_broken}
 use Rattle.ac_affine.specs.Meanings.{meaning, declared_meaning, iterator_number, word_broken, misused_unless}
 use Rattle.ac_affine.specs.IndexExpressions.{is_long}
 use Rattle.ac_affine.specs.Comparisons.{first_of, index, index_broken, compared, rel_of, condition, condition_broken}
-use Rattle.ac_rules.specs.Values.{access_broken, read_of, array_number, value, value_broken, applied_values}
+use Rattle.ac_values.specs.Values.{access_broken, read_of, array_number, value, value_broken, applied_values}
 use Rattle.ac_rules.specs.Declarations.{is_declared}
 
 -- inside a loop

@@ -4,7 +4,7 @@ ghost use Rattle.ac_syntax.specs.Small.{IsSmallProgram};
 ghost use Rattle.ac_affine.specs.Comparisons.{first_of, condition};
 ghost use Rattle.ac_rules.specs.Numbers.{HasConditions, HasDeclaredNumbers, HasInputs, ListsItsParameters};
 ghost use Rattle.ac_affine.specs.Meanings.{declared_meaning, word_broken};
-ghost use Rattle.ac_rules.specs.Values.{array_number};
+ghost use Rattle.ac_values.specs.Values.{array_number};
 ghost use Rattle.ac_rules.specs.Files.{context_parts, commutative_words, line_words, output_words, has_output_line, output_numbers, output_line, output_rule, output_broken, pragma_broken, body_scope, assignments_broken, declarations_broken, body_broken, pragmas_broken, broken_under, arrays_under, body_under, context_under, program_under, names_of, file_broken, program_of, IsAnswer};
 
 use crate::declare::{
@@ -13,7 +13,6 @@ use crate::declare::{
 };
 use crate::fault::{RuleFault, fault_of};
 use crate::statement::{build_statements, check_statements, target_in};
-use crate::value::array_number;
 use ac_affine::fault::{Broken, Rule, Which, earlier, rule_broken};
 use ac_affine::{
     Entry, Meaning, Scope, add_condition, check_condition, declared_meaning, word_broken,
@@ -22,6 +21,7 @@ use ac_grammar::tree::{File, Pragma, Statement, Word};
 use ac_items::Items;
 use ac_syntax::name::Name;
 use ac_syntax::tree::{Array, Comparison, Cond, Program, Stmt};
+use ac_values::value::array_number;
 use std::alloc::{AllocError, Global};
 
 /// The rule that an output line breaks with a name of this meaning.

@@ -1,15 +1,9 @@
-ghost use Rattle.ac_rules.specs.LawsOfPrograms.{ValuesHaveTerms, ProgramsDoAsWritten};
+ghost use Rattle.ac_rules.specs.LawsOfPrograms.{ProgramsDoAsWritten};
 ghost use Rattle.ac_rules.specs.LawsOfNames.{FilesAreNumbered, NamesAreDeclaredOnce, NoneIsUndeclared, NamesMeanTheirOwn};
 
 /// The names of a file, and of the declarations in front of an extent, are numbered as `ac_affine::laws` want them.
 pub fn names_are_numbered()
     ensures files { FilesAreNumbered }
-{}
-
-/// A right side that breaks no rule has in the program the value that it has as it is written: a term over the cells that it
-/// reads, and so a value whatever the symbols mean.
-pub fn right_sides_have_their_terms()
-    ensures terms { ValuesHaveTerms }
 {}
 
 /// The program of a file that breaks no rule does what the file says: its loops, branches and assignments are those of the text,

@@ -1,7 +1,7 @@
 //! The rules after the grammar: from a source tree to the program that it has, or to the first rule that it breaks.
 //!
-//! `specs/` says which rules each part of a file breaks, over the index expressions and conditions of ac_affine, and what its
-//! program is. `apply` gives the one or the other, exactly.
+//! `specs/` says which rules each part of a file breaks, over the index expressions and conditions of ac_affine
+//! and the right sides of ac_values, and what its program is. `apply` gives the one or the other, exactly.
 #![tactic(auto)]
 
 mod declare;
@@ -9,8 +9,6 @@ pub mod fault;
 mod file;
 pub mod laws;
 mod loops;
-mod measure;
 mod statement;
-mod value;
 
 pub use file::apply;

@@ -4,13 +4,13 @@ ghost use Rattle.ac_affine.specs.Comparisons.{first_of, index, condition};
 ghost use Rattle.ac_rules.specs.Statements.{inside, target_rule, extra_nodes, assigned_value, assignment_broken, statement_broken, statements_broken, targets, all_targets, stmt, stmts};
 
 use crate::loops::{Head, begin, check_head, inside};
-use crate::measure::{Measured, check_access, measure};
-use crate::value::{apply, array_number, build_read, build_value};
 use ac_affine::fault::{Broken, Rule, Which, broken_where, earlier};
 use ac_affine::{Entry, Meaning, Scope, build_condition, build_indices, check_condition};
 use ac_grammar::tree::{Expr, Operator, Statement, Word};
 use ac_items::Items;
 use ac_syntax::tree::{Cond, Place, Stmt, Value};
+use ac_values::measure::{Measured, check_access, measure};
+use ac_values::value::{apply, array_number, build_read, build_value};
 use std::alloc::{AllocError, Global};
 
 /// The rule that a target with so many subscripts breaks.
@@ -41,7 +41,7 @@ fn extra_nodes(operator: Option<Operator>) -> u8
 }
 
 /// What is broken in an assignment.
-#[tactic(auto, using(crate::proofs::Kept::assigning))]
+#[tactic(auto, using(crate::proofs::AssignedValues::assigning))]
 fn check_assignment(
     alloc: Global,
     names: &[Entry],

@@ -14,8 +14,8 @@ use Rattle.ac_forms.specs.declared.row.Row.TheVariants.{Eq, Div, Ge}
 use Rattle.ac_forms.proofs.Passes.{moduli_of}
 use Rattle.ac_forms.proofs.Renamings.{rows-over}
 use Rattle.ac_forms.proofs.Values.{value_at-append}
-use Rattle.ac_cert.specs.Points.{IsPoint}
-use Rattle.ac_cert.proofs.Keeping.{Meets-append}
+use Rattle.ac_choices.specs.Points.{IsPoint}
+use Rattle.ac_choices.proofs.Keeping.{Meets-append}
 use Rattle.ac_sets.specs.Moves.{quotients_from, common, common_pieces}
 use Rattle.ac_sets.specs.MoveLaws.{moved-meets}
 use Rattle.ac_sets.specs.Unions.{ArePieces, IsUnion, AreFixed, IsFixed}

@@ -16,9 +16,9 @@ use Rattle.ac_forms.specs.declared.row.Row.{Row}
 use Rattle.ac_forms.specs.declared.row.Row.TheVariants.{Eq, Div, Ge}
 use Rattle.ac_forms.proofs.Negations.{complement, apart, length-with_column, value-with_column}
 use Rattle.ac_forms.proofs.Values.{value_at-scaled, value_at-shifted}
-use Rattle.ac_cert.specs.Points.{IsPoint}
+use Rattle.ac_choices.specs.Points.{IsPoint}
 use Rattle.ac_cert.specs.Rules.{with_row}
-use Rattle.ac_cert.proofs.Keeping.{Meets-append, Meets-push, made-push}
+use Rattle.ac_choices.proofs.Keeping.{Meets-append, Meets-push, made-push}
 use Rattle.ac_sets.specs.Differences.{further, outside, NegationsFit}
 use Rattle.ac_sets.specs.Unions.{ArePieces, IsFixed, AreFixed}
 use Rattle.ac_sets.proofs.Commons.{Meets-front, Meets-back, Meets-both, Meets-cut, Over-both, Over-more, Pieces-both, Fixed-both}

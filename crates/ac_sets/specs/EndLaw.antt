@@ -13,7 +13,7 @@ use Rattle.ac_forms.specs.declared.row.Row.{Row}
 use Rattle.ac_forms.specs.declared.row.Row.TheVariants.{Eq, Div, Ge}
 use Rattle.ac_forms.proofs.Joining.{lists_same, both_of, either_of}
 use Rattle.ac_forms.proofs.Standings.{among-holds}
-use Rattle.ac_cert.specs.Points.{IsPoint}
+use Rattle.ac_choices.specs.Points.{IsPoint}
 use Rattle.ac_cert.specs.declared.types.Rule.{Rule}
 use Rattle.ac_cert.specs.declared.types.Rule.TheVariants as rule
 use Rattle.ac_sets.specs.Ends.{conj_of, stands, is_standing, part_refusal, ExtendsSome, IsInPart}

@@ -6,7 +6,7 @@ ghost use Rattle.ac_forms.specs.Rows.{IsWellMade, AreRowsOver, IsRowOver, Meets}
 ghost use Rattle.ac_forms.specs.Stops.{MadeWhere};
 ghost use Rattle.ac_cert.specs.Accepted.{Accepts};
 ghost use Rattle.ac_cert.specs.Cover.{IsCovered};
-ghost use Rattle.ac_cert.specs.Points.{IsPoint};
+ghost use Rattle.ac_choices.specs.Points.{IsPoint};
 ghost use Rattle.ac_sets.specs.Differences.{further, outside, NegationsFit};
 ghost use Rattle.ac_sets.specs.Ends.{part_refusal, IsInPart};
 ghost use Rattle.ac_sets.specs.Unions.{ArePieces, AreFixed};

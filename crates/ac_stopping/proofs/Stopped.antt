@@ -7,7 +7,7 @@ use Rattle.ac_poly.specs.Model.{model_of}
 use Rattle.ac_poly.specs.declared.types.Model.{Model}
 use Rattle.ac_cert.specs.Faults.{first_fault_of}
 use Rattle.ac_cert.specs.declared.types.Rule.TheVariants as rule
-use Rattle.ac_cert.proofs.Keeping.{some-is}
+use Rattle.ac_choices.proofs.Keeping.{some-is}
 use Rattle.ac_cert.proofs.Soundness.{first-none}
 use Rattle.ac_forms.specs.Members.{IsAmong}
 use Rattle.ac_claims.specs.PlanFaults.{fault_unless}

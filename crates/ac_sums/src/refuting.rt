@@ -1,7 +1,7 @@
 //! The search for a sum that refutes, and its certificate.
 ghost use Rattle.std.specs.Prelude.{◌≡◌, ℤ, List, length, IfOk, IfSome};
 ghost use Rattle.ac_forms.specs.Rows.{IsWellMade};
-ghost use Rattle.ac_cert.specs.Points.{IsPoint};
+ghost use Rattle.ac_choices.specs.Points.{IsPoint};
 ghost use Rattle.ac_cert.specs.Accepted.{Accepts, absurd_refusals};
 
 use crate::sums::{Solved, Sum, reduced_form};

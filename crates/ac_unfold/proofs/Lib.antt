@@ -1,1 +1,15 @@
+pub mod Adding
+pub mod Assuming
+pub mod Behind
+pub mod Clearing
+pub mod Coming
+pub mod Failing
+pub mod Keeping
+pub mod Matching
 pub mod PathSteps
+pub mod Results
+pub mod Sides
+pub mod Starts
+pub mod Stepping
+pub mod Tracing
+pub mod Unmatched

@@ -1,1 +1,11 @@
+pub mod Begun
+pub mod Broken
+pub mod Cases
+pub mod Courses
+pub mod Cutting
+pub mod Making
 pub mod Paths
+pub mod Plans
+pub mod Searching
+pub mod Standing
+pub mod Wanting

@@ -1,10 +1,19 @@
 //! Questions of an unfolding.
+ghost use Rattle.std.specs.Prelude.{◌≡◌, IfOk, IfSome, Ok, true, false};
+ghost use Rattle.ac_cert.specs.Accepted.{Accepts, absurd_refusals};
+ghost use Rattle.ac_forms.specs.Rows.{IsWellMade};
+ghost use Rattle.ac_paths.specs.declared.path.Path.{Path};
+ghost use Rattle.ac_graft.specs.declared.placing.Placing.{Placing};
+ghost use Rattle.ac_unfold.specs.Wanting.{CanStand, IsWanted};
+ghost use Rattle.ac_unfold.specs.Making.{IsAnswer, IsOpen, IsRefuted, IsStanding};
+ghost use Rattle.ac_unfold.specs.Searching.{IsPointIn, IsUnmet, KeepsTrail};
 
 use crate::node::Node;
 use crate::types::UnfoldStop;
 use crate::witness::continued;
+use ac_cert::{Absurd, Tree};
 use ac_claims::types::Plan;
-use ac_forms::{Conj, Row, stands};
+use ac_forms::{Conj, FormStop, NormalRow, Row, stands};
 use ac_graft::moved_plan;
 use ac_omega::{Decided, Decision, Stop, settle, settle_point};
 use ac_sums::{Reduction, refuting_sum};
@@ -29,18 +38,40 @@ fn unfold_stop(stop: Stop) -> UnfoldStop {
     }
 }
 
+/// The plan that a certificate on a node's question is.
+fn plan_by(alloc: Global, node: &Node, tree: &Tree<Absurd>) -> Result<Plan, AllocError>
+    requires made { IsWellMade node.now.question.conj }
+    requires accepted { Accepts tree.now absurd_refusals node.now.question.conj }
+    ensures { IfOk result (IsRefuted node.now.placing node.now.question) }
+{
+    let plan = moved_plan(alloc, &node.placing, tree)?;
+    Ok(plan)
+}
+
 /// Whether a question has a point, with a plan where it has none.
-fn decided(alloc: Global, node: &Node, budget: u64) -> Result<Answer, UnfoldStop> {
+fn decided(alloc: Global, node: &Node, budget: u64) -> Result<Answer, UnfoldStop>
+    ensures { IfOk result (IsAnswer node.now.placing node.now.question) }
+{
     if !node.question.conj.is_well_made() {
         return Err(UnfoldStop::Memory(AllocError));
     }
     if let Some(tree) = refuting_sum(alloc, &node.question.conj)? {
-        return Ok(Answer::Empty(Some(moved_plan(alloc, &node.placing, &tree)?)));
+        let plan = plan_by(alloc, node, &tree)?;
+        return Ok(Answer::Empty(Some(plan)));
     }
+    settled(alloc, node, budget)
+}
+
+/// The same, of a question whose equalities do not show it.
+fn settled(alloc: Global, node: &Node, budget: u64) -> Result<Answer, UnfoldStop>
+    requires { IsWellMade node.now.question.conj }
+    ensures { IfOk result (IsAnswer node.now.placing node.now.question) }
+{
     match settle(alloc, &node.question.conj, budget) {
         Ok(Decision::Empty(tree)) => {
             let tree = trim(alloc, node.question.conj.rows.len(), tree)?;
-            Ok(Answer::Empty(Some(moved_plan(alloc, &node.placing, &tree)?)))
+            let plan = plan_by(alloc, node, &tree)?;
+            Ok(Answer::Empty(Some(plan)))
         }
         Ok(Decision::Point(point)) => Ok(Answer::Point(point)),
         Err(stop) => Err(unfold_stop(stop)),
@@ -48,7 +79,10 @@ fn decided(alloc: Global, node: &Node, budget: u64) -> Result<Answer, UnfoldStop
 }
 
 /// Whether rows have a point.
-pub(crate) fn found(alloc: Global, conj: &Conj, budget: u64) -> Result<Answer, UnfoldStop> {
+pub(crate) fn found(alloc: Global, conj: &Conj, budget: u64) -> Result<Answer, UnfoldStop>
+    ensures answer { (s : Placing) (q : Path) → IfOk result (IsAnswer s q) }
+    ensures point { IfOk result (IsPointIn conj.now) }
+{
     if !conj.is_well_made() {
         return Err(UnfoldStop::Memory(AllocError));
     }
@@ -65,7 +99,10 @@ pub(crate) fn asked(
     node: &Node,
     budget: u64,
     making: bool,
-) -> Result<Answer, UnfoldStop> {
+) -> Result<Answer, UnfoldStop>
+    ensures answer { IfOk result (IsAnswer node.now.placing node.now.question) }
+    ensures point { making ≡ false → IfOk result (IsPointIn node.now.question.conj) }
+{
     if making {
         decided(alloc, node, budget)
     } else {
@@ -80,14 +117,16 @@ pub(crate) fn seen(
     node: &Node,
     reduction: &Reduction,
     making: bool,
-) -> Result<Option<Answer>, AllocError> {
+) -> Result<Option<Answer>, AllocError>
+    ensures { IfOk result (λ seen. IfSome seen (IsAnswer node.now.placing node.now.question)) }
+{
     let question = &node.question.conj;
     if !question.is_well_made() {
         return Ok(None);
     }
     match reduction.refuting_sum(alloc, question)? {
         Some(tree) if making => {
-            let plan = moved_plan(alloc, &node.placing, &tree)?;
+            let plan = plan_by(alloc, node, &tree)?;
             Ok(Some(Answer::Empty(Some(plan))))
         }
         Some(_) => Ok(Some(Answer::Empty(None))),
@@ -96,7 +135,9 @@ pub(crate) fn seen(
 }
 
 /// The answer to a question without which the search can go on; none where it is wide or spent.
-pub(crate) fn freely(answer: Result<Answer, UnfoldStop>) -> Result<Option<Answer>, UnfoldStop> {
+pub(crate) fn freely(answer: Result<Answer, UnfoldStop>) -> Result<Option<Answer>, UnfoldStop>
+    ensures { IfOk result (λ free. IfSome free (λ seen. answer ≡ Ok seen)) }
+{
     match answer {
         Ok(answer) => Ok(Some(answer)),
         Err(UnfoldStop::Memory(want)) => Err(UnfoldStop::Memory(want)),
@@ -119,7 +160,10 @@ pub(crate) fn open_question(
     node: Node,
     budget: u64,
     making: bool,
-) -> Result<Opened, UnfoldStop> {
+) -> Result<Opened, UnfoldStop>
+    ensures open { IfOk result (IsOpen node.placing node.question) }
+    ensures trail { IfOk result (KeepsTrail node) }
+{
     if let Some(point) = continued(alloc, &node.question.conj, node.known.as_slice())? {
         return Ok(Opened::On(node.knowing(point)));
     }
@@ -130,11 +174,49 @@ pub(crate) fn open_question(
     }
 }
 
-/// Whether a row stands among the rows of a question.
+/// Whether a row over a question's columns stands among its rows.
 #[tactic(auto, using(ac_paths::proofs::Moduli::conj_moduli))]
-pub(crate) fn stands_in(alloc: Global, conj: &Conj, row: &Row) -> Result<bool, AllocError> {
-    if !conj.is_well_made() || !row.has_modulus() {
+pub(crate) fn stands_in(alloc: Global, conj: &Conj, row: &Row) -> Result<bool, AllocError>
+    ensures { IfOk result (λ standing. standing ≡ true → IsStanding conj.now row.now) }
+{
+    if !conj.is_well_made() || !row.is_over(conj.columns) {
         return Ok(false);
     }
     stands(alloc, conj.rows.as_slice(), row)
+}
+
+/// What a row is that does not stand yet.
+pub(crate) enum Wanted {
+    /// It stands where it is added.
+    Standing,
+    /// No point meets it.
+    Absurd,
+    /// It is not over these columns, or it has no normal form in `i128`.
+    Wide,
+}
+
+/// What a row is that does not stand yet among rows over so many columns.
+pub(crate) fn kind_of(alloc: Global, row: &Row, columns: usize) -> Result<Wanted, AllocError>
+    ensures wanted { IfOk result (IsWanted columns row.now) }
+    ensures unmet { IfOk result (IsUnmet columns row.now) }
+{
+    if !row.is_over(columns) {
+        return Ok(Wanted::Wide);
+    }
+    match row.normalise(alloc) {
+        Ok(NormalRow::Absurd) => Ok(Wanted::Absurd),
+        Ok(_) => Ok(Wanted::Standing),
+        Err(FormStop::Wide) => Ok(Wanted::Wide),
+        Err(FormStop::Memory(want)) => Err(want),
+    }
+}
+
+/// Whether a row over so many columns stands where it is added.
+pub(crate) fn can_stand(alloc: Global, row: &Row, columns: usize) -> Result<bool, AllocError>
+    ensures { IfOk result (λ can. can ≡ true → CanStand columns row.now) }
+{
+    match kind_of(alloc, row, columns)? {
+        Wanted::Standing => Ok(true),
+        Wanted::Absurd | Wanted::Wide => Ok(false),
+    }
 }

@@ -1,5 +1,15 @@
 //! The end of a path at the claim of its pair.
+ghost use Rattle.std.specs.Prelude.{◌≡◌, ◌&&◌, IfOk, IfSome, None, OnOk, true};
+ghost use Rattle.ac_forms.specs.Members.{IsAmong};
+ghost use Rattle.ac_claims.specs.Ending.{same_position};
+ghost use Rattle.ac_claims.specs.declared.types.Claim.{Claim as Asked};
+ghost use Rattle.ac_leading.specs.Leading.{seats_of};
+ghost use Rattle.ac_unfold.specs.Broken.{HasNoClaim};
+ghost use Rattle.ac_unfold.specs.Searching.{AddsBroken, IsAt};
+ghost use Rattle.ac_unfold.specs.Making.{IsMade};
+ghost use Rattle.ac_unfold.specs.Cutting.{IsClaimBehind, IsNumbered};
 
+use crate::casing::same_position;
 use crate::ends::{Search, stand};
 use crate::finding::Finds;
 use crate::node::Node;
@@ -10,12 +20,23 @@ use ac_forms::column_after;
 use ac_paths::columns::columns_of_both;
 use ac_paths::path::Path;
 use ac_syntax::tree::Position;
-use std::alloc::Global;
+use std::alloc::{AllocError, Global};
+
+/// Whether a claim is of a pair.
+fn is_of(claim: &Claim, left: &Position, right: &Position) -> bool
+    ensures { result ≡ (same_position left.now claim.now.left && same_position right.now claim.now.right) }
+{
+    same_position(left, &claim.left) && same_position(right, &claim.right)
+}
 
 /// The number of the claim of a pair, if there is one.
-fn claim_at(claims: &[Claim], left: &Position, right: &Position) -> Option<usize> {
-    for (number, claim) in claims.iter().enumerate() {
-        if claim.left == *left && claim.right == *right {
+fn claim_at(claims: &[Claim], left: &Position, right: &Position) -> Option<usize>
+    ensures number { IfSome result (IsNumbered claims.now left.now right.now) }
+    ensures none { result ≡ None → (c : Asked) → IsAmong c claims.now → left.now ≡ c.left → ¬ (right.now ≡ c.right) }
+{
+    for number in 0..claims.len() {
+        let claim = &claims[number];
+        if is_of(claim, left, right) {
             return Some(number);
         }
     }
@@ -23,15 +44,14 @@ fn claim_at(claims: &[Claim], left: &Position, right: &Position) -> Option<usize
 }
 
 /// The claim at which a path ends.
-pub(crate) fn claim_of<'a>(search: &Search<'a>, path: &Path) -> Option<(usize, &'a Claim)> {
+pub(crate) fn claim_of(search: &Search<'_>, path: &Path) -> Option<usize>
+    ensures number { IfSome result (IsClaimBehind search.now path.now) }
+    ensures none { result ≡ None → path.now.gone ≡ true → HasNoClaim search.now.claims.now (seats_of path.now) }
+{
     if !path.gone {
         return None;
     }
-    let number = claim_at(search.claims, &path.left.position, &path.right.position)?;
-    match search.claims.get(number) {
-        Some(claim) => Some((number, claim)),
-        None => None,
-    }
+    claim_at(search.claims, &path.left.position, &path.right.position)
 }
 
 /// A pair of a claim, behind at least one step: the rows of the claim have to stand.
@@ -40,10 +60,16 @@ pub(crate) fn at_claim(
     search: &Search<'_>,
     node: Node,
     number: usize,
-    claim: &Claim,
     finds: &mut Finds,
-) -> Result<Option<Plan>, UnfoldStop> {
-    let params = search.params;
+) -> Result<Option<Plan>, UnfoldStop>
+    requires { IsClaimBehind search.now node.question number }
+    ensures made { IfOk result (λ made. IfSome made (IsMade search.now node.placing node.question)) }
+    ensures broken { OnOk result (AddsBroken search.now (IsAt search.now node.trail node.question) finds.old finds.new) }
+{
+    let Some(claim) = search.claims.get(number) else {
+        return Err(UnfoldStop::Memory(AllocError));
+    };
+    let params = search.params();
     let columns = columns_of_both(alloc, params, &node.question.left, &node.question.right)?;
     let rows = over_columns(alloc, &node, claim.rows.as_slice(), columns.as_slice())?;
     let hit = PlanNext::Hit(column_after(search.base, number)?);

@@ -1,4 +1,9 @@
 //! A plan under way: the node that it has come to, and the branches on rows behind which it stands.
+ghost use Rattle.std.specs.Prelude.{◌≡◌, ◌++◌, ◌∷◌, [], IfOk};
+ghost use Rattle.ac_paths.specs.Going.{at_rows};
+ghost use Rattle.ac_graft.specs.Placings.{advanced};
+ghost use Rattle.ac_graft.specs.Sides.{on_side, side_of, BranchServesAnywhere};
+ghost use Rattle.ac_unfold.specs.Courses.{IsBehind, IsOpened};
 
 use crate::node::Node;
 use ac_claims::types::Plan;
@@ -18,33 +23,42 @@ struct Open {
 #[derive(Drop)]
 pub(crate) struct Course {
     pub node: Node,
-    open: Vec<Open>,
+    branches: Vec<Open>,
 }
 
 impl Course {
     /// At a node, behind no branch.
-    pub(crate) fn new(alloc: Global, node: Node) -> Course {
+    pub(crate) fn new(alloc: Global, node: Node) -> Course
+        ensures node { result.node ≡ node }
+        ensures branches { result.branches.items ≡ [] }
+    {
         Course {
             node,
-            open: Vec::new(alloc),
+            branches: Vec::new(alloc),
         }
     }
 
     /// Behind a branch on a row too, of whose negation these are the plans; the node is what is given.
     fn opened(
         self,
-        placing: Placing,
-        row: Row,
+        alloc: Global,
+        row: &Row,
         outside: Vec<Plan>,
         node: Node,
-    ) -> Result<Course, AllocError> {
-        let Course { node: _, mut open } = self;
-        open.push(Open {
-            placing,
-            row,
+    ) -> Result<Course, AllocError>
+        ensures node { IfOk result (λ course. course.node ≡ node) }
+        ensures opened { IfOk result (IsOpened self row.now outside.items) }
+    {
+        let Course {
+            node: before,
+            mut branches,
+        } = self;
+        branches.push(Open {
+            placing: before.placing,
+            row: row.copy(alloc)?,
             outside,
         })?;
-        Ok(Course { node, open })
+        Ok(Course { node, branches })
     }
 
     /// Behind a branch on a row, which the question has from then on.
@@ -54,10 +68,13 @@ impl Course {
         row: &Row,
         inside: &Part,
         outside: Vec<Plan>,
-    ) -> Result<Course, AllocError> {
-        let placing = self.node.placing.copy(alloc)?;
+    ) -> Result<Course, AllocError>
+        ensures question { IfOk result (λ course. course.node.question ≡ at_rows self.node.question (side_of self.node.question.conj inside.now)) }
+        ensures placing { IfOk result (λ course. course.node.placing ≡ on_side self.node.placing inside.now) }
+        ensures opened { IfOk result (IsOpened self row.now outside.items) }
+    {
         let node = self.node.within(alloc, inside)?;
-        self.opened(placing, row.copy(alloc)?, outside, node)
+        self.opened(alloc, row, outside, node)
     }
 
     /// Behind a branch on a row, which stands on the path; the question stays.
@@ -67,19 +84,30 @@ impl Course {
         row: &Row,
         inside: &Part,
         outside: Vec<Plan>,
-    ) -> Result<Course, AllocError> {
-        let placing = self.node.placing.copy(alloc)?;
+    ) -> Result<Course, AllocError>
+        ensures question { IfOk result (λ course. course.node.question ≡ self.node.question) }
+        ensures placing { IfOk result (λ course. course.node.placing ≡ advanced self.node.placing inside.now.path_columns inside.now.path_rows) }
+        ensures trail { IfOk result (λ course. course.node.trail ≡ self.node.trail) }
+        ensures opened { IfOk result (IsOpened self row.now outside.items) }
+    {
         let node = self.node.beyond(alloc, inside)?;
-        self.opened(placing, row.copy(alloc)?, outside, node)
+        self.opened(alloc, row, outside, node)
     }
 
     /// The plan that ends as said, behind all branches.
-    pub(crate) fn closed(self, alloc: Global, end: Plan) -> Result<Plan, AllocError> {
-        let Course { node: _, mut open } = self;
+    pub(crate) fn closed(self, alloc: Global, end: Plan) -> Result<Plan, AllocError>
+        ensures { IfOk result (IsBehind self.branches.items end) }
+    {
+        let Course {
+            node: _,
+            mut branches,
+        } = self;
+        let count = branches.len();
         let mut plan = end;
-        for _ in 0..open.len() {
-            if let Some(last) = open.pop() {
-                plan = behind(alloc, last, plan)?;
+        for _number in 0..count {
+            match branches.pop() {
+                Some(last) => plan = behind(alloc, last, plan)?,
+                None => return Err(AllocError),
             }
         }
         Ok(plan)
@@ -87,11 +115,13 @@ impl Course {
 }
 
 /// The plan of a branch whose inside is a plan.
-fn behind(alloc: Global, open: Open, inside: Plan) -> Result<Plan, AllocError> {
+fn behind(alloc: Global, branch: Open, inside: Plan) -> Result<Plan, AllocError>
+    ensures { IfOk result (BranchServesAnywhere branch.placing branch.row inside branch.outside.items) }
+{
     let Open {
         placing,
         row,
         outside,
-    } = open;
+    } = branch;
     branch_plan(alloc, &placing, &row, inside, outside)
 }

@@ -1,12 +1,21 @@
 //! The ends of paths: a mismatch, and rows that have to stand.
+ghost use Rattle.std.specs.Prelude.{◌≡◌, ◌∷◌, [], ℤ, List, IfOk, IfSome, OnOk, Some, false, true};
+ghost use Rattle.ac_forms.specs.Rows.{Holds, IsRowOver};
+ghost use Rattle.ac_graft.specs.Sides.{sides_of, CanBranch};
+ghost use Rattle.ac_unfold.specs.Courses.{IsBehind};
+ghost use Rattle.ac_ends.specs.Ends.{IsEnd};
+ghost use Rattle.ac_unfold.specs.Making.{judge_of, EndsWhere, IsMade, IsRefuted};
+ghost use Rattle.ac_unfold.specs.Searching.{Adds, IsPathAt, IsPathBeside, IsPathBreaking, KeepsNode};
+ghost use Rattle.ac_unfold.specs.Standing.{AreStood, IsClosed, IsEndedPlan, IsStood};
+ghost use Rattle.ac_unfold.specs.Wanting.{CanStand};
 
-use crate::asking::{Answer, asked, seen, stands_in};
+use crate::asking::{Answer, Wanted, asked, kind_of, seen, stands_in};
 use crate::course::Course;
 use crate::finding::Finds;
 use crate::node::Node;
 use crate::types::{Setting, UnfoldStop};
 use ac_claims::types::{Claim, Plan, PlanNext};
-use ac_forms::{FormStop, NormalRow, Row};
+use ac_forms::Row;
 use ac_graft::{Part, parts_of, plan_of};
 use ac_items::Items;
 use ac_sums::Reduction;
@@ -18,12 +27,21 @@ use std::alloc::{AllocError, Global};
 #[derive(Clone, Copy)]
 pub(crate) struct Search<'a> {
     pub setting: &'a Setting<'a>,
-    pub params: usize,
     pub budget: u64,
     pub claims: &'a [Claim],
     pub base: usize,
     pub order: &'a [(Site, Order)],
     pub making: bool,
+}
+
+impl Search<'_> {
+    /// The number of parameters.
+    pub(crate) fn params(&self) -> usize
+        ensures { result ≡ (judge_of self.now).params }
+    {
+        let programs = &self.setting.programs;
+        programs.left.params
+    }
 }
 
 /// The question of a node, handed back as one that is too wide.
@@ -40,11 +58,14 @@ pub(crate) fn refuted(
     search: &Search<'_>,
     node: &Node,
     finds: &mut Finds,
-) -> Result<Option<Plan>, UnfoldStop> {
+) -> Result<Option<Plan>, UnfoldStop>
+    ensures made { IfOk result (λ made. IfSome made (IsRefuted node.now.placing node.now.question)) }
+    ensures found { search.now.making ≡ false → OnOk result (Adds (IsPathAt (judge_of search.now).params node.now.trail node.now.question.conj) finds.old finds.new) }
+{
     match asked(alloc, node, search.budget, search.making)? {
         Answer::Empty(plan) => Ok(plan),
         Answer::Point(point) => {
-            finds.push(alloc, search.params, node, &point)?;
+            finds.push(alloc, search.params(), node, &point)?;
             Ok(None)
         }
     }
@@ -57,7 +78,10 @@ fn refuted_part(
     beside: &Node,
     reduction: &Reduction,
     finds: &mut Finds,
-) -> Result<Option<Plan>, UnfoldStop> {
+) -> Result<Option<Plan>, UnfoldStop>
+    ensures made { IfOk result (λ made. IfSome made (IsRefuted beside.now.placing beside.now.question)) }
+    ensures found { search.now.making ≡ false → OnOk result (Adds (IsPathAt (judge_of search.now).params beside.now.trail beside.now.question.conj) finds.old finds.new) }
+{
     match seen(alloc, beside, reduction, search.making)? {
         Some(Answer::Empty(plan)) => Ok(plan),
         Some(Answer::Point(_)) | None => refuted(alloc, search, beside, finds),
@@ -81,31 +105,28 @@ fn refute_parts(
     outside: &[Part],
     reduction: &Reduction,
     finds: &mut Finds,
-) -> Result<Closed, UnfoldStop> {
+) -> Result<Closed, UnfoldStop>
+    ensures closed { IfOk result (IsClosed search.now node.now outside.now) }
+    ensures found { search.now.making ≡ false → OnOk result (Adds (IsPathBeside (judge_of search.now).params node.now.trail node.now.question.conj outside.now) finds.old finds.new) }
+{
     let mut plans = Vec::new(alloc);
     for part in outside {
         let before = finds.len();
         let beside = node.within(alloc, part)?;
-        if let Some(plan) = refuted_part(alloc, search, &beside, reduction, finds)? {
-            plans.push(plan).map_err(AllocError::from)?;
-        }
-        if finds.len() > before {
-            return Ok(Closed::Broken);
+        match refuted_part(alloc, search, &beside, reduction, finds)? {
+            Some(plan) => {
+                plans.push(plan)?;
+                continue;
+            }
+            None => {
+                if search.making || finds.len() > before {
+                    return Ok(Closed::Broken);
+                }
+                continue;
+            }
         }
     }
     Ok(Closed::Refuted(plans))
-}
-
-/// Whether no point meets a row.
-fn is_absurd(alloc: Global, row: &Row) -> Result<bool, AllocError> {
-    if !row.has_modulus() {
-        return Ok(false);
-    }
-    match row.normalise(alloc) {
-        Ok(NormalRow::Absurd) => Ok(true),
-        Ok(_) | Err(FormStop::Wide) => Ok(false),
-        Err(FormStop::Memory(want)) => Err(want),
-    }
 }
 
 /// What comes of a row that has to stand.
@@ -118,9 +139,14 @@ enum Stood {
 }
 
 /// The plan that ends as said, where there is an end.
-fn ended(alloc: Global, course: Course, end: Option<Plan>) -> Result<Option<Plan>, UnfoldStop> {
+fn ended(alloc: Global, course: Course, end: Option<Plan>) -> Result<Option<Plan>, UnfoldStop>
+    ensures { IfOk result (λ made. IfSome made (λ t. IsEndedPlan course end t)) }
+{
     match end {
-        Some(end) => Ok(Some(course.closed(alloc, end)?)),
+        Some(end) => {
+            let plan = course.closed(alloc, end)?;
+            Ok(Some(plan))
+        }
         None => Ok(None),
     }
 }
@@ -130,10 +156,17 @@ fn stand_absurd(
     alloc: Global,
     search: &Search<'_>,
     course: Course,
+    row: &Row,
     finds: &mut Finds,
-) -> Result<Stood, UnfoldStop> {
+) -> Result<Stood, UnfoldStop>
+    requires { IsRowOver course.node.question.conj.columns row.now × ((p : List ℤ) → ¬ (Holds row.now p)) }
+    ensures stood { IfOk result (IsStood search.now course row.now) }
+    ensures kept { IfOk result (KeepsNode course) }
+    ensures found { search.now.making ≡ false → OnOk result (Adds (IsPathBreaking (judge_of search.now).params course.node.trail course.node.question.conj (row.now ∷ [])) finds.old finds.new) }
+{
     let end = refuted(alloc, search, &course.node, finds)?;
-    Ok(Stood::Ended(ended(alloc, course, end)?))
+    let made = ended(alloc, course, end)?;
+    Ok(Stood::Ended(made))
 }
 
 /// A row that is not there has to stand: no part of its negation has a point.
@@ -144,21 +177,28 @@ fn stand_branched(
     row: &Row,
     reduction: &Reduction,
     finds: &mut Finds,
-) -> Result<Stood, UnfoldStop> {
+) -> Result<Stood, UnfoldStop>
+    requires { CanStand course.node.question.conj.columns row.now }
+    ensures stood { IfOk result (IsStood search.now course row.now) }
+    ensures kept { IfOk result (KeepsNode course) }
+    ensures found { search.now.making ≡ false → OnOk result (Adds (IsPathBreaking (judge_of search.now).params course.node.trail course.node.question.conj (row.now ∷ [])) finds.old finds.new) }
+{
     let Some(parts) = parts_of(alloc, row, course.node.question.conj.columns)? else {
         return Err(too_wide(alloc, &course.node));
     };
-    match refute_parts(
+    let closed = refute_parts(
         alloc,
         search,
         &course.node,
         parts.outside.as_slice(),
         reduction,
         finds,
-    )? {
+    )?;
+    match closed {
         Closed::Broken => Ok(Stood::Ended(None)),
         Closed::Refuted(outside) => {
-            Ok(Stood::On(course.beyond(alloc, row, &parts.inside, outside)?))
+            let next = course.beyond(alloc, row, &parts.inside, outside)?;
+            Ok(Stood::On(next))
         }
     }
 }
@@ -171,23 +211,60 @@ fn stand_row(
     row: &Row,
     reduction: &Reduction,
     finds: &mut Finds,
-) -> Result<Stood, UnfoldStop> {
-    if stands_in(alloc, &course.node.question.conj, row)? {
+) -> Result<Stood, UnfoldStop>
+    ensures stood { IfOk result (IsStood search.now course row.now) }
+    ensures kept { IfOk result (KeepsNode course) }
+    ensures found { search.now.making ≡ false → OnOk result (Adds (IsPathBreaking (judge_of search.now).params course.node.trail course.node.question.conj (row.now ∷ [])) finds.old finds.new) }
+{
+    let standing = stands_in(alloc, &course.node.question.conj, row)?;
+    if standing {
         return Ok(Stood::On(course));
     }
-    if is_absurd(alloc, row)? {
-        return stand_absurd(alloc, search, course, finds);
+    let kind = kind_of(alloc, row, course.node.question.conj.columns)?;
+    match kind {
+        Wanted::Standing => stand_branched(alloc, search, course, row, reduction, finds),
+        Wanted::Absurd => stand_absurd(alloc, search, course, row, finds),
+        Wanted::Wide => Err(too_wide(alloc, &course.node)),
     }
-    stand_branched(alloc, search, course, row, reduction, finds)
 }
 
 /// The end of a plan, where plans are made.
-fn end_of(alloc: Global, search: &Search<'_>, end: PlanNext) -> Option<Plan> {
+fn end_of(alloc: Global, search: &Search<'_>, end: PlanNext) -> Option<Plan>
+    ensures { IfSome result (IsEnd end) }
+{
     if search.making {
         Some(plan_of(alloc, end))
     } else {
         None
     }
+}
+
+/// Rows have to stand at a node: each that is not there is branched on, and no part of its negation has a point. The course to
+/// where they stand, or its end.
+fn stand_rows(
+    alloc: Global,
+    search: &Search<'_>,
+    node: Node,
+    rows: &[Row],
+    finds: &mut Finds,
+) -> Result<Stood, UnfoldStop>
+    ensures stood { IfOk result (AreStood search.now node rows.now) }
+    ensures found { search.now.making ≡ false → OnOk result (Adds (IsPathBreaking (judge_of search.now).params node.trail node.question.conj rows.now) finds.old finds.new) }
+{
+    finds.count(alloc)?;
+    let reduction = Reduction::of(alloc, &node.question.conj)?;
+    let mut course = Course::new(alloc, node);
+    for row in rows {
+        let stood = stand_row(alloc, search, course, row, &reduction, finds)?;
+        match stood {
+            Stood::On(next) => {
+                course = next;
+                continue;
+            }
+            Stood::Ended(plan) => return Ok(Stood::Ended(plan)),
+        }
+    }
+    Ok(Stood::On(course))
 }
 
 /// Rows have to stand at a node: each that is not there is branched on, and no part of its negation has a point. The plan,
@@ -199,17 +276,19 @@ pub(crate) fn stand(
     rows: &[Row],
     end: PlanNext,
     finds: &mut Finds,
-) -> Result<Option<Plan>, UnfoldStop> {
-    finds.count(alloc)?;
-    let reduction = Reduction::of(alloc, &node.question.conj)?;
-    let mut course = Course::new(alloc, node);
-    for row in rows {
-        match stand_row(alloc, search, course, row, &reduction, finds)? {
-            Stood::On(next) => course = next,
-            Stood::Ended(plan) => return Ok(plan),
+) -> Result<Option<Plan>, UnfoldStop>
+    requires { EndsWhere search.now node.question rows.now end }
+    ensures made { IfOk result (λ made. IfSome made (IsMade search.now node.placing node.question)) }
+    ensures found { search.now.making ≡ false → OnOk result (Adds (IsPathBreaking (judge_of search.now).params node.trail node.question.conj rows.now) finds.old finds.new) }
+{
+    let stood = stand_rows(alloc, search, node, rows, finds)?;
+    match stood {
+        Stood::On(course) => {
+            let last = end_of(alloc, search, end);
+            ended(alloc, course, last)
         }
+        Stood::Ended(plan) => Ok(plan),
     }
-    ended(alloc, course, end_of(alloc, search, end))
 }
 
 /// A pair that does not match: its path must have no point.
@@ -218,17 +297,22 @@ pub(crate) fn mismatch(
     search: &Search<'_>,
     node: &Node,
     finds: &mut Finds,
-) -> Result<Option<Plan>, UnfoldStop> {
+) -> Result<Option<Plan>, UnfoldStop>
+    ensures made { IfOk result (λ made. IfSome made (IsRefuted node.now.placing node.now.question)) }
+    ensures found { search.now.making ≡ false → OnOk result (Adds (IsPathAt (judge_of search.now).params node.now.trail node.now.question.conj) finds.old finds.new) }
+{
     finds.count(alloc)?;
     refuted(alloc, search, node, finds)
 }
 
-/// A list of one row.
+/// Rows that were made.
 pub(crate) fn rows_or(
     rows: Option<Items<Row>>,
     alloc: Global,
     node: &Node,
-) -> Result<Items<Row>, UnfoldStop> {
+) -> Result<Items<Row>, UnfoldStop>
+    ensures { IfOk result (λ made. rows ≡ Some made) }
+{
     match rows {
         Some(rows) => Ok(rows),
         None => Err(too_wide(alloc, node)),

@@ -1,10 +1,14 @@
 //! Broken paths: the pairs that lead from a start to where it fails.
-ghost use Rattle.std.specs.Prelude.{◌≡◌, IfOk, OnOk};
-ghost use Rattle.std.specs.List.{AllByRecursion};
+ghost use Rattle.std.specs.Prelude.{◌≡◌, ◌++◌, ◌∷◌, [], IfOk, OnOk, length, pos, slice_index_or};
+ghost use Rattle.std.specs.List.{AllByRecursion, range_with_len};
+ghost use Rattle.ac_forms.specs.Renaming.{picked};
+ghost use Rattle.ac_leading.specs.Ends.{entries_at};
+ghost use Rattle.ac_leading.specs.Leading.{point_of};
 ghost use Rattle.ac_unfold.specs.Paths.{IsPath, reason_at};
 
 use crate::node::Node;
 use crate::types::UnfoldStop;
+use ac_forms::column_after;
 use ac_items::Items;
 use ac_paths::path::Seat;
 use ac_widen::{Entry, Reason};
@@ -34,26 +38,42 @@ impl Model for Finds {
     ghost invariant = { λ finds. AllByRecursion IsPath finds.paths };
 }
 
+/// The number of a point in a column, 0 where it has none.
+fn number_in(point: &[i128], column: usize) -> i128
+    ensures { result ≡ slice_index_or point.now column (pos 0) }
+{
+    match point.get(column) {
+        Some(number) => *number,
+        None => 0,
+    }
+}
+
 /// The numbers of a point in so many columns from one on.
+#[tactic(auto, using(crate::proofs::Tracing::trace_steps))]
 fn push_numbers(
     numbers: &mut Items<i128>,
     point: &[i128],
     first: usize,
     count: usize,
-) -> Result<(), AllocError> {
-    for number in point.iter().skip(first).take(count) {
-        numbers.push(*number)?;
+) -> Result<(), AllocError>
+    ensures { OnOk result (numbers.new ≡ numbers.old ++ picked (range_with_len first count) point.now) }
+{
+    for k in 0..count {
+        numbers.push(number_in(point, column_after(first, k)?))?;
     }
     Ok(())
 }
 
 /// The point of a pair: the parameters, the coordinates of the left position and those of the right one.
+#[tactic(auto, using(crate::proofs::Tracing::trace_steps))]
 fn pair_point(
     alloc: Global,
     params: usize,
     pair: &(Seat, Seat),
     point: &[i128],
-) -> Result<Items<i128>, AllocError> {
+) -> Result<Items<i128>, AllocError>
+    ensures { IfOk result (λ numbers. numbers ≡ point_of params point.now pair.now) }
+{
     let mut numbers = Items::new(alloc);
     push_numbers(&mut numbers, point, 0, params)?;
     push_numbers(&mut numbers, point, pair.0.first, pair.0.width)?;
@@ -72,14 +92,15 @@ fn reason_of(number: usize) -> Reason
 }
 
 /// The pairs of a path at a point of its question.
-#[tactic(auto, using(crate::proofs::PathSteps::path_steps))]
+#[tactic(auto, using(crate::proofs::PathSteps::path_steps, crate::proofs::Tracing::trace_steps))]
 fn entries(
     alloc: Global,
     params: usize,
     trail: &[(Seat, Seat)],
     point: &[i128],
 ) -> Result<Items<Entry>, AllocError>
-    ensures { IfOk result IsPath }
+    ensures path { IfOk result IsPath }
+    ensures exact { IfOk result (λ made. made ≡ entries_at params point.now trail.now) }
 {
     let mut made = Items::new(alloc);
     for pair in trail {
@@ -96,7 +117,9 @@ fn entries(
 
 impl Finds {
     /// Nothing is found.
-    pub(crate) fn new(alloc: Global) -> Finds {
+    pub(crate) fn new(alloc: Global) -> Finds
+        ensures { result ≡ [] }
+    {
         Finds {
             paths: Items::new(alloc),
             ends: 0,
@@ -125,13 +148,17 @@ impl Finds {
         params: usize,
         node: &Node,
         point: &[i128],
-    ) -> Result<(), AllocError> {
+    ) -> Result<(), AllocError>
+        ensures { OnOk result (self.new ≡ self.old ++ entries_at params point.now node.now.trail ∷ []) }
+    {
         self.paths
             .push(entries(alloc, params, node.trail.as_slice(), point)?)
     }
 
     /// One end more is reached.
-    pub(crate) fn count(&mut self, alloc: Global) -> Result<(), UnfoldStop> {
+    pub(crate) fn count(&mut self, alloc: Global) -> Result<(), UnfoldStop>
+        ensures { OnOk result (self.new ≡ self.old) }
+    {
         if self.ends >= MOST_ENDS {
             return Err(self.stop(alloc));
         }

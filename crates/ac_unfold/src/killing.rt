@@ -1,8 +1,15 @@
 //! The end at a killed place, with the choices of its copy behind the columns of the path.
+ghost use Rattle.std.specs.Prelude.{◌≡◌, IfOk, Some, map};
+ghost use Rattle.ac_claims.specs.declared.types.PlanNext.TheVariants.{Killed};
+ghost use Rattle.ac_paths.specs.Killing.{case_width};
+ghost use Rattle.ac_paths.specs.declared.path.Assumed.{Assumed};
+ghost use Rattle.ac_flow_laws.specs.Accepting.{behind, on_path};
+ghost use Rattle.ac_ends.specs.Ends.{IsEnd};
+ghost use Rattle.ac_unfold.specs.Making.{judge_of};
 
 use crate::ends::Search;
 use crate::node::Node;
-use ac_cert::Choice;
+use ac_choices::Choice;
 use ac_claims::types::{Kill, Plan, PlanNext};
 use ac_forms::column_after;
 use ac_graft::plan_of;
@@ -12,7 +19,9 @@ use ac_paths::path::Assumed;
 use std::alloc::{AllocError, Global};
 
 /// A choice whose column stands behind those of a path in place of those of a case.
-fn moved_choice(choice: &Choice, own: usize, path: usize) -> Result<Choice, AllocError> {
+fn moved_choice(choice: &Choice, own: usize, path: usize) -> Result<Choice, AllocError>
+    ensures { IfOk result (λ moved. moved ≡ behind own path choice.now) }
+{
     let column = column_after(path, choice.column().saturating_sub(own))?;
     match choice {
         Choice::Drop(_) => Ok(Choice::Drop(column)),
@@ -29,7 +38,9 @@ fn moved_choices(
     choices: &[Choice],
     own: usize,
     path: usize,
-) -> Result<Items<Choice>, AllocError> {
+) -> Result<Items<Choice>, AllocError>
+    ensures { IfOk result (λ moved. moved ≡ map (behind own path) choices.now) }
+{
     let mut moved = Items::new(alloc);
     for choice in choices {
         moved.push(moved_choice(choice, own, path)?)?;
@@ -38,9 +49,11 @@ fn moved_choices(
 }
 
 /// How many columns the case has that was assumed last.
-fn own_columns(search: &Search<'_>, last: &Option<Assumed>) -> Result<usize, AllocError> {
+fn own_columns(search: &Search<'_>, last: &Option<Assumed>) -> Result<usize, AllocError>
+    ensures { IfOk result (λ own. (a : Assumed) → last.now ≡ Some a → own ≡ case_width (judge_of search.now).params a) }
+{
     match last {
-        Some(assumed) => case_width(search.params, assumed),
+        Some(assumed) => case_width(search.params(), assumed),
         None => Err(AllocError),
     }
 }
@@ -51,7 +64,9 @@ pub(crate) fn killed(
     search: &Search<'_>,
     node: &Node,
     kill: &Kill,
-) -> Result<Plan, AllocError> {
+) -> Result<Plan, AllocError>
+    ensures { IfOk result (λ t. (a : Assumed) → node.now.question.last ≡ Some a → IsEnd (Killed (on_path (case_width (judge_of search.now).params a) node.now.placing.next_column kill.now)) t) }
+{
     let own = own_columns(search, &node.question.last)?;
     let path = node.placing.next_column;
     let end = PlanNext::Killed(Kill {

@@ -1,17 +1,28 @@
 //! What a pair of positions asks for, by what stands at both.
+ghost use Rattle.std.specs.Prelude.{◌≡◌, IfOk, IfSome, None, Some, false, length, slice_get};
+ghost use Rattle.ac_poly.specs.Model.{is_input};
+ghost use Rattle.ac_paths.specs.Calls.{pairing};
+ghost use Rattle.ac_paths.specs.Going.{same_symbol, seat_of};
+ghost use Rattle.ac_forms.specs.Members.{IsAmong};
+ghost use Rattle.ac_paths.specs.Places.{CallAt, call_at, initial_cell, number_at};
+ghost use Rattle.ac_stopping.specs.Parts.{order_of};
+ghost use Rattle.ac_unfold.specs.Cutting.{flow_on, IsNext};
+ghost use Rattle.ac_unfold.specs.Making.{judge_of};
+ghost use Rattle.ac_unfold.specs.Searching.{IsKindThere, IsLeaf, IsNoNumber};
 
+use crate::casing::same_position;
 use crate::ends::{Search, rows_or};
 use crate::node::Node;
 use crate::types::{Setting, UnfoldStop};
 use ac_claims::types::PlanNext;
 use ac_flow::types::{Flow, ReadFlow};
-use ac_forms::Row;
+use ac_forms::{Form, Row};
 use ac_items::Items;
 use ac_paths::columns::{equal_at, equal_form_at};
 use ac_paths::path::{Path, Programs, Side};
-use ac_paths::places::{call_at, cell_read, initial_cell, number_at};
+use ac_paths::places::{CellForms, call_at, cell_read, initial_cell, number_at};
 use ac_poly::types::Model;
-use ac_syntax::tree::{Kind, Order, Position, Site};
+use ac_syntax::tree::{Kind, Order, Position, Site, Symbol};
 use std::alloc::Global;
 
 /// What a pair of positions asks for.
@@ -28,9 +39,11 @@ pub(crate) enum Next {
 }
 
 /// The order of a pair of calls.
-fn order_at(order: &[(Site, Order)], left: &Position, right: &Position) -> Order {
+fn order_at(order: &[(Site, Order)], left: &Position, right: &Position) -> Order
+    ensures { result ≡ order_of order.now (left.now, right.now) }
+{
     for choice in order {
-        if choice.0.left == *left && choice.0.right == *right {
+        if same_position(&choice.0.left, left) && same_position(&choice.0.right, right) {
             return choice.1;
         }
     }
@@ -38,9 +51,12 @@ fn order_at(order: &[(Site, Order)], left: &Position, right: &Position) -> Order
 }
 
 /// The flow of a read or an output.
-fn flow_at<'a>(flow: &'a Flow, position: &Position) -> Option<&'a ReadFlow> {
+fn flow_at<'a>(flow: &'a Flow, position: &Position) -> Option<&'a ReadFlow>
+    ensures among { IfSome result (λ read. IsAmong read.now flow.now.reads) }
+    ensures position { IfSome result (λ read. read.now.position ≡ position.now) }
+{
     for read in flow.reads.as_slice() {
-        if read.position == *position {
+        if same_position(&read.position, position) {
             return Some(read);
         }
     }
@@ -48,57 +64,92 @@ fn flow_at<'a>(flow: &'a Flow, position: &Position) -> Option<&'a ReadFlow> {
 }
 
 /// The flow of the read or output on a side.
-pub(crate) fn flow_of<'a>(setting: &Setting<'a>, path: &Path, side: Side) -> Option<&'a ReadFlow> {
+pub(crate) fn flow_of<'a>(setting: &Setting<'a>, path: &Path, side: Side) -> Option<&'a ReadFlow>
+    ensures among { IfSome result (λ read. IsAmong read.now (flow_on setting.now side).reads) }
+    ensures position { IfSome result (λ read. read.now.position ≡ (seat_of path.now side).position) }
+{
     match side {
         Side::Left => flow_at(setting.left_flow, &path.left.position),
         Side::Right => flow_at(setting.right_flow, &path.right.position),
     }
 }
 
+/// Whether two symbols are one.
+fn same_symbol(first: &Symbol, second: &Symbol) -> bool
+    ensures { result ≡ same_symbol first.now second.now }
+{
+    first.arity == second.arity && first.name == second.name
+}
+
 /// Two calls of one symbol with as many arguments.
-fn are_calls(programs: &Programs<'_>, path: &Path) -> bool {
-    match (
-        call_at(programs.left, &path.left.position),
-        call_at(programs.right, &path.right.position),
-    ) {
-        (Some(left), Some(right)) => {
-            *left.symbol == *right.symbol && left.args.len() == right.args.len()
-        }
-        _ => false,
+fn are_calls(programs: &Programs<'_>, path: &Path) -> bool
+    ensures { result ≡ false → (c d : CallAt) → call_at (pairing programs.now).left path.now.left.position ≡ Some c → call_at (pairing programs.now).right path.now.right.position ≡ Some d → ¬ ((c.symbol ≡ d.symbol) × (length c.args ≡ length d.args)) }
+{
+    match call_at(programs.left, &path.left.position) {
+        None => false,
+        Some(left) => match call_at(programs.right, &path.right.position) {
+            None => false,
+            Some(right) => {
+                if same_symbol(left.symbol, right.symbol) {
+                    left.args.len() == right.args.len()
+                } else {
+                    false
+                }
+            }
+        },
     }
 }
 
 /// Whether an array is an input.
-fn is_input(model: &Model, array: usize) -> bool {
+fn is_input(model: &Model, array: usize) -> bool
+    ensures { result ≡ is_input (slice_get model.now.kinds array) }
+{
     match model.kinds.get(array) {
-        Some(kind) => *kind == Kind::Input,
+        Some(Kind::Input) => true,
+        Some(Kind::Local) => false,
         None => false,
     }
 }
 
-/// What two numbers ask for, or two initial cells of one input.
-fn leaves(alloc: Global, programs: &Programs<'_>, node: &Node) -> Result<Next, UnfoldStop> {
-    let (left, right) = (programs.left, programs.right);
+/// What two numbers ask for: their equality.
+fn numbers(
+    alloc: Global,
+    search: &Search<'_>,
+    node: &Node,
+    form: &Form,
+    other: &Form,
+) -> Result<Next, UnfoldStop>
+    requires left { number_at (judge_of search.now).left node.now.question.left.position ≡ Some form.now }
+    requires right { number_at (judge_of search.now).right node.now.question.right.position ≡ Some other.now }
+    ensures next { IfOk result (IsNext search.now node.now.question) }
+    ensures kind { IsLeaf (judge_of search.now) node.now.question → IfOk result (IsKindThere search.now node.now.question) }
+{
     let path = &node.question;
-    if let (Some(form), Some(other)) = (
-        number_at(left, &path.left.position),
-        number_at(right, &path.right.position),
-    ) {
-        let rows = equal_form_at(alloc, left.params, &path.left, form, &path.right, other)?;
-        return Ok(Next::Match(rows_or(rows, alloc, node)?, PlanNext::SameNumber));
-    }
-    let (Some(cell), Some(other)) = (
-        initial_cell(alloc, left, &path.left.position)?,
-        initial_cell(alloc, right, &path.right.position)?,
-    ) else {
+    let rows = equal_form_at(alloc, search.params(), &path.left, form, &path.right, other)?;
+    Ok(Next::Match(rows_or(rows, alloc, node)?, PlanNext::SameNumber))
+}
+
+/// What two initial cells ask for: one input, and the equality of each subscript.
+fn cells(
+    alloc: Global,
+    search: &Search<'_>,
+    node: &Node,
+    cell: &CellForms,
+    other: &CellForms,
+) -> Result<Next, UnfoldStop>
+    requires left { initial_cell (judge_of search.now).left node.now.question.left.position ≡ Some cell.now }
+    requires right { initial_cell (judge_of search.now).right node.now.question.right.position ≡ Some other.now }
+    ensures next { IfOk result (IsNext search.now node.now.question) }
+    ensures kind { IsNoNumber (judge_of search.now) node.now.question → IfOk result (IsKindThere search.now node.now.question) }
+{
+    let programs = &search.setting.programs;
+    if cell.array != other.array || !is_input(programs.left, cell.array) {
         return Ok(Next::Mismatch);
-    };
-    if cell.array != other.array || !is_input(left, cell.array) {
-        return Ok(Next::Mismatch);
     }
+    let path = &node.question;
     let rows = equal_at(
         alloc,
-        left.params,
+        search.params(),
         &path.left,
         cell.subs.as_slice(),
         &path.right,
@@ -107,8 +158,41 @@ fn leaves(alloc: Global, programs: &Programs<'_>, node: &Node) -> Result<Next, U
     Ok(Next::Match(rows_or(rows, alloc, node)?, PlanNext::SameInitial))
 }
 
+/// What two initial cells of one input ask for.
+fn initials(alloc: Global, search: &Search<'_>, node: &Node) -> Result<Next, UnfoldStop>
+    ensures next { IfOk result (IsNext search.now node.now.question) }
+    ensures kind { IsNoNumber (judge_of search.now) node.now.question → IfOk result (IsKindThere search.now node.now.question) }
+{
+    let programs = &search.setting.programs;
+    let Some(cell) = initial_cell(alloc, programs.left, &node.question.left.position)? else {
+        return Ok(Next::Mismatch);
+    };
+    match initial_cell(alloc, programs.right, &node.question.right.position)? {
+        Some(other) => cells(alloc, search, node, &cell, &other),
+        None => Ok(Next::Mismatch),
+    }
+}
+
+/// What two numbers ask for, or two initial cells of one input.
+fn leaves(alloc: Global, search: &Search<'_>, node: &Node) -> Result<Next, UnfoldStop>
+    ensures next { IfOk result (IsNext search.now node.now.question) }
+    ensures kind { IsLeaf (judge_of search.now) node.now.question → IfOk result (IsKindThere search.now node.now.question) }
+{
+    let programs = &search.setting.programs;
+    let Some(form) = number_at(programs.left, &node.question.left.position) else {
+        return initials(alloc, search, node);
+    };
+    match number_at(programs.right, &node.question.right.position) {
+        Some(other) => numbers(alloc, search, node, form, other),
+        None => initials(alloc, search, node),
+    }
+}
+
 /// What a pair of positions asks for.
-pub(crate) fn next_of(alloc: Global, search: &Search<'_>, node: &Node) -> Result<Next, UnfoldStop> {
+pub(crate) fn next_of(alloc: Global, search: &Search<'_>, node: &Node) -> Result<Next, UnfoldStop>
+    ensures next { IfOk result (IsNext search.now node.now.question) }
+    ensures kind { IfOk result (IsKindThere search.now node.now.question) }
+{
     let programs = &search.setting.programs;
     let (left, right) = (&node.question.left.position, &node.question.right.position);
     if cell_read(alloc, programs.left, left)?.is_some() {
@@ -120,5 +204,5 @@ pub(crate) fn next_of(alloc: Global, search: &Search<'_>, node: &Node) -> Result
     if are_calls(programs, &node.question) {
         return Ok(Next::Calls(order_at(search.order, left, right)));
     }
-    leaves(alloc, programs, node)
+    leaves(alloc, search, node)
 }

@@ -3,6 +3,7 @@
 #![tactic(auto)]
 
 mod asking;
+mod casing;
 mod claiming;
 mod course;
 mod ends;

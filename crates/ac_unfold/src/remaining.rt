@@ -1,22 +1,31 @@
 //! The rows of a case over the columns of a question: of what is left of it, and of its kills.
+ghost use Rattle.std.specs.Prelude.{◌≡◌, IfOk, Some};
+ghost use Rattle.ac_forms.specs.Renaming.{rows_renaming};
+ghost use Rattle.ac_paths.specs.Killing.{case_columns};
+ghost use Rattle.ac_paths.specs.declared.path.Assumed.{Assumed};
+ghost use Rattle.ac_leading.specs.Steps.{at_rest};
+ghost use Rattle.ac_unfold.specs.Making.{judge_of};
 
 use crate::asking::{Answer, found, freely};
 use crate::ends::{Search, too_wide};
 use crate::node::{Node, with_rows};
 use crate::types::UnfoldStop;
 use crate::witness::continued;
-use ac_forms::{Conj, FormStop, Row, column_after, renamed_rows};
+use ac_forms::{Conj, FormStop, Row, push_range, renamed_rows};
 use ac_items::Items;
 use ac_paths::killing::case_columns;
 use std::alloc::{AllocError, Global};
 
 /// Rows over these columns of a question.
+#[tactic(auto, using(ac_paths::proofs::Moduli::rename_steps))]
 pub(crate) fn over_columns(
     alloc: Global,
     node: &Node,
     rows: &[Row],
     columns: &[usize],
-) -> Result<Items<Row>, UnfoldStop> {
+) -> Result<Items<Row>, UnfoldStop>
+    ensures { IfOk result (λ made. Some made ≡ rows_renaming columns.now rows.now) }
+{
     match renamed_rows(alloc, rows, columns) {
         Ok(made) => Ok(made),
         Err(FormStop::Wide) => Err(too_wide(alloc, node)),
@@ -30,16 +39,16 @@ pub(crate) fn at_remainder(
     search: &Search<'_>,
     node: &Node,
     rest: &Conj,
-) -> Result<Node, UnfoldStop> {
+) -> Result<Node, UnfoldStop>
+    ensures question { IfOk result (λ made. at_rest (judge_of search.now).params node.now.question rest.now ≡ Some made.question) }
+    ensures trail { IfOk result (λ made. made.trail ≡ node.now.trail) }
+{
     let Some(assumed) = &node.question.last else {
         return Err(UnfoldStop::Memory(AllocError));
     };
-    let mut columns = case_columns(alloc, search.params, assumed)?;
-    let first = node.question.conj.columns;
+    let mut columns = case_columns(alloc, search.params(), assumed)?;
     let further = rest.columns.saturating_sub(columns.len());
-    for number in 0..further {
-        columns.push(column_after(first, number)?)?;
-    }
+    push_range(&mut columns, node.question.conj.columns, further)?;
     let rows = over_columns(alloc, node, rest.rows.as_slice(), columns.as_slice())?;
     Ok(node.beside(alloc, further, rows.as_slice())?)
 }
@@ -50,11 +59,13 @@ pub(crate) fn kill_rows(
     search: &Search<'_>,
     node: &Node,
     kill: &Conj,
-) -> Result<Items<Row>, UnfoldStop> {
+) -> Result<Items<Row>, UnfoldStop>
+    ensures { IfOk result (λ made. (a : Assumed) → node.now.question.last ≡ Some a → Some made ≡ rows_renaming (case_columns (judge_of search.now).params a) kill.now.rows) }
+{
     let Some(assumed) = &node.question.last else {
         return Err(UnfoldStop::Memory(AllocError));
     };
-    let columns = case_columns(alloc, search.params, assumed)?;
+    let columns = case_columns(alloc, search.params(), assumed)?;
     over_columns(alloc, node, kill.rows.as_slice(), columns.as_slice())
 }
 

@@ -1,7 +1,17 @@
 //! Where an unfolding starts: each pair of pieces of a claim.
-ghost use Rattle.std.specs.Prelude.{◌≡◌, IfOk, IfSome};
-ghost use Rattle.std.specs.List.{AllByRecursion};
+ghost use Rattle.std.specs.Prelude.{◌≡◌, ◌++◌, IfOk, IfSome, List, OnOk, map, true};
+ghost use Rattle.std.specs.List.{AllByRecursion, range_with_len};
+ghost use Rattle.ac_paths.specs.Calls.{pairing};
+ghost use Rattle.ac_claims.specs.ProofFaults.{domain};
+ghost use Rattle.ac_claims.specs.Remaining.{count_by};
+ghost use Rattle.ac_claims.specs.declared.types.Claim.{Claim as Asked};
+ghost use Rattle.ac_leading.specs.Leading.{Unfolding};
+ghost use Rattle.ac_unfold.specs.Broken.{IsBroken, IsUnfoldingOf};
+ghost use Rattle.ac_unfold.specs.Making.{judge_of, IsGiven};
 ghost use Rattle.ac_unfold.specs.Paths.{IsPath, ArePlansOf};
+ghost use Rattle.ac_unfold.specs.Plans.{pairs_of, pieces_of, AreNumbered, IsSettled, StartsAccepted};
+ghost use Rattle.ac_unfold.specs.Begun.{AreBegun, IsBegun};
+ghost use Rattle.ac_unfold.specs.Searching.{AddsBroken, IsFrom};
 
 use crate::asking::{Opened, open_question};
 use crate::ends::Search;
@@ -24,11 +34,15 @@ fn search_of<'a>(
     base: usize,
     order: &'a [(Site, Order)],
     making: bool,
-) -> Search<'a> {
-    let left = setting.programs.left;
+) -> Search<'a>
+    ensures setting { result.setting.now ≡ setting.now }
+    ensures base { result.base ≡ base }
+    ensures claims { result.claims.now ≡ claims.now }
+    ensures order { result.order.now ≡ order.now }
+    ensures making { result.making ≡ making }
+{
     Search {
         setting,
-        params: left.params,
         budget: setting.budget,
         claims,
         base,
@@ -45,24 +59,29 @@ fn unfold_at(
     left: usize,
     right: usize,
     finds: &mut Finds,
-) -> Result<Option<Plan>, UnfoldStop> {
+) -> Result<Option<Plan>, UnfoldStop>
+    ensures begun { IfOk result (λ made. IfSome made (IsBegun search.now start.now left right)) }
+    ensures broken { OnOk result (AddsBroken search.now (IsFrom start.now) finds.old finds.new) }
+{
     let programs = &search.setting.programs;
     let Some(path) = start_at(alloc, programs, start, left, right)? else {
         return Err(UnfoldStop::Memory(AllocError));
     };
+    if !path.conj.is_well_made() {
+        return Err(UnfoldStop::Memory(AllocError));
+    }
     let node = Node::start(alloc, path)?;
-    match open_question(alloc, node, search.budget, search.making)? {
+    let question = open_question(alloc, node, search.budget, search.making)?;
+    match question {
         Opened::Empty(plan) => Ok(plan),
         Opened::On(node) => visit(alloc, search, node, finds, MOST_DEEP),
     }
 }
 
 /// How many pieces the left position of a claim has, and the right one.
-fn pieces(
-    alloc: Global,
-    setting: &Setting<'_>,
-    start: &Claim,
-) -> Result<(usize, usize), UnfoldStop> {
+fn pieces(alloc: Global, setting: &Setting<'_>, start: &Claim) -> Result<(usize, usize), UnfoldStop>
+    ensures { IfOk result (λ counts. counts ≡ (count_by (domain setting.now.programs.left.now start.now.left), count_by (domain setting.now.programs.right.now start.now.right))) }
+{
     let left = size_at(alloc, setting.programs.left, &start.left)?;
     let right = size_at(alloc, setting.programs.right, &start.right)?;
     match (left, right) {
@@ -79,7 +98,9 @@ fn find_beside(
     left: usize,
     rights: usize,
     finds: &mut Finds,
-) -> Result<(), UnfoldStop> {
+) -> Result<(), UnfoldStop>
+    ensures { OnOk result (AddsBroken search.now (IsFrom start.now) finds.old finds.new) }
+{
     for right in 0..rights {
         let _none = unfold_at(alloc, search, start, left, right, finds)?;
     }
@@ -100,7 +121,8 @@ pub fn broken_paths(
     claims: &[Claim],
     order: &[(Site, Order)],
 ) -> Result<Items<Items<Entry>>, UnfoldStop>
-    ensures { IfOk result (AllByRecursion IsPath) }
+    ensures paths { IfOk result (AllByRecursion IsPath) }
+    ensures broken { IfOk result (λ paths. (u : Unfolding) → IsUnfoldingOf setting.now start.now order.now u → AllByRecursion (IsBroken u claims.now) paths) }
 {
     let search = search_of(setting, claims, 0, order, false);
     let (lefts, rights) = pieces(alloc, setting, start)?;
@@ -123,27 +145,28 @@ fn push_trees(
     trees: &mut Vec<ClaimTree>,
 ) -> Result<bool, UnfoldStop>
     requires { ArePlansOf number trees.old.items }
-    ensures { ArePlansOf number trees.new.items }
+    ensures claim { ArePlansOf number trees.new.items }
+    ensures pieces { IfOk result (λ all. all ≡ true → map pieces_of trees.new.items ≡ map pieces_of trees.old.items ++ map (λ right. (left, right)) (range_with_len 0 rights)) }
+    ensures accepted { IfOk result (λ all. all ≡ true → AreBegun search.now start.now trees.old.items → AreBegun search.now start.now trees.new.items) }
 {
     let mut finds = Finds::new(alloc);
     for right in 0..rights {
         let Some(tree) = unfold_at(alloc, search, start, left, right, &mut finds)? else {
             return Ok(false);
         };
-        trees
-            .push(ClaimTree {
-                claim: number,
-                left_piece: left,
-                right_piece: right,
-                tree,
-            })
-            .map_err(AllocError::from)?;
+        trees.push(ClaimTree {
+            claim: number,
+            left_piece: left,
+            right_piece: right,
+            tree,
+        })?;
     }
     Ok(true)
 }
 
 /// The plans of a start that stands, one for each pair of pieces in order: the start has the number `number` in the proof, and
-/// the claim with number i in the list has `base + i`. None where a path is broken.
+/// the claim with number i in the list has `base + i`. None where a path is broken. A judge of proofs accepts each of them where
+/// the start begins at its pieces, against whatever claims these are among with their numbers.
 pub fn claim_trees(
     alloc: Global,
     setting: &Setting<'_>,
@@ -153,13 +176,16 @@ pub fn claim_trees(
     claims: &[Claim],
     order: &[(Site, Order)],
 ) -> Result<Option<Vec<ClaimTree>>, UnfoldStop>
-    ensures { IfOk result (λ made. IfSome made (λ trees. ArePlansOf number trees.items)) }
+    ensures claim { IfOk result (λ made. IfSome made (λ trees. ArePlansOf number trees.items)) }
+    ensures pieces { IfOk result (λ made. IfSome made (λ trees. map pieces_of trees.items ≡ pairs_of (count_by (domain setting.now.programs.left.now start.now.left)) (count_by (domain setting.now.programs.right.now start.now.right)))) }
+    ensures accepted { IsSettled setting.now → IfOk result (λ made. IfSome made (λ trees. (cs : List Asked) → AreNumbered base claims.now cs → AllByRecursion (StartsAccepted (pairing setting.now.programs) cs start.now) trees.items)) }
 {
     let search = search_of(setting, claims, base, order, true);
-    let (lefts, rights) = pieces(alloc, setting, start)?;
+    let counts = pieces(alloc, setting, start)?;
     let mut trees = Vec::new(alloc);
-    for left in 0..lefts {
-        if !push_trees(alloc, &search, number, start, left, rights, &mut trees)? {
+    for left in 0..counts.0 {
+        let all = push_trees(alloc, &search, number, start, left, counts.1, &mut trees)?;
+        if !all {
             return Ok(None);
         }
     }

@@ -3,7 +3,7 @@ use ac_forms::Conj;
 use ac_items::Items;
 use ac_paths::path::Programs;
 use ac_widen::Entry;
-use std::alloc::AllocError;
+use std::alloc::{AllocError, AllocFailed};
 
 /// What the search knows of a pair: the models of both programs with the names that the pair declares commutative, and the
 /// exact dataflow of each.
@@ -43,5 +43,16 @@ impl From<AllocError> for UnfoldStop {
 
     fn from(want: AllocError) -> UnfoldStop {
         UnfoldStop::Memory(want)
+    }
+}
+
+impl<T: Drop> From<AllocFailed<T>> for UnfoldStop {
+    ghost use Rattle.std.specs.Prelude.{◌≡◌, alloc_error};
+    ghost use Rattle.ac_unfold.specs.declared.types.UnfoldStop.TheVariants.{Memory};
+
+    ghost from_gives = { λ _ e. e ≡ Memory alloc_error };
+
+    fn from(_failed: AllocFailed<T>) -> UnfoldStop {
+        UnfoldStop::Memory(AllocError)
     }
 }

@@ -1,6 +1,13 @@
 //! The recursion of an unfolding: a pair by its kinds, the cases of a read, and what kills a case.
+ghost use Rattle.std.specs.Prelude.{◌≡◌, IfOk, IfSome, None, OnOk, Some, slice_get};
+ghost use Rattle.ac_paths.specs.Going.{model_of};
+ghost use Rattle.ac_unfold.specs.Cutting.{AreMadeOn, CutsMore, IsAssumed, IsKillThere, IsStep};
+ghost use Rattle.ac_unfold.specs.Making.{judge_of, IsMade, IsMadeIn};
+ghost use Rattle.ac_unfold.specs.Searching.{AddsBroken, IsAt, IsInCase, IsKindThere, IsPast};
+ghost use Rattle.ac_unfold.specs.declared.kinds.Next.TheVariants as kind;
 
-use crate::asking::{Opened, open_question, stands_in};
+use crate::asking::{Opened, can_stand, open_question, stands_in};
+use crate::casing::assumes_case;
 use crate::claiming::{at_claim, claim_of};
 use crate::course::Course;
 use crate::ends::{Search, mismatch, refuted, stand, too_wide};
@@ -10,12 +17,14 @@ use crate::kinds::{Next, flow_of, next_of};
 use crate::node::Node;
 use crate::remaining::{at_remainder, is_apart, kill_rows};
 use crate::types::UnfoldStop;
-use ac_claims::types::{Kill, Plan, PlanNext};
-use ac_flow::types::Case;
-use ac_forms::Row;
-use ac_graft::{Part, parts_of, plan_of};
+use ac_claims::types::{Kill, Plan};
+use ac_flow::types::{Case, ReadFlow};
+use ac_forms::{Row, column_after};
+use ac_graft::{Part, parts_of};
 use ac_paths::going::branches;
-use ac_paths::path::Side;
+use ac_paths::path::{Path, Side};
+use ac_plans::step_plan;
+use ac_poly::types::Model;
 use ac_syntax::tree::Order;
 use std::alloc::{AllocError, Global};
 
@@ -31,14 +40,18 @@ pub(crate) fn visit(
     node: Node,
     finds: &mut Finds,
     room: usize,
-) -> Result<Option<Plan>, UnfoldStop> {
+) -> Result<Option<Plan>, UnfoldStop>
+    ensures made { IfOk result (λ made. IfSome made (IsMade search.now node.placing node.question)) }
+    ensures broken { OnOk result (AddsBroken search.now (IsAt search.now node.trail node.question) finds.old finds.new) }
+{
     if room == 0 {
         return Err(finds.stop(alloc));
     }
-    if let Some((number, claim)) = claim_of(search, &node.question) {
-        return at_claim(alloc, search, node, number, claim, finds);
+    if let Some(number) = claim_of(search, &node.question) {
+        return at_claim(alloc, search, node, number, finds);
     }
-    match next_of(alloc, search, &node)? {
+    let next = next_of(alloc, search, &node)?;
+    match next {
         Next::Read(side) => read(alloc, search, &node, side, finds, room - 1),
         Next::Calls(order) => calls(alloc, search, &node, order, finds, room - 1),
         Next::Match(rows, end) => stand(alloc, search, node, rows.as_slice(), end, finds),
@@ -55,7 +68,11 @@ fn calls(
     order: Order,
     finds: &mut Finds,
     room: usize,
-) -> Result<Option<Plan>, UnfoldStop> {
+) -> Result<Option<Plan>, UnfoldStop>
+    requires { IsKindThere search.now node.now.question (kind.Calls order) }
+    ensures made { IfOk result (λ made. IfSome made (IsMade search.now node.now.placing node.now.question)) }
+    ensures broken { OnOk result (AddsBroken search.now (IsPast search.now node.now.trail node.now.question) finds.old finds.new) }
+{
     if room == 0 {
         return Err(finds.stop(alloc));
     }
@@ -65,12 +82,17 @@ fn calls(
     let mut cases = Vec::new(alloc);
     for branch in found.into_vec() {
         let child = node.behind(alloc, branch)?;
-        match visit(alloc, search, child, finds, room - 1)? {
-            Some(plan) => cases.push(plan).map_err(AllocError::from)?,
+        let made = visit(alloc, search, child, finds, room - 1)?;
+        match made {
+            Some(plan) => {
+                cases.push(plan)?;
+                continue;
+            }
             None => {
                 if search.making {
                     return Ok(None);
                 }
+                continue;
             }
         }
     }
@@ -78,9 +100,11 @@ fn calls(
 }
 
 /// The plan of a step, where plans are made.
-fn gone(alloc: Global, search: &Search<'_>, order: Order, cases: Vec<Plan>) -> Option<Plan> {
+fn gone(alloc: Global, search: &Search<'_>, order: Order, cases: Vec<Plan>) -> Option<Plan>
+    ensures { IfSome result (IsStep order cases.items) }
+{
     if search.making {
-        Some(plan_of(alloc, PlanNext::Go { order, cases }))
+        Some(step_plan(alloc, order, cases))
     } else {
         None
     }
@@ -95,7 +119,11 @@ fn read(
     side: Side,
     finds: &mut Finds,
     room: usize,
-) -> Result<Option<Plan>, UnfoldStop> {
+) -> Result<Option<Plan>, UnfoldStop>
+    requires { IsKindThere search.now node.now.question (kind.Read side) }
+    ensures made { IfOk result (λ made. IfSome made (IsMade search.now node.now.placing node.now.question)) }
+    ensures broken { OnOk result (AddsBroken search.now (IsPast search.now node.now.trail node.now.question) finds.old finds.new) }
+{
     if room == 0 {
         return Err(finds.stop(alloc));
     }
@@ -107,21 +135,63 @@ fn read(
         return Err(UnfoldStop::Memory(AllocError));
     };
     let mut plans = Vec::new(alloc);
-    for (number, branch) in found.into_vec().into_iter().enumerate() {
-        let Some(case) = flow.cases.get(number) else {
+    let mut number = 0;
+    for branch in found.into_vec() {
+        let child = node.behind(alloc, branch)?;
+        let Some(case) = case_of(search, side, flow, number, &child.question) else {
             return Err(UnfoldStop::Memory(AllocError));
         };
-        let child = node.behind(alloc, branch)?;
-        match enter(alloc, search, child, case, finds, room - 1)? {
-            Some(plan) => plans.push(plan).map_err(AllocError::from)?,
+        number = column_after(number, 1)?;
+        let made = enter(alloc, search, child, case, finds, room - 1)?;
+        match made {
+            Some(plan) => {
+                plans.push(plan)?;
+                continue;
+            }
             None => {
                 if search.making {
                     return Ok(None);
                 }
+                continue;
             }
         }
     }
     Ok(gone(alloc, search, Order::Keep, plans))
+}
+
+/// The model on a side.
+fn model_on<'a>(search: &Search<'a>, side: Side) -> &'a Model
+    ensures { result.now ≡ model_of (judge_of search.now) side }
+{
+    let programs = &search.setting.programs;
+    match side {
+        Side::Left => programs.left,
+        Side::Right => programs.right,
+    }
+}
+
+/// The case with a number, if it is what a question assumes.
+fn case_of<'a>(
+    search: &Search<'_>,
+    side: Side,
+    flow: &'a ReadFlow,
+    number: usize,
+    question: &Path,
+) -> Option<&'a Case>
+    ensures assumed { IfSome result (λ case. IsAssumed search.now side flow.now case.now question.now) }
+    ensures number { IfSome result (λ case. slice_get flow.now.cases number ≡ Some case.now) }
+{
+    let Some(case) = flow.cases.get(number) else {
+        return None;
+    };
+    let Some(assumed) = &question.last else {
+        return None;
+    };
+    let model = model_on(search, side);
+    if !assumes_case(search.params(), model, side, flow, case, assumed) {
+        return None;
+    }
+    Some(case)
 }
 
 /// Unfolds a case: where broken paths are looked for, at what is left of it; where plans are made, outside its kills.
@@ -133,14 +203,18 @@ fn enter(
     case: &Case,
     finds: &mut Finds,
     room: usize,
-) -> Result<Option<Plan>, UnfoldStop> {
+) -> Result<Option<Plan>, UnfoldStop>
+    ensures made { IfOk result (λ made. IfSome made (IsMadeIn search.now case.now node.placing node.question)) }
+    ensures broken { OnOk result (AddsBroken search.now (IsInCase search.now case.now node.trail node.question) finds.old finds.new) }
+{
     if room == 0 {
         return Err(finds.stop(alloc));
     }
     if !search.making {
         return remainders(alloc, search, &node, case, finds, room - 1);
     }
-    match open_question(alloc, node, search.budget, true)? {
+    let question = open_question(alloc, node, search.budget, true)?;
+    match question {
         Opened::Empty(plan) => Ok(plan),
         Opened::On(node) => kills(alloc, search, node, case, 0, finds, room - 1),
     }
@@ -155,16 +229,21 @@ fn remainders(
     case: &Case,
     finds: &mut Finds,
     room: usize,
-) -> Result<Option<Plan>, UnfoldStop> {
+) -> Result<Option<Plan>, UnfoldStop>
+    ensures none { IfOk result (λ made. made ≡ None) }
+    ensures broken { OnOk result (AddsBroken search.now (IsInCase search.now case.now node.now.trail node.now.question) finds.old finds.new) }
+{
     if room == 0 {
         return Err(finds.stop(alloc));
     }
     for rest in case.pieces.as_slice() {
-        let child = at_remainder(alloc, search, node, &rest.conj)?;
-        match open_question(alloc, child, search.budget, false)? {
-            Opened::Empty(_) => {}
+        let left = at_remainder(alloc, search, node, &rest.conj)?;
+        let question = open_question(alloc, left, search.budget, false)?;
+        match question {
+            Opened::Empty(_) => continue,
             Opened::On(child) => {
                 let _none = visit(alloc, search, child, finds, room - 1)?;
+                continue;
             }
         }
     }
@@ -181,7 +260,9 @@ fn kills(
     number: usize,
     finds: &mut Finds,
     room: usize,
-) -> Result<Option<Plan>, UnfoldStop> {
+) -> Result<Option<Plan>, UnfoldStop>
+    ensures { IfOk result (λ made. IfSome made (IsMadeIn search.now case.now node.placing node.question)) }
+{
     if room == 0 {
         return Err(finds.stop(alloc));
     }
@@ -189,7 +270,8 @@ fn kills(
         return survivor(alloc, search, node, case, finds, room - 1);
     };
     let rows = kill_rows(alloc, search, &node, &kill.0)?;
-    if is_apart(alloc, search, &node, rows.as_slice())? {
+    let apart = is_apart(alloc, search, &node, rows.as_slice())?;
+    if apart {
         return kills(
             alloc,
             search,
@@ -222,7 +304,9 @@ fn survivor(
     case: &Case,
     finds: &mut Finds,
     room: usize,
-) -> Result<Option<Plan>, UnfoldStop> {
+) -> Result<Option<Plan>, UnfoldStop>
+    ensures { IfOk result (λ made. IfSome made (IsMade search.now node.placing node.question)) }
+{
     if room == 0 {
         return Err(finds.stop(alloc));
     }
@@ -244,19 +328,26 @@ fn cut(
     rows: &[Row],
     finds: &mut Finds,
     room: usize,
-) -> Result<Option<Plan>, UnfoldStop> {
+) -> Result<Option<Plan>, UnfoldStop>
+    ensures { IfOk result (λ made. IfSome made (λ t. IsKillThere search.now node.question case.now kill.now rows.now → IsMadeIn search.now case.now node.placing node.question t)) }
+{
     if room == 0 {
         return Err(finds.stop(alloc));
     }
     let mut course = Course::new(alloc, node);
     for row in rows {
-        match cut_row(alloc, search, course, case, number, row, finds, room - 1)? {
-            Some(next) => course = next,
+        let made = cut_row(alloc, search, course, case, number, row, finds, room - 1)?;
+        match made {
+            Some(next) => {
+                course = next;
+                continue;
+            }
             None => return Ok(None),
         }
     }
     let end = killed(alloc, search, &course.node, kill)?;
-    Ok(Some(course.closed(alloc, end)?))
+    let plan = course.closed(alloc, end)?;
+    Ok(Some(plan))
 }
 
 /// Branches on a row of a kill, unless it stands; none where a path is broken.
@@ -270,18 +361,25 @@ fn cut_row(
     row: &Row,
     finds: &mut Finds,
     room: usize,
-) -> Result<Option<Course>, UnfoldStop> {
+) -> Result<Option<Course>, UnfoldStop>
+    ensures { IfOk result (λ made. IfSome made (CutsMore search.now case.now course row.now)) }
+{
     if room == 0 {
         return Err(finds.stop(alloc));
     }
-    if stands_in(alloc, &course.node.question.conj, row)? {
+    let standing = stands_in(alloc, &course.node.question.conj, row)?;
+    if standing {
         return Ok(Some(course));
+    }
+    let can = can_stand(alloc, row, course.node.question.conj.columns)?;
+    if !can {
+        return Err(too_wide(alloc, &course.node));
     }
     let Some(parts) = parts_of(alloc, row, course.node.question.conj.columns)? else {
         return Err(too_wide(alloc, &course.node));
     };
     let parted = parts.outside.as_slice();
-    match outsides(
+    let made = outsides(
         alloc,
         search,
         &course.node,
@@ -290,8 +388,12 @@ fn cut_row(
         parted,
         finds,
         room - 1,
-    )? {
-        Some(outside) => Ok(Some(course.within(alloc, row, &parts.inside, outside)?)),
+    )?;
+    match made {
+        Some(outside) => {
+            let next = course.within(alloc, row, &parts.inside, outside)?;
+            Ok(Some(next))
+        }
         None => Ok(None),
     }
 }
@@ -307,15 +409,21 @@ fn outsides(
     parts: &[Part],
     finds: &mut Finds,
     room: usize,
-) -> Result<Option<Vec<Plan>>, UnfoldStop> {
+) -> Result<Option<Vec<Plan>>, UnfoldStop>
+    ensures { IfOk result (λ made. IfSome made (λ plans. AreMadeOn search.now case.now node.now.placing node.now.question parts.now plans.items)) }
+{
     if room == 0 {
         return Err(finds.stop(alloc));
     }
     let mut plans = Vec::new(alloc);
     for part in parts {
         let beside = node.within(alloc, part)?;
-        match outside_of(alloc, search, beside, case, number, finds, room - 1)? {
-            Some(plan) => plans.push(plan).map_err(AllocError::from)?,
+        let made = outside_of(alloc, search, beside, case, number, finds, room - 1)?;
+        match made {
+            Some(plan) => {
+                plans.push(plan)?;
+                continue;
+            }
             None => return Ok(None),
         }
     }
@@ -332,11 +440,14 @@ fn outside_of(
     number: usize,
     finds: &mut Finds,
     room: usize,
-) -> Result<Option<Plan>, UnfoldStop> {
+) -> Result<Option<Plan>, UnfoldStop>
+    ensures { IfOk result (λ made. IfSome made (IsMadeIn search.now case.now node.placing node.question)) }
+{
     if room == 0 {
         return Err(finds.stop(alloc));
     }
-    match open_question(alloc, node, search.budget, true)? {
+    let question = open_question(alloc, node, search.budget, true)?;
+    match question {
         Opened::Empty(plan) => Ok(plan),
         Opened::On(node) => {
             kills(

@@ -5,7 +5,7 @@ use Rattle.ac_forms.specs.declared.conj.Conj.{Conj}
 use Rattle.ac_refutations.specs.declared.strategy.Strategy.TheVariants.{Full}
 use Rattle.ac_omega.specs.Decisions.{walk_of, EndsAt}
 use Rattle.ac_syntax.specs.declared.tree.Pair.{Pair}
-use Rattle.ac_cert.proofs.Keeping.{some-is}
+use Rattle.ac_choices.proofs.Keeping.{some-is}
 use Rattle.ac_poly.specs.declared.types.Model.{Model}
 use Rattle.ac_flow.specs.Contexts.{ContextStops}
 use Rattle.ac_flow.specs.Flows.{CasesAreSources}

@@ -1,4 +1,4 @@
-use Rattle.ac_rules.specs.Values.{reading}
+use Rattle.ac_values.specs.Values.{reading}
 use Rattle.ac_canonical_rules.proofs.Values.{value_read, read_broken, read_value}
 use Rattle.ac_canonical_rules.proofs.laws.values_are_read_back.Goals as goal
 

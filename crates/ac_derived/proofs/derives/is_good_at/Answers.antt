@@ -1,7 +1,7 @@
 use Rattle.std.proofs.Common.{◌≡◌, ◌∙◌, sym, refl, subst, length, take, List, Some}
 use Rattle.std.specs.Prelude.{slice_get}
 use Rattle.std.proofs.lemmas.Option.{slice_get_read}
-use Rattle.ac_cert.proofs.Keeping.{some-is}
+use Rattle.ac_choices.proofs.Keeping.{some-is}
 use Rattle.ac_widen.specs.declared.derivation.Entry.{Entry}
 use Rattle.ac_derived.specs.Checks.{choices_of}
 use Rattle.ac_derived.specs.Deriving.{IsGood}

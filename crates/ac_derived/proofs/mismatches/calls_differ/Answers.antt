@@ -1,5 +1,5 @@
 use Rattle.std.proofs.Common.{◌≡◌, ◌∙◌, sym, ap, false, true, option_map}
-use Rattle.ac_cert.proofs.Keeping.{some-is}
+use Rattle.ac_choices.proofs.Keeping.{some-is}
 use Rattle.ac_paths.specs.Calls.{called}
 use Rattle.ac_paths.specs.Places.{CallAt, call_at}
 use Rattle.ac_derived.proofs.Mismatching.{none_some, symbols_same}

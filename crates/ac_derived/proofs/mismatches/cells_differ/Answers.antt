@@ -1,5 +1,5 @@
 use Rattle.std.proofs.Common.{◌∙◌, sym}
-use Rattle.ac_cert.proofs.Keeping.{some-is}
+use Rattle.ac_choices.proofs.Keeping.{some-is}
 use Rattle.ac_paths.specs.Places.{initial_cell}
 use Rattle.ac_derived.proofs.Mismatching.{none_some, apart_moved}
 use Rattle.ac_derived.proofs.mismatches.cells_differ.Goals as goal

@@ -1,6 +1,6 @@
 use Rattle.std.proofs.Common.{◌≡◌, ◌∙◌, sym, ap}
 use Rattle.std.specs.Option.{option_copied}
-use Rattle.ac_cert.proofs.Keeping.{some-is}
+use Rattle.ac_choices.proofs.Keeping.{some-is}
 use Rattle.ac_forms.specs.Affine.{Affine, value_at}
 use Rattle.ac_paths.specs.Places.{number_at}
 use Rattle.ac_derived.proofs.Mismatching.{none_some}

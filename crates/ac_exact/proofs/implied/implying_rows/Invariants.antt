@@ -1,5 +1,5 @@
 use Rattle.std.proofs.Common.{◌≡◌, drop}
-use Rattle.ac_cert.specs.Bounds.{rows_without}
+use Rattle.ac_choices.specs.Bounds.{rows_without}
 use Rattle.ac_exact.specs.Tests.{is_implied_by_two}
 use Rattle.ac_exact.proofs.implied.implying_rows.Given as goal
 

@@ -1,5 +1,5 @@
 use Rattle.std.proofs.Common.{rules}
-use Rattle.ac_cert.specs.Bounds.{low_bound}
+use Rattle.ac_choices.specs.Bounds.{low_bound}
 use Rattle.ac_forms.specs.Fits.{Fits}
 use Rattle.ac_exact.specs.Tests.{is_exact}
 use Rattle.ac_exact.proofs.Needed.{need_start, need-more, need-err}

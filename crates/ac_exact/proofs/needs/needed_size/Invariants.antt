@@ -1,5 +1,5 @@
 use Rattle.std.proofs.Common.{drop}
-use Rattle.ac_cert.specs.Bounds.{low_bound}
+use Rattle.ac_choices.specs.Bounds.{low_bound}
 use Rattle.ac_exact.specs.Tests.{is_exact}
 use Rattle.ac_exact.proofs.Needed.{NeedSoFar}
 use Rattle.ac_exact.proofs.needs.needed_size.Given as goal

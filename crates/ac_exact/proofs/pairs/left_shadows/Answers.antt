@@ -1,4 +1,4 @@
-use Rattle.ac_cert.specs.Bounds.{low_bound, high_bound}
+use Rattle.ac_choices.specs.Bounds.{low_bound, high_bound}
 use Rattle.ac_exact.proofs.Left.{left-made}
 use Rattle.ac_exact.proofs.pairs.left_shadows.Goals as goal
 

@@ -1,4 +1,4 @@
-use Rattle.ac_cert.specs.Bounds.{low_bound, high_bound}
+use Rattle.ac_choices.specs.Bounds.{low_bound, high_bound}
 use Rattle.ac_exact.proofs.Left.{exact-made, reason-made}
 use Rattle.ac_exact.proofs.pairs.reason_of.Goals as goal
 

@@ -1,5 +1,5 @@
 use Rattle.std.proofs.Common.{◌≡◌, drop}
-use Rattle.ac_cert.specs.Bounds.{highs}
+use Rattle.ac_choices.specs.Bounds.{highs}
 use Rattle.ac_omega.specs.Columns.{are_units}
 use Rattle.ac_omega.proofs.ranking.are_units_above.Given as goal
 

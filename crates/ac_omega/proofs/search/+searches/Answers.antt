@@ -1,6 +1,6 @@
 use Rattle.std.proofs.Common.{◌≡◌, ◌<◌, Some, None, false, sym, arith, rules}
 use Rattle.ac_forms.proofs.Passes.{moduli_of}
-use Rattle.ac_cert.specs.Choices.{are_absurd}
+use Rattle.ac_choices.specs.Choices.{are_absurd}
 use Rattle.ac_omega.specs.Columns.{next_column}
 use Rattle.ac_omega.specs.Maxima.{with_rows}
 use Rattle.ac_omega.specs.Within.{Bounds, HaveRisen, IsWithin}

@@ -1,5 +1,5 @@
 use Rattle.std.proofs.Common.{◌∙◌}
-use Rattle.ac_cert.specs.Choices.{substitute_residue_row}
+use Rattle.ac_choices.specs.Choices.{substitute_residue_row}
 use Rattle.ac_integers.proofs.Bits.{read_back}
 use Rattle.std.proofs.Common.{FitsSigned}
 use Rattle.std.specs.Int.{w128}

@@ -1,5 +1,5 @@
 use Rattle.std.proofs.Common.{◌≡◌, map, take}
-use Rattle.ac_cert.specs.Choices.{substitute_residue_row}
+use Rattle.ac_choices.specs.Choices.{substitute_residue_row}
 use Rattle.ac_refutations.proofs.by_residue.substitute_residue_rows.Given as goal
 
 abbrev pub invariant-loop-row : goal.invariant-loop-row

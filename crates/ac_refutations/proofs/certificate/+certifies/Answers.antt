@@ -1,7 +1,7 @@
 use Rattle.std.proofs.Common.{ℕ, ◌+◌, [], ◌∷◌, length, get_or, refl, ap, ◌∙◌, arith, rules, length-append}
 use Rattle.ac_forms.specs.declared.conj.Conj.{Conj}
-use Rattle.ac_cert.specs.declared.choose.Choice.{Choice}
-use Rattle.ac_cert.specs.declared.choose.Choice.TheVariants.{Drop}
+use Rattle.ac_choices.specs.declared.choose.Choice.{Choice}
+use Rattle.ac_choices.specs.declared.choose.Choice.TheVariants.{Drop}
 use Rattle.ac_refutations.specs.Branches.{Stage, stage, IsBranch}
 use Rattle.ac_refutations.specs.Refutations.{conj_of}
 use Rattle.ac_refutations.specs.declared.refutation.Refutation.{the_lemmas}

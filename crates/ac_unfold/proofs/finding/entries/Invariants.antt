@@ -1,5 +1,10 @@
+use Rattle.std.proofs.Common.{◌≡◌, take}
+use Rattle.ac_leading.specs.Ends.{entries_at}
 use Rattle.ac_unfold.specs.Paths.{IsPath}
 use Rattle.ac_unfold.proofs.finding.entries.Given as goal
 
 abbrev pub invariant-loop-pair : goal.invariant-loop-pair
-invariant-loop-pair l = IsPath l.made
+invariant-loop-pair l = record {
+  path : IsPath l.made;
+  exact : l.made ≡ entries_at l.params l.point (take l.pair-index l.trail);
+}

@@ -1,3 +1,9 @@
+use Rattle.std.proofs.Common.{take}
+use Rattle.ac_unfold.specs.Cutting.{AreMadeOn}
+use Rattle.ac_unfold.proofs.Results.{AreCut}
+use Rattle.ac_unfold.proofs.Stepping.{ServeBranches}
+use Rattle.ac_unfold.proofs.Coming.{AddsCalls, AddsReads}
+use Rattle.ac_unfold.specs.Searching.{AddsBroken, IsInCase}
 use Rattle.ac_unfold.proofs.unfolding.+unfold.Given as goal
 
 abbrev pub decreases-visit : goal.decreases-visit
@@ -32,3 +38,24 @@ decreases-cut_row l = l.room
 
 abbrev pub decreases-outsides : goal.decreases-outsides
 decreases-outsides l = l.room
+
+abbrev pub invariant-calls-loop-branch : goal.invariant-calls-loop-branch
+invariant-calls-loop-branch l = record {
+  serve : ServeBranches l.search l.node.placing l.node.question l.yielded l.cases.items;
+  adds : AddsCalls l.search l.node l.order l.yielded l.fn.finds l.finds;
+}
+
+abbrev pub invariant-read-loop-branch : goal.invariant-read-loop-branch
+invariant-read-loop-branch l = record {
+  serve : ServeBranches l.search l.node.placing l.node.question l.yielded l.plans.items;
+  adds : AddsReads l.search l.node l.number l.yielded l.fn.finds l.finds;
+}
+
+abbrev pub invariant-cut-loop-row : goal.invariant-cut-loop-row
+invariant-cut-loop-row l = AreCut l.search l.case l.fn.node l.course (take l.row-index l.rows)
+
+abbrev pub invariant-outsides-loop-part : goal.invariant-outsides-loop-part
+invariant-outsides-loop-part l = AreMadeOn l.search l.case l.node.placing l.node.question (take l.part-index l.parts) l.plans.items
+
+abbrev pub invariant-remainders-loop-rest : goal.invariant-remainders-loop-rest
+invariant-remainders-loop-rest l = AddsBroken l.search (IsInCase l.search l.case l.node.trail l.node.question) l.fn.finds l.finds

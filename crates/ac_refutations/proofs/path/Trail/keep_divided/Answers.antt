@@ -3,8 +3,8 @@ use Rattle.std.specs.Int.{w128}
 use Rattle.ac_integers.proofs.Bits.{again_128}
 use Rattle.ac_forms.specs.Affine.{coef}
 use Rattle.ac_forms.specs.declared.row.Row.TheVariants.{Div}
-use Rattle.ac_cert.specs.Bounds.{without}
-use Rattle.ac_cert.specs.Choices.{size_of}
+use Rattle.ac_choices.specs.Bounds.{without}
+use Rattle.ac_choices.specs.Choices.{size_of}
 use Rattle.ac_refutations.proofs.Equated.{leads-kept}
 use Rattle.ac_refutations.proofs.path.Trail.keep_divided.Goals as goal
 

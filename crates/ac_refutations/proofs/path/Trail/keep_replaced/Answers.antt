@@ -1,4 +1,4 @@
-use Rattle.ac_cert.specs.Choices.{replaced_row}
+use Rattle.ac_choices.specs.Choices.{replaced_row}
 use Rattle.ac_refutations.proofs.Equated.{leads-kept}
 use Rattle.ac_refutations.proofs.path.Trail.keep_replaced.Goals as goal
 

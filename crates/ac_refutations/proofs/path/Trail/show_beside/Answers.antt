@@ -1,7 +1,7 @@
 use Rattle.std.proofs.Common.{◌≡◌, true, List, ◌++◌, sym, ap, ◌∙◌}
 use Rattle.ac_forms.specs.declared.row.Row.{Row}
 use Rattle.ac_forms.specs.declared.row.Row.TheVariants.{Ge}
-use Rattle.ac_cert.specs.Bounds.{is_high, low_bound}
+use Rattle.ac_choices.specs.Bounds.{is_high, low_bound}
 use Rattle.ac_refutations.proofs.Bounding.{one-shown}
 use Rattle.ac_refutations.proofs.Shadowings.{shows-one}
 use Rattle.ac_refutations.proofs.path.Trail.show_beside.Goals as goal

@@ -1,7 +1,7 @@
 use Rattle.std.proofs.Common.{◌≡◌, ◌<◌, to_z, true, List, ◌++◌, length, refl, sym, ap, ◌∙◌}
 use Rattle.std.specs.Int.{w128}
 use Rattle.ac_forms.specs.declared.row.Row.{Row}
-use Rattle.ac_cert.specs.Bounds.{is_low}
+use Rattle.ac_choices.specs.Bounds.{is_low}
 use Rattle.ac_refutations.proofs.Bounding.{row-margin, low-shown, count-is}
 use Rattle.ac_refutations.proofs.Shadowings.{raised-here, one-low}
 use Rattle.ac_refutations.proofs.path.Trail.show_lower.Goals as goal

@@ -1,0 +1,94 @@
+-- What a branch of a read or an output assumes is a case of its flow.
+use Rattle.std.proofs.Common.{◌≡◌, ℕ, ◌+◌, true, List, length, Option, Some, None, refl, sym, ap, ◌∙◌, arith}
+use Rattle.std.proofs.lemmas.Bool.Decides.{nat_tests}
+use Rattle.std.specs.Prelude.{nat_eq, option_and_then, option_map, slice_get}
+use Rattle.ac_forms.specs.Affine.{Affine}
+use Rattle.ac_forms.proofs.Joining.{both_of}
+use Rattle.ac_syntax.specs.declared.tree.Position.{Position}
+use Rattle.ac_syntax.specs.declared.tree.Position.TheVariants.{Output, Node, InitialOutput, InitialNode}
+use Rattle.ac_poly.specs.declared.types.Model.{Model}
+use Rattle.ac_paths.specs.Coordinates.{width}
+use Rattle.ac_paths.specs.Going.{Pairing, model_of, root}
+use Rattle.ac_paths.specs.Killing.{source_from}
+use Rattle.ac_forms.specs.Members.{IsAmong}
+use Rattle.ac_paths.specs.declared.path.Assumed.{Assumed}
+use Rattle.ac_paths.specs.declared.path.Path.{Path}
+use Rattle.ac_paths.specs.declared.path.Seat.{Seat}
+use Rattle.ac_paths.specs.declared.path.Side.{Side}
+use Rattle.ac_paths.specs.declared.path.Side.TheVariants.{Left, Right}
+use Rattle.ac_claims.specs.Ending.{same_position}
+use Rattle.ac_flow.specs.Cases.{Reads}
+use Rattle.ac_flow.specs.Readers.{readers, AreFlows}
+use Rattle.ac_flow.specs.declared.types.Case.{Case}
+use Rattle.ac_flow.specs.declared.types.ReadFlow.{ReadFlow}
+use Rattle.ac_flow.proofs.Linking.{IsReader, OfNode, OfOutput, is_reader}
+use Rattle.ac_flow_laws.proofs.InPieces.{flows_of_readers}
+use Rattle.ac_unfold.specs.Cases.{count_at, AssumesCase, AssumesSource}
+use Rattle.ac_unfold.specs.Cutting.{flow_on, IsAssumed}
+use Rattle.ac_unfold.specs.Making.{judge_of, IsCaseAt}
+use Rattle.ac_unfold.specs.Plans.{IsSettled}
+use Rattle.ac_unfold.specs.declared.ends.Search.{Search}
+
+same_number : (a b : ℕ) → nat_eq a b ≡ true → a ≡ b
+same_number a b e = grind (arith, nat_tests)
+
+pub one_position : (p q : Position) → same_position p q ≡ true → p ≡ q
+one_position (Output o) (Output p) e = ap (λ n. Output n) (same_number o p e)
+one_position (Output o) (Node t l) e = absurd cc
+one_position (Output o) (InitialOutput p) e = absurd cc
+one_position (Output o) (InitialNode t l) e = absurd cc
+one_position (Node s k) (Output p) e = absurd cc
+one_position (Node s k) (Node t l) e = let b = both_of (nat_eq s t) (nat_eq k l) e in let f = same_number s t b.0 in let g = same_number k l b.1 in cc
+one_position (Node s k) (InitialOutput p) e = absurd cc
+one_position (Node s k) (InitialNode t l) e = absurd cc
+one_position (InitialOutput o) (Output p) e = absurd cc
+one_position (InitialOutput o) (Node t l) e = absurd cc
+one_position (InitialOutput o) (InitialOutput p) e = ap (λ n. InitialOutput n) (same_number o p e)
+one_position (InitialOutput o) (InitialNode t l) e = absurd cc
+one_position (InitialNode s k) (Output p) e = absurd cc
+one_position (InitialNode s k) (Node t l) e = absurd cc
+one_position (InitialNode s k) (InitialOutput p) e = absurd cc
+one_position (InitialNode s k) (InitialNode t l) e = let b = both_of (nat_eq s t) (nat_eq k l) e in let f = same_number s t b.0 in let g = same_number k l b.1 in cc
+
+reader_count : (m : Model) (r : Reads) → IsReader m r → count_at m r.position ≡ Some r.count
+reader_count m r (OfNode s k stmt array subs is e) = ap (option_map width) is
+reader_count m r (OfOutput o extents is) = ap (option_map (λ (e : List Affine). length e)) is
+
+-- the same seat
+seat_is : (first : ℕ) (p q : Position) (w v : ℕ) → p ≡ q → w ≡ v → ◌≡◌ {A = Seat} (record { position = p; first = first; width = w }) (record { position = q; first = first; width = v })
+seat_is first p q w v e f = cc
+
+source_is : (m : Model) (first : ℕ) (o : Option ℕ) (p : Option Seat) → AssumesSource m o p → source_from first p ≡ option_and_then (λ u. option_map (root first u) (slice_get m.stmts u)) o
+source_is m first None None h = refl
+source_is m first None (Some seat) h = absurd h
+source_is m first (Some u) None h = absurd h
+source_is m first (Some u) (Some seat) h =
+    ap (λ (s : Seat). Some s) (seat_is first seat.position (Node u 0) seat.width (width h.stmt) h.position h.wide) ∙ sym (ap (option_map (root first u)) h.is)
+
+case_in : (g : Pairing) (side : Side) (m : Model) (flows : List ReadFlow) (flow : ReadFlow) (case : Case) (q : Path) (a : Assumed) → model_of g side ≡ m → AreFlows m (readers m) flows → IsAmong flow flows → IsAmong case flow.cases → q.last ≡ Some a
+    → AssumesCase g.params m side flow case a → IsCaseAt g q case
+case_in g side m flows flow case q a e are i among is h =
+    let f = (flows_of_readers m flows are).reader flow i in
+    let r = f.0 in
+    let at : a.reader.position ≡ r.position = one_position a.reader.position flow.position h.position ∙ f.2.0 in
+    let many : Some a.reader.width ≡ Some r.count = sym h.count ∙ ap (count_at m) f.2.0 ∙ reader_count m r (is_reader m r f.1) in
+    let wide : a.reader.width ≡ r.count = cc in
+    record {
+      assumed = a;
+      is = is;
+      model = m;
+      reader = r;
+      flow = flow;
+      flow_is = f.2;
+      among = among;
+      stands_for = record {
+        model = ap (model_of g) h.on ∙ e;
+        params = h.parameters;
+        reader = seat_is m.params a.reader.position r.position a.reader.width r.count at wide;
+        source = ap (λ (n : ℕ). source_from (m.params + n) a.source) wide ∙ source_is m (m.params + r.count) case.source a.source h.source;
+      };
+    }
+
+pub case_there : (search : Search) (side : Side) (flow : ReadFlow) (case : Case) (q : Path) → IsSettled search.setting.now → IsAmong flow (flow_on search.setting.now side).reads → IsAssumed search side flow case q → IsCaseAt (judge_of search) q case
+case_there search Left flow case q s i a = case_in (judge_of search) Left (judge_of search).left search.setting.now.left_flow.now.reads flow case q a.assumed refl s.left_flow i a.among a.is a.assumes
+case_there search Right flow case q s i a = case_in (judge_of search) Right (judge_of search).right search.setting.now.right_flow.now.reads flow case q a.assumed refl s.right_flow i a.among a.is a.assumes

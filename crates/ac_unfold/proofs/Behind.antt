@@ -1,0 +1,57 @@
+-- Plans behind branches on rows.
+use Rattle.std.proofs.Common.{◌≡◌, ℕ, ◌+◌, ◌≤◌, List, [], ◌∷◌, ◌++◌, length, Option, Some, refl, sym, ap, ◌∙◌, subst, append_assoc, arith}
+use Rattle.std.specs.Prelude.{option_to_list}
+use Rattle.ac_claims.specs.declared.types.Plan.{Plan}
+use Rattle.ac_graft.specs.Sides.{BranchServesAnywhere}
+use Rattle.ac_unfold.specs.Courses.{IsBehind}
+use Rattle.ac_unfold.specs.declared.course.Open.{Open}
+
+-- the plan behind one branch more, at its end
+pub record Inside (bs : List Open) (b : Open) (end t : Plan) : Type 0 where
+  pub plan : Plan
+  pub behind : IsBehind bs plan t
+  pub serves : BranchServesAnywhere b.placing b.row end b.outside.items plan
+
+pub behind_last : (bs : List Open) (b : Open) (end t : Plan) → IsBehind (bs ++ b ∷ []) end t → Inside bs b end t
+behind_last [] b end t h = record { plan = t; behind = refl; serves = subst (λ (x : Plan). BranchServesAnywhere b.placing b.row x b.outside.items t) (sym h.1) h.2 }
+behind_last (x ∷ bs) b end t h =
+    let k = behind_last bs b end h.0 h.1 in
+    record { plan = k.plan; behind = (h.0, k.behind, h.2); serves = k.serves }
+
+-- the branches that are still to be closed, and the plan that stands behind the others
+pub record Closing (all left : List Open) (done count : ℕ) (end t : Plan) : Type 0 where
+  pub rest : List Open
+  pub are : all ≡ left ++ rest
+  pub many : done + length left ≡ count
+  pub behind : IsBehind rest end t
+
+pub closing_start : (all : List Open) (count : ℕ) (end : Plan) → count ≡ length all → Closing all all 0 count end end
+closing_start all count end e = record { rest = []; are = nothing all; many = omega (arith, e); behind = refl }
+  where
+    nothing : (xs : List Open) → xs ≡ xs ++ []
+    nothing [] = refl
+    nothing (x ∷ xs) = ap (λ (ys : List Open). x ∷ ys) (nothing xs)
+
+pub closing_next : (all left next : List Open) (b : Open) (done count : ℕ) (end t u : Plan) → Closing all left done count end t → left ≡ next ++ b ∷ [] → BranchServesAnywhere b.placing b.row t b.outside.items u → Closing all next (done + 1) count end u
+closing_next all left next b done count end t u h e s = record {
+  rest = b ∷ h.rest;
+  are = h.are ∙ ap (λ (xs : List Open). xs ++ h.rest) e ∙ append_assoc next (b ∷ []) h.rest;
+  many = omega (arith, h.many, ap length e, longer next);
+  behind = (t, h.behind, s);
+}
+  where
+    longer : (xs : List Open) → length (xs ++ b ∷ []) ≡ length xs + 1
+    longer [] = refl
+    longer (x ∷ xs) = let k = longer xs in omega (arith, k)
+
+pub popped : (xs ys : List Open) (o : Option Open) (x : Open) → xs ≡ ys ++ option_to_list o → o ≡ Some x → xs ≡ ys ++ x ∷ []
+popped xs ys o x e is = e ∙ ap (λ z. ys ++ option_to_list z) is
+
+pub closing_end : (all left : List Open) (done count : ℕ) (end t : Plan) → Closing all left done count end t → count ≤ done → IsBehind all end t
+closing_end all left done count end t h l = let none : length left ≡ 0 = omega (arith, h.many, l) in subst (λ (xs : List Open). IsBehind xs end t) (sym (h.are ∙ ap (λ (xs : List Open). xs ++ h.rest) (empty left none))) h.behind
+  where
+    empty : (xs : List Open) → length xs ≡ 0 → xs ≡ []
+    empty [] e = refl
+    empty (x ∷ xs) e = absurd (omega (arith, e))
+
+pub ruleset closing_steps = (closing_start, closing_next, closing_end)

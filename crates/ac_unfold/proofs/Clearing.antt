@@ -1,0 +1,59 @@
+-- Claims that are not of a pair, up to a number, and the one that is.
+use Rattle.std.proofs.Common.{◌≡◌, inl, inr, ℕ, zero, suc, ◌+◌, ◌<◌, ◌≤◌, ◌&&◌, nat_eq, Bool, true, false, List, [], ◌∷◌, ◌++◌, length, take, get_or, Some, refl, sym, ap, ◌∙◌, subst, arith}
+use Rattle.std.specs.Prelude.{slice_get}
+use Rattle.std.proofs.lemmas.Bool.{eq-eqb}
+use Rattle.std.proofs.lemmas.List.{take_more, take_all}
+use Rattle.ac_syntax.specs.declared.tree.Position.{Position}
+use Rattle.ac_syntax.specs.declared.tree.Position.TheVariants.{Output, Node, InitialOutput, InitialNode}
+use Rattle.ac_forms.specs.Members.{IsAmong}
+use Rattle.ac_claims.specs.Ending.{same_position}
+use Rattle.ac_claims.specs.declared.types.Claim.{Claim}
+use Rattle.ac_unfold.specs.Cutting.{IsNumbered}
+
+-- none of the claims is of these positions
+abbrev pub NoneOf : List Claim → Position → Position → Type 0
+NoneOf claims P Q = (c : Claim) → IsAmong c claims → P ≡ c.left → ¬ (Q ≡ c.right)
+
+both_true : (a b : Bool) → (a && b) ≡ true → (a ≡ true) × (b ≡ true)
+both_true true true e = (refl, refl)
+both_true true false e = absurd cc
+both_true false b e = absurd cc
+
+true_both : (a b : Bool) → a ≡ true → b ≡ true → (a && b) ≡ true
+true_both a b e f = rw (e, f) refl
+
+position_self : (P : Position) → same_position P P ≡ true
+position_self (Output o) = eq-eqb o o refl
+position_self (Node s k) = true_both (nat_eq s s) (nat_eq k k) (eq-eqb s s refl) (eq-eqb k k refl)
+position_self (InitialOutput o) = eq-eqb o o refl
+position_self (InitialNode s k) = true_both (nat_eq s s) (nat_eq k k) (eq-eqb s s refl) (eq-eqb k k refl)
+
+same_if : (P Q : Position) → P ≡ Q → same_position P Q ≡ true
+same_if P Q e = subst (λ (z : Position). same_position P z ≡ true) e (position_self P)
+
+get_is : (xs : List Claim) (i : ℕ) (x : Claim) → i < length xs → x ≡ get_or xs i x → slice_get xs i ≡ Some x
+get_is [] i x l e = absurd (omega (arith, l))
+get_is (y ∷ xs) zero x l e = ap Some (sym e)
+get_is (y ∷ xs) (suc i) x l e = get_is xs i x (omega (arith, l)) e
+
+pub numbered : (claims : List Claim) (P Q : Position) (i : ℕ) (c : Claim) → i < length claims → c ≡ get_or claims i c → (same_position P c.left && same_position Q c.right) ≡ true → IsNumbered claims P Q i
+numbered claims P Q i c l e t =
+    let b = both_true (same_position P c.left) (same_position Q c.right) t in
+    record { claim = c; is = get_is claims i c l e; left_is = b.0; right_is = b.1 }
+
+pub none_first : (claims : List Claim) (P Q : Position) → NoneOf (take 0 claims) P Q
+none_first claims P Q c i = absurd i
+
+pub none_more : (claims : List Claim) (P Q : Position) (i : ℕ) (c : Claim) → NoneOf (take i claims) P Q → i < length claims → c ≡ get_or claims i c → (same_position P c.left && same_position Q c.right) ≡ false → NoneOf (take (i + 1) claims) P Q
+none_more claims P Q i c h l e t d n = by (take i claims) h (subst (IsAmong d) (take_more claims i c l ∙ ap (λ (x : Claim). take i claims ++ x ∷ []) (sym e)) n)
+  where
+    by : (xs : List Claim) → NoneOf xs P Q → IsAmong d (xs ++ c ∷ []) → P ≡ d.left → ¬ (Q ≡ d.right)
+    by [] k (inl j) p q =
+        let both : (same_position P d.left && same_position Q d.right) ≡ true = true_both (same_position P d.left) (same_position Q d.right) (same_if P d.left p) (same_if Q d.right q) in
+        let z : true ≡ false = sym both ∙ ap (λ (x : Claim). same_position P x.left && same_position Q x.right) j ∙ t in absurd cc
+    by [] k (inr j) p q = absurd j
+    by (x ∷ xs) k (inl j) p q = k d (inl j) p q
+    by (x ∷ xs) k (inr j) p q = by xs (λ y m. k y (inr m)) j p q
+
+pub none_all : (claims : List Claim) (P Q : Position) (i : ℕ) → length claims ≤ i → NoneOf (take i claims) P Q → NoneOf claims P Q
+none_all claims P Q i l h = subst (λ (xs : List Claim). NoneOf xs P Q) (take_all i claims l) h

@@ -1,0 +1,400 @@
+-- How an unfolding comes to the questions of a search, and what is broken there.
+use Rattle.std.proofs.Common.{◌≡◌, inl, inr, ℕ, zero, suc, ◌+◌, ◌-◌, ◌≤◌, Bool, true, false, ℤ, List, [], ◌∷◌, ◌++◌, length, map, Some, None, refl, sym, ap, ◌∙◌, subst, arith, append_assoc, append-nil}
+use Rattle.std.specs.Prelude.{Result, Ok, Err, OnOk, slice_get, option_and_then, option_map}
+use Rattle.std.specs.List.{AllByRecursion, range_with_len}
+use Rattle.ac_forms.specs.Renaming.{picked, row_renaming, rows_renaming}
+use Rattle.ac_forms.specs.Rows.{Holds, Meets, AreRowsOver, IsWellMade}
+use Rattle.ac_forms.specs.declared.conj.Conj.{Conj}
+use Rattle.ac_forms.specs.declared.row.Row.{Row}
+use Rattle.ac_forms.proofs.Distinct.{row_renaming-points}
+use Rattle.ac_syntax.specs.declared.tree.Order.{Order}
+use Rattle.ac_syntax.specs.declared.tree.Order.TheVariants.{Keep}
+use Rattle.ac_choices.proofs.Keeping.{bind-some, map-some, some-is}
+use Rattle.ac_paths.specs.Branching.{onto}
+use Rattle.ac_paths.specs.Columns.{base, columns_of}
+use Rattle.ac_paths.specs.Going.{Pairing, at_rows, branches, extended, seat_of}
+use Rattle.ac_paths.specs.Calls.{pairing}
+use Rattle.ac_paths.specs.Killing.{case_columns}
+use Rattle.ac_forms.specs.Members.{IsAmong}
+use Rattle.ac_paths.specs.declared.path.Assumed.{Assumed}
+use Rattle.ac_paths.specs.declared.path.Branch.{Branch}
+use Rattle.ac_paths.specs.declared.path.Path.{Path}
+use Rattle.ac_paths.specs.declared.path.Seat.{Seat}
+use Rattle.ac_paths.specs.declared.path.Side.{Side}
+use Rattle.ac_paths.specs.declared.path.Side.TheVariants.{Left, Right}
+use Rattle.ac_widen.specs.declared.derivation.Entry.{Entry}
+use Rattle.ac_claims.specs.Domains.{of_width, piece_by}
+use Rattle.ac_claims.specs.ProofFaults.{domain, left_seat, piece_rows, right_seat, start, start_columns}
+use Rattle.ac_claims.specs.Remaining.{start_at, start_beside, start_of}
+use Rattle.ac_claims.specs.declared.domains.Piece.{Piece}
+use Rattle.ac_claims.specs.declared.types.Claim.{Claim}
+use Rattle.ac_claims.specs.declared.types.PlanNext.{PlanNext}
+use Rattle.ac_claims.proofs.Plans.{position_is}
+use Rattle.ac_flow.specs.declared.types.Case.{Case}
+use Rattle.ac_flow.specs.declared.types.ReadFlow.{ReadFlow}
+use Rattle.ac_flow.specs.declared.types.Remainder.{Remainder}
+use Rattle.ac_graph.specs.Moves.{pairing_of}
+use Rattle.ac_graph.specs.Steps.{HaveFlows}
+use Rattle.ac_stopping.specs.Parts.{order_of as listed}
+use Rattle.ac_syntax.specs.declared.tree.Site.{Site}
+use Rattle.ac_setting.specs.Programs.{order_at}
+use Rattle.ac_leading.specs.Ends.{entries_at}
+use Rattle.ac_leading.specs.Leading.{Unfolding, ComesTo, params_of, positions_of, seats_of}
+use Rattle.ac_leading.specs.Steps.{at_rest, columns_left, flow_on, further, order_of, with_rest, IsReached}
+use Rattle.ac_leading.proofs.Calling.{orders_are_taken}
+use Rattle.ac_leading.proofs.Reaching.{trails_lead}
+use Rattle.ac_unfold.specs.Broken.{EndsBroken, HasNoClaim, IsBroken, IsUnfoldingOf}
+use Rattle.ac_unfold.specs.Cutting.{IsClaimBehind}
+use Rattle.ac_unfold.specs.Cutting as cutting
+use Rattle.ac_unfold.specs.Making.{judge_of}
+use Rattle.ac_unfold.specs.Searching.{Adds, AddsBroken, IsAt, IsFrom, IsInCase, IsKindThere, IsOf, IsPast, IsPathAt, IsPathBreaking, Reached}
+use Rattle.ac_unfold.specs.declared.ends.Search.{Search}
+use Rattle.ac_unfold.specs.declared.kinds.Next.TheVariants as next
+use Rattle.ac_unfold.specs.declared.node.Node.{Node}
+use Rattle.ac_unfold.specs.declared.types.Setting.{Setting}
+use Rattle.ac_unfold.proofs.Adding.{adds_all}
+
+-- ---- what is added, one after the other
+
+pub broken_none : (search : Search) (At : Unfolding → Type 0) (before after : List (List Entry)) → after ≡ before → AddsBroken search At before after
+unfolding AddsBroken
+broken_none search At before after e off u of at h = subst (AllByRecursion (IsBroken u search.claims.now)) (sym e) h
+
+pub broken_then : (search : Search) (At : Unfolding → Type 0) (a b c : List (List Entry)) → AddsBroken search At a b → AddsBroken search At b c → AddsBroken search At a c
+unfolding AddsBroken
+broken_then search At a b c h k off u of at all = k off u of at (h off u of at all)
+
+pub broken_off : (search : Search) (At : Unfolding → Type 0) (before after : List (List Entry)) → search.making ≡ true → AddsBroken search At before after
+unfolding AddsBroken
+broken_off search At before after e off = let z : true ≡ false = sym e ∙ off in absurd cc
+
+-- at one place, where it was at another
+pub broken_from : (search : Search) (At Next : Unfolding → Type 0) (before after : List (List Entry)) → ((u : Unfolding) → IsOf search u → At u → Next u) → AddsBroken search Next before after → AddsBroken search At before after
+unfolding AddsBroken
+broken_from search At Next before after f h off u of at = h off u of (f u of at)
+
+-- ---- lists of pairs
+
+all_last : (claims : List Claim) (xs : List (Seat × Seat)) (s : Seat × Seat) → AllByRecursion (HasNoClaim claims) xs → HasNoClaim claims s → AllByRecursion (HasNoClaim claims) (xs ++ s ∷ [])
+all_last claims [] s h k = (k, tt)
+all_last claims (x ∷ xs) s h k = (h.0, all_last claims xs s h.1 k)
+
+-- ---- where no claim stands
+
+pub is_past : (search : Search) (trail : List (Seat × Seat)) (q : Path) (u : Unfolding) → (q.gone ≡ true → HasNoClaim search.claims.now (seats_of q)) → IsAt search trail q u → IsPast search trail q u
+is_past search trail q u none at = by q.gone refl
+  where
+    by : (b : Bool) → q.gone ≡ b → IsPast search trail q u
+    by false e = record { reached = at.reached; first = seats_of q; rest = []; is = at.begins e; free = tt }
+    by true e =
+        let b = at.behind e in
+        record { reached = at.reached; first = b.first; rest = b.between ++ seats_of q ∷ []; is = b.is; free = all_last search.claims.now b.between (seats_of q) b.free (none e) }
+
+pub broken_past : (search : Search) (trail : List (Seat × Seat)) (q : Path) (before after : List (List Entry)) → (q.gone ≡ true → HasNoClaim search.claims.now (seats_of q)) → AddsBroken search (IsPast search trail q) before after → AddsBroken search (IsAt search trail q) before after
+broken_past search trail q before after none h = broken_from search (IsAt search trail q) (IsPast search trail q) before after (λ u of at. is_past search trail q u none at) h
+
+-- ---- a point of a question
+
+params_are : (search : Search) (u : Unfolding) → IsOf search u → params_of u ≡ (judge_of search).params
+params_are search u of = ap (λ (g : Pairing). g.params) of.programs
+
+-- the path of a trail at a point, with its end
+path_broken : (search : Search) (u : Unfolding) (trail : List (Seat × Seat)) (q : Path) (p : List ℤ) (first : Seat × Seat) (rest : List (Seat × Seat)) (es : List Entry) → IsOf search u → Reached search u trail q → q.conj.columns ≤ length p → Meets q.conj.rows p → trail ≡ first ∷ rest
+    → es ≡ entries_at (judge_of search).params p trail → EndsBroken u search.claims.now rest q p → IsBroken u search.claims.now es
+path_broken search u trail q p first rest es of reached long meets is are ends =
+    let comes = trails_lead u search.setting.now.left_flow.now search.setting.now.right_flow.now trail q of.flows reached p long meets in
+    record {
+      first = first;
+      rest = rest;
+      question = q;
+      point = p;
+      comes = subst (λ (t : List (Seat × Seat)). ComesTo u t q p) is comes;
+      are = are ∙ ap (λ (n : ℕ). entries_at n p trail) (sym (params_are search u of)) ∙ ap (entries_at (params_of u) p) is;
+      ends = ends;
+    }
+
+-- ---- mismatches
+
+pub mismatch_broken : (search : Search) (trail : List (Seat × Seat)) (q : Path) (before after : List (List Entry)) → IsKindThere search q next.Mismatch → (search.making ≡ false → Adds (IsPathAt (judge_of search).params trail q.conj) before after)
+    → AddsBroken search (IsPast search trail q) before after
+unfolding AddsBroken IsKindThere
+mismatch_broken search trail q before after kind h off u of at all =
+    adds_all (IsPathAt (judge_of search).params trail q.conj) (IsBroken u search.claims.now) before after
+    (λ es x. let l = x.there.long in path_broken search u trail q x.point at.first at.rest es of at.reached (omega (arith, l)) x.there.meets at.is x.are (inl (record { free = at.free; nothing = kind u of x.point }))) (h off) all
+
+pub match_broken : (search : Search) (trail : List (Seat × Seat)) (q : Path) (rows : List Row) (end : PlanNext) (before after : List (List Entry)) → IsKindThere search q (next.Match rows end)
+    → (search.making ≡ false → Adds (IsPathBreaking (judge_of search).params trail q.conj rows) before after) → AddsBroken search (IsPast search trail q) before after
+unfolding AddsBroken IsKindThere
+match_broken search trail q rows end before after kind h off u of at all =
+    adds_all (IsPathBreaking (judge_of search).params trail q.conj rows) (IsBroken u search.claims.now) before after
+    (λ es x. path_broken search u trail q x.point at.first at.rest es of at.reached x.long x.meets at.is x.are (inl (record { free = at.free; nothing = kind u of x.point x.row x.among x.fails }))) (h off) all
+
+-- ---- claims
+
+renamed_in : (ks : List ℕ) (rows made : List Row) → rows_renaming ks rows ≡ Some made → (r : Row) → IsAmong r made → (row : Row) × IsAmong row rows × (row_renaming ks row ≡ Some r)
+renamed_in ks [] made e r i = let j : [] ≡ made = cc in absurd (subst (IsAmong r) (sym j) i)
+renamed_in ks (x ∷ rows) made e r i =
+    let b = bind-some (row_renaming ks x) (λ s. option_map (λ ss. s ∷ ss) (rows_renaming ks rows)) made e in
+    let c = map-some (rows_renaming ks rows) (λ ss. b.0 ∷ ss) made b.2 in
+    by b.0 b.1 c.0 (renamed_in ks rows c.0 c.1 r) (subst (IsAmong r) c.2 i)
+  where
+    by : (s : Row) → row_renaming ks x ≡ Some s → (ss : List Row) → (IsAmong r ss → (row : Row) × IsAmong row rows × (row_renaming ks row ≡ Some r)) → IsAmong r (s ∷ ss) → (row : Row) × IsAmong row (x ∷ rows) × (row_renaming ks row ≡ Some r)
+    by s is ss next (inl j) = (x, inl refl, is ∙ ap Some (sym j))
+    by s is ss next (inr j) = let z = next j in (z.0, inr z.1, z.2)
+
+in_get : (xs : List Claim) (i : ℕ) (x : Claim) → slice_get xs i ≡ Some x → IsAmong x xs
+in_get [] i x e = absurd cc
+in_get (y ∷ xs) zero x e = inl cc
+in_get (y ∷ xs) (suc i) x e = inr (in_get xs i x e)
+
+pub claim_broken : (search : Search) (trail : List (Seat × Seat)) (q : Path) (number : ℕ) (claim : Claim) (rows : List Row) (before after : List (List Entry)) → IsClaimBehind search q number → slice_get search.claims.now number ≡ Some claim
+    → Some rows ≡ rows_renaming (base (judge_of search).params ++ (columns_of q.left ++ columns_of q.right)) claim.rows → (search.making ≡ false → Adds (IsPathBreaking (judge_of search).params trail q.conj rows) before after)
+    → AddsBroken search (IsAt search trail q) before after
+unfolding AddsBroken
+claim_broken search trail q number claim rows before after there get made h off u of at all =
+    adds_all (IsPathBreaking (judge_of search).params trail q.conj rows) (IsBroken u search.claims.now) before after (λ es x. by es x (renamed_in ks claim.rows rows (sym made) x.row x.among)) (h off) all
+  where
+    ks : List ℕ
+    ks = base (judge_of search).params ++ (columns_of q.left ++ columns_of q.right)
+
+    same : there.at.claim ≡ claim
+    same = some-is there.at.claim claim (sym there.at.is ∙ get)
+
+    by : (es : List Entry) → (x : IsPathBreaking (judge_of search).params trail q.conj rows es) → (row : Row) × IsAmong row claim.rows × (row_renaming ks row ≡ Some x.row) → IsBroken u search.claims.now es
+    by es x r =
+        let b = at.behind there.gone in
+        let n = params_are search u of in
+        let fails : ¬ (Holds r.0 (picked ks x.point)) = λ h. x.fails.fails ((row_renaming-points ks r.0 x.row x.point r.2).1 h) in
+        path_broken search u trail q x.point b.first (b.between ++ seats_of q ∷ []) es of at.reached x.long x.meets b.is x.are
+        (inr (record {
+          between = b.between;
+          rest_is = refl;
+          free = b.free;
+          claim = claim;
+          among = in_get search.claims.now number claim get;
+          left_is = position_is q.left.position there.at.claim.left there.at.left_is ∙ ap (λ (c : Claim). c.left) same;
+          right_is = position_is q.right.position there.at.claim.right there.at.right_is ∙ ap (λ (c : Claim). c.right) same;
+          row = r.0;
+          row_among = r.1;
+          fails = subst (λ (k : ℕ). ¬ (Holds r.0 (picked (base k ++ (columns_of q.left ++ columns_of q.right)) x.point))) (sym n) fails;
+        }))
+
+-- ---- starts
+
+-- where a claim starts, the unfolding of the claim begins
+pub is_begun : (search : Search) (start : Claim) (left right : ℕ) (path : Path) (node : Node) (u : Unfolding) → start_at (judge_of search) start left right ≡ Some path → IsWellMade path.conj → node.question ≡ path → node.trail ≡ seats_of path ∷ [] → IsOf search u → IsFrom start u
+    → IsAt search node.trail node.question u
+is_begun search start left right path node u e made q t of from =
+    let g = judge_of search in
+    let a = bind-some (piece_by left (domain g.left start.left)) (λ (l : Piece). start_beside g start l (piece_by right (domain g.right start.right))) path e in
+    let b = bind-some (piece_by right (domain g.right start.right)) (start_of g start a.0) path a.2 in
+    let m = map-some (piece_rows g start (of_width a.0.width) (of_width b.0.width) a.0.rows b.0.rows) (λ (rows : List Row). record {
+      conj = record { columns = start_columns g (of_width a.0.width) (of_width b.0.width); rows = start.rows ++ (g.left.context ++ rows) };
+      left = left_seat g start (of_width a.0.width);
+      right = right_seat g start (of_width a.0.width) (of_width b.0.width);
+      gone = false;
+      last = None;
+    }) path b.2 in
+    let gone : path.gone ≡ false = ap (λ (x : Path). x.gone) m.2 in
+    let rows : path.conj.rows ≡ start.rows ++ (g.left.context ++ m.0) = ap (λ (x : Path). x.conj.rows) m.2 in
+    let over : AreRowsOver path.conj.columns start.rows = front path.conj.columns start.rows (g.left.context ++ m.0) (subst (AreRowsOver path.conj.columns) rows made) in
+    let begins : start_at (pairing_of u.pair) u.claim left right ≡ Some path = ap (λ (c : Claim). start_at (pairing_of u.pair) c left right) from ∙ ap (λ (x : Pairing). start_at x start left right) of.programs ∙ e in
+    let reached : Reached search u (seats_of path ∷ []) path = IsReached.start left right path begins (subst (λ (c : Claim). AreRowsOver path.conj.columns c.rows) (sym from) over) in
+    let at : IsAt search (seats_of path ∷ []) path u = record { reached = reached; begins = λ _. refl; behind = λ g. absurd (not_both path.gone gone g) } in
+    subst (λ (x : List (Seat × Seat)). IsAt search x node.question u) (sym t) (subst (λ (x : Path). IsAt search (seats_of path ∷ []) x u) (sym q) at)
+  where
+    front : (n : ℕ) (xs ys : List Row) → AreRowsOver n (xs ++ ys) → AreRowsOver n xs
+    front n [] ys h = tt
+    front n (x ∷ xs) ys h = (h.0, front n xs ys h.1)
+
+    not_both : (b : Bool) → b ≡ false → ¬ (b ≡ true)
+    not_both b e f = let z : false ≡ true = sym e ∙ f in absurd cc
+
+pub begun_broken : (search : Search) (start : Claim) (left right : ℕ) (path : Path) (node next : Node) (before after : List (List Entry)) → start_at (judge_of search) start left right ≡ Some path → IsWellMade path.conj → node.question ≡ path → node.trail ≡ seats_of path ∷ []
+    → next.question ≡ node.question → next.trail ≡ node.trail → AddsBroken search (IsAt search next.trail next.question) before after → AddsBroken search (IsFrom start) before after
+begun_broken search start left right path node next before after e made q t q' t' h =
+    broken_from search (IsFrom start) (IsAt search next.trail next.question) before after (λ u of from. is_begun search start left right path next u e made (q' ∙ q) (t' ∙ t) of from) h
+
+-- ---- calls
+
+-- behind a branch of two calls
+behind_call : (search : Search) (trail : List (Seat × Seat)) (q : Path) (order : Order) (bs : List Path) (b : Path) (u : Unfolding) → IsOf search u → IsKindThere search q (next.Calls order) → branches (judge_of search) order q ≡ Some bs → IsAmong b bs → b.gone ≡ true → IsPast search trail q u
+    → IsAt search (trail ++ seats_of b ∷ []) b u
+unfolding IsKindThere
+behind_call search trail q order bs b u of kind is i gone at =
+    let k = kind u of in
+    let there : branches (pairing_of u.pair) order q ≡ Some bs = ap (λ (g : Pairing). branches g order q) of.programs ∙ is in
+    let key = positions_of (seats_of q) in
+    let same : order_of u q ≡ order = ap (order_at u.pair key) k.1 ∙ orders_are_taken u q order bs k.0 there in
+    let taken : branches (pairing_of u.pair) (order_of u q) q ≡ Some bs = ap (λ (o : Order). branches (pairing_of u.pair) o q) same ∙ there in
+    record {
+      reached = IsReached.call trail q b bs at.reached k.0 taken i;
+      begins = λ e. let z : false ≡ true = sym e ∙ gone in absurd cc;
+      behind = λ _. record { first = at.first; between = at.rest; is = ap (λ (xs : List (Seat × Seat)). xs ++ seats_of b ∷ []) at.is; free = at.free };
+    }
+
+-- paths are added behind the first branches of some, of which these are the branches of two calls
+unfoldable pub AddsCalls : Search → Node → Order → List Branch → List (List Entry) → List (List Entry) → Type 0
+AddsCalls search node order found before after = (rest : List Branch) → Some (map (onto node.question) (found ++ rest)) ≡ branches (judge_of search) order node.question → AddsBroken search (IsPast search node.trail node.question) before after
+
+pub calls_none : (search : Search) (node : Node) (order : Order) (before after : List (List Entry)) → after ≡ before → AddsCalls search node order [] before after
+unfolding AddsCalls
+calls_none search node order before after e rest is = broken_none search (IsPast search node.trail node.question) before after e
+
+in_middle : (q : Path) (xs rest : List Branch) (b : Branch) → IsAmong (onto q b) (map (onto q) (xs ++ b ∷ rest))
+in_middle q [] rest b = inl refl
+in_middle q (x ∷ xs) rest b = inr (in_middle q xs rest b)
+
+pub calls_more : (search : Search) (node : Node) (order : Order) (found : List Branch) (b : Branch) (child : Node) (before now after : List (List Entry)) → IsKindThere search node.question (next.Calls order) → AddsCalls search node order found before now
+    → child.question ≡ onto node.question b → child.trail ≡ node.trail ++ (b.left, b.right) ∷ [] → AddsBroken search (IsAt search child.trail child.question) now after → AddsCalls search node order (found ++ b ∷ []) before after
+unfolding AddsCalls
+calls_more search node order found b child before now after kind h e f k rest is =
+    let all : Some (map (onto node.question) (found ++ b ∷ rest)) ≡ branches (judge_of search) order node.question = ap (λ (xs : List Branch). Some (map (onto node.question) xs)) (sym (append_assoc found (b ∷ []) rest)) ∙ is in
+    let there : (u : Unfolding) → IsOf search u → IsPast search node.trail node.question u → IsAt search child.trail child.question u = λ u of at.
+    subst (λ (x : List (Seat × Seat)). IsAt search x child.question u) (sym f) (subst (λ (x : Path). IsAt search (node.trail ++ (b.left, b.right) ∷ []) x u) (sym e)
+    (behind_call search node.trail node.question order (map (onto node.question) (found ++ b ∷ rest)) (onto node.question b) u of kind (sym all) (in_middle node.question found rest b) refl at)) in
+    broken_then search (IsPast search node.trail node.question) before now after (h (b ∷ rest) all) (broken_from search (IsPast search node.trail node.question) (IsAt search child.trail child.question) now after there k)
+
+pub calls_all : (search : Search) (node : Node) (order : Order) (found : List Branch) (before after : List (List Entry)) → AddsCalls search node order found before after → Some (map (onto node.question) found) ≡ branches (judge_of search) order node.question
+    → AddsBroken search (IsPast search node.trail node.question) before after
+unfolding AddsCalls
+calls_all search node order found before after h is = h [] (ap (λ (xs : List Branch). Some (map (onto node.question) xs)) (append-nil found) ∙ is)
+
+-- ---- reads
+
+-- the same of a read or an output, and so many of its branches
+unfoldable pub AddsReads : Search → Node → ℕ → List Branch → List (List Entry) → List (List Entry) → Type 0
+AddsReads search node number found before after = (number ≡ length found) × ((rest : List Branch) → Some (map (onto node.question) (found ++ rest)) ≡ branches (judge_of search) Keep node.question → AddsBroken search (IsPast search node.trail node.question) before after)
+
+pub reads_none : (search : Search) (node : Node) (before after : List (List Entry)) → after ≡ before → AddsReads search node 0 [] before after
+unfolding AddsReads
+reads_none search node before after e = (refl, λ rest is. broken_none search (IsPast search node.trail node.question) before after e)
+
+get_middle : (q : Path) (xs rest : List Branch) (b : Branch) → slice_get (map (onto q) (xs ++ b ∷ rest)) (length xs) ≡ Some (onto q b)
+get_middle q [] rest b = refl
+get_middle q (x ∷ xs) rest b = get_middle q xs rest b
+
+length_last : (xs : List Branch) (b : Branch) → length (xs ++ b ∷ []) ≡ length xs + 1
+length_last [] b = refl
+length_last (x ∷ xs) b = ap suc (length_last xs b) ∙ omega arith
+
+flow_there : (setting : Setting) (side : Side) (read : ReadFlow) → IsAmong read (cutting.flow_on setting side).reads → IsAmong read (flow_on setting.left_flow.now setting.right_flow.now side).reads
+flow_there setting Left read i = i
+flow_there setting Right read i = i
+
+-- the branch of a case with its number
+in_case : (search : Search) (node : Node) (side : Side) (read : ReadFlow) (case : Case) (number : ℕ) (found rest : List Branch) (b : Branch) (u : Unfolding) → IsOf search u → IsKindThere search node.question (next.Read side)
+    → IsAmong read (cutting.flow_on search.setting.now side).reads → read.position ≡ (seat_of node.question side).position → slice_get read.cases number ≡ Some case → number ≡ length found
+    → Some (map (onto node.question) (found ++ b ∷ rest)) ≡ branches (judge_of search) Keep node.question → IsPast search node.trail node.question u → IsInCase search case (node.trail ++ (b.left, b.right) ∷ []) (onto node.question b) u
+unfolding IsKindThere
+in_case search node side read case number found rest b u of kind among position get count is at =
+    let q = node.question in
+    let bs = map (onto q) (found ++ b ∷ rest) in
+    record {
+      before = node.trail;
+      question = q;
+      past = at;
+      side = side;
+      branch = record {
+        reads = kind u of;
+        read = read;
+        among = flow_there search.setting.now side read among;
+        position_is = position;
+        branches_of = bs;
+        are = ap (λ (g : Pairing). branches g Keep q) of.programs ∙ sym is;
+        number = number;
+        branch_is = ap (slice_get bs) count ∙ get_middle q found rest b;
+        case_is = get;
+      };
+      trail_is = refl;
+      gone = refl;
+    }
+
+pub reads_more : (search : Search) (node : Node) (side : Side) (read : ReadFlow) (case : Case) (number next_number : ℕ) (found : List Branch) (b : Branch) (child : Node) (before now after : List (List Entry)) → IsKindThere search node.question (next.Read side)
+    → IsAmong read (cutting.flow_on search.setting.now side).reads → read.position ≡ (seat_of node.question side).position → slice_get read.cases number ≡ Some case → AddsReads search node number found before now
+    → child.question ≡ onto node.question b → child.trail ≡ node.trail ++ (b.left, b.right) ∷ [] → next_number ≡ number + 1 → AddsBroken search (IsInCase search case child.trail child.question) now after → AddsReads search node next_number (found ++ b ∷ []) before after
+unfolding AddsReads
+reads_more search node side read case number next_number found b child before now after kind among position get h e f n k = (
+  n ∙ ap (λ (j : ℕ). j + 1) h.0 ∙ sym (length_last found b),
+  λ rest is.
+      let all : Some (map (onto node.question) (found ++ b ∷ rest)) ≡ branches (judge_of search) Keep node.question = ap (λ (xs : List Branch). Some (map (onto node.question) xs)) (sym (append_assoc found (b ∷ []) rest)) ∙ is in
+      let there : (u : Unfolding) → IsOf search u → IsPast search node.trail node.question u → IsInCase search case child.trail child.question u = λ u of at.
+      subst (λ (x : List (Seat × Seat)). IsInCase search case x child.question u) (sym f) (subst (λ (x : Path). IsInCase search case (node.trail ++ (b.left, b.right) ∷ []) x u) (sym e)
+      (in_case search node side read case number found rest b u of kind among position get h.0 all at)) in
+      broken_then search (IsPast search node.trail node.question) before now after (h.1 (b ∷ rest) all) (broken_from search (IsPast search node.trail node.question) (IsInCase search case child.trail child.question) now after there k),
+)
+
+pub reads_all : (search : Search) (node : Node) (number : ℕ) (found : List Branch) (before after : List (List Entry)) → AddsReads search node number found before after → Some (map (onto node.question) found) ≡ branches (judge_of search) Keep node.question
+    → AddsBroken search (IsPast search node.trail node.question) before after
+unfolding AddsReads
+reads_all search node number found before after h is = h.1 [] (ap (λ (xs : List Branch). Some (map (onto node.question) xs)) (append-nil found) ∙ is)
+
+-- ---- what is left of a case
+
+rest_keeps : (n : ℕ) (b : Path) (rest : Conj) (d : Path) → at_rest n b rest ≡ Some d → (d.gone ≡ b.gone) × (seats_of d ≡ seats_of b)
+rest_keeps n b rest d e =
+    let a = bind-some b.last (with_rest n b rest) d e in
+    let m = map-some _ _ d a.2 in
+    (ap (λ (x : Path). x.gone) m.2, ap seats_of m.2)
+
+at_piece : (search : Search) (case : Case) (trail : List (Seat × Seat)) (b d : Path) (rest : Remainder) (u : Unfolding) → IsOf search u → IsAmong rest case.pieces → at_rest (judge_of search).params b rest.conj ≡ Some d → IsInCase search case trail b u → IsAt search trail d u
+at_piece search case trail b d rest u of i e at =
+    let n = params_are search u of in
+    let e' : at_rest (params_of u) b rest.conj ≡ Some d = ap (λ (k : ℕ). at_rest k b rest.conj) n ∙ e in
+    let k = rest_keeps (judge_of search).params b rest.conj d e in
+    let reached : Reached search u (at.before ++ seats_of b ∷ []) d = IsReached.read at.before at.side at.question b d case rest at.past.reached at.branch i e' in
+    record {
+      reached = subst (λ (t : List (Seat × Seat)). Reached search u t d) (sym at.trail_is) reached;
+      begins = λ f. let z : false ≡ true = sym f ∙ k.0 ∙ at.gone in absurd cc;
+      behind = λ _. record {
+        first = at.past.first;
+        between = at.past.rest;
+        is = at.trail_is ∙ ap (λ (xs : List (Seat × Seat)). xs ++ seats_of b ∷ []) at.past.is ∙ ap (λ (s : Seat × Seat). at.past.first ∷ (at.past.rest ++ s ∷ [])) (sym k.1);
+        free = at.past.free;
+      };
+    }
+
+pub piece_broken : (search : Search) (case : Case) (node child next : Node) (rest : Remainder) (before now after : List (List Entry)) → AddsBroken search (IsInCase search case node.trail node.question) before now → IsAmong rest case.pieces
+    → at_rest (judge_of search).params node.question rest.conj ≡ Some child.question → child.trail ≡ node.trail → next.question ≡ child.question → next.trail ≡ child.trail → AddsBroken search (IsAt search next.trail next.question) now after
+    → AddsBroken search (IsInCase search case node.trail node.question) before after
+piece_broken search case node child next rest before now after h i e t q' t' k =
+    let there : (u : Unfolding) → IsOf search u → IsInCase search case node.trail node.question u → IsAt search next.trail next.question u = λ u of at.
+    subst (λ (x : List (Seat × Seat)). IsAt search x next.question u) (sym (t' ∙ t)) (subst (λ (x : Path). IsAt search node.trail x u) (sym q') (at_piece search case node.trail node.question child.question rest u of i e at)) in
+    broken_then search (IsInCase search case node.trail node.question) before now after h (broken_from search (IsInCase search case node.trail node.question) (IsAt search next.trail next.question) now after there k)
+
+-- ---- results
+
+pub on_ok : {T E : Type 0} (res : Result T E) (P Q : Type 0) → (P → Q) → OnOk res P → OnOk res Q
+on_ok (Ok x) P Q f h = f h
+on_ok (Err e) P Q f h = tt
+
+pub on_ok_if : {T E : Type 0} (res : Result T E) (A P Q : Type 0) → ((A → P) → Q) → (A → OnOk res P) → OnOk res Q
+on_ok_if (Ok x) A P Q f h = f h
+on_ok_if (Err e) A P Q f h = tt
+
+pub on_ok_any : {T E : Type 0} (res : Result T E) (Q : Type 0) → Q → OnOk res Q
+on_ok_any (Ok x) Q h = h
+on_ok_any (Err e) Q h = tt
+
+-- ---- the question at what is left of a case
+
+pub rest_is : (n : ℕ) (q : Path) (rest : Conj) (a : Assumed) (made : Path) (own columns : List ℕ) (more : ℕ) (rows : List Row) → q.last ≡ Some a → own ≡ case_columns n a → more ≡ rest.columns - length own → columns ≡ own ++ range_with_len q.conj.columns more
+    → Some rows ≡ rows_renaming columns rest.rows → made ≡ at_rows q (extended q.conj more rows) → at_rest n q rest ≡ Some made
+rest_is n q rest a made own columns more rows last o m c r e =
+    let many : more ≡ further n a rest = m ∙ ap (λ (ks : List ℕ). rest.columns - length ks) o in
+    let all : columns ≡ columns_left n a q.conj.columns rest = c ∙ ap (λ (ks : List ℕ). ks ++ range_with_len q.conj.columns more) o ∙ ap (λ (k : ℕ). case_columns n a ++ range_with_len q.conj.columns k) many in
+    let renamed : rows_renaming (columns_left n a q.conj.columns rest) rest.rows ≡ Some rows = ap (λ (ks : List ℕ). rows_renaming ks rest.rows) (sym all) ∙ sym r in
+    ap (option_and_then (with_rest n q rest)) last ∙ ap (option_map (λ (xs : List Row). at_rows q (extended q.conj (further n a rest) xs))) renamed ∙ ap (λ (k : ℕ). Some (at_rows q (extended q.conj k rows))) (sym many) ∙ ap Some (sym e)
+
+-- ---- all paths of a start
+
+pub paths_broken : (search : Search) (setting : Setting) (start : Claim) (claims : List Claim) (order : List (Site × Order)) (paths : List (List Entry)) → AddsBroken search (IsFrom start) [] paths → search.making ≡ false → search.setting.now ≡ setting → search.claims.now ≡ claims
+    → search.order.now ≡ order → (u : Unfolding) → IsUnfoldingOf setting start order u → AllByRecursion (IsBroken u claims) paths
+unfolding AddsBroken
+paths_broken search setting start claims order paths h off s c o u is =
+    let of : IsOf search u = record {
+      programs = is.programs ∙ ap (λ (x : Setting). pairing x.programs) (sym s);
+      flows = subst (λ (x : Setting). HaveFlows u.pair x.left_flow.now x.right_flow.now) (sym s) is.flows;
+      orders = λ key. is.orders key ∙ ap (λ (x : List (Site × Order)). listed x key) (sym o);
+    } in
+    subst (λ (x : List Claim). AllByRecursion (IsBroken u x) paths) c (h off u of is.claim tt)

@@ -1,0 +1,223 @@
+-- What the results of an unfolding come to, one by another.
+use Rattle.std.proofs.Common.{◌≡◌, inl, inr, ℕ, zero, suc, ◌+◌, ◌<◌, false, List, [], ◌∷◌, ◌++◌, map, length, get_or, take, Option, Some, None, sym, ap, ◌∙◌, subst, arith}
+use Rattle.std.proofs.lemmas.List.{take_more}
+use Rattle.std.specs.Prelude.{Result, Ok, Err, IfOk, IfSome, slice_get}
+use Rattle.ac_forms.specs.declared.row.Row.{Row}
+use Rattle.ac_paths.specs.Formed.{AllFormed, IsFormed}
+use Rattle.ac_paths.specs.Going.{Pairing, at_rows}
+use Rattle.ac_paths.specs.Killing.{case_width}
+use Rattle.ac_forms.specs.Members.{IsAmong}
+use Rattle.ac_paths.specs.declared.path.Assumed.{Assumed}
+use Rattle.ac_paths.specs.declared.path.Path.{Path}
+use Rattle.ac_claims.specs.declared.types.Claim.{Claim}
+use Rattle.ac_claims.specs.declared.types.Kill.{Kill}
+use Rattle.ac_claims.specs.declared.types.Plan.{Plan}
+use Rattle.ac_claims.specs.declared.types.PlanNext.{PlanNext}
+use Rattle.ac_claims.specs.declared.types.PlanNext.TheVariants.{Killed}
+use Rattle.ac_flow.specs.declared.types.Case.{Case}
+use Rattle.ac_flow_laws.specs.Accepting.{on_path}
+use Rattle.ac_graft.specs.Placings.{advanced}
+use Rattle.ac_graft.specs.Sides.{outside_of, on_side, AreSides}
+use Rattle.ac_graft.specs.declared.branching.Part.{Part}
+use Rattle.ac_graft.specs.declared.branching.Parts.{Parts}
+use Rattle.ac_graft.specs.declared.placing.Placing.{Placing}
+use Rattle.ac_plans.specs.Following.{IsPlanFor}
+use Rattle.ac_plans.specs.Serving.{question_on, AreSidePlans}
+use Rattle.ac_ends.specs.Ends.{IsEnd}
+use Rattle.ac_ends.specs.Kills.{IsKillAt, kill_on}
+use Rattle.ac_ends.proofs.Killing.{kills_plans}
+use Rattle.ac_unfold.specs.Courses.{IsBehind, IsOpened}
+use Rattle.ac_unfold.specs.Cutting.{AreMadeOn, CutsMore, IsKillThere}
+use Rattle.ac_unfold.specs.Making.{judge_of, EndsWhere, IsCaseAt, IsGiven, IsMade, IsMadeIn, IsRefuted}
+use Rattle.ac_unfold.specs.Standing.{AreKept, AreRefutedOn, Cuts, IsEndedPlan, IsEndOf, KeepsMore}
+use Rattle.ac_unfold.specs.Wanting.{CanStand}
+use Rattle.ac_unfold.specs.declared.course.Course.{Course}
+use Rattle.ac_unfold.specs.declared.ends.Search.{Search}
+use Rattle.ac_unfold.specs.declared.node.Node.{Node}
+use Rattle.ac_unfold.specs.declared.types.UnfoldStop.{UnfoldStop}
+use Rattle.ac_unfold.proofs.Keeping.{branch_more, case_beside, cut_goes, cuts_start, keeps_start, refuted_end}
+use Rattle.ac_unfold.proofs.Matching.{rows_along}
+
+-- ---- what stands in a list
+
+pub next_item : {A : Type 0} (xs : List A) (i : ℕ) (x : A) → i < length xs → x ≡ get_or xs i x → take (i + 1) xs ≡ take i xs ++ x ∷ []
+next_item xs i x l e = take_more xs i x l ∙ ap (λ y. take i xs ++ y ∷ []) (sym e)
+
+pub at_some : {A : Type 0} (o : Option A) (x : A) (P : A → Type 0) → o ≡ Some x → IfSome o P → P x
+at_some o x P e h = subst (λ y. IfSome y P) e h
+
+pub in_get : {A : Type 0} (xs : List A) (i : ℕ) (x : A) → slice_get xs i ≡ Some x → IsAmong x xs
+in_get [] i x e = absurd cc
+in_get (y ∷ xs) zero x e = inl cc
+in_get (y ∷ xs) (suc i) x e = inr (in_get xs i x e)
+
+pub in_read : {A : Type 0} (xs : List A) (i : ℕ) (x : A) → i < length xs → x ≡ get_or xs i x → IsAmong x xs
+in_read [] i x l e = absurd (omega (arith, l))
+in_read (y ∷ xs) zero x l e = inl e
+in_read (y ∷ xs) (suc i) x l e = inr (in_read xs i x (omega (arith, l)) e)
+
+-- ---- plans of one kind that are plans of another
+
+pub refuted_made : (search : Search) (s : Placing) (q : Path) (o : Option Plan) → IfSome o (IsRefuted s q) → IfSome o (IsMade search s q)
+unfolding IsRefuted IsMade
+refuted_made search s q (Some t) h = λ cs given formed. h (judge_of search) cs
+refuted_made search s q None h = tt
+
+pub made_in : (search : Search) (case : Case) (s : Placing) (q : Path) (o : Option Plan) → IfSome o (IsMade search s q) → IfSome o (IsMadeIn search case s q)
+unfolding IsMadeIn
+made_in search case s q (Some t) h = λ assumed. h
+made_in search case s q None h = tt
+
+pub refuted_in : (search : Search) (case : Case) (s : Placing) (q : Path) (o : Option Plan) → IfSome o (IsRefuted s q) → IfSome o (IsMadeIn search case s q)
+refuted_in search case s q o h = made_in search case s q o (refuted_made search s q o h)
+
+pub all_refuted_made : (res : Result (Option Plan) UnfoldStop) (search : Search) (s : Placing) (q : Path) → IfOk res (λ o. IfSome o (IsRefuted s q)) → IfOk res (λ o. IfSome o (IsMade search s q))
+all_refuted_made (Ok o) search s q h = refuted_made search s q o h
+all_refuted_made (Err e) search s q h = tt
+
+pub all_made_in : (res : Result (Option Plan) UnfoldStop) (search : Search) (case : Case) (s : Placing) (q : Path) → IfOk res (λ o. IfSome o (IsMade search s q)) → IfOk res (λ o. IfSome o (IsMadeIn search case s q))
+all_made_in (Ok o) search case s q h = made_in search case s q o h
+all_made_in (Err e) search case s q h = tt
+
+-- at a node with the same question
+pub same_made_in : (res : Result (Option Plan) UnfoldStop) (search : Search) (case : Case) (s z : Placing) (q v : Path) → (v ≡ q) × (z ≡ s) → IfOk res (λ o. IfSome o (IsMadeIn search case z v)) → IfOk res (λ o. IfSome o (IsMadeIn search case s q))
+same_made_in res search case s z q v e h = subst (λ (x : Placing). IfOk res (λ o. IfSome o (IsMadeIn search case x q))) e.1 (subst (λ (x : Path). IfOk res (λ o. IfSome o (IsMadeIn search case z x))) e.0 h)
+
+pub same_made : (res : Result (Option Plan) UnfoldStop) (search : Search) (s z : Placing) (q v : Path) → (v ≡ q) × (z ≡ s) → IfOk res (λ o. IfSome o (IsMade search z v)) → IfOk res (λ o. IfSome o (IsMade search s q))
+same_made res search s z q v e h = subst (λ (x : Placing). IfOk res (λ o. IfSome o (IsMade search x q))) e.1 (subst (λ (x : Path). IfOk res (λ o. IfSome o (IsMade search z x))) e.0 h)
+
+pub none_made : (res : Result (Option Plan) UnfoldStop) (search : Search) (case : Case) (s : Placing) (q : Path) → IfOk res (λ o. o ≡ None) → IfOk res (λ o. IfSome o (IsMadeIn search case s q))
+none_made (Ok o) search case s q h = subst (λ (x : Option Plan). IfSome x (IsMadeIn search case s q)) (sym h) tt
+none_made (Err e) search case s q h = tt
+
+pub with_kill : (res : Result (Option Plan) UnfoldStop) (P : Type 0) (Q : Plan → Type 0) → IfOk res (λ o. IfSome o (λ t. P → Q t)) → P → IfOk res (λ o. IfSome o Q)
+with_kill (Ok (Some t)) P Q h p = h p
+with_kill (Ok None) P Q h p = tt
+with_kill (Err e) P Q h p = tt
+
+-- ---- rows that have to stand
+
+pub kept_none : (search : Search) (node : Node) (course : Course) → course.node ≡ node → course.branches.items ≡ [] → AreKept search node course []
+unfolding AreKept
+kept_none search node course e none cs given formed = keeps_start search cs node course e none formed
+
+pub kept_more : (search : Search) (node : Node) (course next : Course) (rows : List Row) (row : Row) → AreKept search node course rows → KeepsMore search course row next → AreKept search node next (rows ++ row ∷ [])
+unfolding AreKept KeepsMore
+kept_more search node course next rows row h k cs given formed = k cs node.placing node.question rows given (h cs given formed)
+
+pub ended_made : (search : Search) (node : Node) (course : Course) (rows : List Row) (o : Option Plan) → AreKept search node course rows → IfSome o (IsEndOf search course) → IfSome o (IsMade search node.placing node.question)
+unfolding AreKept IsEndOf IsMade
+ended_made search node course rows (Some t) h e = λ cs given formed. e cs node.placing node.question rows given (h cs given formed)
+ended_made search node course rows None h e = tt
+
+end_is : (end : PlanNext) (o : Option Plan) (t : Plan) → IfSome o (IsEnd end) → o ≡ Some t → IsEnd end t
+end_is end o t h e = subst (λ (x : Option Plan). IfSome x (IsEnd end)) e h
+
+stood : (search : Search) (node : Node) (course : Course) (rows : List Row) (end : PlanNext) (o : Option Plan) (t : Plan) → AreKept search node course rows → EndsWhere search node.question rows end → IfSome o (IsEnd end) → IsEndedPlan course o t → IsMade search node.placing node.question t
+unfolding AreKept EndsWhere IsMade
+stood search node course rows end o t k w i h cs given formed =
+    let kept = k cs given formed in
+    let v = kept.on_path in
+    let same : v ≡ at_rows node.question v.conj = kept.covers.positions ∙ ap (λ (x : Path). at_rows x v.conj) kept.same in
+    let there = w cs kept.placed v.conj h.last given (subst (IsFormed (judge_of search).params) same kept.formed) kept.standing (end_is end o h.last i h.is) in
+    kept.leads h.last t (subst (λ (x : Path). IsPlanFor (judge_of search) cs kept.placed x h.last) (sym same) there) h.behind
+
+pub stood_made : (res : Result (Option Plan) UnfoldStop) (search : Search) (node : Node) (course : Course) (rows : List Row) (end : PlanNext) (o : Option Plan) → AreKept search node course rows → EndsWhere search node.question rows end → IfSome o (IsEnd end)
+    → IfOk res (λ made. IfSome made (λ t. IsEndedPlan course o t)) → IfOk res (λ made. IfSome made (IsMade search node.placing node.question))
+stood_made (Err e) search node course rows end o k w i h = tt
+stood_made (Ok None) search node course rows end o k w i h = tt
+stood_made (Ok (Some t)) search node course rows end o k w i h = stood search node course rows end o t k w i h
+
+pub absurd_ended : (search : Search) (course : Course) (end made : Option Plan) → IfSome end (IsRefuted course.node.placing course.node.question) → IfSome made (λ t. IsEndedPlan course end t) → IfSome made (IsEndOf search course)
+absurd_ended search course end (Some t) r h = refuted_end search course end t h (λ last e. at_some end last (IsRefuted course.node.placing course.node.question) e r)
+absurd_ended search course end None r h = tt
+
+pub branched : (search : Search) (course next : Course) (row : Row) (outside : List Plan) (parts : Parts) (sides : List Part) → AreSides course.node.question.conj.columns row (Some parts) → sides ≡ parts.outside → AreRefutedOn search course.node.placing course.node.question sides outside
+    → IsOpened course row outside next → next.node.question ≡ course.node.question → next.node.placing ≡ advanced course.node.placing parts.inside.path_columns parts.inside.path_rows → CanStand course.node.question.conj.columns row → KeepsMore search course row next
+branched search course next row outside parts sides a e r o q p can =
+    let n = course.node.question.conj.columns in
+    let same : sides ≡ outside_of n row = e ∙ ap (λ (x : Parts). x.outside) a.1 in
+    branch_more search course next row outside o q (p ∙ ap (λ (x : Parts). advanced course.node.placing x.inside.path_columns x.inside.path_rows) a.1) can a.0
+    (subst (λ (ps : List Part). AreRefutedOn search course.node.placing course.node.question ps outside) same r)
+
+pub cut_branched : (search : Search) (case : Case) (course next : Course) (row : Row) (outside : List Plan) (parts : Parts) (sides : List Part) → AreSides course.node.question.conj.columns row (Some parts) → sides ≡ parts.outside → AreMadeOn search case course.node.placing course.node.question sides outside
+    → IsOpened course row outside next → next.node.question ≡ question_on course.node.question parts.inside → next.node.placing ≡ on_side course.node.placing parts.inside → CanStand course.node.question.conj.columns row → CutsMore search case course row next
+cut_branched search case course next row outside parts sides a e r o q p can =
+    let n = course.node.question.conj.columns in
+    let same : sides ≡ outside_of n row = e ∙ ap (λ (x : Parts). x.outside) a.1 in
+    cut_goes search case course next row outside o (q ∙ ap (λ (x : Parts). question_on course.node.question x.inside) a.1) (p ∙ ap (λ (x : Parts). on_side course.node.placing x.inside) a.1) can a.0
+    (subst (λ (ps : List Part). AreMadeOn search case course.node.placing course.node.question ps outside) same r)
+
+-- ---- sides
+
+pub sides_more : (g : Pairing) (cs : List Claim) (s : Placing) (q : Path) (ps : List Part) (ts : List Plan) (p : Part) (t : Plan) → AreSidePlans g cs s q ps ts → IsPlanFor g cs (on_side s p) (question_on q p) t → AreSidePlans g cs s q (ps ++ p ∷ []) (ts ++ t ∷ [])
+sides_more g cs s q [] [] p t h k = (k, tt)
+sides_more g cs s q [] (u ∷ ts) p t h k = absurd h
+sides_more g cs s q (r ∷ ps) [] p t h k = absurd h
+sides_more g cs s q (r ∷ ps) (u ∷ ts) p t h k = (h.0, sides_more g cs s q ps ts p t h.1 k)
+
+pub refuted_none : (search : Search) (s : Placing) (q : Path) → AreRefutedOn search s q [] []
+unfolding AreRefutedOn
+refuted_none search s q = λ making g cs. tt
+
+pub refuted_more : (search : Search) (s : Placing) (q : Path) (ps : List Part) (ts : List Plan) (p : Part) (beside : Node) (t : Plan) → AreRefutedOn search s q ps ts → beside.question ≡ question_on q p → beside.placing ≡ on_side s p → IsRefuted beside.placing beside.question t
+    → AreRefutedOn search s q (ps ++ p ∷ []) (ts ++ t ∷ [])
+unfolding AreRefutedOn IsRefuted
+refuted_more search s q ps ts p beside t h e f r making g cs =
+    sides_more g cs s q ps ts p t (h making g cs) (subst (λ (z : Placing). IsPlanFor g cs z (question_on q p) t) f (subst (λ (x : Path). IsPlanFor g cs beside.placing x t) e (r g cs)))
+
+pub refuted_off : (search : Search) (s : Placing) (q : Path) (ps : List Part) (ts : List Plan) → search.making ≡ false → AreRefutedOn search s q ps ts
+unfolding AreRefutedOn
+refuted_off search s q ps ts e making = absurd cc
+
+pub made_none : (search : Search) (case : Case) (s : Placing) (q : Path) → AreMadeOn search case s q [] []
+unfolding AreMadeOn
+made_none search case s q = λ cs given assumed formed. tt
+
+formed_last : (n : ℕ) (q : Path) (ps : List Part) (p : Part) → AllFormed n (map (question_on q) (ps ++ p ∷ [])) → AllFormed n (map (question_on q) ps) × IsFormed n (question_on q p)
+formed_last n q [] p h = (tt, h.0)
+formed_last n q (r ∷ ps) p h = let k = formed_last n q ps p h.1 in ((h.0, k.0), k.1)
+
+pub made_more : (search : Search) (case : Case) (s : Placing) (q : Path) (ps : List Part) (ts : List Plan) (p : Part) (beside : Node) (t : Plan) → AreMadeOn search case s q ps ts → beside.question ≡ question_on q p → beside.placing ≡ on_side s p → IsMadeIn search case beside.placing beside.question t
+    → AreMadeOn search case s q (ps ++ p ∷ []) (ts ++ t ∷ [])
+unfolding AreMadeOn IsMadeIn IsMade
+made_more search case s q ps ts p beside t h e f made cs given assumed formed =
+    let g = judge_of search in
+    let k = formed_last g.params q ps p formed in
+    let there : IsCaseAt g beside.question case = subst (λ (x : Path). IsCaseAt g x case) (sym e) (case_beside g q (question_on q p).conj case assumed) in
+    let plan : IsPlanFor g cs beside.placing beside.question t = made there cs given (subst (λ (x : Path). IsFormed g.params x) (sym e) k.1) in
+    sides_more g cs s q ps ts p t (h cs given assumed k.0) (subst (λ (z : Placing). IsPlanFor g cs z (question_on q p) t) f (subst (λ (x : Path). IsPlanFor g cs beside.placing x t) e plan))
+
+-- ---- the rows of a kill
+
+unfoldable pub AreCut : Search → Case → Node → Course → List Row → Type 0
+AreCut search case node course rows = (cs : List Claim) → IsGiven search cs → IsCaseAt (judge_of search) node.question case → IsFormed (judge_of search).params node.question → Cuts search cs node.placing node.question course rows
+
+pub cut_none : (search : Search) (case : Case) (node : Node) (course : Course) → course.node ≡ node → course.branches.items ≡ [] → AreCut search case node course []
+unfolding AreCut
+cut_none search case node course e none cs given assumed formed = cuts_start search cs node course e none formed
+
+pub cut_more : (search : Search) (case : Case) (node : Node) (course next : Course) (rows : List Row) (row : Row) → AreCut search case node course rows → CutsMore search case course row next → AreCut search case node next (rows ++ row ∷ [])
+unfolding AreCut CutsMore
+cut_more search case node course next rows row h k cs given assumed formed = k cs node.placing node.question rows given assumed (h cs given assumed formed)
+
+pub cut_made : (search : Search) (case : Case) (node : Node) (course : Course) (rows : List Row) (kill : Kill) (end t : Plan) → AreCut search case node course rows
+    → ((a : Assumed) → course.node.question.last ≡ Some a → IsEnd (Killed (on_path (case_width (judge_of search).params a) course.node.placing.next_column kill)) end) → IsBehind course.branches.items end t → IsKillThere search node.question case kill rows → IsMadeIn search case node.placing node.question t
+unfolding AreCut IsMadeIn IsMade
+cut_made search case node course rows kill end t h ends behind there assumed cs given formed =
+    let g = judge_of search in
+    let k = h cs given assumed formed in
+    let v = course.node.question in
+    let a = assumed.assumed in
+    let last : v.last ≡ Some a = ap (λ (x : Path). x.last) k.positions ∙ assumed.is in
+    let at : IsKillAt g v a there.whole rows = record {
+      model = assumed.model;
+      reads = assumed.reader;
+      case = case;
+      is = record { flow = assumed.flow; is = assumed.flow_is; case_among = assumed.among; among = there.among };
+      last = last;
+      assumed = assumed.stands_for;
+      rows = sym (there.moved a assumed.is);
+    } in
+    let end_is : IsEnd (Killed (kill_on g course.node.placing a there.whole.1)) end = subst (λ (x : Kill). IsEnd (Killed (on_path (case_width g.params a) course.node.placing.next_column x)) end) (sym there.is) (ends a last) in
+    k.leads end t (kills_plans g cs course.node.placing v a there.whole rows end at (rows_along g.params course.node.placing v rows k.formed.made k.standing) end_is) behind

@@ -1,0 +1,159 @@
+-- Where the plans of a claim start, and the trees that are made of them.
+use Rattle.std.proofs.Common.{◌≡◌, false, true, ℕ, zero, suc, ◌+◌, List, [], ◌∷◌, ◌++◌, map, length, Option, Some, None, refl, sym, ap, ◌∙◌, subst, append_assoc, arith}
+use Rattle.std.specs.Prelude.{Result, Ok, Err, IfOk, IfSome}
+use Rattle.std.specs.List.{AllByRecursion, range_with_len}
+use Rattle.ac_forms.specs.Rows.{IsWellMade}
+use Rattle.ac_forms.specs.declared.row.Row.{Row}
+use Rattle.ac_choices.proofs.Keeping.{bind-some, map-some}
+use Rattle.ac_syntax.proofs.TurnEntries.{flat_map_last}
+use Rattle.ac_paths.specs.Calls.{pairing}
+use Rattle.ac_paths.specs.Formed.{IsFormed, LastIn}
+use Rattle.ac_paths.specs.Going.{Pairing}
+use Rattle.ac_paths.specs.declared.path.Path.{Path}
+use Rattle.ac_claims.specs.Domains.{of_width, piece_by}
+use Rattle.ac_claims.specs.ProofFaults.{domain, left_seat, piece_rows, right_seat, start, start_columns}
+use Rattle.ac_claims.specs.Remaining.{start_at, start_beside, start_of}
+use Rattle.ac_claims.specs.declared.domains.Piece.{Piece}
+use Rattle.ac_claims.specs.declared.types.Claim.{Claim}
+use Rattle.ac_claims.specs.declared.types.ClaimTree.{ClaimTree}
+use Rattle.ac_claims.specs.declared.types.Plan.{Plan}
+use Rattle.ac_graft.specs.Placings.{itself}
+use Rattle.ac_graft.specs.declared.placing.Placing.{Placing}
+use Rattle.ac_plans.proofs.Starting.{accepted_at_starts}
+use Rattle.ac_unfold.specs.Begun.{AreBegun, IsBegun}
+use Rattle.ac_unfold.specs.Making.{judge_of, IsGiven, IsMade, IsRefuted}
+use Rattle.ac_unfold.specs.Plans.{pairs_of, pieces_of, AreNumbered, IsSettled, StartsAccepted}
+use Rattle.ac_unfold.specs.declared.ends.Search.{Search}
+use Rattle.ac_unfold.specs.declared.node.Node.{Node}
+use Rattle.ac_unfold.specs.declared.types.Setting.{Setting}
+use Rattle.ac_unfold.specs.declared.types.UnfoldStop.{UnfoldStop}
+use Rattle.ac_unfold.proofs.Results.{refuted_made}
+
+-- ---- where a claim starts
+
+start_formed : (g : Pairing) (c : Claim) (l r : Piece) (h : Path) → start_of g c l r ≡ Some h → IsWellMade h.conj → IsFormed g.params h
+start_formed g c l r h e made =
+    let m = map-some (piece_rows g c (of_width l.width) (of_width r.width) l.rows r.rows) (λ (rows : List Row). record {
+      conj = record { columns = start_columns g (of_width l.width) (of_width r.width); rows = c.rows ++ (g.left.context ++ rows) };
+      left = left_seat g c (of_width l.width);
+      right = right_seat g c (of_width l.width) (of_width r.width);
+      gone = false;
+      last = None;
+    }) h e in
+    let columns : h.conj.columns ≡ g.params + (l.width + r.width) = ap (λ (x : Path). x.conj.columns) m.2 in
+    let first : h.left.first + h.left.width ≡ g.params + l.width = ap (λ (x : Path). x.left.first + x.left.width) m.2 in
+    let second : h.right.first + h.right.width ≡ g.params + l.width + r.width = ap (λ (x : Path). x.right.first + x.right.width) m.2 in
+    record {
+      made = made;
+      base_in = omega (arith, columns);
+      left_in = omega (arith, columns, first);
+      right_in = omega (arith, columns, second);
+      last_in = subst (λ o. LastIn o h.conj.columns) (sym (ap (λ (x : Path). x.last) m.2)) tt;
+    }
+
+pub at_formed : (g : Pairing) (c : Claim) (i k : ℕ) (h : Path) → start_at g c i k ≡ Some h → IsWellMade h.conj → IsFormed g.params h
+at_formed g c i k h e made =
+    let a = bind-some (piece_by i (domain g.left c.left)) (λ (l : Piece). start_beside g c l (piece_by k (domain g.right c.right))) h e in
+    let b = bind-some (piece_by k (domain g.right c.right)) (start_of g c a.0) h a.2 in
+    start_formed g c a.0 b.0 h b.2 made
+
+-- a plan for the start of a claim is accepted on it
+pub begun : (search : Search) (start : Claim) (left right : ℕ) (path : Path) (node : Node) (t : Plan) → start_at (judge_of search) start left right ≡ Some path → IsWellMade path.conj → node.question ≡ path → node.placing ≡ itself path.conj.columns (length path.conj.rows)
+    → IsMade search node.placing node.question t → IsBegun search start left right t
+unfolding IsMade
+begun search start left right path node t e made q s plan =
+    let g = judge_of search in
+    let formed = at_formed g start left right path e made in
+    let there : IsMade search (itself path.conj.columns (length path.conj.rows)) path t = subst (λ (x : Path). IsMade search (itself path.conj.columns (length path.conj.rows)) x t) q (subst (λ (z : Placing). IsMade search z node.question t) s plan) in
+    record { path = path; starts = e; accepted = λ cs given. accepted_at_starts g cs path t formed (there cs given formed) }
+
+-- ---- the trees
+
+pub begun_more : (search : Search) (start : Claim) (trees : List ClaimTree) (t : ClaimTree) → AreBegun search start trees → IsBegun search start t.left_piece t.right_piece t.tree → AreBegun search start (trees ++ t ∷ [])
+unfolding AreBegun
+begun_more search start trees t h b cs given = more trees (h cs given)
+  where
+    more : (xs : List ClaimTree) → AllByRecursion (StartsAccepted (judge_of search) cs start) xs → AllByRecursion (StartsAccepted (judge_of search) cs start) (xs ++ t ∷ [])
+    more [] k = (record { path = b.path; starts = b.starts; accepted = b.accepted cs given }, tt)
+    more (x ∷ xs) k = (k.0, more xs k.1)
+
+pub begun_none : (search : Search) (start : Claim) (trees : List ClaimTree) → trees ≡ [] → AreBegun search start trees
+unfolding AreBegun
+begun_none search start trees e cs given = subst (λ (xs : List ClaimTree). AllByRecursion (StartsAccepted (judge_of search) cs start) xs) (sym e) tt
+
+pub accepted_by : (search : Search) (setting : Setting) (base : ℕ) (claims : List Claim) (start : Claim) (trees : List ClaimTree) → search.setting.now ≡ setting → search.base ≡ base → search.claims.now ≡ claims → search.making ≡ true → AreBegun search start trees → IsSettled setting
+    → (cs : List Claim) → AreNumbered base claims cs → AllByRecursion (StartsAccepted (pairing setting.programs) cs start) trees
+unfolding AreBegun
+accepted_by search setting base claims start trees e b k m h settled cs numbered =
+    let given : IsGiven search cs = record {
+      making = m;
+      settled = subst IsSettled (sym e) settled;
+      numbered = subst (λ (n : ℕ). AreNumbered n search.claims.now cs) (sym b) (subst (λ (xs : List Claim). AreNumbered base xs cs) (sym k) numbered);
+    } in
+    subst (λ (x : Setting). AllByRecursion (StartsAccepted (pairing x.programs) cs start) trees) e (h cs given)
+
+-- the trees behind some, each with the next right piece
+pub record Rights (left done : ℕ) (old new : List ClaimTree) : Type 0 where
+  pub are : map pieces_of new ≡ map pieces_of old ++ map (λ right. (left, right)) (range_with_len 0 done)
+
+map_more : (xs : List ClaimTree) (t : ClaimTree) → map pieces_of (xs ++ t ∷ []) ≡ map pieces_of xs ++ pieces_of t ∷ []
+map_more [] t = refl
+map_more (x ∷ xs) t = ap (λ (ys : List (ℕ × ℕ)). pieces_of x ∷ ys) (map_more xs t)
+
+-- a left piece with so many right ones
+abbrev pub row_of : ℕ → ℕ → ℕ → List (ℕ × ℕ)
+row_of left first done = map (λ right. (left, right)) (range_with_len first done)
+
+abbrev single : ℕ → ℕ → List (ℕ × ℕ)
+single left n = (left, n) ∷ []
+
+range_more : (left first done : ℕ) → row_of left first (suc done) ≡ row_of left first done ++ (left, first + done) ∷ []
+range_more left first zero = let z : first + 0 ≡ first = omega arith in ap (single left) (sym z)
+range_more left first (suc done) =
+    let z : first + 1 + done ≡ first + suc done = omega arith in
+    ap (λ (ys : List (ℕ × ℕ)). (left, first) ∷ ys) (range_more left (first + 1) done ∙ ap (λ (n : ℕ). row_of left (first + 1) done ++ (left, n) ∷ []) z)
+
+pub rights_none : (left : ℕ) (old : List ClaimTree) → Rights left 0 old old
+rights_none left old = record { are = nothing (map pieces_of old) }
+  where
+    nothing : (xs : List (ℕ × ℕ)) → xs ≡ xs ++ []
+    nothing [] = refl
+    nothing (x ∷ xs) = ap (λ (ys : List (ℕ × ℕ)). x ∷ ys) (nothing xs)
+
+pub rights_more : (left done : ℕ) (old now new : List ClaimTree) (t : ClaimTree) → Rights left done old now → new ≡ now ++ t ∷ [] → t.left_piece ≡ left → t.right_piece ≡ done → Rights left (done + 1) old new
+rights_more left done old now new t h e l r =
+    let z : pieces_of t ≡ (left, done) = cc in
+    let y : 0 + done ≡ done = omega arith in
+    let w : done + 1 ≡ suc done = omega arith in
+    record {
+      are = ap (map pieces_of) e ∙ map_more now t ∙ ap (λ (ys : List (ℕ × ℕ)). ys ++ pieces_of t ∷ []) h.are ∙ append_assoc (map pieces_of old) (row_of left 0 done) (pieces_of t ∷ [])
+          ∙ ap (λ (p : ℕ × ℕ). map pieces_of old ++ (row_of left 0 done ++ p ∷ [])) z ∙ ap (λ (n : ℕ). map pieces_of old ++ (row_of left 0 done ++ (left, n) ∷ [])) (sym y)
+          ∙ ap (λ (ys : List (ℕ × ℕ)). map pieces_of old ++ ys) (sym (range_more left 0 done)) ∙ ap (λ (n : ℕ). map pieces_of old ++ row_of left 0 n) (sym w);
+    }
+
+-- the trees of the first left pieces, each with all right ones
+pub record Lefts (rights done : ℕ) (new : List ClaimTree) : Type 0 where
+  pub are : map pieces_of new ≡ pairs_of done rights
+
+pub lefts_none : (rights : ℕ) (new : List ClaimTree) → new ≡ [] → Lefts rights 0 new
+lefts_none rights new e = record { are = ap (map pieces_of) e }
+
+pub lefts_more : (rights done : ℕ) (old new : List ClaimTree) → Lefts rights done old → map pieces_of new ≡ map pieces_of old ++ map (λ right. (done, right)) (range_with_len 0 rights) → Lefts rights (done + 1) new
+lefts_more rights done old new h e =
+    let z : done + 1 ≡ suc done = omega arith in
+    let y : 0 + done ≡ done = omega arith in
+    let last : pairs_of (suc done) rights ≡ pairs_of done rights ++ row_of (0 + done) 0 rights = flat_map_last (λ (left : ℕ). row_of left 0 rights) 0 done in
+    record { are = e ∙ ap (λ (ys : List (ℕ × ℕ)). ys ++ row_of done 0 rights) h.are ∙ ap (λ (n : ℕ). pairs_of done rights ++ row_of n 0 rights) (sym y) ∙ sym last ∙ ap (λ (n : ℕ). pairs_of n rights) (sym z) }
+
+-- ---- at the pieces
+
+pub begun_refuted : (search : Search) (start : Claim) (left right : ℕ) (path : Path) (node : Node) (o : Option Plan) → start_at (judge_of search) start left right ≡ Some path → IsWellMade path.conj → node.question ≡ path → node.placing ≡ itself path.conj.columns (length path.conj.rows)
+    → IfSome o (IsRefuted node.placing node.question) → IfSome o (IsBegun search start left right)
+begun_refuted search start left right path node None e made q s h = tt
+begun_refuted search start left right path node (Some t) e made q s h = begun search start left right path node t e made q s (refuted_made search node.placing node.question (Some t) h)
+
+pub begun_visited : (res : Result (Option Plan) UnfoldStop) (search : Search) (start : Claim) (left right : ℕ) (path : Path) (node next : Node) → start_at (judge_of search) start left right ≡ Some path → IsWellMade path.conj → node.question ≡ path
+    → node.placing ≡ itself path.conj.columns (length path.conj.rows) → (next.question ≡ node.question) × (next.placing ≡ node.placing) → IfOk res (λ o. IfSome o (IsMade search next.placing next.question)) → IfOk res (λ o. IfSome o (IsBegun search start left right))
+begun_visited (Err x) search start left right path node next e made q s same h = tt
+begun_visited (Ok None) search start left right path node next e made q s same h = tt
+begun_visited (Ok (Some t)) search start left right path node next e made q s same h = begun search start left right path next t e made (same.0 ∙ q) (same.1 ∙ s) h

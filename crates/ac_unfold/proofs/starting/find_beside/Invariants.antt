@@ -1,0 +1,5 @@
+use Rattle.ac_unfold.specs.Searching.{AddsBroken, IsFrom}
+use Rattle.ac_unfold.proofs.starting.find_beside.Given as goal
+
+abbrev pub invariant-loop-right : goal.invariant-loop-right
+invariant-loop-right l = AddsBroken l.search (IsFrom l.start) l.fn.finds l.finds

@@ -1,0 +1,33 @@
+use Rattle.std.proofs.Common.{◌≡◌, ℕ, List, refl, sym, subst, arith}
+use Rattle.ac_claims.specs.declared.types.ClaimTree.{ClaimTree}
+use Rattle.ac_unfold.specs.Begun.{AreBegun, IsBegun}
+use Rattle.ac_unfold.specs.Paths.{ArePlansOf}
+use Rattle.ac_unfold.proofs.PathSteps.{plans_more}
+use Rattle.ac_unfold.proofs.Results.{at_some}
+use Rattle.ac_unfold.proofs.Starts.{begun_more, rights_more, rights_none, Rights}
+use Rattle.ac_unfold.proofs.starting.push_trees.Goals as goal
+
+pub loop-right-init : goal.loop-right-init
+loop-right-init c = record { claim = c.requires; rights = rights_none c.args.left c.args.trees.now.items; begun = λ h. h }
+
+pub loop-right-preserved : goal.loop-right-preserved
+loop-right-preserved c =
+    let s = c.args.search.now in
+    let start = c.args.start.now in
+    let old = c.loop-right.trees.items in
+    let t : ClaimTree = record { claim = c.args.number; left_piece = c.args.left; right_piece = c.loop-right.right; tree = c.in-Some.tree } in
+    let b : IsBegun s start c.args.left c.loop-right.right c.in-Some.tree = at_some c.in_ok-tree.field-0 c.in-Some.tree (IsBegun s start c.args.left c.loop-right.right) c.in-Some.is c.in_ok-tree.ensures.begun in
+    record {
+      claim = subst (λ (xs : List ClaimTree). ArePlansOf c.args.number xs) (sym c.in_ok-push.ensures.items) (plans_more c.args.number old t c.loop-right.invariant.claim refl);
+      rights = rights_more c.args.left c.loop-right.right c.args.trees.now.items old c.push.new.self.items t c.loop-right.invariant.rights c.in_ok-push.ensures.items refl refl;
+      begun = λ h. subst (λ (xs : List ClaimTree). AreBegun s start xs) (sym c.in_ok-push.ensures.items) (begun_more s start old t (c.loop-right.invariant.begun h) b);
+    }
+
+pub returns-clause-pieces : goal.returns-clause-pieces
+returns-clause-pieces c =
+    let e : c.loop-right.right ≡ c.args.rights = omega arith in
+    let r = subst (λ (n : ℕ). Rights c.args.left n c.args.trees.now.items c.loop-right.trees.items) e c.loop-right.invariant.rights in
+    λ all. r.are
+
+pub returns-clause-accepted : goal.returns-clause-accepted
+returns-clause-accepted c = λ all. c.loop-right.invariant.begun

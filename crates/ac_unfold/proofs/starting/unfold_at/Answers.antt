@@ -1,0 +1,38 @@
+use Rattle.std.proofs.Common.{◌≡◌, Some, refl, rules, sym, ◌∙◌, subst}
+use Rattle.ac_forms.specs.Rows.{IsWellMade}
+use Rattle.ac_claims.specs.Remaining.{start_at}
+use Rattle.ac_unfold.specs.Making.{judge_of, IsOpen}
+use Rattle.ac_unfold.specs.declared.asking.Opened.{Opened}
+use Rattle.ac_unfold.proofs.Starts.{begun_refuted, begun_visited}
+use Rattle.ac_unfold.specs.Searching.{IsFrom, KeepsTrail}
+use Rattle.ac_unfold.proofs.Coming.{begun_broken, broken_none, on_ok}
+use Rattle.ac_unfold.proofs.starting.unfold_at.Goals as goal
+
+pub returns-in-Empty-clause-begun : goal.returns-in-Empty-clause-begun
+returns-in-Empty-clause-begun c =
+    let s = c.args.search.now in
+    let n = c.in_ok-node.node in
+    let made : IsWellMade c.in-Some.path.conj = search rules in
+    let starts : start_at (judge_of s) c.args.start.now c.args.left c.args.right ≡ Some c.in-Some.path = sym c.in_ok-path.ensures ∙ c.in-Some.is in
+    begun_refuted s c.args.start.now c.args.left c.args.right c.in-Some.path n c.in-Empty.plan starts made c.in_ok-node.ensures.question c.in_ok-node.ensures.placing (subst (λ (x : Opened). IsOpen n.placing n.question x) c.in-Empty.is c.in_ok-question.ensures.open)
+
+pub returns-in-On-clause-begun : goal.returns-in-On-clause-begun
+returns-in-On-clause-begun c =
+    let s = c.args.search.now in
+    let n = c.in_ok-node.node in
+    let made : IsWellMade c.in-Some.path.conj = search rules in
+    let starts : start_at (judge_of s) c.args.start.now c.args.left c.args.right ≡ Some c.in-Some.path = sym c.in_ok-path.ensures ∙ c.in-Some.is in
+    begun_visited c.visit.result s c.args.start.now c.args.left c.args.right c.in-Some.path n c.in-On.node starts made c.in_ok-node.ensures.question c.in_ok-node.ensures.placing (subst (λ (x : Opened). IsOpen n.placing n.question x) c.in-On.is c.in_ok-question.ensures.open) c.visit.ensures.made
+
+pub returns-in-Empty-clause-broken : goal.returns-in-Empty-clause-broken
+returns-in-Empty-clause-broken c = broken_none c.args.search.now (IsFrom c.args.start.now) _ _ refl
+
+pub returns-in-On-clause-broken : goal.returns-in-On-clause-broken
+returns-in-On-clause-broken c =
+    let s = c.args.search.now in
+    let n = c.in_ok-node.node in
+    let made : IsWellMade c.in-Some.path.conj = search rules in
+    let starts : start_at (judge_of s) c.args.start.now c.args.left c.args.right ≡ Some c.in-Some.path = sym c.in_ok-path.ensures ∙ c.in-Some.is in
+    let opened = subst (λ (x : Opened). IsOpen n.placing n.question x) c.in-On.is c.in_ok-question.ensures.open in
+    let kept = subst (λ (x : Opened). KeepsTrail n x) c.in-On.is c.in_ok-question.ensures.trail in
+    on_ok c.visit.result _ _ (begun_broken s c.args.start.now c.args.left c.args.right c.in-Some.path n c.in-On.node _ _ starts made c.in_ok-node.ensures.question c.in_ok-node.ensures.trail opened.0 kept) c.visit.ensures.broken

@@ -1,0 +1,315 @@
+use Rattle.std.proofs.Common.{◌≡◌, ◌++◌, ◌∷◌, [], List, Option, refl, sym, ◌∙◌, subst, take, length}
+use Rattle.std.specs.Prelude.{IfOk, IfSome}
+use Rattle.std.proofs.lemmas.Iterator.Adapters.{YieldsList-from_vec}
+use Rattle.std.proofs.lemmas.Iterator.Consumers.{YieldsList-end}
+use Rattle.std.specs.Vec.Iter.{into_iter_len}
+use Rattle.std.proofs.lemmas.List.{take_all}
+use Rattle.ac_forms.specs.declared.row.Row.{Row}
+use Rattle.ac_paths.specs.Formed.{AreFormedIf}
+use Rattle.ac_paths.specs.Branching.{all_onto}
+use Rattle.ac_paths.specs.Going.{branches}
+use Rattle.ac_paths.specs.declared.path.Branch.{Branch}
+use Rattle.ac_claims.specs.declared.types.Plan.{Plan}
+use Rattle.ac_graft.specs.Sides.{AreSides}
+use Rattle.ac_graft.specs.declared.branching.Part.{Part}
+use Rattle.ac_graft.specs.declared.branching.Parts.{Parts}
+use Rattle.ac_syntax.specs.declared.tree.Order.TheVariants.{Keep}
+use Rattle.ac_unfold.specs.Cutting.{AreMadeOn, CutsMore, IsKillThere}
+use Rattle.ac_unfold.specs.Making.{judge_of, IsMade, IsMadeIn, IsOpen}
+use Rattle.ac_unfold.specs.declared.asking.Opened.{Opened}
+use Rattle.ac_unfold.specs.declared.kinds.Next.{Next}
+use Rattle.ac_unfold.specs.declared.kinds.Next.TheVariants as kind
+use Rattle.ac_flow.specs.declared.types.Remainder.{Remainder}
+use Rattle.ac_forms.specs.Members.{IsAmong}
+use Rattle.ac_unfold.proofs.Keeping.{cut_stays}
+use Rattle.ac_unfold.proofs.Results.{all_made_in, all_refuted_made, at_some, cut_branched, cut_made, cut_more, cut_none, in_get, in_read, made_more, made_none, next_item, none_made, refuted_in, same_made_in, with_kill, AreCut}
+use Rattle.ac_unfold.proofs.Stepping.{case_made, map_itself, serve_more, serve_none, serve_off, step_made, ServeBranches}
+use Rattle.ac_unfold.specs.Searching.{IsInCase, IsKindThere, IsPast, KeepsTrail}
+use Rattle.ac_unfold.proofs.Coming.{broken_none, broken_off, broken_past, calls_all, calls_more, calls_none, match_broken, mismatch_broken, on_ok, on_ok_any, on_ok_if, piece_broken, reads_all, reads_more, reads_none, AddsCalls, AddsReads}
+use Rattle.ac_unfold.proofs.unfolding.+unfold.Goals as goal
+
+-- ---- calls
+
+pub calls-loop-branch-init : goal.calls-loop-branch-init
+calls-loop-branch-init t c =
+    let s = c.args.search.now in
+    let n = c.args.node.now in
+    record {
+      serve = (subst (λ (ts : List Plan). ServeBranches c.args.search.now c.args.node.now.placing c.args.node.now.question [] ts) (sym c.new-cases.ensures.items) (serve_none c.args.search.now c.args.node.now.placing c.args.node.now.question));
+      adds = calls_none s n c.args.order _ _ refl;
+    }
+
+pub calls-loop-branch-preserved-in-Some-made : goal.calls-loop-branch-preserved-in-Some-made
+calls-loop-branch-preserved-in-Some-made t c =
+    let s = c.args.search.now in
+    let n = c.args.node.now in
+    record {
+      serve = (let b = c.in_ok-child.child in
+          let p = c.in-Some-made.plan in
+          let s = c.args.search.now in
+          let n = c.args.node.now in
+          let r : IsMade s b.placing b.question p = at_some c.in_ok-made.made p (IsMade s b.placing b.question) c.in-Some-made.is c.in_ok-made.ensures.made in
+          subst (λ (ts : List Plan). ServeBranches s n.placing n.question (c.loop-branch.yielded ++ c.in-Some-branch.branch ∷ []) ts) (sym c.in_ok-push-in-Some-made.ensures.items)
+          (serve_more s n.placing n.question c.loop-branch.yielded c.loop-branch.cases.items c.in-Some-branch.branch b p c.loop-branch.invariant.serve c.in_ok-child.ensures.question c.in_ok-child.ensures.placing r));
+      adds = calls_more s n c.args.order c.loop-branch.yielded c.in-Some-branch.branch c.in_ok-child.child c.args.finds.now c.loop-branch.finds c.visit.new.finds c.requires c.loop-branch.invariant.adds c.in_ok-child.ensures.question c.in_ok-child.ensures.trail c.in_ok-made.ensures.broken;
+    }
+
+pub calls-loop-branch-preserved : goal.calls-loop-branch-preserved
+calls-loop-branch-preserved t c =
+    let s = c.args.search.now in
+    let n = c.args.node.now in
+    record {
+      serve = (serve_off c.args.search.now c.args.node.now.placing c.args.node.now.question (c.loop-branch.yielded ++ c.in-Some-branch.branch ∷ []) c.loop-branch.cases.items c.if-search.false);
+      adds = calls_more s n c.args.order c.loop-branch.yielded c.in-Some-branch.branch c.in_ok-child.child c.args.finds.now c.loop-branch.finds c.visit.new.finds c.requires c.loop-branch.invariant.adds c.in_ok-child.ensures.question c.in_ok-child.ensures.trail c.in_ok-made.ensures.broken;
+    }
+
+pub calls-returns-clause-made : goal.calls-returns-clause-made
+calls-returns-clause-made t c =
+    let s = c.args.search.now in
+    let n = c.args.node.now in
+    let q = n.question in
+    let found = c.in-Some.found in
+    let v = c.into_vec-branch-items.result in
+    let it = c.into_iter-branch-iterator.result in
+    let many : into_iter_len it ≡ length v.items = c.into_iter-branch-iterator.ensures.into_iter_gives.1 ∙ v.ok.0 in
+    let y = YieldsList-end (YieldsList-from_vec {s = it} v.items c.into_iter-branch-iterator.ensures.into_iter_gives.0 many) c.loop-branch.yielded c.loop-branch.branch-iterator c.loop-branch.yielded_by c.next.result c.next.new.self c.in-None.is c.next.ensures.steps in
+    let all : c.loop-branch.yielded ≡ found = sym (map_itself c.loop-branch.yielded) ∙ y.0 ∙ c.into_vec-branch-items.ensures in
+    let serve = subst (λ (bs : List Branch). ServeBranches s n.placing q bs c.loop-branch.cases.items) all c.loop-branch.invariant.serve in
+    step_made s n.placing q c.args.order found c.loop-branch.cases.items c.gone.result serve c.gone.ensures
+    (subst (λ (o : Option (List Branch)). all_onto q o ≡ branches (judge_of s) c.args.order q) c.in-Some.is c.in_ok-found.ensures.value)
+    (λ hl hr f. subst (λ (o : Option (List Branch)). AreFormedIf (judge_of s).params (all_onto q o)) c.in-Some.is (c.in_ok-found.ensures.formed hl hr f))
+
+-- ---- reads
+
+pub read-loop-branch-init : goal.read-loop-branch-init
+read-loop-branch-init t c =
+    let s = c.args.search.now in
+    let n = c.args.node.now in
+    record {
+      serve = (subst (λ (ts : List Plan). ServeBranches c.args.search.now c.args.node.now.placing c.args.node.now.question [] ts) (sym c.new-plans.ensures.items) (serve_none c.args.search.now c.args.node.now.placing c.args.node.now.question));
+      adds = reads_none s n _ _ refl;
+    }
+
+pub read-loop-branch-preserved-in-Some-made : goal.read-loop-branch-preserved-in-Some-made
+read-loop-branch-preserved-in-Some-made t c =
+    let s = c.args.search.now in
+    let n = c.args.node.now in
+    record {
+      serve = (let b = c.in_ok-child.child in
+          let p = c.in-Some-made.plan in
+          let s = c.args.search.now in
+          let n = c.args.node.now in
+          let k = c.in-Some-case_of.case.now in
+          let r : IsMadeIn s k b.placing b.question p = at_some c.in_ok-made.made p (IsMadeIn s k b.placing b.question) c.in-Some-made.is c.in_ok-made.ensures.made in
+          subst (λ (ts : List Plan). ServeBranches s n.placing n.question (c.loop-branch.yielded ++ c.in-Some-branch.branch ∷ []) ts) (sym c.in_ok-push-in-Some-made.ensures.items)
+          (serve_more s n.placing n.question c.loop-branch.yielded c.loop-branch.plans.items c.in-Some-branch.branch b p c.loop-branch.invariant.serve c.in_ok-child.ensures.question c.in_ok-child.ensures.placing
+          (case_made s c.args.side c.in-Some-flow_of.flow.now k b.placing b.question p c.in-Some-flow_of.ensures.among c.in-Some-case_of.ensures.assumed r)));
+      adds = reads_more s n c.args.side c.in-Some-flow_of.flow.now c.in-Some-case_of.case.now c.loop-branch.number c.in_ok-number.number c.loop-branch.yielded c.in-Some-branch.branch c.in_ok-child.child c.args.finds.now c.loop-branch.finds c.enter.new.finds c.requires c.in-Some-flow_of.ensures.among c.in-Some-flow_of.ensures.position c.in-Some-case_of.ensures.number c.loop-branch.invariant.adds c.in_ok-child.ensures.question c.in_ok-child.ensures.trail c.in_ok-number.ensures c.in_ok-made.ensures.broken;
+    }
+
+pub read-loop-branch-preserved : goal.read-loop-branch-preserved
+read-loop-branch-preserved t c =
+    let s = c.args.search.now in
+    let n = c.args.node.now in
+    record {
+      serve = (serve_off c.args.search.now c.args.node.now.placing c.args.node.now.question (c.loop-branch.yielded ++ c.in-Some-branch.branch ∷ []) c.loop-branch.plans.items c.if-search.false);
+      adds = reads_more s n c.args.side c.in-Some-flow_of.flow.now c.in-Some-case_of.case.now c.loop-branch.number c.in_ok-number.number c.loop-branch.yielded c.in-Some-branch.branch c.in_ok-child.child c.args.finds.now c.loop-branch.finds c.enter.new.finds c.requires c.in-Some-flow_of.ensures.among c.in-Some-flow_of.ensures.position c.in-Some-case_of.ensures.number c.loop-branch.invariant.adds c.in_ok-child.ensures.question c.in_ok-child.ensures.trail c.in_ok-number.ensures c.in_ok-made.ensures.broken;
+    }
+
+pub read-returns-clause-made : goal.read-returns-clause-made
+read-returns-clause-made t c =
+    let s = c.args.search.now in
+    let n = c.args.node.now in
+    let q = n.question in
+    let found = c.in-Some.found in
+    let v = c.into_vec-branch-items.result in
+    let it = c.into_iter-branch-iterator.result in
+    let many : into_iter_len it ≡ length v.items = c.into_iter-branch-iterator.ensures.into_iter_gives.1 ∙ v.ok.0 in
+    let y = YieldsList-end (YieldsList-from_vec {s = it} v.items c.into_iter-branch-iterator.ensures.into_iter_gives.0 many) c.loop-branch.yielded c.loop-branch.branch-iterator c.loop-branch.yielded_by c.next.result c.next.new.self c.in-None.is c.next.ensures.steps in
+    let all : c.loop-branch.yielded ≡ found = sym (map_itself c.loop-branch.yielded) ∙ y.0 ∙ c.into_vec-branch-items.ensures in
+    let serve = subst (λ (bs : List Branch). ServeBranches s n.placing q bs c.loop-branch.plans.items) all c.loop-branch.invariant.serve in
+    step_made s n.placing q Keep found c.loop-branch.plans.items c.gone.result serve c.gone.ensures
+    (subst (λ (o : Option (List Branch)). all_onto q o ≡ branches (judge_of s) Keep q) c.in-Some.is c.in_ok-found.ensures.value)
+    (λ hl hr f. subst (λ (o : Option (List Branch)). AreFormedIf (judge_of s).params (all_onto q o)) c.in-Some.is (c.in_ok-found.ensures.formed hl hr f))
+
+-- ---- cases
+
+pub enter-returns-then-not-search-clause-made : goal.enter-returns-then-not-search-clause-made
+enter-returns-then-not-search-clause-made t c = none_made c.remainders.result c.args.search.now c.args.case.now c.args.node.placing c.args.node.question c.remainders.ensures.none
+
+pub enter-returns-in-Empty-clause-made : goal.enter-returns-in-Empty-clause-made
+enter-returns-in-Empty-clause-made t c =
+    refuted_in c.args.search.now c.args.case.now c.args.node.placing c.args.node.question c.in-Empty.plan (subst (λ (x : Opened). IsOpen c.args.node.placing c.args.node.question x) c.in-Empty.is c.in_ok-question.ensures.open)
+
+pub enter-returns-in-On-clause-made : goal.enter-returns-in-On-clause-made
+enter-returns-in-On-clause-made t c =
+    same_made_in c.kills.result c.args.search.now c.args.case.now c.args.node.placing c.in-On.node.placing c.args.node.question c.in-On.node.question (subst (λ (x : Opened). IsOpen c.args.node.placing c.args.node.question x) c.in-On.is c.in_ok-question.ensures.open) c.kills.ensures
+
+pub outside_of-returns-in-Empty : goal.outside_of-returns-in-Empty
+outside_of-returns-in-Empty t c =
+    refuted_in c.args.search.now c.args.case.now c.args.node.placing c.args.node.question c.in-Empty.plan (subst (λ (x : Opened). IsOpen c.args.node.placing c.args.node.question x) c.in-Empty.is c.in_ok-question.ensures.open)
+
+pub outside_of-returns-in-On : goal.outside_of-returns-in-On
+outside_of-returns-in-On t c =
+    same_made_in c.kills.result c.args.search.now c.args.case.now c.args.node.placing c.in-On.node.placing c.args.node.question c.in-On.node.question (subst (λ (x : Opened). IsOpen c.args.node.placing c.args.node.question x) c.in-On.is c.in_ok-question.ensures.open) c.kills.ensures
+
+pub survivor-returns-then-is_empty : goal.survivor-returns-then-is_empty
+survivor-returns-then-is_empty t c = all_refuted_made c.refuted.result c.args.search.now c.args.node.placing c.args.node.question c.refuted.ensures.made
+
+-- ---- kills
+
+pub kills-returns-in_default : goal.kills-returns-in_default
+kills-returns-in_default t c = all_made_in c.survivor.result c.args.search.now c.args.case.now c.args.node.placing c.args.node.question c.survivor.ensures
+
+pub kills-returns : goal.kills-returns
+kills-returns t c =
+    let s = c.args.search.now in
+    let k = c.args.case.now in
+    let n = c.args.node in
+    with_kill c.cut.result (IsKillThere s n.question k c.in-Some.kill.now.1 c.in_ok-rows.rows) (IsMadeIn s k n.placing n.question)
+    (subst (λ (rows : List Row). IfOk c.cut.result (λ o. IfSome o (λ p. IsKillThere s n.question k c.in-Some.kill.now.1 rows → IsMadeIn s k n.placing n.question p))) c.as_slice-2.ensures c.cut.ensures)
+    (record { whole = c.in-Some.kill.now; among = in_get k.kills c.args.number c.in-Some.kill.now (sym c.in-Some.ensures.value); is = refl; moved = c.in_ok-rows.ensures })
+
+pub cut-loop-row-init : goal.cut-loop-row-init
+cut-loop-row-init t c = cut_none c.args.search.now c.args.case.now c.args.node c.new-course.result c.new-course.ensures.node c.new-course.ensures.branches
+
+pub cut-loop-row-preserved : goal.cut-loop-row-preserved
+cut-loop-row-preserved t c =
+    let rows = c.args.rows.now in
+    let i = c.loop-row.row-index in
+    let row = c.row-item.result in
+    let s = c.args.search.now in
+    let k = c.args.case.now in
+    let more : CutsMore s k c.loop-row.course row c.in-Some.next = at_some c.in_ok-made.made c.in-Some.next (CutsMore s k c.loop-row.course row) c.in-Some.is c.in_ok-made.ensures in
+    subst (λ (xs : List Row). AreCut s k c.args.node c.in-Some.next xs) (sym (next_item rows i row c.loop-row-test.true c.row-item.is)) (cut_more s k c.args.node c.loop-row.course c.in-Some.next (take i rows) row c.loop-row.invariant more)
+
+pub cut-returns : goal.cut-returns
+cut-returns t c =
+    let rows = c.args.rows.now in
+    let s = c.args.search.now in
+    let k = c.args.case.now in
+    let all = subst (λ (xs : List Row). AreCut s k c.args.node c.loop-row.course xs) (take_all c.loop-row.row-index rows c.loop-row-test.false) c.loop-row.invariant in
+    cut_made s k c.args.node c.loop-row.course rows c.args.kill.now c.in_ok-end.end c.in_ok-plan.plan all c.in_ok-end.ensures c.in_ok-plan.ensures
+
+pub cut_row-returns-then-standing : goal.cut_row-returns-then-standing
+cut_row-returns-then-standing t c = cut_stays c.args.search.now c.args.case.now c.args.course c.args.row.now (c.in_ok-standing.ensures c.if-standing.true)
+
+pub cut_row-returns-in_ok-next-in-Some-made : goal.cut_row-returns-in_ok-next-in-Some-made
+cut_row-returns-in_ok-next-in-Some-made t c =
+    let n = c.args.course.node.question.conj.columns in
+    let can = c.in_ok-can.ensures c.if-not-can.false in
+    let s = c.args.search.now in
+    let k = c.args.case.now in
+    let v = c.args.course.node in
+    cut_branched s k c.args.course c.in_ok-next-in-Some-made.next c.args.row.now c.in-Some-made.outside.items c.in-Some.parts c.as_slice-parted.result.now
+    (subst (λ (o : Option Parts). AreSides n c.args.row.now o) c.in-Some.is (c.in_ok-parts.ensures can.over)) c.as_slice-parted.ensures
+    (at_some c.in_ok-made.made c.in-Some-made.outside (λ plans. AreMadeOn s k v.placing v.question c.as_slice-parted.result.now plans.items) c.in-Some-made.is c.in_ok-made.ensures)
+    c.in_ok-next-in-Some-made.ensures.opened c.in_ok-next-in-Some-made.ensures.question c.in_ok-next-in-Some-made.ensures.placing can
+
+-- ---- outsides
+
+pub outsides-loop-part-init : goal.outsides-loop-part-init
+outsides-loop-part-init t c =
+    subst (λ (ts : List Plan). AreMadeOn c.args.search.now c.args.case.now c.args.node.now.placing c.args.node.now.question [] ts) (sym c.new-plans.ensures.items) (made_none c.args.search.now c.args.case.now c.args.node.now.placing c.args.node.now.question)
+
+pub outsides-loop-part-preserved : goal.outsides-loop-part-preserved
+outsides-loop-part-preserved t c =
+    let s = c.args.search.now in
+    let k = c.args.case.now in
+    let n = c.args.node.now in
+    let ps = c.args.parts.now in
+    let p = c.part-item.result in
+    let i = c.loop-part.part-index in
+    let b = c.in_ok-beside.beside in
+    let r : IsMadeIn s k b.placing b.question c.in-Some.plan = at_some c.in_ok-made.made c.in-Some.plan (IsMadeIn s k b.placing b.question) c.in-Some.is c.in_ok-made.ensures in
+    subst (λ (xs : List Part). AreMadeOn s k n.placing n.question xs c.push.new.self.items) (sym (next_item ps i p c.loop-part-test.true c.part-item.is))
+    (subst (λ (ts : List Plan). AreMadeOn s k n.placing n.question (take i ps ++ p ∷ []) ts) (sym c.in_ok-push-in-Some.ensures.items) (made_more s k n.placing n.question (take i ps) c.loop-part.plans.items p b c.in-Some.plan c.loop-part.invariant c.in_ok-beside.ensures.question c.in_ok-beside.ensures.placing r))
+
+pub outsides-returns : goal.outsides-returns
+outsides-returns t c =
+    subst (λ (xs : List Part). AreMadeOn c.args.search.now c.args.case.now c.args.node.now.placing c.args.node.now.question xs c.loop-part.plans.items) (take_all c.loop-part.part-index c.args.parts.now c.loop-part-test.false) c.loop-part.invariant
+
+-- ---- pairs
+
+pub visit-returns-in-Mismatch-clause-made : goal.visit-returns-in-Mismatch-clause-made
+visit-returns-in-Mismatch-clause-made t c = all_refuted_made c.mismatch.result c.args.search.now c.args.node.placing c.args.node.question c.mismatch.ensures.made
+
+-- ---- broken paths
+
+pub calls-returns-then-search-clause-broken : goal.calls-returns-then-search-clause-broken
+calls-returns-then-search-clause-broken t c = broken_off c.args.search.now (IsPast c.args.search.now c.args.node.now.trail c.args.node.now.question) _ _ c.if-search.true
+
+pub calls-returns-clause-broken : goal.calls-returns-clause-broken
+calls-returns-clause-broken t c =
+    let s = c.args.search.now in
+    let n = c.args.node.now in
+    let q = n.question in
+    let found = c.in-Some.found in
+    let v = c.into_vec-branch-items.result in
+    let it = c.into_iter-branch-iterator.result in
+    let many : into_iter_len it ≡ length v.items = c.into_iter-branch-iterator.ensures.into_iter_gives.1 ∙ v.ok.0 in
+    let y = YieldsList-end (YieldsList-from_vec {s = it} v.items c.into_iter-branch-iterator.ensures.into_iter_gives.0 many) c.loop-branch.yielded c.loop-branch.branch-iterator c.loop-branch.yielded_by c.next.result c.next.new.self c.in-None.is c.next.ensures.steps in
+    let all : c.loop-branch.yielded ≡ found = sym (map_itself c.loop-branch.yielded) ∙ y.0 ∙ c.into_vec-branch-items.ensures in
+    calls_all s n c.args.order found _ _ (subst (λ (bs : List Branch). AddsCalls s n c.args.order bs c.args.finds.now c.loop-branch.finds) all c.loop-branch.invariant.adds)
+    (subst (λ (o : Option (List Branch)). all_onto q o ≡ branches (judge_of s) c.args.order q) c.in-Some.is c.in_ok-found.ensures.value)
+
+pub read-returns-then-search-clause-broken : goal.read-returns-then-search-clause-broken
+read-returns-then-search-clause-broken t c = broken_off c.args.search.now (IsPast c.args.search.now c.args.node.now.trail c.args.node.now.question) _ _ c.if-search.true
+
+pub read-returns-clause-broken : goal.read-returns-clause-broken
+read-returns-clause-broken t c =
+    let s = c.args.search.now in
+    let n = c.args.node.now in
+    let q = n.question in
+    let found = c.in-Some.found in
+    let v = c.into_vec-branch-items.result in
+    let it = c.into_iter-branch-iterator.result in
+    let many : into_iter_len it ≡ length v.items = c.into_iter-branch-iterator.ensures.into_iter_gives.1 ∙ v.ok.0 in
+    let y = YieldsList-end (YieldsList-from_vec {s = it} v.items c.into_iter-branch-iterator.ensures.into_iter_gives.0 many) c.loop-branch.yielded c.loop-branch.branch-iterator c.loop-branch.yielded_by c.next.result c.next.new.self c.in-None.is c.next.ensures.steps in
+    let all : c.loop-branch.yielded ≡ found = sym (map_itself c.loop-branch.yielded) ∙ y.0 ∙ c.into_vec-branch-items.ensures in
+    reads_all s n c.loop-branch.number found _ _ (subst (λ (bs : List Branch). AddsReads s n c.loop-branch.number bs c.args.finds.now c.loop-branch.finds) all c.loop-branch.invariant.adds)
+    (subst (λ (o : Option (List Branch)). all_onto q o ≡ branches (judge_of s) Keep q) c.in-Some.is c.in_ok-found.ensures.value)
+
+pub enter-returns-in-Empty-clause-broken : goal.enter-returns-in-Empty-clause-broken
+enter-returns-in-Empty-clause-broken t c = broken_off c.args.search.now (IsInCase c.args.search.now c.args.case.now c.args.node.trail c.args.node.question) _ _ c.if-not-search.false
+
+pub enter-returns-in-On-clause-broken : goal.enter-returns-in-On-clause-broken
+enter-returns-in-On-clause-broken t c = on_ok_any c.kills.result _ (broken_off c.args.search.now (IsInCase c.args.search.now c.args.case.now c.args.node.trail c.args.node.question) _ _ c.if-not-search.false)
+
+pub remainders-loop-rest-init : goal.remainders-loop-rest-init
+remainders-loop-rest-init t c = broken_none c.args.search.now (IsInCase c.args.search.now c.args.case.now c.args.node.now.trail c.args.node.now.question) _ _ refl
+
+pub visit-returns-in-Read-clause-broken : goal.visit-returns-in-Read-clause-broken
+visit-returns-in-Read-clause-broken t c =
+    on_ok c.read.result _ _ (broken_past c.args.search.now c.args.node.trail c.args.node.question _ _ (c.claim_of.ensures.none c.in_default.is)) c.read.ensures.broken
+
+pub visit-returns-in-Calls-clause-broken : goal.visit-returns-in-Calls-clause-broken
+visit-returns-in-Calls-clause-broken t c =
+    on_ok c.calls.result _ _ (broken_past c.args.search.now c.args.node.trail c.args.node.question _ _ (c.claim_of.ensures.none c.in_default.is)) c.calls.ensures.broken
+
+pub visit-returns-in-Match-clause-broken : goal.visit-returns-in-Match-clause-broken
+visit-returns-in-Match-clause-broken t c =
+    let s = c.args.search.now in
+    let v = c.args.node in
+    on_ok_if c.stand.result _ _ _ (λ h. broken_past s v.trail v.question _ _ (c.claim_of.ensures.none c.in_default.is) (match_broken s v.trail v.question c.as_slice.result.now c.in-Match.end _ _ (subst (λ (xs : List Row). IsKindThere s v.question (kind.Match xs c.in-Match.end)) (sym c.as_slice.ensures) (subst (λ (x : Next). IsKindThere s v.question x) c.in-Match.is c.in_ok-next.ensures.kind)) h)) c.stand.ensures.found
+
+pub visit-returns-in-Mismatch-clause-broken : goal.visit-returns-in-Mismatch-clause-broken
+visit-returns-in-Mismatch-clause-broken t c =
+    let s = c.args.search.now in
+    let v = c.args.node in
+    on_ok_if c.mismatch.result _ _ _ (λ h. broken_past s v.trail v.question _ _ (c.claim_of.ensures.none c.in_default.is) (mismatch_broken s v.trail v.question _ _ (subst (λ (x : Next). IsKindThere s v.question x) c.in-Mismatch.is c.in_ok-next.ensures.kind) h)) c.mismatch.ensures.found
+
+pub remainders-loop-rest-preserved-in-Empty : goal.remainders-loop-rest-preserved-in-Empty
+remainders-loop-rest-preserved-in-Empty t c = c.loop-rest.invariant
+
+pub remainders-loop-rest-preserved : goal.remainders-loop-rest-preserved
+remainders-loop-rest-preserved t c =
+    let s = c.args.search.now in
+    let k = c.args.case.now in
+    let n = c.args.node.now in
+    let l = c.in_ok-left.left in
+    let r = c.rest-item.result in
+    let among : IsAmong r k.pieces = subst (λ (xs : List Remainder). IsAmong r xs) c.as_slice-rest-items.ensures (in_read c.as_slice-rest-items.result.now c.loop-rest.rest-index r c.loop-rest-test.true c.rest-item.is) in
+    let opened = subst (λ (x : Opened). IsOpen l.placing l.question x) c.in-On.is c.in_ok-question.ensures.open in
+    let kept = subst (λ (x : Opened). KeepsTrail l x) c.in-On.is c.in_ok-question.ensures.trail in
+    piece_broken s k n l c.in-On.child r _ _ _ c.loop-rest.invariant among c.in_ok-left.ensures.question c.in_ok-left.ensures.trail opened.0 kept c.in_ok-_none-in-On.ensures.broken

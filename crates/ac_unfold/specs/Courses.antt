@@ -1,0 +1,20 @@
+-- Branches on rows behind which a plan stands.
+use Rattle.std.specs.Prelude.{◌≡◌, List, [], ◌∷◌, ◌++◌}
+use Rattle.ac_forms.specs.declared.row.Row.{Row}
+use Rattle.ac_claims.specs.declared.types.Plan.{Plan}
+use Rattle.ac_graft.specs.Sides.{BranchServesAnywhere}
+use Rattle.ac_unfold.specs.declared.course.Course.{Course}
+use Rattle.ac_unfold.specs.declared.course.Open.{Open}
+
+-- the second plan is the first one behind the branches, of which the first is the outermost
+abbrev pub IsBehind : List Open → Plan → Plan → Type 0
+IsBehind [] end t = end ≡ t
+IsBehind (b ∷ bs) end t = (inside : Plan) × IsBehind bs end inside × BranchServesAnywhere b.placing b.row inside b.outside.items t
+
+-- behind one branch more: on the row, with the plans of the parts of its negation
+pub record IsOpened (course : Course) (row : Row) (outside : List Plan) (next : Course) : Type 0 where
+  pub last : Open
+  pub branches : next.branches.items ≡ course.branches.items ++ last ∷ []
+  pub placing : last.placing ≡ course.node.placing
+  pub row_is : last.row ≡ row
+  pub outside_are : last.outside.items ≡ outside

@@ -1,0 +1,93 @@
+-- What a pair of positions asks for, and what the kills of a case cut away.
+use Rattle.std.specs.Prelude.{◌≡◌, ℕ, true, List, [], ◌∷◌, ◌++◌, map, Some, slice_get}
+use Rattle.ac_forms.specs.Renaming.{rows_renaming}
+use Rattle.ac_forms.specs.declared.conj.Conj.{Conj}
+use Rattle.ac_forms.specs.declared.row.Row.{Row}
+use Rattle.ac_syntax.specs.declared.tree.Order.{Order}
+use Rattle.ac_syntax.specs.declared.tree.Position.{Position}
+use Rattle.ac_paths.specs.Formed.{AllFormed, HasModuli, IsFormed}
+use Rattle.ac_paths.specs.Going.{Pairing, branches, model_of}
+use Rattle.ac_paths.specs.Killing.{case_columns}
+use Rattle.ac_forms.specs.Members.{IsAmong}
+use Rattle.ac_paths.specs.declared.path.Assumed.{Assumed}
+use Rattle.ac_paths.specs.declared.path.Path.{Path}
+use Rattle.ac_paths.specs.declared.path.Side.{Side}
+use Rattle.ac_paths.specs.declared.path.Side.TheVariants.{Left, Right}
+use Rattle.ac_claims.specs.Ending.{same_position}
+use Rattle.ac_claims.specs.declared.types.Claim.{Claim}
+use Rattle.ac_claims.specs.declared.types.Kill.{Kill}
+use Rattle.ac_claims.specs.declared.types.Plan.{Plan}
+use Rattle.ac_flow.specs.declared.types.Case.{Case}
+use Rattle.ac_flow.specs.declared.types.Flow.{Flow}
+use Rattle.ac_flow.specs.declared.types.ReadFlow.{ReadFlow}
+use Rattle.ac_graft.specs.declared.branching.Part.{Part}
+use Rattle.ac_graft.specs.declared.placing.Placing.{Placing}
+use Rattle.ac_plans.specs.Following.{ArePlansFor, IsPlanFor}
+use Rattle.ac_plans.specs.Serving.{question_on, AreSidePlans}
+use Rattle.ac_unfold.specs.Cases.{AssumesCase}
+use Rattle.ac_unfold.specs.Making.{judge_of, EndsWhere, IsCaseAt, IsGiven}
+use Rattle.ac_unfold.specs.Standing.{Cuts}
+use Rattle.ac_unfold.specs.declared.course.Course.{Course}
+use Rattle.ac_unfold.specs.declared.ends.Search.{Search}
+use Rattle.ac_unfold.specs.declared.kinds.Next.{Next}
+use Rattle.ac_unfold.specs.declared.kinds.Next.TheVariants as next
+use Rattle.ac_unfold.specs.declared.types.Setting.{Setting}
+
+-- ---- claims
+
+-- the claim with the number is of these positions
+pub record IsNumbered (claims : List Claim) (left right : Position) (number : ℕ) : Type 0 where
+  pub claim : Claim
+  pub is : slice_get claims number ≡ Some claim
+  pub left_is : same_position left claim.left ≡ true
+  pub right_is : same_position right claim.right ≡ true
+
+-- the path is below a step, at the positions of the claim with the number
+pub record IsClaimBehind (search : Search) (q : Path) (number : ℕ) : Type 0 where
+  pub gone : q.gone ≡ true
+  pub at : IsNumbered search.claims.now q.left.position q.right.position number
+
+-- ---- kinds
+
+-- what rows have to stand at a match
+abbrev pub IsNext : Search → Path → Next → Type 0
+IsNext search q (next.Read side) = Unit {0}
+IsNext search q (next.Calls order) = Unit {0}
+IsNext search q (next.Match rows end) = EndsWhere search q rows end
+IsNext search q next.Mismatch = Unit {0}
+
+abbrev pub flow_on : Setting → Side → Flow
+flow_on s Left = s.left_flow.now
+flow_on s Right = s.right_flow.now
+
+-- ---- cases
+
+-- a case of the flow of a side is what the question assumes
+pub record IsAssumed (search : Search) (side : Side) (flow : ReadFlow) (case : Case) (q : Path) : Type 0 where
+  pub among : IsAmong case flow.cases
+  pub assumed : Assumed
+  pub is : q.last ≡ Some assumed
+  pub assumes : AssumesCase (judge_of search).params (model_of (judge_of search) side) side flow case assumed
+
+-- a step with plans for its branches
+unfoldable pub IsStep : Order → List Plan → Plan → Type 0
+IsStep order cases t =
+    (g : Pairing) → HasModuli g.left → HasModuli g.right → (cs : List Claim) (s : Placing) (q : Path) (bs : List Path) → IsFormed g.params q → branches g order q ≡ Some bs → ArePlansFor g cs s q bs cases → IsPlanFor g cs s q t
+
+-- ---- kills
+
+-- a kill of the case, with its rows over the columns of the question
+pub record IsKillThere (search : Search) (q : Path) (case : Case) (kill : Kill) (rows : List Row) : Type 0 where
+  pub whole : Conj × Kill
+  pub among : IsAmong whole case.kills
+  pub is : whole.1 ≡ kill
+  pub moved : (a : Assumed) → q.last ≡ Some a → Some rows ≡ rows_renaming (case_columns (judge_of search).params a) whole.0.rows
+
+-- one row more stands
+unfoldable pub CutsMore : Search → Case → Course → Row → Course → Type 0
+CutsMore search case course row next =
+    (cs : List Claim) (s : Placing) (q : Path) (rows : List Row) → IsGiven search cs → IsCaseAt (judge_of search) q case → Cuts search cs s q course rows → Cuts search cs s q next (rows ++ row ∷ [])
+
+-- a plan for each of some sides of the question, where it assumes the case
+unfoldable pub AreMadeOn : Search → Case → Placing → Path → List Part → List Plan → Type 0
+AreMadeOn search case s q parts plans = (cs : List Claim) → IsGiven search cs → IsCaseAt (judge_of search) q case → AllFormed (judge_of search).params (map (question_on q) parts) → AreSidePlans (judge_of search) cs s q parts plans

@@ -1,0 +1,171 @@
+-- What the functions of an unfolding promise of the broken paths that they add.
+use Rattle.std.specs.Prelude.{◌≡◌, ◌≤◌, ◌++◌, ℕ, false, true, List, [], ◌∷◌, ℤ, length, Some, None}
+use Rattle.std.specs.List.{AllByRecursion}
+use Rattle.ac_forms.specs.Affine.{Affine}
+use Rattle.ac_forms.specs.Rows.{Holds, Meets, IsRowOver}
+use Rattle.ac_forms.specs.declared.conj.Conj.{Conj}
+use Rattle.ac_forms.specs.declared.row.Row.{Row}
+use Rattle.ac_forms.specs.declared.row.Row.TheVariants.{Eq}
+use Rattle.ac_syntax.specs.declared.tree.Position.{Position}
+use Rattle.ac_choices.specs.Points.{IsPoint}
+use Rattle.ac_paths.specs.Going.{Pairing}
+use Rattle.ac_forms.specs.Members.{IsAmong}
+use Rattle.ac_paths.specs.Places.{CallAt, call_at, cell_read, number_at}
+use Rattle.ac_paths.specs.declared.path.Path.{Path}
+use Rattle.ac_paths.specs.declared.path.Seat.{Seat}
+use Rattle.ac_paths.specs.declared.path.Side.{Side}
+use Rattle.ac_widen.specs.declared.derivation.Entry.{Entry}
+use Rattle.ac_claims.specs.declared.types.Claim.{Claim}
+use Rattle.ac_flow.specs.declared.types.Case.{Case}
+use Rattle.ac_graft.specs.Sides.{side_of}
+use Rattle.ac_graft.specs.declared.branching.Part.{Part}
+use Rattle.ac_graph.specs.Moves.{pairing_of}
+use Rattle.ac_graph.specs.Steps.{HaveFlows}
+use Rattle.ac_stopping.specs.Parts.{order_of}
+use Rattle.ac_leading.specs.Ends.{entries_at, MatchesNothing}
+use Rattle.ac_leading.specs.Leading.{Unfolding, positions_of, seats_of}
+use Rattle.ac_leading.specs.Steps.{flow_on, AreNoReaders, IsBranchOf, IsReached, ReadsOn}
+use Rattle.ac_unfold.specs.Broken.{HasNoClaim, IsBroken}
+use Rattle.ac_unfold.specs.Making.{judge_of}
+use Rattle.ac_unfold.specs.declared.asking.Answer.{Answer}
+use Rattle.ac_unfold.specs.declared.asking.Answer.TheVariants as answer
+use Rattle.ac_unfold.specs.declared.asking.Opened.{Opened}
+use Rattle.ac_unfold.specs.declared.asking.Opened.TheVariants as opened
+use Rattle.ac_unfold.specs.declared.asking.Wanted.{Wanted}
+use Rattle.ac_unfold.specs.declared.asking.Wanted.TheVariants.{Standing, Absurd, Wide}
+use Rattle.ac_unfold.specs.declared.course.Course.{Course}
+use Rattle.ac_unfold.specs.declared.ends.Search.{Search}
+use Rattle.ac_unfold.specs.declared.ends.Stood.{Stood}
+use Rattle.ac_unfold.specs.declared.ends.Stood.TheVariants as stood
+use Rattle.ac_unfold.specs.declared.kinds.Next.{Next}
+use Rattle.ac_unfold.specs.declared.kinds.Next.TheVariants as next
+use Rattle.ac_unfold.specs.declared.node.Node.{Node}
+
+-- ---- what is added
+
+-- the second list is the first one with further paths, each of which is of this kind
+pub record Adds (Kind : List Entry → Type 0) (before after : List (List Entry)) : Type 0 where
+  pub more : List (List Entry)
+  pub is : after ≡ before ++ more
+  pub all : AllByRecursion Kind more
+
+-- the entries of a trail at a point of the rows
+pub record IsPathAt (params : ℕ) (trail : List (Seat × Seat)) (c : Conj) (es : List Entry) : Type 0 where
+  pub point : List ℤ
+  pub there : IsPoint c point
+  pub are : es ≡ entries_at params point trail
+
+-- or at one of a side of them
+pub record IsPathBeside (params : ℕ) (trail : List (Seat × Seat)) (c : Conj) (parts : List Part) (es : List Entry) : Type 0 where
+  pub part : Part
+  pub among : IsAmong part parts
+  pub at : IsPathAt params trail (side_of c part) es
+
+-- a row over the columns fails at the point; if it is an equality, the point has a number for each of them and no more
+pub record Fails (columns : ℕ) (r : Row) (p : List ℤ) : Type 0 where
+  pub over : IsRowOver columns r
+  pub fails : ¬ (Holds r p)
+  pub exact : (f : Affine) → r ≡ Eq f → length p ≡ columns
+
+-- or where one of these fails
+pub record IsPathBreaking (params : ℕ) (trail : List (Seat × Seat)) (c : Conj) (rows : List Row) (es : List Entry) : Type 0 where
+  pub point : List ℤ
+  pub long : c.columns ≤ length point
+  pub meets : Meets c.rows point
+  pub row : Row
+  pub among : IsAmong row rows
+  pub fails : Fails c.columns row point
+  pub are : es ≡ entries_at params point trail
+
+-- ---- questions
+
+abbrev pub IsPointIn : Conj → Answer → Type 0
+IsPointIn c (answer.Empty o) = Unit {0}
+IsPointIn c (answer.Point p) = IsPoint c p.items
+
+abbrev pub KeepsTrail : Node → Opened → Type 0
+KeepsTrail n (opened.Empty o) = Unit {0}
+KeepsTrail n (opened.On next) = next.trail ≡ n.trail
+
+abbrev pub IsUnmet : ℕ → Row → Wanted → Type 0
+IsUnmet columns r Standing = Unit {0}
+IsUnmet columns r Absurd = IsRowOver columns r × ((p : List ℤ) → ¬ (Holds r p))
+IsUnmet columns r Wide = Unit {0}
+
+abbrev pub KeepsNode : Course → Stood → Type 0
+KeepsNode course (stood.On next) = (next.node.question ≡ course.node.question) × (next.node.trail ≡ course.node.trail)
+KeepsNode course (stood.Ended o) = Unit {0}
+
+-- ---- the unfoldings of a search
+
+-- the steps of the programs under the order that is listed, from the pairs of some claim on
+pub record IsOf (search : Search) (u : Unfolding) : Type 0 where
+  pub programs : pairing_of u.pair ≡ judge_of search
+  pub flows : HaveFlows u.pair search.setting.now.left_flow.now search.setting.now.right_flow.now
+  pub orders : (key : Position × Position) → u.order key ≡ order_of search.order.now key
+
+abbrev pub Reached : Search → Unfolding → List (Seat × Seat) → Path → Type 0
+Reached search u trail q = IsReached u search.setting.now.left_flow.now search.setting.now.right_flow.now trail q
+
+-- the trail of a pair behind a step, with no claim between it and the first one
+pub record IsBehindStep (claims : List Claim) (trail : List (Seat × Seat)) (q : Path) : Type 0 where
+  pub first : Seat × Seat
+  pub between : List (Seat × Seat)
+  pub is : trail ≡ first ∷ (between ++ seats_of q ∷ [])
+  pub free : AllByRecursion (HasNoClaim claims) between
+
+-- the unfolding begins with this claim
+abbrev pub IsFrom : Claim → Unfolding → Type 0
+IsFrom c u = u.claim ≡ c
+
+-- the unfolding comes to the question by the trail, and no claim stands on the way
+pub record IsAt (search : Search) (trail : List (Seat × Seat)) (q : Path) (u : Unfolding) : Type 0 where
+  pub reached : Reached search u trail q
+  pub begins : q.gone ≡ false → trail ≡ seats_of q ∷ []
+  pub behind : q.gone ≡ true → IsBehindStep search.claims.now trail q
+
+-- nor at its end
+pub record IsPast (search : Search) (trail : List (Seat × Seat)) (q : Path) (u : Unfolding) : Type 0 where
+  pub reached : Reached search u trail q
+  pub first : Seat × Seat
+  pub rest : List (Seat × Seat)
+  pub is : trail ≡ first ∷ rest
+  pub free : AllByRecursion (HasNoClaim search.claims.now) rest
+
+-- the question is the branch of a case of a read or an output to which it comes
+pub record IsInCase (search : Search) (case : Case) (trail : List (Seat × Seat)) (b : Path) (u : Unfolding) : Type 0 where
+  pub before : List (Seat × Seat)
+  pub question : Path
+  pub past : IsPast search before question u
+  pub side : Side
+  pub branch : IsBranchOf u (flow_on search.setting.now.left_flow.now search.setting.now.right_flow.now side) side question case b
+  pub trail_is : trail ≡ before ++ seats_of b ∷ []
+  pub gone : b.gone ≡ true
+
+-- the further paths are broken in each unfolding of the search that is at this place, where paths are looked for
+unfoldable pub AddsBroken : Search → (Unfolding → Type 0) → List (List Entry) → List (List Entry) → Type 0
+AddsBroken search At before after =
+    search.making ≡ false → (u : Unfolding) → IsOf search u → At u → AllByRecursion (IsBroken u search.claims.now) before → AllByRecursion (IsBroken u search.claims.now) after
+
+-- ---- kinds
+
+-- no read or output stands on either side, and no two calls of one symbol with as many arguments
+pub record IsLeaf (g : Pairing) (q : Path) : Type 0 where
+  pub left : cell_read g.left q.left.position ≡ None
+  pub right : cell_read g.right q.right.position ≡ None
+  pub calls : (c d : CallAt) → call_at g.left q.left.position ≡ Some c → call_at g.right q.right.position ≡ Some d → ¬ ((c.symbol ≡ d.symbol) × (length c.args ≡ length d.args))
+
+-- nor two numbers
+pub record IsNoNumber (g : Pairing) (q : Path) : Type 0 where
+  pub leaf : IsLeaf g q
+  pub numbers : (f h : Affine) → number_at g.left q.left.position ≡ Some f → ¬ (number_at g.right q.right.position ≡ Some h)
+
+-- what a pair asks for is so in each unfolding of the search: where one of the rows fails the pair matches nothing
+abbrev pub IsKind : Search → Path → Next → Unfolding → Type 0
+IsKind search q (next.Read side) u = ReadsOn u side q
+IsKind search q (next.Calls order) u = AreNoReaders u q × (u.order (positions_of (seats_of q)) ≡ order)
+IsKind search q (next.Match rows end) u = (p : List ℤ) (r : Row) → IsAmong r rows → Fails q.conj.columns r p → MatchesNothing u q p
+IsKind search q next.Mismatch u = (p : List ℤ) → MatchesNothing u q p
+
+unfoldable pub IsKindThere : Search → Path → Next → Type 0
+IsKindThere search q kind = (u : Unfolding) → IsOf search u → IsKind search q kind u

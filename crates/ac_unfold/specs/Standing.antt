@@ -1,0 +1,85 @@
+-- Rows that have to stand at the end of a path, one after the other.
+use Rattle.std.specs.Prelude.{◌≡◌, true, List, [], ◌∷◌, ◌++◌, Option, Some, IfSome}
+use Rattle.ac_forms.specs.Standing.{stands}
+use Rattle.ac_forms.specs.declared.row.Row.{Row}
+use Rattle.ac_paths.specs.Formed.{IsFormed}
+use Rattle.ac_paths.specs.Going.{Pairing, at_rows}
+use Rattle.ac_paths.specs.declared.path.Path.{Path}
+use Rattle.ac_claims.specs.declared.types.Claim.{Claim}
+use Rattle.ac_claims.specs.declared.types.Plan.{Plan}
+use Rattle.ac_graft.specs.declared.branching.Part.{Part}
+use Rattle.ac_graft.specs.declared.placing.Placing.{Placing}
+use Rattle.ac_plans.specs.Covering.{Covers}
+use Rattle.ac_plans.specs.Following.{IsPlanFor}
+use Rattle.ac_plans.specs.Serving.{AreSidePlans}
+use Rattle.ac_unfold.specs.Courses.{IsBehind}
+use Rattle.ac_unfold.specs.Making.{judge_of, AreStanding, IsGiven, IsMade}
+use Rattle.ac_unfold.specs.declared.course.Course.{Course}
+use Rattle.ac_unfold.specs.declared.ends.Closed.{Closed}
+use Rattle.ac_unfold.specs.declared.ends.Closed.TheVariants as closed
+use Rattle.ac_unfold.specs.declared.ends.Search.{Search}
+use Rattle.ac_unfold.specs.declared.ends.Stood.{Stood}
+use Rattle.ac_unfold.specs.declared.ends.Stood.TheVariants as stood
+use Rattle.ac_unfold.specs.declared.node.Node.{Node}
+
+-- behind the branches of a course a plan for one question is a plan for another one
+abbrev pub Leads : Pairing → List Claim → Placing → Path → Course → Placing → Path → Type 0
+Leads g cs s q course z v = (end t : Plan) → IsPlanFor g cs z v end → IsBehind course.branches.items end t → IsPlanFor g cs s q t
+
+-- ---- rows that stand on the path
+
+-- a course from q, whose node keeps its question: the path has a question with the rows that were branched on too, among which
+-- these stand
+pub record Keeps (search : Search) (cs : List Claim) (s : Placing) (q : Path) (course : Course) (rows : List Row) : Type 0 where
+  pub placed : Placing
+  pub on_path : Path
+  pub leads : Leads (judge_of search) cs s q course placed on_path
+  pub same : course.node.question ≡ q
+  pub covers : Covers course.node.placing course.node.question placed on_path
+  pub more : (r : Row) → stands course.node.question.conj.rows r ≡ true → stands on_path.conj.rows r ≡ true
+  pub formed : IsFormed (judge_of search).params on_path
+  pub standing : AreStanding on_path.conj rows
+
+-- a plan at the end of the course is one for the question that the course came from
+unfoldable pub IsEndOf : Search → Course → Plan → Type 0
+IsEndOf search course t = (cs : List Claim) (s : Placing) (q : Path) (rows : List Row) → IsGiven search cs → Keeps search cs s q course rows → IsPlanFor (judge_of search) cs s q t
+
+-- one row more stands
+unfoldable pub KeepsMore : Search → Course → Row → Course → Type 0
+KeepsMore search course row next = (cs : List Claim) (s : Placing) (q : Path) (rows : List Row) → IsGiven search cs → Keeps search cs s q course rows → Keeps search cs s q next (rows ++ row ∷ [])
+
+-- so it is, or the course has ended
+abbrev pub IsStood : Search → Course → Row → Stood → Type 0
+IsStood search course row (stood.On next) = KeepsMore search course row next
+IsStood search course row (stood.Ended o) = IfSome o (IsEndOf search course)
+
+-- the course from a node to where these rows stand
+unfoldable pub AreKept : Search → Node → Course → List Row → Type 0
+AreKept search node course rows = (cs : List Claim) → IsGiven search cs → IsFormed (judge_of search).params node.question → Keeps search cs node.placing node.question course rows
+
+abbrev pub AreStood : Search → Node → List Row → Stood → Type 0
+AreStood search node rows (stood.On course) = AreKept search node course rows
+AreStood search node rows (stood.Ended o) = IfSome o (IsMade search node.placing node.question)
+
+-- the end, behind the branches of the course
+pub record IsEndedPlan (course : Course) (end : Option Plan) (t : Plan) : Type 0 where
+  pub last : Plan
+  pub is : end ≡ Some last
+  pub behind : IsBehind course.branches.items last t
+
+-- a plan for each of some sides, where plans are made
+unfoldable pub AreRefutedOn : Search → Placing → Path → List Part → List Plan → Type 0
+AreRefutedOn search s q parts plans = search.making ≡ true → (g : Pairing) (cs : List Claim) → AreSidePlans g cs s q parts plans
+
+abbrev pub IsClosed : Search → Node → List Part → Closed → Type 0
+IsClosed search node parts closed.Broken = Unit {0}
+IsClosed search node parts (closed.Refuted plans) = AreRefutedOn search node.placing node.question parts plans.items
+
+-- ---- rows that the question has from then on
+
+-- a course from q, whose node has the rows that were branched on; these rows stand there
+pub record Cuts (search : Search) (cs : List Claim) (s : Placing) (q : Path) (course : Course) (rows : List Row) : Type 0 where
+  pub leads : Leads (judge_of search) cs s q course course.node.placing course.node.question
+  pub positions : course.node.question ≡ at_rows q course.node.question.conj
+  pub formed : IsFormed (judge_of search).params course.node.question
+  pub standing : AreStanding course.node.question.conj rows

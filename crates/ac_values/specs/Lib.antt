@@ -1,0 +1,4 @@
+pub mod Values
+pub mod Measures
+pub mod WrittenTerms
+pub mod Laws
