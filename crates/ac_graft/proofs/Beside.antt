@@ -1,28 +1,26 @@
 -- The rows of a question stand behind a branch on a further row, and so does the row or the part of its negation.
-use Rattle.std.proofs.Common.{◌≡◌, ℕ, zero, suc, ◌+◌, ◌-◌, ◌<◌, ◌≤◌, ℤ, pos, negsuc, neg_ℤ, ◌-ℤ◌, ◌*ℤ◌, List, [], ◌∷◌, ◌++◌, append_assoc, append-nil, length, length-append, get_or, Option, Some, None, Bool, true, false, cond, nat_eq, nat_le, slice_get, refl, sym, ap, ◌∙◌, subst, arith}
-use Rattle.std.specs.List.{range_with_len}
+use Rattle.std.proofs.Common.{◌≡◌, ℕ, zero, suc, ◌+◌, ◌<◌, ◌≤◌, ℤ, pos, negsuc, neg_ℤ, ◌-ℤ◌, ◌*ℤ◌, List, [], ◌∷◌, ◌++◌, append_assoc, append-nil, length, length-append, get_or, Option, Some, slice_get, refl, sym, ap, ◌∙◌, arith}
 use Rattle.std.proofs.lemmas.List.{length-map}
 use Rattle.ac_forms.specs.Affine.{Affine, shifted}
 use Rattle.ac_forms.specs.Negation.{opposite, above, below, with_column}
-use Rattle.ac_forms.specs.Renaming.{with_form, AreColumns, AreDistinct}
+use Rattle.ac_forms.specs.Renaming.{with_form}
 use Rattle.ac_forms.specs.Rows.{form_of, IsWellMade}
 use Rattle.ac_forms.specs.declared.conj.Conj.{Conj}
 use Rattle.ac_forms.specs.declared.row.Row.{Row}
 use Rattle.ac_forms.specs.declared.row.Row.TheVariants.{Eq, Div, Ge}
 use Rattle.ac_cert.specs.Apart.{IsOnto}
 use Rattle.ac_cert.specs.Branches.{with_floor, behind, under, over_zero, with_rest}
-use Rattle.ac_cert.specs.Rules.{with_row, with_column_row, class, class_row}
+use Rattle.ac_cert.specs.Rules.{with_row, with_column_row}
 use Rattle.ac_cert.specs.StepRows.{IsAt}
 use Rattle.ac_graft.specs.Placings.{moved_form}
 use Rattle.ac_graft.specs.Sides.{side_of, on_side, one_row, rest_side}
-use Rattle.ac_graft.specs.Standing.{StandsAt, Stand, StandsOn}
+use Rattle.ac_graft.specs.Standing.{StandsAt, StandsOn}
 use Rattle.ac_graft.specs.declared.placing.Placing.{Placing}
 use Rattle.ac_graft.proofs.Forms.{renames-moved, moved-within, renames-listed, listed-renames, place-there, place-is}
 use Rattle.ac_graft.proofs.Grown.{columns-wider, columns-both, distinct-further, form-more, stands-more, view-side}
-use Rattle.ac_graft.proofs.Named.{place_of, AreNames, named, coef_of, Renames}
-use Rattle.ac_graft.proofs.Numbers.{get-past}
+use Rattle.ac_graft.proofs.Named.{place_of, AreNames, Renames}
 use Rattle.ac_graft.proofs.Renamings.{IsNext, renames-scaled, renames-shifted, renames-column}
-use Rattle.ac_graft.proofs.Views.{names-of, placing-names, place-beyond, renames-fewer}
+use Rattle.ac_graft.proofs.Views.{names-of, placing-names, renames-fewer}
 
 -- ---- forms
 

@@ -14,5 +14,6 @@ mod Beside
 pub mod PlanParts
 mod Classes
 mod Makers
+mod Branched
 mod Serving
 pub mod Staying

@@ -1,11 +1,10 @@
 -- A certificate that is accepted on a question is accepted, moved, on each path on which the question stands.
-use Rattle.std.proofs.Common.{Result, Ok, Err, ◌≡◌, ℕ, suc, ◌+◌, ℤ, pos, ◌≤ℤ◌, ◌&&◌, int_le, nat_le, List, [], ◌∷◌, length, map, Option, Some, None, Bool, true, false, cond, slice_get, refl, sym, ap, ◌∙◌, subst, arith}
+use Rattle.std.proofs.Common.{Result, Ok, Err, ◌≡◌, ℕ, suc, ◌+◌, ℤ, pos, ◌≤ℤ◌, int_le, nat_le, List, [], ◌∷◌, length, map, Option, Some, None, Bool, true, false, cond, slice_get, refl, ap}
 use Rattle.std.specs.Prelude.{IfOk}
 use Rattle.std.specs.declared.alloc.AllocError.{AllocError}
 use Rattle.std.specs.Ordering.{int_eq}
 use Rattle.ac_forms.specs.Affine.{Affine}
-use Rattle.ac_forms.specs.Fits.{fits}
-use Rattle.ac_forms.specs.Rows.{form_of, IsWellMade}
+use Rattle.ac_forms.specs.Rows.{IsWellMade}
 use Rattle.ac_forms.specs.declared.conj.Conj.{Conj}
 use Rattle.ac_forms.specs.declared.row.Row.{Row}
 use Rattle.ac_forms.specs.declared.row.Row.TheVariants.{Eq, Div, Ge}
@@ -20,20 +19,20 @@ use Rattle.ac_cert.specs.declared.types.Step.{Step}
 use Rattle.ac_cert.specs.declared.types.Tree.{Tree}
 use Rattle.ac_cert.proofs.Soundness.{first-none, no-refusal, if-none}
 use Rattle.ac_cert.proofs.StepRules.{step-keeps, sides-keep, class-over}
-use Rattle.ac_choices.proofs.Truths.{and-true, le-true, true-nat_le}
+use Rattle.ac_choices.proofs.Truths.{and-true, le-true}
 use Rattle.ac_paths.specs.Going.{Pairing, at_rows}
 use Rattle.ac_paths.specs.declared.path.Path.{Path}
-use Rattle.ac_claims.specs.PlanFaults.{steps_fault, absurd_fault, count_of, line_count, next_fault, classes_fault, plan_fault}
+use Rattle.ac_claims.specs.PlanFaults.{steps_fault, absurd_fault, count_of, line_count, next_fault, classes_fault}
 use Rattle.ac_claims.specs.declared.types.Claim.{Claim}
 use Rattle.ac_claims.specs.declared.types.Plan.{Plan}
 use Rattle.ac_claims.specs.declared.types.PlanNext as plan
 use Rattle.ac_claims.specs.declared.types.PlanNext.TheVariants as end
 use Rattle.ac_graft.specs.Placings.{row_on, moved_form, moved_step}
-use Rattle.ac_graft.specs.Plans.{AcceptsPlan, Serves, IsMovedNext, AreMovedKids, IsMoved}
+use Rattle.ac_graft.specs.Plans.{Serves, IsMovedNext, AreMovedKids, IsMoved}
 use Rattle.ac_graft.specs.declared.placing.Placing.{Placing}
 use Rattle.ac_graft.proofs.Named.{named, Stands, IsShifted}
 use Rattle.ac_graft.proofs.Renamings.{moved-all_zero}
-use Rattle.ac_graft.proofs.Steps.{moved-on, form-within, sides-on, partition-on, class-on}
+use Rattle.ac_graft.proofs.Steps.{moved-on, sides-on, partition-on, class-on}
 use Rattle.ac_graft.proofs.Views.{view-shifted}
 
 -- ---- an absurd row

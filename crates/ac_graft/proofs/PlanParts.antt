@@ -1,12 +1,12 @@
 -- A plan made of accepted parts is accepted.
-use Rattle.std.proofs.Common.{◌≡◌, ℕ, ◌+◌, ℤ, pos, List, [], ◌∷◌, ◌++◌, length, Option, Some, None, true, cond, refl, sym, ap, ◌∙◌, suc}
+use Rattle.std.proofs.Common.{◌≡◌, ℕ, ◌+◌, ℤ, pos, List, [], ◌∷◌, ◌++◌, length, Option, Some, None, true, cond, refl, ap, ◌∙◌, suc}
 use Rattle.std.specs.Prelude.{Box, Vec}
 use Rattle.std.specs.declared.alloc.Global.{Global}
 use Rattle.ac_forms.specs.Affine.{Affine}
 use Rattle.ac_forms.specs.declared.conj.Conj.{Conj}
 use Rattle.ac_cert.specs.Accepted.{after_steps}
-use Rattle.ac_cert.specs.Faults.{Fault, first_fault_of, split_fault, step_fault}
-use Rattle.ac_cert.specs.Rules.{after_step, rule_of, both_sides, class, is_partition}
+use Rattle.ac_cert.specs.Faults.{Fault, first_fault_of, split_fault}
+use Rattle.ac_cert.specs.Rules.{after_step, both_sides, class, is_partition}
 use Rattle.ac_cert.specs.declared.types.Rule.TheVariants as rule
 use Rattle.ac_cert.specs.declared.types.Step.{Step}
 use Rattle.ac_choices.proofs.Keeping.{bind-some, some-is}

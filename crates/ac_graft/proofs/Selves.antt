@@ -13,7 +13,7 @@ use Rattle.ac_forms.specs.declared.conj.Conj.{Conj}
 use Rattle.ac_forms.specs.declared.row.Row.{Row}
 use Rattle.ac_forms.specs.declared.row.Row.TheVariants.{Eq, Div, Ge}
 use Rattle.ac_graft.specs.Placings.{itself}
-use Rattle.ac_graft.specs.Standing.{StandsAt, Stand, StandsOn}
+use Rattle.ac_graft.specs.Standing.{Stand, StandsOn}
 use Rattle.ac_graft.specs.declared.placing.Placing.{Placing}
 use Rattle.ac_graft.proofs.Forms.{listed-renames}
 use Rattle.ac_graft.proofs.Named.{place_of, AreNames, coef_of, Renames}

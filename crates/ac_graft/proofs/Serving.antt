@@ -1,5 +1,5 @@
 -- Plans that serve the sides of a branch on a row make one that serves the question.
-use Rattle.std.proofs.Common.{◌≡◌, ℕ, zero, suc, ◌+◌, ◌-◌, ◌<◌, ◌≤◌, ℤ, pos, negsuc, neg_ℤ, ◌+ℤ◌, ◌-ℤ◌, ◌*ℤ◌, ◌≤ℤ◌, ◌&&◌, int_le, nat_le, Bool, true, false, cond, unsigned_abs, List, [], ◌∷◌, ◌++◌, length, map, refl, sym, ap, ◌∙◌, subst, arith}
+use Rattle.std.proofs.Common.{◌≡◌, ℕ, zero, suc, ◌+◌, ◌-◌, ◌<◌, ◌≤◌, ℤ, pos, negsuc, neg_ℤ, ◌+ℤ◌, ◌-ℤ◌, ◌*ℤ◌, ◌≤ℤ◌, Bool, true, false, cond, unsigned_abs, List, [], ◌∷◌, ◌++◌, length, map, refl, sym, ap, ◌∙◌, subst, arith}
 use Rattle.std.specs.Prelude.{◌<ℤ◌, Option, Some, option_to_list}
 use Rattle.std.specs.List.{range_with_len}
 use Rattle.std.specs.Ordering.{int_eq}
@@ -8,11 +8,10 @@ use Rattle.std.proofs.lemmas.List.{length-map}
 use Rattle.std.proofs.lemmas.List.FromFn.{length-map-range_with_len}
 use Rattle.ac_integers.proofs.Floor.{positive_is}
 use Rattle.ac_forms.specs.Affine.{Affine, shifted, FormFits}
-use Rattle.ac_forms.specs.Fits.{Fits, fits}
+use Rattle.ac_forms.specs.Fits.{Fits}
 use Rattle.ac_forms.specs.Negation.{opposite, above, below, with_column, NegationFits}
-use Rattle.ac_forms.specs.Rows.{IsRowOver, AreRowsOver, IsWellMade}
+use Rattle.ac_forms.specs.Rows.{IsWellMade}
 use Rattle.ac_forms.specs.declared.conj.Conj.{Conj}
-use Rattle.ac_forms.specs.declared.row.Row.{Row}
 use Rattle.ac_forms.specs.declared.row.Row.TheVariants.{Eq, Div, Ge}
 use Rattle.ac_forms.proofs.Negations.{length-with_column}
 use Rattle.ac_cert.specs.Branches.{with_floor, behind, under, over_zero, with_rest}
@@ -20,14 +19,14 @@ use Rattle.ac_cert.specs.Rules.{with_row, class, class_row, has_class, is_partit
 use Rattle.ac_choices.proofs.Fitting.{fits_true}
 use Rattle.ac_choices.proofs.Keeping.{made-push, made-more}
 use Rattle.ac_cert.proofs.StepRules.{class-over}
-use Rattle.ac_choices.proofs.Truths.{le-true, true-le, true-nat_le}
+use Rattle.ac_choices.proofs.Truths.{true-le, true-nat_le}
 use Rattle.ac_paths.specs.Going.{Pairing, at_rows}
 use Rattle.ac_paths.specs.declared.path.Path.{Path}
 use Rattle.ac_claims.specs.declared.types.Claim.{Claim}
 use Rattle.ac_claims.specs.declared.types.Plan.{Plan}
 use Rattle.ac_graft.specs.Placings.{moved_form}
 use Rattle.ac_graft.specs.Plans.{AcceptsPlan, Serves}
-use Rattle.ac_graft.specs.Sides.{side_of, on_side, one_row, rest_side, has_few, inside_of, outside_of, ClassesFit, CanBranch, AcceptsClasses, ServeEach, BranchServes}
+use Rattle.ac_graft.specs.Sides.{side_of, on_side, one_row, rest_side, has_few, ClassesFit, AcceptsClasses, ServeEach, BranchServes}
 use Rattle.ac_graft.specs.Standing.{StandsOn}
 use Rattle.ac_graft.specs.declared.branching.Part.{Part}
 use Rattle.ac_graft.specs.declared.placing.Placing.{Placing}

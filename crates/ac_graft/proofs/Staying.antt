@@ -1,5 +1,5 @@
 -- The question stands where its side stands.
-use Rattle.std.proofs.Common.{◌≡◌, ℕ, zero, suc, ◌+◌, List, [], ◌∷◌, ◌++◌, append-nil, length, length-append, map, refl, sym, ap, ◌∙◌, subst, arith}
+use Rattle.std.proofs.Common.{◌≡◌, ℕ, zero, suc, ◌+◌, List, [], ◌∷◌, ◌++◌, append-nil, length, length-append, map, sym, ap, ◌∙◌, subst, arith}
 use Rattle.std.specs.List.{range_with_len}
 use Rattle.std.proofs.lemmas.List.{length-map}
 use Rattle.ac_forms.specs.Renaming.{AreColumns, AreDistinct}
@@ -11,7 +11,7 @@ use Rattle.ac_claims.specs.declared.types.Claim.{Claim}
 use Rattle.ac_claims.specs.declared.types.Plan.{Plan}
 use Rattle.ac_graft.specs.Placings.{advanced}
 use Rattle.ac_graft.specs.Plans.{Serves}
-use Rattle.ac_graft.specs.Standing.{StandsAt, Stand, StandsOn}
+use Rattle.ac_graft.specs.Standing.{Stand, StandsOn}
 use Rattle.ac_graft.specs.declared.placing.Placing.{Placing}
 use Rattle.ac_graft.proofs.Views.{stand-long}
 use Rattle.ac_graft.specs.Sides.{on_side, side_of}

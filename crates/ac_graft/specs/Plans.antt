@@ -1,5 +1,8 @@
 -- Plans of the judge: when they are accepted, and what certificates become on a path.
-use Rattle.std.specs.Prelude.{◌≡◌, ℕ, List, [], ◌∷◌, map, None}
+use Rattle.std.specs.Prelude.{◌≡◌, ℕ, ℤ, List, [], ◌∷◌, map, None, Box, Vec}
+use Rattle.std.specs.declared.alloc.Global.{Global}
+use Rattle.ac_forms.specs.Affine.{Affine}
+use Rattle.ac_forms.specs.Members.{IsAmong}
 use Rattle.ac_forms.specs.Rows.{IsWellMade}
 use Rattle.ac_forms.specs.declared.conj.Conj.{Conj}
 use Rattle.ac_cert.specs.declared.ends.Absurd.{Absurd}
@@ -46,3 +49,11 @@ abbrev pub AreMoved : Placing → List (Tree Absurd) → List Plan → Type 0
 AreMoved s [] [] = Unit {0}
 AreMoved s (t ∷ ts) (p ∷ ps) = IsMoved s t p × AreMoved s ts ps
 AreMoved s _ _ = ⊥
+
+-- ---- branches on rows
+
+-- it branches on rows alone, down to what some of these plans come to behind their steps
+pub data BranchesTo (ts : List Plan) : plan.PlanNext → Type 0 where
+  ends : (t : Plan) → IsAmong t ts → BranchesTo ts t.next
+  split : (f : Affine) (low high : Box Plan Global) → BranchesTo ts low.value.next → BranchesTo ts high.value.next → BranchesTo ts (plan.Split f low high)
+  residue : (m : ℤ) (f : Affine) (kids : Vec Plan Global) → ((t : Plan) → IsAmong t kids.items → BranchesTo ts t.next) → BranchesTo ts (plan.Residue m f kids)

@@ -12,7 +12,7 @@ ghost use Rattle.ac_cert.specs.declared.types.Step.TheVariants.{EqCut, DivEq, Di
 ghost use Rattle.ac_paths.specs.Going.{Pairing, at_rows};
 ghost use Rattle.ac_paths.specs.declared.path.Path.{Path};
 ghost use Rattle.ac_claims.specs.declared.types.Claim.{Claim};
-ghost use Rattle.ac_graft.specs.Plans.{AcceptsPlan};
+ghost use Rattle.ac_graft.specs.Plans.{AcceptsPlan, BranchesTo};
 ghost use Rattle.ac_graft.specs.Sides.{AcceptsClasses, BranchServesAnywhere, has_few};
 
 use crate::grafting::plan_of;
@@ -28,7 +28,8 @@ const MOST_CLASSES: i128 = 64;
 
 /// A split.
 fn split(alloc: Global, form: Form, first: Plan, second: Plan) -> Result<Plan, AllocError>
-    ensures { IfOk result (λ t. (g : Pairing) (cs : List Claim) (h : Path) (a b : Conj) → both_sides form h.conj ≡ Some (a, b) → AcceptsPlan g cs first (at_rows h a) → AcceptsPlan g cs second (at_rows h b) → AcceptsPlan g cs t h) }
+    ensures accepted { IfOk result (λ t. (g : Pairing) (cs : List Claim) (h : Path) (a b : Conj) → both_sides form h.conj ≡ Some (a, b) → AcceptsPlan g cs first (at_rows h a) → AcceptsPlan g cs second (at_rows h b) → AcceptsPlan g cs t h) }
+    ensures branches { IfOk result (λ t. BranchesTo (first ∷ second ∷ []) t.next) }
 {
     let first = Box::new(alloc, first)?;
     let second = Box::new(alloc, second)?;
@@ -37,7 +38,8 @@ fn split(alloc: Global, form: Form, first: Plan, second: Plan) -> Result<Plan, A
 
 /// A plan behind further steps.
 fn behind(steps: Items<Step>, plan: Plan) -> Result<Plan, AllocError>
-    ensures { IfOk result (λ t. (g : Pairing) (cs : List Claim) (h : Path) (d : Conj) → after_steps steps h.conj ≡ Some d → AcceptsPlan g cs plan (at_rows h d) → AcceptsPlan g cs t h) }
+    ensures accepted { IfOk result (λ t. (g : Pairing) (cs : List Claim) (h : Path) (d : Conj) → after_steps steps h.conj ≡ Some d → AcceptsPlan g cs plan (at_rows h d) → AcceptsPlan g cs t h) }
+    ensures branches { IfOk result (λ t. BranchesTo (plan ∷ []) t.next) }
 {
     let Plan {
         steps: further,
@@ -54,7 +56,8 @@ fn behind(steps: Items<Step>, plan: Plan) -> Result<Plan, AllocError>
 
 /// A residue branch.
 fn residue(alloc: Global, modulus: &i128, form: Form, kids: Vec<Plan>) -> Plan
-    ensures { (g : Pairing) (cs : List Claim) (h : Path) → is_partition modulus.now form h.conj.columns (length kids.items) ≡ true → AcceptsClasses g cs kids.items modulus.now form 0 h → AcceptsPlan g cs result h }
+    ensures accepted { (g : Pairing) (cs : List Claim) (h : Path) → is_partition modulus.now form h.conj.columns (length kids.items) ≡ true → AcceptsClasses g cs kids.items modulus.now form 0 h → AcceptsPlan g cs result h }
+    ensures branches { BranchesTo kids.items result.next }
 {
     plan_of(alloc, PlanNext::Residue(*modulus, form, kids))
 }
@@ -83,7 +86,8 @@ fn see_form(form: &Form)
 
 /// The plan of a branch on an inequality.
 fn inequality_plan(alloc: Global, form: Form, inside: Plan, below: Plan) -> Result<Plan, AllocError>
-    ensures { IfOk result (λ t. (g : Pairing) (cs : List Claim) (h : Path) → length form.coefs ≤ h.conj.columns → NegationFits (Ge form) → AcceptsPlan g cs below (at_rows h (under h.conj form)) → AcceptsPlan g cs inside (at_rows h (behind h.conj (Ge form))) → AcceptsPlan g cs t h) }
+    ensures accepted { IfOk result (λ t. (g : Pairing) (cs : List Claim) (h : Path) → length form.coefs ≤ h.conj.columns → NegationFits (Ge form) → AcceptsPlan g cs below (at_rows h (under h.conj form)) → AcceptsPlan g cs inside (at_rows h (behind h.conj (Ge form))) → AcceptsPlan g cs t h) }
+    ensures branches { IfOk result (λ t. BranchesTo (inside ∷ below ∷ []) t.next) }
 {
     let made = split(alloc, form, inside, below)?;
     Ok(made)
@@ -107,7 +111,8 @@ fn equality_plan(
     above: Plan,
     below: Plan,
 ) -> Result<Plan, AllocError>
-    ensures { IfOk result (λ t. (g : Pairing) (cs : List Claim) (h : Path) → length h.conj.rows ≡ count → length form.coefs ≤ h.conj.columns → NegationFits (Eq form) → AcceptsPlan g cs above (at_rows h (over_zero h.conj form)) → AcceptsPlan g cs below (at_rows h (under h.conj form)) → AcceptsPlan g cs inside (at_rows h (behind h.conj (Eq form))) → AcceptsPlan g cs t h) }
+    ensures accepted { IfOk result (λ t. (g : Pairing) (cs : List Claim) (h : Path) → length h.conj.rows ≡ count → length form.coefs ≤ h.conj.columns → NegationFits (Eq form) → AcceptsPlan g cs above (at_rows h (over_zero h.conj form)) → AcceptsPlan g cs below (at_rows h (under h.conj form)) → AcceptsPlan g cs inside (at_rows h (behind h.conj (Eq form))) → AcceptsPlan g cs t h) }
+    ensures branches { IfOk result (λ t. BranchesTo (inside ∷ above ∷ below ∷ []) t.next) }
 {
     see_form(&form);
     let steps = equal_steps(alloc, count)?;
@@ -145,7 +150,8 @@ fn quotient_plan(
     inside: Plan,
     outside: Plan,
 ) -> Result<Plan, AllocError>
-    ensures { IfOk result (λ t. (g : Pairing) (cs : List Claim) (h : Path) → h.conj.columns ≡ columns → length h.conj.rows ≡ count → length form.coefs ≤ columns → pos 1 ≤ℤ modulus.now → NegationFits (Div modulus.now form) → AcceptsPlan g cs outside (at_rows h (with_rest h.conj modulus.now form)) → AcceptsPlan g cs inside (at_rows h (behind h.conj (Div modulus.now form))) → AcceptsPlan g cs t h) }
+    ensures accepted { IfOk result (λ t. (g : Pairing) (cs : List Claim) (h : Path) → h.conj.columns ≡ columns → length h.conj.rows ≡ count → length form.coefs ≤ columns → pos 1 ≤ℤ modulus.now → NegationFits (Div modulus.now form) → AcceptsPlan g cs outside (at_rows h (with_rest h.conj modulus.now form)) → AcceptsPlan g cs inside (at_rows h (behind h.conj (Div modulus.now form))) → AcceptsPlan g cs t h) }
+    ensures branches { IfOk result (λ t. BranchesTo (inside ∷ outside ∷ []) t.next) }
 {
     see_form(&form);
     let steps = dividing_steps(alloc, modulus, &form, count)?;
@@ -194,7 +200,8 @@ fn class_plan(
     inside: Plan,
     outside: Vec<Plan>,
 ) -> Result<Plan, AllocError>
-    ensures { IfOk result (λ t. (g : Pairing) (cs : List Claim) (h : Path) → is_partition modulus.now form h.conj.columns (suc (length outside.items)) ≡ true → AcceptsClasses g cs (inside ∷ outside.items) modulus.now form 0 h → AcceptsPlan g cs t h) }
+    ensures accepted { IfOk result (λ t. (g : Pairing) (cs : List Claim) (h : Path) → is_partition modulus.now form h.conj.columns (suc (length outside.items)) ≡ true → AcceptsClasses g cs (inside ∷ outside.items) modulus.now form 0 h → AcceptsPlan g cs t h) }
+    ensures branches { IfOk result (λ t. BranchesTo (inside ∷ outside.items) t.next) }
 {
     let mut outside = outside;
     let mut kids = Vec::new(alloc);
@@ -211,7 +218,8 @@ fn on_inequality(
     inside: Plan,
     outside: Vec<Plan>,
 ) -> Result<Plan, AllocError>
-    ensures { IfOk result (λ t. BranchServesAnywhere placing.now (Ge form.now) inside outside.items t) }
+    ensures serves { IfOk result (λ t. BranchServesAnywhere placing.now (Ge form.now) inside outside.items t) }
+    ensures branches { IfOk result (λ t. BranchesTo (inside ∷ outside.items) t.next) }
 {
     let mut outside = outside;
     let form = placing.form(alloc, form)?;
@@ -230,7 +238,8 @@ fn on_equality(
     inside: Plan,
     outside: Vec<Plan>,
 ) -> Result<Plan, AllocError>
-    ensures { IfOk result (λ t. BranchServesAnywhere placing.now (Eq form.now) inside outside.items t) }
+    ensures serves { IfOk result (λ t. BranchServesAnywhere placing.now (Eq form.now) inside outside.items t) }
+    ensures branches { IfOk result (λ t. BranchesTo (inside ∷ outside.items) t.next) }
 {
     let mut outside = outside;
     let form = placing.form(alloc, form)?;
@@ -254,7 +263,8 @@ fn on_classes(
     outside: Vec<Plan>,
 ) -> Result<Plan, AllocError>
     requires { has_few modulus.now ≡ true }
-    ensures { IfOk result (λ t. BranchServesAnywhere placing.now (Div modulus.now form.now) inside outside.items t) }
+    ensures serves { IfOk result (λ t. BranchServesAnywhere placing.now (Div modulus.now form.now) inside outside.items t) }
+    ensures branches { IfOk result (λ t. BranchesTo (inside ∷ outside.items) t.next) }
 {
     see_form(form);
     let form = placing.form(alloc, form)?;
@@ -272,7 +282,8 @@ fn on_quotient(
     outside: Vec<Plan>,
 ) -> Result<Plan, AllocError>
     requires { has_few modulus.now ≡ false }
-    ensures { IfOk result (λ t. BranchServesAnywhere placing.now (Div modulus.now form.now) inside outside.items t) }
+    ensures serves { IfOk result (λ t. BranchServesAnywhere placing.now (Div modulus.now form.now) inside outside.items t) }
+    ensures branches { IfOk result (λ t. BranchesTo (inside ∷ outside.items) t.next) }
 {
     let mut outside = outside;
     let form = placing.form(alloc, form)?;
@@ -292,7 +303,7 @@ fn on_quotient(
 }
 
 /// The plan of a branch on a row of the question: the plan where the row holds, and those of the parts of its negation, in
-/// order. Where these serve the sides of the question, it serves the question.
+/// order. Where these serve the sides of the question, it serves the question. Down to them it branches on rows alone.
 pub fn branch_plan(
     alloc: Global,
     placing: &Placing,
@@ -300,7 +311,8 @@ pub fn branch_plan(
     inside: Plan,
     outside: Vec<Plan>,
 ) -> Result<Plan, AllocError>
-    ensures { IfOk result (λ t. BranchServesAnywhere placing.now row.now inside outside.items t) }
+    ensures serves { IfOk result (λ t. BranchServesAnywhere placing.now row.now inside outside.items t) }
+    ensures branches { IfOk result (λ t. BranchesTo (inside ∷ outside.items) t.next) }
 {
     match row {
         Row::Ge(form) => on_inequality(alloc, placing, form, inside, outside),

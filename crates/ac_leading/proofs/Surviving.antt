@@ -1,5 +1,5 @@
 -- A trail goes on at each point of the branch of a case where none of its kills holds.
-use Rattle.std.proofs.Common.{◌≡◌, ℕ, ◌+◌, ℤ, List, [], ◌++◌, length, Option, Some, None, refl, sym, ap, ◌∙◌, subst, arith, append_assoc, length-append}
+use Rattle.std.proofs.Common.{◌≡◌, ◌≤◌, ℕ, ◌+◌, ℤ, List, [], ◌++◌, length, Option, Some, None, refl, sym, ap, ◌∙◌, subst, arith, append_assoc, length-append}
 use Rattle.std.specs.Prelude.{slice_get}
 use Rattle.ac_forms.specs.Renaming.{picked}
 use Rattle.ac_forms.specs.Rows.{Meets}
@@ -40,6 +40,7 @@ use Rattle.ac_flow.specs.Writings.{alone, reading, writing, conj_of}
 use Rattle.ac_flow.specs.declared.types.Case.{Case}
 use Rattle.ac_flow.specs.declared.types.Flow.{Flow}
 use Rattle.ac_flow.specs.declared.types.ReadFlow.{ReadFlow}
+use Rattle.ac_flow.specs.declared.types.Remainder.{Remainder}
 use Rattle.ac_flow.proofs.CopyParts.{block, parts_of}
 use Rattle.ac_paths.proofs.Kills.{case_says}
 use Rattle.ac_flow.proofs.Exact.{formed}
@@ -49,8 +50,8 @@ use Rattle.ac_flow_laws.proofs.Readings.{from_root, from_start}
 use Rattle.ac_flow_laws.proofs.Stepping.{cases_are_steps}
 use Rattle.ac_graph.specs.Moves.{pairing_of}
 use Rattle.ac_graph.specs.Steps.{HaveFlows}
-use Rattle.ac_leading.specs.Leading.{Unfolding, StandThere, params_of, seats_of}
-use Rattle.ac_leading.specs.Steps.{IsOutside, SurvivorsLead, flow_on}
+use Rattle.ac_leading.specs.Leading.{Unfolding, ComesTo, Leads, StandThere, params_of, seats_of}
+use Rattle.ac_leading.specs.Steps.{IsOutside, SurvivorsAreLeft, SurvivorsLead, flow_on}
 use Rattle.ac_leading.proofs.Cases as cases
 use Rattle.ac_leading.proofs.Picks.{base_many, first_numbers, how_many}
 use Rattle.ac_leading.proofs.Reading.{IsLeftAt, Known, branch_grows, goes_to_left, gone_conj, gone_last, kind_of, known, pick_contents, pick_source, reader_width, side_sources}
@@ -211,9 +212,33 @@ left_outside u left right h Right q b case p k s meets outside a e =
       cell_is = k.cell_is;
     }) k.branch meets a e (outside a e)
 
+-- a branch of a case assumes something
+assumed_there : (n : ℕ) (m : Model) (q : Path) (side : Side) (cell : CellForms) (case : Case) (b : Path) → cases.IsBranch n m q side cell case b → (a : Assumed) × (b.last ≡ Some a)
+assumed_there n m q side cell case b (cases.OfSource u stmt piece level rows source is pi li cr be) =
+    let seat = root q.conj.columns u stmt in
+    let made : Assumed = record { side = side; reader = seat_of q side; source = Some seat } in
+    (made, ap (λ (z : Path). z.last) be ∙ gone_last q side (extended q.conj (width stmt) rows) seat (Some made))
+assumed_there n m q side cell case b (cases.OfContents source be) =
+    let here = seat_of q side in
+    let made : Assumed = record { side = side; reader = here; source = None } in
+    (made, ap (λ (z : Path). z.last) be ∙ gone_last q side q.conj (record { position = initial_of here.position; first = here.first; width = here.width }) (Some made))
+
+-- the trail comes to the question that was branched on
+comes_before : (u : Unfolding) (trail : List (Seat × Seat)) (left right : Flow) (side : Side) (q b : Path) (case : Case) → HaveFlows u.pair left right → Leads u trail q → Known u side (flow_on left right side) q case b
+    → (p : List ℤ) → b.conj.columns ≤ length p → Meets b.conj.rows p → ComesTo u trail q p
+comes_before u trail left right side q b case h leads k p long meets =
+    let grown = branch_grows (params_of u) (going.model_of (pairing_of u.pair) side) q side k.cell case b p k.branch in
+    leads p (let g = grown.0 in omega (arith, g, long)) (grown.1 meets)
+
 pub survivors_lead : SurvivorsLead
 survivors_lead u trail left right side q b case h leads i p long meets outside =
     let k = known u left right h side q b case i in
-    let grown = branch_grows (params_of u) (going.model_of (pairing_of u.pair) side) q side k.cell case b p k.branch in
-    let to = leads p (let g = grown.0 in omega (arith, g, long)) (grown.1 meets) in
+    let to = comes_before u trail left right side q b case h leads k p long meets in
     goes_to_left u trail left right h side q b case k i.reads p to (left_outside u left right h side q b case p k to.here meets outside)
+
+pub survivors_are_left : SurvivorsAreLeft
+survivors_are_left u trail left right side q b case h leads i p long meets outside none =
+    let k = known u left right h side q b case i in
+    let to = comes_before u trail left right side q b case h leads k p long meets in
+    let a = assumed_there (params_of u) (going.model_of (pairing_of u.pair) side) q side k.cell case b k.branch in
+    subst (λ (rs : List Remainder). IsLeft rs (picked (case_columns (params_of u) a.0) p)) none (left_outside u left right h side q b case p k to.here meets outside a.0 a.1)

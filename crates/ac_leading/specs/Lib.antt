@@ -1,3 +1,4 @@
 pub mod Leading
 pub mod Steps
 pub mod Ends
+pub mod Broken

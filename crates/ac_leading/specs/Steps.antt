@@ -115,6 +115,16 @@ SurvivorsLead =
     (u : Unfolding) (trail : List (Seat × Seat)) (left right : Flow) (side : Side) (q b : Path) (case : Case) → HaveFlows u.pair left right → Leads u trail q → IsBranchOf u (flow_on left right side) side q case b
     → (p : List ℤ) → b.conj.columns ≤ length p → Meets b.conj.rows p → IsOutside u case b p → ComesTo u (onward trail b) b p
 
+-- such points are there only where something is left of the case
+abbrev pub SurvivorsAreLeft : Type 0
+SurvivorsAreLeft =
+    (u : Unfolding) (trail : List (Seat × Seat)) (left right : Flow) (side : Side) (q b : Path) (case : Case) → HaveFlows u.pair left right → Leads u trail q → IsBranchOf u (flow_on left right side) side q case b
+    → (p : List ℤ) → b.conj.columns ≤ length p → Meets b.conj.rows p → IsOutside u case b p → ¬ (case.pieces ≡ [])
+
+-- each point of the rows is in none of the kills
+abbrev pub AreOutside : Unfolding → Case → Path → Conj → Type 0
+AreOutside u case b c = (p : List ℤ) → c.columns ≤ length p → Meets c.rows p → IsOutside u case b p
+
 -- ---- further rows and columns
 
 -- a trail leads to a question with further rows, and further columns behind its own
@@ -123,13 +133,15 @@ QuestionsGrow = (u : Unfolding) (trail : List (Seat × Seat)) (q : Path) (more :
 
 -- ---- the questions of an unfolding
 
--- those to which an unfolding comes by these flows, each with its trail: from a start by branches of calls, by what is left of cases, and
--- with further rows and columns
+-- those to which an unfolding comes by these flows, each with its trail: from a start by branches of calls, by what is left of cases or what
+-- lies outside their kills, and with further rows and columns
 pub data IsReached (u : Unfolding) (left right : Flow) : List (Seat × Seat) → Path → Type 0 where
   start : (i k : ℕ) (q : Path) → start_at (pairing_of u.pair) u.claim i k ≡ Some q → AreRowsOver q.conj.columns u.claim.rows → IsReached u left right (seats_of q ∷ []) q
   call : (trail : List (Seat × Seat)) (q b : Path) (bs : List Path) → IsReached u left right trail q → AreNoReaders u q → branches (pairing_of u.pair) (order_of u q) q ≡ Some bs → IsAmong b bs → IsReached u left right (onward trail b) b
   read : (trail : List (Seat × Seat)) (side : Side) (q b d : Path) (case : Case) (rest : Remainder) → IsReached u left right trail q → IsBranchOf u (flow_on left right side) side q case b → IsAmong rest case.pieces → at_rest (params_of u) b rest.conj ≡ Some d
       → IsReached u left right (onward trail b) d
+  survive : (trail : List (Seat × Seat)) (side : Side) (q b : Path) (case : Case) (more : ℕ) (rows : List Row) → IsReached u left right trail q → IsBranchOf u (flow_on left right side) side q case b → AreOutside u case b (extended b.conj more rows)
+      → IsReached u left right (onward trail b) (at_rows b (extended b.conj more rows))
   grow : (trail : List (Seat × Seat)) (q : Path) (more : ℕ) (rows : List Row) → IsReached u left right trail q → IsReached u left right trail (at_rows q (extended q.conj more rows))
 
 -- its trail leads to each of them

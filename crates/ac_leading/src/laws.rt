@@ -1,5 +1,5 @@
 //! How a trail of pairs comes to a question, and what its points say.
-ghost use Rattle.ac_leading.specs.Steps.{StartsLead, CallsLead, ReadsLead, SurvivorsLead, QuestionsGrow, TrailsLead, OrdersAreTaken, OrdersMayChange, PointsAreNumbers};
+ghost use Rattle.ac_leading.specs.Steps.{StartsLead, CallsLead, ReadsLead, SurvivorsLead, SurvivorsAreLeft, QuestionsGrow, TrailsLead, OrdersAreTaken, OrdersMayChange, PointsAreNumbers};
 ghost use Rattle.ac_leading.specs.Ends.{EndsAreMismatches, BrokenClaimsFail, MismatchesAreShown, StepsAreJustified, TrailsDerive};
 
 /// At each point of the start of a claim at a piece of each of its positions both positions stand at their coordinates, at a
@@ -11,11 +11,12 @@ pub fn starts_lead()
 /// Where a trail leads to a question, it leads on with the pair of a branch: to each branch of two calls, by the order that is
 /// chosen at their positions if they are a site, and as their arguments stand elsewhere; to the branch of a case of a read or an
 /// output, with the rows of what is left of the case, whose quotients are further columns; and to each point of that branch in
-/// none of the case's kills.
+/// none of the case's kills. Of a case with such a point something is left.
 pub fn steps_lead()
     ensures calls { CallsLead }
     ensures reads { ReadsLead }
     ensures survivors { SurvivorsLead }
+    ensures left { SurvivorsAreLeft }
 {}
 
 /// A trail that leads to a question leads to it with further rows, and with further columns behind its own.

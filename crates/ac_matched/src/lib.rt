@@ -3,6 +3,7 @@
 #![tactic(auto)]
 
 mod claimed;
+pub mod laws;
 mod matched;
 
 pub use matched::is_matched;

@@ -3,3 +3,4 @@ pub mod Branching
 pub mod Serving
 pub mod Starting
 pub mod Covering
+pub mod Due

@@ -1,5 +1,5 @@
 -- Paths that are added to those that were found.
-use Rattle.std.proofs.Common.{◌≡◌, inl, inr, ℕ, ℤ, List, [], ◌∷◌, ◌++◌, refl, sym, ap, ◌∙◌, subst, append_assoc, append-nil}
+use Rattle.std.proofs.Common.{◌≡◌, ◌≤◌, inl, inr, ℕ, ℤ, List, [], ◌∷◌, ◌++◌, length, refl, sym, ap, ◌∙◌, subst, arith, append_assoc, append-nil, length-append}
 use Rattle.std.specs.List.{AllByRecursion}
 use Rattle.ac_forms.specs.declared.conj.Conj.{Conj}
 use Rattle.ac_choices.specs.Points.{IsPoint}
@@ -32,6 +32,10 @@ adds_then Kind a b c h k = record { more = h.more ++ k.more; is = k.is ∙ ap (�
 
 pub adds_by : (Kind Other : List Entry → Type 0) (a b : List (List Entry)) → ((es : List Entry) → Kind es → Other es) → Adds Kind a b → Adds Other a b
 adds_by Kind Other a b f h = record { more = h.more; is = h.is; all = all_by Kind Other h.more f h.all }
+
+-- none is lost
+pub adds_kept : (Kind : List Entry → Type 0) (a b : List (List Entry)) → Adds Kind a b → length a ≤ length b
+adds_kept Kind a b h = omega (arith, ap length h.is, length-append a h.more)
 
 -- the paths found before stay broken
 pub adds_all : (Kind Other : List Entry → Type 0) (a b : List (List Entry)) → ((es : List Entry) → Kind es → Other es) → Adds Kind a b → AllByRecursion Other a → AllByRecursion Other b

@@ -1,10 +1,16 @@
 -- Plans behind branches on rows.
 use Rattle.std.proofs.Common.{◌≡◌, ℕ, ◌+◌, ◌≤◌, List, [], ◌∷◌, ◌++◌, length, Option, Some, refl, sym, ap, ◌∙◌, subst, append_assoc, arith}
-use Rattle.std.specs.Prelude.{option_to_list}
+use Rattle.std.specs.Prelude.{Result, Ok, Err, IfOk, option_to_list}
+use Rattle.std.specs.declared.alloc.AllocError.{AllocError}
 use Rattle.ac_claims.specs.declared.types.Plan.{Plan}
+use Rattle.ac_graft.specs.Plans.{BranchesTo}
 use Rattle.ac_graft.specs.Sides.{BranchServesAnywhere}
-use Rattle.ac_unfold.specs.Courses.{IsBehind}
+use Rattle.ac_unfold.specs.Courses.{IsBehind, IsBranched}
 use Rattle.ac_unfold.specs.declared.course.Open.{Open}
+
+pub branched_ok : (res : Result Plan AllocError) (b : Open) (inside : Plan) → IfOk res (λ t. BranchServesAnywhere b.placing b.row inside b.outside.items t) → IfOk res (λ t. BranchesTo (inside ∷ b.outside.items) t.next) → IfOk res (IsBranched b inside)
+branched_ok (Ok t) b inside s r = record { serves = s; branches = r }
+branched_ok (Err e) b inside s r = tt
 
 -- the plan behind one branch more, at its end
 pub record Inside (bs : List Open) (b : Open) (end t : Plan) : Type 0 where
@@ -13,7 +19,7 @@ pub record Inside (bs : List Open) (b : Open) (end t : Plan) : Type 0 where
   pub serves : BranchServesAnywhere b.placing b.row end b.outside.items plan
 
 pub behind_last : (bs : List Open) (b : Open) (end t : Plan) → IsBehind (bs ++ b ∷ []) end t → Inside bs b end t
-behind_last [] b end t h = record { plan = t; behind = refl; serves = subst (λ (x : Plan). BranchServesAnywhere b.placing b.row x b.outside.items t) (sym h.1) h.2 }
+behind_last [] b end t h = record { plan = t; behind = refl; serves = subst (λ (x : Plan). BranchServesAnywhere b.placing b.row x b.outside.items t) (sym h.1) h.2.serves }
 behind_last (x ∷ bs) b end t h =
     let k = behind_last bs b end h.0 h.1 in
     record { plan = k.plan; behind = (h.0, k.behind, h.2); serves = k.serves }
@@ -32,7 +38,7 @@ closing_start all count end e = record { rest = []; are = nothing all; many = om
     nothing [] = refl
     nothing (x ∷ xs) = ap (λ (ys : List Open). x ∷ ys) (nothing xs)
 
-pub closing_next : (all left next : List Open) (b : Open) (done count : ℕ) (end t u : Plan) → Closing all left done count end t → left ≡ next ++ b ∷ [] → BranchServesAnywhere b.placing b.row t b.outside.items u → Closing all next (done + 1) count end u
+pub closing_next : (all left next : List Open) (b : Open) (done count : ℕ) (end t u : Plan) → Closing all left done count end t → left ≡ next ++ b ∷ [] → IsBranched b t u → Closing all next (done + 1) count end u
 closing_next all left next b done count end t u h e s = record {
   rest = b ∷ h.rest;
   are = h.are ∙ ap (λ (xs : List Open). xs ++ h.rest) e ∙ append_assoc next (b ∷ []) h.rest;

@@ -1,5 +1,6 @@
 -- How an unfolding comes to the questions of a search, and what is broken there.
-use Rattle.std.proofs.Common.{◌≡◌, inl, inr, ℕ, zero, suc, ◌+◌, ◌-◌, ◌≤◌, Bool, true, false, ℤ, List, [], ◌∷◌, ◌++◌, length, map, Some, None, refl, sym, ap, ◌∙◌, subst, arith, append_assoc, append-nil}
+use Rattle.std.proofs.lemmas.List.{take-append-drop}
+use Rattle.std.proofs.Common.{◌≡◌, inl, inr, ℕ, zero, suc, ◌+◌, ◌-◌, ◌≤◌, Bool, true, false, ℤ, List, [], ◌∷◌, ◌++◌, length, map, take, drop, Some, None, refl, sym, ap, ◌∙◌, subst, arith, append_assoc, append-nil}
 use Rattle.std.specs.Prelude.{Result, Ok, Err, OnOk, slice_get, option_and_then, option_map}
 use Rattle.std.specs.List.{AllByRecursion, range_with_len}
 use Rattle.ac_forms.specs.Renaming.{picked, row_renaming, rows_renaming}
@@ -43,35 +44,43 @@ use Rattle.ac_leading.specs.Leading.{Unfolding, ComesTo, params_of, positions_of
 use Rattle.ac_leading.specs.Steps.{at_rest, columns_left, flow_on, further, order_of, with_rest, IsReached}
 use Rattle.ac_leading.proofs.Calling.{orders_are_taken}
 use Rattle.ac_leading.proofs.Reaching.{trails_lead}
-use Rattle.ac_unfold.specs.Broken.{EndsBroken, HasNoClaim, IsBroken, IsUnfoldingOf}
+use Rattle.ac_leading.specs.Broken.{EndsBroken, HasNoClaim, IsBroken}
+use Rattle.ac_unfold.specs.Unfoldings.{IsUnfoldingOf}
 use Rattle.ac_unfold.specs.Cutting.{IsClaimBehind}
 use Rattle.ac_unfold.specs.Cutting as cutting
 use Rattle.ac_unfold.specs.Making.{judge_of}
+use Rattle.ac_unfold.specs.Planned.{IsBrokenFrom}
 use Rattle.ac_unfold.specs.Searching.{Adds, AddsBroken, IsAt, IsFrom, IsInCase, IsKindThere, IsOf, IsPast, IsPathAt, IsPathBreaking, Reached}
 use Rattle.ac_unfold.specs.declared.ends.Search.{Search}
 use Rattle.ac_unfold.specs.declared.kinds.Next.TheVariants as next
 use Rattle.ac_unfold.specs.declared.node.Node.{Node}
 use Rattle.ac_unfold.specs.declared.types.Setting.{Setting}
-use Rattle.ac_unfold.proofs.Adding.{adds_all}
+use Rattle.ac_unfold.proofs.Adding.{adds_all, adds_kept}
 
 -- ---- what is added, one after the other
 
 pub broken_none : (search : Search) (At : Unfolding → Type 0) (before after : List (List Entry)) → after ≡ before → AddsBroken search At before after
 unfolding AddsBroken
-broken_none search At before after e off u of at h = subst (AllByRecursion (IsBroken u search.claims.now)) (sym e) h
+broken_none search At before after e = (omega (arith, ap length e), λ u of at h. subst (AllByRecursion (IsBroken u search.claims.now)) (sym e) h)
 
 pub broken_then : (search : Search) (At : Unfolding → Type 0) (a b c : List (List Entry)) → AddsBroken search At a b → AddsBroken search At b c → AddsBroken search At a c
 unfolding AddsBroken
-broken_then search At a b c h k off u of at all = k off u of at (h off u of at all)
-
-pub broken_off : (search : Search) (At : Unfolding → Type 0) (before after : List (List Entry)) → search.making ≡ true → AddsBroken search At before after
-unfolding AddsBroken
-broken_off search At before after e off = let z : true ≡ false = sym e ∙ off in absurd cc
+broken_then search At a b c h k = (omega (arith, h.0, k.0), λ u of at all. k.1 u of at (h.1 u of at all))
 
 -- at one place, where it was at another
 pub broken_from : (search : Search) (At Next : Unfolding → Type 0) (before after : List (List Entry)) → ((u : Unfolding) → IsOf search u → At u → Next u) → AddsBroken search Next before after → AddsBroken search At before after
 unfolding AddsBroken
-broken_from search At Next before after f h off u of at = h off u of (f u of at)
+broken_from search At Next before after f h = (h.0, λ u of at. h.1 u of (f u of at))
+
+-- by paths of one kind
+pub broken_by : (search : Search) (At : Unfolding → Type 0) (Kind : List Entry → Type 0) (before after : List (List Entry)) → ((u : Unfolding) → IsOf search u → At u → (es : List Entry) → Kind es → IsBroken u search.claims.now es) → Adds Kind before after → AddsBroken search At before after
+unfolding AddsBroken
+broken_by search At Kind before after f h = (adds_kept Kind before after h, λ u of at all. adds_all Kind (IsBroken u search.claims.now) before after (f u of at) h all)
+
+-- no path is lost
+pub broken_kept : (search : Search) (At : Unfolding → Type 0) (before after : List (List Entry)) → AddsBroken search At before after → length before ≤ length after
+unfolding AddsBroken
+broken_kept search At before after h = h.0
 
 -- ---- lists of pairs
 
@@ -95,7 +104,7 @@ broken_past search trail q before after none h = broken_from search (IsAt search
 
 -- ---- a point of a question
 
-params_are : (search : Search) (u : Unfolding) → IsOf search u → params_of u ≡ (judge_of search).params
+pub params_are : (search : Search) (u : Unfolding) → IsOf search u → params_of u ≡ (judge_of search).params
 params_are search u of = ap (λ (g : Pairing). g.params) of.programs
 
 -- the path of a trail at a point, with its end
@@ -115,19 +124,18 @@ path_broken search u trail q p first rest es of reached long meets is are ends =
 
 -- ---- mismatches
 
-pub mismatch_broken : (search : Search) (trail : List (Seat × Seat)) (q : Path) (before after : List (List Entry)) → IsKindThere search q next.Mismatch → (search.making ≡ false → Adds (IsPathAt (judge_of search).params trail q.conj) before after)
-    → AddsBroken search (IsPast search trail q) before after
-unfolding AddsBroken IsKindThere
-mismatch_broken search trail q before after kind h off u of at all =
-    adds_all (IsPathAt (judge_of search).params trail q.conj) (IsBroken u search.claims.now) before after
-    (λ es x. let l = x.there.long in path_broken search u trail q x.point at.first at.rest es of at.reached (omega (arith, l)) x.there.meets at.is x.are (inl (record { free = at.free; nothing = kind u of x.point }))) (h off) all
+pub mismatch_broken : (search : Search) (trail : List (Seat × Seat)) (q : Path) (before after : List (List Entry)) → IsKindThere search q next.Mismatch → Adds (IsPathAt (judge_of search).params trail q.conj) before after → AddsBroken search (IsPast search trail q) before after
+unfolding IsKindThere
+mismatch_broken search trail q before after kind h =
+    broken_by search (IsPast search trail q) (IsPathAt (judge_of search).params trail q.conj) before after
+    (λ u of at es x. let l = x.there.long in path_broken search u trail q x.point at.first at.rest es of at.reached (omega (arith, l)) x.there.meets at.is x.are (inl (record { free = at.free; nothing = kind u of x.point }))) h
 
-pub match_broken : (search : Search) (trail : List (Seat × Seat)) (q : Path) (rows : List Row) (end : PlanNext) (before after : List (List Entry)) → IsKindThere search q (next.Match rows end)
-    → (search.making ≡ false → Adds (IsPathBreaking (judge_of search).params trail q.conj rows) before after) → AddsBroken search (IsPast search trail q) before after
-unfolding AddsBroken IsKindThere
-match_broken search trail q rows end before after kind h off u of at all =
-    adds_all (IsPathBreaking (judge_of search).params trail q.conj rows) (IsBroken u search.claims.now) before after
-    (λ es x. path_broken search u trail q x.point at.first at.rest es of at.reached x.long x.meets at.is x.are (inl (record { free = at.free; nothing = kind u of x.point x.row x.among x.fails }))) (h off) all
+pub match_broken : (search : Search) (trail : List (Seat × Seat)) (q : Path) (rows : List Row) (end : PlanNext) (before after : List (List Entry)) → IsKindThere search q (next.Match rows end) → Adds (IsPathBreaking (judge_of search).params trail q.conj rows) before after
+    → AddsBroken search (IsPast search trail q) before after
+unfolding IsKindThere
+match_broken search trail q rows end before after kind h =
+    broken_by search (IsPast search trail q) (IsPathBreaking (judge_of search).params trail q.conj rows) before after
+    (λ u of at es x. path_broken search u trail q x.point at.first at.rest es of at.reached x.long x.meets at.is x.are (inl (record { free = at.free; nothing = kind u of x.point x.row x.among x.fails }))) h
 
 -- ---- claims
 
@@ -148,11 +156,9 @@ in_get (y ∷ xs) zero x e = inl cc
 in_get (y ∷ xs) (suc i) x e = inr (in_get xs i x e)
 
 pub claim_broken : (search : Search) (trail : List (Seat × Seat)) (q : Path) (number : ℕ) (claim : Claim) (rows : List Row) (before after : List (List Entry)) → IsClaimBehind search q number → slice_get search.claims.now number ≡ Some claim
-    → Some rows ≡ rows_renaming (base (judge_of search).params ++ (columns_of q.left ++ columns_of q.right)) claim.rows → (search.making ≡ false → Adds (IsPathBreaking (judge_of search).params trail q.conj rows) before after)
-    → AddsBroken search (IsAt search trail q) before after
-unfolding AddsBroken
-claim_broken search trail q number claim rows before after there get made h off u of at all =
-    adds_all (IsPathBreaking (judge_of search).params trail q.conj rows) (IsBroken u search.claims.now) before after (λ es x. by es x (renamed_in ks claim.rows rows (sym made) x.row x.among)) (h off) all
+    → Some rows ≡ rows_renaming (base (judge_of search).params ++ (columns_of q.left ++ columns_of q.right)) claim.rows → Adds (IsPathBreaking (judge_of search).params trail q.conj rows) before after → AddsBroken search (IsAt search trail q) before after
+claim_broken search trail q number claim rows before after there get made h =
+    broken_by search (IsAt search trail q) (IsPathBreaking (judge_of search).params trail q.conj rows) before after (λ u of at es x. by u of at es x (renamed_in ks claim.rows rows (sym made) x.row x.among)) h
   where
     ks : List ℕ
     ks = base (judge_of search).params ++ (columns_of q.left ++ columns_of q.right)
@@ -160,8 +166,8 @@ claim_broken search trail q number claim rows before after there get made h off 
     same : there.at.claim ≡ claim
     same = some-is there.at.claim claim (sym there.at.is ∙ get)
 
-    by : (es : List Entry) → (x : IsPathBreaking (judge_of search).params trail q.conj rows es) → (row : Row) × IsAmong row claim.rows × (row_renaming ks row ≡ Some x.row) → IsBroken u search.claims.now es
-    by es x r =
+    by : (u : Unfolding) → IsOf search u → IsAt search trail q u → (es : List Entry) → (x : IsPathBreaking (judge_of search).params trail q.conj rows es) → (row : Row) × IsAmong row claim.rows × (row_renaming ks row ≡ Some x.row) → IsBroken u search.claims.now es
+    by u of at es x r =
         let b = at.behind there.gone in
         let n = params_are search u of in
         let fails : ¬ (Holds r.0 (picked ks x.point)) = λ h. x.fails.fails ((row_renaming-points ks r.0 x.row x.point r.2).1 h) in
@@ -255,6 +261,13 @@ calls_more search node order found b child before now after kind h e f k rest is
     (behind_call search node.trail node.question order (map (onto node.question) (found ++ b ∷ rest)) (onto node.question b) u of kind (sym all) (in_middle node.question found rest b) refl at)) in
     broken_then search (IsPast search node.trail node.question) before now after (h (b ∷ rest) all) (broken_from search (IsPast search node.trail node.question) (IsAt search child.trail child.question) now after there k)
 
+-- behind the first ones
+pub calls_some : (search : Search) (node : Node) (order : Order) (first found : List Branch) (n : ℕ) (before after : List (List Entry)) → AddsCalls search node order first before after → first ≡ take n found
+    → Some (map (onto node.question) found) ≡ branches (judge_of search) order node.question → AddsBroken search (IsPast search node.trail node.question) before after
+unfolding AddsCalls
+calls_some search node order first found n before after h e is =
+    h (drop n found) (ap (λ (xs : List Branch). Some (map (onto node.question) (xs ++ drop n found))) e ∙ ap (λ (xs : List Branch). Some (map (onto node.question) xs)) (take-append-drop n found) ∙ is)
+
 pub calls_all : (search : Search) (node : Node) (order : Order) (found : List Branch) (before after : List (List Entry)) → AddsCalls search node order found before after → Some (map (onto node.question) found) ≡ branches (judge_of search) order node.question
     → AddsBroken search (IsPast search node.trail node.question) before after
 unfolding AddsCalls
@@ -324,6 +337,13 @@ reads_more search node side read case number next_number found b child before no
       broken_then search (IsPast search node.trail node.question) before now after (h.1 (b ∷ rest) all) (broken_from search (IsPast search node.trail node.question) (IsInCase search case child.trail child.question) now after there k),
 )
 
+-- behind the first ones
+pub reads_some : (search : Search) (node : Node) (number : ℕ) (first found : List Branch) (n : ℕ) (before after : List (List Entry)) → AddsReads search node number first before after → first ≡ take n found
+    → Some (map (onto node.question) found) ≡ branches (judge_of search) Keep node.question → AddsBroken search (IsPast search node.trail node.question) before after
+unfolding AddsReads
+reads_some search node number first found n before after h e is =
+    h.1 (drop n found) (ap (λ (xs : List Branch). Some (map (onto node.question) (xs ++ drop n found))) e ∙ ap (λ (xs : List Branch). Some (map (onto node.question) xs)) (take-append-drop n found) ∙ is)
+
 pub reads_all : (search : Search) (node : Node) (number : ℕ) (found : List Branch) (before after : List (List Entry)) → AddsReads search node number found before after → Some (map (onto node.question) found) ≡ branches (judge_of search) Keep node.question
     → AddsBroken search (IsPast search node.trail node.question) before after
 unfolding AddsReads
@@ -368,14 +388,6 @@ pub on_ok : {T E : Type 0} (res : Result T E) (P Q : Type 0) → (P → Q) → O
 on_ok (Ok x) P Q f h = f h
 on_ok (Err e) P Q f h = tt
 
-pub on_ok_if : {T E : Type 0} (res : Result T E) (A P Q : Type 0) → ((A → P) → Q) → (A → OnOk res P) → OnOk res Q
-on_ok_if (Ok x) A P Q f h = f h
-on_ok_if (Err e) A P Q f h = tt
-
-pub on_ok_any : {T E : Type 0} (res : Result T E) (Q : Type 0) → Q → OnOk res Q
-on_ok_any (Ok x) Q h = h
-on_ok_any (Err e) Q h = tt
-
 -- ---- the question at what is left of a case
 
 pub rest_is : (n : ℕ) (q : Path) (rest : Conj) (a : Assumed) (made : Path) (own columns : List ℕ) (more : ℕ) (rows : List Row) → q.last ≡ Some a → own ≡ case_columns n a → more ≡ rest.columns - length own → columns ≡ own ++ range_with_len q.conj.columns more
@@ -388,13 +400,29 @@ rest_is n q rest a made own columns more rows last o m c r e =
 
 -- ---- all paths of a start
 
-pub paths_broken : (search : Search) (setting : Setting) (start : Claim) (claims : List Claim) (order : List (Site × Order)) (paths : List (List Entry)) → AddsBroken search (IsFrom start) [] paths → search.making ≡ false → search.setting.now ≡ setting → search.claims.now ≡ claims
+is_of : (search : Search) (setting : Setting) (start : Claim) (order : List (Site × Order)) → search.setting.now ≡ setting → search.order.now ≡ order → (u : Unfolding) → IsUnfoldingOf setting start order u → IsOf search u
+is_of search setting start order s o u is = record {
+  programs = is.programs ∙ ap (λ (x : Setting). pairing x.programs) (sym s);
+  flows = subst (λ (x : Setting). HaveFlows u.pair x.left_flow.now x.right_flow.now) (sym s) is.flows;
+  orders = λ key. is.orders key ∙ ap (λ (x : List (Site × Order)). listed x key) (sym o);
+}
+
+pub paths_broken : (search : Search) (setting : Setting) (start : Claim) (claims : List Claim) (order : List (Site × Order)) (paths : List (List Entry)) → AddsBroken search (IsFrom start) [] paths → search.setting.now ≡ setting → search.claims.now ≡ claims
     → search.order.now ≡ order → (u : Unfolding) → IsUnfoldingOf setting start order u → AllByRecursion (IsBroken u claims) paths
 unfolding AddsBroken
-paths_broken search setting start claims order paths h off s c o u is =
-    let of : IsOf search u = record {
-      programs = is.programs ∙ ap (λ (x : Setting). pairing x.programs) (sym s);
-      flows = subst (λ (x : Setting). HaveFlows u.pair x.left_flow.now x.right_flow.now) (sym s) is.flows;
-      orders = λ key. is.orders key ∙ ap (λ (x : List (Site × Order)). listed x key) (sym o);
-    } in
-    subst (λ (x : List Claim). AllByRecursion (IsBroken u x) paths) c (h off u of is.claim tt)
+paths_broken search setting start claims order paths h s c o u is = subst (λ (x : List Claim). AllByRecursion (IsBroken u x) paths) c (h.1 u (is_of search setting start order s o u is) is.claim tt)
+
+-- ---- plans
+
+-- the first path of a start is broken
+pub first_broken : (search : Search) (start : Claim) (paths : List (List Entry)) (path : List Entry) → AddsBroken search (IsFrom start) [] paths → slice_get paths 0 ≡ Some path → IsBrokenFrom search start path
+unfolding AddsBroken
+first_broken search start paths path h e u of from = first paths e (h.1 u of from tt)
+  where
+    first : (xs : List (List Entry)) → slice_get xs 0 ≡ Some path → AllByRecursion (IsBroken u search.claims.now) xs → IsBroken u search.claims.now path
+    first [] is all = absurd cc
+    first (x ∷ xs) is all = subst (IsBroken u search.claims.now) (some-is x path is) all.0
+
+pub path_is_broken : (search : Search) (setting : Setting) (start : Claim) (claims : List Claim) (order : List (Site × Order)) (path : List Entry) → IsBrokenFrom search start path → search.setting.now ≡ setting → search.claims.now ≡ claims → search.order.now ≡ order
+    → (u : Unfolding) → IsUnfoldingOf setting start order u → IsBroken u claims path
+path_is_broken search setting start claims order path h s c o u is = subst (λ (x : List Claim). IsBroken u x path) c (h u (is_of search setting start order s o u is) is.claim)

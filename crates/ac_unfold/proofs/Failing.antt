@@ -56,9 +56,9 @@ class_part m f part first (suc count) a b (inl i) = record { class = first; leas
 class_part m f part first (suc count) a b (inr i) = class_part m f part (first + 1) count (omega (arith, a)) (omega (arith, b)) i
 
 -- a row fails in a part of its negation that has so many further columns
-record FailsIn (n : ℕ) (r : Row) (part : Part) (p : List ℤ) : Type 0 where
-  fails : ¬ (Holds r p)
-  exact : (f : Affine) → r ≡ Eq f → length p ≡ n
+pub record FailsIn (n : ℕ) (r : Row) (part : Part) (p : List ℤ) : Type 0 where
+  pub fails : ¬ (Holds r p)
+  pub exact : (f : Affine) → r ≡ Eq f → length p ≡ n
 
 one_fails : (n : ℕ) (r s : Row) (p : List ℤ) (place columns rows : ℕ) (part : Part) → part ≡ one_row s place columns rows → length p ≡ n + part.question_columns → Meets part.rows p → ((length p ≡ n) → Holds s p → ¬ (Holds r p)) → FailsIn n r part p
 one_fails n r s p place columns rows part e l m by =
@@ -82,7 +82,7 @@ positive : (m : ℤ) → pos 1 ≤ℤ m → 1 ≤ unsigned_abs m
 positive (pos k) h = omega (arith, ints, h)
 positive (negsuc k) h = absurd (omega (arith, ints, h))
 
-outside_fails : (n : ℕ) (r : Row) (part : Part) (p : List ℤ) → IsRowOver n r → IsAmong part (outside_of n r) → length p ≡ n + part.question_columns → Meets part.rows p → FailsIn n r part p
+pub outside_fails : (n : ℕ) (r : Row) (part : Part) (p : List ℤ) → IsRowOver n r → IsAmong part (outside_of n r) → length p ≡ n + part.question_columns → Meets part.rows p → FailsIn n r part p
 outside_fails n (Eq f) part p over (inl e) l m =
     one_fails n (Eq f) (Ge (above f)) p 1 0 2 part e l m (λ long h. (complement n (Eq f) p over long).1 (inl (flat (piece n (Ge (above f) ∷ [])) p long (h, tt))))
 outside_fails n (Eq f) part p over (inr (inl e)) l m =

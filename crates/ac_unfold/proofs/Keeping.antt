@@ -19,6 +19,7 @@ use Rattle.ac_plans.specs.Serving.{question_on, AreSidePlans}
 use Rattle.ac_plans.proofs.Covering.{cover_themselves, covered_give_plans, may_stay, serve_covered}
 use Rattle.ac_plans.proofs.Serving.{branches_give_plans}
 use Rattle.ac_plans.proofs.Sides.{sides_formed}
+use Rattle.ac_decided.specs.Stopping.{key_at}
 use Rattle.ac_unfold.specs.Courses.{IsBehind, IsOpened}
 use Rattle.ac_unfold.specs.Making.{judge_of, AreStanding, IsCaseAt, IsRefuted, IsStanding}
 use Rattle.ac_unfold.specs.Cutting.{AreMadeOn, CutsMore}
@@ -31,6 +32,7 @@ use Rattle.ac_unfold.specs.declared.node.Node.{Node}
 use Rattle.ac_forms.proofs.Standings.{stands-more}
 use Rattle.ac_unfold.proofs.Behind.{behind_last}
 use Rattle.ac_unfold.proofs.Sides.{all_standing_side, inside_is, one_more_stands, standing_inside}
+use Rattle.ac_unfold.proofs.Stops.{all_anywhere_stop, anywhere_stops, behind_stops, beside_more}
 
 -- ---- at the start
 
@@ -140,26 +142,25 @@ cuts_standing search cs s q course row rows k h = record {
 
 -- the question of the node has no point
 pub refuted_end : (search : Search) (course : Course) (o : Option Plan) (t : Plan) → IsEndedPlan course o t → ((end : Plan) → o ≡ Some end → IsRefuted course.node.placing course.node.question end) → IsEndOf search course t
-unfolding IsRefuted IsEndOf
-refuted_end search course o t e none cs s q rows given k =
-    let g = judge_of search in
-    k.leads e.last t (serve_covered g cs course.node.placing course.node.question k.placed k.on_path e.last k.covers (none e.last e.is g cs)) e.behind
+refuted_end search course o t e none = record {
+  plan = λ cs s q rows given k. k.leads e.last t (serve_covered (judge_of search) cs course.node.placing course.node.question k.placed k.on_path e.last k.covers ((none e.last e.is).plan (judge_of search) cs)) e.behind;
+  stops = λ q b. behind_stops search q course.branches.items e.last t b.outside e.behind (anywhere_stops search q e.last.next (none e.last e.is).stops);
+}
 
 -- ---- what the functions promise
 
 pub stays_more : (search : Search) (course : Course) (row : Row) → IsStanding course.node.question.conj row → KeepsMore search course row course
-unfolding KeepsMore
-stays_more search course row h cs s q rows given k = keeps_standing search cs s q course row rows k h
+stays_more search course row h = record { keeps = λ cs s q rows given k. keeps_standing search cs s q course row rows k h; beside = λ q b. b }
 
 pub branch_more : (search : Search) (course next : Course) (row : Row) (outside : List Plan) → IsOpened course row outside next → next.node.question ≡ course.node.question → next.node.placing ≡ advanced course.node.placing (inside_of row).path_columns (inside_of row).path_rows
     → CanStand course.node.question.conj.columns row → CanBranch row → AreRefutedOn search course.node.placing course.node.question (outside_of course.node.question.conj.columns row) outside → KeepsMore search course row next
-unfolding KeepsMore AreRefutedOn
-branch_more search course next row outside o same placed can branch sides cs s q rows given k =
-    keeps_more search cs s q course next row outside rows k o same placed can branch (sides given.making (judge_of search) cs)
+branch_more search course next row outside o same placed can branch sides = record {
+  keeps = λ cs s q rows given k. keeps_more search cs s q course next row outside rows k o same placed can branch (sides.sides given.making (judge_of search) cs);
+  beside = λ q b. beside_more search q course next row outside o (ap key_at same) (ap (λ (x : Path). x.gone) same) (all_anywhere_stop search course.node.question outside sides.stop) b;
+}
 
 pub cut_stays : (search : Search) (case : Case) (course : Course) (row : Row) → IsStanding course.node.question.conj row → CutsMore search case course row course
-unfolding CutsMore
-cut_stays search case course row h cs s q rows given assumed k = cuts_standing search cs s q course row rows k h
+cut_stays search case course row h = record { cuts = λ cs s q rows given assumed k. cuts_standing search cs s q course row rows k h; beside = λ q b. b }
 
 -- the case is still what is assumed
 case_goes : (g : Pairing) (q v : Path) (case : Case) → v ≡ at_rows q v.conj → IsCaseAt g q case → IsCaseAt g v case
@@ -179,6 +180,7 @@ case_beside g q c case h = case_goes g q (at_rows q c) case refl h
 
 pub cut_goes : (search : Search) (case : Case) (course next : Course) (row : Row) (outside : List Plan) → IsOpened course row outside next → next.node.question ≡ question_on course.node.question (inside_of row) → next.node.placing ≡ on_side course.node.placing (inside_of row)
     → CanStand course.node.question.conj.columns row → CanBranch row → AreMadeOn search case course.node.placing course.node.question (outside_of course.node.question.conj.columns row) outside → CutsMore search case course row next
-unfolding CutsMore AreMadeOn
-cut_goes search case course next row outside o same placed can branch sides cs s q rows given assumed k =
-    cuts_more search cs s q course next row outside rows k o same placed can branch (λ formed. sides cs given (case_goes (judge_of search) q course.node.question case k.positions assumed) formed)
+cut_goes search case course next row outside o same placed can branch sides = record {
+  cuts = λ cs s q rows given assumed k. cuts_more search cs s q course next row outside rows k o same placed can branch (λ formed. sides.sides cs given (case_goes (judge_of search) q course.node.question case k.positions assumed) formed);
+  beside = λ q b. beside_more search q course next row outside o (ap key_at same) (ap (λ (x : Path). x.gone) same) sides.stop b;
+}

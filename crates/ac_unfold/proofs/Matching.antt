@@ -20,9 +20,13 @@ use Rattle.ac_ends.specs.Ends.{initial_rows, number_rows, IsClaimAt}
 use Rattle.ac_ends.specs.Standing.{RowsStandAlong}
 use Rattle.ac_ends.proofs.Carrying.{standing_along}
 use Rattle.ac_ends.proofs.Ending.{cells_plans, hits_plans, numbers_plans}
+use Rattle.ac_decided.specs.Stopping.{key_at}
+use Rattle.ac_plan_stops.proofs.Stopping.{hits_stop, initial_cells_stop, numbers_stop}
 use Rattle.ac_unfold.specs.Cutting.{IsClaimBehind}
-use Rattle.ac_unfold.specs.Making.{judge_of, AreStanding, EndsWhere}
+use Rattle.ac_unfold.specs.Making.{judge_of, AreStanding, EndsWhere, IsEndFor}
+use Rattle.ac_unfold.specs.Stopping.{IsUnclaimed, StopsIn}
 use Rattle.ac_unfold.specs.declared.ends.Search.{Search}
+use Rattle.ac_unfold.proofs.Stops.{may_go}
 
 pub rows_along : (params : ℕ) (s : Placing) (q : Path) (rows : List Row) → IsWellMade q.conj → AreStanding q.conj rows → RowsStandAlong params s q rows
 rows_along params s q [] w h = tt
@@ -30,13 +34,18 @@ rows_along params s q (r ∷ rows) w h = (standing_along params s q r w h.0.0 h.
 
 -- ---- numbers
 
-pub number_ends : (search : Search) (q : Path) (form other : Affine) (rows : List Row) → number_at (judge_of search).left q.left.position ≡ Some form → number_at (judge_of search).right q.right.position ≡ Some other
+numbers_end : (search : Search) (q : Path) (form other : Affine) (rows : List Row) → number_at (judge_of search).left q.left.position ≡ Some form → number_at (judge_of search).right q.right.position ≡ Some other
     → Some rows ≡ equal_forms (base (judge_of search).params ++ columns_of q.left) (form ∷ []) (base (judge_of search).params ++ columns_of q.right) (other ∷ []) → EndsWhere search q rows SameNumber
 unfolding EndsWhere
-number_ends search q form other rows l r e cs s c t given formed standing end =
+numbers_end search q form other rows l r e cs s c t given formed standing end =
     let g = judge_of search in
     let is : number_rows g (at_rows q c) ≡ Some rows = ap (λ o. equal_numbers g (at_rows q c) o (number_at g.right q.right.position)) l ∙ ap (λ o. equal_numbers g (at_rows q c) (Some form) o) r ∙ sym e in
     numbers_plans g cs s (at_rows q c) rows t is (rows_along g.params s (at_rows q c) rows formed.made standing) end
+
+pub number_ends : (search : Search) (q : Path) (form other : Affine) (rows : List Row) → number_at (judge_of search).left q.left.position ≡ Some form → number_at (judge_of search).right q.right.position ≡ Some other
+    → Some rows ≡ equal_forms (base (judge_of search).params ++ columns_of q.left) (form ∷ []) (base (judge_of search).params ++ columns_of q.right) (other ∷ []) → IsUnclaimed search q → IsEndFor search q rows SameNumber
+unfolding StopsIn
+number_ends search q form other rows l r e none = record { ends = numbers_end search q form other rows l r e; stops = λ making g at. numbers_stop g (key_at q) q.gone (may_go search q g at none) }
 
 -- ---- initial cells
 
@@ -52,14 +61,19 @@ cells_are g q c d rows e i is = by (nat_eq c.array d.array) (is_input (slice_get
     by true false e f = absurd cc
     by false b e f = absurd cc
 
-pub initial_ends : (search : Search) (q : Path) (c d : CellForms) (rows : List Row) → initial_cell (judge_of search).left q.left.position ≡ Some c → initial_cell (judge_of search).right q.right.position ≡ Some d → c.array ≡ d.array
+initials_end : (search : Search) (q : Path) (c d : CellForms) (rows : List Row) → initial_cell (judge_of search).left q.left.position ≡ Some c → initial_cell (judge_of search).right q.right.position ≡ Some d → c.array ≡ d.array
     → is_input (slice_get (judge_of search).left.kinds c.array) ≡ true → Some rows ≡ equal_forms (base (judge_of search).params ++ columns_of q.left) c.subs (base (judge_of search).params ++ columns_of q.right) d.subs → EndsWhere search q rows SameInitial
 unfolding EndsWhere
-initial_ends search q c d rows l r same input e cs s k t given formed standing end =
+initials_end search q c d rows l r same input e cs s k t given formed standing end =
     let g = judge_of search in
     let v = at_rows q k in
     let is : initial_rows g v ≡ Some rows = ap (λ o. equal_cells g v o (initial_cell g.right q.right.position)) l ∙ ap (λ o. equal_cells g v (Some c) o) r ∙ cells_are g v c d rows same input e in
     cells_plans g cs s v rows t is (rows_along g.params s v rows formed.made standing) end
+
+pub initial_ends : (search : Search) (q : Path) (c d : CellForms) (rows : List Row) → initial_cell (judge_of search).left q.left.position ≡ Some c → initial_cell (judge_of search).right q.right.position ≡ Some d → c.array ≡ d.array
+    → is_input (slice_get (judge_of search).left.kinds c.array) ≡ true → Some rows ≡ equal_forms (base (judge_of search).params ++ columns_of q.left) c.subs (base (judge_of search).params ++ columns_of q.right) d.subs → IsUnclaimed search q → IsEndFor search q rows SameInitial
+unfolding StopsIn
+initial_ends search q c d rows l r same input e none = record { ends = initials_end search q c d rows l r same input e; stops = λ making g at. initial_cells_stop g (key_at q) q.gone (may_go search q g at none) }
 
 -- the same forms over the same columns
 pub forms_same : (q : Path) (n m : ℕ) (fs gs xs ys : List Affine) → n ≡ m → fs ≡ xs → gs ≡ ys → equal_forms (base n ++ columns_of q.left) fs (base n ++ columns_of q.right) gs ≡ equal_forms (base m ++ columns_of q.left) xs (base m ++ columns_of q.right) ys
@@ -69,10 +83,10 @@ forms_same q n m fs gs xs ys e f g =
 
 -- ---- claims
 
-pub claim_ends : (search : Search) (q : Path) (number : ℕ) (claim : Claim) (rows : List Row) → IsClaimBehind search q number → slice_get search.claims.now number ≡ Some claim
+claims_end : (search : Search) (q : Path) (number : ℕ) (claim : Claim) (rows : List Row) → IsClaimBehind search q number → slice_get search.claims.now number ≡ Some claim
     → Some rows ≡ rows_renaming (base (judge_of search).params ++ (columns_of q.left ++ columns_of q.right)) claim.rows → EndsWhere search q rows (Hit (search.base + number))
 unfolding EndsWhere
-claim_ends search q number claim rows there is e cs s c t given formed standing end =
+claims_end search q number claim rows there is e cs s c t given formed standing end =
     let g = judge_of search in
     let same : there.at.claim ≡ claim = some_is there.at.claim claim (sym there.at.is ∙ is) in
     let v = at_rows q c in
@@ -86,3 +100,8 @@ claim_ends search q number claim rows there is e cs s c t given formed standing 
   where
     some_is : (x y : Claim) → Some x ≡ Some y → x ≡ y
     some_is x y e = cc
+
+pub claim_ends : (search : Search) (q : Path) (number : ℕ) (claim : Claim) (rows : List Row) → IsClaimBehind search q number → slice_get search.claims.now number ≡ Some claim
+    → Some rows ≡ rows_renaming (base (judge_of search).params ++ (columns_of q.left ++ columns_of q.right)) claim.rows → IsEndFor search q rows (Hit (search.base + number))
+unfolding StopsIn
+claim_ends search q number claim rows there is e = record { ends = claims_end search q number claim rows there is e; stops = λ making g at. hits_stop g (key_at q) q.gone (search.base + number) (at.part number claim is) }

@@ -1,5 +1,5 @@
 -- What the results of an unfolding come to, one by another.
-use Rattle.std.proofs.Common.{◌≡◌, inl, inr, ℕ, zero, suc, ◌+◌, ◌<◌, false, List, [], ◌∷◌, ◌++◌, map, length, get_or, take, Option, Some, None, sym, ap, ◌∙◌, subst, arith}
+use Rattle.std.proofs.Common.{◌≡◌, inl, inr, ℕ, zero, suc, ◌+◌, ◌<◌, true, false, List, [], ◌∷◌, ◌++◌, map, length, get_or, take, Option, Some, None, sym, ap, ◌∙◌, subst, arith}
 use Rattle.std.proofs.lemmas.List.{take_more}
 use Rattle.std.specs.Prelude.{Result, Ok, Err, IfOk, IfSome, slice_get}
 use Rattle.ac_forms.specs.declared.row.Row.{Row}
@@ -27,9 +27,12 @@ use Rattle.ac_ends.specs.Ends.{IsEnd}
 use Rattle.ac_ends.specs.Kills.{IsKillAt, kill_on}
 use Rattle.ac_ends.proofs.Killing.{kills_plans}
 use Rattle.ac_unfold.specs.Courses.{IsBehind, IsOpened}
-use Rattle.ac_unfold.specs.Cutting.{AreMadeOn, CutsMore, IsKillThere}
-use Rattle.ac_unfold.specs.Making.{judge_of, EndsWhere, IsCaseAt, IsGiven, IsMade, IsMadeIn, IsRefuted}
-use Rattle.ac_unfold.specs.Standing.{AreKept, AreRefutedOn, Cuts, IsEndedPlan, IsEndOf, KeepsMore}
+use Rattle.ac_decided.specs.Stopping.{key_at}
+use Rattle.ac_plan_stops.specs.Stopped.{StopsAnywhere}
+use Rattle.ac_unfold.specs.Cutting.{AreMadeOn, CutsMore, IsKilled, IsKillThere}
+use Rattle.ac_unfold.specs.Making.{judge_of, EndsWhere, IsCaseAt, IsEndFor, IsGiven, IsMade, IsMadeIn, IsPlanIn, IsRefuted}
+use Rattle.ac_unfold.specs.Standing.{AreKept, AreRefutedOn, Cuts, IsEndedPlan, IsEndOf, KeepsMore, StopsBeside}
+use Rattle.ac_unfold.specs.Stopping.{StopsIn}
 use Rattle.ac_unfold.specs.Wanting.{CanStand}
 use Rattle.ac_unfold.specs.declared.course.Course.{Course}
 use Rattle.ac_unfold.specs.declared.ends.Search.{Search}
@@ -37,6 +40,7 @@ use Rattle.ac_unfold.specs.declared.node.Node.{Node}
 use Rattle.ac_unfold.specs.declared.types.UnfoldStop.{UnfoldStop}
 use Rattle.ac_unfold.proofs.Keeping.{branch_more, case_beside, cut_goes, cuts_start, keeps_start, refuted_end}
 use Rattle.ac_unfold.proofs.Matching.{rows_along}
+use Rattle.ac_unfold.proofs.Stops.{all_more, anywhere_stops, behind_stops, beside_none, there_stops}
 
 -- ---- what stands in a list
 
@@ -59,13 +63,12 @@ in_read (y ∷ xs) (suc i) x l e = inr (in_read xs i x (omega (arith, l)) e)
 -- ---- plans of one kind that are plans of another
 
 pub refuted_made : (search : Search) (s : Placing) (q : Path) (o : Option Plan) → IfSome o (IsRefuted s q) → IfSome o (IsMade search s q)
-unfolding IsRefuted IsMade
-refuted_made search s q (Some t) h = λ cs given formed. h (judge_of search) cs
+unfolding IsPlanIn
+refuted_made search s q (Some t) h = record { plan = λ cs given formed. h.plan (judge_of search) cs; stops = anywhere_stops search q t.next h.stops }
 refuted_made search s q None h = tt
 
 pub made_in : (search : Search) (case : Case) (s : Placing) (q : Path) (o : Option Plan) → IfSome o (IsMade search s q) → IfSome o (IsMadeIn search case s q)
-unfolding IsMadeIn
-made_in search case s q (Some t) h = λ assumed. h
+made_in search case s q (Some t) h = record { plan = λ assumed. h.plan; stops = h.stops }
 made_in search case s q None h = tt
 
 pub refuted_in : (search : Search) (case : Case) (s : Placing) (q : Path) (o : Option Plan) → IfSome o (IsRefuted s q) → IfSome o (IsMadeIn search case s q)
@@ -98,35 +101,36 @@ with_kill (Err e) P Q h p = tt
 -- ---- rows that have to stand
 
 pub kept_none : (search : Search) (node : Node) (course : Course) → course.node ≡ node → course.branches.items ≡ [] → AreKept search node course []
-unfolding AreKept
-kept_none search node course e none cs given formed = keeps_start search cs node course e none formed
+kept_none search node course e none = record { keeps = λ cs given formed. keeps_start search cs node course e none formed; beside = beside_none search node course e none }
 
 pub kept_more : (search : Search) (node : Node) (course next : Course) (rows : List Row) (row : Row) → AreKept search node course rows → KeepsMore search course row next → AreKept search node next (rows ++ row ∷ [])
-unfolding AreKept KeepsMore
-kept_more search node course next rows row h k cs given formed = k cs node.placing node.question rows given (h cs given formed)
+kept_more search node course next rows row h k = record { keeps = λ cs given formed. k.keeps cs node.placing node.question rows given (h.keeps cs given formed); beside = k.beside node.question h.beside }
 
 pub ended_made : (search : Search) (node : Node) (course : Course) (rows : List Row) (o : Option Plan) → AreKept search node course rows → IfSome o (IsEndOf search course) → IfSome o (IsMade search node.placing node.question)
-unfolding AreKept IsEndOf IsMade
-ended_made search node course rows (Some t) h e = λ cs given formed. e cs node.placing node.question rows given (h cs given formed)
+unfolding IsPlanIn
+ended_made search node course rows (Some t) h e = record { plan = λ cs given formed. e.plan cs node.placing node.question rows given (h.keeps cs given formed); stops = e.stops node.question h.beside }
 ended_made search node course rows None h e = tt
 
 end_is : (end : PlanNext) (o : Option Plan) (t : Plan) → IfSome o (IsEnd end) → o ≡ Some t → IsEnd end t
 end_is end o t h e = subst (λ (x : Option Plan). IfSome x (IsEnd end)) e h
 
-stood : (search : Search) (node : Node) (course : Course) (rows : List Row) (end : PlanNext) (o : Option Plan) (t : Plan) → AreKept search node course rows → EndsWhere search node.question rows end → IfSome o (IsEnd end) → IsEndedPlan course o t → IsMade search node.placing node.question t
-unfolding AreKept EndsWhere IsMade
+stood : (search : Search) (node : Node) (course : Course) (rows : List Row) (end : PlanNext) (o : Option Plan) (t : Plan) → AreKept search node course rows → EndsWhere search node.question rows end → IfSome o (IsEnd end) → IsEndedPlan course o t → IsPlanIn search node.placing node.question t
+unfolding EndsWhere IsPlanIn
 stood search node course rows end o t k w i h cs given formed =
-    let kept = k cs given formed in
+    let kept = k.keeps cs given formed in
     let v = kept.on_path in
     let same : v ≡ at_rows node.question v.conj = kept.covers.positions ∙ ap (λ (x : Path). at_rows x v.conj) kept.same in
     let there = w cs kept.placed v.conj h.last given (subst (IsFormed (judge_of search).params) same kept.formed) kept.standing (end_is end o h.last i h.is) in
     kept.leads h.last t (subst (λ (x : Path). IsPlanFor (judge_of search) cs kept.placed x h.last) (sym same) there) h.behind
 
-pub stood_made : (res : Result (Option Plan) UnfoldStop) (search : Search) (node : Node) (course : Course) (rows : List Row) (end : PlanNext) (o : Option Plan) → AreKept search node course rows → EndsWhere search node.question rows end → IfSome o (IsEnd end)
+pub stood_made : (res : Result (Option Plan) UnfoldStop) (search : Search) (node : Node) (course : Course) (rows : List Row) (end : PlanNext) (o : Option Plan) → AreKept search node course rows → IsEndFor search node.question rows end → IfSome o (IsEnd end)
     → IfOk res (λ made. IfSome made (λ t. IsEndedPlan course o t)) → IfOk res (λ made. IfSome made (IsMade search node.placing node.question))
 stood_made (Err e) search node course rows end o k w i h = tt
 stood_made (Ok None) search node course rows end o k w i h = tt
-stood_made (Ok (Some t)) search node course rows end o k w i h = stood search node course rows end o t k w i h
+stood_made (Ok (Some t)) search node course rows end o k w i h = record {
+  plan = stood search node course rows end o t k w.ends i h;
+  stops = behind_stops search node.question course.branches.items h.last t k.beside.outside h.behind (subst (StopsIn search node.question) (sym (end_is end o h.last i h.is).1) w.stops);
+}
 
 pub absurd_ended : (search : Search) (course : Course) (end made : Option Plan) → IfSome end (IsRefuted course.node.placing course.node.question) → IfSome made (λ t. IsEndedPlan course end t) → IfSome made (IsEndOf search course)
 absurd_ended search course end (Some t) r h = refuted_end search course end t h (λ last e. at_some end last (IsRefuted course.node.placing course.node.question) e r)
@@ -157,22 +161,20 @@ sides_more g cs s q (r ∷ ps) [] p t h k = absurd h
 sides_more g cs s q (r ∷ ps) (u ∷ ts) p t h k = (h.0, sides_more g cs s q ps ts p t h.1 k)
 
 pub refuted_none : (search : Search) (s : Placing) (q : Path) → AreRefutedOn search s q [] []
-unfolding AreRefutedOn
-refuted_none search s q = λ making g cs. tt
+refuted_none search s q = record { sides = λ making g cs. tt; stop = λ making. tt }
 
 pub refuted_more : (search : Search) (s : Placing) (q : Path) (ps : List Part) (ts : List Plan) (p : Part) (beside : Node) (t : Plan) → AreRefutedOn search s q ps ts → beside.question ≡ question_on q p → beside.placing ≡ on_side s p → IsRefuted beside.placing beside.question t
     → AreRefutedOn search s q (ps ++ p ∷ []) (ts ++ t ∷ [])
-unfolding AreRefutedOn IsRefuted
-refuted_more search s q ps ts p beside t h e f r making g cs =
-    sides_more g cs s q ps ts p t (h making g cs) (subst (λ (z : Placing). IsPlanFor g cs z (question_on q p) t) f (subst (λ (x : Path). IsPlanFor g cs beside.placing x t) e (r g cs)))
+refuted_more search s q ps ts p beside t h e f r = record {
+  sides = λ making g cs. sides_more g cs s q ps ts p t (h.sides making g cs) (subst (λ (z : Placing). IsPlanFor g cs z (question_on q p) t) f (subst (λ (x : Path). IsPlanFor g cs beside.placing x t) e (r.plan g cs)));
+  stop = λ making. all_more (λ (u : Plan). StopsAnywhere u.next) ts t (h.stop making) r.stops;
+}
 
 pub refuted_off : (search : Search) (s : Placing) (q : Path) (ps : List Part) (ts : List Plan) → search.making ≡ false → AreRefutedOn search s q ps ts
-unfolding AreRefutedOn
-refuted_off search s q ps ts e making = absurd cc
+refuted_off search s q ps ts e = record { sides = λ making. let z : true ≡ false = sym making ∙ e in absurd cc; stop = λ making. let z : true ≡ false = sym making ∙ e in absurd cc }
 
 pub made_none : (search : Search) (case : Case) (s : Placing) (q : Path) → AreMadeOn search case s q [] []
-unfolding AreMadeOn
-made_none search case s q = λ cs given assumed formed. tt
+made_none search case s q = record { sides = λ cs given assumed formed. tt; stop = tt }
 
 formed_last : (n : ℕ) (q : Path) (ps : List Part) (p : Part) → AllFormed n (map (question_on q) (ps ++ p ∷ [])) → AllFormed n (map (question_on q) ps) × IsFormed n (question_on q p)
 formed_last n q [] p h = (tt, h.0)
@@ -180,33 +182,35 @@ formed_last n q (r ∷ ps) p h = let k = formed_last n q ps p h.1 in ((h.0, k.0)
 
 pub made_more : (search : Search) (case : Case) (s : Placing) (q : Path) (ps : List Part) (ts : List Plan) (p : Part) (beside : Node) (t : Plan) → AreMadeOn search case s q ps ts → beside.question ≡ question_on q p → beside.placing ≡ on_side s p → IsMadeIn search case beside.placing beside.question t
     → AreMadeOn search case s q (ps ++ p ∷ []) (ts ++ t ∷ [])
-unfolding AreMadeOn IsMadeIn IsMade
-made_more search case s q ps ts p beside t h e f made cs given assumed formed =
-    let g = judge_of search in
-    let k = formed_last g.params q ps p formed in
-    let there : IsCaseAt g beside.question case = subst (λ (x : Path). IsCaseAt g x case) (sym e) (case_beside g q (question_on q p).conj case assumed) in
-    let plan : IsPlanFor g cs beside.placing beside.question t = made there cs given (subst (λ (x : Path). IsFormed g.params x) (sym e) k.1) in
-    sides_more g cs s q ps ts p t (h cs given assumed k.0) (subst (λ (z : Placing). IsPlanFor g cs z (question_on q p) t) f (subst (λ (x : Path). IsPlanFor g cs beside.placing x t) e plan))
+unfolding IsPlanIn
+made_more search case s q ps ts p beside t h e f made = record {
+  sides = λ cs given assumed formed.
+      let g = judge_of search in
+      let k = formed_last g.params q ps p formed in
+      let there : IsCaseAt g beside.question case = subst (λ (x : Path). IsCaseAt g x case) (sym e) (case_beside g q (question_on q p).conj case assumed) in
+      let plan : IsPlanFor g cs beside.placing beside.question t = made.plan there cs given (subst (λ (x : Path). IsFormed g.params x) (sym e) k.1) in
+      sides_more g cs s q ps ts p t (h.sides cs given assumed k.0) (subst (λ (z : Placing). IsPlanFor g cs z (question_on q p) t) f (subst (λ (x : Path). IsPlanFor g cs beside.placing x t) e plan));
+  stop = all_more (λ (u : Plan). StopsIn search q u.next) ts t h.stop (there_stops search q beside.question t.next (ap key_at e) (ap (λ (x : Path). x.gone) e) made.stops);
+}
 
 -- ---- the rows of a kill
 
-unfoldable pub AreCut : Search → Case → Node → Course → List Row → Type 0
-AreCut search case node course rows = (cs : List Claim) → IsGiven search cs → IsCaseAt (judge_of search) node.question case → IsFormed (judge_of search).params node.question → Cuts search cs node.placing node.question course rows
+pub record AreCut (search : Search) (case : Case) (node : Node) (course : Course) (rows : List Row) : Type 0 where
+  pub cuts : (cs : List Claim) → IsGiven search cs → IsCaseAt (judge_of search) node.question case → IsFormed (judge_of search).params node.question → Cuts search cs node.placing node.question course rows
+  pub beside : StopsBeside search node.question course
 
 pub cut_none : (search : Search) (case : Case) (node : Node) (course : Course) → course.node ≡ node → course.branches.items ≡ [] → AreCut search case node course []
-unfolding AreCut
-cut_none search case node course e none cs given assumed formed = cuts_start search cs node course e none formed
+cut_none search case node course e none = record { cuts = λ cs given assumed formed. cuts_start search cs node course e none formed; beside = beside_none search node course e none }
 
 pub cut_more : (search : Search) (case : Case) (node : Node) (course next : Course) (rows : List Row) (row : Row) → AreCut search case node course rows → CutsMore search case course row next → AreCut search case node next (rows ++ row ∷ [])
-unfolding AreCut CutsMore
-cut_more search case node course next rows row h k cs given assumed formed = k cs node.placing node.question rows given assumed (h cs given assumed formed)
+cut_more search case node course next rows row h k = record { cuts = λ cs given assumed formed. k.cuts cs node.placing node.question rows given assumed (h.cuts cs given assumed formed); beside = k.beside node.question h.beside }
 
-pub cut_made : (search : Search) (case : Case) (node : Node) (course : Course) (rows : List Row) (kill : Kill) (end t : Plan) → AreCut search case node course rows
-    → ((a : Assumed) → course.node.question.last ≡ Some a → IsEnd (Killed (on_path (case_width (judge_of search).params a) course.node.placing.next_column kill)) end) → IsBehind course.branches.items end t → IsKillThere search node.question case kill rows → IsMadeIn search case node.placing node.question t
-unfolding AreCut IsMadeIn IsMade
-cut_made search case node course rows kill end t h ends behind there assumed cs given formed =
+cut_plan : (search : Search) (case : Case) (node : Node) (course : Course) (rows : List Row) (kill : Kill) (end t : Plan) → AreCut search case node course rows → IsKilled search course.node kill end → IsBehind course.branches.items end t → IsKillThere search node.question case kill rows
+    → IsCaseAt (judge_of search) node.question case → IsPlanIn search node.placing node.question t
+unfolding IsPlanIn
+cut_plan search case node course rows kill end t h killed behind there assumed cs given formed =
     let g = judge_of search in
-    let k = h cs given assumed formed in
+    let k = h.cuts cs given assumed formed in
     let v = course.node.question in
     let a = assumed.assumed in
     let last : v.last ≡ Some a = ap (λ (x : Path). x.last) k.positions ∙ assumed.is in
@@ -219,5 +223,12 @@ cut_made search case node course rows kill end t h ends behind there assumed cs 
       assumed = assumed.stands_for;
       rows = sym (there.moved a assumed.is);
     } in
-    let end_is : IsEnd (Killed (kill_on g course.node.placing a there.whole.1)) end = subst (λ (x : Kill). IsEnd (Killed (on_path (case_width g.params a) course.node.placing.next_column x)) end) (sym there.is) (ends a last) in
+    let end_is : IsEnd (Killed (kill_on g course.node.placing a there.whole.1)) end = subst (λ (x : Kill). IsEnd (Killed (on_path (case_width g.params a) course.node.placing.next_column x)) end) (sym there.is) (killed.ends a last) in
     k.leads end t (kills_plans g cs course.node.placing v a there.whole rows end at (rows_along g.params course.node.placing v rows k.formed.made k.standing) end_is) behind
+
+pub cut_made : (search : Search) (case : Case) (node : Node) (course : Course) (rows : List Row) (kill : Kill) (end t : Plan) → AreCut search case node course rows
+    → IsKilled search course.node kill end → IsBehind course.branches.items end t → IsKillThere search node.question case kill rows → IsMadeIn search case node.placing node.question t
+cut_made search case node course rows kill end t h killed behind there = record {
+  plan = cut_plan search case node course rows kill end t h killed behind there;
+  stops = behind_stops search node.question course.branches.items end t h.beside.outside behind (anywhere_stops search node.question end.next killed.stops);
+}

@@ -1,10 +1,13 @@
 -- Where the plans of a claim start, and the trees that are made of them.
-use Rattle.std.proofs.Common.{◌≡◌, false, true, ℕ, zero, suc, ◌+◌, List, [], ◌∷◌, ◌++◌, map, length, Option, Some, None, refl, sym, ap, ◌∙◌, subst, append_assoc, arith}
+use Rattle.std.proofs.Common.{◌≡◌, Bool, false, true, ℕ, zero, suc, ◌+◌, List, [], ◌∷◌, ◌++◌, map, length, Option, Some, None, refl, sym, ap, ◌∙◌, subst, append_assoc, arith}
 use Rattle.std.specs.Prelude.{Result, Ok, Err, IfOk, IfSome}
 use Rattle.std.specs.List.{AllByRecursion, range_with_len}
 use Rattle.ac_forms.specs.Rows.{IsWellMade}
 use Rattle.ac_forms.specs.declared.row.Row.{Row}
 use Rattle.ac_choices.proofs.Keeping.{bind-some, map-some}
+use Rattle.ac_syntax.specs.declared.tree.Order.{Order}
+use Rattle.ac_syntax.specs.declared.tree.Position.{Position}
+use Rattle.ac_syntax.specs.declared.tree.Site.{Site}
 use Rattle.ac_syntax.proofs.TurnEntries.{flat_map_last}
 use Rattle.ac_paths.specs.Calls.{pairing}
 use Rattle.ac_paths.specs.Formed.{IsFormed, LastIn}
@@ -20,14 +23,20 @@ use Rattle.ac_claims.specs.declared.types.Plan.{Plan}
 use Rattle.ac_graft.specs.Placings.{itself}
 use Rattle.ac_graft.specs.declared.placing.Placing.{Placing}
 use Rattle.ac_plans.proofs.Starting.{accepted_at_starts}
-use Rattle.ac_unfold.specs.Begun.{AreBegun, IsBegun}
-use Rattle.ac_unfold.specs.Making.{judge_of, IsGiven, IsMade, IsRefuted}
-use Rattle.ac_unfold.specs.Plans.{pairs_of, pieces_of, AreNumbered, IsSettled, StartsAccepted}
+use Rattle.ac_decided.specs.Stopping.{key_at, key_of}
+use Rattle.ac_plan_stops.specs.Stopped.{Stopped, StopsFrom, StopsOn}
+use Rattle.ac_plan_stops.proofs.Stopping.{plans_stop}
+use Rattle.ac_unfold.specs.Begun.{AreBegun, IsBegun, StopsAtStart}
+use Rattle.ac_unfold.specs.Making.{judge_of, IsGiven, IsMade, IsPlanIn, IsRefuted}
+use Rattle.ac_plans.specs.Due.{pairs_of, pieces_of, AreNumbered, StartsAccepted}
+use Rattle.ac_unfold.specs.Plans.{IsSettled}
+use Rattle.ac_unfold.specs.Stopping.{IsStoppedAt, IsStoppedIn, StopsIn}
 use Rattle.ac_unfold.specs.declared.ends.Search.{Search}
 use Rattle.ac_unfold.specs.declared.node.Node.{Node}
 use Rattle.ac_unfold.specs.declared.types.Setting.{Setting}
 use Rattle.ac_unfold.specs.declared.types.UnfoldStop.{UnfoldStop}
 use Rattle.ac_unfold.proofs.Results.{refuted_made}
+use Rattle.ac_unfold.proofs.Stops.{all_more}
 
 -- ---- where a claim starts
 
@@ -57,40 +66,74 @@ at_formed g c i k h e made =
     let b = bind-some (piece_by k (domain g.right c.right)) (start_of g c a.0) h a.2 in
     start_formed g c a.0 b.0 h b.2 made
 
+-- a claim starts at its pair, before the first step
+start_pair : (g : Pairing) (c : Claim) (i k : ℕ) (h : Path) → start_at g c i k ≡ Some h → (key_at h ≡ key_of c) × (h.gone ≡ false)
+start_pair g c i k h e =
+    let a = bind-some (piece_by i (domain g.left c.left)) (λ (l : Piece). start_beside g c l (piece_by k (domain g.right c.right))) h e in
+    let b = bind-some (piece_by k (domain g.right c.right)) (start_of g c a.0) h a.2 in
+    let l = a.0 in
+    let r = b.0 in
+    let m = map-some (piece_rows g c (of_width l.width) (of_width r.width) l.rows r.rows) (λ (rows : List Row). record {
+      conj = record { columns = start_columns g (of_width l.width) (of_width r.width); rows = c.rows ++ (g.left.context ++ rows) };
+      left = left_seat g c (of_width l.width);
+      right = right_seat g c (of_width l.width) (of_width r.width);
+      gone = false;
+      last = None;
+    }) h b.2 in
+    (ap key_at m.2, ap (λ (x : Path). x.gone) m.2)
+
+-- a plan that stops from the pair of the start stops from that of the claim
+stops_at_start : (search : Search) (start : Claim) (left right : ℕ) (path : Path) (t : Plan) → start_at (judge_of search) start left right ≡ Some path → StopsIn search path t.next → StopsAtStart search start t
+unfolding StopsIn StopsAtStart
+stops_at_start search start left right path t e h making g at =
+    let p = start_pair (judge_of search) start left right path e in
+    plans_stop g (key_of start) t (subst (λ (k : Position × Position). StopsOn g k false t.next) p.0 (subst (λ (b : Bool). StopsOn g (key_at path) b t.next) p.1 (h making g at)))
+
 -- a plan for the start of a claim is accepted on it
 pub begun : (search : Search) (start : Claim) (left right : ℕ) (path : Path) (node : Node) (t : Plan) → start_at (judge_of search) start left right ≡ Some path → IsWellMade path.conj → node.question ≡ path → node.placing ≡ itself path.conj.columns (length path.conj.rows)
     → IsMade search node.placing node.question t → IsBegun search start left right t
-unfolding IsMade
+unfolding IsPlanIn
 begun search start left right path node t e made q s plan =
     let g = judge_of search in
     let formed = at_formed g start left right path e made in
     let there : IsMade search (itself path.conj.columns (length path.conj.rows)) path t = subst (λ (x : Path). IsMade search (itself path.conj.columns (length path.conj.rows)) x t) q (subst (λ (z : Placing). IsMade search z node.question t) s plan) in
-    record { path = path; starts = e; accepted = λ cs given. accepted_at_starts g cs path t formed (there cs given formed) }
+    record { path = path; starts = e; accepted = λ cs given. accepted_at_starts g cs path t formed (there.plan cs given formed); stops = stops_at_start search start left right path t e there.stops }
 
 -- ---- the trees
 
 pub begun_more : (search : Search) (start : Claim) (trees : List ClaimTree) (t : ClaimTree) → AreBegun search start trees → IsBegun search start t.left_piece t.right_piece t.tree → AreBegun search start (trees ++ t ∷ [])
-unfolding AreBegun
-begun_more search start trees t h b cs given = more trees (h cs given)
-  where
-    more : (xs : List ClaimTree) → AllByRecursion (StartsAccepted (judge_of search) cs start) xs → AllByRecursion (StartsAccepted (judge_of search) cs start) (xs ++ t ∷ [])
-    more [] k = (record { path = b.path; starts = b.starts; accepted = b.accepted cs given }, tt)
-    more (x ∷ xs) k = (k.0, more xs k.1)
+begun_more search start trees t h b = record {
+  accepted = λ cs given. all_more (StartsAccepted (judge_of search) cs start) trees t (h.accepted cs given) (record { path = b.path; starts = b.starts; accepted = b.accepted cs given });
+  stop = all_more (λ (x : ClaimTree). StopsAtStart search start x.tree) trees t h.stop b.stops;
+}
 
 pub begun_none : (search : Search) (start : Claim) (trees : List ClaimTree) → trees ≡ [] → AreBegun search start trees
-unfolding AreBegun
-begun_none search start trees e cs given = subst (λ (xs : List ClaimTree). AllByRecursion (StartsAccepted (judge_of search) cs start) xs) (sym e) tt
+begun_none search start trees e = subst (AreBegun search start) (sym e) (record { accepted = λ cs given. tt; stop = tt })
 
 pub accepted_by : (search : Search) (setting : Setting) (base : ℕ) (claims : List Claim) (start : Claim) (trees : List ClaimTree) → search.setting.now ≡ setting → search.base ≡ base → search.claims.now ≡ claims → search.making ≡ true → AreBegun search start trees → IsSettled setting
     → (cs : List Claim) → AreNumbered base claims cs → AllByRecursion (StartsAccepted (pairing setting.programs) cs start) trees
-unfolding AreBegun
 accepted_by search setting base claims start trees e b k m h settled cs numbered =
     let given : IsGiven search cs = record {
       making = m;
       settled = subst IsSettled (sym e) settled;
       numbered = subst (λ (n : ℕ). AreNumbered n search.claims.now cs) (sym b) (subst (λ (xs : List Claim). AreNumbered base xs cs) (sym k) numbered);
     } in
-    subst (λ (x : Setting). AllByRecursion (StartsAccepted (pairing x.programs) cs start) trees) e (h cs given)
+    subst (λ (x : Setting). AllByRecursion (StartsAccepted (pairing x.programs) cs start) trees) e (h.accepted cs given)
+
+pub stopped_by : (search : Search) (setting : Setting) (order : List (Site × Order)) (base : ℕ) (claims : List Claim) (start : Claim) (trees : List ClaimTree) → search.setting.now ≡ setting → search.order.now ≡ order → search.base ≡ base → search.claims.now ≡ claims → search.making ≡ true
+    → AreBegun search start trees → (g : Stopped) → IsStoppedAt setting order base claims g → AllByRecursion (λ (t : ClaimTree). StopsFrom g (key_of start) t.tree) trees
+unfolding StopsAtStart
+stopped_by search setting order base claims start trees e o b k m h g at = each trees h.stop
+  where
+    there : IsStoppedIn search g
+    there =
+        subst (λ (x : Setting). IsStoppedAt x search.order.now search.base search.claims.now g) (sym e)
+        (subst (λ (x : List (Site × Order)). IsStoppedAt setting x search.base search.claims.now g) (sym o)
+        (subst (λ (x : ℕ). IsStoppedAt setting order x search.claims.now g) (sym b) (subst (λ (x : List Claim). IsStoppedAt setting order base x g) (sym k) at)))
+
+    each : (ts : List ClaimTree) → AllByRecursion (λ (t : ClaimTree). StopsAtStart search start t.tree) ts → AllByRecursion (λ (t : ClaimTree). StopsFrom g (key_of start) t.tree) ts
+    each [] s = tt
+    each (t ∷ ts) s = (s.0 m g there, each ts s.1)
 
 -- the trees behind some, each with the next right piece
 pub record Rights (left done : ℕ) (old new : List ClaimTree) : Type 0 where

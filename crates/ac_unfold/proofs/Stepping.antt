@@ -16,11 +16,15 @@ use Rattle.ac_claims.specs.declared.types.Plan.{Plan}
 use Rattle.ac_graft.specs.Placings.{grown}
 use Rattle.ac_graft.specs.declared.placing.Placing.{Placing}
 use Rattle.ac_plans.specs.Following.{behind_branch, ArePlansFor, IsPlanFor}
+use Rattle.ac_decided.specs.Stopping.{key_at}
+use Rattle.ac_plan_stops.specs.Stopped.{Stopped, StopEach, StopsOn}
 use Rattle.ac_unfold.specs.Cutting.{flow_on, IsAssumed, IsStep}
-use Rattle.ac_unfold.specs.Making.{judge_of, IsGiven, IsMade, IsMadeIn}
+use Rattle.ac_unfold.specs.Making.{judge_of, IsGiven, IsMade, IsMadeIn, IsPlanIn}
+use Rattle.ac_unfold.specs.Stopping.{IsStoppedIn, MayStep, StopsIn}
 use Rattle.ac_unfold.specs.declared.ends.Search.{Search}
 use Rattle.ac_unfold.specs.declared.node.Node.{Node}
 use Rattle.ac_unfold.proofs.Assuming.{case_there}
+use Rattle.ac_unfold.proofs.Stops.{each_more, step_stops}
 
 plans_more : (g : Pairing) (cs : List Claim) (s : Placing) (q : Path) (bs : List Path) (ts : List Plan) (b : Path) (t : Plan) → ArePlansFor g cs s q bs ts → IsPlanFor g cs (behind_branch s q b) b t → ArePlansFor g cs s q (bs ++ b ∷ []) (ts ++ t ∷ [])
 plans_more g cs s q [] [] b t h p = (p, tt)
@@ -42,46 +46,50 @@ behind_onto s q b =
     let r : length (q.conj.rows ++ b.rows) - length q.conj.rows ≡ length b.rows = omega (arith, length-append q.conj.rows b.rows) in
     ap (λ (n : ℕ). grown s n (length (q.conj.rows ++ b.rows) - length q.conj.rows)) c ∙ ap (λ (n : ℕ). grown s b.columns n) r
 
--- plans for the first branches, if these are formed
-unfoldable pub ServeBranches : Search → Placing → Path → List Branch → List Plan → Type 0
-ServeBranches search s q bs ts = (cs : List Claim) → IsGiven search cs → AllFormed (judge_of search).params (map (onto q) bs) → ArePlansFor (judge_of search) cs s q (map (onto q) bs) ts
+-- plans for the first branches, if these are formed, which stop from them
+pub record ServeBranches (search : Search) (s : Placing) (q : Path) (bs : List Branch) (ts : List Plan) : Type 0 where
+  pub serve : (cs : List Claim) → IsGiven search cs → AllFormed (judge_of search).params (map (onto q) bs) → ArePlansFor (judge_of search) cs s q (map (onto q) bs) ts
+  pub stop : search.making ≡ true → (g : Stopped) → IsStoppedIn search g → StopEach g (map (onto q) bs) ts
 
 pub serve_none : (search : Search) (s : Placing) (q : Path) → ServeBranches search s q [] []
-unfolding ServeBranches
-serve_none search s q cs given formed = tt
+serve_none search s q = record { serve = λ cs given formed. tt; stop = λ making g at. tt }
 
 pub serve_more : (search : Search) (s : Placing) (q : Path) (bs : List Branch) (ts : List Plan) (b : Branch) (child : Node) (t : Plan) → ServeBranches search s q bs ts → child.question ≡ onto q b → child.placing ≡ grown s b.columns (length b.rows)
     → IsMade search child.placing child.question t → ServeBranches search s q (bs ++ b ∷ []) (ts ++ t ∷ [])
-unfolding IsMade ServeBranches
-serve_more search s q bs ts b child t h e f made cs given formed =
-    let g = judge_of search in
-    let k = formed_last g.params (map (onto q) bs) (onto q b) (subst (AllFormed g.params) (onto_more q bs b) formed) in
-    let p : IsPlanFor g cs child.placing child.question t = made cs given (subst (λ (x : Path). IsFormed g.params x) (sym e) k.1) in
-    let p' : IsPlanFor g cs (behind_branch s q (onto q b)) (onto q b) t =
-    subst (λ (z : Placing). IsPlanFor g cs z (onto q b) t) (f ∙ sym (behind_onto s q b)) (subst (λ (x : Path). IsPlanFor g cs child.placing x t) e p) in
-    subst (λ (xs : List Path). ArePlansFor g cs s q xs (ts ++ t ∷ [])) (sym (onto_more q bs b)) (plans_more g cs s q (map (onto q) bs) ts (onto q b) t (h cs given k.0) p')
+unfolding IsPlanIn StopsIn
+serve_more search s q bs ts b child t h e f made = record {
+  serve = λ cs given formed.
+      let g = judge_of search in
+      let k = formed_last g.params (map (onto q) bs) (onto q b) (subst (AllFormed g.params) (onto_more q bs b) formed) in
+      let p : IsPlanFor g cs child.placing child.question t = made.plan cs given (subst (λ (x : Path). IsFormed g.params x) (sym e) k.1) in
+      let p' : IsPlanFor g cs (behind_branch s q (onto q b)) (onto q b) t =
+      subst (λ (z : Placing). IsPlanFor g cs z (onto q b) t) (f ∙ sym (behind_onto s q b)) (subst (λ (x : Path). IsPlanFor g cs child.placing x t) e p) in
+      subst (λ (xs : List Path). ArePlansFor g cs s q xs (ts ++ t ∷ [])) (sym (onto_more q bs b)) (plans_more g cs s q (map (onto q) bs) ts (onto q b) t (h.serve cs given k.0) p');
+  stop = λ making g at.
+      subst (λ (xs : List Path). StopEach g xs (ts ++ t ∷ [])) (sym (onto_more q bs b))
+      (each_more g (map (onto q) bs) ts (onto q b) t (h.stop making g at) (subst (λ (x : Path). StopsOn g (key_at x) x.gone t.next) e (made.stops making g at)));
+}
 
-pub served_step : (search : Search) (s : Placing) (q : Path) (order : Order) (found : List Branch) (ts : List Plan) (t : Plan) → ServeBranches search s q found ts → IsStep order ts t → Some (map (onto q) found) ≡ branches (judge_of search) order q
-    → (HasModuli (judge_of search).left → HasModuli (judge_of search).right → IsFormed (judge_of search).params q → AllFormed (judge_of search).params (map (onto q) found)) → IsMade search s q t
-unfolding IsMade IsStep ServeBranches
+served_step : (search : Search) (s : Placing) (q : Path) (order : Order) (found : List Branch) (ts : List Plan) (t : Plan) → ServeBranches search s q found ts → IsStep order ts t → Some (map (onto q) found) ≡ branches (judge_of search) order q
+    → (HasModuli (judge_of search).left → HasModuli (judge_of search).right → IsFormed (judge_of search).params q → AllFormed (judge_of search).params (map (onto q) found)) → IsPlanIn search s q t
+unfolding IsPlanIn
 served_step search s q order found ts t serve step is formed cs given f =
     let g = judge_of search in
-    step g given.settled.left given.settled.right cs s q (map (onto q) found) f (sym is) (serve cs given (formed given.settled.left given.settled.right f))
+    step.follows g given.settled.left given.settled.right cs s q (map (onto q) found) f (sym is) (serve.serve cs given (formed given.settled.left given.settled.right f))
 
 pub serve_off : (search : Search) (s : Placing) (q : Path) (bs : List Branch) (ts : List Plan) → search.making ≡ false → ServeBranches search s q bs ts
-unfolding ServeBranches
-serve_off search s q bs ts e cs given formed = let on : search.making ≡ true = given.making in absurd cc
+serve_off search s q bs ts e = record { serve = λ cs given formed. let z : true ≡ false = sym given.making ∙ e in absurd cc; stop = λ making g at. let z : true ≡ false = sym making ∙ e in absurd cc }
 
--- the plan of the step, where there is one
+-- the plan of the step, where there is one and the step may be taken
 pub step_made : (search : Search) (s : Placing) (q : Path) (order : Order) (found : List Branch) (ts : List Plan) (o : Option Plan) → ServeBranches search s q found ts → IfSome o (IsStep order ts) → Some (map (onto q) found) ≡ branches (judge_of search) order q
-    → (HasModuli (judge_of search).left → HasModuli (judge_of search).right → IsFormed (judge_of search).params q → AllFormed (judge_of search).params (map (onto q) found)) → IfSome o (IsMade search s q)
+    → (HasModuli (judge_of search).left → HasModuli (judge_of search).right → IsFormed (judge_of search).params q → AllFormed (judge_of search).params (map (onto q) found)) → IfSome o (λ t. MayStep search q order → IsMade search s q t)
 step_made search s q order found ts None serve step is formed = tt
-step_made search s q order found ts (Some t) serve step is formed = served_step search s q order found ts t serve step is formed
+step_made search s q order found ts (Some t) serve step is formed = λ may. record { plan = served_step search s q order found ts t serve step is formed; stops = step_stops search q order found ts t serve.stop step is may }
 
 -- a plan in the case of a flow, where the search is given
 pub case_made : (search : Search) (side : Side) (flow : ReadFlow) (case : Case) (s : Placing) (q : Path) (t : Plan) → IsAmong flow (flow_on search.setting.now side).reads → IsAssumed search side flow case q → IsMadeIn search case s q t → IsMade search s q t
-unfolding IsMadeIn IsMade
-case_made search side flow case s q t i a h cs given formed = h (case_there search side flow case q given.settled i a) cs given formed
+unfolding IsPlanIn
+case_made search side flow case s q t i a h = record { plan = λ cs given formed. h.plan (case_there search side flow case q given.settled i a) cs given formed; stops = h.stops }
 
 pub map_itself : (xs : List Branch) → map (λ x. x) xs ≡ xs
 map_itself [] = refl

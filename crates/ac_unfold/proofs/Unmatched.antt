@@ -177,7 +177,7 @@ some_of : (o : Option CellForms) → is_some o ≡ true → (c : CellForms) × (
 some_of None e = absurd cc
 some_of (Some c) e = (c, refl)
 
-none_of : (o : Option CellForms) → is_some o ≡ false → o ≡ None
+pub none_of : (o : Option CellForms) → is_some o ≡ false → o ≡ None
 none_of None e = refl
 none_of (Some c) e = absurd cc
 

@@ -1,13 +1,16 @@
 -- What a pair of positions asks for, and what the kills of a case cut away.
-use Rattle.std.specs.Prelude.{◌≡◌, ℕ, true, List, [], ◌∷◌, ◌++◌, map, Some, slice_get}
+use Rattle.std.specs.Prelude.{◌≡◌, ℕ, true, List, [], ◌∷◌, ◌++◌, map, Some, Vec, slice_get}
+use Rattle.std.specs.declared.alloc.Global.{Global}
+use Rattle.std.specs.List.{AllByRecursion}
 use Rattle.ac_forms.specs.Renaming.{rows_renaming}
 use Rattle.ac_forms.specs.declared.conj.Conj.{Conj}
 use Rattle.ac_forms.specs.declared.row.Row.{Row}
 use Rattle.ac_syntax.specs.declared.tree.Order.{Order}
+use Rattle.ac_syntax.specs.declared.tree.Order.TheVariants.{Keep}
 use Rattle.ac_syntax.specs.declared.tree.Position.{Position}
 use Rattle.ac_paths.specs.Formed.{AllFormed, HasModuli, IsFormed}
 use Rattle.ac_paths.specs.Going.{Pairing, branches, model_of}
-use Rattle.ac_paths.specs.Killing.{case_columns}
+use Rattle.ac_paths.specs.Killing.{case_columns, case_width}
 use Rattle.ac_forms.specs.Members.{IsAmong}
 use Rattle.ac_paths.specs.declared.path.Assumed.{Assumed}
 use Rattle.ac_paths.specs.declared.path.Path.{Path}
@@ -17,19 +20,26 @@ use Rattle.ac_claims.specs.Ending.{same_position}
 use Rattle.ac_claims.specs.declared.types.Claim.{Claim}
 use Rattle.ac_claims.specs.declared.types.Kill.{Kill}
 use Rattle.ac_claims.specs.declared.types.Plan.{Plan}
+use Rattle.ac_claims.specs.declared.types.PlanNext.{Go}
+use Rattle.ac_claims.specs.declared.types.PlanNext.TheVariants.{Killed}
 use Rattle.ac_flow.specs.declared.types.Case.{Case}
 use Rattle.ac_flow.specs.declared.types.Flow.{Flow}
 use Rattle.ac_flow.specs.declared.types.ReadFlow.{ReadFlow}
+use Rattle.ac_flow_laws.specs.Accepting.{on_path}
 use Rattle.ac_graft.specs.declared.branching.Part.{Part}
 use Rattle.ac_graft.specs.declared.placing.Placing.{Placing}
 use Rattle.ac_plans.specs.Following.{ArePlansFor, IsPlanFor}
 use Rattle.ac_plans.specs.Serving.{question_on, AreSidePlans}
 use Rattle.ac_unfold.specs.Cases.{AssumesCase}
-use Rattle.ac_unfold.specs.Making.{judge_of, EndsWhere, IsCaseAt, IsGiven}
-use Rattle.ac_unfold.specs.Standing.{Cuts}
+use Rattle.ac_ends.specs.Ends.{IsEnd}
+use Rattle.ac_plan_stops.specs.Stopped.{StopsAnywhere}
+use Rattle.ac_unfold.specs.Making.{judge_of, IsCaseAt, IsEndFor, IsGiven}
+use Rattle.ac_unfold.specs.Standing.{Cuts, StopsBeside}
+use Rattle.ac_unfold.specs.Stopping.{IsUnclaimed, StopsIn, TakesIn}
 use Rattle.ac_unfold.specs.declared.course.Course.{Course}
 use Rattle.ac_unfold.specs.declared.ends.Search.{Search}
 use Rattle.ac_unfold.specs.declared.kinds.Next.{Next}
+use Rattle.ac_unfold.specs.declared.node.Node.{Node}
 use Rattle.ac_unfold.specs.declared.kinds.Next.TheVariants as next
 use Rattle.ac_unfold.specs.declared.types.Setting.{Setting}
 
@@ -49,11 +59,11 @@ pub record IsClaimBehind (search : Search) (q : Path) (number : ℕ) : Type 0 wh
 
 -- ---- kinds
 
--- what rows have to stand at a match
+-- in which order a step is taken, and what rows have to stand at a match
 abbrev pub IsNext : Search → Path → Next → Type 0
-IsNext search q (next.Read side) = Unit {0}
-IsNext search q (next.Calls order) = Unit {0}
-IsNext search q (next.Match rows end) = EndsWhere search q rows end
+IsNext search q (next.Read side) = TakesIn search q Keep
+IsNext search q (next.Calls order) = TakesIn search q order
+IsNext search q (next.Match rows end) = IsUnclaimed search q → IsEndFor search q rows end
 IsNext search q next.Mismatch = Unit {0}
 
 abbrev pub flow_on : Setting → Side → Flow
@@ -70,9 +80,11 @@ pub record IsAssumed (search : Search) (side : Side) (flow : ReadFlow) (case : C
   pub assumes : AssumesCase (judge_of search).params (model_of (judge_of search) side) side flow case assumed
 
 -- a step with plans for its branches
-unfoldable pub IsStep : Order → List Plan → Plan → Type 0
-IsStep order cases t =
-    (g : Pairing) → HasModuli g.left → HasModuli g.right → (cs : List Claim) (s : Placing) (q : Path) (bs : List Path) → IsFormed g.params q → branches g order q ≡ Some bs → ArePlansFor g cs s q bs cases → IsPlanFor g cs s q t
+pub record IsStep (order : Order) (cases : List Plan) (t : Plan) : Type 0 where
+  pub follows : (g : Pairing) → HasModuli g.left → HasModuli g.right → (cs : List Claim) (s : Placing) (q : Path) (bs : List Path) → IsFormed g.params q → branches g order q ≡ Some bs → ArePlansFor g cs s q bs cases → IsPlanFor g cs s q t
+  pub plans : Vec Plan Global
+  pub plans_are : plans.items ≡ cases
+  pub next_is : t.next ≡ Go order plans
 
 -- ---- kills
 
@@ -84,10 +96,16 @@ pub record IsKillThere (search : Search) (q : Path) (case : Case) (kill : Kill) 
   pub moved : (a : Assumed) → q.last ≡ Some a → Some rows ≡ rows_renaming (case_columns (judge_of search).params a) whole.0.rows
 
 -- one row more stands
-unfoldable pub CutsMore : Search → Case → Course → Row → Course → Type 0
-CutsMore search case course row next =
-    (cs : List Claim) (s : Placing) (q : Path) (rows : List Row) → IsGiven search cs → IsCaseAt (judge_of search) q case → Cuts search cs s q course rows → Cuts search cs s q next (rows ++ row ∷ [])
+pub record CutsMore (search : Search) (case : Case) (course : Course) (row : Row) (next : Course) : Type 0 where
+  pub cuts : (cs : List Claim) (s : Placing) (q : Path) (rows : List Row) → IsGiven search cs → IsCaseAt (judge_of search) q case → Cuts search cs s q course rows → Cuts search cs s q next (rows ++ row ∷ [])
+  pub beside : (q : Path) → StopsBeside search q course → StopsBeside search q next
 
--- a plan for each of some sides of the question, where it assumes the case
-unfoldable pub AreMadeOn : Search → Case → Placing → Path → List Part → List Plan → Type 0
-AreMadeOn search case s q parts plans = (cs : List Claim) → IsGiven search cs → IsCaseAt (judge_of search) q case → AllFormed (judge_of search).params (map (question_on q) parts) → AreSidePlans (judge_of search) cs s q parts plans
+-- a plan for each of some sides of the question, where it assumes the case, each of which stops
+pub record AreMadeOn (search : Search) (case : Case) (s : Placing) (q : Path) (parts : List Part) (plans : List Plan) : Type 0 where
+  pub sides : (cs : List Claim) → IsGiven search cs → IsCaseAt (judge_of search) q case → AllFormed (judge_of search).params (map (question_on q) parts) → AreSidePlans (judge_of search) cs s q parts plans
+  pub stop : AllByRecursion (λ (t : Plan). StopsIn search q t.next) plans
+
+-- the end at the kill, with its choices behind the columns of the node's path, which stops anywhere
+pub record IsKilled (search : Search) (node : Node) (kill : Kill) (t : Plan) : Type 0 where
+  pub ends : (a : Assumed) → node.question.last ≡ Some a → IsEnd (Killed (on_path (case_width (judge_of search).params a) node.placing.next_column kill)) t
+  pub stops : StopsAnywhere t.next

@@ -1,11 +1,16 @@
 pub mod Begun
-pub mod Broken
+pub mod Unfoldings
 pub mod Cases
+pub mod Causes
 pub mod Courses
 pub mod Cutting
 pub mod Making
+pub mod Missing
+pub mod Passing
 pub mod Paths
+pub mod Planned
 pub mod Plans
 pub mod Searching
 pub mod Standing
+pub mod Stopping
 pub mod Wanting

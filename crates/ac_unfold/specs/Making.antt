@@ -23,7 +23,10 @@ use Rattle.ac_flow_laws.specs.Accepting.{assumed_by, IsAssumedOn}
 use Rattle.ac_graft.specs.declared.placing.Placing.{Placing}
 use Rattle.ac_ends.specs.Ends.{IsEnd}
 use Rattle.ac_plans.specs.Following.{IsPlanFor}
-use Rattle.ac_unfold.specs.Plans.{AreNumbered, IsSettled}
+use Rattle.ac_plans.specs.Due.{AreNumbered}
+use Rattle.ac_plan_stops.specs.Stopped.{StopsAnywhere}
+use Rattle.ac_unfold.specs.Plans.{IsSettled}
+use Rattle.ac_unfold.specs.Stopping.{StopsIn}
 use Rattle.ac_unfold.specs.declared.asking.Answer.{Answer}
 use Rattle.ac_unfold.specs.declared.asking.Answer.TheVariants as answer
 use Rattle.ac_unfold.specs.declared.asking.Opened.{Opened}
@@ -42,13 +45,19 @@ pub record IsGiven (search : Search) (cs : List Claim) : Type 0 where
   pub settled : IsSettled search.setting.now
   pub numbered : AreNumbered search.base search.claims.now cs
 
--- a plan for the question so placed, against whatever pair and claims: it shows that the question has no point
-unfoldable pub IsRefuted : Placing → Path → Plan → Type 0
-IsRefuted s q t = (g : Pairing) (cs : List Claim) → IsPlanFor g cs s q t
+-- a plan for the question so placed, against whatever pair and claims: it shows that the question has no point, and stops anywhere
+pub record IsRefuted (s : Placing) (q : Path) (t : Plan) : Type 0 where
+  pub plan : (g : Pairing) (cs : List Claim) → IsPlanFor g cs s q t
+  pub stops : StopsAnywhere t.next
 
 -- a plan for the question so placed, wherever the search is given
-unfoldable pub IsMade : Search → Placing → Path → Plan → Type 0
-IsMade search s q t = (cs : List Claim) → IsGiven search cs → IsFormed (judge_of search).params q → IsPlanFor (judge_of search) cs s q t
+unfoldable pub IsPlanIn : Search → Placing → Path → Plan → Type 0
+IsPlanIn search s q t = (cs : List Claim) → IsGiven search cs → IsFormed (judge_of search).params q → IsPlanFor (judge_of search) cs s q t
+
+-- so it is, and stops as plans of the search do
+pub record IsMade (search : Search) (s : Placing) (q : Path) (t : Plan) : Type 0 where
+  pub plan : IsPlanIn search s q t
+  pub stops : StopsIn search q t.next
 
 -- ---- questions
 
@@ -75,6 +84,11 @@ unfoldable pub EndsWhere : Search → Path → List Row → PlanNext → Type 0
 EndsWhere search q rows end =
     (cs : List Claim) (s : Placing) (c : Conj) (t : Plan) → IsGiven search cs → IsFormed (judge_of search).params (at_rows q c) → AreStanding c rows → IsEnd end t → IsPlanFor (judge_of search) cs s (at_rows q c) t
 
+-- and it stops there
+pub record IsEndFor (search : Search) (q : Path) (rows : List Row) (end : PlanNext) : Type 0 where
+  pub ends : EndsWhere search q rows end
+  pub stops : StopsIn search q end
+
 -- ---- a case of a read or an output
 
 -- what was assumed last is the case's source, and the case is one of a flow
@@ -88,6 +102,7 @@ pub record IsCaseAt (g : Pairing) (q : Path) (case : Case) : Type 0 where
   pub among : IsAmong case flow.cases
   pub stands_for : IsAssumedOn g assumed model (assumed_by model reader case)
 
--- a plan for the question so placed, where it assumes the case
-unfoldable pub IsMadeIn : Search → Case → Placing → Path → Plan → Type 0
-IsMadeIn search case s q t = IsCaseAt (judge_of search) q case → IsMade search s q t
+-- a plan for the question so placed, where it assumes the case, which stops as plans of the search do
+pub record IsMadeIn (search : Search) (case : Case) (s : Placing) (q : Path) (t : Plan) : Type 0 where
+  pub plan : IsCaseAt (judge_of search) q case → IsPlanIn search s q t
+  pub stops : StopsIn search q t.next

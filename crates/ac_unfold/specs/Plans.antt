@@ -1,19 +1,7 @@
--- When the plans of a claim are those that a judge of proofs asks for.
-use Rattle.std.specs.Prelude.{◌≡◌, ◌+◌, ℕ, List, map, Some, slice_get}
-use Rattle.std.specs.List.{flat_map, range_with_len}
+-- What plans are made for.
 use Rattle.ac_paths.specs.Formed.{HasModuli}
-use Rattle.ac_paths.specs.Going.{Pairing}
-use Rattle.ac_paths.specs.declared.path.Path.{Path}
-use Rattle.ac_claims.specs.Remaining.{start_at}
-use Rattle.ac_claims.specs.declared.types.Claim.{Claim}
-use Rattle.ac_claims.specs.declared.types.ClaimTree.{ClaimTree}
 use Rattle.ac_flow.specs.Readers.{readers, AreFlows}
-use Rattle.ac_graft.specs.Plans.{AcceptsPlan}
 use Rattle.ac_unfold.specs.declared.types.Setting.{Setting}
-
--- the first of the claims has this number, and each other one the next
-abbrev pub AreNumbered : ℕ → List Claim → List Claim → Type 0
-AreNumbered base claims cs = (i : ℕ) (c : Claim) → slice_get claims i ≡ Some c → slice_get cs (base + i) ≡ Some c
 
 -- each modulus of both models is at least 1, and the flows are theirs
 pub record IsSettled (s : Setting) : Type 0 where
@@ -21,16 +9,3 @@ pub record IsSettled (s : Setting) : Type 0 where
   pub right : HasModuli s.programs.right.now
   pub left_flow : AreFlows s.programs.left.now (readers s.programs.left.now) s.left_flow.now.reads
   pub right_flow : AreFlows s.programs.right.now (readers s.programs.right.now) s.right_flow.now.reads
-
--- the claim starts at these pieces of its positions, and there the plan is accepted
-pub record StartsAccepted (g : Pairing) (cs : List Claim) (start : Claim) (t : ClaimTree) : Type 0 where
-  pub path : Path
-  pub starts : start_at g start t.left_piece t.right_piece ≡ Some path
-  pub accepted : AcceptsPlan g cs t.tree path
-
--- each left piece with each right one, in order
-abbrev pub pairs_of : ℕ → ℕ → List (ℕ × ℕ)
-pairs_of lefts rights = flat_map (λ left. map (λ right. (left, right)) (range_with_len 0 rights)) (range_with_len 0 lefts)
-
-abbrev pub pieces_of : ClaimTree → ℕ × ℕ
-pieces_of t = (t.left_piece, t.right_piece)

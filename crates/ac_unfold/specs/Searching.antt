@@ -25,7 +25,7 @@ use Rattle.ac_stopping.specs.Parts.{order_of}
 use Rattle.ac_leading.specs.Ends.{entries_at, MatchesNothing}
 use Rattle.ac_leading.specs.Leading.{Unfolding, positions_of, seats_of}
 use Rattle.ac_leading.specs.Steps.{flow_on, AreNoReaders, IsBranchOf, IsReached, ReadsOn}
-use Rattle.ac_unfold.specs.Broken.{HasNoClaim, IsBroken}
+use Rattle.ac_leading.specs.Broken.{HasNoClaim, IsBroken}
 use Rattle.ac_unfold.specs.Making.{judge_of}
 use Rattle.ac_unfold.specs.declared.asking.Answer.{Answer}
 use Rattle.ac_unfold.specs.declared.asking.Answer.TheVariants as answer
@@ -142,10 +142,10 @@ pub record IsInCase (search : Search) (case : Case) (trail : List (Seat × Seat)
   pub trail_is : trail ≡ before ++ seats_of b ∷ []
   pub gone : b.gone ≡ true
 
--- the further paths are broken in each unfolding of the search that is at this place, where paths are looked for
+-- no path is lost, and the further ones are broken in each unfolding of the search that is at this place
 unfoldable pub AddsBroken : Search → (Unfolding → Type 0) → List (List Entry) → List (List Entry) → Type 0
 AddsBroken search At before after =
-    search.making ≡ false → (u : Unfolding) → IsOf search u → At u → AllByRecursion (IsBroken u search.claims.now) before → AllByRecursion (IsBroken u search.claims.now) after
+    (length before ≤ length after) × ((u : Unfolding) → IsOf search u → At u → AllByRecursion (IsBroken u search.claims.now) before → AllByRecursion (IsBroken u search.claims.now) after)
 
 -- ---- kinds
 

@@ -1,5 +1,6 @@
 -- Rows that have to stand at the end of a path, one after the other.
 use Rattle.std.specs.Prelude.{◌≡◌, true, List, [], ◌∷◌, ◌++◌, Option, Some, IfSome}
+use Rattle.std.specs.List.{AllByRecursion}
 use Rattle.ac_forms.specs.Standing.{stands}
 use Rattle.ac_forms.specs.declared.row.Row.{Row}
 use Rattle.ac_paths.specs.Formed.{IsFormed}
@@ -12,9 +13,13 @@ use Rattle.ac_graft.specs.declared.placing.Placing.{Placing}
 use Rattle.ac_plans.specs.Covering.{Covers}
 use Rattle.ac_plans.specs.Following.{IsPlanFor}
 use Rattle.ac_plans.specs.Serving.{AreSidePlans}
+use Rattle.ac_decided.specs.Stopping.{key_at}
+use Rattle.ac_plan_stops.specs.Stopped.{StopsAnywhere}
 use Rattle.ac_unfold.specs.Courses.{IsBehind}
 use Rattle.ac_unfold.specs.Making.{judge_of, AreStanding, IsGiven, IsMade}
+use Rattle.ac_unfold.specs.Stopping.{StopsIn}
 use Rattle.ac_unfold.specs.declared.course.Course.{Course}
+use Rattle.ac_unfold.specs.declared.course.Open.{Open}
 use Rattle.ac_unfold.specs.declared.ends.Closed.{Closed}
 use Rattle.ac_unfold.specs.declared.ends.Closed.TheVariants as closed
 use Rattle.ac_unfold.specs.declared.ends.Search.{Search}
@@ -25,6 +30,12 @@ use Rattle.ac_unfold.specs.declared.node.Node.{Node}
 -- behind the branches of a course a plan for one question is a plan for another one
 abbrev pub Leads : Pairing → List Claim → Placing → Path → Course → Placing → Path → Type 0
 Leads g cs s q course z v = (end t : Plan) → IsPlanFor g cs z v end → IsBehind course.branches.items end t → IsPlanFor g cs s q t
+
+-- the course has come to the pair of the question, and the plans beside it stop there
+pub record StopsBeside (search : Search) (q : Path) (course : Course) : Type 0 where
+  pub pair : key_at course.node.question ≡ key_at q
+  pub gone : course.node.question.gone ≡ q.gone
+  pub outside : AllByRecursion (λ (b : Open). AllByRecursion (λ (t : Plan). StopsIn search q t.next) b.outside.items) course.branches.items
 
 -- ---- rows that stand on the path
 
@@ -40,13 +51,15 @@ pub record Keeps (search : Search) (cs : List Claim) (s : Placing) (q : Path) (c
   pub formed : IsFormed (judge_of search).params on_path
   pub standing : AreStanding on_path.conj rows
 
--- a plan at the end of the course is one for the question that the course came from
-unfoldable pub IsEndOf : Search → Course → Plan → Type 0
-IsEndOf search course t = (cs : List Claim) (s : Placing) (q : Path) (rows : List Row) → IsGiven search cs → Keeps search cs s q course rows → IsPlanFor (judge_of search) cs s q t
+-- a plan at the end of the course is one for the question that the course came from, which stops
+pub record IsEndOf (search : Search) (course : Course) (t : Plan) : Type 0 where
+  pub plan : (cs : List Claim) (s : Placing) (q : Path) (rows : List Row) → IsGiven search cs → Keeps search cs s q course rows → IsPlanFor (judge_of search) cs s q t
+  pub stops : (q : Path) → StopsBeside search q course → StopsIn search q t.next
 
 -- one row more stands
-unfoldable pub KeepsMore : Search → Course → Row → Course → Type 0
-KeepsMore search course row next = (cs : List Claim) (s : Placing) (q : Path) (rows : List Row) → IsGiven search cs → Keeps search cs s q course rows → Keeps search cs s q next (rows ++ row ∷ [])
+pub record KeepsMore (search : Search) (course : Course) (row : Row) (next : Course) : Type 0 where
+  pub keeps : (cs : List Claim) (s : Placing) (q : Path) (rows : List Row) → IsGiven search cs → Keeps search cs s q course rows → Keeps search cs s q next (rows ++ row ∷ [])
+  pub beside : (q : Path) → StopsBeside search q course → StopsBeside search q next
 
 -- so it is, or the course has ended
 abbrev pub IsStood : Search → Course → Row → Stood → Type 0
@@ -54,8 +67,9 @@ IsStood search course row (stood.On next) = KeepsMore search course row next
 IsStood search course row (stood.Ended o) = IfSome o (IsEndOf search course)
 
 -- the course from a node to where these rows stand
-unfoldable pub AreKept : Search → Node → Course → List Row → Type 0
-AreKept search node course rows = (cs : List Claim) → IsGiven search cs → IsFormed (judge_of search).params node.question → Keeps search cs node.placing node.question course rows
+pub record AreKept (search : Search) (node : Node) (course : Course) (rows : List Row) : Type 0 where
+  pub keeps : (cs : List Claim) → IsGiven search cs → IsFormed (judge_of search).params node.question → Keeps search cs node.placing node.question course rows
+  pub beside : StopsBeside search node.question course
 
 abbrev pub AreStood : Search → Node → List Row → Stood → Type 0
 AreStood search node rows (stood.On course) = AreKept search node course rows
@@ -67,9 +81,10 @@ pub record IsEndedPlan (course : Course) (end : Option Plan) (t : Plan) : Type 0
   pub is : end ≡ Some last
   pub behind : IsBehind course.branches.items last t
 
--- a plan for each of some sides, where plans are made
-unfoldable pub AreRefutedOn : Search → Placing → Path → List Part → List Plan → Type 0
-AreRefutedOn search s q parts plans = search.making ≡ true → (g : Pairing) (cs : List Claim) → AreSidePlans g cs s q parts plans
+-- a plan for each of some sides, where plans are made, each of which stops anywhere
+pub record AreRefutedOn (search : Search) (s : Placing) (q : Path) (parts : List Part) (plans : List Plan) : Type 0 where
+  pub sides : search.making ≡ true → (g : Pairing) (cs : List Claim) → AreSidePlans g cs s q parts plans
+  pub stop : search.making ≡ true → AllByRecursion (λ (t : Plan). StopsAnywhere t.next) plans
 
 abbrev pub IsClosed : Search → Node → List Part → Closed → Type 0
 IsClosed search node parts closed.Broken = Unit {0}

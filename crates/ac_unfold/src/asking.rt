@@ -1,11 +1,13 @@
 //! Questions of an unfolding.
-ghost use Rattle.std.specs.Prelude.{◌≡◌, IfOk, IfSome, Ok, true, false};
+ghost use Rattle.std.specs.Prelude.{◌≡◌, IfErr, IfOk, IfSome, Ok, true, false};
 ghost use Rattle.ac_cert.specs.Accepted.{Accepts, absurd_refusals};
 ghost use Rattle.ac_forms.specs.Rows.{IsWellMade};
 ghost use Rattle.ac_paths.specs.declared.path.Path.{Path};
 ghost use Rattle.ac_graft.specs.declared.placing.Placing.{Placing};
+ghost use Rattle.ac_unfold.specs.Causes.{stop_of, StopsAt};
 ghost use Rattle.ac_unfold.specs.Wanting.{CanStand, IsWanted};
 ghost use Rattle.ac_unfold.specs.Making.{IsAnswer, IsOpen, IsRefuted, IsStanding};
+ghost use Rattle.ac_unfold.specs.Missing.{HasNone, IsShown, IsShownOpen};
 ghost use Rattle.ac_unfold.specs.Searching.{IsPointIn, IsUnmet, KeepsTrail};
 
 use crate::node::Node;
@@ -30,7 +32,9 @@ pub(crate) enum Answer {
 }
 
 /// The same stop.
-fn unfold_stop(stop: Stop) -> UnfoldStop {
+fn unfold_stop(stop: Stop) -> UnfoldStop
+    ensures { result ≡ stop_of stop }
+{
     match stop {
         Stop::Overflow(question) => UnfoldStop::Overflow(question),
         Stop::Spent { question, cost } => UnfoldStop::Spent { question, cost },
@@ -50,7 +54,10 @@ fn plan_by(alloc: Global, node: &Node, tree: &Tree<Absurd>) -> Result<Plan, Allo
 
 /// Whether a question has a point, with a plan where it has none.
 fn decided(alloc: Global, node: &Node, budget: u64) -> Result<Answer, UnfoldStop>
-    ensures { IfOk result (IsAnswer node.now.placing node.now.question) }
+    ensures shown { IfOk result IsShown }
+    ensures point { IfOk result (IsPointIn node.now.question.conj) }
+    ensures answer { IfOk result (IsAnswer node.now.placing node.now.question) }
+    ensures causes { IfErr result (StopsAt budget) }
 {
     if !node.question.conj.is_well_made() {
         return Err(UnfoldStop::Memory(AllocError));
@@ -65,7 +72,10 @@ fn decided(alloc: Global, node: &Node, budget: u64) -> Result<Answer, UnfoldStop
 /// The same, of a question whose equalities do not show it.
 fn settled(alloc: Global, node: &Node, budget: u64) -> Result<Answer, UnfoldStop>
     requires { IsWellMade node.now.question.conj }
-    ensures { IfOk result (IsAnswer node.now.placing node.now.question) }
+    ensures shown { IfOk result IsShown }
+    ensures point { IfOk result (IsPointIn node.now.question.conj) }
+    ensures answer { IfOk result (IsAnswer node.now.placing node.now.question) }
+    ensures causes { IfErr result (StopsAt budget) }
 {
     match settle(alloc, &node.question.conj, budget) {
         Ok(Decision::Empty(tree)) => {
@@ -81,7 +91,9 @@ fn settled(alloc: Global, node: &Node, budget: u64) -> Result<Answer, UnfoldStop
 /// Whether rows have a point.
 pub(crate) fn found(alloc: Global, conj: &Conj, budget: u64) -> Result<Answer, UnfoldStop>
     ensures answer { (s : Placing) (q : Path) → IfOk result (IsAnswer s q) }
+    ensures none { IfOk result (HasNone conj.now) }
     ensures point { IfOk result (IsPointIn conj.now) }
+    ensures causes { IfErr result (StopsAt budget) }
 {
     if !conj.is_well_made() {
         return Err(UnfoldStop::Memory(AllocError));
@@ -100,8 +112,10 @@ pub(crate) fn asked(
     budget: u64,
     making: bool,
 ) -> Result<Answer, UnfoldStop>
+    ensures shown { making ≡ true → IfOk result IsShown }
     ensures answer { IfOk result (IsAnswer node.now.placing node.now.question) }
-    ensures point { making ≡ false → IfOk result (IsPointIn node.now.question.conj) }
+    ensures point { IfOk result (IsPointIn node.now.question.conj) }
+    ensures causes { IfErr result (StopsAt budget) }
 {
     if making {
         decided(alloc, node, budget)
@@ -118,7 +132,8 @@ pub(crate) fn seen(
     reduction: &Reduction,
     making: bool,
 ) -> Result<Option<Answer>, AllocError>
-    ensures { IfOk result (λ seen. IfSome seen (IsAnswer node.now.placing node.now.question)) }
+    ensures shown { making ≡ true → IfOk result (λ seen. IfSome seen IsShown) }
+    ensures answer { IfOk result (λ seen. IfSome seen (IsAnswer node.now.placing node.now.question)) }
 {
     let question = &node.question.conj;
     if !question.is_well_made() {
@@ -135,12 +150,12 @@ pub(crate) fn seen(
 }
 
 /// The answer to a question without which the search can go on; none where it is wide or spent.
-pub(crate) fn freely(answer: Result<Answer, UnfoldStop>) -> Result<Option<Answer>, UnfoldStop>
+pub(crate) fn freely(answer: Result<Answer, UnfoldStop>) -> Result<Option<Answer>, AllocError>
     ensures { IfOk result (λ free. IfSome free (λ seen. answer ≡ Ok seen)) }
 {
     match answer {
         Ok(answer) => Ok(Some(answer)),
-        Err(UnfoldStop::Memory(want)) => Err(UnfoldStop::Memory(want)),
+        Err(UnfoldStop::Memory(want)) => Err(want),
         Err(_) => Ok(None),
     }
 }
@@ -160,7 +175,8 @@ pub(crate) fn open_question(
     node: Node,
     budget: u64,
     making: bool,
-) -> Result<Opened, UnfoldStop>
+) -> Result<Opened, AllocError>
+    ensures shown { making ≡ true → IfOk result IsShownOpen }
     ensures open { IfOk result (IsOpen node.placing node.question) }
     ensures trail { IfOk result (KeepsTrail node) }
 {

@@ -1,12 +1,14 @@
 //! The end of a path at the claim of its pair.
-ghost use Rattle.std.specs.Prelude.{◌≡◌, ◌&&◌, IfOk, IfSome, None, OnOk, true};
+ghost use Rattle.std.specs.Prelude.{◌≡◌, ◌&&◌, IfErr, IfOk, IfSome, None, OnOk, true};
 ghost use Rattle.ac_forms.specs.Members.{IsAmong};
 ghost use Rattle.ac_claims.specs.Ending.{same_position};
 ghost use Rattle.ac_claims.specs.declared.types.Claim.{Claim as Asked};
 ghost use Rattle.ac_leading.specs.Leading.{seats_of};
-ghost use Rattle.ac_unfold.specs.Broken.{HasNoClaim};
+ghost use Rattle.ac_leading.specs.Broken.{HasNoClaim};
+ghost use Rattle.ac_unfold.specs.Causes.{StopsAt};
 ghost use Rattle.ac_unfold.specs.Searching.{AddsBroken, IsAt};
 ghost use Rattle.ac_unfold.specs.Making.{IsMade};
+ghost use Rattle.ac_unfold.specs.Missing.{FindsElse};
 ghost use Rattle.ac_unfold.specs.Cutting.{IsClaimBehind, IsNumbered};
 
 use crate::casing::same_position;
@@ -63,15 +65,23 @@ pub(crate) fn at_claim(
     finds: &mut Finds,
 ) -> Result<Option<Plan>, UnfoldStop>
     requires { IsClaimBehind search.now node.question number }
+    ensures missing { IfOk result (λ made. FindsElse search.now made finds.old finds.new) }
     ensures made { IfOk result (λ made. IfSome made (IsMade search.now node.placing node.question)) }
     ensures broken { OnOk result (AddsBroken search.now (IsAt search.now node.trail node.question) finds.old finds.new) }
+    ensures causes { IfErr result (StopsAt search.now.budget) }
 {
     let Some(claim) = search.claims.get(number) else {
         return Err(UnfoldStop::Memory(AllocError));
     };
     let params = search.params();
     let columns = columns_of_both(alloc, params, &node.question.left, &node.question.right)?;
-    let rows = over_columns(alloc, &node, claim.rows.as_slice(), columns.as_slice())?;
+    let rows = over_columns(
+        alloc,
+        search,
+        &node,
+        claim.rows.as_slice(),
+        columns.as_slice(),
+    )?;
     let hit = PlanNext::Hit(column_after(search.base, number)?);
     stand(alloc, search, node, rows.as_slice(), hit, finds)
 }

@@ -2,8 +2,8 @@
 ghost use Rattle.std.specs.Prelude.{◌≡◌, ◌++◌, ◌∷◌, [], IfOk};
 ghost use Rattle.ac_paths.specs.Going.{at_rows};
 ghost use Rattle.ac_graft.specs.Placings.{advanced};
-ghost use Rattle.ac_graft.specs.Sides.{on_side, side_of, BranchServesAnywhere};
-ghost use Rattle.ac_unfold.specs.Courses.{IsBehind, IsOpened};
+ghost use Rattle.ac_graft.specs.Sides.{on_side, side_of};
+ghost use Rattle.ac_unfold.specs.Courses.{IsBehind, IsBranched, IsOpened};
 
 use crate::node::Node;
 use ac_claims::types::Plan;
@@ -71,6 +71,7 @@ impl Course {
     ) -> Result<Course, AllocError>
         ensures question { IfOk result (λ course. course.node.question ≡ at_rows self.node.question (side_of self.node.question.conj inside.now)) }
         ensures placing { IfOk result (λ course. course.node.placing ≡ on_side self.node.placing inside.now) }
+        ensures trail { IfOk result (λ course. course.node.trail ≡ self.node.trail) }
         ensures opened { IfOk result (IsOpened self row.now outside.items) }
     {
         let node = self.node.within(alloc, inside)?;
@@ -116,7 +117,7 @@ impl Course {
 
 /// The plan of a branch whose inside is a plan.
 fn behind(alloc: Global, branch: Open, inside: Plan) -> Result<Plan, AllocError>
-    ensures { IfOk result (BranchServesAnywhere branch.placing branch.row inside branch.outside.items) }
+    ensures { IfOk result (IsBranched branch inside) }
 {
     let Open {
         placing,

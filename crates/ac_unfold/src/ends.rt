@@ -1,10 +1,12 @@
 //! The ends of paths: a mismatch, and rows that have to stand.
-ghost use Rattle.std.specs.Prelude.{◌≡◌, ◌∷◌, [], ℤ, List, IfOk, IfSome, OnOk, Some, false, true};
+ghost use Rattle.std.specs.Prelude.{◌≡◌, ◌∷◌, [], ℤ, List, IfOk, IfSome, None, OnOk, Some, is_some, true, IfErr, false};
 ghost use Rattle.ac_forms.specs.Rows.{Holds, IsRowOver};
 ghost use Rattle.ac_graft.specs.Sides.{sides_of, CanBranch};
 ghost use Rattle.ac_unfold.specs.Courses.{IsBehind};
 ghost use Rattle.ac_ends.specs.Ends.{IsEnd};
-ghost use Rattle.ac_unfold.specs.Making.{judge_of, EndsWhere, IsMade, IsRefuted};
+ghost use Rattle.ac_unfold.specs.Causes.{StopsAt};
+ghost use Rattle.ac_unfold.specs.Making.{judge_of, IsEndFor, IsMade, IsRefuted};
+ghost use Rattle.ac_unfold.specs.Missing.{FindsClosed, FindsElse, FindsStood};
 ghost use Rattle.ac_unfold.specs.Searching.{Adds, IsPathAt, IsPathBeside, IsPathBreaking, KeepsNode};
 ghost use Rattle.ac_unfold.specs.Standing.{AreStood, IsClosed, IsEndedPlan, IsStood};
 ghost use Rattle.ac_unfold.specs.Wanting.{CanStand};
@@ -42,13 +44,15 @@ impl Search<'_> {
         let programs = &self.setting.programs;
         programs.left.params
     }
-}
 
-/// The question of a node, handed back as one that is too wide.
-pub(crate) fn too_wide(alloc: Global, node: &Node) -> UnfoldStop {
-    match node.question.conj.copy(alloc) {
-        Ok(question) => UnfoldStop::Overflow(question),
-        Err(want) => UnfoldStop::Memory(want),
+    /// The question of a node, handed back as one that is too wide.
+    pub(crate) fn too_wide(&self, alloc: Global, node: &Node) -> UnfoldStop
+        ensures { StopsAt self.now.budget result }
+    {
+        match node.question.conj.copy(alloc) {
+            Ok(question) => UnfoldStop::Overflow(question),
+            Err(want) => UnfoldStop::Memory(want),
+        }
     }
 }
 
@@ -59,8 +63,10 @@ pub(crate) fn refuted(
     node: &Node,
     finds: &mut Finds,
 ) -> Result<Option<Plan>, UnfoldStop>
+    ensures missing { IfOk result (λ made. FindsElse search.now made finds.old finds.new) }
     ensures made { IfOk result (λ made. IfSome made (IsRefuted node.now.placing node.now.question)) }
-    ensures found { search.now.making ≡ false → OnOk result (Adds (IsPathAt (judge_of search.now).params node.now.trail node.now.question.conj) finds.old finds.new) }
+    ensures found { OnOk result (Adds (IsPathAt (judge_of search.now).params node.now.trail node.now.question.conj) finds.old finds.new) }
+    ensures causes { IfErr result (StopsAt search.now.budget) }
 {
     match asked(alloc, node, search.budget, search.making)? {
         Answer::Empty(plan) => Ok(plan),
@@ -79,8 +85,10 @@ fn refuted_part(
     reduction: &Reduction,
     finds: &mut Finds,
 ) -> Result<Option<Plan>, UnfoldStop>
+    ensures missing { IfOk result (λ made. FindsElse search.now made finds.old finds.new) }
     ensures made { IfOk result (λ made. IfSome made (IsRefuted beside.now.placing beside.now.question)) }
-    ensures found { search.now.making ≡ false → OnOk result (Adds (IsPathAt (judge_of search.now).params beside.now.trail beside.now.question.conj) finds.old finds.new) }
+    ensures found { OnOk result (Adds (IsPathAt (judge_of search.now).params beside.now.trail beside.now.question.conj) finds.old finds.new) }
+    ensures causes { IfErr result (StopsAt search.now.budget) }
 {
     match seen(alloc, beside, reduction, search.making)? {
         Some(Answer::Empty(plan)) => Ok(plan),
@@ -106,8 +114,10 @@ fn refute_parts(
     reduction: &Reduction,
     finds: &mut Finds,
 ) -> Result<Closed, UnfoldStop>
+    ensures missing { IfOk result (λ made. FindsClosed search.now made finds.old finds.new) }
     ensures closed { IfOk result (IsClosed search.now node.now outside.now) }
-    ensures found { search.now.making ≡ false → OnOk result (Adds (IsPathBeside (judge_of search.now).params node.now.trail node.now.question.conj outside.now) finds.old finds.new) }
+    ensures found { OnOk result (Adds (IsPathBeside (judge_of search.now).params node.now.trail node.now.question.conj outside.now) finds.old finds.new) }
+    ensures causes { IfErr result (StopsAt search.now.budget) }
 {
     let mut plans = Vec::new(alloc);
     for part in outside {
@@ -139,8 +149,9 @@ enum Stood {
 }
 
 /// The plan that ends as said, where there is an end.
-fn ended(alloc: Global, course: Course, end: Option<Plan>) -> Result<Option<Plan>, UnfoldStop>
-    ensures { IfOk result (λ made. IfSome made (λ t. IsEndedPlan course end t)) }
+fn ended(alloc: Global, course: Course, end: Option<Plan>) -> Result<Option<Plan>, AllocError>
+    ensures missing { IfOk result (λ made. made ≡ None → end ≡ None) }
+    ensures made { IfOk result (λ made. IfSome made (λ t. IsEndedPlan course end t)) }
 {
     match end {
         Some(end) => {
@@ -160,9 +171,11 @@ fn stand_absurd(
     finds: &mut Finds,
 ) -> Result<Stood, UnfoldStop>
     requires { IsRowOver course.node.question.conj.columns row.now × ((p : List ℤ) → ¬ (Holds row.now p)) }
+    ensures missing { IfOk result (λ made. FindsStood search.now made finds.old finds.new) }
     ensures stood { IfOk result (IsStood search.now course row.now) }
     ensures kept { IfOk result (KeepsNode course) }
-    ensures found { search.now.making ≡ false → OnOk result (Adds (IsPathBreaking (judge_of search.now).params course.node.trail course.node.question.conj (row.now ∷ [])) finds.old finds.new) }
+    ensures found { OnOk result (Adds (IsPathBreaking (judge_of search.now).params course.node.trail course.node.question.conj (row.now ∷ [])) finds.old finds.new) }
+    ensures causes { IfErr result (StopsAt search.now.budget) }
 {
     let end = refuted(alloc, search, &course.node, finds)?;
     let made = ended(alloc, course, end)?;
@@ -179,12 +192,14 @@ fn stand_branched(
     finds: &mut Finds,
 ) -> Result<Stood, UnfoldStop>
     requires { CanStand course.node.question.conj.columns row.now }
+    ensures missing { IfOk result (λ made. FindsStood search.now made finds.old finds.new) }
     ensures stood { IfOk result (IsStood search.now course row.now) }
     ensures kept { IfOk result (KeepsNode course) }
-    ensures found { search.now.making ≡ false → OnOk result (Adds (IsPathBreaking (judge_of search.now).params course.node.trail course.node.question.conj (row.now ∷ [])) finds.old finds.new) }
+    ensures found { OnOk result (Adds (IsPathBreaking (judge_of search.now).params course.node.trail course.node.question.conj (row.now ∷ [])) finds.old finds.new) }
+    ensures causes { IfErr result (StopsAt search.now.budget) }
 {
     let Some(parts) = parts_of(alloc, row, course.node.question.conj.columns)? else {
-        return Err(too_wide(alloc, &course.node));
+        return Err(search.too_wide(alloc, &course.node));
     };
     let closed = refute_parts(
         alloc,
@@ -212,9 +227,11 @@ fn stand_row(
     reduction: &Reduction,
     finds: &mut Finds,
 ) -> Result<Stood, UnfoldStop>
+    ensures missing { IfOk result (λ made. FindsStood search.now made finds.old finds.new) }
     ensures stood { IfOk result (IsStood search.now course row.now) }
     ensures kept { IfOk result (KeepsNode course) }
-    ensures found { search.now.making ≡ false → OnOk result (Adds (IsPathBreaking (judge_of search.now).params course.node.trail course.node.question.conj (row.now ∷ [])) finds.old finds.new) }
+    ensures found { OnOk result (Adds (IsPathBreaking (judge_of search.now).params course.node.trail course.node.question.conj (row.now ∷ [])) finds.old finds.new) }
+    ensures causes { IfErr result (StopsAt search.now.budget) }
 {
     let standing = stands_in(alloc, &course.node.question.conj, row)?;
     if standing {
@@ -224,13 +241,14 @@ fn stand_row(
     match kind {
         Wanted::Standing => stand_branched(alloc, search, course, row, reduction, finds),
         Wanted::Absurd => stand_absurd(alloc, search, course, row, finds),
-        Wanted::Wide => Err(too_wide(alloc, &course.node)),
+        Wanted::Wide => Err(search.too_wide(alloc, &course.node)),
     }
 }
 
 /// The end of a plan, where plans are made.
 fn end_of(alloc: Global, search: &Search<'_>, end: PlanNext) -> Option<Plan>
-    ensures { IfSome result (IsEnd end) }
+    ensures there { search.now.making ≡ true → is_some result ≡ true }
+    ensures made { IfSome result (IsEnd end) }
 {
     if search.making {
         Some(plan_of(alloc, end))
@@ -248,8 +266,10 @@ fn stand_rows(
     rows: &[Row],
     finds: &mut Finds,
 ) -> Result<Stood, UnfoldStop>
+    ensures missing { IfOk result (λ made. FindsStood search.now made finds.old finds.new) }
     ensures stood { IfOk result (AreStood search.now node rows.now) }
-    ensures found { search.now.making ≡ false → OnOk result (Adds (IsPathBreaking (judge_of search.now).params node.trail node.question.conj rows.now) finds.old finds.new) }
+    ensures found { OnOk result (Adds (IsPathBreaking (judge_of search.now).params node.trail node.question.conj rows.now) finds.old finds.new) }
+    ensures causes { IfErr result (StopsAt search.now.budget) }
 {
     finds.count(alloc)?;
     let reduction = Reduction::of(alloc, &node.question.conj)?;
@@ -277,15 +297,18 @@ pub(crate) fn stand(
     end: PlanNext,
     finds: &mut Finds,
 ) -> Result<Option<Plan>, UnfoldStop>
-    requires { EndsWhere search.now node.question rows.now end }
+    requires { IsEndFor search.now node.question rows.now end }
+    ensures missing { IfOk result (λ made. FindsElse search.now made finds.old finds.new) }
     ensures made { IfOk result (λ made. IfSome made (IsMade search.now node.placing node.question)) }
-    ensures found { search.now.making ≡ false → OnOk result (Adds (IsPathBreaking (judge_of search.now).params node.trail node.question.conj rows.now) finds.old finds.new) }
+    ensures found { OnOk result (Adds (IsPathBreaking (judge_of search.now).params node.trail node.question.conj rows.now) finds.old finds.new) }
+    ensures causes { IfErr result (StopsAt search.now.budget) }
 {
     let stood = stand_rows(alloc, search, node, rows, finds)?;
     match stood {
         Stood::On(course) => {
             let last = end_of(alloc, search, end);
-            ended(alloc, course, last)
+            let made = ended(alloc, course, last)?;
+            Ok(made)
         }
         Stood::Ended(plan) => Ok(plan),
     }
@@ -298,8 +321,10 @@ pub(crate) fn mismatch(
     node: &Node,
     finds: &mut Finds,
 ) -> Result<Option<Plan>, UnfoldStop>
+    ensures missing { IfOk result (λ made. FindsElse search.now made finds.old finds.new) }
     ensures made { IfOk result (λ made. IfSome made (IsRefuted node.now.placing node.now.question)) }
-    ensures found { search.now.making ≡ false → OnOk result (Adds (IsPathAt (judge_of search.now).params node.now.trail node.now.question.conj) finds.old finds.new) }
+    ensures found { OnOk result (Adds (IsPathAt (judge_of search.now).params node.now.trail node.now.question.conj) finds.old finds.new) }
+    ensures causes { IfErr result (StopsAt search.now.budget) }
 {
     finds.count(alloc)?;
     refuted(alloc, search, node, finds)
@@ -309,12 +334,14 @@ pub(crate) fn mismatch(
 pub(crate) fn rows_or(
     rows: Option<Items<Row>>,
     alloc: Global,
+    search: &Search<'_>,
     node: &Node,
 ) -> Result<Items<Row>, UnfoldStop>
-    ensures { IfOk result (λ made. rows ≡ Some made) }
+    ensures rows { IfOk result (λ made. rows ≡ Some made) }
+    ensures causes { IfErr result (StopsAt search.now.budget) }
 {
     match rows {
         Some(rows) => Ok(rows),
-        None => Err(too_wide(alloc, node)),
+        None => Err(search.too_wide(alloc, node)),
     }
 }

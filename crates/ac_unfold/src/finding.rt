@@ -1,10 +1,11 @@
 //! Broken paths: the pairs that lead from a start to where it fails.
-ghost use Rattle.std.specs.Prelude.{◌≡◌, ◌++◌, ◌∷◌, [], IfOk, OnOk, length, pos, slice_index_or};
+ghost use Rattle.std.specs.Prelude.{◌≡◌, ◌<◌, ◌++◌, ◌∷◌, [], IfOk, OnOk, Some, length, pos, slice_get, slice_index_or, IfErr};
 ghost use Rattle.std.specs.List.{AllByRecursion, range_with_len};
 ghost use Rattle.ac_forms.specs.Renaming.{picked};
 ghost use Rattle.ac_leading.specs.Ends.{entries_at};
 ghost use Rattle.ac_leading.specs.Leading.{point_of};
 ghost use Rattle.ac_unfold.specs.Paths.{IsPath, reason_at};
+ghost use Rattle.ac_unfold.specs.declared.types.UnfoldStop.TheVariants.{Paths};
 
 use crate::node::Node;
 use crate::types::UnfoldStop;
@@ -140,6 +141,16 @@ impl Finds {
         paths
     }
 
+    /// The first path.
+    pub(crate) fn into_first(self) -> Items<Entry>
+        requires { 0 < length self }
+        ensures { slice_get self 0 ≡ Some result }
+    {
+        let Finds { paths, .. } = self;
+        let mut paths = paths.into_vec();
+        paths.remove(0)
+    }
+
     /// The path to a node, at a point of its question, is broken.
     #[tactic(auto, using(crate::proofs::PathSteps::path_steps))]
     pub(crate) fn push(
@@ -157,7 +168,8 @@ impl Finds {
 
     /// One end more is reached.
     pub(crate) fn count(&mut self, alloc: Global) -> Result<(), UnfoldStop>
-        ensures { OnOk result (self.new ≡ self.old) }
+        ensures same { OnOk result (self.new ≡ self.old) }
+        ensures paths { IfErr result (λ stop. stop ≡ Paths self.old) }
     {
         if self.ends >= MOST_ENDS {
             return Err(self.stop(alloc));
@@ -167,7 +179,9 @@ impl Finds {
     }
 
     /// The stop where there are too many paths, or one is too long.
-    pub(crate) fn stop(&mut self, alloc: Global) -> UnfoldStop {
+    pub(crate) fn stop(&mut self, alloc: Global) -> UnfoldStop
+        ensures { result ≡ Paths self.old }
+    {
         let paths = std::mem::replace(&mut self.paths, Items::new(alloc));
         UnfoldStop::Paths(paths)
     }

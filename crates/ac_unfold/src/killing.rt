@@ -1,10 +1,9 @@
 //! The end at a killed place, with the choices of its copy behind the columns of the path.
 ghost use Rattle.std.specs.Prelude.{◌≡◌, IfOk, Some, map};
-ghost use Rattle.ac_claims.specs.declared.types.PlanNext.TheVariants.{Killed};
 ghost use Rattle.ac_paths.specs.Killing.{case_width};
 ghost use Rattle.ac_paths.specs.declared.path.Assumed.{Assumed};
-ghost use Rattle.ac_flow_laws.specs.Accepting.{behind, on_path};
-ghost use Rattle.ac_ends.specs.Ends.{IsEnd};
+ghost use Rattle.ac_flow_laws.specs.Accepting.{behind};
+ghost use Rattle.ac_unfold.specs.Cutting.{IsKilled};
 ghost use Rattle.ac_unfold.specs.Making.{judge_of};
 
 use crate::ends::Search;
@@ -65,7 +64,7 @@ pub(crate) fn killed(
     node: &Node,
     kill: &Kill,
 ) -> Result<Plan, AllocError>
-    ensures { IfOk result (λ t. (a : Assumed) → node.now.question.last ≡ Some a → IsEnd (Killed (on_path (case_width (judge_of search.now).params a) node.now.placing.next_column kill.now)) t) }
+    ensures { IfOk result (IsKilled search.now node.now kill.now) }
 {
     let own = own_columns(search, &node.question.last)?;
     let path = node.placing.next_column;

@@ -1,11 +1,12 @@
 //! What a pair of positions asks for, by what stands at both.
-ghost use Rattle.std.specs.Prelude.{◌≡◌, IfOk, IfSome, None, Some, false, length, slice_get};
+ghost use Rattle.std.specs.Prelude.{◌≡◌, IfErr, IfOk, IfSome, None, Some, false, length, slice_get};
 ghost use Rattle.ac_poly.specs.Model.{is_input};
 ghost use Rattle.ac_paths.specs.Calls.{pairing};
 ghost use Rattle.ac_paths.specs.Going.{same_symbol, seat_of};
 ghost use Rattle.ac_forms.specs.Members.{IsAmong};
 ghost use Rattle.ac_paths.specs.Places.{CallAt, call_at, initial_cell, number_at};
 ghost use Rattle.ac_stopping.specs.Parts.{order_of};
+ghost use Rattle.ac_unfold.specs.Causes.{StopsAt};
 ghost use Rattle.ac_unfold.specs.Cutting.{flow_on, IsNext};
 ghost use Rattle.ac_unfold.specs.Making.{judge_of};
 ghost use Rattle.ac_unfold.specs.Searching.{IsKindThere, IsLeaf, IsNoNumber};
@@ -123,10 +124,11 @@ fn numbers(
     requires right { number_at (judge_of search.now).right node.now.question.right.position ≡ Some other.now }
     ensures next { IfOk result (IsNext search.now node.now.question) }
     ensures kind { IsLeaf (judge_of search.now) node.now.question → IfOk result (IsKindThere search.now node.now.question) }
+    ensures causes { IfErr result (StopsAt search.now.budget) }
 {
     let path = &node.question;
     let rows = equal_form_at(alloc, search.params(), &path.left, form, &path.right, other)?;
-    Ok(Next::Match(rows_or(rows, alloc, node)?, PlanNext::SameNumber))
+    Ok(Next::Match(rows_or(rows, alloc, search, node)?, PlanNext::SameNumber))
 }
 
 /// What two initial cells ask for: one input, and the equality of each subscript.
@@ -141,6 +143,7 @@ fn cells(
     requires right { initial_cell (judge_of search.now).right node.now.question.right.position ≡ Some other.now }
     ensures next { IfOk result (IsNext search.now node.now.question) }
     ensures kind { IsNoNumber (judge_of search.now) node.now.question → IfOk result (IsKindThere search.now node.now.question) }
+    ensures causes { IfErr result (StopsAt search.now.budget) }
 {
     let programs = &search.setting.programs;
     if cell.array != other.array || !is_input(programs.left, cell.array) {
@@ -155,13 +158,14 @@ fn cells(
         &path.right,
         other.subs.as_slice(),
     )?;
-    Ok(Next::Match(rows_or(rows, alloc, node)?, PlanNext::SameInitial))
+    Ok(Next::Match(rows_or(rows, alloc, search, node)?, PlanNext::SameInitial))
 }
 
 /// What two initial cells of one input ask for.
 fn initials(alloc: Global, search: &Search<'_>, node: &Node) -> Result<Next, UnfoldStop>
     ensures next { IfOk result (IsNext search.now node.now.question) }
     ensures kind { IsNoNumber (judge_of search.now) node.now.question → IfOk result (IsKindThere search.now node.now.question) }
+    ensures causes { IfErr result (StopsAt search.now.budget) }
 {
     let programs = &search.setting.programs;
     let Some(cell) = initial_cell(alloc, programs.left, &node.question.left.position)? else {
@@ -177,6 +181,7 @@ fn initials(alloc: Global, search: &Search<'_>, node: &Node) -> Result<Next, Unf
 fn leaves(alloc: Global, search: &Search<'_>, node: &Node) -> Result<Next, UnfoldStop>
     ensures next { IfOk result (IsNext search.now node.now.question) }
     ensures kind { IsLeaf (judge_of search.now) node.now.question → IfOk result (IsKindThere search.now node.now.question) }
+    ensures causes { IfErr result (StopsAt search.now.budget) }
 {
     let programs = &search.setting.programs;
     let Some(form) = number_at(programs.left, &node.question.left.position) else {
@@ -192,6 +197,7 @@ fn leaves(alloc: Global, search: &Search<'_>, node: &Node) -> Result<Next, Unfol
 pub(crate) fn next_of(alloc: Global, search: &Search<'_>, node: &Node) -> Result<Next, UnfoldStop>
     ensures next { IfOk result (IsNext search.now node.now.question) }
     ensures kind { IfOk result (IsKindThere search.now node.now.question) }
+    ensures causes { IfErr result (StopsAt search.now.budget) }
 {
     let programs = &search.setting.programs;
     let (left, right) = (&node.question.left.position, &node.question.right.position);

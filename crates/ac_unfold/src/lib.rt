@@ -10,6 +10,7 @@ mod ends;
 mod finding;
 mod killing;
 mod kinds;
+pub mod laws;
 mod node;
 mod remaining;
 mod starting;

@@ -1,13 +1,15 @@
 //! The rows of a case over the columns of a question: of what is left of it, and of its kills.
-ghost use Rattle.std.specs.Prelude.{◌≡◌, IfOk, Some};
+ghost use Rattle.std.specs.Prelude.{◌≡◌, IfOk, Some, true, IfErr};
 ghost use Rattle.ac_forms.specs.Renaming.{rows_renaming};
 ghost use Rattle.ac_paths.specs.Killing.{case_columns};
 ghost use Rattle.ac_paths.specs.declared.path.Assumed.{Assumed};
 ghost use Rattle.ac_leading.specs.Steps.{at_rest};
+ghost use Rattle.ac_unfold.specs.Causes.{StopsAt};
 ghost use Rattle.ac_unfold.specs.Making.{judge_of};
+ghost use Rattle.ac_unfold.specs.Passing.{AreApart};
 
 use crate::asking::{Answer, found, freely};
-use crate::ends::{Search, too_wide};
+use crate::ends::Search;
 use crate::node::{Node, with_rows};
 use crate::types::UnfoldStop;
 use crate::witness::continued;
@@ -20,15 +22,17 @@ use std::alloc::{AllocError, Global};
 #[tactic(auto, using(ac_paths::proofs::Moduli::rename_steps))]
 pub(crate) fn over_columns(
     alloc: Global,
+    search: &Search<'_>,
     node: &Node,
     rows: &[Row],
     columns: &[usize],
 ) -> Result<Items<Row>, UnfoldStop>
-    ensures { IfOk result (λ made. Some made ≡ rows_renaming columns.now rows.now) }
+    ensures rows { IfOk result (λ made. Some made ≡ rows_renaming columns.now rows.now) }
+    ensures causes { IfErr result (StopsAt search.now.budget) }
 {
     match renamed_rows(alloc, rows, columns) {
         Ok(made) => Ok(made),
-        Err(FormStop::Wide) => Err(too_wide(alloc, node)),
+        Err(FormStop::Wide) => Err(search.too_wide(alloc, node)),
         Err(FormStop::Memory(want)) => Err(UnfoldStop::Memory(want)),
     }
 }
@@ -42,6 +46,7 @@ pub(crate) fn at_remainder(
 ) -> Result<Node, UnfoldStop>
     ensures question { IfOk result (λ made. at_rest (judge_of search.now).params node.now.question rest.now ≡ Some made.question) }
     ensures trail { IfOk result (λ made. made.trail ≡ node.now.trail) }
+    ensures causes { IfErr result (StopsAt search.now.budget) }
 {
     let Some(assumed) = &node.question.last else {
         return Err(UnfoldStop::Memory(AllocError));
@@ -49,7 +54,13 @@ pub(crate) fn at_remainder(
     let mut columns = case_columns(alloc, search.params(), assumed)?;
     let further = rest.columns.saturating_sub(columns.len());
     push_range(&mut columns, node.question.conj.columns, further)?;
-    let rows = over_columns(alloc, node, rest.rows.as_slice(), columns.as_slice())?;
+    let rows = over_columns(
+        alloc,
+        search,
+        node,
+        rest.rows.as_slice(),
+        columns.as_slice(),
+    )?;
     Ok(node.beside(alloc, further, rows.as_slice())?)
 }
 
@@ -60,13 +71,20 @@ pub(crate) fn kill_rows(
     node: &Node,
     kill: &Conj,
 ) -> Result<Items<Row>, UnfoldStop>
-    ensures { IfOk result (λ made. (a : Assumed) → node.now.question.last ≡ Some a → Some made ≡ rows_renaming (case_columns (judge_of search.now).params a) kill.now.rows) }
+    ensures rows { IfOk result (λ made. (a : Assumed) → node.now.question.last ≡ Some a → Some made ≡ rows_renaming (case_columns (judge_of search.now).params a) kill.now.rows) }
+    ensures causes { IfErr result (StopsAt search.now.budget) }
 {
     let Some(assumed) = &node.question.last else {
         return Err(UnfoldStop::Memory(AllocError));
     };
     let columns = case_columns(alloc, search.params(), assumed)?;
-    over_columns(alloc, node, kill.rows.as_slice(), columns.as_slice())
+    over_columns(
+        alloc,
+        search,
+        node,
+        kill.rows.as_slice(),
+        columns.as_slice(),
+    )
 }
 
 /// Whether rows are known to have no point in common with a question.
@@ -75,7 +93,9 @@ pub(crate) fn is_apart(
     search: &Search<'_>,
     node: &Node,
     rows: &[Row],
-) -> Result<bool, UnfoldStop> {
+) -> Result<bool, AllocError>
+    ensures { IfOk result (λ apart. apart ≡ true → AreApart node.now.question.conj rows.now) }
+{
     let both = with_rows(alloc, &node.question.conj, rows)?;
     if continued(alloc, &both, node.known.as_slice())?.is_some() {
         return Ok(false);

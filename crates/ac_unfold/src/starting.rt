@@ -1,23 +1,32 @@
 //! Where an unfolding starts: each pair of pieces of a claim.
-ghost use Rattle.std.specs.Prelude.{◌≡◌, ◌++◌, IfOk, IfSome, List, OnOk, map, true};
+ghost use Rattle.std.specs.Prelude.{◌≡◌, ◌++◌, IfOk, IfSome, List, None, OnOk, map, true, IfErr};
 ghost use Rattle.std.specs.List.{AllByRecursion, range_with_len};
 ghost use Rattle.ac_paths.specs.Calls.{pairing};
 ghost use Rattle.ac_claims.specs.ProofFaults.{domain};
 ghost use Rattle.ac_claims.specs.Remaining.{count_by};
 ghost use Rattle.ac_claims.specs.declared.types.Claim.{Claim as Asked};
+ghost use Rattle.ac_claims.specs.declared.types.ClaimTree.{ClaimTree as Tree};
+ghost use Rattle.ac_decided.specs.Stopping.{key_of};
+ghost use Rattle.ac_plan_stops.specs.Stopped.{Stopped, StopsFrom};
 ghost use Rattle.ac_leading.specs.Leading.{Unfolding};
-ghost use Rattle.ac_unfold.specs.Broken.{IsBroken, IsUnfoldingOf};
+ghost use Rattle.ac_leading.specs.Broken.{IsBroken};
+ghost use Rattle.ac_unfold.specs.Causes.{StopsAt};
+ghost use Rattle.ac_unfold.specs.Unfoldings.{IsUnfoldingOf};
 ghost use Rattle.ac_unfold.specs.Making.{judge_of, IsGiven};
+ghost use Rattle.ac_unfold.specs.Missing.{FindsElse};
 ghost use Rattle.ac_unfold.specs.Paths.{IsPath, ArePlansOf};
-ghost use Rattle.ac_unfold.specs.Plans.{pairs_of, pieces_of, AreNumbered, IsSettled, StartsAccepted};
+ghost use Rattle.ac_unfold.specs.Planned.{HasDomains, IfBroken, IfPlans, IsBrokenFrom};
+ghost use Rattle.ac_plans.specs.Due.{pairs_of, pieces_of, AreNumbered, StartsAccepted};
+ghost use Rattle.ac_unfold.specs.Plans.{IsSettled};
 ghost use Rattle.ac_unfold.specs.Begun.{AreBegun, IsBegun};
 ghost use Rattle.ac_unfold.specs.Searching.{AddsBroken, IsFrom};
+ghost use Rattle.ac_unfold.specs.Stopping.{IsStoppedAt};
 
 use crate::asking::{Opened, open_question};
 use crate::ends::Search;
 use crate::finding::Finds;
 use crate::node::Node;
-use crate::types::{Setting, UnfoldStop};
+use crate::types::{Planned, Setting, UnfoldStop};
 use crate::unfolding::{MOST_DEEP, visit};
 use ac_claims::domains::size_at;
 use ac_claims::starts::start_at;
@@ -40,6 +49,7 @@ fn search_of<'a>(
     ensures claims { result.claims.now ≡ claims.now }
     ensures order { result.order.now ≡ order.now }
     ensures making { result.making ≡ making }
+    ensures budget { result.budget ≡ setting.now.budget }
 {
     Search {
         setting,
@@ -60,8 +70,10 @@ fn unfold_at(
     right: usize,
     finds: &mut Finds,
 ) -> Result<Option<Plan>, UnfoldStop>
+    ensures missing { IfOk result (λ made. FindsElse search.now made finds.old finds.new) }
     ensures begun { IfOk result (λ made. IfSome made (IsBegun search.now start.now left right)) }
     ensures broken { OnOk result (AddsBroken search.now (IsFrom start.now) finds.old finds.new) }
+    ensures causes { IfErr result (StopsAt search.now.budget) }
 {
     let programs = &search.setting.programs;
     let Some(path) = start_at(alloc, programs, start, left, right)? else {
@@ -79,14 +91,15 @@ fn unfold_at(
 }
 
 /// How many pieces the left position of a claim has, and the right one.
-fn pieces(alloc: Global, setting: &Setting<'_>, start: &Claim) -> Result<(usize, usize), UnfoldStop>
-    ensures { IfOk result (λ counts. counts ≡ (count_by (domain setting.now.programs.left.now start.now.left), count_by (domain setting.now.programs.right.now start.now.right))) }
+fn pieces(alloc: Global, setting: &Setting<'_>, start: &Claim) -> Result<(usize, usize), AllocError>
+    ensures domains { IfOk result (λ counts. HasDomains (pairing setting.now.programs) start.now) }
+    ensures counts { IfOk result (λ counts. counts ≡ (count_by (domain setting.now.programs.left.now start.now.left), count_by (domain setting.now.programs.right.now start.now.right))) }
 {
     let left = size_at(alloc, setting.programs.left, &start.left)?;
     let right = size_at(alloc, setting.programs.right, &start.right)?;
     match (left, right) {
         (Some(left), Some(right)) => Ok((left.pieces, right.pieces)),
-        _ => Err(UnfoldStop::Memory(AllocError)),
+        _ => Err(AllocError),
     }
 }
 
@@ -99,7 +112,8 @@ fn find_beside(
     rights: usize,
     finds: &mut Finds,
 ) -> Result<(), UnfoldStop>
-    ensures { OnOk result (AddsBroken search.now (IsFrom start.now) finds.old finds.new) }
+    ensures broken { OnOk result (AddsBroken search.now (IsFrom start.now) finds.old finds.new) }
+    ensures causes { IfErr result (StopsAt search.now.budget) }
 {
     for right in 0..rights {
         let _none = unfold_at(alloc, search, start, left, right, finds)?;
@@ -123,6 +137,7 @@ pub fn broken_paths(
 ) -> Result<Items<Items<Entry>>, UnfoldStop>
     ensures paths { IfOk result (AllByRecursion IsPath) }
     ensures broken { IfOk result (λ paths. (u : Unfolding) → IsUnfoldingOf setting.now start.now order.now u → AllByRecursion (IsBroken u claims.now) paths) }
+    ensures causes { IfErr result (StopsAt setting.now.budget) }
 {
     let search = search_of(setting, claims, 0, order, false);
     let (lefts, rights) = pieces(alloc, setting, start)?;
@@ -133,7 +148,7 @@ pub fn broken_paths(
     Ok(finds.into_paths())
 }
 
-/// Adds the plans from one piece of the left position; whether all were made.
+/// Adds the plans from one piece of the left position, up to the first that can't be made: the path that is broken there.
 #[tactic(auto, using(crate::proofs::PathSteps::path_steps))]
 fn push_trees(
     alloc: Global,
@@ -143,16 +158,19 @@ fn push_trees(
     left: usize,
     rights: usize,
     trees: &mut Vec<ClaimTree>,
-) -> Result<bool, UnfoldStop>
-    requires { ArePlansOf number trees.old.items }
+) -> Result<Option<Items<Entry>>, UnfoldStop>
+    requires making { search.now.making ≡ true }
+    requires claim { ArePlansOf number trees.old.items }
+    ensures broken { IfOk result (λ path. IfSome path (IsBrokenFrom search.now start.now)) }
     ensures claim { ArePlansOf number trees.new.items }
-    ensures pieces { IfOk result (λ all. all ≡ true → map pieces_of trees.new.items ≡ map pieces_of trees.old.items ++ map (λ right. (left, right)) (range_with_len 0 rights)) }
-    ensures accepted { IfOk result (λ all. all ≡ true → AreBegun search.now start.now trees.old.items → AreBegun search.now start.now trees.new.items) }
+    ensures pieces { IfOk result (λ path. path ≡ None → map pieces_of trees.new.items ≡ map pieces_of trees.old.items ++ map (λ right. (left, right)) (range_with_len 0 rights)) }
+    ensures accepted { IfOk result (λ path. path ≡ None → AreBegun search.now start.now trees.old.items → AreBegun search.now start.now trees.new.items) }
+    ensures causes { IfErr result (StopsAt search.now.budget) }
 {
     let mut finds = Finds::new(alloc);
     for right in 0..rights {
         let Some(tree) = unfold_at(alloc, search, start, left, right, &mut finds)? else {
-            return Ok(false);
+            return Ok(Some(finds.into_first()));
         };
         trees.push(ClaimTree {
             claim: number,
@@ -161,12 +179,15 @@ fn push_trees(
             tree,
         })?;
     }
-    Ok(true)
+    Ok(None)
 }
 
 /// The plans of a start that stands, one for each pair of pieces in order: the start has the number `number` in the proof, and
-/// the claim with number i in the list has `base + i`. None where a path is broken. A judge of proofs accepts each of them where
-/// the start begins at its pieces, against whatever claims these are among with their numbers.
+/// the claim with number i in the list has `base + i`. A judge of proofs accepts each of them where the start begins at its
+/// pieces, against whatever claims these are among with their numbers. It stops at pairs of the list's claims: behind its first step
+/// it neither goes on from such a pair nor ends there at a number or an initial cell.
+///
+/// Where the start does not stand, a concrete path on which it fails, as those of `broken_paths`.
 pub fn claim_trees(
     alloc: Global,
     setting: &Setting<'_>,
@@ -175,19 +196,23 @@ pub fn claim_trees(
     base: usize,
     claims: &[Claim],
     order: &[(Site, Order)],
-) -> Result<Option<Vec<ClaimTree>>, UnfoldStop>
-    ensures claim { IfOk result (λ made. IfSome made (λ trees. ArePlansOf number trees.items)) }
-    ensures pieces { IfOk result (λ made. IfSome made (λ trees. map pieces_of trees.items ≡ pairs_of (count_by (domain setting.now.programs.left.now start.now.left)) (count_by (domain setting.now.programs.right.now start.now.right)))) }
-    ensures accepted { IsSettled setting.now → IfOk result (λ made. IfSome made (λ trees. (cs : List Asked) → AreNumbered base claims.now cs → AllByRecursion (StartsAccepted (pairing setting.now.programs) cs start.now) trees.items)) }
+) -> Result<Planned, UnfoldStop>
+    ensures broken { IfOk result (IfBroken (λ path. (u : Unfolding) → IsUnfoldingOf setting.now start.now order.now u → IsBroken u claims.now path)) }
+    ensures domains { IfOk result (IfPlans (λ trees. HasDomains (pairing setting.now.programs) start.now)) }
+    ensures claim { IfOk result (IfPlans (λ trees. ArePlansOf number trees)) }
+    ensures pieces { IfOk result (IfPlans (λ trees. map pieces_of trees ≡ pairs_of (count_by (domain setting.now.programs.left.now start.now.left)) (count_by (domain setting.now.programs.right.now start.now.right)))) }
+    ensures accepted { IsSettled setting.now → IfOk result (IfPlans (λ trees. (cs : List Asked) → AreNumbered base claims.now cs → AllByRecursion (StartsAccepted (pairing setting.now.programs) cs start.now) trees)) }
+    ensures stops { IfOk result (IfPlans (λ trees. (g : Stopped) → IsStoppedAt setting.now order.now base claims.now g → AllByRecursion (λ (t : Tree). StopsFrom g (key_of start.now) t.tree) trees)) }
+    ensures causes { IfErr result (StopsAt setting.now.budget) }
 {
     let search = search_of(setting, claims, base, order, true);
     let counts = pieces(alloc, setting, start)?;
     let mut trees = Vec::new(alloc);
     for left in 0..counts.0 {
-        let all = push_trees(alloc, &search, number, start, left, counts.1, &mut trees)?;
-        if !all {
-            return Ok(None);
+        let broken = push_trees(alloc, &search, number, start, left, counts.1, &mut trees)?;
+        if let Some(path) = broken {
+            return Ok(Planned::Broken(path));
         }
     }
-    Ok(Some(trees))
+    Ok(Planned::Plans(trees))
 }

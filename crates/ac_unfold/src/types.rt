@@ -1,3 +1,4 @@
+use ac_claims::types::ClaimTree;
 use ac_flow::types::Flow;
 use ac_forms::Conj;
 use ac_items::Items;
@@ -16,16 +17,25 @@ pub struct Setting<'a> {
     pub budget: u64,
 }
 
+/// What comes of the plans of a start.
+#[derive(Drop)]
+pub enum Planned {
+    /// The plans, one for each pair of pieces.
+    Plans(Vec<ClaimTree>),
+    /// The start does not stand: a broken path.
+    Broken(Items<Entry>),
+}
+
 /// Why an unfolding has no answer.
 #[derive(Debug, Drop)]
 pub enum UnfoldStop {
     /// A number of a question leaves `i128`.
     Overflow(Conj),
-    /// The running cost of a question exceeds the budget.
+    /// The running cost of a question exceeds the budget: the economical walk does not decide it, and the full one is given up.
     Spent {
         /// The question.
         question: Conj,
-        /// The first running cost above the budget.
+        /// The full walk's first running cost above the budget.
         cost: u64,
     },
     /// More than 20,000 ends are reached from one start, or a path has more than 2,000 branches; the broken paths that were

@@ -1,16 +1,21 @@
 //! The recursion of an unfolding: a pair by its kinds, the cases of a read, and what kills a case.
-ghost use Rattle.std.specs.Prelude.{◌≡◌, IfOk, IfSome, None, OnOk, Some, slice_get};
+ghost use Rattle.std.specs.Prelude.{◌≡◌, ◌+◌, IfErr, IfOk, IfSome, None, OnOk, Some, is_some, length, slice_get, true};
 ghost use Rattle.ac_paths.specs.Going.{model_of};
+ghost use Rattle.ac_syntax.specs.declared.tree.Order.TheVariants.{Keep};
+ghost use Rattle.ac_unfold.specs.Causes.{StopsAt};
 ghost use Rattle.ac_unfold.specs.Cutting.{AreMadeOn, CutsMore, IsAssumed, IsKillThere, IsStep};
 ghost use Rattle.ac_unfold.specs.Making.{judge_of, IsMade, IsMadeIn};
+ghost use Rattle.ac_unfold.specs.Missing.{FindsElse};
+ghost use Rattle.ac_unfold.specs.Passing.{AreKillRows, GoesWithin, IsKillRow, IsOutsideKills, SidesMiss};
 ghost use Rattle.ac_unfold.specs.Searching.{AddsBroken, IsAt, IsInCase, IsKindThere, IsPast};
+ghost use Rattle.ac_unfold.specs.Stopping.{MayStep};
 ghost use Rattle.ac_unfold.specs.declared.kinds.Next.TheVariants as kind;
 
 use crate::asking::{Opened, can_stand, open_question, stands_in};
 use crate::casing::assumes_case;
 use crate::claiming::{at_claim, claim_of};
 use crate::course::Course;
-use crate::ends::{Search, mismatch, refuted, stand, too_wide};
+use crate::ends::{Search, mismatch, refuted, stand};
 use crate::finding::Finds;
 use crate::killing::killed;
 use crate::kinds::{Next, flow_of, next_of};
@@ -41,8 +46,10 @@ pub(crate) fn visit(
     finds: &mut Finds,
     room: usize,
 ) -> Result<Option<Plan>, UnfoldStop>
+    ensures missing { IfOk result (λ made. FindsElse search.now made finds.old finds.new) }
     ensures made { IfOk result (λ made. IfSome made (IsMade search.now node.placing node.question)) }
     ensures broken { OnOk result (AddsBroken search.now (IsAt search.now node.trail node.question) finds.old finds.new) }
+    ensures causes { IfErr result (StopsAt search.now.budget) }
 {
     if room == 0 {
         return Err(finds.stop(alloc));
@@ -70,14 +77,16 @@ fn calls(
     room: usize,
 ) -> Result<Option<Plan>, UnfoldStop>
     requires { IsKindThere search.now node.now.question (kind.Calls order) }
-    ensures made { IfOk result (λ made. IfSome made (IsMade search.now node.now.placing node.now.question)) }
+    ensures missing { IfOk result (λ made. FindsElse search.now made finds.old finds.new) }
+    ensures made { IfOk result (λ made. IfSome made (λ t. MayStep search.now node.now.question order → IsMade search.now node.now.placing node.now.question t)) }
     ensures broken { OnOk result (AddsBroken search.now (IsPast search.now node.now.trail node.now.question) finds.old finds.new) }
+    ensures causes { IfErr result (StopsAt search.now.budget) }
 {
     if room == 0 {
         return Err(finds.stop(alloc));
     }
     let Some(found) = branches(alloc, &search.setting.programs, order, &node.question)? else {
-        return Err(too_wide(alloc, node));
+        return Err(search.too_wide(alloc, node));
     };
     let mut cases = Vec::new(alloc);
     for branch in found.into_vec() {
@@ -101,7 +110,8 @@ fn calls(
 
 /// The plan of a step, where plans are made.
 fn gone(alloc: Global, search: &Search<'_>, order: Order, cases: Vec<Plan>) -> Option<Plan>
-    ensures { IfSome result (IsStep order cases.items) }
+    ensures there { search.now.making ≡ true → is_some result ≡ true }
+    ensures made { IfSome result (IsStep order cases.items) }
 {
     if search.making {
         Some(step_plan(alloc, order, cases))
@@ -121,15 +131,17 @@ fn read(
     room: usize,
 ) -> Result<Option<Plan>, UnfoldStop>
     requires { IsKindThere search.now node.now.question (kind.Read side) }
-    ensures made { IfOk result (λ made. IfSome made (IsMade search.now node.now.placing node.now.question)) }
+    ensures missing { IfOk result (λ made. FindsElse search.now made finds.old finds.new) }
+    ensures made { IfOk result (λ made. IfSome made (λ t. MayStep search.now node.now.question Keep → IsMade search.now node.now.placing node.now.question t)) }
     ensures broken { OnOk result (AddsBroken search.now (IsPast search.now node.now.trail node.now.question) finds.old finds.new) }
+    ensures causes { IfErr result (StopsAt search.now.budget) }
 {
     if room == 0 {
         return Err(finds.stop(alloc));
     }
     let programs = &search.setting.programs;
     let Some(found) = branches(alloc, programs, Order::Keep, &node.question)? else {
-        return Err(too_wide(alloc, node));
+        return Err(search.too_wide(alloc, node));
     };
     let Some(flow) = flow_of(search.setting, &node.question, side) else {
         return Err(UnfoldStop::Memory(AllocError));
@@ -204,8 +216,10 @@ fn enter(
     finds: &mut Finds,
     room: usize,
 ) -> Result<Option<Plan>, UnfoldStop>
+    ensures missing { IfOk result (λ made. FindsElse search.now made finds.old finds.new) }
     ensures made { IfOk result (λ made. IfSome made (IsMadeIn search.now case.now node.placing node.question)) }
     ensures broken { OnOk result (AddsBroken search.now (IsInCase search.now case.now node.trail node.question) finds.old finds.new) }
+    ensures causes { IfErr result (StopsAt search.now.budget) }
 {
     if room == 0 {
         return Err(finds.stop(alloc));
@@ -232,6 +246,7 @@ fn remainders(
 ) -> Result<Option<Plan>, UnfoldStop>
     ensures none { IfOk result (λ made. made ≡ None) }
     ensures broken { OnOk result (AddsBroken search.now (IsInCase search.now case.now node.now.trail node.now.question) finds.old finds.new) }
+    ensures causes { IfErr result (StopsAt search.now.budget) }
 {
     if room == 0 {
         return Err(finds.stop(alloc));
@@ -261,7 +276,10 @@ fn kills(
     finds: &mut Finds,
     room: usize,
 ) -> Result<Option<Plan>, UnfoldStop>
-    ensures { IfOk result (λ made. IfSome made (IsMadeIn search.now case.now node.placing node.question)) }
+    ensures broken { OnOk result (AddsBroken search.now (IsOutsideKills search.now case.now number node.trail node.question) finds.old finds.new) }
+    ensures missing { IfOk result (λ made. FindsElse search.now made finds.old finds.new) }
+    ensures made { IfOk result (λ made. IfSome made (IsMadeIn search.now case.now node.placing node.question)) }
+    ensures causes { IfErr result (StopsAt search.now.budget) }
 {
     if room == 0 {
         return Err(finds.stop(alloc));
@@ -305,7 +323,10 @@ fn survivor(
     finds: &mut Finds,
     room: usize,
 ) -> Result<Option<Plan>, UnfoldStop>
-    ensures { IfOk result (λ made. IfSome made (IsMade search.now node.placing node.question)) }
+    ensures broken { OnOk result (AddsBroken search.now (IsOutsideKills search.now case.now (length case.now.kills) node.trail node.question) finds.old finds.new) }
+    ensures missing { IfOk result (λ made. FindsElse search.now made finds.old finds.new) }
+    ensures made { IfOk result (λ made. IfSome made (IsMade search.now node.placing node.question)) }
+    ensures causes { IfErr result (StopsAt search.now.budget) }
 {
     if room == 0 {
         return Err(finds.stop(alloc));
@@ -329,7 +350,11 @@ fn cut(
     finds: &mut Finds,
     room: usize,
 ) -> Result<Option<Plan>, UnfoldStop>
-    ensures { IfOk result (λ made. IfSome made (λ t. IsKillThere search.now node.question case.now kill.now rows.now → IsMadeIn search.now case.now node.placing node.question t)) }
+    requires { AreKillRows search.now case.now number node.question rows.now }
+    ensures broken { OnOk result (AddsBroken search.now (IsOutsideKills search.now case.now number node.trail node.question) finds.old finds.new) }
+    ensures missing { IfOk result (λ made. FindsElse search.now made finds.old finds.new) }
+    ensures made { IfOk result (λ made. IfSome made (λ t. IsKillThere search.now node.question case.now kill.now rows.now → IsMadeIn search.now case.now node.placing node.question t)) }
+    ensures causes { IfErr result (StopsAt search.now.budget) }
 {
     if room == 0 {
         return Err(finds.stop(alloc));
@@ -362,7 +387,12 @@ fn cut_row(
     finds: &mut Finds,
     room: usize,
 ) -> Result<Option<Course>, UnfoldStop>
-    ensures { IfOk result (λ made. IfSome made (CutsMore search.now case.now course row.now)) }
+    requires { IsKillRow search.now case.now number course.node.question row.now }
+    ensures broken { OnOk result (AddsBroken search.now (IsOutsideKills search.now case.now number course.node.trail course.node.question) finds.old finds.new) }
+    ensures missing { IfOk result (λ made. FindsElse search.now made finds.old finds.new) }
+    ensures within { IfOk result (λ made. IfSome made (λ next. GoesWithin course.node next.node)) }
+    ensures made { IfOk result (λ made. IfSome made (CutsMore search.now case.now course row.now)) }
+    ensures causes { IfErr result (StopsAt search.now.budget) }
 {
     if room == 0 {
         return Err(finds.stop(alloc));
@@ -373,10 +403,10 @@ fn cut_row(
     }
     let can = can_stand(alloc, row, course.node.question.conj.columns)?;
     if !can {
-        return Err(too_wide(alloc, &course.node));
+        return Err(search.too_wide(alloc, &course.node));
     }
     let Some(parts) = parts_of(alloc, row, course.node.question.conj.columns)? else {
-        return Err(too_wide(alloc, &course.node));
+        return Err(search.too_wide(alloc, &course.node));
     };
     let parted = parts.outside.as_slice();
     let made = outsides(
@@ -410,7 +440,11 @@ fn outsides(
     finds: &mut Finds,
     room: usize,
 ) -> Result<Option<Vec<Plan>>, UnfoldStop>
-    ensures { IfOk result (λ made. IfSome made (λ plans. AreMadeOn search.now case.now node.now.placing node.now.question parts.now plans.items)) }
+    requires { SidesMiss search.now case.now number node.now.question parts.now }
+    ensures broken { OnOk result (AddsBroken search.now (IsOutsideKills search.now case.now number node.now.trail node.now.question) finds.old finds.new) }
+    ensures missing { IfOk result (λ made. FindsElse search.now made finds.old finds.new) }
+    ensures made { IfOk result (λ made. IfSome made (λ plans. AreMadeOn search.now case.now node.now.placing node.now.question parts.now plans.items)) }
+    ensures causes { IfErr result (StopsAt search.now.budget) }
 {
     if room == 0 {
         return Err(finds.stop(alloc));
@@ -441,7 +475,10 @@ fn outside_of(
     finds: &mut Finds,
     room: usize,
 ) -> Result<Option<Plan>, UnfoldStop>
-    ensures { IfOk result (λ made. IfSome made (IsMadeIn search.now case.now node.placing node.question)) }
+    ensures broken { OnOk result (AddsBroken search.now (IsOutsideKills search.now case.now (number + 1) node.trail node.question) finds.old finds.new) }
+    ensures missing { IfOk result (λ made. FindsElse search.now made finds.old finds.new) }
+    ensures made { IfOk result (λ made. IfSome made (IsMadeIn search.now case.now node.placing node.question)) }
+    ensures causes { IfErr result (StopsAt search.now.budget) }
 {
     if room == 0 {
         return Err(finds.stop(alloc));

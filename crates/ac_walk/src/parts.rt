@@ -6,7 +6,7 @@ use ac_claims::types::{Claim, ClaimTree};
 use ac_items::Items;
 use ac_syntax::tree::{Order, Site};
 use ac_unfold::claim_trees;
-use ac_unfold::types::Setting;
+use ac_unfold::types::{Planned, Setting};
 use std::alloc::{AllocError, Global};
 
 /// The claims of an output and of the recurrence pairs that it reaches, the output's first, and their plans.
@@ -51,8 +51,8 @@ fn push_plans(
     trees: &mut Vec<ClaimTree>,
 ) -> Result<(), Stop> {
     match claim_trees(alloc, setting, number, start, base, claims, order) {
-        Ok(Some(more)) => Ok(push_trees(trees, more)?),
-        Ok(None) => Err(astray(alloc)),
+        Ok(Planned::Plans(more)) => Ok(push_trees(trees, more)?),
+        Ok(Planned::Broken(_)) => Err(astray(alloc)),
         Err(stop) => Err(of_unfolding(stop)),
     }
 }

@@ -1,8 +1,8 @@
-use Rattle.std.proofs.Common.{rules, ◌≡◌, ◌<◌, ◌≤◌, ◌++◌, [], ◌∷◌, ℤ, pos, ◌-ℤ◌, ◌<ℤ◌, ◌≤ℤ◌, arith}
+use Rattle.std.proofs.Common.{rules, ◌≡◌, ◌≤◌, ◌++◌, [], ◌∷◌, pos, ◌-ℤ◌, ◌<ℤ◌, ◌≤ℤ◌}
 use Rattle.ac_forms.specs.Fits.{Fits}
 use Rattle.ac_cert.specs.Rules.{class_row}
 use Rattle.ac_graft.specs.Sides.{one_row}
-use Rattle.ac_graft.proofs.Classes.{Classes, classes_more, classes_same}
+use Rattle.ac_graft.proofs.Classes.{classes_more, classes_same}
 use Rattle.ac_graft.proofs.branching.other_classes.Goals as goal
 use Rattle.ac_graft.proofs.branching.other_classes.Goals.{then-from-modulus+in_ok-class_part+in_ok-push, else-from-modulus}
 

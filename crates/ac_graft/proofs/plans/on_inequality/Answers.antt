@@ -1,8 +1,14 @@
 use Rattle.ac_graft.specs.Placings.{with_places}
 use Rattle.ac_graft.proofs.Serving.{for_ge, popped}
+use Rattle.ac_graft.proofs.Branched.{last_branches}
 use Rattle.ac_graft.proofs.plans.on_inequality.Goals as goal
 
-pub returns : goal.returns
-returns c = λ places.
+pub returns-clause-serves : goal.returns-clause-serves
+returns-clause-serves c = λ places.
     for_ge (with_places c.args.placing.now places) c.args.form.now c.in_ok-form.form c.args.inside c.in-Some.below c.in_ok-made.made c.args.outside.items c.pop.new.self.items c.in_ok-form.ensures
-    (popped c.args.outside.items c.pop.new.self.items c.pop.result c.in-Some.below c.pop.ensures.items c.in-Some.is) c.in_ok-made.ensures
+    (popped c.args.outside.items c.pop.new.self.items c.pop.result c.in-Some.below c.pop.ensures.items c.in-Some.is) c.in_ok-made.ensures.accepted
+
+pub returns-clause-branches : goal.returns-clause-branches
+returns-clause-branches c =
+    last_branches c.args.inside c.in-Some.below c.args.outside.items c.pop.new.self.items c.in_ok-made.made.next
+    (popped c.args.outside.items c.pop.new.self.items c.pop.result c.in-Some.below c.pop.ensures.items c.in-Some.is) c.in_ok-made.ensures.branches

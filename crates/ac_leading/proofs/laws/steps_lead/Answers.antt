@@ -1,6 +1,6 @@
 use Rattle.ac_leading.proofs.Calling.{calls_lead}
 use Rattle.ac_leading.proofs.Reading.{reads_lead}
-use Rattle.ac_leading.proofs.Surviving.{survivors_lead}
+use Rattle.ac_leading.proofs.Surviving.{survivors_are_left, survivors_lead}
 use Rattle.ac_leading.proofs.laws.steps_lead.Goals as goal
 
 pub returns-clause-calls : goal.returns-clause-calls
@@ -11,3 +11,6 @@ returns-clause-reads c = reads_lead
 
 pub returns-clause-survivors : goal.returns-clause-survivors
 returns-clause-survivors c = survivors_lead
+
+pub returns-clause-left : goal.returns-clause-left
+returns-clause-left c = survivors_are_left

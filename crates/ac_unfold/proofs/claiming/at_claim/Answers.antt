@@ -5,10 +5,10 @@ use Rattle.ac_forms.specs.Renaming.{rows_renaming}
 use Rattle.ac_forms.specs.declared.row.Row.{Row}
 use Rattle.ac_paths.specs.Columns.{base, columns_of}
 use Rattle.ac_claims.specs.declared.types.PlanNext.TheVariants.{Hit}
-use Rattle.ac_unfold.specs.Making.{judge_of, EndsWhere}
+use Rattle.ac_unfold.specs.Making.{judge_of, IsEndFor}
 use Rattle.ac_unfold.proofs.Matching.{claim_ends}
 use Rattle.ac_unfold.specs.Searching.{Adds, IsPathBreaking}
-use Rattle.ac_unfold.proofs.Coming.{claim_broken, on_ok_if}
+use Rattle.ac_unfold.proofs.Coming.{claim_broken, on_ok}
 use Rattle.ac_unfold.proofs.claiming.at_claim.Goals as goal
 
 below : (a b : ℕ) → ltb a b ≡ true → a < b
@@ -21,10 +21,10 @@ stand-requires c =
     let columns : c.as_slice-2.result.now ≡ base (judge_of s).params ++ (columns_of q.left ++ columns_of q.right) =
     c.as_slice-2.ensures ∙ c.in_ok-columns.ensures ∙ ap (λ (n : ℕ). base n ++ (columns_of q.left ++ columns_of q.right)) c.params-params.ensures in
     let rows : Some c.in_ok-rows.rows ≡ rows_renaming (base (judge_of s).params ++ (columns_of q.left ++ columns_of q.right)) c.in-Some.claim.now.rows =
-    c.in_ok-rows.ensures ∙ ap (λ ks. rows_renaming ks c.as_slice.result.now) columns ∙ ap (rows_renaming (base (judge_of s).params ++ (columns_of q.left ++ columns_of q.right))) c.as_slice.ensures in
+    c.in_ok-rows.ensures.rows ∙ ap (λ ks. rows_renaming ks c.as_slice.result.now) columns ∙ ap (rows_renaming (base (judge_of s).params ++ (columns_of q.left ++ columns_of q.right))) c.as_slice.ensures in
     let within : c.args.number < length s.claims.now = below c.args.number (length s.claims.now) (sym c.in-Some.ensures.lookup.0) in
-    subst (λ (n : ℕ). EndsWhere s q c.as_slice-3.result.now (Hit n)) (sym c.in_ok-column_after.ensures)
-    (subst (λ (xs : List Row). EndsWhere s q xs (Hit (s.base + c.args.number))) (sym c.as_slice-3.ensures) (claim_ends s q c.args.number c.in-Some.claim.now c.in_ok-rows.rows c.requires (slice_get_read s.claims.now (length s.claims.now) c.args.number c.in-Some.claim.now refl within c.in-Some.ensures.lookup.1) rows))
+    subst (λ (n : ℕ). IsEndFor s q c.as_slice-3.result.now (Hit n)) (sym c.in_ok-column_after.ensures)
+    (subst (λ (xs : List Row). IsEndFor s q xs (Hit (s.base + c.args.number))) (sym c.as_slice-3.ensures) (claim_ends s q c.args.number c.in-Some.claim.now c.in_ok-rows.rows c.requires (slice_get_read s.claims.now (length s.claims.now) c.args.number c.in-Some.claim.now refl within c.in-Some.ensures.lookup.1) rows))
 
 pub returns-clause-broken : goal.returns-clause-broken
 returns-clause-broken c =
@@ -34,9 +34,9 @@ returns-clause-broken c =
     let columns : c.as_slice-2.result.now ≡ base (judge_of s).params ++ (columns_of q.left ++ columns_of q.right) =
     c.as_slice-2.ensures ∙ c.in_ok-columns.ensures ∙ ap (λ (n : ℕ). base n ++ (columns_of q.left ++ columns_of q.right)) c.params-params.ensures in
     let rows : Some c.in_ok-rows.rows ≡ rows_renaming (base (judge_of s).params ++ (columns_of q.left ++ columns_of q.right)) c.in-Some.claim.now.rows =
-    c.in_ok-rows.ensures ∙ ap (λ ks. rows_renaming ks c.as_slice.result.now) columns ∙ ap (rows_renaming (base (judge_of s).params ++ (columns_of q.left ++ columns_of q.right))) c.as_slice.ensures in
+    c.in_ok-rows.ensures.rows ∙ ap (λ ks. rows_renaming ks c.as_slice.result.now) columns ∙ ap (rows_renaming (base (judge_of s).params ++ (columns_of q.left ++ columns_of q.right))) c.as_slice.ensures in
     let within : c.args.number < length s.claims.now = below c.args.number (length s.claims.now) (sym c.in-Some.ensures.lookup.0) in
     let there = slice_get_read s.claims.now (length s.claims.now) c.args.number c.in-Some.claim.now refl within c.in-Some.ensures.lookup.1 in
-    on_ok_if c.stand.result _ (Adds (IsPathBreaking n c.args.node.trail q.conj c.as_slice-3.result.now) c.args.finds.now c.stand.new.finds) _
+    on_ok c.stand.result (Adds (IsPathBreaking n c.args.node.trail q.conj c.as_slice-3.result.now) c.args.finds.now c.stand.new.finds) _
     (λ h. claim_broken s c.args.node.trail q c.args.number c.in-Some.claim.now c.in_ok-rows.rows c.args.finds.now c.stand.new.finds c.requires there rows
-    (λ off. subst (λ (xs : List Row). Adds (IsPathBreaking n c.args.node.trail q.conj xs) c.args.finds.now c.stand.new.finds) c.as_slice-3.ensures (h off))) c.stand.ensures.found
+    (subst (λ (xs : List Row). Adds (IsPathBreaking n c.args.node.trail q.conj xs) c.args.finds.now c.stand.new.finds) c.as_slice-3.ensures h)) c.stand.ensures.found

@@ -1,18 +1,18 @@
-use Rattle.std.proofs.Common.{[], ◌∷◌, ◌++◌, ◌+◌, List, refl, sym, ap, subst, take, drop}
+use Rattle.std.proofs.Common.{[], ◌∷◌, ◌++◌, ◌+◌, List, arith, refl, sym, ap, subst, take, drop}
 use Rattle.std.proofs.lemmas.List.{take_all, take-append-drop}
 use Rattle.ac_claims.specs.declared.types.Plan.{Plan}
 use Rattle.ac_paths.specs.declared.path.Path.{Path}
 use Rattle.ac_graft.specs.declared.branching.Part.{Part}
 use Rattle.ac_unfold.specs.Making.{judge_of, IsRefuted}
 use Rattle.ac_unfold.specs.Standing.{AreRefutedOn}
-use Rattle.ac_unfold.proofs.Adding.{adds_none, beside_all, beside_some}
+use Rattle.ac_unfold.proofs.Adding.{adds_kept, adds_none, beside_all, beside_some}
 use Rattle.ac_unfold.proofs.Results.{at_some, next_item, refuted_more, refuted_none, refuted_off}
 use Rattle.ac_unfold.proofs.ends.refute_parts.Goals as goal
 
 pub loop-part-init : goal.loop-part-init
 loop-part-init c = record {
   refuted = subst (λ (ts : List Plan). AreRefutedOn c.args.search.now c.args.node.now.placing c.args.node.now.question [] ts) (sym c.new-plans.ensures.items) (refuted_none c.args.search.now c.args.node.now.placing c.args.node.now.question);
-  found = λ _. adds_none _ _ _ refl;
+  found = adds_none _ _ _ refl;
 }
 
 pub loop-part-preserved-in-Some : goal.loop-part-preserved-in-Some
@@ -29,7 +29,7 @@ loop-part-preserved-in-Some c =
     record {
       refuted = subst (λ (xs : List Part). AreRefutedOn c.args.search.now s q xs c.push.new.self.items) (sym more)
           (subst (λ (ts : List Plan). AreRefutedOn c.args.search.now s q (take i ps ++ p ∷ []) ts) (sym c.in_ok-push-in-Some.ensures.items) (refuted_more c.args.search.now s q (take i ps) c.loop-part.plans.items p b t c.loop-part.invariant.refuted c.in_ok-beside.ensures.question c.in_ok-beside.ensures.placing r));
-      found = λ off. beside_some (judge_of c.args.search.now).params c.args.node.now.trail b.trail q.conj b.question.conj (take i ps) (take (i + 1) ps) p _ _ _ (c.loop-part.invariant.found off) c.in_ok-beside.ensures.trail (ap (λ (x : Path). x.conj) c.in_ok-beside.ensures.question) more (c.in_ok-plan.ensures.found off);
+      found = beside_some (judge_of c.args.search.now).params c.args.node.now.trail b.trail q.conj b.question.conj (take i ps) (take (i + 1) ps) p _ _ _ c.loop-part.invariant.found c.in_ok-beside.ensures.trail (ap (λ (x : Path). x.conj) c.in_ok-beside.ensures.question) more c.in_ok-plan.ensures.found;
     }
 
 pub loop-part-preserved : goal.loop-part-preserved
@@ -41,11 +41,11 @@ loop-part-preserved c =
     let b = c.in_ok-beside.beside in
     record {
       refuted = refuted_off c.args.search.now c.args.node.now.placing c.args.node.now.question (take (c.loop-part.part-index + 1) c.args.outside.now) c.loop-part.plans.items c.if-search.false;
-      found = λ off. beside_some (judge_of c.args.search.now).params c.args.node.now.trail b.trail q.conj b.question.conj (take i ps) (take (i + 1) ps) p _ _ _ (c.loop-part.invariant.found off) c.in_ok-beside.ensures.trail (ap (λ (x : Path). x.conj) c.in_ok-beside.ensures.question) (next_item ps i p c.loop-part-test.true c.part-item.is) (c.in_ok-plan.ensures.found off);
+      found = beside_some (judge_of c.args.search.now).params c.args.node.now.trail b.trail q.conj b.question.conj (take i ps) (take (i + 1) ps) p _ _ _ c.loop-part.invariant.found c.in_ok-beside.ensures.trail (ap (λ (x : Path). x.conj) c.in_ok-beside.ensures.question) (next_item ps i p c.loop-part-test.true c.part-item.is) c.in_ok-plan.ensures.found;
     }
 
 pub returns-then-search-clause-found : goal.returns-then-search-clause-found
-returns-then-search-clause-found c = λ off.
+returns-then-search-clause-found c =
     let q = c.args.node.now.question in
     let ps = c.args.outside.now in
     let p = c.part-item.result in
@@ -53,13 +53,19 @@ returns-then-search-clause-found c = λ off.
     let b = c.in_ok-beside.beside in
     let n = (judge_of c.args.search.now).params in
     beside_all n c.args.node.now.trail q.conj (take (i + 1) ps) ps (drop (i + 1) ps) _ _ (sym (take-append-drop (i + 1) ps))
-    (beside_some n c.args.node.now.trail b.trail q.conj b.question.conj (take i ps) (take (i + 1) ps) p _ _ _ (c.loop-part.invariant.found off) c.in_ok-beside.ensures.trail (ap (λ (x : Path). x.conj) c.in_ok-beside.ensures.question) (next_item ps i p c.loop-part-test.true c.part-item.is) (c.in_ok-plan.ensures.found off))
+    (beside_some n c.args.node.now.trail b.trail q.conj b.question.conj (take i ps) (take (i + 1) ps) p _ _ _ c.loop-part.invariant.found c.in_ok-beside.ensures.trail (ap (λ (x : Path). x.conj) c.in_ok-beside.ensures.question) (next_item ps i p c.loop-part-test.true c.part-item.is) c.in_ok-plan.ensures.found)
 
 pub returns-clause-closed : goal.returns-clause-closed
 returns-clause-closed c = subst (λ (xs : List Part). AreRefutedOn c.args.search.now c.args.node.now.placing c.args.node.now.question xs c.loop-part.plans.items) (take_all c.loop-part.part-index c.args.outside.now c.loop-part-test.false) c.loop-part.invariant.refuted
 
 pub returns-clause-found : goal.returns-clause-found
-returns-clause-found c = λ off.
+returns-clause-found c =
     let ps = c.args.outside.now in
     let i = c.loop-part.part-index in
-    beside_all (judge_of c.args.search.now).params c.args.node.now.trail c.args.node.now.question.conj (take i ps) ps (drop i ps) _ _ (sym (take-append-drop i ps)) (c.loop-part.invariant.found off)
+    beside_all (judge_of c.args.search.now).params c.args.node.now.trail c.args.node.now.question.conj (take i ps) ps (drop i ps) _ _ (sym (take-append-drop i ps)) c.loop-part.invariant.found
+
+pub returns-then-search-clause-missing : goal.returns-then-search-clause-missing
+returns-then-search-clause-missing c = λ on.
+    let k = adds_kept _ _ _ c.loop-part.invariant.found in
+    let more = c.in_ok-plan.ensures.missing on c.in-None.is in
+    omega (arith, k, more)

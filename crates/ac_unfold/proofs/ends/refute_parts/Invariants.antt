@@ -1,4 +1,4 @@
-use Rattle.std.proofs.Common.{◌≡◌, false, take}
+use Rattle.std.proofs.Common.{take}
 use Rattle.ac_unfold.specs.Making.{judge_of}
 use Rattle.ac_unfold.specs.Searching.{Adds, IsPathBeside}
 use Rattle.ac_unfold.specs.Standing.{AreRefutedOn}
@@ -7,5 +7,5 @@ use Rattle.ac_unfold.proofs.ends.refute_parts.Given as goal
 abbrev pub invariant-loop-part : goal.invariant-loop-part
 invariant-loop-part l = record {
   refuted : AreRefutedOn l.search l.node.placing l.node.question (take l.part-index l.outside) l.plans.items;
-  found : l.search.making ≡ false → Adds (IsPathBeside (judge_of l.search).params l.node.trail l.node.question.conj (take l.part-index l.outside)) l.fn.finds l.finds;
+  found : Adds (IsPathBeside (judge_of l.search).params l.node.trail l.node.question.conj (take l.part-index l.outside)) l.fn.finds l.finds;
 }

@@ -17,15 +17,15 @@ returns-in_ok-next-in-Refuted-clause-stood c =
     c.in_ok-next-in-Refuted.ensures.opened c.in_ok-next-in-Refuted.ensures.question c.in_ok-next-in-Refuted.ensures.placing c.requires
 
 pub returns-in-Broken-clause-found : goal.returns-in-Broken-clause-found
-returns-in-Broken-clause-found c = λ off.
+returns-in-Broken-clause-found c =
     let course = c.args.course in
     let n = course.node.question.conj.columns in
     let sides = subst (λ (o : Option Parts). AreSides n c.args.row.now o) c.in-Some.is (c.in_ok-parts.ensures c.requires.over) in
-    breaking_beside (judge_of c.args.search.now).params course.node.trail course.node.question.conj c.args.row.now c.as_slice.result.now _ _ c.requires.over (c.as_slice.ensures ∙ ap (λ (x : Parts). x.outside) sides.1) (c.in_ok-closed.ensures.found off)
+    breaking_beside (judge_of c.args.search.now).params course.node.trail course.node.question.conj c.args.row.now c.as_slice.result.now _ _ c.requires.over (c.as_slice.ensures ∙ ap (λ (x : Parts). x.outside) sides.1) c.in_ok-closed.ensures.found
 
 pub returns-in_ok-next-in-Refuted-clause-found : goal.returns-in_ok-next-in-Refuted-clause-found
-returns-in_ok-next-in-Refuted-clause-found c = λ off.
+returns-in_ok-next-in-Refuted-clause-found c =
     let course = c.args.course in
     let n = course.node.question.conj.columns in
     let sides = subst (λ (o : Option Parts). AreSides n c.args.row.now o) c.in-Some.is (c.in_ok-parts.ensures c.requires.over) in
-    breaking_beside (judge_of c.args.search.now).params course.node.trail course.node.question.conj c.args.row.now c.as_slice.result.now _ _ c.requires.over (c.as_slice.ensures ∙ ap (λ (x : Parts). x.outside) sides.1) (c.in_ok-closed.ensures.found off)
+    breaking_beside (judge_of c.args.search.now).params course.node.trail course.node.question.conj c.args.row.now c.as_slice.result.now _ _ c.requires.over (c.as_slice.ensures ∙ ap (λ (x : Parts). x.outside) sides.1) c.in_ok-closed.ensures.found

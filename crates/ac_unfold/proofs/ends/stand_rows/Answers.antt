@@ -1,14 +1,15 @@
-use Rattle.std.proofs.Common.{◌+◌, List, sym, ap, ◌∙◌, subst, take, drop}
+use Rattle.std.proofs.Common.{◌+◌, List, arith, sym, ap, ◌∙◌, subst, take, drop}
 use Rattle.std.proofs.lemmas.List.{take_all, take-append-drop}
 use Rattle.ac_forms.specs.declared.row.Row.{Row}
 use Rattle.ac_paths.specs.declared.path.Path.{Path}
 use Rattle.ac_unfold.specs.Making.{judge_of}
+use Rattle.ac_unfold.specs.Missing.{FindsStood}
 use Rattle.ac_unfold.specs.Searching.{KeepsNode}
 use Rattle.ac_unfold.specs.Standing.{AreKept, IsStood}
 use Rattle.ac_unfold.specs.declared.ends.Stood.{Stood}
 use Rattle.ac_unfold.specs.declared.ends.Stood.TheVariants as stood
 use Rattle.ac_unfold.specs.declared.node.Node.{Node}
-use Rattle.ac_unfold.proofs.Adding.{adds_none}
+use Rattle.ac_unfold.proofs.Adding.{adds_kept, adds_none}
 use Rattle.ac_unfold.proofs.Failing.{breaking_all, breaking_more}
 use Rattle.ac_unfold.proofs.Results.{ended_made, kept_more, kept_none, next_item}
 use Rattle.ac_unfold.proofs.ends.stand_rows.Goals as goal
@@ -18,7 +19,7 @@ loop-row-init c = record {
   kept = kept_none c.args.search.now c.args.node c.new-course.result c.new-course.ensures.node c.new-course.ensures.branches;
   question = ap (λ (n : Node). n.question) c.new-course.ensures.node;
   trail = ap (λ (n : Node). n.trail) c.new-course.ensures.node;
-  found = λ off. adds_none _ _ _ c.in_ok-count.ensures;
+  found = adds_none _ _ _ c.in_ok-count.ensures.same;
 }
 
 pub loop-row-preserved : goal.loop-row-preserved
@@ -33,8 +34,8 @@ loop-row-preserved c =
           (kept_more c.args.search.now c.args.node c.loop-row.course c.in-On.next (take i rows) row c.loop-row.invariant.kept (subst (λ (x : Stood). IsStood c.args.search.now c.loop-row.course row x) c.in-On.is c.in_ok-stood.ensures.stood));
       question = same.0 ∙ c.loop-row.invariant.question;
       trail = same.1 ∙ c.loop-row.invariant.trail;
-      found = λ off. breaking_more (judge_of c.args.search.now).params c.args.node.trail c.loop-row.course.node.trail c.args.node.question.conj c.loop-row.course.node.question.conj (take i rows) (take (i + 1) rows) row _ _ _ c.loop-row.invariant.trail
-          (ap (λ (x : Path). x.conj) c.loop-row.invariant.question) more (c.loop-row.invariant.found off) (c.in_ok-stood.ensures.found off);
+      found = breaking_more (judge_of c.args.search.now).params c.args.node.trail c.loop-row.course.node.trail c.args.node.question.conj c.loop-row.course.node.question.conj (take i rows) (take (i + 1) rows) row _ _ _ c.loop-row.invariant.trail
+          (ap (λ (x : Path). x.conj) c.loop-row.invariant.question) more c.loop-row.invariant.found c.in_ok-stood.ensures.found;
     }
 
 pub returns-in-Ended-clause-stood : goal.returns-in-Ended-clause-stood
@@ -43,19 +44,26 @@ returns-in-Ended-clause-stood c =
     ended_made c.args.search.now c.args.node c.loop-row.course (take c.loop-row.row-index rows) c.in-Ended.plan c.loop-row.invariant.kept (subst (λ (x : Stood). IsStood c.args.search.now c.loop-row.course c.row-item.result x) c.in-Ended.is c.in_ok-stood.ensures.stood)
 
 pub returns-in-Ended-clause-found : goal.returns-in-Ended-clause-found
-returns-in-Ended-clause-found c = λ off.
+returns-in-Ended-clause-found c =
     let rows = c.args.rows.now in
     let i = c.loop-row.row-index in
     let n = (judge_of c.args.search.now).params in
     breaking_all n c.args.node.trail c.args.node.question.conj (take (i + 1) rows) rows (drop (i + 1) rows) _ _ (sym (take-append-drop (i + 1) rows))
     (breaking_more n c.args.node.trail c.loop-row.course.node.trail c.args.node.question.conj c.loop-row.course.node.question.conj (take i rows) (take (i + 1) rows) c.row-item.result _ _ _ c.loop-row.invariant.trail
-    (ap (λ (x : Path). x.conj) c.loop-row.invariant.question) (next_item rows i c.row-item.result c.loop-row-test.true c.row-item.is) (c.loop-row.invariant.found off) (c.in_ok-stood.ensures.found off))
+    (ap (λ (x : Path). x.conj) c.loop-row.invariant.question) (next_item rows i c.row-item.result c.loop-row-test.true c.row-item.is) c.loop-row.invariant.found c.in_ok-stood.ensures.found)
 
 pub returns-clause-stood : goal.returns-clause-stood
 returns-clause-stood c = subst (λ (xs : List Row). AreKept c.args.search.now c.args.node c.loop-row.course xs) (take_all c.loop-row.row-index c.args.rows.now c.loop-row-test.false) c.loop-row.invariant.kept
 
 pub returns-clause-found : goal.returns-clause-found
-returns-clause-found c = λ off.
+returns-clause-found c =
     let rows = c.args.rows.now in
     let i = c.loop-row.row-index in
-    breaking_all (judge_of c.args.search.now).params c.args.node.trail c.args.node.question.conj (take i rows) rows (drop i rows) _ _ (sym (take-append-drop i rows)) (c.loop-row.invariant.found off)
+    breaking_all (judge_of c.args.search.now).params c.args.node.trail c.args.node.question.conj (take i rows) rows (drop i rows) _ _ (sym (take-append-drop i rows)) c.loop-row.invariant.found
+
+pub returns-in-Ended-clause-missing : goal.returns-in-Ended-clause-missing
+returns-in-Ended-clause-missing c = λ on e.
+    let k = adds_kept _ _ _ c.loop-row.invariant.found in
+    let h : FindsStood c.args.search.now (stood.Ended c.in-Ended.plan) c.loop-row.finds c.stand_row.new.finds = subst (λ (x : Stood). FindsStood c.args.search.now x c.loop-row.finds c.stand_row.new.finds) c.in-Ended.is c.in_ok-stood.ensures.missing in
+    let more = h on e in
+    omega (arith, k, more)

@@ -14,10 +14,10 @@ pub returns-clause-next : goal.returns-clause-next
 returns-clause-next c =
     let q = c.args.node.now.question in
     initial_ends c.args.search.now q c.args.cell.now c.args.other.now c.in_ok-rows_or.field-0 c.requires.left c.requires.right c.if-cell-other.false (sym c.is_input.ensures ∙ c.if-not-is_input.false)
-    (sym c.in_ok-rows_or.ensures ∙ c.in_ok-rows.ensures.value ∙ forms_same q c.params.result (judge_of c.args.search.now).params c.as_slice.result.now c.as_slice-2.result.now c.args.cell.now.subs c.args.other.now.subs c.params.ensures c.as_slice.ensures c.as_slice-2.ensures)
+    (sym c.in_ok-rows_or.ensures.rows ∙ c.in_ok-rows.ensures.value ∙ forms_same q c.params.result (judge_of c.args.search.now).params c.as_slice.result.now c.as_slice-2.result.now c.args.cell.now.subs c.args.other.now.subs c.params.ensures c.as_slice.ensures c.as_slice-2.ensures)
 
 pub returns-clause-kind : goal.returns-clause-kind
 returns-clause-kind c =
     let q = c.args.node.now.question in
     cell_kind c.args.search.now q c.args.cell.now c.args.other.now c.in_ok-rows_or.field-0 c.requires.left c.requires.right c.if-cell-other.false (sym c.is_input.ensures ∙ c.if-not-is_input.false)
-    (sym c.in_ok-rows_or.ensures ∙ c.in_ok-rows.ensures.value ∙ forms_same q c.params.result (judge_of c.args.search.now).params c.as_slice.result.now c.as_slice-2.result.now c.args.cell.now.subs c.args.other.now.subs c.params.ensures c.as_slice.ensures c.as_slice-2.ensures)
+    (sym c.in_ok-rows_or.ensures.rows ∙ c.in_ok-rows.ensures.value ∙ forms_same q c.params.result (judge_of c.args.search.now).params c.as_slice.result.now c.as_slice-2.result.now c.args.cell.now.subs c.args.other.now.subs c.params.ensures c.as_slice.ensures c.as_slice-2.ensures)

@@ -16,6 +16,6 @@ returns-clause-question c =
     let more = c.saturating_sub-further.result in
     let many : more ≡ rest.columns - length own = c.saturating_sub-further.ensures ∙ ap (λ (k : ℕ). rest.columns - k) c.len.ensures in
     let renamed : Some c.in_ok-rows.rows ≡ rows_renaming c.push_range.new.list rest.rows =
-    c.in_ok-rows.ensures ∙ ap (λ ks. rows_renaming ks c.as_slice.result.now) c.as_slice-2.ensures ∙ ap (rows_renaming c.push_range.new.list) c.as_slice.ensures in
+    c.in_ok-rows.ensures.rows ∙ ap (λ ks. rows_renaming ks c.as_slice.result.now) c.as_slice-2.ensures ∙ ap (rows_renaming c.push_range.new.list) c.as_slice.ensures in
     rest_is (judge_of c.args.search.now).params q rest a c.in_ok-beside.field-0.question own c.push_range.new.list more c.in_ok-rows.rows c.in-Some.is (c.in_ok-columns.ensures ∙ ap (λ (k : ℕ). case_columns k a) c.params.ensures) many c.in_ok-push_range.ensures
     renamed (c.in_ok-beside.ensures.question ∙ ap (λ (xs : List Row). at_rows q (extended q.conj more xs)) c.as_slice-3.ensures)

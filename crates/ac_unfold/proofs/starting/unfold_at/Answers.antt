@@ -4,7 +4,9 @@ use Rattle.ac_claims.specs.Remaining.{start_at}
 use Rattle.ac_unfold.specs.Making.{judge_of, IsOpen}
 use Rattle.ac_unfold.specs.declared.asking.Opened.{Opened}
 use Rattle.ac_unfold.proofs.Starts.{begun_refuted, begun_visited}
+use Rattle.ac_unfold.specs.Missing.{IsShownOpen}
 use Rattle.ac_unfold.specs.Searching.{IsFrom, KeepsTrail}
+use Rattle.ac_unfold.proofs.Missing.{finds_shown}
 use Rattle.ac_unfold.proofs.Coming.{begun_broken, broken_none, on_ok}
 use Rattle.ac_unfold.proofs.starting.unfold_at.Goals as goal
 
@@ -36,3 +38,6 @@ returns-in-On-clause-broken c =
     let opened = subst (λ (x : Opened). IsOpen n.placing n.question x) c.in-On.is c.in_ok-question.ensures.open in
     let kept = subst (λ (x : Opened). KeepsTrail n x) c.in-On.is c.in_ok-question.ensures.trail in
     on_ok c.visit.result _ _ (begun_broken s c.args.start.now c.args.left c.args.right c.in-Some.path n c.in-On.node _ _ starts made c.in_ok-node.ensures.question c.in_ok-node.ensures.trail opened.0 kept) c.visit.ensures.broken
+
+pub returns-in-Empty-clause-missing : goal.returns-in-Empty-clause-missing
+returns-in-Empty-clause-missing c = finds_shown c.args.search.now c.in-Empty.plan _ _ (λ on. subst IsShownOpen c.in-Empty.is (c.in_ok-question.ensures.shown on))

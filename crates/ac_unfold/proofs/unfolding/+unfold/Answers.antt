@@ -1,7 +1,7 @@
-use Rattle.std.proofs.Common.{◌≡◌, ◌++◌, ◌∷◌, [], List, Option, refl, sym, ◌∙◌, subst, take, length}
+use Rattle.std.proofs.Common.{◌≡◌, ◌+◌, ◌≤◌, ◌++◌, ◌∷◌, [], List, None, Option, arith, refl, rules, sym, ◌∙◌, subst, take, length}
 use Rattle.std.specs.Prelude.{IfOk, IfSome}
 use Rattle.std.proofs.lemmas.Iterator.Adapters.{YieldsList-from_vec}
-use Rattle.std.proofs.lemmas.Iterator.Consumers.{YieldsList-end}
+use Rattle.std.proofs.lemmas.Iterator.Consumers.{YieldsList-end, YieldsList-so_far, YieldsList-turn}
 use Rattle.std.specs.Vec.Iter.{into_iter_len}
 use Rattle.std.proofs.lemmas.List.{take_all}
 use Rattle.ac_forms.specs.declared.row.Row.{Row}
@@ -14,8 +14,9 @@ use Rattle.ac_graft.specs.Sides.{AreSides}
 use Rattle.ac_graft.specs.declared.branching.Part.{Part}
 use Rattle.ac_graft.specs.declared.branching.Parts.{Parts}
 use Rattle.ac_syntax.specs.declared.tree.Order.TheVariants.{Keep}
-use Rattle.ac_unfold.specs.Cutting.{AreMadeOn, CutsMore, IsKillThere}
-use Rattle.ac_unfold.specs.Making.{judge_of, IsMade, IsMadeIn, IsOpen}
+use Rattle.ac_unfold.specs.Cutting.{AreMadeOn, CutsMore, IsKillThere, IsNext}
+use Rattle.ac_unfold.specs.Making.{judge_of, IsEndFor, IsMade, IsMadeIn, IsOpen}
+use Rattle.ac_unfold.specs.Stopping.{MayStep}
 use Rattle.ac_unfold.specs.declared.asking.Opened.{Opened}
 use Rattle.ac_unfold.specs.declared.kinds.Next.{Next}
 use Rattle.ac_unfold.specs.declared.kinds.Next.TheVariants as kind
@@ -24,8 +25,13 @@ use Rattle.ac_forms.specs.Members.{IsAmong}
 use Rattle.ac_unfold.proofs.Keeping.{cut_stays}
 use Rattle.ac_unfold.proofs.Results.{all_made_in, all_refuted_made, at_some, cut_branched, cut_made, cut_more, cut_none, in_get, in_read, made_more, made_none, next_item, none_made, refuted_in, same_made_in, with_kill, AreCut}
 use Rattle.ac_unfold.proofs.Stepping.{case_made, map_itself, serve_more, serve_none, serve_off, step_made, ServeBranches}
-use Rattle.ac_unfold.specs.Searching.{IsInCase, IsKindThere, IsPast, KeepsTrail}
-use Rattle.ac_unfold.proofs.Coming.{broken_none, broken_off, broken_past, calls_all, calls_more, calls_none, match_broken, mismatch_broken, on_ok, on_ok_any, on_ok_if, piece_broken, reads_all, reads_more, reads_none, AddsCalls, AddsReads}
+use Rattle.ac_unfold.specs.Missing.{IsShownOpen}
+use Rattle.ac_unfold.specs.Passing.{AreApart, AreKillRows, GoesWithin, IsOutsideKills}
+use Rattle.ac_unfold.specs.Searching.{IsAt, IsInCase, IsKindThere, IsPast, KeepsTrail}
+use Rattle.ac_unfold.proofs.Missing.{finds_by, finds_off, finds_shown, none_behind}
+use Rattle.ac_unfold.proofs.Passing.{apart_misses, fewer_broken, kill_rows, last_broken, most, next_broken, nothing_left, parts_miss, rows_within, side_broken, start_broken, survivor_broken, within_broken, within_itself, within_more, within_part}
+use Rattle.ac_unfold.proofs.Yielding.{first_ones}
+use Rattle.ac_unfold.proofs.Coming.{broken_kept, broken_none, broken_past, broken_then, calls_all, calls_more, calls_none, calls_some, match_broken, mismatch_broken, on_ok, piece_broken, reads_all, reads_more, reads_none, reads_some, AddsCalls, AddsReads}
 use Rattle.ac_unfold.proofs.unfolding.+unfold.Goals as goal
 
 -- ---- calls
@@ -37,6 +43,7 @@ calls-loop-branch-init t c =
     record {
       serve = (subst (λ (ts : List Plan). ServeBranches c.args.search.now c.args.node.now.placing c.args.node.now.question [] ts) (sym c.new-cases.ensures.items) (serve_none c.args.search.now c.args.node.now.placing c.args.node.now.question));
       adds = calls_none s n c.args.order _ _ refl;
+      kept = omega arith;
     }
 
 pub calls-loop-branch-preserved-in-Some-made : goal.calls-loop-branch-preserved-in-Some-made
@@ -52,6 +59,7 @@ calls-loop-branch-preserved-in-Some-made t c =
           subst (λ (ts : List Plan). ServeBranches s n.placing n.question (c.loop-branch.yielded ++ c.in-Some-branch.branch ∷ []) ts) (sym c.in_ok-push-in-Some-made.ensures.items)
           (serve_more s n.placing n.question c.loop-branch.yielded c.loop-branch.cases.items c.in-Some-branch.branch b p c.loop-branch.invariant.serve c.in_ok-child.ensures.question c.in_ok-child.ensures.placing r));
       adds = calls_more s n c.args.order c.loop-branch.yielded c.in-Some-branch.branch c.in_ok-child.child c.args.finds.now c.loop-branch.finds c.visit.new.finds c.requires c.loop-branch.invariant.adds c.in_ok-child.ensures.question c.in_ok-child.ensures.trail c.in_ok-made.ensures.broken;
+      kept = (let b = c.in_ok-child.child in let k = c.loop-branch.invariant.kept in let m = broken_kept s (IsAt s b.trail b.question) _ _ c.in_ok-made.ensures.broken in omega (arith, k, m));
     }
 
 pub calls-loop-branch-preserved : goal.calls-loop-branch-preserved
@@ -61,6 +69,7 @@ calls-loop-branch-preserved t c =
     record {
       serve = (serve_off c.args.search.now c.args.node.now.placing c.args.node.now.question (c.loop-branch.yielded ++ c.in-Some-branch.branch ∷ []) c.loop-branch.cases.items c.if-search.false);
       adds = calls_more s n c.args.order c.loop-branch.yielded c.in-Some-branch.branch c.in_ok-child.child c.args.finds.now c.loop-branch.finds c.visit.new.finds c.requires c.loop-branch.invariant.adds c.in_ok-child.ensures.question c.in_ok-child.ensures.trail c.in_ok-made.ensures.broken;
+      kept = (let b = c.in_ok-child.child in let k = c.loop-branch.invariant.kept in let m = broken_kept s (IsAt s b.trail b.question) _ _ c.in_ok-made.ensures.broken in omega (arith, k, m));
     }
 
 pub calls-returns-clause-made : goal.calls-returns-clause-made
@@ -75,7 +84,7 @@ calls-returns-clause-made t c =
     let y = YieldsList-end (YieldsList-from_vec {s = it} v.items c.into_iter-branch-iterator.ensures.into_iter_gives.0 many) c.loop-branch.yielded c.loop-branch.branch-iterator c.loop-branch.yielded_by c.next.result c.next.new.self c.in-None.is c.next.ensures.steps in
     let all : c.loop-branch.yielded ≡ found = sym (map_itself c.loop-branch.yielded) ∙ y.0 ∙ c.into_vec-branch-items.ensures in
     let serve = subst (λ (bs : List Branch). ServeBranches s n.placing q bs c.loop-branch.cases.items) all c.loop-branch.invariant.serve in
-    step_made s n.placing q c.args.order found c.loop-branch.cases.items c.gone.result serve c.gone.ensures
+    step_made s n.placing q c.args.order found c.loop-branch.cases.items c.gone.result serve c.gone.ensures.made
     (subst (λ (o : Option (List Branch)). all_onto q o ≡ branches (judge_of s) c.args.order q) c.in-Some.is c.in_ok-found.ensures.value)
     (λ hl hr f. subst (λ (o : Option (List Branch)). AreFormedIf (judge_of s).params (all_onto q o)) c.in-Some.is (c.in_ok-found.ensures.formed hl hr f))
 
@@ -88,6 +97,7 @@ read-loop-branch-init t c =
     record {
       serve = (subst (λ (ts : List Plan). ServeBranches c.args.search.now c.args.node.now.placing c.args.node.now.question [] ts) (sym c.new-plans.ensures.items) (serve_none c.args.search.now c.args.node.now.placing c.args.node.now.question));
       adds = reads_none s n _ _ refl;
+      kept = omega arith;
     }
 
 pub read-loop-branch-preserved-in-Some-made : goal.read-loop-branch-preserved-in-Some-made
@@ -105,6 +115,7 @@ read-loop-branch-preserved-in-Some-made t c =
           (serve_more s n.placing n.question c.loop-branch.yielded c.loop-branch.plans.items c.in-Some-branch.branch b p c.loop-branch.invariant.serve c.in_ok-child.ensures.question c.in_ok-child.ensures.placing
           (case_made s c.args.side c.in-Some-flow_of.flow.now k b.placing b.question p c.in-Some-flow_of.ensures.among c.in-Some-case_of.ensures.assumed r)));
       adds = reads_more s n c.args.side c.in-Some-flow_of.flow.now c.in-Some-case_of.case.now c.loop-branch.number c.in_ok-number.number c.loop-branch.yielded c.in-Some-branch.branch c.in_ok-child.child c.args.finds.now c.loop-branch.finds c.enter.new.finds c.requires c.in-Some-flow_of.ensures.among c.in-Some-flow_of.ensures.position c.in-Some-case_of.ensures.number c.loop-branch.invariant.adds c.in_ok-child.ensures.question c.in_ok-child.ensures.trail c.in_ok-number.ensures c.in_ok-made.ensures.broken;
+      kept = (let b = c.in_ok-child.child in let k = c.loop-branch.invariant.kept in let m = broken_kept s (IsInCase s c.in-Some-case_of.case.now b.trail b.question) _ _ c.in_ok-made.ensures.broken in omega (arith, k, m));
     }
 
 pub read-loop-branch-preserved : goal.read-loop-branch-preserved
@@ -114,6 +125,7 @@ read-loop-branch-preserved t c =
     record {
       serve = (serve_off c.args.search.now c.args.node.now.placing c.args.node.now.question (c.loop-branch.yielded ++ c.in-Some-branch.branch ∷ []) c.loop-branch.plans.items c.if-search.false);
       adds = reads_more s n c.args.side c.in-Some-flow_of.flow.now c.in-Some-case_of.case.now c.loop-branch.number c.in_ok-number.number c.loop-branch.yielded c.in-Some-branch.branch c.in_ok-child.child c.args.finds.now c.loop-branch.finds c.enter.new.finds c.requires c.in-Some-flow_of.ensures.among c.in-Some-flow_of.ensures.position c.in-Some-case_of.ensures.number c.loop-branch.invariant.adds c.in_ok-child.ensures.question c.in_ok-child.ensures.trail c.in_ok-number.ensures c.in_ok-made.ensures.broken;
+      kept = (let b = c.in_ok-child.child in let k = c.loop-branch.invariant.kept in let m = broken_kept s (IsInCase s c.in-Some-case_of.case.now b.trail b.question) _ _ c.in_ok-made.ensures.broken in omega (arith, k, m));
     }
 
 pub read-returns-clause-made : goal.read-returns-clause-made
@@ -128,7 +140,7 @@ read-returns-clause-made t c =
     let y = YieldsList-end (YieldsList-from_vec {s = it} v.items c.into_iter-branch-iterator.ensures.into_iter_gives.0 many) c.loop-branch.yielded c.loop-branch.branch-iterator c.loop-branch.yielded_by c.next.result c.next.new.self c.in-None.is c.next.ensures.steps in
     let all : c.loop-branch.yielded ≡ found = sym (map_itself c.loop-branch.yielded) ∙ y.0 ∙ c.into_vec-branch-items.ensures in
     let serve = subst (λ (bs : List Branch). ServeBranches s n.placing q bs c.loop-branch.plans.items) all c.loop-branch.invariant.serve in
-    step_made s n.placing q Keep found c.loop-branch.plans.items c.gone.result serve c.gone.ensures
+    step_made s n.placing q Keep found c.loop-branch.plans.items c.gone.result serve c.gone.ensures.made
     (subst (λ (o : Option (List Branch)). all_onto q o ≡ branches (judge_of s) Keep q) c.in-Some.is c.in_ok-found.ensures.value)
     (λ hl hr f. subst (λ (o : Option (List Branch)). AreFormedIf (judge_of s).params (all_onto q o)) c.in-Some.is (c.in_ok-found.ensures.formed hl hr f))
 
@@ -143,35 +155,90 @@ enter-returns-in-Empty-clause-made t c =
 
 pub enter-returns-in-On-clause-made : goal.enter-returns-in-On-clause-made
 enter-returns-in-On-clause-made t c =
-    same_made_in c.kills.result c.args.search.now c.args.case.now c.args.node.placing c.in-On.node.placing c.args.node.question c.in-On.node.question (subst (λ (x : Opened). IsOpen c.args.node.placing c.args.node.question x) c.in-On.is c.in_ok-question.ensures.open) c.kills.ensures
+    same_made_in c.kills.result c.args.search.now c.args.case.now c.args.node.placing c.in-On.node.placing c.args.node.question c.in-On.node.question (subst (λ (x : Opened). IsOpen c.args.node.placing c.args.node.question x) c.in-On.is c.in_ok-question.ensures.open) c.kills.ensures.made
 
-pub outside_of-returns-in-Empty : goal.outside_of-returns-in-Empty
-outside_of-returns-in-Empty t c =
+pub outside_of-returns-in-Empty-clause-made : goal.outside_of-returns-in-Empty-clause-made
+outside_of-returns-in-Empty-clause-made t c =
     refuted_in c.args.search.now c.args.case.now c.args.node.placing c.args.node.question c.in-Empty.plan (subst (λ (x : Opened). IsOpen c.args.node.placing c.args.node.question x) c.in-Empty.is c.in_ok-question.ensures.open)
 
-pub outside_of-returns-in-On : goal.outside_of-returns-in-On
-outside_of-returns-in-On t c =
-    same_made_in c.kills.result c.args.search.now c.args.case.now c.args.node.placing c.in-On.node.placing c.args.node.question c.in-On.node.question (subst (λ (x : Opened). IsOpen c.args.node.placing c.args.node.question x) c.in-On.is c.in_ok-question.ensures.open) c.kills.ensures
+pub outside_of-returns-in-On-clause-made : goal.outside_of-returns-in-On-clause-made
+outside_of-returns-in-On-clause-made t c =
+    same_made_in c.kills.result c.args.search.now c.args.case.now c.args.node.placing c.in-On.node.placing c.args.node.question c.in-On.node.question (subst (λ (x : Opened). IsOpen c.args.node.placing c.args.node.question x) c.in-On.is c.in_ok-question.ensures.open) c.kills.ensures.made
 
-pub survivor-returns-then-is_empty : goal.survivor-returns-then-is_empty
-survivor-returns-then-is_empty t c = all_refuted_made c.refuted.result c.args.search.now c.args.node.placing c.args.node.question c.refuted.ensures.made
+pub survivor-returns-then-is_empty-clause-made : goal.survivor-returns-then-is_empty-clause-made
+survivor-returns-then-is_empty-clause-made t c = all_refuted_made c.refuted.result c.args.search.now c.args.node.placing c.args.node.question c.refuted.ensures.made
 
 -- ---- kills
 
-pub kills-returns-in_default : goal.kills-returns-in_default
-kills-returns-in_default t c = all_made_in c.survivor.result c.args.search.now c.args.case.now c.args.node.placing c.args.node.question c.survivor.ensures
+pub kills-returns-in_default-clause-made : goal.kills-returns-in_default-clause-made
+kills-returns-in_default-clause-made t c = all_made_in c.survivor.result c.args.search.now c.args.case.now c.args.node.placing c.args.node.question c.survivor.ensures.made
 
-pub kills-returns : goal.kills-returns
-kills-returns t c =
+pub kills-returns-clause-made : goal.kills-returns-clause-made
+kills-returns-clause-made t c =
     let s = c.args.search.now in
     let k = c.args.case.now in
     let n = c.args.node in
     with_kill c.cut.result (IsKillThere s n.question k c.in-Some.kill.now.1 c.in_ok-rows.rows) (IsMadeIn s k n.placing n.question)
-    (subst (λ (rows : List Row). IfOk c.cut.result (λ o. IfSome o (λ p. IsKillThere s n.question k c.in-Some.kill.now.1 rows → IsMadeIn s k n.placing n.question p))) c.as_slice-2.ensures c.cut.ensures)
-    (record { whole = c.in-Some.kill.now; among = in_get k.kills c.args.number c.in-Some.kill.now (sym c.in-Some.ensures.value); is = refl; moved = c.in_ok-rows.ensures })
+    (subst (λ (rows : List Row). IfOk c.cut.result (λ o. IfSome o (λ p. IsKillThere s n.question k c.in-Some.kill.now.1 rows → IsMadeIn s k n.placing n.question p))) c.as_slice-2.ensures c.cut.ensures.made)
+    (record { whole = c.in-Some.kill.now; among = in_get k.kills c.args.number c.in-Some.kill.now (sym c.in-Some.ensures.value); is = refl; moved = c.in_ok-rows.ensures.rows })
+
+pub kills-cut-requires : goal.kills-cut-requires
+kills-cut-requires t c =
+    let s = c.args.search.now in
+    let k = c.args.case.now in
+    let n = c.args.node in
+    (search rules, subst (λ (rows : List Row). AreKillRows s k c.args.number n.question rows) (sym c.as_slice-2.ensures) (kill_rows s k c.args.number n.question c.in-Some.kill.now c.in_ok-rows.rows (sym c.in-Some.ensures.value) c.in_ok-rows.ensures.rows))
+
+pub kills-returns-in_default-clause-broken : goal.kills-returns-in_default-clause-broken
+kills-returns-in_default-clause-broken t c =
+    let s = c.args.search.now in
+    let k = c.args.case.now in
+    let n = c.args.node in
+    on_ok c.survivor.result _ _ (last_broken s k c.args.number n.trail n.question _ _ (none_behind k.kills c.args.number (search rules))) c.survivor.ensures.broken
+
+pub kills-returns-then-apart-clause-broken : goal.kills-returns-then-apart-clause-broken
+kills-returns-then-apart-clause-broken t c =
+    let s = c.args.search.now in
+    let k = c.args.case.now in
+    let n = c.args.node in
+    let rows = c.in_ok-rows.rows in
+    let are = kill_rows s k c.args.number n.question c.in-Some.kill.now rows (sym c.in-Some.ensures.value) c.in_ok-rows.ensures.rows in
+    let apart = subst (AreApart n.question.conj) c.as_slice.ensures (c.in_ok-apart.ensures c.if-apart.true) in
+    on_ok c.kills.result _ _ (next_broken s k c.args.number c.saturating_add.result n.trail n.question _ _ (most c.args.number c.saturating_add.result c.saturating_add.ensures) (apart_misses s k c.args.number n.question rows are apart)) c.kills.ensures.broken
+
+-- ---- what no kill holds
+
+pub survivor-returns-then-is_empty-clause-broken : goal.survivor-returns-then-is_empty-clause-broken
+survivor-returns-then-is_empty-clause-broken t c =
+    let n = c.args.node in
+    on_ok c.refuted.result _ _ (nothing_left c.args.search.now c.args.case.now n.trail n.question _ _ (search rules)) c.refuted.ensures.found
+
+pub survivor-returns-clause-broken : goal.survivor-returns-clause-broken
+survivor-returns-clause-broken t c =
+    let n = c.args.node in
+    on_ok c.visit.result _ _ (survivor_broken c.args.search.now c.args.case.now n.trail n.question _ _) c.visit.ensures.broken
+
+-- ---- the rows of a kill
 
 pub cut-loop-row-init : goal.cut-loop-row-init
-cut-loop-row-init t c = cut_none c.args.search.now c.args.case.now c.args.node c.new-course.result c.new-course.ensures.node c.new-course.ensures.branches
+cut-loop-row-init t c =
+    let s = c.args.search.now in
+    let k = c.args.case.now in
+    let n = c.args.node in
+    record {
+      cut = cut_none s k n c.new-course.result c.new-course.ensures.node c.new-course.ensures.branches;
+      within = within_itself n c.new-course.result.node c.new-course.ensures.node;
+      adds = broken_none s (IsOutsideKills s k c.args.number n.trail n.question) _ _ refl;
+    }
+
+pub cut-cut_row-requires : goal.cut-cut_row-requires
+cut-cut_row-requires t c =
+    let s = c.args.search.now in
+    let k = c.args.case.now in
+    let n = c.args.node in
+    let v = c.loop-row.course.node in
+    let rows = c.args.rows.now in
+    (search rules, record { rows = rows; are = rows_within s k c.args.number n.question v.question rows c.loop-row.invariant.within.question c.requires; among = in_read rows c.loop-row.row-index c.row-item.result c.loop-row-test.true c.row-item.is })
 
 pub cut-loop-row-preserved : goal.cut-loop-row-preserved
 cut-loop-row-preserved t c =
@@ -180,22 +247,41 @@ cut-loop-row-preserved t c =
     let row = c.row-item.result in
     let s = c.args.search.now in
     let k = c.args.case.now in
-    let more : CutsMore s k c.loop-row.course row c.in-Some.next = at_some c.in_ok-made.made c.in-Some.next (CutsMore s k c.loop-row.course row) c.in-Some.is c.in_ok-made.ensures in
-    subst (λ (xs : List Row). AreCut s k c.args.node c.in-Some.next xs) (sym (next_item rows i row c.loop-row-test.true c.row-item.is)) (cut_more s k c.args.node c.loop-row.course c.in-Some.next (take i rows) row c.loop-row.invariant more)
+    let more : CutsMore s k c.loop-row.course row c.in-Some.next = at_some c.in_ok-made.made c.in-Some.next (CutsMore s k c.loop-row.course row) c.in-Some.is c.in_ok-made.ensures.made in
+    let goes : GoesWithin c.loop-row.course.node c.in-Some.next.node = at_some c.in_ok-made.made c.in-Some.next (λ next. GoesWithin c.loop-row.course.node next.node) c.in-Some.is c.in_ok-made.ensures.within in
+    let n = c.args.node in
+    record {
+      cut = subst (λ (xs : List Row). AreCut s k n c.in-Some.next xs) (sym (next_item rows i row c.loop-row-test.true c.row-item.is)) (cut_more s k n c.loop-row.course c.in-Some.next (take i rows) row c.loop-row.invariant.cut more);
+      within = within_more n c.loop-row.course.node c.in-Some.next.node c.loop-row.invariant.within goes;
+      adds = broken_then s (IsOutsideKills s k c.args.number n.trail n.question) _ _ _ c.loop-row.invariant.adds (within_broken s k c.args.number n c.loop-row.course.node _ _ c.loop-row.invariant.within c.in_ok-made.ensures.broken);
+    }
 
-pub cut-returns : goal.cut-returns
-cut-returns t c =
+pub cut-returns-in-None-clause-broken : goal.cut-returns-in-None-clause-broken
+cut-returns-in-None-clause-broken t c =
+    let s = c.args.search.now in
+    let k = c.args.case.now in
+    let n = c.args.node in
+    broken_then s (IsOutsideKills s k c.args.number n.trail n.question) _ _ _ c.loop-row.invariant.adds (within_broken s k c.args.number n c.loop-row.course.node _ _ c.loop-row.invariant.within c.in_ok-made.ensures.broken)
+
+pub cut-returns-in-None-clause-missing : goal.cut-returns-in-None-clause-missing
+cut-returns-in-None-clause-missing t c =
+    let s = c.args.search.now in
+    let n = c.args.node in
+    finds_by s None c.in_ok-made.made _ _ _ (λ e. c.in-None.is) (broken_kept s (IsOutsideKills s c.args.case.now c.args.number n.trail n.question) _ _ c.loop-row.invariant.adds) c.in_ok-made.ensures.missing
+
+pub cut-returns-clause-made : goal.cut-returns-clause-made
+cut-returns-clause-made t c =
     let rows = c.args.rows.now in
     let s = c.args.search.now in
     let k = c.args.case.now in
-    let all = subst (λ (xs : List Row). AreCut s k c.args.node c.loop-row.course xs) (take_all c.loop-row.row-index rows c.loop-row-test.false) c.loop-row.invariant in
+    let all = subst (λ (xs : List Row). AreCut s k c.args.node c.loop-row.course xs) (take_all c.loop-row.row-index rows c.loop-row-test.false) c.loop-row.invariant.cut in
     cut_made s k c.args.node c.loop-row.course rows c.args.kill.now c.in_ok-end.end c.in_ok-plan.plan all c.in_ok-end.ensures c.in_ok-plan.ensures
 
-pub cut_row-returns-then-standing : goal.cut_row-returns-then-standing
-cut_row-returns-then-standing t c = cut_stays c.args.search.now c.args.case.now c.args.course c.args.row.now (c.in_ok-standing.ensures c.if-standing.true)
+pub cut_row-returns-then-standing-clause-made : goal.cut_row-returns-then-standing-clause-made
+cut_row-returns-then-standing-clause-made t c = cut_stays c.args.search.now c.args.case.now c.args.course c.args.row.now (c.in_ok-standing.ensures c.if-standing.true)
 
-pub cut_row-returns-in_ok-next-in-Some-made : goal.cut_row-returns-in_ok-next-in-Some-made
-cut_row-returns-in_ok-next-in-Some-made t c =
+pub cut_row-returns-in_ok-next-in-Some-made-clause-made : goal.cut_row-returns-in_ok-next-in-Some-made-clause-made
+cut_row-returns-in_ok-next-in-Some-made-clause-made t c =
     let n = c.args.course.node.question.conj.columns in
     let can = c.in_ok-can.ensures c.if-not-can.false in
     let s = c.args.search.now in
@@ -203,14 +289,41 @@ cut_row-returns-in_ok-next-in-Some-made t c =
     let v = c.args.course.node in
     cut_branched s k c.args.course c.in_ok-next-in-Some-made.next c.args.row.now c.in-Some-made.outside.items c.in-Some.parts c.as_slice-parted.result.now
     (subst (λ (o : Option Parts). AreSides n c.args.row.now o) c.in-Some.is (c.in_ok-parts.ensures can.over)) c.as_slice-parted.ensures
-    (at_some c.in_ok-made.made c.in-Some-made.outside (λ plans. AreMadeOn s k v.placing v.question c.as_slice-parted.result.now plans.items) c.in-Some-made.is c.in_ok-made.ensures)
+    (at_some c.in_ok-made.made c.in-Some-made.outside (λ plans. AreMadeOn s k v.placing v.question c.as_slice-parted.result.now plans.items) c.in-Some-made.is c.in_ok-made.ensures.made)
     c.in_ok-next-in-Some-made.ensures.opened c.in_ok-next-in-Some-made.ensures.question c.in_ok-next-in-Some-made.ensures.placing can
+
+pub cut_row-returns-then-standing-clause-broken : goal.cut_row-returns-then-standing-clause-broken
+cut_row-returns-then-standing-clause-broken t c =
+    let v = c.args.course.node in
+    broken_none c.args.search.now (IsOutsideKills c.args.search.now c.args.case.now c.args.number v.trail v.question) _ _ refl
+
+pub cut_row-returns-then-standing-clause-within : goal.cut_row-returns-then-standing-clause-within
+cut_row-returns-then-standing-clause-within t c = within_itself c.args.course.node c.args.course.node refl
+
+pub cut_row-outsides-requires : goal.cut_row-outsides-requires
+cut_row-outsides-requires t c =
+    let v = c.args.course.node.question in
+    let can = c.in_ok-can.ensures c.if-not-can.false in (
+      search rules,
+      parts_miss c.args.search.now c.args.case.now c.args.number v c.args.row.now c.in-Some.parts c.as_slice-parted.result.now can.over
+          (subst (λ (o : Option Parts). AreSides v.conj.columns c.args.row.now o) c.in-Some.is (c.in_ok-parts.ensures can.over)) c.as_slice-parted.ensures c.requires,
+    )
+
+pub cut_row-returns-in_ok-next-in-Some-made-clause-within : goal.cut_row-returns-in_ok-next-in-Some-made-clause-within
+cut_row-returns-in_ok-next-in-Some-made-clause-within t c =
+    within_part c.args.course.node c.in_ok-next-in-Some-made.next.node c.in-Some.parts.inside c.in_ok-next-in-Some-made.ensures.question c.in_ok-next-in-Some-made.ensures.trail
 
 -- ---- outsides
 
 pub outsides-loop-part-init : goal.outsides-loop-part-init
 outsides-loop-part-init t c =
-    subst (λ (ts : List Plan). AreMadeOn c.args.search.now c.args.case.now c.args.node.now.placing c.args.node.now.question [] ts) (sym c.new-plans.ensures.items) (made_none c.args.search.now c.args.case.now c.args.node.now.placing c.args.node.now.question)
+    let s = c.args.search.now in
+    let k = c.args.case.now in
+    let n = c.args.node.now in
+    record {
+      made = subst (λ (ts : List Plan). AreMadeOn s k n.placing n.question [] ts) (sym c.new-plans.ensures.items) (made_none s k n.placing n.question);
+      adds = broken_none s (IsOutsideKills s k c.args.number n.trail n.question) _ _ refl;
+    }
 
 pub outsides-loop-part-preserved : goal.outsides-loop-part-preserved
 outsides-loop-part-preserved t c =
@@ -221,15 +334,60 @@ outsides-loop-part-preserved t c =
     let p = c.part-item.result in
     let i = c.loop-part.part-index in
     let b = c.in_ok-beside.beside in
-    let r : IsMadeIn s k b.placing b.question c.in-Some.plan = at_some c.in_ok-made.made c.in-Some.plan (IsMadeIn s k b.placing b.question) c.in-Some.is c.in_ok-made.ensures in
-    subst (λ (xs : List Part). AreMadeOn s k n.placing n.question xs c.push.new.self.items) (sym (next_item ps i p c.loop-part-test.true c.part-item.is))
-    (subst (λ (ts : List Plan). AreMadeOn s k n.placing n.question (take i ps ++ p ∷ []) ts) (sym c.in_ok-push-in-Some.ensures.items) (made_more s k n.placing n.question (take i ps) c.loop-part.plans.items p b c.in-Some.plan c.loop-part.invariant c.in_ok-beside.ensures.question c.in_ok-beside.ensures.placing r))
+    let r : IsMadeIn s k b.placing b.question c.in-Some.plan = at_some c.in_ok-made.made c.in-Some.plan (IsMadeIn s k b.placing b.question) c.in-Some.is c.in_ok-made.ensures.made in
+    record {
+      made = subst (λ (xs : List Part). AreMadeOn s k n.placing n.question xs c.push.new.self.items) (sym (next_item ps i p c.loop-part-test.true c.part-item.is))
+          (subst (λ (ts : List Plan). AreMadeOn s k n.placing n.question (take i ps ++ p ∷ []) ts) (sym c.in_ok-push-in-Some.ensures.items) (made_more s k n.placing n.question (take i ps) c.loop-part.plans.items p b c.in-Some.plan c.loop-part.invariant.made c.in_ok-beside.ensures.question c.in_ok-beside.ensures.placing r));
+      adds = side_broken s k c.args.number n b ps p _ _ _ c.loop-part.invariant.adds c.requires (in_read ps i p c.loop-part-test.true c.part-item.is) c.in_ok-beside.ensures.question c.in_ok-beside.ensures.trail c.in_ok-made.ensures.broken;
+    }
 
-pub outsides-returns : goal.outsides-returns
-outsides-returns t c =
-    subst (λ (xs : List Part). AreMadeOn c.args.search.now c.args.case.now c.args.node.now.placing c.args.node.now.question xs c.loop-part.plans.items) (take_all c.loop-part.part-index c.args.parts.now c.loop-part-test.false) c.loop-part.invariant
+pub outsides-returns-in-None-clause-broken : goal.outsides-returns-in-None-clause-broken
+outsides-returns-in-None-clause-broken t c =
+    let ps = c.args.parts.now in
+    let p = c.part-item.result in
+    side_broken c.args.search.now c.args.case.now c.args.number c.args.node.now c.in_ok-beside.beside ps p _ _ _ c.loop-part.invariant.adds c.requires (in_read ps c.loop-part.part-index p c.loop-part-test.true c.part-item.is) c.in_ok-beside.ensures.question c.in_ok-beside.ensures.trail c.in_ok-made.ensures.broken
+
+pub outsides-returns-in-None-clause-missing : goal.outsides-returns-in-None-clause-missing
+outsides-returns-in-None-clause-missing t c =
+    let s = c.args.search.now in
+    let n = c.args.node.now in
+    finds_by s None c.in_ok-made.made _ _ _ (λ e. c.in-None.is) (broken_kept s (IsOutsideKills s c.args.case.now c.args.number n.trail n.question) _ _ c.loop-part.invariant.adds) c.in_ok-made.ensures.missing
+
+pub outsides-returns-clause-made : goal.outsides-returns-clause-made
+outsides-returns-clause-made t c =
+    subst (λ (xs : List Part). AreMadeOn c.args.search.now c.args.case.now c.args.node.now.placing c.args.node.now.question xs c.loop-part.plans.items) (take_all c.loop-part.part-index c.args.parts.now c.loop-part-test.false) c.loop-part.invariant.made
+
+pub outside_of-returns-in-Empty-clause-broken : goal.outside_of-returns-in-Empty-clause-broken
+outside_of-returns-in-Empty-clause-broken t c = broken_none c.args.search.now (IsOutsideKills c.args.search.now c.args.case.now (c.args.number + 1) c.args.node.trail c.args.node.question) _ _ refl
+
+pub outside_of-returns-in-On-clause-broken : goal.outside_of-returns-in-On-clause-broken
+outside_of-returns-in-On-clause-broken t c =
+    let v = c.args.node in
+    let opened = subst (λ (x : Opened). IsOpen v.placing v.question x) c.in-On.is c.in_ok-question.ensures.open in
+    let kept = subst (λ (x : Opened). KeepsTrail v x) c.in-On.is c.in_ok-question.ensures.trail in
+    on_ok c.kills.result _ _ (fewer_broken c.args.search.now c.args.case.now (c.args.number + 1) c.saturating_add.result v c.in-On.node _ _ (most c.args.number c.saturating_add.result c.saturating_add.ensures) opened.0 kept) c.kills.ensures.broken
 
 -- ---- pairs
+
+pub visit-returns-in-Read-clause-made : goal.visit-returns-in-Read-clause-made
+visit-returns-in-Read-clause-made t c =
+    let s = c.args.search.now in
+    let v = c.args.node in
+    with_kill c.read.result (MayStep s v.question Keep) (IsMade s v.placing v.question) c.read.ensures.made
+    (record { unclaimed = c.claim_of.ensures.none c.in_default.is; takes = subst (λ (x : Next). IsNext s v.question x) c.in-Read.is c.in_ok-next.ensures.next })
+
+pub visit-returns-in-Calls-clause-made : goal.visit-returns-in-Calls-clause-made
+visit-returns-in-Calls-clause-made t c =
+    let s = c.args.search.now in
+    let v = c.args.node in
+    with_kill c.calls.result (MayStep s v.question c.in-Calls.order) (IsMade s v.placing v.question) c.calls.ensures.made
+    (record { unclaimed = c.claim_of.ensures.none c.in_default.is; takes = subst (λ (x : Next). IsNext s v.question x) c.in-Calls.is c.in_ok-next.ensures.next })
+
+pub visit-stand-requires : goal.visit-stand-requires
+visit-stand-requires t c =
+    let s = c.args.search.now in
+    let q = c.args.node.question in
+    subst (λ (rows : List Row). IsEndFor s q rows c.in-Match.end) (sym c.as_slice.ensures) (subst (λ (x : Next). IsNext s q x) c.in-Match.is c.in_ok-next.ensures.next (c.claim_of.ensures.none c.in_default.is))
 
 pub visit-returns-in-Mismatch-clause-made : goal.visit-returns-in-Mismatch-clause-made
 visit-returns-in-Mismatch-clause-made t c = all_refuted_made c.mismatch.result c.args.search.now c.args.node.placing c.args.node.question c.mismatch.ensures.made
@@ -237,7 +395,21 @@ visit-returns-in-Mismatch-clause-made t c = all_refuted_made c.mismatch.result c
 -- ---- broken paths
 
 pub calls-returns-then-search-clause-broken : goal.calls-returns-then-search-clause-broken
-calls-returns-then-search-clause-broken t c = broken_off c.args.search.now (IsPast c.args.search.now c.args.node.now.trail c.args.node.now.question) _ _ c.if-search.true
+calls-returns-then-search-clause-broken t c =
+    let s = c.args.search.now in
+    let n = c.args.node.now in
+    let q = n.question in
+    let found = c.in-Some.found in
+    let v = c.into_vec-branch-items.result in
+    let it = c.into_iter-branch-iterator.result in
+    let many : into_iter_len it ≡ length v.items = c.into_iter-branch-iterator.ensures.into_iter_gives.1 ∙ v.ok.0 in
+    let road = YieldsList-from_vec {s = it} v.items c.into_iter-branch-iterator.ensures.into_iter_gives.0 many in
+    let xs = c.loop-branch.yielded in
+    let b = c.in-Some-branch.branch in
+    let first = first_ones v.items found xs b c.into_vec-branch-items.ensures (YieldsList-so_far road xs c.loop-branch.branch-iterator c.loop-branch.yielded_by)
+    (YieldsList-turn road xs c.loop-branch.branch-iterator c.loop-branch.yielded_by c.next.result c.next.new.self b c.in-Some-branch.is c.next.ensures.steps) in
+    let adds = calls_more s n c.args.order xs b c.in_ok-child.child c.args.finds.now c.loop-branch.finds c.visit.new.finds c.requires c.loop-branch.invariant.adds c.in_ok-child.ensures.question c.in_ok-child.ensures.trail c.in_ok-made.ensures.broken in
+    calls_some s n c.args.order (xs ++ b ∷ []) found (length xs + 1) _ _ adds first (subst (λ (o : Option (List Branch)). all_onto q o ≡ branches (judge_of s) c.args.order q) c.in-Some.is c.in_ok-found.ensures.value)
 
 pub calls-returns-clause-broken : goal.calls-returns-clause-broken
 calls-returns-clause-broken t c =
@@ -254,7 +426,21 @@ calls-returns-clause-broken t c =
     (subst (λ (o : Option (List Branch)). all_onto q o ≡ branches (judge_of s) c.args.order q) c.in-Some.is c.in_ok-found.ensures.value)
 
 pub read-returns-then-search-clause-broken : goal.read-returns-then-search-clause-broken
-read-returns-then-search-clause-broken t c = broken_off c.args.search.now (IsPast c.args.search.now c.args.node.now.trail c.args.node.now.question) _ _ c.if-search.true
+read-returns-then-search-clause-broken t c =
+    let s = c.args.search.now in
+    let n = c.args.node.now in
+    let q = n.question in
+    let found = c.in-Some.found in
+    let v = c.into_vec-branch-items.result in
+    let it = c.into_iter-branch-iterator.result in
+    let many : into_iter_len it ≡ length v.items = c.into_iter-branch-iterator.ensures.into_iter_gives.1 ∙ v.ok.0 in
+    let road = YieldsList-from_vec {s = it} v.items c.into_iter-branch-iterator.ensures.into_iter_gives.0 many in
+    let xs = c.loop-branch.yielded in
+    let b = c.in-Some-branch.branch in
+    let first = first_ones v.items found xs b c.into_vec-branch-items.ensures (YieldsList-so_far road xs c.loop-branch.branch-iterator c.loop-branch.yielded_by)
+    (YieldsList-turn road xs c.loop-branch.branch-iterator c.loop-branch.yielded_by c.next.result c.next.new.self b c.in-Some-branch.is c.next.ensures.steps) in
+    let adds = reads_more s n c.args.side c.in-Some-flow_of.flow.now c.in-Some-case_of.case.now c.loop-branch.number c.in_ok-number.number xs b c.in_ok-child.child c.args.finds.now c.loop-branch.finds c.enter.new.finds c.requires c.in-Some-flow_of.ensures.among c.in-Some-flow_of.ensures.position c.in-Some-case_of.ensures.number c.loop-branch.invariant.adds c.in_ok-child.ensures.question c.in_ok-child.ensures.trail c.in_ok-number.ensures c.in_ok-made.ensures.broken in
+    reads_some s n c.in_ok-number.number (xs ++ b ∷ []) found (length xs + 1) _ _ adds first (subst (λ (o : Option (List Branch)). all_onto q o ≡ branches (judge_of s) Keep q) c.in-Some.is c.in_ok-found.ensures.value)
 
 pub read-returns-clause-broken : goal.read-returns-clause-broken
 read-returns-clause-broken t c =
@@ -271,10 +457,14 @@ read-returns-clause-broken t c =
     (subst (λ (o : Option (List Branch)). all_onto q o ≡ branches (judge_of s) Keep q) c.in-Some.is c.in_ok-found.ensures.value)
 
 pub enter-returns-in-Empty-clause-broken : goal.enter-returns-in-Empty-clause-broken
-enter-returns-in-Empty-clause-broken t c = broken_off c.args.search.now (IsInCase c.args.search.now c.args.case.now c.args.node.trail c.args.node.question) _ _ c.if-not-search.false
+enter-returns-in-Empty-clause-broken t c = broken_none c.args.search.now (IsInCase c.args.search.now c.args.case.now c.args.node.trail c.args.node.question) _ _ refl
 
 pub enter-returns-in-On-clause-broken : goal.enter-returns-in-On-clause-broken
-enter-returns-in-On-clause-broken t c = on_ok_any c.kills.result _ (broken_off c.args.search.now (IsInCase c.args.search.now c.args.case.now c.args.node.trail c.args.node.question) _ _ c.if-not-search.false)
+enter-returns-in-On-clause-broken t c =
+    let v = c.args.node in
+    let opened = subst (λ (x : Opened). IsOpen v.placing v.question x) c.in-On.is c.in_ok-question.ensures.open in
+    let kept = subst (λ (x : Opened). KeepsTrail v x) c.in-On.is c.in_ok-question.ensures.trail in
+    on_ok c.kills.result _ _ (start_broken c.args.search.now c.args.case.now v c.in-On.node _ _ opened.0 kept) c.kills.ensures.broken
 
 pub remainders-loop-rest-init : goal.remainders-loop-rest-init
 remainders-loop-rest-init t c = broken_none c.args.search.now (IsInCase c.args.search.now c.args.case.now c.args.node.now.trail c.args.node.now.question) _ _ refl
@@ -291,13 +481,13 @@ pub visit-returns-in-Match-clause-broken : goal.visit-returns-in-Match-clause-br
 visit-returns-in-Match-clause-broken t c =
     let s = c.args.search.now in
     let v = c.args.node in
-    on_ok_if c.stand.result _ _ _ (λ h. broken_past s v.trail v.question _ _ (c.claim_of.ensures.none c.in_default.is) (match_broken s v.trail v.question c.as_slice.result.now c.in-Match.end _ _ (subst (λ (xs : List Row). IsKindThere s v.question (kind.Match xs c.in-Match.end)) (sym c.as_slice.ensures) (subst (λ (x : Next). IsKindThere s v.question x) c.in-Match.is c.in_ok-next.ensures.kind)) h)) c.stand.ensures.found
+    on_ok c.stand.result _ _ (λ h. broken_past s v.trail v.question _ _ (c.claim_of.ensures.none c.in_default.is) (match_broken s v.trail v.question c.as_slice.result.now c.in-Match.end _ _ (subst (λ (xs : List Row). IsKindThere s v.question (kind.Match xs c.in-Match.end)) (sym c.as_slice.ensures) (subst (λ (x : Next). IsKindThere s v.question x) c.in-Match.is c.in_ok-next.ensures.kind)) h)) c.stand.ensures.found
 
 pub visit-returns-in-Mismatch-clause-broken : goal.visit-returns-in-Mismatch-clause-broken
 visit-returns-in-Mismatch-clause-broken t c =
     let s = c.args.search.now in
     let v = c.args.node in
-    on_ok_if c.mismatch.result _ _ _ (λ h. broken_past s v.trail v.question _ _ (c.claim_of.ensures.none c.in_default.is) (mismatch_broken s v.trail v.question _ _ (subst (λ (x : Next). IsKindThere s v.question x) c.in-Mismatch.is c.in_ok-next.ensures.kind) h)) c.mismatch.ensures.found
+    on_ok c.mismatch.result _ _ (λ h. broken_past s v.trail v.question _ _ (c.claim_of.ensures.none c.in_default.is) (mismatch_broken s v.trail v.question _ _ (subst (λ (x : Next). IsKindThere s v.question x) c.in-Mismatch.is c.in_ok-next.ensures.kind) h)) c.mismatch.ensures.found
 
 pub remainders-loop-rest-preserved-in-Empty : goal.remainders-loop-rest-preserved-in-Empty
 remainders-loop-rest-preserved-in-Empty t c = c.loop-rest.invariant
@@ -313,3 +503,26 @@ remainders-loop-rest-preserved t c =
     let opened = subst (λ (x : Opened). IsOpen l.placing l.question x) c.in-On.is c.in_ok-question.ensures.open in
     let kept = subst (λ (x : Opened). KeepsTrail l x) c.in-On.is c.in_ok-question.ensures.trail in
     piece_broken s k n l c.in-On.child r _ _ _ c.loop-rest.invariant among c.in_ok-left.ensures.question c.in_ok-left.ensures.trail opened.0 kept c.in_ok-_none-in-On.ensures.broken
+
+-- ---- missing plans
+
+pub calls-returns-then-search-clause-missing : goal.calls-returns-then-search-clause-missing
+calls-returns-then-search-clause-missing t c = finds_by c.args.search.now None c.in_ok-made.made _ _ _ (λ e. c.in-None-made.is) c.loop-branch.invariant.kept c.in_ok-made.ensures.missing
+
+pub calls-returns-clause-missing : goal.calls-returns-clause-missing
+calls-returns-clause-missing t c = finds_shown c.args.search.now c.gone.result _ _ c.gone.ensures.there
+
+pub read-returns-then-search-clause-missing : goal.read-returns-then-search-clause-missing
+read-returns-then-search-clause-missing t c = finds_by c.args.search.now None c.in_ok-made.made _ _ _ (λ e. c.in-None-made.is) c.loop-branch.invariant.kept c.in_ok-made.ensures.missing
+
+pub read-returns-clause-missing : goal.read-returns-clause-missing
+read-returns-clause-missing t c = finds_shown c.args.search.now c.gone.result _ _ c.gone.ensures.there
+
+pub enter-returns-then-not-search-clause-missing : goal.enter-returns-then-not-search-clause-missing
+enter-returns-then-not-search-clause-missing t c = finds_off c.remainders.result c.args.search.now _ _ c.if-not-search.true
+
+pub enter-returns-in-Empty-clause-missing : goal.enter-returns-in-Empty-clause-missing
+enter-returns-in-Empty-clause-missing t c = finds_shown c.args.search.now c.in-Empty.plan _ _ (λ _. subst IsShownOpen c.in-Empty.is (c.in_ok-question.ensures.shown refl))
+
+pub outside_of-returns-in-Empty-clause-missing : goal.outside_of-returns-in-Empty-clause-missing
+outside_of-returns-in-Empty-clause-missing t c = finds_shown c.args.search.now c.in-Empty.plan _ _ (λ _. subst IsShownOpen c.in-Empty.is (c.in_ok-question.ensures.shown refl))

@@ -1,8 +1,9 @@
-use Rattle.std.proofs.Common.{take}
+use Rattle.std.proofs.Common.{◌≤◌, length, take}
 use Rattle.ac_unfold.specs.Cutting.{AreMadeOn}
 use Rattle.ac_unfold.proofs.Results.{AreCut}
 use Rattle.ac_unfold.proofs.Stepping.{ServeBranches}
 use Rattle.ac_unfold.proofs.Coming.{AddsCalls, AddsReads}
+use Rattle.ac_unfold.specs.Passing.{GoesWithin, IsOutsideKills}
 use Rattle.ac_unfold.specs.Searching.{AddsBroken, IsInCase}
 use Rattle.ac_unfold.proofs.unfolding.+unfold.Given as goal
 
@@ -43,19 +44,28 @@ abbrev pub invariant-calls-loop-branch : goal.invariant-calls-loop-branch
 invariant-calls-loop-branch l = record {
   serve : ServeBranches l.search l.node.placing l.node.question l.yielded l.cases.items;
   adds : AddsCalls l.search l.node l.order l.yielded l.fn.finds l.finds;
+  kept : length l.fn.finds ≤ length l.finds;
 }
 
 abbrev pub invariant-read-loop-branch : goal.invariant-read-loop-branch
 invariant-read-loop-branch l = record {
   serve : ServeBranches l.search l.node.placing l.node.question l.yielded l.plans.items;
   adds : AddsReads l.search l.node l.number l.yielded l.fn.finds l.finds;
+  kept : length l.fn.finds ≤ length l.finds;
 }
 
 abbrev pub invariant-cut-loop-row : goal.invariant-cut-loop-row
-invariant-cut-loop-row l = AreCut l.search l.case l.fn.node l.course (take l.row-index l.rows)
+invariant-cut-loop-row l = record {
+  cut : AreCut l.search l.case l.fn.node l.course (take l.row-index l.rows);
+  within : GoesWithin l.fn.node l.course.node;
+  adds : AddsBroken l.search (IsOutsideKills l.search l.case l.number l.fn.node.trail l.fn.node.question) l.fn.finds l.finds;
+}
 
 abbrev pub invariant-outsides-loop-part : goal.invariant-outsides-loop-part
-invariant-outsides-loop-part l = AreMadeOn l.search l.case l.node.placing l.node.question (take l.part-index l.parts) l.plans.items
+invariant-outsides-loop-part l = record {
+  made : AreMadeOn l.search l.case l.node.placing l.node.question (take l.part-index l.parts) l.plans.items;
+  adds : AddsBroken l.search (IsOutsideKills l.search l.case l.number l.node.trail l.node.question) l.fn.finds l.finds;
+}
 
 abbrev pub invariant-remainders-loop-rest : goal.invariant-remainders-loop-rest
 invariant-remainders-loop-rest l = AddsBroken l.search (IsInCase l.search l.case l.node.trail l.node.question) l.fn.finds l.finds

@@ -3,28 +3,13 @@ use Rattle.std.specs.Prelude.{◌≡◌, ◌⊎◌, ◌++◌, List, [], ◌∷�
 use Rattle.std.specs.List.{AllByRecursion}
 use Rattle.ac_forms.specs.Rows.{Holds}
 use Rattle.ac_forms.specs.declared.row.Row.{Row}
-use Rattle.ac_syntax.specs.declared.tree.Order.{Order}
-use Rattle.ac_syntax.specs.declared.tree.Position.{Position}
-use Rattle.ac_syntax.specs.declared.tree.Site.{Site}
-use Rattle.ac_paths.specs.Calls.{pairing}
 use Rattle.ac_forms.specs.Members.{IsAmong}
 use Rattle.ac_paths.specs.declared.path.Path.{Path}
 use Rattle.ac_paths.specs.declared.path.Seat.{Seat}
 use Rattle.ac_widen.specs.declared.derivation.Entry.{Entry}
 use Rattle.ac_claims.specs.declared.types.Claim.{Claim}
-use Rattle.ac_graph.specs.Moves.{pairing_of}
-use Rattle.ac_graph.specs.Steps.{HaveFlows}
-use Rattle.ac_stopping.specs.Parts.{order_of}
 use Rattle.ac_leading.specs.Ends.{entries_at, MatchesNothing}
 use Rattle.ac_leading.specs.Leading.{Unfolding, ComesTo, params_of, point_of, seats_of}
-use Rattle.ac_unfold.specs.declared.types.Setting.{Setting}
-
--- the steps of both programs of the setting, whose flows are theirs, from the pairs of the start on, under the order that is listed
-pub record IsUnfoldingOf (setting : Setting) (start : Claim) (order : List (Site × Order)) (u : Unfolding) : Type 0 where
-  pub programs : pairing_of u.pair ≡ pairing setting.programs
-  pub flows : HaveFlows u.pair setting.left_flow.now setting.right_flow.now
-  pub claim : u.claim ≡ start
-  pub orders : (key : Position × Position) → u.order key ≡ order_of order key
 
 -- ---- ends
 

@@ -1,0 +1,4 @@
+pub mod Following
+pub mod Keys
+pub mod Known
+pub mod Statements

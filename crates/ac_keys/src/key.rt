@@ -1,0 +1,226 @@
+ghost use Rattle.std.specs.Prelude.{◌≡◌, ◌↔◌, ℤ, List, [], ◌∷◌, ◌++◌, length, IfOk, IsTrue, MatchOption, MatchResult};
+ghost use Rattle.ac_forms.specs.Rows.{AreRowsOver, Meets};
+ghost use Rattle.ac_forms.specs.Members.{IsAmong};
+ghost use Rattle.ac_forms.specs.Stops.{GivenWhere};
+ghost use Rattle.ac_syntax.specs.declared.tree.Position.{Position};
+ghost use Rattle.ac_hull.specs.Differences.{GapsFit};
+ghost use Rattle.ac_hull.specs.Fitting.{CanAdd, CanCombine};
+ghost use Rattle.ac_hull.specs.Stops.{HandsBack};
+ghost use Rattle.ac_widen.specs.Combinations.{Each, InHull};
+ghost use Rattle.ac_widen.specs.Derivations.{EntryOf, StandsAt};
+ghost use Rattle.ac_widen.specs.Paths.{AreAt};
+ghost use Rattle.ac_keys.specs.Keys.{positions, claim_of};
+ghost use Rattle.ac_keys.specs.Known.{CanMeet, HasModuli, IsKey, IsReasonAt, IsTooLarge, IsWith};
+ghost use Rattle.ac_keys.specs.declared.template.Template.{Template};
+
+use crate::claiming::rows_of;
+use crate::holding::{hold, is_inside};
+use crate::member::{claimed_rows, weighed, with_numbers};
+use crate::points::{stopped, with_point};
+use crate::template::Template;
+use ac_claims::types::Claim;
+use ac_forms::{FormStop, Row};
+use ac_hull::{Hull, HullStop};
+use ac_items::Items;
+use ac_syntax::tree::Position;
+use ac_widen::Reason;
+use std::alloc::{AllocError, Global};
+use std::marker::Model;
+
+/// What is known at a recurrence pair.
+#[derive(Debug, Drop)]
+pub struct Key {
+    left: Position,
+    right: Position,
+    hull: Hull,
+    members: Items<Items<i128>>,
+    places: Items<usize>,
+    kept: Items<usize>,
+    rows: Items<Row>,
+}
+
+impl Model for Key {
+    ghost use Rattle.ac_keys.specs.Keys.{KeyOf, AreKept};
+
+    ghost Value = { KeyOf };
+
+    ghost view = { λ k. record { left = k.left; right = k.right; hull = k.hull; members = k.members; places = k.places; kept = k.kept; rows = k.rows } };
+
+    ghost invariant = { λ k. AreKept k.hull k.members k.places k.kept k.rows };
+}
+
+impl Key {
+    /// A recurrence pair without members; each point there has that many numbers.
+    pub fn new(alloc: Global, left: Position, right: Position, columns: usize) -> Key
+        ensures value { result ≡ record { left = left; right = right; hull = record { columns = columns; members = [] }; members = []; places = []; kept = []; rows = [] } }
+        ensures right { (t : Template) (es : List (EntryOf (Position × Position))) → IsKey t es result }
+    {
+        Key {
+            left,
+            right,
+            hull: Hull::new(alloc, columns),
+            members: Items::new(alloc),
+            places: Items::new(alloc),
+            kept: Items::new(alloc),
+            rows: Items::new(alloc),
+        }
+    }
+
+    /// The left position.
+    pub fn left(&self) -> Position
+        ensures { result ≡ self.now.left }
+    {
+        self.left
+    }
+
+    /// The right position.
+    pub fn right(&self) -> Position
+        ensures { result ≡ self.now.right }
+    {
+        self.right
+    }
+
+    /// How many numbers a point has.
+    pub fn columns(&self) -> usize
+        ensures { result ≡ self.now.hull.columns }
+    {
+        self.hull.columns()
+    }
+
+    /// How many members were found.
+    pub fn count(&self) -> usize
+        ensures { result ≡ length self.now.members }
+    {
+        self.members.len()
+    }
+
+    /// Whether there is no member.
+    pub fn is_empty(&self) -> bool
+        ensures { IsTrue result ↔ (self.now.hull.members ≡ []) }
+    {
+        self.hull.is_empty()
+    }
+
+    /// Whether it is this pair of positions.
+    pub fn is_at(&self, left: &Position, right: &Position) -> bool
+        ensures { IsTrue result ↔ (positions self.now ≡ (left.now, right.now)) }
+    {
+        self.left == *left && self.right == *right
+    }
+
+    /// The claim: the row `-1 >= 0` before the first member; then the equalities of the hull, and template rows that all members meet.
+    pub fn claim(&self, alloc: Global) -> Result<Claim, AllocError>
+        ensures value { IfOk result (λ claim. claim ≡ claim_of self.now) }
+        ensures over { IfOk result (λ claim. AreRowsOver self.now.hull.columns claim.rows) }
+    {
+        Ok(Claim {
+            left: self.left,
+            right: self.right,
+            rows: rows_of(alloc, &self.hull, self.rows.as_slice())?,
+        })
+    }
+
+    /// Whether a point breaks the claim. `Overflow` with the hull's members and the point exactly where a template row of the claim, up
+    /// to the first that does not hold, can't be evaluated at the point in `i128`, or, where all of them hold, a number leaves `i128` as
+    /// the point is combined from the members.
+    pub fn breaks(&self, alloc: Global, point: &[i128]) -> Result<bool, HullStop>
+        requires { length point.now ≡ self.now.hull.columns }
+        ensures { GivenWhere result (HandsBack (self.now.hull.members ++ point.now ∷ [])) (CanMeet self.now point.now) (λ breaks. IsTrue breaks ↔ (¬ Meets (claim_of self.now).rows point.now)) }
+    {
+        let met = match hold(self.rows.as_slice(), point) {
+            Ok(met) => met,
+            Err(_wide) => return Err(stopped(alloc, self.hull.members(), point)),
+        };
+        if !met {
+            return Ok(true);
+        }
+        if self.hull.is_empty() {
+            return Ok(true);
+        }
+        match is_inside(alloc, &self.hull, point) {
+            Ok(inside) => Ok(!inside),
+            Err(stop) => Err(stop),
+        }
+    }
+
+    /// The pair with a further member, whose entry has the number `place`. `Overflow` exactly where a number of the hull's elimination
+    /// leaves `i128`, with the hull's members and the point, or a difference of two columns at a member does, with all members.
+    pub fn with_member(
+        self,
+        alloc: Global,
+        template: &Template,
+        point: &[i128],
+        place: usize,
+    ) -> Result<Key, HullStop>
+        requires width { length point.now ≡ self.hull.columns }
+        requires moduli { HasModuli template.now }
+        ensures made { MatchResult result (λ key. CanAdd self.hull.columns self.hull.members point.now × Each GapsFit (self.members ++ point.now ∷ []) × IsWith self point.now place key) (IsTooLarge self point.now) }
+        ensures right { IfOk result (λ key. (es : List (EntryOf (Position × Position))) → IsKey template.now es self → StandsAt es place (positions self) point.now → IsKey template.now es key) }
+    {
+        let Key {
+            left,
+            right,
+            mut hull,
+            members,
+            places,
+            kept,
+            rows: _,
+        } = self;
+        let grew = match hull.add(point) {
+            Ok(grew) => grew,
+            Err(stop) => return Err(stop),
+        };
+        let numbers = match with_numbers(places, kept, place, grew) {
+            Ok(numbers) => numbers,
+            Err(want) => return Err(HullStop::Memory(want)),
+        };
+        let members = match with_point(alloc, members, point) {
+            Ok(members) => members,
+            Err(want) => return Err(HullStop::Memory(want)),
+        };
+        match claimed_rows(alloc, template, &hull, members.as_slice()) {
+            Ok(rows) => Ok(Key {
+                left,
+                right,
+                hull,
+                members,
+                places: numbers.0,
+                kept: numbers.1,
+                rows,
+            }),
+            Err(FormStop::Wide) => Err(HullStop::Overflow(members)),
+            Err(FormStop::Memory(want)) => Err(HullStop::Memory(want)),
+        }
+    }
+
+    /// The number of the entry of the first member with this point; none exactly where no member has it.
+    #[tactic(auto, using(crate::proofs::Testing::search_steps))]
+    pub fn place_of(&self, point: &[i128]) -> Option<usize>
+        ensures { MatchOption result (¬ IsAmong point.now self.now.members) (λ place. (es : List (EntryOf (Position × Position))) → AreAt es (positions self.now) self.now.places self.now.members → StandsAt es place (positions self.now) point.now) }
+    {
+        let members = self.members.as_slice();
+        let places = self.places.as_slice();
+        for at in 0..places.len() {
+            if members[at].as_slice() == point {
+                return Some(places[at]);
+            }
+        }
+        None
+    }
+
+    /// Why a point of the claim stands: its combination from the members of the hull. None exactly where it is outside the hull;
+    /// `Overflow` exactly as `Hull::combination`.
+    pub fn reason(&self, alloc: Global, point: &[i128]) -> Result<Option<Reason>, HullStop>
+        requires { length point.now ≡ self.now.hull.columns }
+        ensures { GivenWhere result (HandsBack (self.now.hull.members ++ point.now ∷ [])) (CanCombine self.now.hull.members point.now) (λ found. MatchOption found (¬ InHull self.now.hull.members point.now) (IsReasonAt self.now point.now)) }
+    {
+        match self.hull.combination(alloc, point) {
+            Ok(Some(combination)) => match weighed(alloc, self.kept.as_slice(), &combination) {
+                Ok(reason) => Ok(Some(reason)),
+                Err(want) => Err(HullStop::Memory(want)),
+            },
+            Ok(None) => Ok(None),
+            Err(stop) => Err(stop),
+        }
+    }
+}

@@ -1,0 +1,67 @@
+-- Parts with one more claim.
+use Rattle.std.proofs.Common.{◌≡◌, ℕ, suc, ◌+◌, List, [], ◌∷◌, ◌++◌, map, length, Bool, Some, refl, sym, ap, ◌∙◌, subst, arith}
+use Rattle.std.specs.Prelude.{slice_get}
+use Rattle.std.specs.List.{AllByRecursion}
+use Rattle.std.proofs.lemmas.List.{map-append}
+use Rattle.ac_syntax.specs.declared.tree.Order.{Order}
+use Rattle.ac_syntax.specs.declared.tree.Pair.{Pair}
+use Rattle.ac_syntax.specs.declared.tree.Position.{Position}
+use Rattle.ac_choices.proofs.Keeping.{some-is}
+use Rattle.ac_paths.specs.Going.{Pairing}
+use Rattle.ac_claims.specs.Checking.{IsClaimMade}
+use Rattle.ac_claims.specs.declared.types.Claim.{Claim}
+use Rattle.ac_claims.specs.declared.types.ClaimTree.{ClaimTree}
+use Rattle.ac_claims.proofs.DueForms.{all_both}
+use Rattle.ac_decided.specs.Stopping.{key_of}
+use Rattle.ac_plans.specs.Due.{AreNumbered, StartsAccepted, pieces_of}
+use Rattle.ac_parts.specs.Growing.{StaysPlanned, StaysStopping}
+use Rattle.ac_parts.specs.Plans.{IsTreeAccepted, due_numbers, numbers_of}
+use Rattle.ac_parts.specs.Stopping.{StopsFrom, TreeStops}
+use Rattle.ac_parts.specs.declared.types.Part.{Part}
+use Rattle.ac_parts.proofs.Dues.{numbers_more}
+use Rattle.ac_parts.proofs.Lists.{get_behind}
+
+-- the numbers of plans of one claim
+numbered : (n : ℕ) (ts : List ClaimTree) → AllByRecursion (λ (t : ClaimTree). t.claim ≡ n) ts → map numbers_of ts ≡ map (λ (p : ℕ × ℕ). (n, p.0, p.1)) (map pieces_of ts)
+numbered n [] h = refl
+numbered n (t ∷ ts) h = λ i. (h.0 i, t.left_piece, t.right_piece) ∷ numbered n ts h.1 i
+
+accepted_each : (g : Pairing) (cs : List Claim) (n : ℕ) (claim : Claim) (ts : List ClaimTree) → slice_get cs n ≡ Some claim → AllByRecursion (λ (t : ClaimTree). t.claim ≡ n) ts → AllByRecursion (StartsAccepted g cs claim) ts → AllByRecursion (IsTreeAccepted g cs) ts
+accepted_each g cs n claim [] there h a = tt
+accepted_each g cs n claim (t ∷ ts) there h a =
+    ((λ c e. subst (λ (z : Claim). StartsAccepted g cs z t) (some-is claim c (sym there ∙ ap (slice_get cs) (sym h.0) ∙ e)) a.0), accepted_each g cs n claim ts there h.1 a.1)
+
+pub stays_planned : (part longer : Part) (claim : Claim) (trees : List ClaimTree) → longer.claims.items ≡ part.claims.items ++ claim ∷ [] → longer.trees.items ≡ part.trees.items ++ trees → StaysPlanned part claim trees longer
+stays_planned part longer claim trees ec et g cs first p c =
+    let n = first + length part.claims.items in
+    let all = part.claims.items ++ claim ∷ [] in
+    let plans = part.trees.items ++ trees in
+    let due : map numbers_of plans ≡ due_numbers g first all =
+    map-append numbers_of part.trees.items trees
+    ∙ (λ i. p.due i ++ (numbered n trees c.numbered ∙ ap (map (λ (q : ℕ × ℕ). (n, q.0, q.1))) c.pieces) i)
+    ∙ sym (numbers_more g first part.claims.items claim) in
+    let made = all_both (IsClaimMade g) part.claims.items (claim ∷ []) p.made (c.made, tt) in
+    let accepted = all_both (IsTreeAccepted g cs) part.trees.items trees p.accepted (accepted_each g cs n claim trees c.there c.numbered c.accepted) in
+    record {
+      made = subst (AllByRecursion (IsClaimMade g)) (sym ec) made;
+      due = ap (map numbers_of) et ∙ due ∙ ap (due_numbers g first) (sym ec);
+      accepted = subst (AllByRecursion (IsTreeAccepted g cs)) (sym et) accepted;
+    }
+
+stops_each : (pair : Pair) (order : Position × Position → Order) (recurrent : Position × Position → Bool) (numbers : ℕ → Bool) (cs : List Claim) (n : ℕ) (claim : Claim) (ts : List ClaimTree) → slice_get cs n ≡ Some claim → AllByRecursion (λ (t : ClaimTree). t.claim ≡ n) ts
+    → AllByRecursion (λ (t : ClaimTree). StopsFrom pair order recurrent numbers (key_of claim) t.tree) ts → AllByRecursion (TreeStops pair order recurrent numbers cs) ts
+stops_each pair order recurrent numbers cs n claim [] there h s = tt
+stops_each pair order recurrent numbers cs n claim (t ∷ ts) there h s =
+    ((λ c e. subst (λ (z : Claim). StopsFrom pair order recurrent numbers (key_of z) t.tree) (some-is claim c (sym there ∙ ap (slice_get cs) (sym h.0) ∙ e)) s.0), stops_each pair order recurrent numbers cs n claim ts there h.1 s.1)
+
+pub stays_stopping : (part longer : Part) (claim : Claim) (trees : List ClaimTree) → longer.trees.items ≡ part.trees.items ++ trees → StaysStopping part claim trees longer
+stays_stopping part longer claim trees et pair order recurrent numbers cs n s there h own =
+    subst (AllByRecursion (TreeStops pair order recurrent numbers cs)) (sym et) (all_both (TreeStops pair order recurrent numbers cs) part.trees.items trees s (stops_each pair order recurrent numbers cs n claim trees there h own))
+
+-- ---- the claims of a part behind others: the output's, then those of recurrence pairs
+
+pub output_there : (before claims : List Claim) (output : Claim) → slice_get (before ++ output ∷ claims) (length before) ≡ Some output
+output_there before claims output = let z : length before ≡ length before + 0 = omega arith in ap (slice_get (before ++ output ∷ claims)) z ∙ get_behind before (output ∷ claims) 0 output refl
+
+pub claims_numbered : (before claims : List Claim) (output : Claim) (base : ℕ) → base ≡ length before + 1 → AreNumbered base claims (before ++ output ∷ claims)
+claims_numbered before claims output base b i c e = let z : base + i ≡ length before + suc i = omega (arith, b) in ap (slice_get (before ++ output ∷ claims)) z ∙ get_behind before (output ∷ claims) (suc i) c e

@@ -1,0 +1,12 @@
+pub mod Lists
+pub mod Longer
+pub mod Spelled
+pub mod Dues
+pub mod Claims
+pub mod Whole
+pub mod Grown
+pub mod Stops
+pub mod Columns
+pub mod Outputs
+pub mod Points
+pub mod Shapes

@@ -1,0 +1,10 @@
+pub mod Lists
+pub mod Entered
+pub mod Ending
+pub mod Members
+pub mod Taking
+pub mod Beginning
+pub mod Onward
+pub mod Making
+pub mod Choosing
+pub mod Orders

@@ -1,0 +1,97 @@
+-- What a further member leaves as it is.
+use Rattle.std.proofs.Common.{◌≡◌, inl, inr, ℕ, zero, suc, ◌+◌, ◌<◌, ℤ, List, [], ◌∷◌, ◌++◌, map, length, take, drop, get_or, sum, Some, refl, sym, ap, ◌∙◌, subst, arith, length-append}
+use Rattle.std.specs.Prelude.{slice_get}
+use Rattle.std.specs.List.{insert, remove}
+use Rattle.std.proofs.lemmas.Option.{slice_get_within}
+use Rattle.ac_syntax.specs.declared.tree.Pair.{Pair}
+use Rattle.ac_syntax.specs.declared.tree.Position.{Position}
+use Rattle.ac_setting.specs.Programs.{point_width}
+use Rattle.ac_widen.specs.Combinations.{Each}
+use Rattle.ac_widen.specs.Derivations.{EntryOf, StandsAt}
+use Rattle.ac_keys.specs.Keys.{KeyOf, positions}
+use Rattle.ac_keys.specs.Known.{IsKey, IsWith}
+use Rattle.ac_keys.specs.declared.template.Template.{Template}
+use Rattle.ac_keys.proofs.Standing.{key_stays}
+use Rattle.ac_rounds.specs.Known.{IsWide}
+use Rattle.ac_rounds.specs.Members.{GrowsAt, HasWidthAt}
+use Rattle.ac_rounds.proofs.Lists.{each_changed, get_middle, in_get, each_in, length_taken, map_changed, sum_changed, take_none}
+
+same_columns : (k g : KeyOf) (p : List ℤ) (place : ℕ) → IsWith k p place g → g.hull.columns ≡ k.hull.columns
+same_columns k g p place h = elim h.hull [ inl z ↦ ap (λ x. x.columns) z.0.1 | inr z ↦ ap (λ x. x.columns) z.0.1 ]
+
+pub same_positions : (k g : KeyOf) (p : List ℤ) (place : ℕ) → IsWith k p place g → positions k ≡ positions g
+same_positions k g p place h = λ i. (sym h.left i, sym h.right i)
+
+-- the key that grows
+pub grows_key : (t : Template) (old : List KeyOf) (at : ℕ) (p : List ℤ) (place : ℕ) (new : List KeyOf) (g : GrowsAt t old at p place new) (k : KeyOf) → slice_get old at ≡ Some k → g.key ≡ k
+grows_key t old at p place new g k is =
+    let there : slice_get old at ≡ Some g.key = ap (λ (xs : List KeyOf). slice_get xs at) g.old_is ∙ subst (λ (i : ℕ). slice_get (g.front ++ g.key ∷ g.back) i ≡ Some g.key) g.at_is (get_middle g.front g.key g.back) in
+    let same : Some g.key ≡ Some k = sym there ∙ is in
+    cc
+
+pub grown_keys : (t : Template) (old : List KeyOf) (at : ℕ) (p : List ℤ) (place : ℕ) (new : List KeyOf) (es more : List (EntryOf (Position × Position))) (g : GrowsAt t old at p place new) → Each (IsKey t es) old → StandsAt (es ++ more) place (positions g.key) p
+    → Each (IsKey t (es ++ more)) new
+grown_keys t old at p place new es more g h stands =
+    let all = subst (Each (IsKey t es)) g.old_is h in
+    let own = each_in (IsKey t es) (g.front ++ g.key ∷ g.back) g.key all (in_get (g.front ++ g.key ∷ g.back) (length g.front) g.key (get_middle g.front g.key g.back)) in
+    subst (Each (IsKey t (es ++ more))) (sym g.new_is)
+    (each_changed (IsKey t es) (IsKey t (es ++ more)) g.front g.key g.grown g.back (λ k x. key_stays t es more k x) (g.right (es ++ more) (key_stays t es more g.key own) stands) all)
+
+pub grown_widths : (pair : Pair) (t : Template) (old : List KeyOf) (at : ℕ) (p : List ℤ) (place : ℕ) (new : List KeyOf) (g : GrowsAt t old at p place new) → Each (IsWide pair) old → Each (IsWide pair) new
+grown_widths pair t old at p place new g h =
+    let all = subst (Each (IsWide pair)) g.old_is h in
+    let own = each_in (IsWide pair) (g.front ++ g.key ∷ g.back) g.key all (in_get (g.front ++ g.key ∷ g.back) (length g.front) g.key (get_middle g.front g.key g.back)) in
+    let wide : IsWide pair g.grown = same_columns g.key g.grown p place g.member ∙ own ∙ ap (point_width pair) (same_positions g.key g.grown p place g.member) in
+    subst (Each (IsWide pair)) (sym g.new_is) (each_changed (IsWide pair) (IsWide pair) g.front g.key g.grown g.back (λ k x. x) wide all)
+
+pub grown_pairs : (t : Template) (old : List KeyOf) (at : ℕ) (p : List ℤ) (place : ℕ) (new : List KeyOf) (g : GrowsAt t old at p place new) → map positions new ≡ map positions old
+grown_pairs t old at p place new g =
+    ap (map positions) g.new_is ∙ sym (map_changed positions g.front g.key g.grown g.back (same_positions g.key g.grown p place g.member)) ∙ ap (map positions) (sym g.old_is)
+
+pub grown_count : (t : Template) (old : List KeyOf) (at : ℕ) (p : List ℤ) (place : ℕ) (new : List KeyOf) (g : GrowsAt t old at p place new) → sum (map (λ (k : KeyOf). length k.members) old) < sum (map (λ (k : KeyOf). length k.members) new)
+grown_count t old at p place new g =
+    let more : length g.grown.members ≡ length g.key.members + 1 = ap length g.member.members ∙ length-append g.key.members (p ∷ []) in
+    let less : length g.key.members < length g.grown.members = omega (arith, more) in
+    let count : List KeyOf → ℕ = λ ks. sum (map (λ (k : KeyOf). length k.members) ks) in
+    subst (λ (xs : List KeyOf). count xs < count new) (sym g.old_is) (subst (λ (xs : List KeyOf). count (g.front ++ g.key ∷ g.back) < count xs) (sym g.new_is) (sum_changed (λ (k : KeyOf). length k.members) g.front g.key g.grown g.back less))
+
+-- ---- one key taken out and put back
+
+drop_none : {A : Type 0} (xs : List A) → drop 0 xs ≡ xs
+drop_none [] = refl
+drop_none (x ∷ xs) = refl
+
+put_back : {A : Type 0} (xs : List A) (at : ℕ) (x : A) → at < length xs → insert (remove xs at) at x ≡ take at xs ++ x ∷ drop (suc at) xs
+put_back [] at x l = absurd (omega (arith, l))
+put_back (y ∷ xs) zero x l = λ i. take_none (drop 0 xs) i ++ x ∷ drop_none (drop 0 xs) i
+put_back (y ∷ xs) (suc at) x l = ap (λ zs. y ∷ zs) (put_back xs at x (omega (arith, l)))
+
+cut_at : {A : Type 0} (xs : List A) (at : ℕ) (x : A) → at < length xs → x ≡ get_or xs at x → xs ≡ take at xs ++ x ∷ drop (suc at) xs
+cut_at [] at x l e = absurd (omega (arith, l))
+cut_at (y ∷ xs) zero x l e = λ i. sym e i ∷ sym (drop_none xs) i
+cut_at (y ∷ xs) (suc at) x l e = ap (λ zs. y ∷ zs) (cut_at xs at x (omega (arith, l)) e)
+
+pub grows_at : (t : Template) (old : List KeyOf) (at : ℕ) (p : List ℤ) (place : ℕ) (key grown : KeyOf) (rest new : List KeyOf) → at < length old → key ≡ get_or old at key → rest ≡ remove old at → new ≡ insert rest at grown → IsWith key p place grown
+    → ((es : List (EntryOf (Position × Position))) → IsKey t es key → StandsAt es place (positions key) p → IsKey t es grown) → GrowsAt t old at p place new
+grows_at t old at p place key grown rest new l is e f member right = record {
+  front = take at old;
+  key = key;
+  back = drop (suc at) old;
+  grown = grown;
+  old_is = cut_at old at key l is;
+  at_is = length_taken old at l;
+  new_is = f ∙ ap (λ (xs : List KeyOf). insert xs at grown) e ∙ put_back old at grown l;
+  member = member;
+  right = right;
+}
+
+pub read_is : {A : Type 0} (xs : List A) (at : ℕ) (x y : A) → slice_get xs at ≡ Some y → x ≡ get_or xs at x → x ≡ y
+read_is [] at x y e is = absurd cc
+read_is (z ∷ xs) zero x y e is = let same : z ≡ y = cc in is ∙ same
+read_is (z ∷ xs) (suc at) x y e is = read_is xs at x y e is
+
+pub width_within : (keys : List KeyOf) (at : ℕ) (p : List ℤ) → HasWidthAt keys at p → at < length keys
+width_within keys at p h = slice_get_within keys at h.0 h.1
+
+pub width_read : (keys : List KeyOf) (at : ℕ) (p : List ℤ) (key : KeyOf) → HasWidthAt keys at p → key ≡ get_or keys at key → length p ≡ key.hull.columns
+width_read keys at p key h is = h.2 ∙ ap (λ (k : KeyOf). k.hull.columns) (sym (read_is keys at key h.0 h.1 is))

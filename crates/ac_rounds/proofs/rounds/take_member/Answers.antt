@@ -1,0 +1,56 @@
+use Rattle.std.proofs.Common.{◌≡◌, ◌∙◌, ◌-◌, ap, length, subst, suc, sym, true, arith, List, ℤ}
+use Rattle.ac_forms.specs.Rows.{Meets}
+use Rattle.ac_keys.specs.Keys.{claim_of}
+use Rattle.ac_rounds.specs.Members.{GrowsAt}
+use Rattle.ac_rounds.proofs.Taking.{end_wide, key_at, some_entries, taken_grown, taken_nothing}
+use Rattle.ac_rounds.proofs.rounds.take_member.Goals as goal
+
+pub breaks-requires : goal.breaks-requires
+breaks-requires c =
+    let r = c.requires.path in
+    let known = c.args.known in
+    let k = key_at known c.args.at c.args.end.now c.index.result.now c.requires.key c.index.ensures in
+    ap length c.as_slice-point.ensures ∙ end_wide r.0 c.args.template.now r.1 known c.args.path.now r.2 c.args.end.now c.requires.ends c.args.at c.index.result.now k.0 k.1
+
+pub returns-in-Ok-false : goal.returns-in-Ok-false
+returns-in-Ok-false c =
+    λ u claims h.
+    let known = c.args.known in
+    let end = c.args.end.now in
+    let x = c.index.result.now in
+    let k = key_at known c.args.at end x c.requires.key c.index.ensures in
+    taken_nothing u c.args.template.now claims known c.args.begin.now c.args.path.now h end c.requires.ends c.args.at x k.0 k.1
+    (λ n.
+    let t : c.in-Ok-false.field-0 ≡ true = c.in-Ok-false.ensures.1.1 (subst (λ (p : List ℤ). ¬ (Meets (claim_of x).rows p)) (sym c.as_slice-point.ensures) n) in
+    let f = c.in-Ok-false.field-0-test in
+    absurd cc)
+
+pub overflow_sub-place : goal.overflow_sub-place
+overflow_sub-place c =
+    let r = c.requires.path in
+    let some = some_entries r.0 c.args.template.now r.1 c.args.known c.args.begin.now c.args.path.now c.in-Ok.entries r.2 c.requires.steps c.in-Ok.ensures in
+    let long = c.len-place.ensures in
+    omega (arith, some, long)
+
+pub with_member-requires-clause-width : goal.with_member-requires-clause-width
+with_member-requires-clause-width c =
+    let r = c.requires.path in
+    let known = c.args.known in
+    let x = c.index.result.now in
+    let k = key_at known c.args.at c.args.end.now x c.requires.key c.index.ensures in
+    (x, k.0, ap length c.as_slice-point.ensures ∙ end_wide r.0 c.args.template.now r.1 known c.args.path.now r.2 c.args.end.now c.requires.ends c.args.at x k.0 k.1)
+
+pub returns-in-Ok-with_member : goal.returns-in-Ok-with_member
+returns-in-Ok-with_member c =
+    λ u claims h.
+    let t = c.args.template.now in
+    let known = c.args.known in
+    let end = c.args.end.now in
+    let x = c.index.result.now in
+    let k = key_at known c.args.at end x c.requires.key c.index.ensures in
+    let entries = c.in-Ok.entries in
+    let some = some_entries u t claims known c.args.begin.now c.args.path.now entries h c.requires.steps c.in-Ok.ensures in
+    let long = c.len-place.ensures in
+    let last : suc (c.len-place.result - 1) ≡ length entries = omega (arith, some, long) in
+    let grows = subst (λ (p : List ℤ). GrowsAt t known.keys.items c.args.at p (c.len-place.result - 1) c.in-Ok-with_member.keys.items) c.as_slice-point.ensures c.in-Ok-with_member.ensures in
+    taken_grown u t claims known (record { keys = c.in-Ok-with_member.keys; entries = entries }) c.args.begin.now c.args.path.now h c.requires.steps end c.requires.ends c.args.at x k.0 k.1 (c.len-place.result - 1) c.in-Ok.ensures last grows

@@ -1,0 +1,36 @@
+use Rattle.std.proofs.Common.{◌++◌, ◌∷◌, [], List, subst, sym}
+use Rattle.ac_claims.specs.declared.types.Claim.{Claim}
+use Rattle.ac_leading.specs.Leading.{Unfolding}
+use Rattle.ac_widen.specs.declared.derivation.Entry.{Entry}
+use Rattle.ac_rounds.specs.Known.{claims_of}
+use Rattle.ac_rounds.specs.Rounds.{IsRoundOf}
+use Rattle.ac_rounds.specs.Taking.{BeginsIf, IsPathFor, Takes}
+use Rattle.ac_rounds.specs.declared.known.Known.{Known}
+use Rattle.ac_rounds.proofs.Lists.{if_ok}
+use Rattle.ac_rounds.proofs.Onward.{behind_grown, behind_nothing, path_later}
+use Rattle.ac_rounds.proofs.rounds.take_next.Goals as goal
+
+pub returns-in-Nothing : goal.returns-in-Nothing
+returns-in-Nothing c =
+    let t = c.args.template.now in
+    let begin = c.args.begin.now in
+    let path = c.args.path.now in
+    let known = c.in-Nothing.known in
+    if_ok (λ next. (u : Unfolding) (claims : List Claim) → IsPathFor u t claims known path → Takes u t claims known begin path next)
+    (λ next. (u : Unfolding) (start : Known) (paths : List (List Entry)) → IsRoundOf u t start paths c.args.round → IsPathFor u t (claims_of start) start path → BeginsIf u t start path begin → IsRoundOf u t start (paths ++ path ∷ []) next)
+    c.take_path.result
+    (λ next f u start paths h p b.
+    let g = subst (IsRoundOf u t start paths) c.in-Nothing.is h in
+    behind_nothing u t start paths known begin path next g b (f u (claims_of start) (path_later u t start known path p g.is_known g.pairs)))
+    c.take_path.ensures
+
+pub returns-in-Ok : goal.returns-in-Ok
+returns-in-Ok c =
+    λ u start paths h p b.
+    let t = c.args.template.now in
+    let begin = c.args.begin.now in
+    let path = c.args.path.now in
+    let known = c.in-Grown.known in
+    let g = subst (IsRoundOf u t start paths) c.in-Grown.is h in
+    let takes = c.in-Ok.ensures u (claims_of start) (path_later u t start known path p g.is_known g.pairs) in
+    subst (IsRoundOf u t start (paths ++ path ∷ [])) (sym c.as_grown.ensures) (behind_grown u t start paths known begin path c.in-Ok.round g b takes)

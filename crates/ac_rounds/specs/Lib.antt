@@ -1,0 +1,10 @@
+pub mod Known
+pub mod Rounds
+pub mod Entering
+pub mod Beginning
+pub mod Members
+pub mod Taking
+pub mod Ends
+pub mod Parts
+pub mod Making
+pub mod Statements

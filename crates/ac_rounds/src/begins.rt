@@ -1,0 +1,104 @@
+//! Where broken paths begin.
+ghost use Rattle.std.specs.Prelude.{◌≡◌, ◌++◌, length, List, [], ◌∷◌, IfOk, OnOk};
+ghost use Rattle.ac_leading.specs.Broken.{IsBroken};
+ghost use Rattle.ac_leading.specs.Leading.{Unfolding};
+ghost use Rattle.ac_syntax.specs.declared.tree.Position.{Position};
+ghost use Rattle.ac_widen.specs.Derivations.{EntryOf};
+ghost use Rattle.ac_keys.specs.Known.{IsKey};
+ghost use Rattle.ac_keys.specs.declared.template.Template.{Template};
+ghost use Rattle.ac_rounds.specs.Beginning.{AtEach, BeginsInside, BeginsOf, IsInside};
+ghost use Rattle.ac_rounds.specs.Entering.{GoesOn};
+ghost use Rattle.ac_rounds.specs.Known.{claims_of};
+ghost use Rattle.ac_rounds.specs.Rounds.{ArePathsOf, StartsFrom};
+ghost use Rattle.ac_rounds.specs.declared.begins.Begin.{Begin};
+
+use crate::known::Known;
+use ac_hull::HullStop;
+use ac_items::Items;
+use ac_keys::Key;
+use ac_widen::{Entry, Reason};
+use std::alloc::Global;
+
+/// Where a path begins.
+#[derive(Debug, Drop)]
+pub(crate) enum Begin {
+    /// At the entry with this number.
+    At(usize),
+    /// At a further entry, which stands for this reason.
+    Further(Reason),
+}
+
+/// Where a path begins from a point of a key's claim: at the entry of the member with this point, if a step goes on from there;
+/// else at a further entry, in the hull of the members.
+fn begin_at(alloc: Global, key: &Key, path: &[Entry]) -> Result<Begin, HullStop>
+    requires right { (t : Template) × (es : List (EntryOf (Position × Position))) × IsKey t es key.now }
+    requires inside { IsInside key.now path.now }
+    ensures steps { IfOk result (GoesOn path.now) }
+    ensures begins { IfOk result (BeginsInside key.now path.now) }
+{
+    let point = path[0].point.as_slice();
+    if path.len() > 1 {
+        if let Some(place) = key.place_of(point) {
+            return Ok(Begin::At(place));
+        }
+    }
+    match key.reason(alloc, point) {
+        Ok(Some(reason)) => Ok(Begin::Further(reason)),
+        Ok(None) => unreachable!(),
+        Err(stop) => Err(stop),
+    }
+}
+
+/// Where a broken path begins, from the claim of the key with a number, or from the claim of an output.
+fn begin_of(
+    alloc: Global,
+    known: &Known,
+    from: Option<usize>,
+    path: &[Entry],
+) -> Result<Begin, HullStop>
+    requires { (u : Unfolding) × (t : Template) × StartsFrom u t known.now from × IsBroken u (claims_of known.now) path.now }
+    ensures { IfOk result (BeginsOf known.now from path.now) }
+{
+    match from {
+        Some(at) => begin_at(alloc, &known.keys[at], path),
+        None => Ok(Begin::Further(Reason::Output)),
+    }
+}
+
+/// Adds where a broken path begins.
+fn push_begin(
+    alloc: Global,
+    known: &Known,
+    from: Option<usize>,
+    path: &[Entry],
+    begins: &mut Items<Begin>,
+) -> Result<(), HullStop>
+    requires { (u : Unfolding) × (t : Template) × StartsFrom u t known.now from × IsBroken u (claims_of known.now) path.now }
+    ensures { OnOk result ((begin : Begin) × BeginsOf known.now from path.now begin × (begins.new ≡ begins.old ++ begin ∷ [])) }
+{
+    match begin_of(alloc, known, from, path) {
+        Ok(begin) => match begins.push(begin) {
+            Ok(()) => Ok(()),
+            Err(want) => Err(HullStop::Memory(want)),
+        },
+        Err(stop) => Err(stop),
+    }
+}
+
+/// Where broken paths begin, one after the other.
+pub(crate) fn begins_of(
+    alloc: Global,
+    known: &Known,
+    from: Option<usize>,
+    paths: &[Items<Entry>],
+) -> Result<Items<Begin>, HullStop>
+    requires { (u : Unfolding) × (t : Template) × ArePathsOf u t known.now from paths.now }
+    ensures count { IfOk result (λ begins. length begins ≡ length paths.now) }
+    ensures each { IfOk result (AtEach (BeginsOf known.now from) paths.now) }
+{
+    let mut begins = Items::new(alloc);
+    for path in paths {
+        push_begin(alloc, known, from, path.as_slice(), &mut begins)?;
+    }
+    Ok(begins)
+}

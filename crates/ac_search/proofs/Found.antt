@@ -1,0 +1,216 @@
+-- The part of an output that stands.
+use Rattle.std.proofs.Common.{◌≡◌, ◌⊎◌, inl, inr, ◌<◌, ◌&&◌, ℕ, zero, suc, ◌+◌, List, ◌∷◌, ◌++◌, append_assoc, length, length-append, take, drop, Bool, true, false, Some, nat_le, refl, sym, ap, subst, ◌∙◌, arith}
+use Rattle.std.specs.Prelude.{slice_get}
+use Rattle.std.specs.List.{AllByRecursion}
+use Rattle.std.proofs.lemmas.Bool.{le-leb}
+use Rattle.std.proofs.Math.Seq.{take-length}
+use Rattle.ac_forms.specs.Members.{IsAmong}
+use Rattle.ac_forms.specs.declared.row.Row.{Row}
+use Rattle.ac_syntax.specs.declared.tree.Order.{Order}
+use Rattle.ac_syntax.specs.declared.tree.Position.{Position}
+use Rattle.ac_syntax.specs.declared.tree.Position.TheVariants.{Output}
+use Rattle.ac_syntax.specs.declared.tree.Site.{Site}
+use Rattle.ac_claims.specs.declared.types.Claim.{Claim}
+use Rattle.ac_claims.specs.declared.types.ClaimTree.{ClaimTree}
+use Rattle.ac_graft.specs.Plans.{AcceptsPlan}
+use Rattle.ac_graph.specs.Moves.{IsRoot}
+use Rattle.ac_hits.specs.Hits.{HitsWithin, TreesHitWithin}
+use Rattle.ac_hits.proofs.First.{first_claims_accept}
+use Rattle.ac_hits.proofs.Cut.{stops_are_cut}
+use Rattle.ac_hull.specs.Templates.{template_rows}
+use Rattle.ac_widen.specs.Claims.{IsClaimRow}
+use Rattle.ac_widen.specs.Combinations.{Each}
+use Rattle.ac_widen.proofs.Combining.{each_among}
+use Rattle.ac_widen.proofs.Walking.{kept_rows}
+use Rattle.ac_setting.specs.Programs.{point_width}
+use Rattle.ac_searched.specs.Searched.{Widening, IsWideningOf}
+use Rattle.ac_decided.specs.Stopping.{key_of, programs_of}
+use Rattle.ac_derived.specs.Hulls.{entries_of}
+use Rattle.ac_stopping.specs.Parts.{order_of}
+use Rattle.ac_plans.specs.Due.{StartsAccepted}
+use Rattle.ac_keys.specs.Keys.{KeyOf, claim_of, positions}
+use Rattle.ac_keys.specs.Known.{IsKey, bare, kept_of, template_at}
+use Rattle.ac_rounds.specs.Known.{IsWide, pairs_of}
+use Rattle.ac_rounds.specs.declared.known.Known.{Known}
+use Rattle.ac_parts.specs.Elements.{IsElementClaim}
+use Rattle.ac_parts.specs.Parts.{in_part}
+use Rattle.ac_parts.specs.Plans.{ArePlanned, IsTreeAccepted}
+use Rattle.ac_parts.specs.Stopping.{TreeStops}
+use Rattle.ac_parts.specs.declared.types.Part.{Part}
+use Rattle.ac_search.specs.Planning.{HaveClaims, IsBegun, IsPartly, IsPlanned, IsPlannedTo}
+use Rattle.ac_search.specs.Ranks.{AreClaimsAt, AreRanks}
+use Rattle.ac_search.specs.Searches.{IsFound, IsKnownUnder, IsSearch, rows_at}
+use Rattle.ac_search.specs.declared.planning.Planning.{Planning}
+use Rattle.ac_search.specs.declared.planning.Planning.TheVariants as planning
+use Rattle.ac_search.specs.declared.types.Search.{Search}
+use Rattle.ac_search.proofs.Lists.{all_both, among_map, among_take, get_among, get_front, get_map, take_rest}
+use Rattle.ac_search.proofs.Programs.{recurring, template_is}
+use Rattle.ac_search.proofs.Ranked.{claim_of_key, counted, key_has_claim}
+
+-- ---- claims of keys
+
+-- a claim stands at each of the pairs up to which the search goes
+pub have_claims : (s : Search) (order : List (Site × Order)) (known : Known) (numbers : List ℕ) (claims : List Claim) → IsKnownUnder s order known → AreRanks known.keys.items numbers → AreClaimsAt known.keys.items numbers claims → HaveClaims s.stops.now claims
+have_claims s order known numbers claims k r a key i =
+    let of = among_map positions known.keys.items key ((k.pairs key).1 i) in
+    (claim_of of.0, key_has_claim known.keys.items numbers claims of.0 r a of.1, sym of.2)
+
+-- the rows of a claim are claim rows
+key_rows : (s : Search) (order : List (Site × Order)) (known : Known) (w : Widening) (key : KeyOf) → IsSearch s → IsKnownUnder s order known → IsWideningOf s.pair.now w → IsAmong key known.keys.items
+    → Each (IsClaimRow (rows_at s.pair.now w (positions key))) (claim_of key).rows
+key_rows s order known w key is k v i =
+    let right : IsKey s.template.now (entries_of known.entries) key = each_among (IsKey s.template.now (entries_of known.entries)) key known.keys.items k.right.keys i in
+    let wide : key.hull.columns ≡ point_width s.pair.now (positions key) = each_among (IsWide s.pair.now) key known.keys.items k.right.widths i in
+    let same : template_at s.template.now key ≡ rows_at s.pair.now w (positions key) =
+    ap (λ (n : ℕ). template_rows n s.template.now.thresholds s.template.now.moduli) wide ∙ sym (template_is s w is v (positions key)) in
+    let rows = kept_rows (bare key.hull.columns (template_at s.template.now key)) (entries_of known.entries) (positions key) (kept_of (template_at s.template.now key) key) right.1 in
+    subst (λ (t : List Row). Each (IsClaimRow t) (claim_of key).rows) same rows
+
+one_key : (known : Known) (i j : ℕ) (key other : KeyOf) → slice_get known.keys.items i ≡ Some key → slice_get known.keys.items j ≡ Some other → i ≡ j → key ≡ other
+one_key known i j key other a b e = let c : slice_get known.keys.items j ≡ Some key = subst (λ (n : ℕ). slice_get known.keys.items n ≡ Some key) e a in cc
+
+-- ---- the output
+
+-- an output is no recurrence pair
+no_output : (s : Search) (w : Widening) (c : Claim) → IsSearch s → IsWideningOf s.pair.now w → c.left ≡ Output s.array → c.right ≡ Output s.array → ¬ (w.recurrent (key_of c) ≡ true)
+no_output s w c is v l r e = by ((recurring s w is v).recur (key_of c) e).root
+  where
+    by : IsRoot c.left ⊎ IsRoot c.right → ⊥
+    by (inl a) = subst IsRoot l a
+    by (inr b) = subst IsRoot r b
+
+head_taken : {A : Type 0} (x : A) (xs : List A) (n : ℕ) → 0 < n → slice_get (take n (x ∷ xs)) 0 ≡ Some x
+head_taken x xs zero l = absurd (omega (arith, l))
+head_taken x xs (suc n) l = refl
+
+-- ---- plans that end at the first claims
+
+parts_true : (a b : Bool) → a && b ≡ true → (a ≡ true) × (b ≡ true)
+parts_true true b h = (refl, h)
+parts_true false b h = absurd cc
+
+both_true : (a b : Bool) → a ≡ true → b ≡ true → a && b ≡ true
+both_true a b h k = (λ i. h i && b) ∙ k
+
+in_fewer : (first all few c : ℕ) → in_part first all c ≡ true → c < first + few → in_part first few c ≡ true
+in_fewer first all few c h l = both_true (nat_le first c) (nat_le (suc c) (first + few)) (parts_true (nat_le first c) (nat_le (suc c) (first + all)) h).0 (le-leb (suc c) (first + few) (omega (arith, l)))
+
+-- of all claims those of the part are the first ones
+parts_of_all : (s : Search) (order : List (Site × Order)) (all : List Claim) (part : Part) → IsPartly s order all part → (rest : List Claim) × (part.claims.items ++ rest ≡ all)
+parts_of_all s order all part partly =
+    let n = length part.claims.items in
+    (drop n all, ap (λ cs. cs ++ drop n all) partly.claims ∙ take_rest all n)
+
+-- the plans of the part, by its own claims
+record IsOwn (s : Search) (order : List (Site × Order)) (part : Part) : Type 0 where
+  planned : (before : List Claim) → length before ≡ s.first → ArePlanned (programs_of s.pair.now) (before ++ part.claims.items) s.first part.claims.items part.trees.items
+  stops : (before : List Claim) → length before ≡ s.first → (w : Widening) → IsWideningOf s.pair.now w
+      → AllByRecursion (TreeStops s.pair.now (order_of order) w.recurrent (in_part s.first (length part.claims.items)) (before ++ part.claims.items)) part.trees.items
+
+-- where all claims are there
+own_whole : (s : Search) (order : List (Site × Order)) (all : List Claim) (part : Part) → IsPartly s order all part → length part.claims.items ≡ length all → IsOwn s order part
+own_whole s order all part partly long =
+    let same : all ≡ part.claims.items = sym (partly.claims ∙ ap (λ (n : ℕ). take n all) long ∙ take-length all) in
+    record {
+      planned = λ before len. subst (λ cs. ArePlanned (programs_of s.pair.now) (before ++ cs) s.first part.claims.items part.trees.items) same (partly.planned before len);
+      stops = λ before len w v. subst (λ cs. AllByRecursion (TreeStops s.pair.now (order_of order) w.recurrent (in_part s.first (length cs)) (before ++ cs)) part.trees.items) same (partly.stops before len w v);
+    }
+
+-- where no plan ends at another one
+own_cut : (s : Search) (order : List (Site × Order)) (all : List Claim) (part : Part) → IsPartly s order all part → TreesHitWithin (s.first + length part.claims.items) part.trees.items → IsOwn s order part
+own_cut s order all part partly hits =
+    let own = part.claims.items in
+    let rest = (parts_of_all s order all part partly).0 in
+    let whole = (parts_of_all s order all part partly).1 in
+    record {
+      planned = λ before len.
+          let p = partly.planned before len in
+          let again : (before ++ own) ++ rest ≡ before ++ all = append_assoc before own rest ∙ ap (λ cs. before ++ cs) whole in
+          let count : s.first + length own ≡ length (before ++ own) = ap (λ (n : ℕ). n + length own) (sym len) ∙ sym (length-append before own) in
+          record {
+            made = p.made;
+            due = p.due;
+            accepted = all_both (IsTreeAccepted (programs_of s.pair.now) (before ++ all)) (λ (t : ClaimTree). HitsWithin (s.first + length own) t.tree.next) (IsTreeAccepted (programs_of s.pair.now) (before ++ own)) part.trees.items
+                (λ t accepted within. accepted_by_first (before ++ own) rest (before ++ all) again t (subst (λ (n : ℕ). HitsWithin n t.tree.next) count within) accepted) p.accepted hits;
+          };
+      stops = λ before len w v.
+          let again : (before ++ own) ++ rest ≡ before ++ all = append_assoc before own rest ∙ ap (λ cs. before ++ cs) whole in
+          all_both (TreeStops s.pair.now (order_of order) w.recurrent (in_part s.first (length all)) (before ++ all)) (λ (t : ClaimTree). HitsWithin (s.first + length own) t.tree.next)
+          (TreeStops s.pair.now (order_of order) w.recurrent (in_part s.first (length own)) (before ++ own)) part.trees.items
+          (λ t stops within c e h key gone. stops_are_cut s.pair.now (order_of order) w.recurrent (in_part s.first (length all)) (in_part s.first (length own)) (s.first + length own) (λ n b l. in_fewer s.first (length all) (length own) n b l) t.tree h within
+          (stops c (there (before ++ own) rest (before ++ all) again t.claim c e) h key gone)) (partly.stops before len w v) hits;
+    }
+  where
+    there : (first further all : List Claim) → first ++ further ≡ all → (n : ℕ) (c : Claim) → slice_get first n ≡ Some c → slice_get all n ≡ Some c
+    there first further all is n c e = subst (λ cs. slice_get cs n ≡ Some c) is (get_front first further n c e)
+
+    accepted_by_first : (first further all : List Claim) → first ++ further ≡ all → (t : ClaimTree) → HitsWithin (length first) t.tree.next → IsTreeAccepted (programs_of s.pair.now) all t → IsTreeAccepted (programs_of s.pair.now) first t
+    accepted_by_first first further all is t within accepted c e =
+        let of : StartsAccepted (programs_of s.pair.now) all c t = accepted c (there first further all is t.claim c e) in
+        record {
+          path = of.path;
+          starts = of.starts;
+          accepted = first_claims_accept (programs_of s.pair.now) first further t.tree of.path within (subst (λ cs. AcceptsPlan (programs_of s.pair.now) cs t.tree of.path) (sym is) of.accepted);
+        }
+
+-- ---- the part
+
+module _ (s : Search) (order : List (Site × Order)) (known : Known) (numbers : List ℕ) (claims : List Claim) (is : IsSearch s) (k : IsKnownUnder s order known) (at : AreClaimsAt known.keys.items numbers claims) where
+  among_own : (count : ℕ) (part : Part) (b : IsBegun s order claims count part) (c : Claim) → IsAmong c part.claims.items → (c ≡ b.output) ⊎ IsAmong c claims
+  among_own count part b c i = among_take (b.output ∷ claims) (length part.claims.items) c (subst (IsAmong c) b.partly.claims i)
+
+  not_output : (w : Widening) (output : Claim) → IsElementClaim s.pair.now s.array output → IsWideningOf s.pair.now w → ¬ (w.recurrent (key_of output) ≡ true)
+  not_output w output e v = no_output s w output is v e.left_is e.right_is
+
+  alone : (count : ℕ) (part : Part) (b : IsBegun s order claims count part) (w : Widening) → IsWideningOf s.pair.now w → (c d : Claim) → IsAmong c part.claims.items → IsAmong d part.claims.items → w.recurrent (key_of c) ≡ true → key_of c ≡ key_of d → c ≡ d
+  alone count part b w v c d i j recurs same = by (among_own count part b c i) (among_own count part b d j)
+    where
+      by : (c ≡ b.output) ⊎ IsAmong c claims → (d ≡ b.output) ⊎ IsAmong d claims → c ≡ d
+      by (inl e) f = absurd (not_output w b.output b.is_output v (subst (λ (x : Claim). w.recurrent (key_of x) ≡ true) e recurs))
+      by (inr m) (inl f) = absurd (not_output w b.output b.is_output v (subst (λ (x : Claim). w.recurrent (key_of x) ≡ true) f (subst (λ (key : Position × Position). w.recurrent key ≡ true) same recurs)))
+      by (inr m) (inr n) =
+          let of = claim_of_key known.keys.items numbers claims c at m in
+          let other = claim_of_key known.keys.items numbers claims d at n in
+          let one : positions of.1.0 ≡ positions other.1.0 = sym (ap key_of of.1.2) ∙ same ∙ ap key_of other.1.2 in
+          let place = get_map positions known.keys.items of.0 of.1.0 of.1.1 in
+          let other_place : slice_get (pairs_of known) other.0 ≡ Some (positions of.1.0) = get_map positions known.keys.items other.0 other.1.0 other.1.1 ∙ ap Some (sym one) in
+          of.1.2 ∙ ap claim_of (one_key known of.0 other.0 of.1.0 other.1.0 of.1.1 other.1.1 (k.right.distinct of.0 other.0 (positions of.1.0) place other_place)) ∙ sym other.1.2
+
+  rows : (count : ℕ) (part : Part) (b : IsBegun s order claims count part) (w : Widening) → IsWideningOf s.pair.now w → (c : Claim) → IsAmong c part.claims.items → w.recurrent (key_of c) ≡ true → Each (IsClaimRow (rows_at s.pair.now w (key_of c))) c.rows
+  rows count part b w v c i recurs = by (among_own count part b c i)
+    where
+      by : (c ≡ b.output) ⊎ IsAmong c claims → Each (IsClaimRow (rows_at s.pair.now w (key_of c))) c.rows
+      by (inl e) = absurd (not_output w b.output b.is_output v (subst (λ (x : Claim). w.recurrent (key_of x) ≡ true) e recurs))
+      by (inr m) =
+          let of = claim_of_key known.keys.items numbers claims c at m in
+          subst (λ (x : Claim). Each (IsClaimRow (rows_at s.pair.now w (key_of x))) x.rows) (sym of.1.2) (key_rows s order known w of.1.0 is k v (get_among known.keys.items of.0 of.1.0 of.1.1))
+
+  found_by : (count : ℕ) (part : Part) → IsBegun s order claims count part → IsOwn s order part → IsFound s.pair.now s.array s.first part
+  found_by count part b own = record {
+    order = order_of order;
+    is_part = λ before len. record {
+      among = is.output;
+      claim = b.output;
+      first = subst (λ cs. slice_get cs 0 ≡ Some b.output) (sym b.partly.claims) (head_taken b.output claims (length part.claims.items) (let n = b.counted in omega (arith, n)));
+      output = b.is_output.output;
+      planned = subst (λ (n : ℕ). ArePlanned (programs_of s.pair.now) (before ++ part.claims.items) n part.claims.items part.trees.items) (sym len) (own.planned before len);
+    };
+    stops = λ before len w v. record {
+      trees = own.stops before len w v;
+      alone = alone count part b w v;
+      rows = rows count part b w v;
+    };
+  }
+
+  pub found_cut : (count : ℕ) (part : Part) → IsBegun s order claims count part → TreesHitWithin (s.first + length part.claims.items) part.trees.items → IsFound s.pair.now s.array s.first part
+  found_cut count part b hits = found_by count part b (own_cut s order (b.output ∷ claims) part b.partly hits)
+
+  pub found_whole : (part : Part) → IsBegun s order claims (length numbers) part → length numbers ≡ length claims → IsFound s.pair.now s.array s.first part
+  found_whole part b long =
+      let count : length part.claims.items ≡ length (b.output ∷ claims) = (let n = b.counted in omega (arith, n, long)) in
+      found_by (length numbers) part b (own_whole s order (b.output ∷ claims) part b.partly count)
+
+  -- what comes of the plans of all of them
+  pub found_all : (count : ℕ) (made : Planning) → count ≡ length numbers → IsPlannedTo s order known claims count made → IsPlanned s order known made
+  found_all count (planning.Part part) e h = found_whole part (subst (λ (n : ℕ). IsBegun s order claims n part) e h) (counted known.keys.items numbers claims at)
+  found_all count (planning.Broken from path) e h = h

@@ -1,0 +1,9 @@
+pub mod Lists
+pub mod Programs
+pub mod Unfolded
+pub mod Rounds
+pub mod Stopped
+pub mod Ranked
+pub mod Added
+pub mod Found
+pub mod Planned

@@ -1,0 +1,12 @@
+use Rattle.std.proofs.Common.{◌≡◌, ◌+◌, length, arith}
+use Rattle.ac_search.proofs.Added.{adds, plans_for}
+use Rattle.ac_search.proofs.planning.add.Goals as goal
+
+pub returns-in_ok-with_claim-in-Ok-Plans-clause-added : goal.returns-in_ok-with_claim-in-Ok-Plans-clause-added
+returns-in_ok-with_claim-in-Ok-Plans-clause-added c =
+    let s = c.args.search.now in
+    let made = c.in-Ok-Plans.ensures in
+    let longer = c.in_ok-with_claim-in-Ok-Plans in
+    let number : c.in_ok-number.number ≡ s.first + length c.args.part.claims.items = omega (arith, c.in_ok-number.ensures, c.len.ensures, c.args.part.claims.ok) in
+    let plans = plans_for s c.args.order.now c.args.claims.now c.args.start c.in_ok-number.number c.in_ok-base.base c.in-Ok-Plans.field-0 c.in-Ok-Plans.trees c.in-Ok-Plans.field-0-is c.requires.search made.claim made.pieces made.accepted made.domains made.stops in
+    adds s c.args.order.now c.args.claims.now c.args.start c.requires.search c.requires.claims c.requires.start c.args.part longer.field-0 c.in-Ok-Plans.trees.items c.in_ok-number.number c.in_ok-base.base number c.in_ok-base.ensures plans longer.ensures.claims longer.ensures.planned longer.ensures.stops

@@ -1,0 +1,43 @@
+use Rattle.std.proofs.Common.{◌≡◌, ◌<◌, ℕ, Some, get_or, length, subst, arith}
+use Rattle.std.specs.Prelude.{slice_get}
+use Rattle.ac_search.specs.Planning.{IsAdded, IsFirstAdded}
+use Rattle.ac_search.proofs.Found.{have_claims}
+use Rattle.ac_search.proofs.Lists.{all_at, get_some}
+use Rattle.ac_search.proofs.Planned.{broken_key, broken_output, claim_is, key_there, next_begun}
+use Rattle.ac_search.proofs.planning.part_to.Goals as goal
+
+pub begin-requires-clause-claims : goal.begin-requires-clause-claims
+begin-requires-clause-claims c = have_claims c.args.search.now c.args.order.now c.args.known.now c.args.numbers.now c.args.claims.now c.requires.known c.requires.ranks c.requires.claims
+
+pub add-requires-clause-claims : goal.add-requires-clause-claims
+add-requires-clause-claims c = have_claims c.args.search.now c.args.order.now c.args.known.now c.args.numbers.now c.args.claims.now c.requires.known c.requires.ranks c.requires.claims
+
+pub returns-in-Broken-clause-planned : goal.returns-in-Broken-clause-planned
+returns-in-Broken-clause-planned c =
+    let s = c.args.search.now in
+    let h = subst (IsFirstAdded s c.args.order.now c.args.claims.now) c.in-Broken.is c.in_ok-part.ensures.added in
+    broken_output s c.args.order.now c.args.known.now c.args.numbers.now c.args.claims.now c.requires.ranks c.requires.claims h.0 c.in-Broken.path h.1 h.2
+
+pub loop-at-preserved : goal.loop-at-preserved
+loop-at-preserved c =
+    let s = c.args.search.now in
+    let known = c.args.known.now in
+    let numbers = c.args.numbers.now in
+    let n = get_or numbers c.loop-at.at 0 in
+    let key = c.index-keys-number.result in
+    let within : c.loop-at.at < length numbers = (let a = c.loop-at-test.true in let b = c.requires.count in omega (arith, a, b)) in
+    let there : slice_get known.keys.items n ≡ Some key = key_there known.keys.items c.as_slice-keys.result.now n key c.as_slice-keys.ensures.value (all_at (λ (m : ℕ). m < length known.keys.items) numbers c.loop-at.at 0 within c.requires.ranks.within) c.index-keys-number.is in
+    let start : slice_get c.args.claims.now c.loop-at.at ≡ Some c.in_ok-start.start = claim_is known numbers c.args.claims.now c.loop-at.at n key c.in_ok-start.start c.requires.claims (get_some numbers c.loop-at.at 0 within) there c.in_ok-start.ensures.value in
+    next_begun s c.args.order.now c.args.claims.now c.loop-at.at c.loop-at.part c.in-Part-2.longer c.in_ok-start.start start c.loop-at.invariant (subst (IsAdded s c.args.order.now c.args.claims.now c.in_ok-start.start c.loop-at.part) c.in-Part-2.is c.in_ok-longer.ensures.added)
+
+pub returns-in-Broken-2-clause-planned : goal.returns-in-Broken-2-clause-planned
+returns-in-Broken-2-clause-planned c =
+    let s = c.args.search.now in
+    let known = c.args.known.now in
+    let numbers = c.args.numbers.now in
+    let n = get_or numbers c.loop-at.at 0 in
+    let key = c.index-keys-number.result in
+    let within : c.loop-at.at < length numbers = (let a = c.loop-at-test.true in let b = c.requires.count in omega (arith, a, b)) in
+    let there : slice_get known.keys.items n ≡ Some key = key_there known.keys.items c.as_slice-keys.result.now n key c.as_slice-keys.ensures.value (all_at (λ (m : ℕ). m < length known.keys.items) numbers c.loop-at.at 0 within c.requires.ranks.within) c.index-keys-number.is in
+    broken_key s c.args.order.now known numbers c.args.claims.now c.requires.ranks c.requires.claims n key c.in_ok-start.start c.in-Broken-2.path there c.in_ok-start.ensures.value
+    (subst (IsAdded s c.args.order.now c.args.claims.now c.in_ok-start.start c.loop-at.part) c.in-Broken-2.is c.in_ok-longer.ensures.added)

@@ -1,0 +1,16 @@
+use Rattle.ac_search.proofs.Rounds.{known_after, mismatch_after}
+use Rattle.ac_search.proofs.Unfolded.{are_paths, plain_unfolding}
+use Rattle.ac_search.proofs.taking.take.Goals as goal
+
+pub take-requires-clause-paths : goal.take-requires-clause-paths
+take-requires-clause-paths c =
+    let b = c.requires.paths in
+    (plain_unfolding c.args.search.now c.args.order.now b.claim, are_paths c.args.search.now c.args.order.now c.requires.search c.args.known c.args.from c.args.paths c.requires.known b _ _)
+
+pub returns-in-Ok-clause-known : goal.returns-in-Ok-clause-known
+returns-in-Ok-clause-known c =
+    known_after c.args.search.now c.args.order.now c.args.known c.args.from c.args.paths c.in-Ok.round c.requires.search c.requires.known c.requires.paths c.in-Ok.ensures
+
+pub returns-in-Ok-clause-mismatch : goal.returns-in-Ok-clause-mismatch
+returns-in-Ok-clause-mismatch c =
+    mismatch_after c.args.search.now c.args.order.now c.args.known c.args.from c.args.paths c.in-Ok.round c.requires.search c.requires.known c.requires.paths c.in-Ok.ensures

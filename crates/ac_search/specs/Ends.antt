@@ -1,0 +1,26 @@
+-- How a search under one order goes on and ends.
+use Rattle.std.specs.Prelude.{List}
+use Rattle.ac_syntax.specs.declared.tree.Order.{Order}
+use Rattle.ac_syntax.specs.declared.tree.Site.{Site}
+use Rattle.ac_rounds.specs.Rounds.{IfKnown, IfMismatch}
+use Rattle.ac_rounds.specs.declared.rounds.Round.{Round}
+use Rattle.ac_search.specs.Searches.{IsFound, IsKnownUnder, ShowMismatch}
+use Rattle.ac_search.specs.declared.types.Ended.{Ended}
+use Rattle.ac_search.specs.declared.types.Ended.TheVariants.{Stands, Mismatch}
+use Rattle.ac_search.specs.declared.types.Search.{Search}
+use Rattle.ac_search.specs.declared.walking.Turn.{Turn}
+use Rattle.ac_search.specs.declared.walking.Turn.TheVariants as turn
+
+-- the part of the output is found; or the entries show a mismatch
+abbrev pub IsEnd : Search → List (Site × Order) → Ended → Type 0
+IsEnd s order (Stands part) = IsFound s.pair.now s.array s.first part
+IsEnd s order (Mismatch why) = ShowMismatch s order why.entries
+
+-- the search goes on with what is known then, or ends
+abbrev pub IsTurn : Search → List (Site × Order) → Turn → Type 0
+IsTurn s order (turn.Onward state) = IsKnownUnder s order state.known
+IsTurn s order (turn.Ended ended) = IsEnd s order ended
+
+-- what is known under the order is so behind a round, and its mismatch is one
+abbrev pub TurnsOn : Round → Turn → Type 0
+TurnsOn round next = (s : Search) (order : List (Site × Order)) → IfKnown (IsKnownUnder s order) round → IfMismatch (ShowMismatch s order) round → IsTurn s order next

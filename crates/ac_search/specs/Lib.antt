@@ -1,0 +1,6 @@
+pub mod Stops
+pub mod Searches
+pub mod Ends
+pub mod Taking
+pub mod Ranks
+pub mod Planning

@@ -1,0 +1,190 @@
+//! The plans of the output and of the claims, where all of them stand.
+ghost use Rattle.std.specs.Prelude.{◌≡◌, ◌+◌, ◌<◌, ◌≤◌, length, IfOk, IfErr};
+ghost use Rattle.ac_forms.specs.Rows.{AreRowsOver};
+ghost use Rattle.ac_decided.specs.Stopping.{key_of};
+ghost use Rattle.ac_setting.specs.Programs.{point_width};
+ghost use Rattle.ac_search.specs.Planning.{HaveClaims, IsAdded, IsFirstAdded, IsPlanned, IsPlannedTo};
+ghost use Rattle.ac_search.specs.Ranks.{AreClaimsAt, AreRanks};
+ghost use Rattle.ac_search.specs.Searches.{IsKnownUnder, IsSearch};
+ghost use Rattle.ac_search.specs.Stops.{EndsEarly};
+
+use crate::ranking::{claims_at, ranked};
+use crate::stops::{Stop, of_unfolding};
+use crate::types::Search;
+use ac_claims::types::Claim;
+use ac_hits::trees_hit_within;
+use ac_items::Items;
+use ac_parts::types::Part;
+use ac_parts::{no_part, output_claim, with_claim};
+use ac_rounds::Known;
+use ac_syntax::tree::{Order, Site};
+use ac_unfold::claim_trees;
+use ac_unfold::types::Planned;
+use ac_widen::Entry;
+use std::alloc::{AllocError, Global};
+
+/// What comes of the plans of one start.
+#[derive(Drop)]
+enum Added {
+    /// They are made: a part with one more claim.
+    Part(Part),
+    /// A path from the start is broken.
+    Broken(Items<Entry>),
+}
+
+/// What comes of the plans of the output and of claims.
+#[derive(Drop)]
+pub(crate) enum Planning {
+    /// They are made.
+    Part(Part),
+    /// A path is broken, from the key with this number or from the output.
+    Broken(Option<usize>, Items<Entry>),
+}
+
+/// The sum of two numbers.
+fn sum(first: usize, second: usize) -> Result<usize, AllocError>
+    ensures { IfOk result (λ all. all ≡ first + second) }
+{
+    match first.checked_add(second) {
+        Some(all) => Ok(all),
+        None => Err(AllocError),
+    }
+}
+
+/// Adds a start with its plans to a part.
+fn add(
+    alloc: Global,
+    search: &Search<'_>,
+    order: &[(Site, Order)],
+    claims: &[Claim],
+    part: Part,
+    start: Claim,
+) -> Result<Added, Stop>
+    requires search { IsSearch search.now }
+    requires claims { HaveClaims search.now.stops.now claims.now }
+    requires start { AreRowsOver (point_width search.now.pair.now (key_of start)) start.rows }
+    ensures added { IfOk result (IsAdded search.now order.now claims.now start part) }
+    ensures causes { IfErr result (EndsEarly search.now.setting.now.budget) }
+{
+    let number = sum(search.first, part.claims.len())?;
+    let base = sum(search.first, 1)?;
+    match claim_trees(alloc, search.setting, number, &start, base, claims, order) {
+        Ok(Planned::Plans(trees)) => Ok(Added::Part(with_claim(part, start, trees)?)),
+        Ok(Planned::Broken(path)) => Ok(Added::Broken(path)),
+        Err(stop) => Err(of_unfolding(stop)),
+    }
+}
+
+/// Begins a part with the output and its plans.
+fn begin(
+    alloc: Global,
+    search: &Search<'_>,
+    order: &[(Site, Order)],
+    claims: &[Claim],
+) -> Result<Added, Stop>
+    requires search { IsSearch search.now }
+    requires claims { HaveClaims search.now.stops.now claims.now }
+    ensures added { IfOk result (IsFirstAdded search.now order.now claims.now) }
+    ensures causes { IfErr result (EndsEarly search.now.setting.now.budget) }
+{
+    let output = output_claim(alloc, &search.setting.programs, search.array)?;
+    add(alloc, search, order, claims, no_part(alloc), output)
+}
+
+/// The part of the output, and of the first of the claims of keys with these numbers.
+fn part_to(
+    alloc: Global,
+    search: &Search<'_>,
+    order: &[(Site, Order)],
+    known: &Known,
+    numbers: &[usize],
+    claims: &[Claim],
+    count: usize,
+) -> Result<Planning, Stop>
+    requires search { IsSearch search.now }
+    requires known { IsKnownUnder search.now order.now known.now }
+    requires ranks { AreRanks known.now.keys.items numbers.now }
+    requires claims { AreClaimsAt known.now.keys.items numbers.now claims.now }
+    requires count { count ≤ length numbers.now }
+    ensures planned { IfOk result (IsPlannedTo search.now order.now known.now claims.now count) }
+    ensures causes { IfErr result (EndsEarly search.now.setting.now.budget) }
+{
+    let mut part = match begin(alloc, search, order, claims)? {
+        Added::Part(part) => part,
+        Added::Broken(path) => return Ok(Planning::Broken(None, path)),
+    };
+    let keys = known.keys.as_slice();
+    for at in 0..count {
+        let number = numbers[at];
+        let start = keys[number].claim(alloc)?;
+        match add(alloc, search, order, claims, part, start)? {
+            Added::Part(longer) => {
+                part = longer;
+                continue;
+            }
+            Added::Broken(path) => return Ok(Planning::Broken(Some(number), path)),
+        }
+    }
+    Ok(Planning::Part(part))
+}
+
+/// The part of the output, and of so many of the claims of keys with these numbers; and of all of them, if a plan ends at another one.
+fn part_with(
+    alloc: Global,
+    search: &Search<'_>,
+    order: &[(Site, Order)],
+    known: &Known,
+    numbers: &[usize],
+    claims: &[Claim],
+    count: usize,
+) -> Result<Planning, Stop>
+    requires search { IsSearch search.now }
+    requires known { IsKnownUnder search.now order.now known.now }
+    requires ranks { AreRanks known.now.keys.items numbers.now }
+    requires claims { AreClaimsAt known.now.keys.items numbers.now claims.now }
+    requires count { count ≤ length numbers.now }
+    ensures planned { IfOk result (IsPlanned search.now order.now known.now) }
+    ensures causes { IfErr result (EndsEarly search.now.setting.now.budget) }
+{
+    match part_to(alloc, search, order, known, numbers, claims, count)? {
+        Planning::Part(part) => {
+            let limit = sum(search.first, part.claims.len())?;
+            if trees_hit_within(part.trees.as_slice(), limit) {
+                return Ok(Planning::Part(part));
+            }
+            let all = numbers.len();
+            let planned = part_to(alloc, search, order, known, numbers, claims, all)?;
+            Ok(planned)
+        }
+        Planning::Broken(from, path) => Ok(Planning::Broken(from, path)),
+    }
+}
+
+/// The part of the output, where it stands with the claims of the keys: its claim, those of the keys that have members, and their
+/// plans; or a path that is broken. The claims of the other keys are behind them only if a plan ends at one.
+pub(crate) fn plan(
+    alloc: Global,
+    search: &Search<'_>,
+    order: &[(Site, Order)],
+    known: &Known,
+) -> Result<Planning, Stop>
+    requires search { IsSearch search.now }
+    requires known { IsKnownUnder search.now order.now known.now }
+    ensures planned { IfOk result (IsPlanned search.now order.now known.now) }
+    ensures causes { IfErr result (EndsEarly search.now.setting.now.budget) }
+{
+    let keys = known.keys.as_slice();
+    let ranks = ranked(alloc, keys)?;
+    let numbers = ranks.numbers.as_slice();
+    let claims = claims_at(alloc, keys, numbers)?;
+    let count = ranks.count.min(numbers.len());
+    part_with(
+        alloc,
+        search,
+        order,
+        known,
+        numbers,
+        claims.as_slice(),
+        count,
+    )
+}

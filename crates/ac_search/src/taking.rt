@@ -1,0 +1,75 @@
+//! Unfoldings of the output and of claims, and the broken paths that they find.
+ghost use Rattle.std.specs.Prelude.{◌≡◌, ◌<◌, length, IfOk, IfErr, IfSome};
+ghost use Rattle.ac_rounds.specs.Rounds.{IfKnown, IfMismatch};
+ghost use Rattle.ac_search.specs.Searches.{IsKnownUnder, IsSearch, ShowMismatch};
+ghost use Rattle.ac_search.specs.Stops.{EndsEarly};
+ghost use Rattle.ac_search.specs.Taking.{AreBrokenFrom, start_among};
+
+use crate::stops::{Stop, of_hull, of_unfolding};
+use crate::types::Search;
+use ac_claims::types::Claim;
+use ac_items::Items;
+use ac_parts::output_claim;
+use ac_rounds::{Known, Round};
+use ac_syntax::tree::{Order, Site};
+use ac_unfold::broken_paths;
+use ac_widen::Entry;
+use std::alloc::Global;
+
+/// Takes broken paths of one start.
+pub(crate) fn take(
+    alloc: Global,
+    search: &Search<'_>,
+    order: &[(Site, Order)],
+    known: Known,
+    from: Option<usize>,
+    paths: Items<Items<Entry>>,
+) -> Result<Round, Stop>
+    requires search { IsSearch search.now }
+    requires known { IsKnownUnder search.now order.now known }
+    requires paths { AreBrokenFrom search.now order.now known from paths }
+    ensures known { IfOk result (IfKnown (IsKnownUnder search.now order.now)) }
+    ensures mismatch { IfOk result (IfMismatch (ShowMismatch search.now order.now)) }
+    ensures causes { IfErr result (EndsEarly search.now.setting.now.budget) }
+{
+    match known.take(alloc, search.template, from, paths) {
+        Ok(round) => Ok(round),
+        Err(stop) => Err(of_hull(stop)),
+    }
+}
+
+/// The claim with a number, or that of the output.
+fn start_among<'a>(output: &'a Claim, claims: &'a [Claim], from: Option<usize>) -> &'a Claim
+    requires { IfSome from (λ at. at < length claims.now) }
+    ensures { result.now ≡ start_among output.now claims.now from }
+{
+    match from {
+        Some(at) => &claims[at],
+        None => output,
+    }
+}
+
+/// Unfolds the output, or the claim of the key with a number, and takes the paths that are broken.
+pub(crate) fn unfold(
+    alloc: Global,
+    search: &Search<'_>,
+    order: &[(Site, Order)],
+    known: Known,
+    from: Option<usize>,
+) -> Result<Round, Stop>
+    requires search { IsSearch search.now }
+    requires known { IsKnownUnder search.now order.now known }
+    requires from { IfSome from (λ at. at < length known.keys.items) }
+    ensures known { IfOk result (IfKnown (IsKnownUnder search.now order.now)) }
+    ensures mismatch { IfOk result (IfMismatch (ShowMismatch search.now order.now)) }
+    ensures causes { IfErr result (EndsEarly search.now.setting.now.budget) }
+{
+    let output = output_claim(alloc, &search.setting.programs, search.array)?;
+    let claims = known.claims(alloc)?;
+    let start = start_among(&output, claims.as_slice(), from);
+    let paths = match broken_paths(alloc, search.setting, start, claims.as_slice(), order) {
+        Ok(paths) => paths,
+        Err(stop) => return Err(of_unfolding(stop)),
+    };
+    take(alloc, search, order, known, from, paths)
+}

@@ -1,0 +1,28 @@
+use ac_keys::Template;
+use ac_parts::types::Part;
+use ac_syntax::tree::{Pair, Position};
+use ac_unfold::types::Setting;
+use ac_widen::Derivation;
+
+/// A search on an output of two programs: what it knows of both, and how far it goes.
+#[derive(Clone, Copy)]
+pub struct Search<'a> {
+    pub pair: &'a Pair,
+    pub setting: &'a Setting<'a>,
+    pub template: &'a Template,
+    /// The array of the output.
+    pub array: usize,
+    /// The pairs of positions up to which it goes: at least the recurrence pairs.
+    pub stops: &'a [(Position, Position)],
+    /// The number that the claim of the output gets in the proof.
+    pub first: usize,
+}
+
+/// How the search under one order ends.
+#[derive(Drop)]
+pub enum Ended {
+    /// The output and all claims stand: the output's part of a proof.
+    Stands(Part),
+    /// A pair is a mismatch.
+    Mismatch(Derivation),
+}

@@ -1,0 +1,33 @@
+-- Why an unfolding stops: the stops of its questions.
+use Rattle.std.proofs.Common.{◌≡◌, ◌⊎◌, inl, inr, ℕ, List, refl, sym, subst}
+use Rattle.std.specs.Prelude.{Result, Ok, Err}
+use Rattle.std.specs.declared.alloc.AllocError.{AllocError}
+use Rattle.ac_forms.specs.declared.conj.Conj.{Conj}
+use Rattle.ac_refutations.specs.declared.strategy.Strategy.TheVariants.{Full, Economical}
+use Rattle.ac_omega.specs.Decisions.{walk_of, IsSpent}
+use Rattle.ac_omega.specs.Either.{FindsEither, SettlesEither, StopsDeciding, StopsFinding}
+use Rattle.ac_omega.specs.declared.decision.Decided.{Decided}
+use Rattle.ac_omega.specs.declared.decision.Decision.{Decision}
+use Rattle.ac_omega.specs.declared.pieces.Stop.{Stop}
+use Rattle.ac_omega.specs.declared.pieces.Stop.TheVariants as decision
+use Rattle.ac_unfold.specs.Causes.{stop_of, IsTooCostly, StopsAt}
+use Rattle.ac_unfold.specs.declared.types.UnfoldStop.{UnfoldStop}
+
+-- a walk that finds nothing does not decide
+not_decided : (q : Conj) (budget : ℕ) → StopsFinding q (walk_of Economical budget q) → StopsDeciding q (walk_of Economical budget q)
+not_decided q budget (inl w) = inl (inl w)
+not_decided q budget (inr s) = inr s
+
+too_costly : (budget cost : ℕ) (q c : Conj) → c ≡ q → StopsDeciding q (walk_of Economical budget q) → IsSpent cost (walk_of Full budget q) → IsTooCostly budget cost c
+unfolding IsTooCostly
+too_costly budget cost q c e stops spent = subst (λ x. StopsDeciding x (walk_of Economical budget x) × IsSpent cost (walk_of Full budget x)) (sym e) (stops, spent)
+
+pub settle_stops : (budget : ℕ) (q : Conj) (stop : Stop) → SettlesEither (Err stop) q (walk_of Economical budget q) (walk_of Full budget q) → StopsAt budget (stop_of stop)
+settle_stops budget q (decision.Overflow c) h = tt
+settle_stops budget q (decision.Spent c k) h = too_costly budget k q c h.1.0 h.0 h.1.1
+settle_stops budget q (decision.Memory want) h = tt
+
+pub find_stops : (budget : ℕ) (q : Conj) (stop : Stop) → FindsEither (Err stop) q (walk_of Economical budget q) (walk_of Full budget q) → StopsAt budget (stop_of stop)
+find_stops budget q (decision.Overflow c) h = tt
+find_stops budget q (decision.Spent c k) h = too_costly budget k q c h.1.0 (not_decided q budget h.0) h.1.1
+find_stops budget q (decision.Memory want) h = tt

@@ -1,0 +1,34 @@
+-- Where a plan is missing, a path was found.
+use Rattle.std.proofs.Common.{◌≡◌, ℕ, zero, suc, ◌≤◌, true, false, List, [], ◌∷◌, length, Option, Some, None, sym, ap, ◌∙◌, arith}
+use Rattle.std.specs.Prelude.{Result, Ok, Err, IfOk, is_some, slice_get}
+use Rattle.ac_claims.specs.declared.types.Plan.{Plan}
+use Rattle.ac_widen.specs.declared.derivation.Entry.{Entry}
+use Rattle.ac_unfold.specs.Missing.{FindsElse}
+use Rattle.ac_unfold.specs.declared.ends.Search.{Search}
+use Rattle.ac_unfold.specs.declared.types.UnfoldStop.{UnfoldStop}
+
+not_none : {A : Type 0} (o : Option A) → is_some o ≡ true → ¬ (o ≡ None)
+not_none o h e = let z : false ≡ true = sym (ap is_some e) ∙ h in absurd cc
+
+-- where there is something whenever plans are made
+pub finds_shown : {A : Type 0} (search : Search) (o : Option A) (before after : List (List Entry)) → (search.making ≡ true → is_some o ≡ true) → FindsElse search o before after
+finds_shown search o before after h on e = absurd (not_none o (h on) e)
+
+-- where something else is missing then, for which a path was found
+pub finds_by : {A B : Type 0} (search : Search) (o : Option A) (p : Option B) (before now after : List (List Entry)) → (o ≡ None → p ≡ None) → length before ≤ length now → FindsElse search p now after → FindsElse search o before after
+finds_by search o p before now after f l h on e = let k = h on (f e) in omega (arith, l, k)
+
+pub ended_finds : (res : Result (Option Plan) UnfoldStop) (search : Search) (o : Option Plan) (before after : List (List Entry)) → IfOk res (λ made. made ≡ None → o ≡ None) → (search.making ≡ true → is_some o ≡ true) → IfOk res (λ made. FindsElse search made before after)
+ended_finds (Ok made) search o before after f h = λ on e. absurd (not_none o (h on) (f e))
+ended_finds (Err e) search o before after f h = tt
+
+-- where no plans are made
+pub finds_off : (res : Result (Option Plan) UnfoldStop) (search : Search) (before after : List (List Entry)) → search.making ≡ false → IfOk res (λ made. FindsElse search made before after)
+finds_off (Ok made) search before after off = λ on. let z : true ≡ false = sym on ∙ off in absurd cc
+finds_off (Err e) search before after off = tt
+
+-- nothing stands behind the last item
+pub none_behind : {A : Type 0} (xs : List A) (n : ℕ) → slice_get xs n ≡ None → length xs ≤ n
+none_behind [] n e = omega arith
+none_behind (x ∷ xs) zero e = absurd cc
+none_behind (x ∷ xs) (suc n) e = let k = none_behind xs n e in omega (arith, k)

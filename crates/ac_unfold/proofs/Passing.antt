@@ -1,0 +1,306 @@
+-- A case outside its kills: at its branch, with further rows, behind one kill more, and where all of them are passed.
+use Rattle.std.proofs.Common.{◌≡◌, inl, inr, ℕ, zero, suc, ◌+◌, ◌<◌, ◌≤◌, false, true, ℤ, List, [], ◌∷◌, ◌++◌, length, map, take, drop, Option, Some, None, refl, sym, ap, ◌∙◌, subst, arith, append_assoc, append-nil}
+use Rattle.std.proofs.lemmas.List.{take_all}
+use Rattle.std.proofs.Math.Nat.{min-le_left}
+use Rattle.std.specs.Prelude.{◌-◌, ◌^◌, IfOk, IfSome, Ok, Result, min, slice_get}
+use Rattle.ac_forms.specs.Members.{IsAmong}
+use Rattle.ac_forms.specs.Renaming.{picked, rows_renaming}
+use Rattle.ac_forms.specs.Rows.{Holds, Meets, AreRowsOver, IsRowOver, IsWellMade}
+use Rattle.ac_forms.specs.declared.conj.Conj.{Conj}
+use Rattle.ac_forms.specs.declared.row.Row.{Row}
+use Rattle.ac_forms.proofs.Distinct.{rows_renaming-points}
+use Rattle.ac_syntax.specs.declared.tree.Position.TheVariants.{Output}
+use Rattle.ac_choices.specs.Points.{IsPoint}
+use Rattle.ac_choices.proofs.Keeping.{some-is}
+use Rattle.ac_paths.specs.Formed.{AllFormed, IsFormed}
+use Rattle.ac_paths.specs.Going.{at_rows, extended}
+use Rattle.ac_paths.specs.Killing.{case_columns}
+use Rattle.ac_paths.specs.declared.path.Assumed.{Assumed}
+use Rattle.ac_paths.specs.declared.path.Path.{Path}
+use Rattle.ac_paths.specs.declared.path.Seat.{Seat}
+use Rattle.ac_paths.proofs.Moving.{meets-both, meets-parts}
+use Rattle.ac_widen.specs.declared.derivation.Entry.{Entry}
+use Rattle.ac_claims.specs.declared.types.Kill.{Kill}
+use Rattle.ac_claims.specs.declared.types.Plan.{Plan}
+use Rattle.ac_flow.specs.declared.types.Case.{Case}
+use Rattle.ac_flow_laws.specs.Steps.{InNoKill}
+use Rattle.ac_graft.specs.Sides.{outside_of, side_of, AreSides}
+use Rattle.ac_graft.specs.declared.branching.Part.{Part}
+use Rattle.ac_graft.specs.declared.branching.Parts.{Parts}
+use Rattle.ac_leading.specs.Leading.{Unfolding, params_of, seats_of}
+use Rattle.ac_leading.specs.Steps.{AreOutside, IsOutside, IsReached}
+use Rattle.ac_leading.proofs.Picks.{front_and_rest, holds_front, meets_front}
+use Rattle.ac_leading.proofs.Reaching.{trails_lead}
+use Rattle.ac_leading.proofs.Surviving.{survivors_are_left}
+use Rattle.ac_plans.specs.Serving.{question_on}
+use Rattle.ac_plans.proofs.Sides.{sides_formed}
+use Rattle.ac_unfold.specs.Making.{judge_of}
+use Rattle.ac_unfold.specs.Missing.{HasNone}
+use Rattle.ac_unfold.specs.Passing.{AreApart, AreKillRows, GoesWithin, IsGrown, IsKillRow, IsOutsideKills, Misses, SidesMiss}
+use Rattle.ac_unfold.specs.Searching.{Adds, AddsBroken, IsAt, IsInCase, IsOf, IsPathAt, Reached}
+use Rattle.ac_unfold.specs.declared.asking.Answer.{Answer}
+use Rattle.ac_unfold.specs.declared.asking.Answer.TheVariants as answer
+use Rattle.ac_unfold.specs.declared.course.Course.{Course}
+use Rattle.ac_unfold.specs.declared.ends.Search.{Search}
+use Rattle.ac_unfold.specs.declared.node.Node.{Node}
+use Rattle.ac_unfold.specs.declared.types.UnfoldStop.{UnfoldStop}
+use Rattle.ac_unfold.proofs.Coming.{broken_by, broken_from, broken_none, broken_then, params_are}
+use Rattle.ac_unfold.proofs.Failing.{outside_fails}
+use Rattle.ac_unfold.proofs.Results.{at_some}
+
+-- ---- further rows and columns
+
+pub grown_itself : (q : Path) → IsGrown q q
+grown_itself q =
+    let z : q.conj.columns ≡ q.conj.columns + 0 = omega arith in
+    let y : q.conj.rows ≡ q.conj.rows ++ [] = sym (append-nil q.conj.rows) in
+    let same : q.conj ≡ extended q.conj 0 [] = λ i. record { columns = z i; rows = y i } in
+    record { more = 0; rows = []; is = ap (at_rows q) same }
+
+pub grown_more : (b q v : Path) → IsGrown b q → IsGrown q v → IsGrown b v
+grown_more b q v h k =
+    let c = b.conj in
+    let z : c.columns + h.more + k.more ≡ c.columns + (h.more + k.more) = omega arith in
+    let y : (c.rows ++ h.rows) ++ k.rows ≡ c.rows ++ (h.rows ++ k.rows) = append_assoc c.rows h.rows k.rows in
+    let twice : extended (extended c h.more h.rows) k.more k.rows ≡ extended c (h.more + k.more) (h.rows ++ k.rows) = λ i. record { columns = z i; rows = y i } in
+    record { more = h.more + k.more; rows = h.rows ++ k.rows; is = k.is ∙ ap (λ (x : Path). at_rows x (extended x.conj k.more k.rows)) h.is ∙ ap (at_rows b) twice }
+
+pub grown_on : (q : Path) (part : Part) → IsGrown q (question_on q part)
+grown_on q part = record { more = part.question_columns; rows = part.rows; is = refl }
+
+-- its points are points of the first path
+grown_meets : (q v : Path) → IsGrown q v → (p : List ℤ) → v.conj.columns ≤ length p → Meets v.conj.rows p → (q.conj.columns ≤ length p) × Meets q.conj.rows p
+grown_meets q v h p long meets =
+    let columns : v.conj.columns ≡ q.conj.columns + h.more = ap (λ (x : Path). x.conj.columns) h.is in
+    (omega (arith, columns, long), (meets-parts q.conj.rows h.rows p (subst (λ (x : Path). Meets x.conj.rows p) h.is meets)).0)
+
+pub grown_last : (q v : Path) → IsGrown q v → v.last ≡ q.last
+grown_last q v h = ap (λ (x : Path). x.last) h.is
+
+-- ---- nodes
+
+pub within_itself : (node next : Node) → next ≡ node → GoesWithin node next
+within_itself node next e = record { question = subst (λ (x : Node). IsGrown node.question x.question) (sym e) (grown_itself node.question); trail = ap (λ (x : Node). x.trail) e }
+
+pub within_more : (a b c : Node) → GoesWithin a b → GoesWithin b c → GoesWithin a c
+within_more a b c h k = record { question = grown_more a.question b.question c.question h.question k.question; trail = k.trail ∙ h.trail }
+
+pub within_part : (node next : Node) (part : Part) → next.question ≡ question_on node.question part → next.trail ≡ node.trail → GoesWithin node next
+within_part node next part e f = record { question = subst (IsGrown node.question) (sym e) (grown_on node.question part); trail = f }
+
+pub within_same : (node next : Node) → next.question ≡ node.question → next.trail ≡ node.trail → GoesWithin node next
+within_same node next e f = record { question = subst (IsGrown node.question) (sym e) (grown_itself node.question); trail = f }
+
+-- ---- at a place outside the first kills
+
+-- at the branch of the case none is passed yet
+outside_start : (search : Search) (case : Case) (trail : List (Seat × Seat)) (q : Path) (u : Unfolding) → IsInCase search case trail q u → IsOutsideKills search case 0 trail q u
+outside_start search case trail q u h = record { branch = q; in_case = h; grown = grown_itself q; outside = λ p long meets a last. tt }
+
+outside_within : (search : Search) (case : Case) (number : ℕ) (node next : Node) (u : Unfolding) → GoesWithin node next → IsOutsideKills search case number node.trail node.question u → IsOutsideKills search case number next.trail next.question u
+outside_within search case number node next u w h = record {
+  branch = h.branch;
+  in_case = subst (λ (t : List (Seat × Seat)). IsInCase search case t h.branch u) (sym w.trail) h.in_case;
+  grown = grown_more h.branch node.question next.question h.grown w.question;
+  outside = λ p long meets a last.
+      let m = grown_meets node.question next.question w.question p long meets in
+      h.outside p m.0 m.1 a (sym (grown_last node.question next.question w.question) ∙ last);
+}
+
+in_no_more : (ks : List (Conj × Kill)) (n : ℕ) (p : List ℤ) → InNoKill (take n ks) p → ((k : Conj × Kill) → slice_get ks n ≡ Some k → ¬ (Meets k.0.rows p)) → InNoKill (take (suc n) ks) p
+in_no_more [] n p h none = tt
+in_no_more (k ∷ ks) zero p h none = (none k refl, tt)
+in_no_more (k ∷ ks) (suc n) p h none = (h.0, in_no_more ks n p h.1 none)
+
+-- of fewer kills too
+in_no_fewer : (ks : List (Conj × Kill)) (n m : ℕ) (p : List ℤ) → m ≤ n → InNoKill (take n ks) p → InNoKill (take m ks) p
+in_no_fewer [] n zero p l h = tt
+in_no_fewer [] n (suc m) p l h = tt
+in_no_fewer (k ∷ ks) n zero p l h = tt
+in_no_fewer (k ∷ ks) zero (suc m) p l h = absurd (omega (arith, l))
+in_no_fewer (k ∷ ks) (suc n) (suc m) p l h = (h.0, in_no_fewer ks n m p (omega (arith, l)) h.1)
+
+outside_next : (search : Search) (case : Case) (number next : ℕ) (trail : List (Seat × Seat)) (q : Path) (u : Unfolding) → next ≤ number + 1 → Misses search case number q → IsOutsideKills search case number trail q u → IsOutsideKills search case next trail q u
+unfolding Misses
+outside_next search case number next trail q u l none h = record {
+  branch = h.branch;
+  in_case = h.in_case;
+  grown = h.grown;
+  outside = λ p long meets a last.
+      let more = in_no_more case.kills number (picked (case_columns (judge_of search).params a) p) (h.outside p long meets a last) (λ k is. none k is a last p long meets) in
+      in_no_fewer case.kills (suc number) next (picked (case_columns (judge_of search).params a) p) (omega (arith, l)) more;
+}
+
+-- where all are passed
+all_outside : (search : Search) (case : Case) (trail : List (Seat × Seat)) (q : Path) (u : Unfolding) → IsOf search u → (h : IsOutsideKills search case (length case.kills) trail q u) → AreOutside u case h.branch (extended h.branch.conj h.grown.more h.grown.rows)
+all_outside search case trail q u of h p long meets a last =
+    let n = params_are search u of in
+    let all : take (length case.kills) case.kills ≡ case.kills = take_all (length case.kills) case.kills (omega arith) in
+    let out = subst (λ (x : Path). x.conj.columns ≤ length p → Meets x.conj.rows p → (b : Assumed) → x.last ≡ Some b → InNoKill (take (length case.kills) case.kills) (picked (case_columns (judge_of search).params b) p)) h.grown.is (h.outside p) in
+    subst (λ (k : ℕ). InNoKill case.kills (picked (case_columns k a) p)) (sym n) (subst (λ (ks : List (Conj × Kill)). InNoKill ks (picked (case_columns (judge_of search).params a) p)) all (out long meets a last))
+
+outside_all : (search : Search) (case : Case) (trail : List (Seat × Seat)) (q : Path) (u : Unfolding) → IsOf search u → IsOutsideKills search case (length case.kills) trail q u → IsAt search trail q u
+outside_all search case trail q u of h =
+    let at = h.in_case in
+    let b = h.branch in
+    let seats : seats_of q ≡ seats_of b = ap seats_of h.grown.is in
+    let gone : q.gone ≡ true = ap (λ (x : Path). x.gone) h.grown.is ∙ at.gone in
+    let there : Reached search u (at.before ++ seats_of b ∷ []) (at_rows b (extended b.conj h.grown.more h.grown.rows)) = IsReached.survive at.before at.side at.question b case h.grown.more h.grown.rows at.past.reached at.branch (all_outside search case trail q u of h) in
+    record {
+      reached = subst (λ (t : List (Seat × Seat)). Reached search u t q) (sym at.trail_is) (subst (λ (x : Path). Reached search u (at.before ++ seats_of b ∷ []) x) (sym h.grown.is) there);
+      begins = λ f. let z : false ≡ true = sym f ∙ gone in absurd cc;
+      behind = λ _. record {
+        first = at.past.first;
+        between = at.past.rest;
+        is = at.trail_is ∙ ap (λ (xs : List (Seat × Seat)). xs ++ seats_of b ∷ []) at.past.is ∙ ap (λ (s : Seat × Seat). at.past.first ∷ (at.past.rest ++ s ∷ [])) (sym seats);
+        free = at.past.free;
+      };
+    }
+
+-- something is left of the case, where there is such a point
+outside_left : (search : Search) (case : Case) (trail : List (Seat × Seat)) (q : Path) (u : Unfolding) → IsOf search u → IsOutsideKills search case (length case.kills) trail q u → (p : List ℤ) → q.conj.columns ≤ length p → Meets q.conj.rows p → ¬ (case.pieces ≡ [])
+outside_left search case trail q u of h p long meets =
+    let at = h.in_case in
+    let b = h.branch in
+    let left = search.setting.now.left_flow.now in
+    let right = search.setting.now.right_flow.now in
+    let m = grown_meets b q h.grown p long meets in
+    let out : IsOutside u case b p = all_outside search case trail q u of h p (subst (λ (x : Path). x.conj.columns ≤ length p) h.grown.is long) (subst (λ (x : Path). Meets x.conj.rows p) h.grown.is meets) in
+    survivors_are_left u at.before left right at.side at.question b case of.flows (trails_lead u left right at.before at.question of.flows at.past.reached) at.branch p m.0 m.1 out
+
+-- ---- what is added there
+
+pub start_broken : (search : Search) (case : Case) (node next : Node) (before after : List (List Entry)) → next.question ≡ node.question → next.trail ≡ node.trail → AddsBroken search (IsOutsideKills search case 0 next.trail next.question) before after
+    → AddsBroken search (IsInCase search case node.trail node.question) before after
+start_broken search case node next before after e f h =
+    broken_from search (IsInCase search case node.trail node.question) (IsOutsideKills search case 0 next.trail next.question) before after
+    (λ u of at. outside_within search case 0 node next u (within_same node next e f) (outside_start search case node.trail node.question u at)) h
+
+pub within_broken : (search : Search) (case : Case) (number : ℕ) (node next : Node) (before after : List (List Entry)) → GoesWithin node next → AddsBroken search (IsOutsideKills search case number next.trail next.question) before after
+    → AddsBroken search (IsOutsideKills search case number node.trail node.question) before after
+within_broken search case number node next before after w h =
+    broken_from search (IsOutsideKills search case number node.trail node.question) (IsOutsideKills search case number next.trail next.question) before after (λ u of at. outside_within search case number node next u w at) h
+
+pub next_broken : (search : Search) (case : Case) (number next : ℕ) (trail : List (Seat × Seat)) (q : Path) (before after : List (List Entry)) → next ≤ number + 1 → Misses search case number q → AddsBroken search (IsOutsideKills search case next trail q) before after
+    → AddsBroken search (IsOutsideKills search case number trail q) before after
+next_broken search case number next trail q before after l none h =
+    broken_from search (IsOutsideKills search case number trail q) (IsOutsideKills search case next trail q) before after (λ u of at. outside_next search case number next trail q u l none at) h
+
+-- fewer kills are passed too
+fewer_outside : (search : Search) (case : Case) (number next : ℕ) (trail : List (Seat × Seat)) (q : Path) (u : Unfolding) → next ≤ number → IsOutsideKills search case number trail q u → IsOutsideKills search case next trail q u
+fewer_outside search case number next trail q u l h =
+    record { branch = h.branch; in_case = h.in_case; grown = h.grown; outside = λ p long meets a last. in_no_fewer case.kills number next (picked (case_columns (judge_of search).params a) p) l (h.outside p long meets a last) }
+
+pub fewer_broken : (search : Search) (case : Case) (number next : ℕ) (node opened : Node) (before after : List (List Entry)) → next ≤ number → opened.question ≡ node.question → opened.trail ≡ node.trail
+    → AddsBroken search (IsOutsideKills search case next opened.trail opened.question) before after → AddsBroken search (IsOutsideKills search case number node.trail node.question) before after
+fewer_broken search case number next node opened before after l e f h =
+    broken_from search (IsOutsideKills search case number node.trail node.question) (IsOutsideKills search case next opened.trail opened.question) before after
+    (λ u of at. outside_within search case next node opened u (within_same node opened e f) (fewer_outside search case number next node.trail node.question u l at)) h
+
+pub survivor_broken : (search : Search) (case : Case) (trail : List (Seat × Seat)) (q : Path) (before after : List (List Entry)) → AddsBroken search (IsAt search trail q) before after → AddsBroken search (IsOutsideKills search case (length case.kills) trail q) before after
+survivor_broken search case trail q before after h =
+    broken_from search (IsOutsideKills search case (length case.kills) trail q) (IsAt search trail q) before after (λ u of at. outside_all search case trail q u of at) h
+
+pub nothing_left : (search : Search) (case : Case) (trail : List (Seat × Seat)) (q : Path) (before after : List (List Entry)) → case.pieces ≡ [] → Adds (IsPathAt (judge_of search).params trail q.conj) before after
+    → AddsBroken search (IsOutsideKills search case (length case.kills) trail q) before after
+nothing_left search case trail q before after none h =
+    broken_by search (IsOutsideKills search case (length case.kills) trail q) (IsPathAt (judge_of search).params trail q.conj) before after
+    (λ u of at es x. let l = x.there.long in absurd (outside_left search case trail q u of at x.point (omega (arith, l)) x.there.meets none)) h
+
+-- all kills are passed behind the last one
+pub last_broken : (search : Search) (case : Case) (number : ℕ) (trail : List (Seat × Seat)) (q : Path) (before after : List (List Entry)) → length case.kills ≤ number → AddsBroken search (IsOutsideKills search case (length case.kills) trail q) before after
+    → AddsBroken search (IsOutsideKills search case number trail q) before after
+last_broken search case number trail q before after l h =
+    broken_from search (IsOutsideKills search case number trail q) (IsOutsideKills search case (length case.kills) trail q) before after (λ u of at. fewer_outside search case number (length case.kills) trail q u l at) h
+
+-- on a side that misses the next kill
+pub side_broken : (search : Search) (case : Case) (number : ℕ) (node beside : Node) (parts : List Part) (part : Part) (before now after : List (List Entry)) → AddsBroken search (IsOutsideKills search case number node.trail node.question) before now
+    → SidesMiss search case number node.question parts → IsAmong part parts → beside.question ≡ question_on node.question part → beside.trail ≡ node.trail → AddsBroken search (IsOutsideKills search case (number + 1) beside.trail beside.question) now after
+    → AddsBroken search (IsOutsideKills search case number node.trail node.question) before after
+unfolding SidesMiss
+side_broken search case number node beside parts part before now after h miss i e f k =
+    let own : Misses search case number beside.question = subst (Misses search case number) (sym e) (miss part i) in
+    broken_then search (IsOutsideKills search case number node.trail node.question) before now after h
+    (within_broken search case number node beside now after (within_part node beside part e f) (next_broken search case number (number + 1) beside.trail beside.question now after (omega arith) own k))
+
+-- one more, where the numbers go so far
+pub most : (number next : ℕ) → next ≡ min (number + 1) (2 ^ 64 - 1) → next ≤ number + 1
+most number next e = subst (λ (n : ℕ). n ≤ number + 1) (sym e) (min-le_left (number + 1) (2 ^ 64 - 1))
+
+-- ---- the rows of a kill
+
+pub kill_rows : (search : Search) (case : Case) (number : ℕ) (q : Path) (whole : Conj × Kill) (rows : List Row) → slice_get case.kills number ≡ Some whole → ((a : Assumed) → q.last ≡ Some a → Some rows ≡ rows_renaming (case_columns (judge_of search).params a) whole.0.rows)
+    → AreKillRows search case number q rows
+unfolding AreKillRows
+kill_rows search case number q whole rows is moved kill get a last = subst (λ (k : Conj × Kill). Some rows ≡ rows_renaming (case_columns (judge_of search).params a) k.0.rows) (some-is whole kill (sym is ∙ get)) (moved a last)
+
+pub rows_within : (search : Search) (case : Case) (number : ℕ) (q v : Path) (rows : List Row) → IsGrown q v → AreKillRows search case number q rows → AreKillRows search case number v rows
+unfolding AreKillRows
+rows_within search case number q v rows g h kill get a last = h kill get a (sym (grown_last q v g) ∙ last)
+
+-- a question apart from its rows misses the kill
+pub apart_misses : (search : Search) (case : Case) (number : ℕ) (q : Path) (rows : List Row) → AreKillRows search case number q rows → AreApart q.conj rows → Misses search case number q
+unfolding AreKillRows AreApart Misses
+apart_misses search case number q rows h apart kill get a last p long meets k =
+    apart p long meets ((rows_renaming-points (case_columns (judge_of search).params a) kill.0.rows rows p (sym (h kill get a last))).1 k)
+
+holds_among : (rows : List Row) (row : Row) (p : List ℤ) → IsAmong row rows → Meets rows p → Holds row p
+holds_among [] row p i m = absurd i
+holds_among (r ∷ rows) row p (inl e) m = subst (λ (x : Row). Holds x p) (sym e) m.0
+holds_among (r ∷ rows) row p (inr i) m = holds_among rows row p i m.1
+
+-- a question where one of its rows fails misses it too
+fails_misses : (search : Search) (case : Case) (number : ℕ) (q : Path) (row : Row) → IsKillRow search case number q row → ((p : List ℤ) → q.conj.columns ≤ length p → Meets q.conj.rows p → ¬ (Holds row p)) → Misses search case number q
+unfolding AreApart
+fails_misses search case number q row h fails = apart_misses search case number q h.rows h.are (λ p long meets k. fails p long meets (holds_among h.rows row p h.among k))
+
+-- ---- parts of a negation
+
+-- a path of these columns, with no rows and no coordinates
+abbrev bare : ℕ → Path
+bare n =
+    let seat : Seat = record { position = Output 0; first = 0; width = 0 } in
+    record { conj = record { columns = n; rows = [] }; left = seat; right = seat; gone = false; last = None }
+
+bare_formed : (n : ℕ) → IsFormed 0 (bare n)
+bare_formed n = record { made = tt; base_in = omega arith; left_in = omega arith; right_in = omega arith; last_in = tt }
+
+part_over : (n : ℕ) (ps : List Part) (part : Part) → AllFormed 0 (map (question_on (bare n)) ps) → IsAmong part ps → AreRowsOver (n + part.question_columns) part.rows
+part_over n [] part h i = absurd i
+part_over n (p ∷ ps) part h (inl e) = subst (λ (x : Part). AreRowsOver (n + x.question_columns) x.rows) (sym e) h.0.made
+part_over n (p ∷ ps) part h (inr i) = part_over n ps part h.1 i
+
+-- the row fails at each point of a part, which may have further numbers
+part_fails : (n : ℕ) (row : Row) (part : Part) (p : List ℤ) → IsRowOver n row → IsAmong part (outside_of n row) → n + part.question_columns ≤ length p → Meets part.rows p → ¬ (Holds row p)
+part_fails n row part p over i long meets h =
+    let k = n + part.question_columns in
+    let rows = part_over n (outside_of n row) part (sides_formed 0 (bare n) row (bare_formed n) over).1 i in
+    let f = front_and_rest k p long in
+    let front : Meets part.rows (take k p) = meets_front part.rows k (take k p) (drop k p) (let e = f.1 in omega (arith, e)) rows (subst (Meets part.rows) (sym f.0) meets) in
+    let wide = over.0 in
+    (outside_fails n row part (take k p) over i f.1 front).fails (holds_front row (take k p) (drop k p) (let e = f.1 in omega (arith, e, wide)) (subst (Holds row) (sym f.0) h))
+
+pub parts_miss : (search : Search) (case : Case) (number : ℕ) (q : Path) (row : Row) (parts : Parts) (sides : List Part) → IsRowOver q.conj.columns row → AreSides q.conj.columns row (Some parts) → sides ≡ parts.outside → IsKillRow search case number q row → SidesMiss search case number q sides
+unfolding SidesMiss
+parts_miss search case number q row parts sides over are e h part i =
+    let n = q.conj.columns in
+    let v = question_on q part in
+    let there : IsAmong part (outside_of n row) = subst (IsAmong part) (e ∙ ap (λ (x : Parts). x.outside) are.1) i in
+    let own : IsKillRow search case number v row = record { rows = h.rows; are = rows_within search case number q v h.rows (grown_on q part) h.are; among = h.among } in
+    fails_misses search case number v row own (λ p long meets. part_fails n row part p over there long (meets-parts q.conj.rows part.rows p meets).1)
+
+-- ---- rows that no point meets
+
+pub none_apart : (c : Conj) (rows : List Row) (both : Conj) → both ≡ extended c 0 rows → HasNone both (answer.Empty None) → AreApart c rows
+unfolding AreApart
+none_apart c rows both e h p long meets k =
+    let none : HasNone (extended c 0 rows) (answer.Empty None) = subst (λ (x : Conj). HasNone x (answer.Empty None)) e h in
+    let f = front_and_rest (c.columns + 0) p (omega (arith, long)) in
+    let l = f.1 in
+    none.1 (take (c.columns + 0) p) (record { long = l; meets = meets_front (c.rows ++ rows) (c.columns + 0) (take (c.columns + 0) p) (drop (c.columns + 0) p) (omega (arith, l)) none.0 (subst (Meets (c.rows ++ rows)) (sym f.0) (meets-both c.rows rows p meets k)) })
+
+pub apart_by : (c : Conj) (rows : List Row) (both : Conj) (res : Result Answer UnfoldStop) (free : Option Answer) (seen : Answer) (o : Option Plan) → both ≡ extended c 0 rows → IfOk res (HasNone both) → IfSome free (λ x. res ≡ Ok x) → free ≡ Some seen → seen ≡ answer.Empty o → AreApart c rows
+apart_by c rows both res free seen o e h f is empty =
+    let r : res ≡ Ok seen = at_some free seen (λ x. res ≡ Ok x) is f in
+    let there : HasNone both seen = subst (λ (x : Result Answer UnfoldStop). IfOk x (HasNone both)) r h in
+    none_apart c rows both e (subst (HasNone both) empty there)

@@ -1,0 +1,183 @@
+-- Where the plans of an unfolding stop.
+use Rattle.std.proofs.Common.{◌≡◌, ℕ, ◌+◌, Bool, true, false, cond, List, [], ◌∷◌, ◌++◌, map, Option, Some, None, refl, sym, ap, ◌∙◌, subst}
+use Rattle.std.specs.Prelude.{is_some, option_and_then, slice_get}
+use Rattle.std.specs.List.{AllByRecursion}
+use Rattle.ac_forms.specs.declared.row.Row.{Row}
+use Rattle.ac_syntax.specs.declared.tree.Order.{Order}
+use Rattle.ac_syntax.specs.declared.tree.Order.TheVariants.{Keep}
+use Rattle.ac_syntax.specs.declared.tree.Position.{Position}
+use Rattle.ac_syntax.specs.declared.tree.Position.TheVariants as position
+use Rattle.ac_poly.specs.Model.{model_of}
+use Rattle.ac_poly.specs.declared.types.Model.{Model}
+use Rattle.ac_poly.specs.declared.types.NodeModel.{NodeModel}
+use Rattle.ac_poly.specs.declared.types.NodeModel.TheVariants as node
+use Rattle.ac_choices.specs.declared.choose.Choice.{Choice}
+use Rattle.ac_choices.proofs.Keeping.{bind-some}
+use Rattle.ac_paths.specs.Branching.{onto}
+use Rattle.ac_paths.specs.Going.{Pairing, branches}
+use Rattle.ac_paths.specs.Killing.{case_width}
+use Rattle.ac_paths.specs.Places.{CallAt, call_at, call_of, cell_read, node_at, read_of}
+use Rattle.ac_paths.specs.declared.path.Assumed.{Assumed}
+use Rattle.ac_paths.specs.declared.path.Branch.{Branch}
+use Rattle.ac_paths.specs.declared.path.Path.{Path}
+use Rattle.ac_paths.specs.declared.places.CellForms.{CellForms}
+use Rattle.ac_claims.specs.declared.types.Claim.{Claim}
+use Rattle.ac_claims.specs.declared.types.Kill.{Kill}
+use Rattle.ac_claims.specs.declared.types.Plan.{Plan}
+use Rattle.ac_claims.specs.declared.types.PlanNext.{PlanNext}
+use Rattle.ac_claims.specs.declared.types.PlanNext.TheVariants.{Killed}
+use Rattle.ac_flow_laws.specs.Accepting.{behind}
+use Rattle.ac_graft.specs.Plans.{BranchesTo}
+use Rattle.ac_graph.specs.Moves.{pairing_of}
+use Rattle.ac_setting.specs.Programs.{may_swap, order_at}
+use Rattle.ac_decided.specs.Stopping.{key_at, programs_of}
+use Rattle.ac_stopping.specs.Parts.{order_of}
+use Rattle.ac_plan_stops.specs.Stopped.{Stopped, MayGoOnFrom, StopEach, StopsAnywhere, StopsOn}
+use Rattle.ac_plan_stops.proofs.Stopping.{branches_stop, kills_stop, steps_stop}
+use Rattle.ac_leading.specs.Leading.{Unfolding}
+use Rattle.ac_leading.specs.Steps.{AreNoReaders}
+use Rattle.ac_leading.proofs.Calling.{orders_are_taken}
+use Rattle.ac_unfold.specs.Courses.{IsBehind, IsOpened}
+use Rattle.ac_unfold.specs.Cutting.{IsKilled, IsStep}
+use Rattle.ac_unfold.specs.Making.{judge_of}
+use Rattle.ac_unfold.specs.Standing.{StopsBeside}
+use Rattle.ac_unfold.specs.Stopping.{IsStoppedIn, IsUnclaimed, MayStep, StopsIn, TakesIn}
+use Rattle.ac_unfold.specs.declared.course.Course.{Course}
+use Rattle.ac_unfold.specs.declared.course.Open.{Open}
+use Rattle.ac_unfold.specs.declared.ends.Search.{Search}
+use Rattle.ac_unfold.specs.declared.node.Node.{Node}
+
+pub all_more : {A : Type 0} (P : A → Type 0) (xs : List A) (x : A) → AllByRecursion P xs → P x → AllByRecursion P (xs ++ x ∷ [])
+all_more P [] x h k = (k, tt)
+all_more P (y ∷ xs) x h k = (h.0, all_more P xs x h.1 k)
+
+-- ---- one pair
+
+pub anywhere_stops : (search : Search) (q : Path) (x : PlanNext) → StopsAnywhere x → StopsIn search q x
+unfolding StopsIn
+anywhere_stops search q x h making g at = h g (key_at q) q.gone
+
+pub all_anywhere_stop : (search : Search) (q : Path) (ts : List Plan) → (search.making ≡ true → AllByRecursion (λ (t : Plan). StopsAnywhere t.next) ts) → AllByRecursion (λ (t : Plan). StopsIn search q t.next) ts
+unfolding StopsIn
+all_anywhere_stop search q [] h = tt
+all_anywhere_stop search q (t ∷ ts) h = ((λ making g at. (h making).0 g (key_at q) q.gone), all_anywhere_stop search q ts (λ making. (h making).1))
+
+-- at another question of the pair
+pub there_stops : (search : Search) (q v : Path) (x : PlanNext) → key_at v ≡ key_at q → v.gone ≡ q.gone → StopsIn search v x → StopsIn search q x
+unfolding StopsIn
+there_stops search q v x e f h making g at = subst (λ (k : Position × Position). StopsOn g k q.gone x) e (subst (λ (b : Bool). StopsOn g (key_at v) b x) f (h making g at))
+
+pub all_there_stop : (search : Search) (q v : Path) (ts : List Plan) → key_at v ≡ key_at q → v.gone ≡ q.gone → AllByRecursion (λ (t : Plan). StopsIn search v t.next) ts → AllByRecursion (λ (t : Plan). StopsIn search q t.next) ts
+all_there_stop search q v [] e f h = tt
+all_there_stop search q v (t ∷ ts) e f h = (there_stops search q v t.next e f h.0, all_there_stop search q v ts e f h.1)
+
+-- ---- courses
+
+pub beside_none : (search : Search) (node : Node) (course : Course) → course.node ≡ node → course.branches.items ≡ [] → StopsBeside search node.question course
+beside_none search node course e none = record {
+  pair = ap (λ (n : Node). key_at n.question) e;
+  gone = ap (λ (n : Node). n.question.gone) e;
+  outside = subst (λ (bs : List Open). AllByRecursion (λ (b : Open). AllByRecursion (λ (t : Plan). StopsIn search node.question t.next) b.outside.items) bs) (sym none) tt;
+}
+
+pub beside_more : (search : Search) (q : Path) (course next : Course) (row : Row) (outside : List Plan) → IsOpened course row outside next → key_at next.node.question ≡ key_at course.node.question → next.node.question.gone ≡ course.node.question.gone
+    → AllByRecursion (λ (t : Plan). StopsIn search course.node.question t.next) outside → StopsBeside search q course → StopsBeside search q next
+beside_more search q course next row outside o e f all b =
+    let here : AllByRecursion (λ (t : Plan). StopsIn search q t.next) o.last.outside.items = subst (λ (ts : List Plan). AllByRecursion (λ (t : Plan). StopsIn search q t.next) ts) (sym o.outside_are) (all_there_stop search q course.node.question outside b.pair b.gone all) in
+    record {
+      pair = e ∙ b.pair;
+      gone = f ∙ b.gone;
+      outside = subst (λ (bs : List Open). AllByRecursion (λ (b : Open). AllByRecursion (λ (t : Plan). StopsIn search q t.next) b.outside.items) bs) (sym o.branches)
+          (all_more (λ (b : Open). AllByRecursion (λ (t : Plan). StopsIn search q t.next) b.outside.items) course.branches.items o.last b.outside here);
+    }
+
+branches_in : (search : Search) (q : Path) (ts : List Plan) (x : PlanNext) → BranchesTo ts x → AllByRecursion (λ (t : Plan). StopsIn search q t.next) ts → StopsIn search q x
+unfolding StopsIn
+branches_in search q ts x b all making g at = branches_stop g (key_at q) q.gone ts x b (each ts all)
+  where
+    each : (us : List Plan) → AllByRecursion (λ (t : Plan). StopsIn search q t.next) us → AllByRecursion (λ (t : Plan). StopsOn g (key_at q) q.gone t.next) us
+    each [] h = tt
+    each (u ∷ us) h = (h.0 making g at, each us h.1)
+
+-- a plan behind branches beside which plans stop
+pub behind_stops : (search : Search) (q : Path) (bs : List Open) (end t : Plan) → AllByRecursion (λ (b : Open). AllByRecursion (λ (t : Plan). StopsIn search q t.next) b.outside.items) bs → IsBehind bs end t → StopsIn search q end.next → StopsIn search q t.next
+behind_stops search q [] end t all h s = subst (λ (x : Plan). StopsIn search q x.next) h s
+behind_stops search q (b ∷ bs) end t all h s = branches_in search q (h.0 ∷ b.outside.items) t.next h.2.branches (behind_stops search q bs end h.0 all.1 h.1 s, all.0)
+
+-- ---- steps
+
+pub may_go : (search : Search) (q : Path) (g : Stopped) → IsStoppedIn search g → IsUnclaimed search q → MayGoOnFrom g (key_at q) q.gone
+may_go search q g at none gone = by (g.recurrent (key_at q)) refl
+  where
+    by : (b : Bool) → g.recurrent (key_at q) ≡ b → b ≡ false
+    by true e = let c = at.claimed (key_at q) e in absurd (none gone c.0 c.1 (ap (λ (k : Position × Position). k.0) (sym c.2)) (ap (λ (k : Position × Position). k.1) (sym c.2)))
+    by false e = refl
+
+pub each_more : (g : Stopped) (bs : List Path) (ts : List Plan) (b : Path) (t : Plan) → StopEach g bs ts → StopsOn g (key_at b) true t.next → StopEach g (bs ++ b ∷ []) (ts ++ t ∷ [])
+each_more g [] [] b t h s = (s, tt)
+each_more g [] (u ∷ ts) b t h s = absurd h
+each_more g (c ∷ bs) [] b t h s = absurd h
+each_more g (c ∷ bs) (u ∷ ts) b t h s = (h.0, each_more g bs ts b t h.1 s)
+
+pub step_stops : (search : Search) (q : Path) (order : Order) (found : List Branch) (ts : List Plan) (t : Plan) → (search.making ≡ true → (g : Stopped) → IsStoppedIn search g → StopEach g (map (onto q) found) ts) → IsStep order ts t → Some (map (onto q) found) ≡ branches (judge_of search) order q → MayStep search q order
+    → StopsIn search q t.next
+unfolding StopsIn TakesIn
+step_stops search q order found ts t each step is may making g at =
+    let bs = map (onto q) found in
+    let there : branches (programs_of g.pair) order q ≡ Some bs = ap (λ (p : Pairing). branches p order q) at.programs ∙ sym is in
+    subst (StopsOn g (key_at q) q.gone) (sym step.next_is)
+    (steps_stop g q order step.plans bs (may_go search q g at may.unclaimed) (may.takes g at bs there) there (subst (λ (us : List Plan). StopEach g bs us) (sym step.plans_are) (each making g at)))
+
+-- ---- orders
+
+pub calls_take : (search : Search) (q : Path) (order : Order) → cell_read (judge_of search).left q.left.position ≡ None → cell_read (judge_of search).right q.right.position ≡ None → order ≡ order_of search.order.now (key_at q) → TakesIn search q order
+unfolding TakesIn
+calls_take search q order l r is g at bs b =
+    let u : Unfolding = record { pair = g.pair; order = g.order; claim = record { left = q.left.position; right = q.right.position; rows = [] }; outputs = []; recurrent = g.recurrent; template = λ key. [] } in
+    let none : AreNoReaders u q = record {
+      left = subst (λ (p : Pairing). cell_read p.left q.left.position ≡ None) (sym at.programs) l;
+      right = subst (λ (p : Pairing). cell_read p.right q.right.position ≡ None) (sym at.programs) r;
+    } in
+    sym (ap (order_at g.pair (key_at q)) (at.orders (key_at q) ∙ sym is) ∙ orders_are_taken u q order bs none b)
+
+read_no_call : (s : ℕ) (n : NodeModel) (forms : CellForms) → read_of n ≡ Some forms → call_of s n ≡ None
+read_no_call s (node.Number f) forms e = absurd cc
+read_no_call s (node.Read array subs) forms e = refl
+read_no_call s (node.Call symbol args) forms e = absurd cc
+
+-- where a read or an output stands, there is no call
+no_call : (m : Model) (P : Position) (o : Option CellForms) → o ≡ cell_read m P → is_some o ≡ true → call_at m P ≡ None
+no_call m (position.Output o) x e there = refl
+no_call m (position.Node s k) None e there = absurd cc
+no_call m (position.Node s k) (Some forms) e there =
+    let b = bind-some (node_at m s k) read_of forms (sym e) in
+    ap (λ (o : Option NodeModel). option_and_then (call_of s) o) b.1 ∙ read_no_call s b.0 forms b.2
+no_call m (position.InitialOutput o) x e there = refl
+no_call m (position.InitialNode s k) x e there = refl
+
+pub left_takes : (search : Search) (q : Path) (o : Option CellForms) → o ≡ cell_read (judge_of search).left q.left.position → is_some o ≡ true → TakesIn search q Keep
+unfolding TakesIn
+left_takes search q o e there g at bs b =
+    let none : call_at (model_of g.pair.left g.pair.context) q.left.position ≡ None = subst (λ (p : Pairing). call_at p.left q.left.position ≡ None) (sym at.programs) (no_call (judge_of search).left q.left.position o e there) in
+    sym (ap (λ (x : Option CallAt). cond (may_swap (pairing_of g.pair) x (call_at (model_of g.pair.right g.pair.context) q.right.position)) (g.order (key_at q)) Keep) none)
+
+swaps_none : (g : Pairing) (o : Option CallAt) → may_swap g o None ≡ false
+swaps_none g None = refl
+swaps_none g (Some c) = refl
+
+pub right_takes : (search : Search) (q : Path) (o : Option CellForms) → o ≡ cell_read (judge_of search).right q.right.position → is_some o ≡ true → TakesIn search q Keep
+unfolding TakesIn
+right_takes search q o e there g at bs b =
+    let none : call_at (model_of g.pair.right g.pair.context) q.right.position ≡ None = subst (λ (p : Pairing). call_at p.right q.right.position ≡ None) (sym at.programs) (no_call (judge_of search).right q.right.position o e there) in
+    let left = call_at (model_of g.pair.left g.pair.context) q.left.position in
+    sym (ap (λ (x : Option CallAt). cond (may_swap (pairing_of g.pair) left x) (g.order (key_at q)) Keep) none ∙ ap (λ (x : Bool). cond x (g.order (key_at q)) Keep) (swaps_none (pairing_of g.pair) left))
+
+-- ---- kills
+
+pub is_killed : (search : Search) (node : Node) (kill : Kill) (own : ℕ) (moved : List Choice) (t : Plan) → ((a : Assumed) → node.question.last ≡ Some a → own ≡ case_width (judge_of search).params a) → moved ≡ map (behind own node.placing.next_column) kill.choices → t.steps ≡ []
+    → t.next ≡ Killed (record { stmt = kill.stmt; piece = kill.piece; after = kill.after; before = kill.before; choices = moved }) → IsKilled search node kill t
+is_killed search node kill own moved t own_is are steps next = record {
+  ends = λ a last.
+      (steps, next ∙ ap (λ (cs : List Choice). Killed (record { stmt = kill.stmt; piece = kill.piece; after = kill.after; before = kill.before; choices = cs })) (are ∙ ap (λ (n : ℕ). map (behind n node.placing.next_column) kill.choices) (own_is a last)));
+  stops = subst StopsAnywhere (sym next) (kills_stop (record { stmt = kill.stmt; piece = kill.piece; after = kill.after; before = kill.before; choices = moved }));
+}

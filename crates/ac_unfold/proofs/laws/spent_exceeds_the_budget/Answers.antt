@@ -1,0 +1,8 @@
+use Rattle.ac_refutations.specs.declared.strategy.Strategy.TheVariants.{Full}
+use Rattle.ac_unfold.specs.Causes.{IsTooCostly}
+use Rattle.ac_unfold.proofs.Spending.{spent_above}
+use Rattle.ac_unfold.proofs.laws.spent_exceeds_the_budget.Goals as goal
+
+pub returns : goal.returns
+unfolding IsTooCostly
+returns c = λ budget cost q h small. spent_above Full budget cost q h.1 small
