@@ -94,7 +94,7 @@ impl Key {
         self.members.len()
     }
 
-    /// Whether there is no member.
+    /// Whether the hull has no member.
     pub fn is_empty(&self) -> bool
         ensures { IsTrue result ↔ (self.now.hull.members ≡ []) }
     {

@@ -185,9 +185,8 @@ module _ (s : Search) (order : List (Site × Order)) (known : Known) (numbers : 
           let of = claim_of_key known.keys.items numbers claims c at m in
           subst (λ (x : Claim). Each (IsClaimRow (rows_at s.pair.now w (key_of x))) x.rows) (sym of.1.2) (key_rows s order known w of.1.0 is k v (get_among known.keys.items of.0 of.1.0 of.1.1))
 
-  found_by : (count : ℕ) (part : Part) → IsBegun s order claims count part → IsOwn s order part → IsFound s.pair.now s.array s.first part
+  found_by : (count : ℕ) (part : Part) → IsBegun s order claims count part → IsOwn s order part → IsFound s.pair.now (order_of order) s.array s.first part
   found_by count part b own = record {
-    order = order_of order;
     is_part = λ before len. record {
       among = is.output;
       claim = b.output;
@@ -202,10 +201,10 @@ module _ (s : Search) (order : List (Site × Order)) (known : Known) (numbers : 
     };
   }
 
-  pub found_cut : (count : ℕ) (part : Part) → IsBegun s order claims count part → TreesHitWithin (s.first + length part.claims.items) part.trees.items → IsFound s.pair.now s.array s.first part
+  pub found_cut : (count : ℕ) (part : Part) → IsBegun s order claims count part → TreesHitWithin (s.first + length part.claims.items) part.trees.items → IsFound s.pair.now (order_of order) s.array s.first part
   found_cut count part b hits = found_by count part b (own_cut s order (b.output ∷ claims) part b.partly hits)
 
-  pub found_whole : (part : Part) → IsBegun s order claims (length numbers) part → length numbers ≡ length claims → IsFound s.pair.now s.array s.first part
+  pub found_whole : (part : Part) → IsBegun s order claims (length numbers) part → length numbers ≡ length claims → IsFound s.pair.now (order_of order) s.array s.first part
   found_whole part b long =
       let count : length part.claims.items ≡ length (b.output ∷ claims) = (let n = b.counted in omega (arith, n, long)) in
       found_by (length numbers) part b (own_whole s order (b.output ∷ claims) part b.partly count)

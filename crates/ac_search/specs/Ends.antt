@@ -4,6 +4,7 @@ use Rattle.ac_syntax.specs.declared.tree.Order.{Order}
 use Rattle.ac_syntax.specs.declared.tree.Site.{Site}
 use Rattle.ac_rounds.specs.Rounds.{IfKnown, IfMismatch}
 use Rattle.ac_rounds.specs.declared.rounds.Round.{Round}
+use Rattle.ac_stopping.specs.Parts.{order_of}
 use Rattle.ac_search.specs.Searches.{IsFound, IsKnownUnder, ShowMismatch}
 use Rattle.ac_search.specs.declared.types.Ended.{Ended}
 use Rattle.ac_search.specs.declared.types.Ended.TheVariants.{Stands, Mismatch}
@@ -11,9 +12,9 @@ use Rattle.ac_search.specs.declared.types.Search.{Search}
 use Rattle.ac_search.specs.declared.walking.Turn.{Turn}
 use Rattle.ac_search.specs.declared.walking.Turn.TheVariants as turn
 
--- the part of the output is found; or the entries show a mismatch
+-- the part of the output is found under the order; or the entries show a mismatch under it
 abbrev pub IsEnd : Search → List (Site × Order) → Ended → Type 0
-IsEnd s order (Stands part) = IsFound s.pair.now s.array s.first part
+IsEnd s order (Stands part) = IsFound s.pair.now (order_of order) s.array s.first part
 IsEnd s order (Mismatch why) = ShowMismatch s order why.entries
 
 -- the search goes on with what is known then, or ends

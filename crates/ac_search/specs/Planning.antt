@@ -75,5 +75,5 @@ IsPlannedTo s order known claims count (planning.Part part) = IsBegun s order cl
 IsPlannedTo s order known claims count (planning.Broken from path) = AreBrokenFrom s order known from (path ∷ [])
 
 abbrev pub IsPlanned : Search → List (Site × Order) → Known → Planning → Type 0
-IsPlanned s order known (planning.Part part) = IsFound s.pair.now s.array s.first part
+IsPlanned s order known (planning.Part part) = IsFound s.pair.now (order_of order) s.array s.first part
 IsPlanned s order known (planning.Broken from path) = AreBrokenFrom s order known from (path ∷ [])

@@ -69,8 +69,7 @@ pub record IsKnownUnder (s : Search) (order : List (Site × Order)) (known : Kno
 abbrev pub rows_at : Pair → Widening → Position × Position → List Row
 rows_at pair w key = template_rows (point_width pair key) w.thresholds w.moduli
 
--- a part for the output behind so many claims, which stops at the recurrence pairs, under some order
-pub record IsFound (pair : Pair) (array first : ℕ) (part : Part) : Type 0 where
-  pub order : Position × Position → Order
+-- a part for the output behind so many claims, which stops at the recurrence pairs under an order
+pub record IsFound (pair : Pair) (order : Position × Position → Order) (array first : ℕ) (part : Part) : Type 0 where
   pub is_part : (before : List Claim) → length before ≡ first → IsPartFor (programs_of pair) pair.outputs array before part
   pub stops : (before : List Claim) → length before ≡ first → (w : Widening) → IsWideningOf pair w → IsPartStopping pair order w.recurrent (rows_at pair w) (in_part first (length part.claims.items)) before part

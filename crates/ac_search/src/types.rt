@@ -23,6 +23,6 @@ pub struct Search<'a> {
 pub enum Ended {
     /// The output and all claims stand: the output's part of a proof.
     Stands(Part),
-    /// A pair is a mismatch.
+    /// A pair is a mismatch, where each of the pairs up to which the search goes is a recurrence pair.
     Mismatch(Derivation),
 }

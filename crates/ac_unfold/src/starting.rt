@@ -121,8 +121,8 @@ fn find_beside(
     Ok(())
 }
 
-/// The concrete paths on which a start fails: from one of its pairs along the steps to a mismatch, or to the pair of a claim
-/// that breaks one of its rows.
+/// Concrete paths on which a start fails, maybe not all of them, and none where some fail: from one of its pairs along the steps to a
+/// mismatch, or to the pair of a claim that breaks one of its rows.
 ///
 /// The start's pairs are the points of its rows, the context and a piece of each of its positions, over the parameters, the
 /// coordinates of the left position and those of the right one. A path ends at the first pair of a claim behind at least one

@@ -38,8 +38,8 @@ pub enum UnfoldStop {
         /// The full walk's first running cost above the budget.
         cost: u64,
     },
-    /// More than 20,000 ends are reached from one start, or a path has more than 2,000 branches; the broken paths that were
-    /// found so far.
+    /// More than 20,000 ends are reached from one start, or the unfolding goes more than 2,000 calls deep: two for a step of two calls, four
+    /// or five for one of a read, and more where kills are passed or cut. With it come broken paths that were found so far, maybe none.
     Paths(Items<Items<Entry>>),
     /// There was no memory.
     Memory(AllocError),

@@ -33,7 +33,7 @@ use ac_poly::types::Model;
 use ac_syntax::tree::Order;
 use std::alloc::{AllocError, Global};
 
-/// How many branches a path may have.
+/// How deep the unfolding may go, in calls.
 pub(crate) const MOST_DEEP: usize = 2_000;
 
 /// Unfolds a pair of positions: to the claim of the pair, to the cases of a read or an output, to the arguments of two calls,
