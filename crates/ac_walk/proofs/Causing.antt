@@ -1,11 +1,10 @@
 -- Why outputs are unknown where the search does not begin.
-use Rattle.std.proofs.Common.{◌≡◌, ℕ, ℤ, List, [], ◌∷◌, length, Option, Some, None, option_map, refl, sym, ap, subst, ◌∙◌}
+use Rattle.std.proofs.Common.{◌≡◌, ℕ, ℤ, List, length, Option, sym, ap, subst, ◌∙◌}
 use Rattle.ac_forms.specs.Rows.{Meets}
 use Rattle.ac_forms.specs.declared.conj.Conj.{Conj}
 use Rattle.ac_refutations.specs.declared.strategy.Strategy.TheVariants.{Full}
 use Rattle.ac_omega.specs.Decisions.{walk_of, EndsAt}
 use Rattle.ac_syntax.specs.declared.tree.Pair.{Pair}
-use Rattle.ac_choices.proofs.Keeping.{some-is}
 use Rattle.ac_poly.specs.declared.types.Model.{Model}
 use Rattle.ac_flow.specs.Contexts.{ContextStops}
 use Rattle.ac_flow.specs.Flows.{CasesAreSources}
@@ -18,28 +17,7 @@ use Rattle.ac_flow.specs.declared.types.FlowStop.{FlowStop}
 use Rattle.ac_flow.specs.declared.types.FlowStop.TheVariants as flow
 use Rattle.ac_report.specs.declared.types.Cause.{Cause}
 use Rattle.ac_report.specs.declared.types.Verdict.{Verdict}
-use Rattle.ac_report.specs.declared.types.Verdict.TheVariants.{Unknown}
-use Rattle.ac_walk.specs.Deciding.{IsEarly}
 use Rattle.ac_walk.specs.Causes.{AreUnknown, HasFlow, HasValuation, IsAnswered, context_stopped, left_stopped, right_stopped, cause_of, context_cause_of, left_model, right_model}
-use Rattle.ac_walk.proofs.Gathered.{IsUnknown, AllUnknown}
-
--- the cause of a stop names no refuted order
-is_early : (stop : FlowStop) (cause : Cause) → cause_of stop ≡ Some cause → IsEarly cause
-is_early (flow.Overflow question) cause e = subst IsEarly (some-is _ cause e) tt
-is_early (flow.Spent question cost) cause e = subst IsEarly (some-is _ cause e) tt
-is_early (flow.Pieces position kept) cause e = subst IsEarly (some-is _ cause e) tt
-is_early (flow.Memory want) cause e = absurd cc
-
-is_unknown : (stop : FlowStop) (v : Verdict) → option_map Unknown (cause_of stop) ≡ Some v → IsUnknown v
-is_unknown stop v e = by (cause_of stop) refl e
-  where
-    by : (why : Option Cause) → cause_of stop ≡ why → option_map Unknown why ≡ Some v → IsUnknown v
-    by None i h = absurd cc
-    by (Some cause) i h = let same : Unknown cause ≡ v = cc in subst IsUnknown same (is_early stop cause i)
-
-pub all_are_unknown : (stop : FlowStop) (vs : List Verdict) → AreUnknown (cause_of stop) vs → AllUnknown vs
-all_are_unknown stop [] h = tt
-all_are_unknown stop (v ∷ vs) h = (is_unknown stop v h.0, all_are_unknown stop vs h.1)
 
 -- the same stop of a question, of the context or of a flow, has the same cause
 pub same_overflow : (stop : ContextStop) (as_flow : FlowStop) (q : Conj) → stop ≡ context.Overflow q → as_flow ≡ flow.Overflow q → cause_of as_flow ≡ context_cause_of stop

@@ -1,5 +1,5 @@
 -- Flows, graphs and the numbers of template rows, as the search knows them.
-use Rattle.std.proofs.Common.{◌≡◌, ◌↔◌, List, ℤ, sym, subst}
+use Rattle.std.proofs.Common.{◌≡◌, ◌↔◌, subst}
 use Rattle.ac_syntax.specs.declared.tree.Pair.{Pair}
 use Rattle.ac_syntax.specs.declared.tree.Position.{Position}
 use Rattle.ac_poly.specs.Model.{model_of}
@@ -11,7 +11,7 @@ use Rattle.ac_flow.specs.declared.types.Flow.{Flow}
 use Rattle.ac_graph.specs.Moves.{IsEdge, AreReached, AreRecurrent, dependences, starts_of}
 use Rattle.ac_graph.specs.Steps.{HaveFlows}
 use Rattle.ac_graph.specs.declared.types.Graph.{Graph}
-use Rattle.ac_searched.specs.Statements.{IsGraphOf, AreNumbersOf}
+use Rattle.ac_searched.specs.Statements.{IsGraphOf}
 
 pub have_flows : (pair : Pair) (left right : Model) (f g : Flow) → ArePaired pair → left ≡ model_of pair.left pair.context → right ≡ model_of pair.right pair.context → AreFlows left (readers left) f.reads → AreFlows right (readers right) g.reads → HaveFlows pair f g
 have_flows pair left right f g t a b x y = record {
@@ -19,9 +19,6 @@ have_flows pair left right f g t a b x y = record {
   left_are = subst (λ (m : Model). AreFlows m (readers m) f.reads) a x;
   right_are = subst (λ (m : Model). AreFlows m (readers m) g.reads) b y;
 }
-
-pub numbers_at : (pair : Pair) (thresholds moduli ts ms : List ℤ) → ts ≡ thresholds → ms ≡ moduli → AreNumbersOf pair thresholds moduli → AreNumbersOf pair ts ms
-numbers_at pair thresholds moduli ts ms t m h = subst (AreNumbersOf pair ts) (sym m) (subst (λ (xs : List ℤ). AreNumbersOf pair xs moduli) (sym t) h)
 
 pub is_graph : (pair : Pair) (left right : Flow) (graph : Graph) → ((p q : Position) → IsAmong (p, q) graph.left_edges ↔ IsEdge left p q) → ((p q : Position) → IsAmong (p, q) graph.right_edges ↔ IsEdge right p q)
     → AreReached (dependences pair graph.left_edges graph.right_edges) (starts_of pair.outputs) graph.reachable → AreRecurrent (dependences pair graph.left_edges graph.right_edges) graph.reachable graph.recurrent → IsGraphOf pair left right graph

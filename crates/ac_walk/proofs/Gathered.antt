@@ -1,106 +1,38 @@
 -- Verdicts and their proof, output by output.
-use Rattle.std.proofs.Common.{◌≡◌, ℕ, ◌+◌, ℤ, List, [], ◌∷◌, ◌++◌, map, take, length, Option, Some, refl, sym, ap, subst, ◌∙◌, append_assoc, append-nil, arith}
+use Rattle.std.proofs.Common.{◌≡◌, ℕ, ◌+◌, ℤ, List, [], ◌∷◌, ◌++◌, map, take, length, Option, Some, None, option_map, refl, sym, ap, subst, ◌∙◌, append_assoc, append-nil, arith}
 use Rattle.std.specs.Prelude.{slice_get}
 use Rattle.std.specs.List.{AllByRecursion}
-use Rattle.std.proofs.lemmas.List.{map-append, take_more}
+use Rattle.std.proofs.lemmas.List.{take_more}
 use Rattle.std.proofs.lemmas.Option.{slice_get_within, get_or_from_slice_get}
-use Rattle.std.proofs.Math.Seq.{take-append_seam, take-length}
+use Rattle.std.proofs.Math.Seq.{take-length}
 use Rattle.ac_forms.specs.Rows.{HaveModuli}
-use Rattle.ac_syntax.specs.Outputs.{SameOutput}
 use Rattle.ac_syntax.specs.declared.tree.Pair.{Pair}
-use Rattle.ac_cert.specs.Faults.{Fault, first_fault_of}
-use Rattle.ac_cert.specs.declared.types.Rule.TheVariants as rule
-use Rattle.ac_paths.specs.Going.{Pairing}
-use Rattle.ac_claims.specs.PlanFaults.{fault_unless}
-use Rattle.ac_claims.specs.ProofFaults.{proof_fault, head_lines, claim_lines, is_point, heads_fault, claims_fault, outputs_fault, trees_fault, due_from}
+use Rattle.ac_choices.proofs.Keeping.{some-is}
 use Rattle.ac_claims.specs.ProofMachine.{AreSpelledTrees}
 use Rattle.ac_claims.specs.declared.types.Claim.{Claim}
-use Rattle.ac_claims.specs.declared.types.ClaimTree.{ClaimTree}
 use Rattle.ac_claims.specs.declared.types.Heads.{Heads}
 use Rattle.ac_claims.specs.declared.types.Proof.{Proof}
-use Rattle.ac_matched.specs.Matches.{IsMatched}
+use Rattle.ac_flow.specs.declared.types.FlowStop.{FlowStop}
+use Rattle.ac_flow.specs.declared.types.FlowStop.TheVariants as flow
+use Rattle.ac_parts.specs.Parts.{IsEmpty}
 use Rattle.ac_report.specs.declared.types.Cause.{Cause}
-use Rattle.ac_report.specs.declared.types.Cause.TheVariants.{Unmatched, OverflowQuestion, OverflowHull, SpentQuestion, SpentPieces, SpentPaths, SpentOrders}
 use Rattle.ac_report.specs.declared.types.Verdict.{Verdict}
-use Rattle.ac_report.specs.declared.types.Verdict.TheVariants.{Equal, Different, Unknown}
-use Rattle.ac_walk.specs.Deciding.{IsEarly}
-use Rattle.ac_walk.specs.Verdicts.{IsCause, IsDifferentAt, IsVerdict, AreVerdicts, IsMatchedIf, AreMatched, IsSound, if_equal, equal_outputs, named, pairing}
-use Rattle.ac_walk.specs.Gathering.{IsHeld, IsLonger, IsFirst, IsSaidOf, IsProvedOf}
+use Rattle.ac_report.specs.declared.types.Verdict.TheVariants.{Different, Unknown}
+use Rattle.ac_walk.specs.Causes.{AreSearched, AreUnknown, EndsSearch, IsSearched, cause_of}
+use Rattle.ac_walk.specs.Verdicts.{IsCause, IsDifferentAt, IsVerdict, AreVerdicts, IsMatchedIf, AreMatched, if_equal, equal_outputs, named}
+use Rattle.ac_walk.specs.Gathering.{IsHeld, IsSaidOf, IsProvedOf, IsSearchedOf, IsValid}
 use Rattle.ac_walk.specs.declared.types.Proved.{Proved}
 
-array_of : ℕ × ℕ → ℕ
-array_of o = o.0
-
-same_last : (pair : Pair) (os : List ℕ) (o : ℕ) → AllByRecursion (SameOutput pair) (os ++ o ∷ []) → SameOutput pair o
-same_last pair [] o h = h.0
-same_last pair (p ∷ os) o h = same_last pair os o h.1
-
--- a cause that names no refuted order
-pub early_cause : (pair : Pair) (output : ℕ) (cause : Cause) → IsEarly cause → IsCause pair output cause
-early_cause pair output (Unmatched refuted) h = λ n. absurd (n h)
-early_cause pair output (OverflowQuestion question) h = tt
-early_cause pair output (OverflowHull members) h = tt
-early_cause pair output (SpentQuestion question cost) h = tt
-early_cause pair output (SpentPieces position kept) h = tt
-early_cause pair output (SpentPaths paths) h = tt
-early_cause pair output (SpentOrders refuted) h = tt
-
--- the part of an output whose proof is accepted
-pub sound_said : (pair : Pair) (proof longer : Proof) (array : ℕ) → IsLonger proof array longer → IsSound pair longer → IsMatched pair array → IsSaidOf pair array proof (Equal, longer)
-sound_said pair proof longer array l s m =
-    let names : named longer ≡ named proof ++ array ∷ [] = ap (map (λ (o : ℕ × ℕ). o.0)) l.outputs ∙ map-append (λ (o : ℕ × ℕ). o.0) proof.outputs ((array, length proof.claims) ∷ []) in
-    record {
-      verdict = same_last pair (named proof) array (subst (AllByRecursion (SameOutput pair)) names s.same);
-      matched = m;
-      named_then = names;
-      held = record { spelled = s.spelled; claims = s.claims; accepted = λ n. s.accepted };
-    }
-
--- the first fault of a proof, by its parts
-fault_by : Pairing → List ℕ → List ℤ → Option Heads → List Claim → List (ℕ × ℕ) → List ClaimTree → Fault
-fault_by g outputs p heads claims os trees =
-    let first = 4 + head_lines heads in
-    let k = first + claim_lines claims in
-    first_fault_of (fault_unless (is_point g.left p) 2 rule.Point)
-    (first_fault_of (heads_fault g heads)
-    (first_fault_of (claims_fault g claims first)
-    (first_fault_of (outputs_fault g outputs claims os k)
-    (trees_fault g claims trees (due_from g 0 claims) (k + length os)))))
-
-fault_is : (g : Pairing) (outputs : List ℕ) (p : Proof) → proof_fault g outputs p ≡ fault_by g outputs p.point p.heads p.claims p.outputs p.trees.items
-unfolding fault_by
-fault_is g outputs p = refl
-
--- what is left of a longer proof is the proof before
-pub restored : (pair : Pair) (proof longer first : Proof) (array claims outputs trees : ℕ) (cause : Cause) → claims ≡ length proof.claims → outputs ≡ length proof.outputs → trees ≡ length proof.trees.items → IsLonger proof array longer → IsFirst longer claims outputs trees first
-    → IsHeld pair proof → IsEarly cause → IsSaidOf pair array proof (Unknown cause, first)
-restored pair proof longer first array claims outputs trees cause fc fo ft l f h early =
-    let cs : first.claims ≡ proof.claims = f.claims ∙ (λ i. take (fc i) (l.claims i)) ∙ take-append_seam proof.claims l.more in
-    let os : first.outputs ≡ proof.outputs = f.outputs ∙ (λ i. take (fo i) (l.outputs i)) ∙ take-append_seam proof.outputs ((array, length proof.claims) ∷ []) in
-    let ts : first.trees.items ≡ proof.trees.items = f.trees ∙ (λ i. take (ft i) (l.trees i)) ∙ take-append_seam proof.trees.items l.plans in
-    let p : first.point ≡ proof.point = f.point ∙ l.point in
-    let hs : first.heads ≡ proof.heads = f.heads ∙ l.heads in
-    let names : named first ≡ named proof = ap (map (λ (o : ℕ × ℕ). o.0)) os in
-    record {
-      verdict = early_cause pair array cause early;
-      matched = tt;
-      named_then = names ∙ sym (append-nil (named proof));
-      held = record {
-        spelled = subst AreSpelledTrees (sym ts) h.spelled;
-        claims = subst (AllByRecursion (λ (c : Claim). HaveModuli c.rows)) (sym cs) h.claims;
-        accepted = λ n. fault_is (pairing pair) pair.outputs first ∙ (λ i. fault_by (pairing pair) pair.outputs (p i) (hs i) (cs i) (os i) (ts i)) ∙ sym (fault_is (pairing pair) pair.outputs proof) ∙ h.accepted (λ e. n (names ∙ e));
-      };
-    }
+-- ---- one output
 
 -- a proof that stays as it is
-pub unknown_said : (pair : Pair) (output : ℕ) (proof : Proof) (cause : Cause) → IsCause pair output cause → IsHeld pair proof → IsSaidOf pair output proof (Unknown cause, proof)
-unknown_said pair output proof cause c h = record { verdict = c; matched = tt; named_then = sym (append-nil (named proof)); held = h }
+pub unknown_said : (budget : ℕ) (pair : Pair) (output : ℕ) (proof : Proof) (cause : Cause) → IsCause pair output cause → EndsSearch budget cause → IsValid pair proof → IsSaidOf budget pair output proof (Unknown cause, proof)
+unknown_said budget pair output proof cause c e h = record { verdict = c; matched = tt; searched = e; named_then = sym (append-nil (named proof)); valid = h }
 
-pub early_said : (pair : Pair) (output : ℕ) (proof : Proof) (cause : Cause) → IsEarly cause → IsHeld pair proof → IsSaidOf pair output proof (Unknown cause, proof)
-early_said pair output proof cause e h = unknown_said pair output proof cause (early_cause pair output cause e) h
+pub different_said : (budget : ℕ) (pair : Pair) (output : ℕ) (proof : Proof) (at element : List ℤ) → IsDifferentAt pair output at element → IsValid pair proof → IsSaidOf budget pair output proof (Different at element, proof)
+different_said budget pair output proof at element d h = record { verdict = d; matched = tt; searched = tt; named_then = sym (append-nil (named proof)); valid = h }
 
-pub different_said : (pair : Pair) (output : ℕ) (proof : Proof) (at element : List ℤ) → IsDifferentAt pair output at element → IsHeld pair proof → IsSaidOf pair output proof (Different at element, proof)
-different_said pair output proof at element d h = record { verdict = d; matched = tt; named_then = sym (append-nil (named proof)); held = h }
+-- ---- one more
 
 more_verdicts : (pair : Pair) (os : List ℕ) (o : ℕ) (vs : List Verdict) (v : Verdict) → AreVerdicts pair os vs → IsVerdict pair o v → AreVerdicts pair (os ++ o ∷ []) (vs ++ v ∷ [])
 more_verdicts pair [] o [] v h k = (k, tt)
@@ -123,61 +55,91 @@ more_equal pair (p ∷ os) o (w ∷ vs) v h = ap (λ z. if_equal p w ++ z) (more
 take_next : (xs : List ℕ) (n x : ℕ) → slice_get xs n ≡ Some x → take (n + 1) xs ≡ take n xs ++ x ∷ []
 take_next xs n x e = take_more xs n x (slice_get_within xs n x e) ∙ ap (λ z. take n xs ++ z ∷ []) (get_or_from_slice_get xs n x x e)
 
+more_searched : (budget : ℕ) (vs : List Verdict) (v : Verdict) → AreSearched budget vs → IsSearched budget v → AreSearched budget (vs ++ v ∷ [])
+more_searched budget [] v h k = (k, tt)
+more_searched budget (w ∷ vs) v h k = (h.0, more_searched budget vs v h.1 k)
+
 -- the verdict on one more output
-pub one_more : (pair : Pair) (number array : ℕ) (before after : Proved) (said : Verdict × Proof) → slice_get pair.outputs number ≡ Some array → IsProvedOf pair (take number pair.outputs) before → IsSaidOf pair array before.proof said → after.verdicts ≡ before.verdicts ++ said.0 ∷ []
-    → after.proof ≡ said.1 → IsProvedOf pair (take (number + 1) pair.outputs) after
-one_more pair number array before after said at p s vs proof =
+pub one_more : (budget : ℕ) (pair : Pair) (number array : ℕ) (before after : Proved) (said : Verdict × Proof) → slice_get pair.outputs number ≡ Some array → IsSearchedOf budget pair (take number pair.outputs) before → IsSaidOf budget pair array before.proof said
+    → after.verdicts ≡ before.verdicts ++ said.0 ∷ [] → after.proof ≡ said.1 → IsSearchedOf budget pair (take (number + 1) pair.outputs) after
+one_more budget pair number array before after said at p s vs proof =
     let os = take number pair.outputs in
     let next : take (number + 1) pair.outputs ≡ os ++ array ∷ [] = take_next pair.outputs number array at in
-    let grown : IsProvedOf pair (os ++ array ∷ []) after = record {
+    let grown : IsSearchedOf budget pair (os ++ array ∷ []) after = record {
       verdicts = subst (AreVerdicts pair (os ++ array ∷ [])) (sym vs) (more_verdicts pair os array before.verdicts said.0 p.verdicts s.verdict);
       matched = subst (AreMatched pair (os ++ array ∷ [])) (sym vs) (more_matched pair os array before.verdicts said.0 p.matched s.matched);
+      searched = subst (AreSearched budget) (sym vs) (more_searched budget before.verdicts said.0 p.searched s.searched);
       equal = ap named proof ∙ s.named_then ∙ ap (λ z. z ++ if_equal array said.0) p.equal ∙ sym (more_equal pair os array before.verdicts said.0 p.verdicts) ∙ ap (equal_outputs (os ++ array ∷ [])) (sym vs);
-      held = subst (IsHeld pair) (sym proof) s.held;
+      valid = subst (IsValid pair) (sym proof) s.valid;
     } in
-    subst (λ z. IsProvedOf pair z after) (sym next) grown
-
--- of no output, with a proof that names none
-pub none_proved : (pair : Pair) (start : Proved) → start.verdicts ≡ [] → named start.proof ≡ [] → IsHeld pair start.proof → IsProvedOf pair [] start
-none_proved pair start vs e h = record { verdicts = subst (AreVerdicts pair []) (sym vs) tt; matched = subst (AreMatched pair []) (sym vs) tt; equal = e; held = h }
-
-pub none_held : (pair : Pair) (proof : Proof) → named proof ≡ [] → AreSpelledTrees proof.trees.items → AllByRecursion (λ (c : Claim). HaveModuli c.rows) proof.claims → IsHeld pair proof
-none_held pair proof e s c = record { spelled = s; claims = c; accepted = λ n. absurd (n e) }
+    subst (λ z. IsSearchedOf budget pair z after) (sym next) grown
 
 -- all outputs
-pub all_proved : (pair : Pair) (number : ℕ) (proved : Proved) → number ≡ length pair.outputs → IsProvedOf pair (take number pair.outputs) proved → IsProvedOf pair pair.outputs proved
-all_proved pair number proved e p = subst (λ z. IsProvedOf pair z proved) (ap (λ n. take n pair.outputs) e ∙ take-length pair.outputs) p
+pub all_searched : (budget : ℕ) (pair : Pair) (number : ℕ) (proved : Proved) → number ≡ length pair.outputs → IsSearchedOf budget pair (take number pair.outputs) proved → IsSearchedOf budget pair pair.outputs proved
+all_searched budget pair number proved e p = subst (λ z. IsSearchedOf budget pair z proved) (ap (λ n. take n pair.outputs) e ∙ take-length pair.outputs) p
 
--- verdicts that are all unknown, and name no refuted order
-abbrev pub IsUnknown : Verdict → Type 0
-IsUnknown Equal = ⊥
-IsUnknown (Different at element) = ⊥
-IsUnknown (Unknown cause) = IsEarly cause
+pub searched_proved : (budget : ℕ) (pair : Pair) (outputs : List ℕ) (proved : Proved) → IsSearchedOf budget pair outputs proved → IsProvedOf pair outputs proved
+searched_proved budget pair outputs proved p = record { verdicts = p.verdicts; matched = p.matched; equal = p.equal; held = record { spelled = p.valid.spelled; claims = p.valid.moduli; accepted = λ n. p.valid.valid } }
 
-abbrev pub AllUnknown : List Verdict → Type 0
-AllUnknown = AllByRecursion IsUnknown
+-- ---- no search
 
-pub one_more_unknown : (vs : List Verdict) (cause : Cause) → IsEarly cause → AllUnknown vs → AllUnknown (vs ++ Unknown cause ∷ [])
-one_more_unknown [] cause e h = (e, tt)
-one_more_unknown (v ∷ vs) cause e h = (h.0, one_more_unknown vs cause e h.1)
+-- a proof that names no output
+none_named : (proof : Proof) (point : List ℤ) (heads : Option Heads) → IsEmpty point heads proof → named proof ≡ []
+none_named proof point heads e = ap (map (λ (o : ℕ × ℕ). o.0)) e.outputs
 
-unknown_verdicts : (pair : Pair) (os : List ℕ) (vs : List Verdict) → length os ≡ length vs → AllUnknown vs → AreVerdicts pair os vs × (equal_outputs os vs ≡ [])
-unknown_verdicts pair [] [] e h = (tt, refl)
-unknown_verdicts pair [] (v ∷ vs) e h = absurd (omega (arith, e))
-unknown_verdicts pair (o ∷ os) [] e h = absurd (omega (arith, e))
-unknown_verdicts pair (o ∷ os) (Equal ∷ vs) e h = absurd h.0
-unknown_verdicts pair (o ∷ os) (Different at element ∷ vs) e h = absurd h.0
-unknown_verdicts pair (o ∷ os) (Unknown cause ∷ vs) e h = let rest = unknown_verdicts pair os vs (omega (arith, e)) h.1 in ((early_cause pair o cause h.0, rest.0), rest.1)
+pub none_searched : (budget : ℕ) (pair : Pair) (proved : Proved) (point : List ℤ) (heads : Option Heads) → proved.verdicts ≡ [] → IsEmpty point heads proved.proof → IsValid pair proved.proof → IsSearchedOf budget pair [] proved
+none_searched budget pair proved point heads vs e h = record {
+  verdicts = subst (AreVerdicts pair []) (sym vs) tt;
+  matched = subst (AreMatched pair []) (sym vs) tt;
+  searched = subst (AreSearched budget) (sym vs) tt;
+  equal = none_named proved.proof point heads e;
+  valid = h;
+}
 
-unknown_matched : (pair : Pair) (os : List ℕ) (vs : List Verdict) → length os ≡ length vs → AllUnknown vs → AreMatched pair os vs
-unknown_matched pair [] [] e h = tt
-unknown_matched pair [] (v ∷ vs) e h = absurd (omega (arith, e))
-unknown_matched pair (o ∷ os) [] e h = absurd (omega (arith, e))
-unknown_matched pair (o ∷ os) (Equal ∷ vs) e h = absurd h.0
-unknown_matched pair (o ∷ os) (Different at element ∷ vs) e h = absurd h.0
-unknown_matched pair (o ∷ os) (Unknown cause ∷ vs) e h = (tt, unknown_matched pair os vs (omega (arith, e)) h.1)
+none_held : (pair : Pair) (proof : Proof) (point : List ℤ) (heads : Option Heads) → IsEmpty point heads proof → IsHeld pair proof
+none_held pair proof point heads e = record {
+  spelled = subst AreSpelledTrees (sym e.trees) tt;
+  claims = subst (AllByRecursion (λ (c : Claim). HaveModuli c.rows)) (sym e.claims) tt;
+  accepted = λ n. absurd (n (none_named proof point heads e));
+}
 
-pub all_unknown : (pair : Pair) (proved : Proved) → length pair.outputs ≡ length proved.verdicts → AllUnknown proved.verdicts → named proved.proof ≡ [] → IsHeld pair proved.proof → IsProvedOf pair pair.outputs proved
-all_unknown pair proved e h none held =
-    let said = unknown_verdicts pair pair.outputs proved.verdicts e h in
-    record { verdicts = said.0; matched = unknown_matched pair pair.outputs proved.verdicts e h; equal = none ∙ sym said.1; held = held }
+-- the cause of a stop
+cause_said : (pair : Pair) (output : ℕ) (stop : FlowStop) (cause : Cause) → cause_of stop ≡ Some cause → IsCause pair output cause
+cause_said pair output (flow.Overflow question) cause e = subst (IsCause pair output) (some-is _ cause e) tt
+cause_said pair output (flow.Spent question cost) cause e = subst (IsCause pair output) (some-is _ cause e) tt
+cause_said pair output (flow.Pieces position kept) cause e = subst (IsCause pair output) (some-is _ cause e) tt
+cause_said pair output (flow.Memory want) cause e = absurd cc
+
+-- a verdict that is unknown for it
+record IsUnknownOf (pair : Pair) (output : ℕ) (v : Verdict) : Type 0 where
+  pub verdict : IsVerdict pair output v
+  pub matched : IsMatchedIf pair output v
+  pub equal : if_equal output v ≡ []
+
+unknown_of : (pair : Pair) (output : ℕ) (stop : FlowStop) (v : Verdict) → option_map Unknown (cause_of stop) ≡ Some v → IsUnknownOf pair output v
+unknown_of pair output stop v e = by (cause_of stop) refl e
+  where
+    by : (why : Option Cause) → cause_of stop ≡ why → option_map Unknown why ≡ Some v → IsUnknownOf pair output v
+    by None i h = absurd cc
+    by (Some cause) i h =
+        let same : Unknown cause ≡ v = cc in
+        subst (IsUnknownOf pair output) same (record { verdict = cause_said pair output stop cause i; matched = tt; equal = refl })
+
+record AreUnknownOf (pair : Pair) (os : List ℕ) (vs : List Verdict) : Type 0 where
+  pub verdicts : AreVerdicts pair os vs
+  pub matched : AreMatched pair os vs
+  pub equal : equal_outputs os vs ≡ []
+
+unknowns_of : (pair : Pair) (stop : FlowStop) (os : List ℕ) (vs : List Verdict) → length os ≡ length vs → AreUnknown (cause_of stop) vs → AreUnknownOf pair os vs
+unknowns_of pair stop [] [] e h = record { verdicts = tt; matched = tt; equal = refl }
+unknowns_of pair stop [] (v ∷ vs) e h = absurd (omega (arith, e))
+unknowns_of pair stop (o ∷ os) [] e h = absurd (omega (arith, e))
+unknowns_of pair stop (o ∷ os) (v ∷ vs) e h =
+    let first = unknown_of pair o stop v h.0 in
+    let rest = unknowns_of pair stop os vs (omega (arith, e)) h.1 in
+    record { verdicts = (first.verdict, rest.verdicts); matched = (first.matched, rest.matched); equal = ap (λ z. z ++ equal_outputs os vs) first.equal ∙ rest.equal }
+
+pub all_unknown : (pair : Pair) (stop : FlowStop) (proved : Proved) (point : List ℤ) (heads : Option Heads) → length pair.outputs ≡ length proved.verdicts → AreUnknown (cause_of stop) proved.verdicts → IsEmpty point heads proved.proof → IsProvedOf pair pair.outputs proved
+all_unknown pair stop proved point heads e h none =
+    let said = unknowns_of pair stop pair.outputs proved.verdicts e h in
+    record { verdicts = said.verdicts; matched = said.matched; equal = none_named proved.proof point heads none ∙ sym said.equal; held = none_held pair proved.proof point heads none }

@@ -1,7 +1,9 @@
 pub mod Elements
 pub mod Gathered
-pub mod Spelling
 pub mod Contexts
 pub mod Flowing
 pub mod Causing
 pub mod Terms
+pub mod Refuting
+pub mod Widened
+pub mod Standing

@@ -1,5 +1,5 @@
 -- Verdicts, and whether the terms agree.
-use Rattle.std.proofs.Common.{◌≡◌, inl, ℕ, List, [], ◌∷◌, inr, refl, subst, sym}
+use Rattle.std.proofs.Common.{inl, ℕ, List, [], ◌∷◌, inr, refl, subst, sym}
 use Rattle.ac_syntax.specs.declared.tree.Order.{Order}
 use Rattle.ac_syntax.specs.declared.tree.Order.TheVariants.{Keep}
 use Rattle.ac_syntax.specs.declared.tree.Pair.{Pair}
@@ -36,7 +36,7 @@ verdicts_tell_terms pair paired left right plain o outputs Equal verdict matched
     let m = matched.matched w matched.widening.1 in
     outputs_without_mismatch_agree pair (o ∷ []) w.recurrent (λ key. template_rows (point_width pair key) w.thresholds w.moduli) paired left right outputs m.order m.none o (inl refl)
 verdicts_tell_terms pair paired left right plain o outputs (Different at element) verdict matched = λ t. verdict.1.1 (t at verdict.0 element verdict.1.0)
-verdicts_tell_terms pair paired left right plain o outputs (Unknown (Unmatched refuted)) verdict matched = λ some. unmatched_differs pair plain o refuted (verdict some)
+verdicts_tell_terms pair paired left right plain o outputs (Unknown (Unmatched refuted)) verdict matched = unmatched_differs pair plain o refuted verdict
 verdicts_tell_terms pair paired left right plain o outputs (Unknown (OverflowQuestion question)) verdict matched = tt
 verdicts_tell_terms pair paired left right plain o outputs (Unknown (OverflowHull members)) verdict matched = tt
 verdicts_tell_terms pair paired left right plain o outputs (Unknown (SpentQuestion question cost)) verdict matched = tt

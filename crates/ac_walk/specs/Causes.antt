@@ -1,5 +1,5 @@
--- What stands before the search of a pair: the question of its context and the flows of both programs, at a budget; and what is said of
--- each output where one of them stops.
+-- What stands before the search of a pair: the question of its context and the flows of both programs, at a budget; what is said of
+-- each output where one of them stops; and where the search on an output may end.
 use Rattle.std.specs.Prelude.{◌≡◌, ℕ, ℤ, List, length, Option, Some, None, option_map}
 use Rattle.std.specs.List.{AllByRecursion}
 use Rattle.ac_forms.specs.Rows.{Meets}
@@ -20,7 +20,8 @@ use Rattle.ac_flow.specs.declared.types.FlowStop.TheVariants as flow
 use Rattle.ac_report.specs.declared.types.Cause.{Cause}
 use Rattle.ac_report.specs.declared.types.Cause.TheVariants as cause
 use Rattle.ac_report.specs.declared.types.Verdict.{Verdict}
-use Rattle.ac_report.specs.declared.types.Verdict.TheVariants.{Unknown}
+use Rattle.ac_report.specs.declared.types.Verdict.TheVariants.{Equal, Different, Unknown}
+use Rattle.ac_unfold.specs.Causes.{IsTooCostly}
 use Rattle.ac_walk.specs.declared.types.ProveStop.{ProveStop}
 use Rattle.ac_walk.specs.declared.types.ProveStop.TheVariants.{EmptyContext, Memory}
 
@@ -62,15 +63,34 @@ pub record HasFlow (m : Model) : Type 0 where
   pub cases : AreFlows m (readers m) flow.reads
   pub sources : CasesAreSources m flow
 
+-- a search at a budget may end with the cause: a question that is said to be spent is too costly, and no read has too many pieces
+abbrev pub EndsSearch : ℕ → Cause → Type 0
+EndsSearch budget (cause.Unmatched refuted) = Unit {0}
+EndsSearch budget (cause.OverflowQuestion question) = Unit {0}
+EndsSearch budget (cause.OverflowHull members) = Unit {0}
+EndsSearch budget (cause.SpentQuestion question cost) = IsTooCostly budget cost question
+EndsSearch budget (cause.SpentPieces position kept) = ⊥
+EndsSearch budget (cause.SpentPaths paths) = Unit {0}
+EndsSearch budget (cause.SpentOrders refuted) = Unit {0}
+
+-- and with the verdict
+abbrev pub IsSearched : ℕ → Verdict → Type 0
+IsSearched budget Equal = Unit {0}
+IsSearched budget (Different at element) = Unit {0}
+IsSearched budget (Unknown why) = EndsSearch budget why
+
+abbrev pub AreSearched : ℕ → List Verdict → Type 0
+AreSearched budget verdicts = AllByRecursion (IsSearched budget) verdicts
+
 -- what the verdicts on a pair rest on: the question of its context stops, or else the flow of the first program, or else that of the
--- second, and each output is unknown for this cause; or there are both flows, and each output is searched on
+-- second, and each output is unknown for this cause; or there are both flows, and the search on each output ends with its verdict
 pub data IsAnswered (budget : ℕ) (pair : Pair) (verdicts : List Verdict) : Type 0 where
   context_stopped : (stop : ContextStop) → ContextStops budget (left_model pair) stop → AreUnknown (context_cause_of stop) verdicts → IsAnswered budget pair verdicts
   left_stopped : (stop : FlowStop) → HasValuation budget (left_model pair) → StopsAmong budget (left_model pair) (readers (left_model pair)) stop → AreUnknown (cause_of stop) verdicts
       → IsAnswered budget pair verdicts
   right_stopped : (stop : FlowStop) → HasValuation budget (left_model pair) → HasFlow (left_model pair) → StopsAmong budget (right_model pair) (readers (right_model pair)) stop → AreUnknown (cause_of stop) verdicts
       → IsAnswered budget pair verdicts
-  searched : HasValuation budget (left_model pair) → HasFlow (left_model pair) → HasFlow (right_model pair) → IsAnswered budget pair verdicts
+  searched : HasValuation budget (left_model pair) → HasFlow (left_model pair) → HasFlow (right_model pair) → AreSearched budget verdicts → IsAnswered budget pair verdicts
 
 -- at the budget the question of the context has an answer: that there is no valuation
 abbrev pub IsEmptyAt : ℕ → Pair → ProveStop → Type 0

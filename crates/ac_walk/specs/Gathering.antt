@@ -1,27 +1,36 @@
 -- How verdicts and their proof are gathered, output by output.
-use Rattle.std.specs.Prelude.{◌≡◌, ◌≢◌, ℕ, List, [], ◌∷◌, ◌++◌, length, take}
+use Rattle.std.specs.Prelude.{◌≡◌, ◌≢◌, ℕ, List, [], ◌++◌}
 use Rattle.ac_syntax.specs.declared.tree.Pair.{Pair}
-use Rattle.ac_poly.specs.Model.{model_of}
-use Rattle.ac_flow.specs.Flows.{CasesAreSources}
+use Rattle.ac_agreeing.specs.Statements.{HaveArities}
 use Rattle.ac_claims.specs.ProofMachine.{AreSpelledTrees}
-use Rattle.ac_claims.specs.Soundness.{ArePaired, ClaimsHaveModuli}
-use Rattle.ac_claims.specs.declared.types.Claim.{Claim}
-use Rattle.ac_claims.specs.declared.types.ClaimTree.{ClaimTree}
+use Rattle.ac_claims.specs.Soundness.{ClaimsHaveModuli}
 use Rattle.ac_claims.specs.declared.types.Proof.{Proof}
+use Rattle.ac_decided.specs.Stopping.{programs_of}
 use Rattle.ac_graph.specs.Steps.{HaveFlows}
-use Rattle.ac_unfold.specs.declared.types.Setting.{Setting}
+use Rattle.ac_keys.specs.Known.{HasModuli}
+use Rattle.ac_parts.specs.Elements.{AreProgramsOf}
+use Rattle.ac_parts.specs.Parts as parts
 use Rattle.ac_report.specs.declared.types.Verdict.{Verdict}
+use Rattle.ac_searched.specs.Statements.{AreNumbersOf, IsGraphOf}
+use Rattle.ac_walk.specs.Causes.{AreSearched, IsSearched}
 use Rattle.ac_walk.specs.Verdicts.{IsVerdict, AreVerdicts, IsMatchedIf, AreMatched, IsAccepted, if_equal, equal_outputs, named}
+use Rattle.ac_walk.specs.declared.outputs.Basis.{Basis}
 use Rattle.ac_walk.specs.declared.types.Proved.{Proved}
 
--- the programs of a setting are those of the pair, under its context, with their flows, whose cases are their sources
-pub record IsOf (pair : Pair) (setting : Setting) : Type 0 where
-  pub paired : ArePaired pair
-  pub left : setting.programs.left.now ≡ model_of pair.left pair.context
-  pub right : setting.programs.right.now ≡ model_of pair.right pair.context
-  pub flows : HaveFlows pair setting.left_flow.now setting.right_flow.now
-  pub left_sources : CasesAreSources setting.programs.left.now setting.left_flow.now
-  pub right_sources : CasesAreSources setting.programs.right.now setting.right_flow.now
+-- what is known of a pair: its programs under its context with their flows, the graph of their moves, and the numbers of the template
+-- rows; its calls have as many arguments as their symbols say
+pub record IsBasis (b : Basis) : Type 0 where
+  pub programs : AreProgramsOf b.pair.now b.setting.now.programs
+  pub commutative : b.setting.now.programs.commutative.now ≡ b.pair.now.commutative
+  pub flows : HaveFlows b.pair.now b.setting.now.left_flow.now b.setting.now.right_flow.now
+  pub arities : HaveArities b.pair.now.left.body × HaveArities b.pair.now.right.body
+  pub graph : IsGraphOf b.pair.now b.setting.now.left_flow.now b.setting.now.right_flow.now b.graph.now
+  pub numbers : AreNumbersOf b.pair.now b.template.now.thresholds b.template.now.moduli
+  pub moduli : HasModuli b.template.now
+
+-- a judge of proofs accepts it
+abbrev pub IsValid : Pair → Proof → Type 0
+IsValid pair proof = parts.IsAccepted (programs_of pair) pair.outputs proof
 
 -- a proof that is spelled, and that the check accepts if it names an output
 pub record IsHeld (pair : Pair) (proof : Proof) : Type 0 where
@@ -29,30 +38,13 @@ pub record IsHeld (pair : Pair) (proof : Proof) : Type 0 where
   pub claims : ClaimsHaveModuli proof
   pub accepted : named proof ≢ [] → IsAccepted pair proof
 
--- one more output is named, with further claims and plans
-pub record IsLonger (proof : Proof) (array : ℕ) (longer : Proof) : Type 0 where
-  pub more : List Claim
-  pub plans : List ClaimTree
-  pub point : longer.point ≡ proof.point
-  pub heads : longer.heads ≡ proof.heads
-  pub claims : longer.claims ≡ proof.claims ++ more
-  pub outputs : longer.outputs ≡ proof.outputs ++ (array, length proof.claims) ∷ []
-  pub trees : longer.trees.items ≡ proof.trees.items ++ plans
-
--- the first of its claims, outputs and plans
-pub record IsFirst (proof : Proof) (claims_left outputs_left plans_left : ℕ) (first : Proof) : Type 0 where
-  pub point : first.point ≡ proof.point
-  pub heads : first.heads ≡ proof.heads
-  pub claims : first.claims ≡ take claims_left proof.claims
-  pub outputs : first.outputs ≡ take outputs_left proof.outputs
-  pub trees : first.trees.items ≡ take plans_left proof.trees.items
-
--- the verdict on an output, and the proof behind it
-pub record IsSaidOf (pair : Pair) (output : ℕ) (proof : Proof) (said : Verdict × Proof) : Type 0 where
+-- the verdict on an output, with which the search at a budget may end, and the proof behind it
+pub record IsSaidOf (budget : ℕ) (pair : Pair) (output : ℕ) (proof : Proof) (said : Verdict × Proof) : Type 0 where
   pub verdict : IsVerdict pair output said.0
   pub matched : IsMatchedIf pair output said.0
+  pub searched : IsSearched budget said.0
   pub named_then : named said.1 ≡ named proof ++ if_equal output said.0
-  pub held : IsHeld pair said.1
+  pub valid : IsValid pair said.1
 
 -- the verdicts on outputs, and a proof that names those that are equal
 pub record IsProvedOf (pair : Pair) (outputs : List ℕ) (proved : Proved) : Type 0 where
@@ -60,3 +52,11 @@ pub record IsProvedOf (pair : Pair) (outputs : List ℕ) (proved : Proved) : Typ
   pub matched : AreMatched pair outputs proved.verdicts
   pub equal : named proved.proof ≡ equal_outputs outputs proved.verdicts
   pub held : IsHeld pair proved.proof
+
+-- the same of outputs that are searched on, at a budget; a judge accepts the proof
+pub record IsSearchedOf (budget : ℕ) (pair : Pair) (outputs : List ℕ) (proved : Proved) : Type 0 where
+  pub verdicts : AreVerdicts pair outputs proved.verdicts
+  pub matched : AreMatched pair outputs proved.verdicts
+  pub searched : AreSearched budget proved.verdicts
+  pub equal : named proved.proof ≡ equal_outputs outputs proved.verdicts
+  pub valid : IsValid pair proved.proof

@@ -1,6 +1,5 @@
 pub mod Verdicts
-pub mod Stops
-pub mod Gathering
 pub mod Deciding
+pub mod Gathering
 pub mod Causes
 pub mod Terms

@@ -1,5 +1,5 @@
 -- What a verdict says of the terms that both programs leave.
-use Rattle.std.specs.Prelude.{◌≡◌, ℕ, List, [], ◌∷◌, false}
+use Rattle.std.specs.Prelude.{◌≡◌, ℕ, [], ◌∷◌, false}
 use Rattle.ac_syntax.specs.declared.tree.Pair.{Pair}
 use Rattle.ac_syntax.specs.declared.tree.Position.{Position}
 use Rattle.ac_claims.specs.Soundness.{ArePaired, TermsAgree}
@@ -16,12 +16,12 @@ pub record IsPlain (pair : Pair) : Type 0 where
   pub recurs : (w : Widening) → IsWideningOf pair w → (key : Position × Position) → w.recurrent key ≡ false
   pub commutative : pair.commutative ≡ []
 
--- the terms of the output do not all agree, where orders are named as refuted
+-- the terms of the output do not all agree, where it is unmatched
 abbrev pub DifferIf : Pair → ℕ → Cause → Type 0
-DifferIf pair output (Unmatched refuted) = ¬ (refuted ≡ []) → ¬ (TermsAgree pair output)
+DifferIf pair output (Unmatched refuted) = ¬ (TermsAgree pair output)
 DifferIf pair output _ = Unit {0}
 
--- equal: they all agree; different, or unmatched with refuted orders: they do not
+-- equal: they all agree; different, or unmatched: they do not
 abbrev pub TellsTerms : Pair → ℕ → Verdict → Type 0
 TellsTerms pair output Equal = TermsAgree pair output
 TellsTerms pair output (Different at element) = ¬ (TermsAgree pair output)

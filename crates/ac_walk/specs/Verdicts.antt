@@ -1,6 +1,5 @@
 -- What the search says of a pair, output by output, and the proof that it gives.
-use Rattle.std.specs.Prelude.{ℕ, ◌≡◌, ℤ, List, [], ◌∷◌, ◌++◌, map, Some}
-use Rattle.std.specs.List.{AllByRecursion}
+use Rattle.std.specs.Prelude.{ℕ, ◌≤◌, ℤ, List, [], ◌∷◌, ◌++◌, length, map, Some}
 use Rattle.ac_syntax.specs.Outputs.{IsValuation, SameOutput}
 use Rattle.ac_syntax.specs.declared.tree.Pair.{Pair}
 use Rattle.ac_instance.specs.Answers.{compared}
@@ -8,11 +7,13 @@ use Rattle.ac_instance.specs.Least.{IsLeast}
 use Rattle.ac_poly.specs.Model.{model_of}
 use Rattle.ac_paths.specs.Going.{Pairing}
 use Rattle.ac_claims.specs.ProofFaults.{IsValidProof}
-use Rattle.ac_claims.specs.ProofMachine.{AreSpelledTrees}
-use Rattle.ac_claims.specs.Soundness.{ClaimsHaveModuli, pairing_of}
+use Rattle.ac_claims.specs.Soundness.{pairing_of}
 use Rattle.ac_claims.specs.declared.types.Proof.{Proof}
+use Rattle.ac_match.specs.declared.orders.Refuted.{Refuted}
 use Rattle.ac_matched.specs.Matches.{IsMatched}
 use Rattle.ac_refuted.specs.Searches.{IsUnmatched}
+use Rattle.ac_rounds.specs.Statements.{AllRefuted}
+use Rattle.ac_searched.specs.Searched.{Widening, IsWideningOf, searched}
 use Rattle.ac_report.specs.declared.types.Cause.{Cause}
 use Rattle.ac_report.specs.declared.types.Cause.TheVariants.{Unmatched, OverflowQuestion, OverflowHull, SpentQuestion, SpentPieces, SpentPaths, SpentOrders}
 use Rattle.ac_report.specs.declared.types.Verdict.{Verdict}
@@ -24,15 +25,21 @@ use Rattle.ac_walk.specs.declared.types.ProveStop.TheVariants.{EmptyContext, Mem
 abbrev pub IsDifferentAt : Pair → ℕ → List ℤ → List ℤ → Type 0
 IsDifferentAt pair output at element = IsValuation pair at × IsLeast (compared pair at output) (Some element)
 
--- unmatched, with refuted orders: in the setting of the search on the output each is refuted, and each order has a mismatch
+-- in the setting of the search on the output each of the partial orders is refuted by its derivation
+pub record AreRefutedOrders (pair : Pair) (output : ℕ) (list : List Refuted) : Type 0 where
+  pub widening : (w : Widening) × IsWideningOf pair w
+  pub refuted : (w : Widening) → IsWideningOf pair w → AllRefuted (searched pair output w) list
+
+-- unmatched: in the setting of the search on the output each of the orders is refuted, and each order has a mismatch; spent: each of
+-- the orders is refuted there, and they are many
 abbrev pub IsCause : Pair → ℕ → Cause → Type 0
-IsCause pair output (Unmatched refuted) = ¬ (refuted ≡ []) → IsUnmatched pair output refuted
+IsCause pair output (Unmatched refuted) = IsUnmatched pair output refuted
 IsCause pair output (OverflowQuestion question) = Unit {0}
 IsCause pair output (OverflowHull members) = Unit {0}
 IsCause pair output (SpentQuestion question cost) = Unit {0}
 IsCause pair output (SpentPieces position kept) = Unit {0}
 IsCause pair output (SpentPaths paths) = Unit {0}
-IsCause pair output (SpentOrders refuted) = Unit {0}
+IsCause pair output (SpentOrders refuted) = AreRefutedOrders pair output refuted × (1024 ≤ length refuted)
 
 -- equal: the output is the same; different: at this valuation this is its least element whose terms do not agree; unknown: its
 -- cause is as it says
@@ -84,13 +91,6 @@ pairing pair = pairing_of pair (model_of pair.left pair.context) (model_of pair.
 -- the check of proofs accepts it
 abbrev pub IsAccepted : Pair → Proof → Type 0
 IsAccepted pair proof = IsValidProof (pairing pair) pair.outputs proof
-
--- it is spelled, and the check of proofs accepts it, so each output that it names is the same
-pub record IsSound (pair : Pair) (proof : Proof) : Type 0 where
-  pub spelled : AreSpelledTrees proof.trees.items
-  pub claims : ClaimsHaveModuli proof
-  pub accepted : IsAccepted pair proof
-  pub same : AllByRecursion (SameOutput pair) (named proof)
 
 -- no valuation meets the context
 abbrev pub IsStop : Pair → ProveStop → Type 0

@@ -1,21 +1,16 @@
-//! The search for a proof that the outputs of two programs are the same, and what it says of each output.
+//! The search for a proof that the outputs of two programs are the same, and what it says of each output: one order of commutative
+//! arguments after another is searched under (`ac_search`), until the output stands, an element differs, or each order is refuted.
 #![tactic(auto)]
 
 mod deciding;
 mod differing;
-mod entries;
-mod following;
-mod judging;
-mod keys;
 pub mod laws;
-mod parts;
-mod positions;
+mod outputs;
+mod pairs;
 mod proving;
-mod rounds;
-mod shapes;
 mod sharing;
-mod stops;
 mod types;
+mod unanswered;
 
 pub use proving::prove;
 pub use types::{ProveStop, Proved};

@@ -1,6 +1,6 @@
 //! Pairs to which many ways lead, so that the search does well to stop there.
 
-use crate::deciding::is_among;
+use crate::pairs::is_among;
 use ac_graph::types::Graph;
 use ac_items::Items;
 use ac_syntax::tree::Position;

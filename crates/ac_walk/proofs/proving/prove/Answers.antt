@@ -1,5 +1,8 @@
-use Rattle.std.proofs.Common.{get_or, ap}
+use Rattle.std.proofs.Common.{◌≡◌, get_or, ap, true, subst}
 use Rattle.std.proofs.lemmas.Result.{IfOk-weaker}
+use Rattle.ac_poly.specs.declared.types.Model.{Model}
+use Rattle.ac_claims.specs.ProofFaults.{is_point}
+use Rattle.ac_parts.proofs.Points.{tested_points}
 use Rattle.ac_walk.specs.Causes.{left_model}
 use Rattle.ac_walk.proofs.Causing.{has_valuation}
 use Rattle.ac_walk.proofs.proving.prove.Goals as goal
@@ -11,3 +14,9 @@ with_point-requires-clause-valuation c =
 
 pub returns-in-Err-clause-accepted : goal.returns-in-Err-clause-accepted
 returns-in-Err-clause-accepted c = IfOk-weaker c.without_point.result _ _ (λ p h. h.held.accepted) c.without_point.ensures.proved
+
+pub with_point-requires-clause-point : goal.with_point-requires-clause-point
+with_point-requires-clause-point c =
+    let default = c.index-models-0.result in
+    let point = c.in-Ok.point.items in
+    subst (λ (m : Model). is_point m point ≡ true) (ap (λ ms. get_or ms 0 default) c.requires.models) (tested_points (get_or c.args.models.now 0 default) point c.in-Ok.ensures.point.0 c.in-Ok.ensures.exact.1 c.in-Ok.ensures.point.1)

@@ -1,6 +1,7 @@
 use Rattle.std.proofs.lemmas.Result.{IfOk-weaker}
 use Rattle.ac_walk.proofs.Causing.{of_left, of_right, has_flow}
 use Rattle.ac_walk.proofs.Flowing.{have_flows}
+use Rattle.ac_walk.proofs.Gathered.{searched_proved}
 use Rattle.ac_walk.specs.Causes.{left_model, right_model, searched}
 use Rattle.ac_walk.proofs.proving.with_point.Goals as goal
 
@@ -21,10 +22,16 @@ returns-in-Err-flow-clause-causes c =
     (has_flow c.args.left.now (left_model c.args.pair.now) c.in-Ok.found c.requires.left c.in-Ok.ensures.cases c.in-Ok.ensures.sources) c.in-Err-flow.ensures.stops h)
     c.unknown_all-in-Err-flow.ensures.causes
 
+pub with_flows-requires-clause-programs : goal.with_flows-requires-clause-programs
+with_flows-requires-clause-programs c = record { paired = c.requires.pair; left = c.requires.left; right = c.requires.right }
+
+pub returns-clause-proved : goal.returns-clause-proved
+returns-clause-proved c = IfOk-weaker c.with_flows.result _ _ (λ proved h. searched_proved c.args.limits.now.budget c.args.pair.now c.args.pair.now.outputs proved h) c.with_flows.ensures
+
 pub returns-clause-causes : goal.returns-clause-causes
 returns-clause-causes c =
     let pair = c.args.pair.now in
     IfOk-weaker c.with_flows.result _ _
     (λ proved h. searched c.requires.valuation (has_flow c.args.left.now (left_model pair) c.in-Ok.found c.requires.left c.in-Ok.ensures.cases c.in-Ok.ensures.sources)
-    (has_flow c.args.right.now (right_model pair) c.in-Ok-flow.found c.requires.right c.in-Ok-flow.ensures.cases c.in-Ok-flow.ensures.sources))
+    (has_flow c.args.right.now (right_model pair) c.in-Ok-flow.found c.requires.right c.in-Ok-flow.ensures.cases c.in-Ok-flow.ensures.sources) h.searched)
     c.with_flows.ensures

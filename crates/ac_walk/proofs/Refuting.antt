@@ -1,0 +1,107 @@
+-- Orders that a search refutes, and what it then says of the output.
+use Rattle.std.proofs.Common.{◌≡◌, ℕ, List, [], ◌∷◌, ◌++◌, Bool, subst}
+use Rattle.ac_syntax.specs.declared.tree.Order.{Order}
+use Rattle.ac_syntax.specs.declared.tree.Pair.{Pair}
+use Rattle.ac_syntax.specs.declared.tree.Position.{Position}
+use Rattle.ac_syntax.specs.declared.tree.Site.{Site}
+use Rattle.ac_forms.specs.declared.row.Row.{Row}
+use Rattle.ac_hull.specs.Templates.{template_rows}
+use Rattle.ac_setting.specs.Programs.{point_width, setting}
+use Rattle.ac_derived.specs.Checks.{choices_of}
+use Rattle.ac_derived.specs.Hulls.{entries_of}
+use Rattle.ac_match.specs.Orders.{OrdersOf, IsNext}
+use Rattle.ac_match.specs.declared.orders.Next.TheVariants.{Done, Spent}
+use Rattle.ac_match.specs.declared.orders.Refuted.{Refuted}
+use Rattle.ac_refuted.specs.Searches.{IsUnmatched}
+use Rattle.ac_report.specs.declared.types.Cause.{Cause}
+use Rattle.ac_report.specs.declared.types.Cause.TheVariants.{Unmatched, OverflowQuestion, OverflowHull, SpentQuestion, SpentPieces, SpentPaths, SpentOrders}
+use Rattle.ac_rounds.specs.Statements.{AllRefuted}
+use Rattle.ac_rounds.proofs.Orders.{leaves_none, refutes_part}
+use Rattle.ac_search.specs.Searches.{AreTaken, IsFound, IsSearch, ShowMismatch}
+use Rattle.ac_search.specs.Stops.{StopsSearch}
+use Rattle.ac_search.specs.declared.types.Search.{Search}
+use Rattle.ac_search.proofs.Programs.{lawful}
+use Rattle.ac_searched.specs.Searched.{Widening, IsWideningOf, searched}
+use Rattle.ac_stopping.specs.Parts.{order_of}
+use Rattle.ac_widen.specs.Refutations.{IsPartOf, IsRefuted}
+use Rattle.ac_widen.specs.declared.derivation.Derivation.{Derivation}
+use Rattle.ac_widen.specs.declared.derivation.Entry.{Entry}
+use Rattle.ac_walk.specs.Causes.{EndsSearch}
+use Rattle.ac_walk.specs.Deciding.{AreShown, GoesNoFurther, IsDecision, IsDifference, IsKept, IsOutputSearch, IsShown}
+use Rattle.ac_walk.specs.Verdicts.{AreRefutedOrders, IsCause}
+use Rattle.ac_walk.specs.declared.deciding.Decision.{Decision}
+use Rattle.ac_walk.specs.declared.deciding.Decision.TheVariants.{Stands, Different, Unknown}
+
+-- ---- refuted orders
+
+-- in the setting of the search an order is refuted by entries that show a mismatch
+one_refuted : (s : Search) (w : Widening) → IsSearch s → IsWideningOf s.pair.now w → AreTaken s.stops.now w → (r : Refuted) → IsShown s r → IsRefuted (searched s.pair.now s.array w) (choices_of r.partial) (entries_of r.why.entries)
+one_refuted s w h is taken r shown =
+    let rows = λ (key : Position × Position). template_rows (point_width s.pair.now key) w.thresholds w.moduli in
+    let found = shown.shown w is taken in
+    refutes_part (searched s.pair.now s.array w) (order_of shown.order) r.why.entries r.partial (lawful s w h is) found.0 found.1 (shown.part (s.array ∷ []) w.recurrent rows)
+
+all_refuted : (s : Search) (w : Widening) → IsSearch s → IsWideningOf s.pair.now w → AreTaken s.stops.now w → (list : List Refuted) → AreShown s list → AllRefuted (searched s.pair.now s.array w) list
+all_refuted s w h is taken [] shown = tt
+all_refuted s w h is taken (r ∷ list) shown = (one_refuted s w h is taken r shown.0, all_refuted s w h is taken list shown.1)
+
+-- a mismatch under an order, and the part of the order that its entries need
+pub is_shown : (s : Search) (order : List (Site × Order)) (why : Derivation) (partial : List (Site × Order)) (es : List Entry) → es ≡ why.entries → ShowMismatch s order why.entries
+    → ((outputs : List ℕ) (recurrent : Position × Position → Bool) (template : Position × Position → List Row) → IsPartOf (setting s.pair.now outputs recurrent template) (order_of order) (entries_of es) (choices_of partial)) → IsShown s (record { partial = partial; why = why })
+is_shown s order why partial es e shown part = record {
+  order = order;
+  shown = shown;
+  part = λ outputs recurrent template. subst (λ (xs : List Entry). IsPartOf (setting s.pair.now outputs recurrent template) (order_of order) (entries_of xs) (choices_of partial)) e (part outputs recurrent template);
+}
+
+-- one more
+pub more_shown : (s : Search) (list : List Refuted) (r : Refuted) → AreShown s list → IsShown s r → AreShown s (list ++ r ∷ [])
+more_shown s [] r h k = (k, tt)
+more_shown s (q ∷ list) r h k = (h.0, more_shown s list r h.1 k)
+
+-- ---- decisions
+
+-- what is kept of a search, of another one on the same output
+pub kept_same : (s t : Search) (number : ℕ) (d : Decision) → s.pair.now ≡ t.pair.now → s.array ≡ t.array → s.first ≡ t.first → IsKept s number d → IsKept t number d
+kept_same s t number (Stands part) pair array first h = (h.0, subst (λ (n : ℕ). IsFound t.pair.now h.0 t.array n part) first (subst (λ (o : ℕ). IsFound t.pair.now h.0 o s.first part) array (subst (λ (p : Pair). IsFound p h.0 s.array s.first part) pair h.1)))
+kept_same s t number (Different found) pair array first h = subst (λ (p : Pair). IsDifference p number found) pair h
+kept_same s t number (Unknown why) pair array first h = tt
+
+-- no order is left
+are_unmatched : (s : Search) (number : ℕ) (o : OrdersOf) → IsOutputSearch s number → AreShown s o.refuted → IsNext o Done → GoesNoFurther s → IsUnmatched s.pair.now s.array o.refuted
+are_unmatched s number o h shown done near = record {
+  widening = h.widening;
+  unmatched = λ w is. leaves_none (searched s.pair.now s.array w) o (lawful s w h.search is) (all_refuted s w h.search is (near w is) o.refuted shown) done;
+}
+
+pub unmatched_decides : (s : Search) (number : ℕ) (o : OrdersOf) → IsOutputSearch s number → AreShown s o.refuted → IsNext o Done → IsDecision s number (Unknown (Unmatched o.refuted))
+unmatched_decides s number o h shown done = record { kept = tt; ends = tt; cause = λ near. are_unmatched s number o h shown done near }
+
+-- too many are refuted
+are_refuted_orders : (s : Search) (number : ℕ) (list : List Refuted) → IsOutputSearch s number → AreShown s list → GoesNoFurther s → AreRefutedOrders s.pair.now s.array list
+are_refuted_orders s number list h shown near = record { widening = h.widening; refuted = λ w is. all_refuted s w h.search is (near w is) list shown }
+
+pub spent_decides : (s : Search) (number : ℕ) (o : OrdersOf) → IsOutputSearch s number → AreShown s o.refuted → IsNext o Spent → IsDecision s number (Unknown (SpentOrders o.refuted))
+spent_decides s number o h shown spent = record { kept = tt; ends = tt; cause = λ near. (are_refuted_orders s number o.refuted h shown near, spent.0.1) }
+
+-- the search under an order ends early
+early_cause : (s : Search) (budget : ℕ) (why : Cause) → StopsSearch budget why → IsCause s.pair.now s.array why
+early_cause s budget (Unmatched refuted) h = absurd h
+early_cause s budget (OverflowQuestion question) h = tt
+early_cause s budget (OverflowHull members) h = tt
+early_cause s budget (SpentQuestion question cost) h = tt
+early_cause s budget (SpentPieces position kept) h = tt
+early_cause s budget (SpentPaths paths) h = tt
+early_cause s budget (SpentOrders refuted) h = absurd h
+
+early_ends : (budget : ℕ) (why : Cause) → StopsSearch budget why → EndsSearch budget why
+early_ends budget (Unmatched refuted) h = absurd h
+early_ends budget (OverflowQuestion question) h = tt
+early_ends budget (OverflowHull members) h = tt
+early_ends budget (SpentQuestion question cost) h = h
+early_ends budget (SpentPieces position kept) h = absurd h
+early_ends budget (SpentPaths paths) h = tt
+early_ends budget (SpentOrders refuted) h = absurd h
+
+pub early_decides : (s : Search) (number : ℕ) (why : Cause) → StopsSearch s.setting.now.budget why → IsDecision s number (Unknown why)
+early_decides s number why h = record { kept = tt; ends = early_ends s.setting.now.budget why h; cause = λ near. early_cause s s.setting.now.budget why h }

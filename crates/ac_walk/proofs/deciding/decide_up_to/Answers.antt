@@ -1,0 +1,16 @@
+use Rattle.std.proofs.Common.{List, sym, subst}
+use Rattle.ac_match.specs.Orders.{IsNext}
+use Rattle.ac_match.specs.declared.orders.Next.{Next}
+use Rattle.ac_match.specs.declared.orders.Refuted.{Refuted}
+use Rattle.ac_report.specs.declared.types.Cause.TheVariants.{SpentOrders}
+use Rattle.ac_walk.specs.Deciding.{IsDecision}
+use Rattle.ac_walk.specs.declared.deciding.Decision.TheVariants.{Unknown}
+use Rattle.ac_walk.proofs.Refuting.{spent_decides}
+use Rattle.ac_walk.proofs.deciding.decide_up_to.Goals as goal
+
+pub returns-in-Spent : goal.returns-in-Spent
+returns-in-Spent c =
+    let s = c.args.search.now in
+    let o = c.loop-order.orders in
+    subst (λ (list : List Refuted). IsDecision s c.args.number (Unknown (SpentOrders list))) (sym c.into_refuted.ensures)
+    (spent_decides s c.args.number o c.requires c.loop-order.invariant (subst (λ (next : Next). IsNext o next) c.in-Spent.is c.in_ok-order.ensures))
