@@ -1,3 +1,4 @@
+pub mod Arities
 pub mod Files
 pub mod Flowing
 pub mod Proving

@@ -1,6 +1,7 @@
 // The work of `prove`: the verdicts on the outputs of a pair, and the file for the proof of those that are equal.
 ghost use Rattle.std.specs.Prelude.{◌≡◌, Some, option_map, IfOk};
 ghost use Rattle.ac_claims.specs.Soundness as judge;
+ghost use Rattle.ac_agreeing.specs.Statements.{HaveArities};
 ghost use Rattle.ac_walk.specs.Causes.{IsAnswered};
 ghost use Rattle.ac_walk.specs.Verdicts.{AreVerdicts};
 ghost use Rattle.ac_top.specs.Proving.{ProveReports, IsProofOf, IsFileOf};
@@ -78,6 +79,7 @@ pub fn report_prove(
 ) -> Result<Report, AllocError>
     requires paired { judge.ArePaired pair.now }
     requires models { models.now ≡ models_of pair.now }
+    requires arities { HaveArities pair.now.left.body × HaveArities pair.now.right.body }
     ensures { IfOk result (λ r. ProveReports pair.now budget (option_map (λ w. w.now) name.entry) (written r)) }
 {
     let limits = Limits { budget };

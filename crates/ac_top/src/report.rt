@@ -1,5 +1,6 @@
 ghost use Rattle.std.specs.Prelude.{◌≡◌, ◌∷◌, replicate, IfOk};
 ghost use Rattle.ac_port.specs.Counts.{Rose};
+ghost use Rattle.ac_agreeing.specs.Statements.{HaveArities};
 ghost use Rattle.ac_top.specs.Answers.{ArePaired, SourceReports, FileReports};
 ghost use Rattle.ac_top.specs.Reads.{Fails};
 ghost use Rattle.ac_top.specs.Reports.{report as a_report};
@@ -96,6 +97,7 @@ fn report_task<F: Files>(
 ) -> Result<Report, AllocError>
     requires pair { IsReadPair pair.now }
     requires models { models.now ≡ models_of pair.now }
+    requires arities { HaveArities pair.now.left.body × HaveArities pair.now.right.body }
     requires within { IsWithin task.now }
     ensures report { IfOk result (λ r. TaskReports task.now (F.contents files.old) (λ name count. Fails F.read_makes F.read_faults files.old files.new (replicate count name) name) left.now.name.now right.now.name.now left.now.bytes.now right.now.bytes.now pair.now (written r)) }
     ensures same { F.contents files.new ≡ F.contents files.old }

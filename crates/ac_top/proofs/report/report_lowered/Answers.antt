@@ -2,6 +2,7 @@ use Rattle.std.proofs.Common.{sym, subst}
 use Rattle.std.proofs.lemmas.Result.{IfOk-weaker}
 use Rattle.ac_top.specs.Answers.{SourceReports, refused, paired}
 use Rattle.ac_top.specs.Stages.{written, IsLoweringOf}
+use Rattle.ac_top.proofs.Arities.{read_arities}
 use Rattle.ac_top.proofs.report.report_lowered.Goals as goal
 
 pub returns-in-Refused-clause-report : goal.returns-in-Refused-clause-report
@@ -17,3 +18,6 @@ returns-in-Models-clause-report g c =
     let right = c.args.right.now in
     let made = subst (IsLoweringOf left.name.now right.name.now left.bytes.now right.bytes.now c.args.pair.now) c.in-Models.is c.in_ok-line.ensures in
     IfOk-weaker c.report_task.result _ _ (λ r found. paired c.args.pair.now (written r) c.requires.are made.0 found) c.report_task.ensures.report
+
+pub report_task-requires-clause-arities : goal.report_task-requires-clause-arities
+report_task-requires-clause-arities g c = read_arities c.args.left.now.bytes.now c.args.right.now.bytes.now c.args.pair.now c.requires.are
