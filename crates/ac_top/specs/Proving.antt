@@ -29,7 +29,7 @@ pub data IsFileOf (proof : Proof) : Option (List ℕ) → Option ProofFile → T
   whole_text : (file : ProofFile) → named proof ≢ [] → file.bytes ≡ proof_text proof → IsFileOf proof (Some file.name) (Some file)
 
 -- what is reported: that no valuation meets the context, as its question shows at the budget; or the verdicts on the outputs, with the file for
--- their proof, where each is unknown if the question of the context or a flow stops at the budget
+-- their proof, where each is unknown if the question of the context or a flow stops at the budget, and else is as the search at the budget ends
 pub data ProveReports (pair : Pair) (budget : ℕ) (name : Option (List ℕ)) : Report → Type 0 where
   empty_context : ContextStops budget (left_model pair) EmptyContext → ((params : List ℤ) → ¬ (IsValuation pair params)) → ProveReports pair budget name (report status.Refused empty_context_line)
   compared : (verdicts : List Verdict) (proof : Proof) (file : Option ProofFile) → AreVerdicts pair pair.outputs verdicts → IsAnswered budget pair verdicts → IsProofOf pair verdicts proof → IsFileOf proof name file
