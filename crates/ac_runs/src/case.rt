@@ -1,6 +1,7 @@
 //! A case: its files and its sink.
 
 use crate::answers::status_words;
+use crate::counting::count_lines;
 use crate::draft::Draft;
 use crate::lines::{push_answer, push_bytes, push_line};
 use crate::parted::Parted;
@@ -182,6 +183,11 @@ impl Case {
             }
         }
         Ok(())
+    }
+
+    /// Answers what `prove` says of two files, and how many lines its proof has. The files of the case stay as they are.
+    pub fn lines(&self, out: &mut Vec<u8>, pair: &[Vec<u8>]) -> Result<(), AllocError> {
+        count_lines(self.alloc, out, self.copied(pair)?, pair)
     }
 
     /// Answers a relay, with all that was put.

@@ -33,6 +33,8 @@
 //!   the words that does not hold what it held, with its bytes, or with a line that it has more than 4,096 or more than 65,536. Where
 //!   they say `check` and no call of the case is to fail, the proof file is read again in pieces of 1 byte (up to 4,096 bytes), of
 //!   7 (up to 65,536) and of 1,000 (up to 1,048,576); a line says where the answer is not the same.
+//! - `lines LEFT RIGHT` compares two files as `prove` with `--proof` does, and tells in place of the proof how many lines it has. The files of
+//!   the case stay as they are, and no call fails there.
 //! - `relay NAME limit N` reads a file of at most N bytes and puts what it read; its answer ends with all that was put in the
 //!   case. `part NAME FROM ROOM` reads a part of a file, from a place on and of so many bytes at most. `write NAME WORD` writes a file. `get NAME` looks into a file without a read.
 //! - `code of` and a status asks for its exit code, and `equal outputs N` for the status of N equal outputs.
@@ -43,6 +45,7 @@
 
 mod answers;
 mod case;
+mod counting;
 mod draft;
 mod lines;
 mod parted;

@@ -91,6 +91,7 @@ impl Script {
         let out = &mut self.out;
         match (keyword, words.as_slice()) {
             ("run", words) => self.case.run(out, words)?,
+            ("lines", [_, _]) => self.case.lines(out, words.as_slice())?,
             ("get", [name]) => self.case.get(out, name.as_slice())?,
             ("write", [name, bytes]) => self.case.write(out, name.as_slice(), bytes.as_slice())?,
             ("part", [name, from, room]) => {

@@ -1,11 +1,13 @@
 //! Calls on what the search widens by, as cases of text: hulls of points, template rows, orders of sites, the graph of a
-//! pair of programs, and the sources of a program's reads at a valuation.
+//! pair of programs, the sources of a program's reads at a valuation, and the plans and broken paths of a claim.
 //!
 //! Columns are `c0`, `c1` and so on. A point is `(3, -1)`, with a number for each column. A program is a quoted text, and where
 //! a pair is wanted, one text alone stands for the program against itself.
 #![tactic(auto)]
 
 mod arguments;
+mod claims;
+mod counts;
 mod graphs;
 mod hulls;
 mod instances;
@@ -15,6 +17,7 @@ mod shown;
 mod sources;
 mod templates;
 mod traced;
+mod unfolding;
 
 use ac_case_text::{CaseStop, Words};
 use std::alloc::Global;
@@ -31,6 +34,7 @@ pub fn answer(
             || templates::answer(alloc, call, words, out)?
             || graphs::answer(alloc, call, words, out)?
             || orders::answer(alloc, call, words, out)?
-            || traced::answer(alloc, call, words, out)?,
+            || traced::answer(alloc, call, words, out)?
+            || unfolding::answer(alloc, call, words, out)?,
     )
 }

@@ -79,10 +79,7 @@ pub(crate) fn flows(alloc: Global, pair: &Pair) -> Result<(Flow, Flow), CaseStop
 fn flow_of(alloc: Global, program: &Program, context: &Cond) -> Result<Flow, CaseStop>
     requires { ReadyProgram program.now }
 {
-    if !fit_parts(program.params.len(), context.parts.as_slice()) {
-        return Err(CaseStop::Malformed("a context over the parameters"));
-    }
-    let model = lowered(alloc, program, context)?;
+    let model = lowered_under(alloc, program, context)?;
     flow_of_model(alloc, &model)
 }
 
@@ -91,10 +88,22 @@ pub(crate) fn lowered_alone(alloc: Global, program: &Program) -> Result<Model, C
     requires { ReadyProgram program.now }
     ensures { IfOk result IsLowered }
 {
-    if !fit_parts(program.params.len(), program.context.parts.as_slice()) {
+    lowered_under(alloc, program, &program.context)
+}
+
+/// The integer points of a program under a context, which is to be over its parameters.
+pub(crate) fn lowered_under(
+    alloc: Global,
+    program: &Program,
+    context: &Cond,
+) -> Result<Model, CaseStop>
+    requires { ReadyProgram program.now }
+    ensures { IfOk result IsLowered }
+{
+    if !fit_parts(program.params.len(), context.parts.as_slice()) {
         return Err(CaseStop::Malformed("a context over the parameters"));
     }
-    lowered(alloc, program, &program.context)
+    lowered(alloc, program, context)
 }
 
 /// The sources of a lowered program.
