@@ -127,14 +127,20 @@ fn show_unfolded(
         return Err(CaseStop::Malformed("a claim on the pair"));
     }
     match claim_trees(alloc, setting, 0, start, 1, claims, &[]) {
-        Ok(Planned::Plans(trees)) => push_counts(out, trees.as_slice())?,
-        Ok(Planned::Broken(_)) => out.push_str("no plans")?,
+        Ok(planned) => push_planned(out, &planned)?,
         Err(stop) => push_stop(out, stop)?,
     }
     out.push_str("; ")?;
     match broken_paths(alloc, setting, start, claims, &[]) {
         Ok(paths) => Ok(push_paths(out, paths.as_slice())?),
         Err(stop) => push_stop(out, stop),
+    }
+}
+
+fn push_planned(out: &mut String, planned: &Planned) -> Result<(), AllocError> {
+    match planned {
+        Planned::Plans(trees) => push_counts(out, trees.as_slice()),
+        Planned::Broken(_) => out.push_str("no plans"),
     }
 }
 
