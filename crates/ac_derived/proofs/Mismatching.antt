@@ -1,20 +1,13 @@
 -- What the models tell apart is a mismatch.
-use Rattle.std.proofs.Common.{◌≡◌, inl, inr, ℕ, zero, suc, ◌++◌, ℤ, List, [], ◌∷◌, ◌&&◌, length, Bool, true, false, Option, Some, None, refl, sym, ap, ◌∙◌, subst}
-use Rattle.std.specs.Cmp.Lexicographic.{pointwise}
-use Rattle.std.proofs.lemmas.Bool.{eq-eqb}
-use Rattle.std.proofs.lemmas.Bool.Decides.{Decides-eqb}
-use Rattle.std.proofs.lemmas.Slice.Eq.{slice_eq-Decides}
-use Rattle.ac_syntax.specs.declared.tree.Symbol.{Symbol}
-use Rattle.ac_paths.specs.Going.{same_symbol}
-use Rattle.std.specs.Prelude.{nat_eq, is_some, slice_get, option_map, option_and_then}
+use Rattle.std.proofs.Common.{◌≡◌, inl, inr, ◌++◌, ℤ, List, length, true, false, Option, Some, None, sym, ap, ◌∙◌, subst}
+use Rattle.std.specs.Prelude.{is_some, slice_get, option_map, option_and_then}
 use Rattle.ac_forms.specs.Affine.{Affine, value_at}
 use Rattle.ac_syntax.specs.Algebra.{Cell}
 use Rattle.ac_syntax.specs.Index.{index_value}
-use Rattle.ac_syntax.specs.Outputs.{input_at, is_input_kind}
+use Rattle.ac_syntax.specs.Outputs.{input_at}
 use Rattle.ac_syntax.specs.Source.{Writer}
 use Rattle.ac_syntax.specs.Spot.{Spot, AtEnd, AtNode, AtStart}
 use Rattle.ac_syntax.specs.Where.{element}
-use Rattle.ac_syntax.specs.declared.tree.Array.{Array}
 use Rattle.ac_syntax.specs.declared.tree.IndexExpr.{IndexExpr}
 use Rattle.ac_syntax.specs.declared.tree.Pair.{Pair}
 use Rattle.ac_syntax.specs.declared.tree.Position.{Position}
@@ -24,7 +17,6 @@ use Rattle.ac_poly.specs.Model.{model_of}
 use Rattle.ac_poly.specs.declared.types.Model.{Model}
 use Rattle.ac_poly.specs.declared.types.NodeModel.{NodeModel}
 use Rattle.ac_poly.specs.declared.types.StmtModel.{StmtModel}
-use Rattle.ac_claims.specs.Soundness.{AreModels}
 use Rattle.ac_paths.specs.Executions.{Execution, At, Describes, execution}
 use Rattle.ac_paths.specs.Pairs.{Placed, IsReader, AreCalls, AreNumbers, AreOneInput}
 use Rattle.ac_paths.specs.Places.{cell_read, call_at, number_at, number_of, initial_cell, read_of, element_forms}
@@ -32,9 +24,9 @@ use Rattle.ac_paths.specs.declared.places.CellForms.{CellForms}
 use Rattle.ac_paths.proofs.Heres.{cell_with, initial_here}
 use Rattle.ac_graph.specs.Steps.{comparison}
 use Rattle.ac_graph.proofs.Standing.{reader_there, call_there, call_of_place}
-use Rattle.ac_setting.specs.Programs.{PairAt, IsMismatchPair}
+use Rattle.ac_setting.specs.Programs.{PairAt}
 use Rattle.ac_derived.specs.Checks.{AreSeen}
-use Rattle.ac_derived.specs.Differing.{NotCalls, NotNumbers, AreApart, NotOneInput}
+use Rattle.ac_derived.specs.Statements.{EndsMismatch}
 use Rattle.ac_derived.proofs.Stepping.{none_there, from_seen}
 
 -- both positions at a point
@@ -94,8 +86,7 @@ start_at m params x d a P at p e c q =
     let g : AtStart c ≡ AtStart (cell_with params f.0 at) = sym q ∙ initial_here m params x d P at f.0 a.spot f.1 h in
     record { forms = f.0; is = f.1; cell_is = cc }
 
-pub mismatch_there : (pair : Pair) (left right : Model) → AreModels pair left right → (params : List ℤ) (P : Position) (at : List ℤ) (Q : Position) (bt : List ℤ) → AreSeen pair params P at Q bt → is_some (cell_read left P) ≡ false → is_some (cell_read right Q) ≡ false
-    → NotCalls left right P Q → NotNumbers left right P Q (params ++ at) (params ++ bt) → NotOneInput pair.left.arrays left right P Q (params ++ at) (params ++ bt) → IsMismatchPair pair (P, Q) (params ++ (at ++ bt))
+pub mismatch_there : EndsMismatch
 mismatch_there pair left right models params P at Q bt s lr rr calls numbers cells = record {
   there = pair_at pair params P at Q bt s;
   mismatch = record {
@@ -139,30 +130,3 @@ mismatch_there pair left right models params P at Q bt s lr rr calls numbers cel
         cells f.forms g.forms ((λ i. initial_cell (models.left_is i) P) ∙ f.is) ((λ i. initial_cell (models.right_is i) Q) ∙ g.is)
         (subst (λ (z : Cell). input_at pair.left.arrays z.array ≡ true) f.cell_is input)
         (ap (λ (z : Cell). z.array) one, ap (λ (z : Cell). z.at) one)
-
--- the kind of an array
-pub input_some : (arrays : List Array) (k : ℕ) (a : Array) → slice_get arrays k ≡ Some a → input_at arrays k ≡ is_input_kind a.kind
-input_some [] k a e = absurd cc
-input_some (x ∷ arrays) zero a e = let i : x ≡ a = cc in ap (λ (z : Array). is_input_kind z.kind) i
-input_some (x ∷ arrays) (suc k) a e = input_some arrays k a e
-
-pub input_none : (arrays : List Array) (k : ℕ) → slice_get arrays k ≡ None → input_at arrays k ≡ false
-input_none [] k e = refl
-input_none (x ∷ arrays) zero e = absurd cc
-input_none (x ∷ arrays) (suc k) e = input_none arrays k e
-
--- one symbol
-symbol_self : (f : Symbol) → same_symbol f f ≡ true
-symbol_self f = true_both (nat_eq f.arity f.arity) (pointwise nat_eq f.name f.name) (eq-eqb f.arity f.arity refl) ((slice_eq-Decides Decides-eqb f.name f.name _ refl).1 refl)
-  where
-    true_both : (a b : Bool) → a ≡ true → b ≡ true → (a && b) ≡ true
-    true_both a b e f = rw (e, f) refl
-
-pub symbols_same : (f g : Symbol) → f ≡ g → same_symbol f g ≡ true
-symbols_same f g e = subst (λ (x : Symbol). same_symbol f x ≡ true) e (symbol_self f)
-
-pub none_some : {A : Type 0} (o : Option A) (x : A) → o ≡ None → o ≡ Some x → ⊥
-none_some {A = A} o x e f = let z : None ≡ Some x = sym e ∙ f in cc
-
-pub apart_moved : (arrays : List Array) (p q : List ℤ) (c d x y : CellForms) → c ≡ x → d ≡ y → AreApart arrays c p d q → AreApart arrays x p y q
-apart_moved arrays p q c d x y e f h = subst (λ (z : CellForms). AreApart arrays x p z q) f (subst (λ (z : CellForms). AreApart arrays z p d q) e h)

@@ -7,7 +7,6 @@ use Rattle.ac_syntax.specs.Ready.{ReadyProgram, FitParts}
 use Rattle.ac_syntax.specs.Spot.{Spot, AtEnd, AtNode, AtStart}
 use Rattle.ac_syntax.specs.Where.{element}
 use Rattle.ac_syntax.specs.declared.tree.Cond.{Cond}
-use Rattle.ac_syntax.specs.declared.tree.Pair.{Pair}
 use Rattle.ac_syntax.specs.declared.tree.Position.{Position}
 use Rattle.ac_syntax.specs.declared.tree.Position.TheVariants.{Output, Node, InitialOutput, InitialNode}
 use Rattle.ac_syntax.specs.declared.tree.Program.{Program}
@@ -19,15 +18,14 @@ use Rattle.ac_poly.specs.declared.types.NodeModel.TheVariants.{Read}
 use Rattle.ac_poly.specs.declared.types.StmtModel.{StmtModel}
 use Rattle.ac_poly.proofs.Elements.{has_elements}
 use Rattle.ac_poly.proofs.Whole.{has_context, has_nodes}
-use Rattle.ac_claims.specs.Soundness.{ArePaired, AreModels}
 use Rattle.ac_paths.specs.Executions.{At, execution}
 use Rattle.ac_paths.specs.Places.{cell_read, read_of}
 use Rattle.ac_paths.proofs.Described.{models_describe}
 use Rattle.ac_paths.proofs.Heres.{reading}
 use Rattle.ac_graph.proofs.Standing.{node_there}
 use Rattle.ac_graph.proofs.Stepping.{valuations_are_compared}
-use Rattle.ac_derived.specs.Checks.{AreSeen}
 use Rattle.ac_derived.specs.Places.{IsNode, IsReadNode, IsHere}
+use Rattle.ac_derived.specs.Statements.{PositionsStand}
 
 -- a node of an instance
 node_here : (p : Program) (context : Cond) → ReadyProgram p → FitParts (length p.params) 0 context.parts → (params : List ℤ) → length params ≡ length p.params → (s k : ℕ) (at : List ℤ) → IsNode (model_of p context) params s k at
@@ -69,8 +67,7 @@ spot_here p context ready fit params long (InitialNode s k) at h =
     (AtStart rd.read, rd.initial)
 
 -- both positions at their coordinates
-pub seen_there : (pair : Pair) (left right : Model) → ArePaired pair → AreModels pair left right → (params : List ℤ) → length params ≡ left.params → Meets left.context params → (P : Position) (at : List ℤ) (Q : Position) (bt : List ℤ) → IsHere left params P at → IsHere right params Q bt
-    → AreSeen pair params P at Q bt
+pub seen_there : PositionsStand
 seen_there pair left right paired models params long meets P at Q bt h k =
     let l : length params ≡ length pair.left.params = long ∙ ap (λ (m : Model). m.params) models.left_is in
     let r : length params ≡ length pair.right.params = l ∙ sym paired.params in

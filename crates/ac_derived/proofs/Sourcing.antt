@@ -1,6 +1,5 @@
 -- A read or an output goes where its flow leads.
-use Rattle.std.proofs.Common.{◌≡◌, inl, inr, ℕ, zero, suc, ◌<◌, ℤ, List, [], ◌∷◌, ◌++◌, length, get_or, Option, None, refl, sym, ap, ◌∙◌, subst, arith}
-use Rattle.ac_forms.specs.Negation.{HasExtension}
+use Rattle.std.proofs.Common.{◌≡◌, inl, inr, ℕ, ℤ, List, ◌++◌, length, Option, None, refl, sym, ap, ◌∙◌, subst}
 use Rattle.ac_forms.specs.Rows.{Meets}
 use Rattle.ac_syntax.specs.Algebra.{Cell}
 use Rattle.ac_syntax.specs.Ready.{ReadyProgram, FitParts}
@@ -21,15 +20,8 @@ use Rattle.ac_poly.specs.declared.types.Model.{Model}
 use Rattle.ac_flow.specs.Flows.{IsLeft, CasesAreSources}
 use Rattle.ac_flow.specs.Sources.{IsReading, IsSource}
 use Rattle.ac_flow.specs.declared.types.Flow.{Flow}
-use Rattle.ac_flow.specs.declared.types.Remainder.{Remainder}
 use Rattle.ac_graph.proofs.Standing.{reader_there}
 use Rattle.ac_derived.specs.Following.{Follows, LeadsTo}
-
--- a point of a piece
-pub left_there : (pieces : List Remainder) (p : List ℤ) (i : ℕ) (r : Remainder) → i < length pieces → r ≡ get_or pieces i r → HasExtension r.conj p → IsLeft pieces p
-left_there [] p i r l e h = absurd (omega arith)
-left_there (x ∷ pieces) p zero r l e h = inl (subst (λ (y : Remainder). HasExtension y.conj p) e h)
-left_there (x ∷ pieces) p (suc i) r l e h = inr (left_there pieces p i r (omega arith) e h)
 
 -- where it goes
 pub record GoesTo (x : Execution) (a : Placed x) (to : Position) (to_at : List ℤ) : Type 0 where
@@ -79,6 +71,3 @@ goes_where_led p context f ready fit sources params long met a r from at to to_a
         let c = (sources p context params ready fit refl long met h.read a.at r.0 r.1 h.among reads_here).0 h.follows.0 h.follows.1 in
         let found = ((c.assigned s.number s.stmt to_at s.source s.is s.long).0 (subst (λ (y : List ℤ). IsLeft h.follows.0.pieces (params ++ (y ++ to_at))) (sym g) s.left)).0 in
         goes_source (execution p (model_of p context) params) a r s.number to to_at found s.to_is
-
-pub left_moved : (ps qs : List Remainder) (p q : List ℤ) → ps ≡ qs → p ≡ q → IsLeft ps p → IsLeft qs q
-left_moved ps qs p q e g h = subst (λ (y : List Remainder). IsLeft y q) e (subst (IsLeft ps) g h)

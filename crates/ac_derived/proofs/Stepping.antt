@@ -32,6 +32,7 @@ use Rattle.ac_setting.proofs.Calls.{reads_there, call_there}
 use Rattle.ac_derived.specs.Checks.{AreSeen}
 use Rattle.ac_derived.specs.Following.{LeadsTo}
 use Rattle.ac_derived.specs.Meeting.{IsMet}
+use Rattle.ac_derived.specs.Statements.{CallsStep, LeftReadsStep, RightReadsStep}
 use Rattle.ac_derived.proofs.Sourcing.{goes_where_led}
 
 pub some_there : {A : Type 0} (o : Option A) → is_some o ≡ true → (x : A) × (o ≡ Some x)
@@ -168,3 +169,17 @@ call_steps pair left right models params P at Q bt s params' P' at' Q' bt' t pe 
         right_argument = argument_there y s.b b.0 d b.1 met.right_number Q' met.right_argument u.b u.right_is (u.right_at_is ∙ sym be ∙ sym s.right_at_is);
       }));
     }
+
+-- ---- the laws
+
+pub left_reads_step : LeftReadsStep
+left_reads_step pair left right f paired models sources params P at Q bt s reads to to_at leads order =
+    left_steps pair left right f paired models sources params P at Q bt s reads params to to_at Q bt refl refl refl leads order
+
+pub right_reads_step : RightReadsStep
+right_reads_step pair left right f paired models sources params P at Q bt s plain reads to to_at leads order =
+    right_steps pair left right f paired models sources params P at Q bt s plain reads params P at to to_at refl refl refl leads order
+
+pub calls_step : CallsStep
+calls_step pair left right models params P at Q bt s P' Q' t c d ce de one order met =
+    call_steps pair left right models params P at Q bt s params P' at Q' bt t refl refl refl c d ce de one (order_at pair (P, Q) order) met order refl

@@ -4,4 +4,4 @@ pub mod Places
 pub mod Following
 pub mod Meeting
 pub mod Differing
-pub mod Deriving
+pub mod Statements

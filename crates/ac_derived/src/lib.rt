@@ -1,19 +1,9 @@
-//! Checks of derivations: whether a list of entries derives a mismatch of two programs, tested entry by entry at concrete points.
+//! What the models and the flows of two programs say of pairs of positions at points, in the setting of both programs (`ac_setting`): when
+//! two positions stand there, to which pair they step, and when they are a mismatch. Derivations are made of such pairs.
+//!
+//! Each function here does nothing, and its contract is a law about every pair of programs.
 #![tactic(auto)]
 
-mod calls;
-mod derives;
-mod hulls;
-mod mismatches;
-mod orders;
-mod outputs;
-mod pairs;
-mod places;
-mod quotients;
-mod rows;
-mod same;
-mod sources;
-mod steps;
+mod laws;
 
-pub use derives::refutes;
-pub use pairs::{Checked, Recurrence};
+pub use laws::{calls_step, ends_mismatch, positions_stand, reads_step};

@@ -3,20 +3,10 @@ use Rattle.std.specs.Prelude.{◌≡◌, ℕ, true}
 use Rattle.ac_syntax.specs.declared.tree.Order.{Order}
 use Rattle.ac_syntax.specs.declared.tree.Pair.{Pair}
 use Rattle.ac_syntax.specs.declared.tree.Position.{Position}
-use Rattle.ac_widen.specs.Combinations.{Each}
 use Rattle.ac_widen.specs.Obligations.{HasMismatch}
 use Rattle.ac_widen.specs.Refutations.{Decided, is_equal}
 use Rattle.ac_widen.specs.Setting.{Setting}
 use Rattle.ac_searched.specs.Searched.{Widening, IsWideningOf, searched}
-use Rattle.ac_refuted.specs.Searches.{IsWidenedBy}
-use Rattle.ac_refuted.specs.declared.searches.Search.{Search}
-use Rattle.ac_stopping.specs.declared.part.ProofPart.{ProofPart}
-
--- a part of the pair, with the recurrence pairs of the search
-pub record IsPartOf (s : Search) (p : ProofPart) : Type 0 where
-  pub pair : p.pair.now ≡ s.pair.now
-  pub recurrent : p.recurrent.now ≡ s.graph.now.recurrent
-  pub recurrences : Each (IsWidenedBy s) p.recurrences.now
 
 -- in the setting no obligation is a mismatch under some order, and a search over the orders, if it ends, says equal
 pub record IsMatchedIn (s : Setting (Position × Position)) : Type 0 where

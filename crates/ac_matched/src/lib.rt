@@ -1,9 +1,7 @@
-//! The check of what a search over the orders of the sites ends with where it says equal, in the setting of the search on one output: a
-//! part of a valid proof that stops at the recurrence pairs (`ac_stopping`).
+//! What it means that an output is matched: in the setting of the search on it (`ac_searched`) some order of the commutative arguments has
+//! no mismatch, as a part of a valid proof tells that stops at the recurrence pairs (`ac_decided`).
+//!
+//! The function here does nothing, and its contract is a law about every pair of programs and every proof.
 #![tactic(auto)]
 
-mod claimed;
 pub mod laws;
-mod matched;
-
-pub use matched::is_matched;

@@ -1,2 +1,2 @@
-pub mod Mismatches
 pub mod Searches
+pub mod Statements

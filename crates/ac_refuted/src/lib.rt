@@ -1,12 +1,9 @@
-//! The check of what a search ends with where two programs have no order of the sites that fits: refuted partial orders, one of which
-//! each order of the sites extends. Each refutation is tested by its derivation, and that no order is left; and for a search on one
-//! output, in the setting of that search.
+//! What it means that an output is unmatched: in the setting of the search on it (`ac_searched`) each order of the commutative arguments
+//! has a mismatch, as refuted partial orders of the sites tell.
+//!
+//! The function here does nothing, and its contract is a law about every pair of programs.
 #![tactic(auto)]
 
-mod recurrences;
-mod refuted;
-mod searches;
+mod laws;
 
-pub use recurrences::recurrence;
-pub use refuted::are_all_refuted;
-pub use searches::{Search, is_unmatched};
+pub use laws::one_widening_tells;

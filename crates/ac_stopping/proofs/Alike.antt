@@ -22,6 +22,7 @@ use Rattle.ac_paths.specs.declared.places.CellForms.{CellForms}
 use Rattle.ac_paths.proofs.Moving.{all-cons}
 use Rattle.ac_decided.specs.Stopping.{key_at}
 use Rattle.ac_decided.proofs.Branches.{keep}
+use Rattle.ac_stopping.specs.Statements.{BranchesAreAlike}
 
 -- paths of the same pairs, one by one
 abbrev pub AreAlike : List Path → List Path → Type 0
@@ -164,3 +165,12 @@ branches_alike g order h k hs ks e a b =
     by (Some cell) o' a b = read_alike g.params g.left h k Left cell hs ks e (keep order (read_branches g.params g.left h Left cell) hs a) (keep order (read_branches g.params g.left k Left cell) ks b)
     by None (Some cell) a b = read_alike g.params g.right h k Right cell hs ks e (keep order (read_branches g.params g.right h Right cell) hs a) (keep order (read_branches g.params g.right k Right cell) ks b)
     by None None a b = calls (call_at g.left h.left.position) (call_at g.right h.right.position) a ((λ i. branches_of_calls g order k (call_at g.left (e i).0) (call_at g.right (e i).1)) ∙ b)
+
+same_keys : (hs ks : List Path) → AreAlike hs ks → map key_at hs ≡ map key_at ks
+same_keys [] [] a = refl
+same_keys [] (k ∷ ks) a = absurd a
+same_keys (h ∷ hs) [] a = absurd a
+same_keys (h ∷ hs) (k ∷ ks) a = λ i. a.0 i ∷ same_keys hs ks a.1 i
+
+pub branches_are_alike : BranchesAreAlike
+branches_are_alike g order h k hs ks e a b = same_keys hs ks (branches_alike g order h k hs ks e a b)

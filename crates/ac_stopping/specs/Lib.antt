@@ -1,3 +1,2 @@
 pub mod Parts
-pub mod Following
-pub mod Stopped
+pub mod Statements

@@ -1,15 +1,9 @@
-//! The test of proofs for what they decide of the widened obligations: whether a part of a proof stops at the recurrence pairs. Plans are
-//! followed by their pairs of positions alone, as no row of a path tells where its steps lead.
+//! What plans stop by (`ac_decided`): the order of the arguments that is listed for a pair of positions, recurrence pairs of a list, and
+//! that no row of a path tells to which pairs its steps lead.
+//!
+//! The function here does nothing, and its contract is a law about every pair of paths.
 #![tactic(auto)]
 
-mod claims;
-mod orders;
-mod part;
-mod plans;
-mod same;
-mod steps;
-mod stopping;
-mod trees;
+mod laws;
 
-pub use part::{ProofPart, has_claim};
-pub use stopping::is_stopping;
+pub use laws::branches_are_alike;
