@@ -1,11 +1,9 @@
 -- What a branch of a read or an output assumes is a case of its flow.
 use Rattle.std.proofs.Common.{◌≡◌, ℕ, ◌+◌, true, List, length, Option, Some, None, refl, sym, ap, ◌∙◌, arith}
-use Rattle.std.proofs.lemmas.Bool.Decides.{nat_tests}
-use Rattle.std.specs.Prelude.{nat_eq, option_and_then, option_map, slice_get}
+use Rattle.std.specs.Prelude.{option_and_then, option_map, slice_get}
 use Rattle.ac_forms.specs.Affine.{Affine}
-use Rattle.ac_forms.proofs.Joining.{both_of}
 use Rattle.ac_syntax.specs.declared.tree.Position.{Position}
-use Rattle.ac_syntax.specs.declared.tree.Position.TheVariants.{Output, Node, InitialOutput, InitialNode}
+use Rattle.ac_syntax.specs.declared.tree.Position.TheVariants.{Node}
 use Rattle.ac_poly.specs.declared.types.Model.{Model}
 use Rattle.ac_paths.specs.Coordinates.{width}
 use Rattle.ac_paths.specs.Going.{Pairing, model_of, root}
@@ -16,7 +14,7 @@ use Rattle.ac_paths.specs.declared.path.Path.{Path}
 use Rattle.ac_paths.specs.declared.path.Seat.{Seat}
 use Rattle.ac_paths.specs.declared.path.Side.{Side}
 use Rattle.ac_paths.specs.declared.path.Side.TheVariants.{Left, Right}
-use Rattle.ac_claims.specs.Ending.{same_position}
+use Rattle.ac_claims.proofs.Plans.{position_is}
 use Rattle.ac_flow.specs.Cases.{Reads}
 use Rattle.ac_flow.specs.Readers.{readers, AreFlows}
 use Rattle.ac_flow.specs.declared.types.Case.{Case}
@@ -24,31 +22,11 @@ use Rattle.ac_flow.specs.declared.types.ReadFlow.{ReadFlow}
 use Rattle.ac_flow.proofs.Linking.{IsReader, OfNode, OfOutput, is_reader}
 use Rattle.ac_flow_laws.proofs.InPieces.{flows_of_readers}
 use Rattle.ac_unfold.specs.Cases.{count_at, AssumesCase, AssumesSource}
-use Rattle.ac_unfold.specs.Cutting.{flow_on, IsAssumed}
+use Rattle.ac_leading.specs.Steps.{flow_on}
+use Rattle.ac_unfold.specs.Cutting.{IsAssumed}
 use Rattle.ac_unfold.specs.Making.{judge_of, IsCaseAt}
 use Rattle.ac_unfold.specs.Plans.{IsSettled}
 use Rattle.ac_unfold.specs.declared.ends.Search.{Search}
-
-same_number : (a b : ℕ) → nat_eq a b ≡ true → a ≡ b
-same_number a b e = grind (arith, nat_tests)
-
-pub one_position : (p q : Position) → same_position p q ≡ true → p ≡ q
-one_position (Output o) (Output p) e = ap (λ n. Output n) (same_number o p e)
-one_position (Output o) (Node t l) e = absurd cc
-one_position (Output o) (InitialOutput p) e = absurd cc
-one_position (Output o) (InitialNode t l) e = absurd cc
-one_position (Node s k) (Output p) e = absurd cc
-one_position (Node s k) (Node t l) e = let b = both_of (nat_eq s t) (nat_eq k l) e in let f = same_number s t b.0 in let g = same_number k l b.1 in cc
-one_position (Node s k) (InitialOutput p) e = absurd cc
-one_position (Node s k) (InitialNode t l) e = absurd cc
-one_position (InitialOutput o) (Output p) e = absurd cc
-one_position (InitialOutput o) (Node t l) e = absurd cc
-one_position (InitialOutput o) (InitialOutput p) e = ap (λ n. InitialOutput n) (same_number o p e)
-one_position (InitialOutput o) (InitialNode t l) e = absurd cc
-one_position (InitialNode s k) (Output p) e = absurd cc
-one_position (InitialNode s k) (Node t l) e = absurd cc
-one_position (InitialNode s k) (InitialOutput p) e = absurd cc
-one_position (InitialNode s k) (InitialNode t l) e = let b = both_of (nat_eq s t) (nat_eq k l) e in let f = same_number s t b.0 in let g = same_number k l b.1 in cc
 
 reader_count : (m : Model) (r : Reads) → IsReader m r → count_at m r.position ≡ Some r.count
 reader_count m r (OfNode s k stmt array subs is e) = ap (option_map width) is
@@ -70,7 +48,7 @@ case_in : (g : Pairing) (side : Side) (m : Model) (flows : List ReadFlow) (flow 
 case_in g side m flows flow case q a e are i among is h =
     let f = (flows_of_readers m flows are).reader flow i in
     let r = f.0 in
-    let at : a.reader.position ≡ r.position = one_position a.reader.position flow.position h.position ∙ f.2.0 in
+    let at : a.reader.position ≡ r.position = position_is a.reader.position flow.position h.position ∙ f.2.0 in
     let many : Some a.reader.width ≡ Some r.count = sym h.count ∙ ap (count_at m) f.2.0 ∙ reader_count m r (is_reader m r f.1) in
     let wide : a.reader.width ≡ r.count = cc in
     record {
@@ -89,6 +67,6 @@ case_in g side m flows flow case q a e are i among is h =
       };
     }
 
-pub case_there : (search : Search) (side : Side) (flow : ReadFlow) (case : Case) (q : Path) → IsSettled search.setting.now → IsAmong flow (flow_on search.setting.now side).reads → IsAssumed search side flow case q → IsCaseAt (judge_of search) q case
+pub case_there : (search : Search) (side : Side) (flow : ReadFlow) (case : Case) (q : Path) → IsSettled search.setting.now → IsAmong flow (flow_on search.setting.now.left_flow.now search.setting.now.right_flow.now side).reads → IsAssumed search side flow case q → IsCaseAt (judge_of search) q case
 case_there search Left flow case q s i a = case_in (judge_of search) Left (judge_of search).left search.setting.now.left_flow.now.reads flow case q a.assumed refl s.left_flow i a.among a.is a.assumes
 case_there search Right flow case q s i a = case_in (judge_of search) Right (judge_of search).right search.setting.now.right_flow.now.reads flow case q a.assumed refl s.right_flow i a.among a.is a.assumes

@@ -1,35 +1,21 @@
 -- Claims that are not of a pair, up to a number, and the one that is.
-use Rattle.std.proofs.Common.{◌≡◌, inl, inr, ℕ, zero, suc, ◌+◌, ◌<◌, ◌≤◌, ◌&&◌, nat_eq, Bool, true, false, List, [], ◌∷◌, ◌++◌, length, take, get_or, Some, refl, sym, ap, ◌∙◌, subst, arith}
+use Rattle.std.proofs.Common.{◌≡◌, inl, inr, ℕ, zero, suc, ◌+◌, ◌<◌, ◌≤◌, ◌&&◌, true, false, List, [], ◌∷◌, ◌++◌, length, take, get_or, Some, refl, sym, ap, ◌∙◌, subst, arith}
 use Rattle.std.specs.Prelude.{slice_get}
-use Rattle.std.proofs.lemmas.Bool.{eq-eqb}
 use Rattle.std.proofs.lemmas.List.{take_more, take_all}
 use Rattle.ac_syntax.specs.declared.tree.Position.{Position}
-use Rattle.ac_syntax.specs.declared.tree.Position.TheVariants.{Output, Node, InitialOutput, InitialNode}
 use Rattle.ac_forms.specs.Members.{IsAmong}
+use Rattle.ac_forms.proofs.Joining.{both_of}
 use Rattle.ac_claims.specs.Ending.{same_position}
 use Rattle.ac_claims.specs.declared.types.Claim.{Claim}
+use Rattle.ac_graph.proofs.MoveSteps.{same_self, true_both}
 use Rattle.ac_unfold.specs.Cutting.{IsNumbered}
 
 -- none of the claims is of these positions
 abbrev pub NoneOf : List Claim → Position → Position → Type 0
 NoneOf claims P Q = (c : Claim) → IsAmong c claims → P ≡ c.left → ¬ (Q ≡ c.right)
 
-both_true : (a b : Bool) → (a && b) ≡ true → (a ≡ true) × (b ≡ true)
-both_true true true e = (refl, refl)
-both_true true false e = absurd cc
-both_true false b e = absurd cc
-
-true_both : (a b : Bool) → a ≡ true → b ≡ true → (a && b) ≡ true
-true_both a b e f = rw (e, f) refl
-
-position_self : (P : Position) → same_position P P ≡ true
-position_self (Output o) = eq-eqb o o refl
-position_self (Node s k) = true_both (nat_eq s s) (nat_eq k k) (eq-eqb s s refl) (eq-eqb k k refl)
-position_self (InitialOutput o) = eq-eqb o o refl
-position_self (InitialNode s k) = true_both (nat_eq s s) (nat_eq k k) (eq-eqb s s refl) (eq-eqb k k refl)
-
 same_if : (P Q : Position) → P ≡ Q → same_position P Q ≡ true
-same_if P Q e = subst (λ (z : Position). same_position P z ≡ true) e (position_self P)
+same_if P Q e = subst (λ (z : Position). same_position P z ≡ true) e (same_self P)
 
 get_is : (xs : List Claim) (i : ℕ) (x : Claim) → i < length xs → x ≡ get_or xs i x → slice_get xs i ≡ Some x
 get_is [] i x l e = absurd (omega (arith, l))
@@ -38,7 +24,7 @@ get_is (y ∷ xs) (suc i) x l e = get_is xs i x (omega (arith, l)) e
 
 pub numbered : (claims : List Claim) (P Q : Position) (i : ℕ) (c : Claim) → i < length claims → c ≡ get_or claims i c → (same_position P c.left && same_position Q c.right) ≡ true → IsNumbered claims P Q i
 numbered claims P Q i c l e t =
-    let b = both_true (same_position P c.left) (same_position Q c.right) t in
+    let b = both_of (same_position P c.left) (same_position Q c.right) t in
     record { claim = c; is = get_is claims i c l e; left_is = b.0; right_is = b.1 }
 
 pub none_first : (claims : List Claim) (P Q : Position) → NoneOf (take 0 claims) P Q

@@ -47,7 +47,6 @@ use Rattle.ac_leading.proofs.Reaching.{trails_lead}
 use Rattle.ac_leading.specs.Broken.{EndsBroken, HasNoClaim, IsBroken}
 use Rattle.ac_unfold.specs.Unfoldings.{IsUnfoldingOf}
 use Rattle.ac_unfold.specs.Cutting.{IsClaimBehind}
-use Rattle.ac_unfold.specs.Cutting as cutting
 use Rattle.ac_unfold.specs.Making.{judge_of}
 use Rattle.ac_unfold.specs.Planned.{IsBrokenFrom}
 use Rattle.ac_unfold.specs.Searching.{Adds, AddsBroken, IsAt, IsFrom, IsInCase, IsKindThere, IsOf, IsPast, IsPathAt, IsPathBreaking, Reached}
@@ -291,13 +290,9 @@ length_last : (xs : List Branch) (b : Branch) → length (xs ++ b ∷ []) ≡ le
 length_last [] b = refl
 length_last (x ∷ xs) b = ap suc (length_last xs b) ∙ omega arith
 
-flow_there : (setting : Setting) (side : Side) (read : ReadFlow) → IsAmong read (cutting.flow_on setting side).reads → IsAmong read (flow_on setting.left_flow.now setting.right_flow.now side).reads
-flow_there setting Left read i = i
-flow_there setting Right read i = i
-
 -- the branch of a case with its number
 in_case : (search : Search) (node : Node) (side : Side) (read : ReadFlow) (case : Case) (number : ℕ) (found rest : List Branch) (b : Branch) (u : Unfolding) → IsOf search u → IsKindThere search node.question (next.Read side)
-    → IsAmong read (cutting.flow_on search.setting.now side).reads → read.position ≡ (seat_of node.question side).position → slice_get read.cases number ≡ Some case → number ≡ length found
+    → IsAmong read (flow_on search.setting.now.left_flow.now search.setting.now.right_flow.now side).reads → read.position ≡ (seat_of node.question side).position → slice_get read.cases number ≡ Some case → number ≡ length found
     → Some (map (onto node.question) (found ++ b ∷ rest)) ≡ branches (judge_of search) Keep node.question → IsPast search node.trail node.question u → IsInCase search case (node.trail ++ (b.left, b.right) ∷ []) (onto node.question b) u
 unfolding IsKindThere
 in_case search node side read case number found rest b u of kind among position get count is at =
@@ -311,7 +306,7 @@ in_case search node side read case number found rest b u of kind among position 
       branch = record {
         reads = kind u of;
         read = read;
-        among = flow_there search.setting.now side read among;
+        among = among;
         position_is = position;
         branches_of = bs;
         are = ap (λ (g : Pairing). branches g Keep q) of.programs ∙ sym is;
@@ -324,7 +319,7 @@ in_case search node side read case number found rest b u of kind among position 
     }
 
 pub reads_more : (search : Search) (node : Node) (side : Side) (read : ReadFlow) (case : Case) (number next_number : ℕ) (found : List Branch) (b : Branch) (child : Node) (before now after : List (List Entry)) → IsKindThere search node.question (next.Read side)
-    → IsAmong read (cutting.flow_on search.setting.now side).reads → read.position ≡ (seat_of node.question side).position → slice_get read.cases number ≡ Some case → AddsReads search node number found before now
+    → IsAmong read (flow_on search.setting.now.left_flow.now search.setting.now.right_flow.now side).reads → read.position ≡ (seat_of node.question side).position → slice_get read.cases number ≡ Some case → AddsReads search node number found before now
     → child.question ≡ onto node.question b → child.trail ≡ node.trail ++ (b.left, b.right) ∷ [] → next_number ≡ number + 1 → AddsBroken search (IsInCase search case child.trail child.question) now after → AddsReads search node next_number (found ++ b ∷ []) before after
 unfolding AddsReads
 reads_more search node side read case number next_number found b child before now after kind among position get h e f n k = (

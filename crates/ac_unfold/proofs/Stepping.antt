@@ -18,7 +18,8 @@ use Rattle.ac_graft.specs.declared.placing.Placing.{Placing}
 use Rattle.ac_plans.specs.Following.{behind_branch, ArePlansFor, IsPlanFor}
 use Rattle.ac_decided.specs.Stopping.{key_at}
 use Rattle.ac_plan_stops.specs.Stopped.{Stopped, StopEach, StopsOn}
-use Rattle.ac_unfold.specs.Cutting.{flow_on, IsAssumed, IsStep}
+use Rattle.ac_leading.specs.Steps.{flow_on}
+use Rattle.ac_unfold.specs.Cutting.{IsAssumed, IsStep}
 use Rattle.ac_unfold.specs.Making.{judge_of, IsGiven, IsMade, IsMadeIn, IsPlanIn}
 use Rattle.ac_unfold.specs.Stopping.{IsStoppedIn, MayStep, StopsIn}
 use Rattle.ac_unfold.specs.declared.ends.Search.{Search}
@@ -87,7 +88,7 @@ step_made search s q order found ts None serve step is formed = tt
 step_made search s q order found ts (Some t) serve step is formed = λ may. record { plan = served_step search s q order found ts t serve step is formed; stops = step_stops search q order found ts t serve.stop step is may }
 
 -- a plan in the case of a flow, where the search is given
-pub case_made : (search : Search) (side : Side) (flow : ReadFlow) (case : Case) (s : Placing) (q : Path) (t : Plan) → IsAmong flow (flow_on search.setting.now side).reads → IsAssumed search side flow case q → IsMadeIn search case s q t → IsMade search s q t
+pub case_made : (search : Search) (side : Side) (flow : ReadFlow) (case : Case) (s : Placing) (q : Path) (t : Plan) → IsAmong flow (flow_on search.setting.now.left_flow.now search.setting.now.right_flow.now side).reads → IsAssumed search side flow case q → IsMadeIn search case s q t → IsMade search s q t
 unfolding IsPlanIn
 case_made search side flow case s q t i a h = record { plan = λ cs given formed. h.plan (case_there search side flow case q given.settled i a) cs given formed; stops = h.stops }
 

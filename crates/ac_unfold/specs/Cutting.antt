@@ -15,7 +15,6 @@ use Rattle.ac_forms.specs.Members.{IsAmong}
 use Rattle.ac_paths.specs.declared.path.Assumed.{Assumed}
 use Rattle.ac_paths.specs.declared.path.Path.{Path}
 use Rattle.ac_paths.specs.declared.path.Side.{Side}
-use Rattle.ac_paths.specs.declared.path.Side.TheVariants.{Left, Right}
 use Rattle.ac_claims.specs.Ending.{same_position}
 use Rattle.ac_claims.specs.declared.types.Claim.{Claim}
 use Rattle.ac_claims.specs.declared.types.Kill.{Kill}
@@ -23,7 +22,6 @@ use Rattle.ac_claims.specs.declared.types.Plan.{Plan}
 use Rattle.ac_claims.specs.declared.types.PlanNext.{Go}
 use Rattle.ac_claims.specs.declared.types.PlanNext.TheVariants.{Killed}
 use Rattle.ac_flow.specs.declared.types.Case.{Case}
-use Rattle.ac_flow.specs.declared.types.Flow.{Flow}
 use Rattle.ac_flow.specs.declared.types.ReadFlow.{ReadFlow}
 use Rattle.ac_flow_laws.specs.Accepting.{on_path}
 use Rattle.ac_graft.specs.declared.branching.Part.{Part}
@@ -41,7 +39,6 @@ use Rattle.ac_unfold.specs.declared.ends.Search.{Search}
 use Rattle.ac_unfold.specs.declared.kinds.Next.{Next}
 use Rattle.ac_unfold.specs.declared.node.Node.{Node}
 use Rattle.ac_unfold.specs.declared.kinds.Next.TheVariants as next
-use Rattle.ac_unfold.specs.declared.types.Setting.{Setting}
 
 -- ---- claims
 
@@ -65,10 +62,6 @@ IsNext search q (next.Read side) = TakesIn search q Keep
 IsNext search q (next.Calls order) = TakesIn search q order
 IsNext search q (next.Match rows end) = IsUnclaimed search q → IsEndFor search q rows end
 IsNext search q next.Mismatch = Unit {0}
-
-abbrev pub flow_on : Setting → Side → Flow
-flow_on s Left = s.left_flow.now
-flow_on s Right = s.right_flow.now
 
 -- ---- cases
 

@@ -1,28 +1,12 @@
 //! Which case of a flow a branch of a read or an output assumes.
 ghost use Rattle.std.specs.Prelude.{◌≡◌, Some, true};
-ghost use Rattle.ac_claims.specs.Ending.{same_position};
 ghost use Rattle.ac_unfold.specs.Cases.{count_at, AssumesCase, AssumesSource};
 
+use ac_claims::ending::same_position;
 use ac_flow::types::{Case, ReadFlow};
 use ac_paths::path::{Assumed, Seat, Side};
 use ac_poly::types::Model;
 use ac_syntax::tree::Position;
-
-/// Whether two positions are one.
-pub(crate) fn same_position(first: &Position, second: &Position) -> bool
-    ensures { result ≡ same_position first.now second.now }
-{
-    match (first, second) {
-        (Position::Output(o), Position::Output(p)) => *o == *p,
-        (Position::Node { stmt: s, node: k }, Position::Node { stmt: t, node: l }) => {
-            *s == *t && *k == *l
-        }
-        (Position::InitialOutput(o), Position::InitialOutput(p)) => *o == *p,
-        (Position::InitialNode { stmt: s, node: k }, Position::InitialNode { stmt: t, node: l }) =>
-            *s == *t && *k == *l,
-        _ => false,
-    }
-}
 
 /// Whether a position of a read or an output has so many coordinates.
 fn has_count(model: &Model, position: &Position, count: usize) -> bool

@@ -11,12 +11,12 @@ ghost use Rattle.ac_unfold.specs.Making.{IsMade};
 ghost use Rattle.ac_unfold.specs.Missing.{FindsElse};
 ghost use Rattle.ac_unfold.specs.Cutting.{IsClaimBehind, IsNumbered};
 
-use crate::casing::same_position;
 use crate::ends::{Search, stand};
 use crate::finding::Finds;
 use crate::node::Node;
 use crate::remaining::over_columns;
 use crate::types::UnfoldStop;
+use ac_claims::ending::same_position;
 use ac_claims::types::{Claim, Plan, PlanNext};
 use ac_forms::column_after;
 use ac_paths::columns::columns_of_both;

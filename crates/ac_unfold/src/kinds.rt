@@ -2,19 +2,20 @@
 ghost use Rattle.std.specs.Prelude.{◌≡◌, IfErr, IfOk, IfSome, None, Some, false, length, slice_get};
 ghost use Rattle.ac_poly.specs.Model.{is_input};
 ghost use Rattle.ac_paths.specs.Calls.{pairing};
-ghost use Rattle.ac_paths.specs.Going.{same_symbol, seat_of};
+ghost use Rattle.ac_paths.specs.Going.{seat_of};
 ghost use Rattle.ac_forms.specs.Members.{IsAmong};
 ghost use Rattle.ac_paths.specs.Places.{CallAt, call_at, initial_cell, number_at};
 ghost use Rattle.ac_stopping.specs.Parts.{order_of};
 ghost use Rattle.ac_unfold.specs.Causes.{StopsAt};
-ghost use Rattle.ac_unfold.specs.Cutting.{flow_on, IsNext};
+ghost use Rattle.ac_leading.specs.Steps.{flow_on};
+ghost use Rattle.ac_unfold.specs.Cutting.{IsNext};
 ghost use Rattle.ac_unfold.specs.Making.{judge_of};
 ghost use Rattle.ac_unfold.specs.Searching.{IsKindThere, IsLeaf, IsNoNumber};
 
-use crate::casing::same_position;
 use crate::ends::{Search, rows_or};
 use crate::node::Node;
 use crate::types::{Setting, UnfoldStop};
+use ac_claims::ending::same_position;
 use ac_claims::types::PlanNext;
 use ac_flow::types::{Flow, ReadFlow};
 use ac_forms::{Form, Row};
@@ -22,8 +23,9 @@ use ac_items::Items;
 use ac_paths::columns::{equal_at, equal_form_at};
 use ac_paths::path::{Path, Programs, Side};
 use ac_paths::places::{CellForms, call_at, cell_read, initial_cell, number_at};
+use ac_paths::symbols::same_symbol;
 use ac_poly::types::Model;
-use ac_syntax::tree::{Kind, Order, Position, Site, Symbol};
+use ac_syntax::tree::{Kind, Order, Position, Site};
 use std::alloc::Global;
 
 /// What a pair of positions asks for.
@@ -66,20 +68,13 @@ fn flow_at<'a>(flow: &'a Flow, position: &Position) -> Option<&'a ReadFlow>
 
 /// The flow of the read or output on a side.
 pub(crate) fn flow_of<'a>(setting: &Setting<'a>, path: &Path, side: Side) -> Option<&'a ReadFlow>
-    ensures among { IfSome result (λ read. IsAmong read.now (flow_on setting.now side).reads) }
+    ensures among { IfSome result (λ read. IsAmong read.now (flow_on setting.now.left_flow.now setting.now.right_flow.now side).reads) }
     ensures position { IfSome result (λ read. read.now.position ≡ (seat_of path.now side).position) }
 {
     match side {
         Side::Left => flow_at(setting.left_flow, &path.left.position),
         Side::Right => flow_at(setting.right_flow, &path.right.position),
     }
-}
-
-/// Whether two symbols are one.
-fn same_symbol(first: &Symbol, second: &Symbol) -> bool
-    ensures { result ≡ same_symbol first.now second.now }
-{
-    first.arity == second.arity && first.name == second.name
 }
 
 /// Two calls of one symbol with as many arguments.

@@ -1,7 +1,6 @@
-use Rattle.std.proofs.Common.{List, subst, sym, ◌∙◌}
+use Rattle.std.proofs.Common.{List, subst}
 use Rattle.ac_flow.specs.declared.types.ReadFlow.{ReadFlow}
 use Rattle.ac_forms.specs.Members.{IsAmong}
-use Rattle.ac_claims.proofs.Plans.{position_is}
 use Rattle.ac_unfold.proofs.Results.{in_read}
 use Rattle.ac_unfold.proofs.kinds.flow_at.Goals as goal
 
@@ -9,4 +8,4 @@ pub returns-then-same_position-clause-among : goal.returns-then-same_position-cl
 returns-then-same_position-clause-among c = subst (λ (xs : List ReadFlow). IsAmong c.read-item.result xs) c.as_slice-read-items.ensures (in_read c.as_slice-read-items.result.now c.loop-read.read-index c.read-item.result c.loop-read-test.true c.read-item.is)
 
 pub returns-then-same_position-clause-position : goal.returns-then-same_position-clause-position
-returns-then-same_position-clause-position c = position_is c.read-item.result.position c.args.position.now (sym c.same_position.ensures ∙ c.if-same_position.true)
+returns-then-same_position-clause-position c = c.same_position.ensures.equal c.if-same_position.true
