@@ -14,7 +14,7 @@ use ac_items::Items;
 use std::alloc::{AllocError, Global};
 
 /// The greatest modulus that is negated by its other residue classes.
-const MOST_CLASSES: i128 = 64;
+pub(crate) const MOST_CLASSES: i128 = 64;
 
 /// One side of a branch: the rows that the question has there, over its columns and so many further ones; where they stand on
 /// the path, counted from its next row; and how many columns and rows the path has more.

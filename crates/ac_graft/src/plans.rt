@@ -15,6 +15,7 @@ ghost use Rattle.ac_claims.specs.declared.types.Claim.{Claim};
 ghost use Rattle.ac_graft.specs.Plans.{AcceptsPlan, BranchesTo};
 ghost use Rattle.ac_graft.specs.Sides.{AcceptsClasses, BranchServesAnywhere, has_few};
 
+use crate::branching::MOST_CLASSES;
 use crate::grafting::plan_of;
 use crate::placing::Placing;
 use ac_cert::types::Step;
@@ -22,9 +23,6 @@ use ac_claims::types::{Plan, PlanNext};
 use ac_forms::{Form, FormStop, Row, column_after};
 use ac_items::Items;
 use std::alloc::{AllocError, Global};
-
-/// The greatest modulus that is negated by its other residue classes.
-const MOST_CLASSES: i128 = 64;
 
 /// A split.
 fn split(alloc: Global, form: Form, first: Plan, second: Plan) -> Result<Plan, AllocError>
