@@ -165,37 +165,35 @@ fn quotient_parts(
 /// A branch on a divisibility.
 fn divisibility_parts(
     alloc: Global,
-    row: &Row,
     modulus: &i128,
     form: &Form,
     columns: usize,
 ) -> Result<Parts, FormStop>
-    requires { row.now ≡ Div modulus.now form.now }
-    ensures { IsRowOver columns (Div modulus.now form.now) → MadeIff result (CanBranch (Div modulus.now form.now)) (sides_of columns (Div modulus.now form.now)) }
+    requires { IsRowOver columns (Div modulus.now form.now) }
+    ensures { MadeIff result (CanBranch (Div modulus.now form.now)) (sides_of columns (Div modulus.now form.now)) }
 {
     if *modulus <= MOST_CLASSES {
         return class_parts(alloc, modulus, form, columns);
-    }
-    if !row.is_over(columns) {
-        return Err(FormStop::Memory(AllocError));
     }
     quotient_parts(alloc, modulus, form, columns)
 }
 
 /// The sides of a branch on a row over that many columns; `Wide` exactly where a number of them leaves `i128`.
 fn parts_by(alloc: Global, row: &Row, columns: usize) -> Result<Parts, FormStop>
-    ensures { IsRowOver columns row.now → MadeIff result (CanBranch row.now) (sides_of columns row.now) }
+    requires { IsRowOver columns row.now }
+    ensures { MadeIff result (CanBranch row.now) (sides_of columns row.now) }
 {
     match row {
         Row::Ge(form) => inequality_parts(alloc, form, columns),
         Row::Eq(form) => equality_parts(alloc, form, columns),
-        Row::Div(modulus, form) => divisibility_parts(alloc, row, modulus, form, columns),
+        Row::Div(modulus, form) => divisibility_parts(alloc, modulus, form, columns),
     }
 }
 
 /// The sides of a branch on a row over that many columns; none where a number of them leaves `i128`.
 pub fn parts_of(alloc: Global, row: &Row, columns: usize) -> Result<Option<Parts>, AllocError>
-    ensures { IfOk result (λ made. IsRowOver columns row.now → AreSides columns row.now made) }
+    requires { IsRowOver columns row.now }
+    ensures { IfOk result (AreSides columns row.now) }
 {
     match parts_by(alloc, row, columns) {
         Ok(parts) => Ok(Some(parts)),

@@ -288,7 +288,7 @@ cut_row-returns-in_ok-next-in-Some-made-clause-made t c =
     let k = c.args.case.now in
     let v = c.args.course.node in
     cut_branched s k c.args.course c.in_ok-next-in-Some-made.next c.args.row.now c.in-Some-made.outside.items c.in-Some.parts c.as_slice-parted.result.now
-    (subst (λ (o : Option Parts). AreSides n c.args.row.now o) c.in-Some.is (c.in_ok-parts.ensures can.over)) c.as_slice-parted.ensures
+    (subst (λ (o : Option Parts). AreSides n c.args.row.now o) c.in-Some.is c.in_ok-parts.ensures) c.as_slice-parted.ensures
     (at_some c.in_ok-made.made c.in-Some-made.outside (λ plans. AreMadeOn s k v.placing v.question c.as_slice-parted.result.now plans.items) c.in-Some-made.is c.in_ok-made.ensures.made)
     c.in_ok-next-in-Some-made.ensures.opened c.in_ok-next-in-Some-made.ensures.question c.in_ok-next-in-Some-made.ensures.placing can
 
@@ -300,13 +300,16 @@ cut_row-returns-then-standing-clause-broken t c =
 pub cut_row-returns-then-standing-clause-within : goal.cut_row-returns-then-standing-clause-within
 cut_row-returns-then-standing-clause-within t c = within_itself c.args.course.node c.args.course.node refl
 
+pub cut_row-parts_of-requires : goal.cut_row-parts_of-requires
+cut_row-parts_of-requires t c = let can = c.in_ok-can.ensures c.if-not-can.false in can.over
+
 pub cut_row-outsides-requires : goal.cut_row-outsides-requires
 cut_row-outsides-requires t c =
     let v = c.args.course.node.question in
     let can = c.in_ok-can.ensures c.if-not-can.false in (
       search rules,
       parts_miss c.args.search.now c.args.case.now c.args.number v c.args.row.now c.in-Some.parts c.as_slice-parted.result.now can.over
-          (subst (λ (o : Option Parts). AreSides v.conj.columns c.args.row.now o) c.in-Some.is (c.in_ok-parts.ensures can.over)) c.as_slice-parted.ensures c.requires,
+          (subst (λ (o : Option Parts). AreSides v.conj.columns c.args.row.now o) c.in-Some.is c.in_ok-parts.ensures) c.as_slice-parted.ensures c.requires,
     )
 
 pub cut_row-returns-in_ok-next-in-Some-made-clause-within : goal.cut_row-returns-in_ok-next-in-Some-made-clause-within
