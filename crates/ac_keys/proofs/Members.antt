@@ -1,13 +1,14 @@
 -- What is kept with a further member.
-use Rattle.std.proofs.Common.{◌≡◌, ◌⊎◌, inl, inr, ℕ, ◌+◌, ℤ, List, [], ◌∷◌, ◌++◌, length, Bool, true, false, MatchBool, if◌then◌else◌, refl, ap, sym, ◌∙◌, arith, length-append}
+use Rattle.std.proofs.Common.{◌≡◌, ◌⊎◌, inl, inr, ℕ, ◌+◌, ℤ, List, [], ◌∷◌, ◌++◌, length, Bool, true, false, MatchBool, if◌then◌else◌, refl, ap, sym, ◌∙◌, subst, arith, length-append}
+use Rattle.std.specs.Prelude.{◌↔◌, IsTrue}
 use Rattle.ac_forms.specs.Members.{IsAmong}
 use Rattle.ac_forms.specs.Rows.{AreRowsOver}
 use Rattle.ac_forms.specs.declared.row.Row.{Row}
 use Rattle.ac_hull.specs.Hulls.{HullOf, IsGrown, IsWithin}
 use Rattle.ac_hull.proofs.Among.{among_front, among_back}
 use Rattle.ac_hull.proofs.Facts.{each_snoc}
-use Rattle.ac_widen.specs.Combinations.{Each}
-use Rattle.ac_widen.proofs.Combining.{each_map}
+use Rattle.ac_widen.specs.Combinations.{Each, IsCombination}
+use Rattle.ac_widen.proofs.Combining.{each_map, first_of_some}
 use Rattle.ac_keys.specs.Keys.{AreKept, KeyOf}
 use Rattle.ac_keys.specs.Known.{IsWith}
 
@@ -48,11 +49,28 @@ kept_by old new p true kept own n h e l =
     omega arith
 kept_by old new p false kept own n h e l = let m : new.members ≡ old.members = ap (λ v. v.members) h.1 in ap length e ∙ l ∙ sym (ap length m)
 
+snoc_some : (members : List (List ℤ)) (p : List ℤ) → ¬ (members ++ p ∷ [] ≡ [])
+snoc_some [] p e = absurd cc
+snoc_some (q ∷ members) p e = absurd cc
+
+some_by : (old new : HullOf) (p : List ℤ) (grew : Bool) → MatchBool grew (IsGrown old p new) (IsWithin old p new) → ¬ (new.members ≡ [])
+some_by old new p true h e = snoc_some old.members p (sym (ap (λ (v : HullOf). v.members) h.1) ∙ e)
+some_by old new p false h e = first_of_some p h.0.0 h.0.1 (subst (IsCombination p h.0.0 h.0.1) (sym (ap (λ (v : HullOf). v.members) h.1) ∙ e) h.0.2)
+
+-- there is no member exactly where the hull has none
+none_among : (own members : List (List ℤ)) → Each (λ p. IsAmong p members) own → members ≡ [] → own ≡ []
+none_among [] members a e = refl
+none_among (p ∷ own) members a e = absurd (subst (IsAmong p) e a.0)
+
+pub none_found : (hull : HullOf) (members : List (List ℤ)) (places kept : List ℕ) (rows : List Row) (empty : Bool) → AreKept hull members places kept rows → IsTrue empty ↔ (hull.members ≡ []) → IsTrue empty ↔ (members ≡ [])
+none_found hull members places kept rows empty k h = ((λ t. k.none (h.0 t)), (λ e. h.1 (none_among hull.members members k.among e)))
+
 -- and all is kept as it is to be
 pub kept_with : (old new : HullOf) (p : List ℤ) (grew : Bool) (members more_ : List (List ℤ)) (places all kept own : List ℕ) (n : ℕ) (rows made : List Row) → AreKept old members places kept rows → IsAdded old p grew new → length p ≡ old.columns
     → more_ ≡ members ++ p ∷ [] → all ≡ places ++ n ∷ [] → own ≡ (if grew then kept ++ n ∷ [] else kept) → AreRowsOver new.columns made → AreKept new more_ all own made
 kept_with old new p grew members more_ places all kept own n rows made k h l m a o over = record {
   among = among_with old new p grew members more_ h m k.among;
+  none = λ e. absurd (some_by old new p grew h.is e);
   widths = widths_with old new p grew members more_ h m l k.widths;
   entries =
       let x : length all ≡ length places + 1 = ap length a ∙ length-append places (n ∷ []) in

@@ -1,5 +1,5 @@
 -- What is known at a recurrence pair: the members that were found there, the hull that they make, and the claim that all of them meet.
-use Rattle.std.specs.Prelude.{◌≡◌, ℕ, ℤ, List, ◌++◌, length, map}
+use Rattle.std.specs.Prelude.{◌≡◌, ℕ, ℤ, List, [], ◌++◌, length, map}
 use Rattle.ac_syntax.specs.declared.tree.Position.{Position}
 use Rattle.ac_forms.specs.Rows.{AreRowsOver}
 use Rattle.ac_forms.specs.declared.row.Row.{Row}
@@ -28,10 +28,11 @@ positions k = (k.left, k.right)
 abbrev pub claim_of : KeyOf → Claim
 claim_of k = record { left = k.left; right = k.right; rows = rows_with k.hull.members (map Eq (equalities_of k.hull.columns k.hull.members) ++ k.rows) }
 
--- the members of a hull are among the found ones; each of these has a number for each column; each of both has an entry; and the rows are
--- over the columns
+-- the members of a hull are among the found ones, and are none only of none; each of these has a number for each column; each of both has an
+-- entry; and the rows are over the columns
 pub record AreKept (hull : HullOf) (members : List (List ℤ)) (places kept : List ℕ) (rows : List Row) : Type 0 where
   pub among : Each (λ p. IsAmong p members) hull.members
+  pub none : hull.members ≡ [] → members ≡ []
   pub widths : Each (λ p. length p ≡ hull.columns) members
   pub entries : length places ≡ length members
   pub own_entries : length kept ≡ length hull.members

@@ -1,4 +1,5 @@
 pub mod Following
 pub mod Keys
 pub mod Known
+pub mod Stops
 pub mod Statements

@@ -94,9 +94,10 @@ impl Key {
         self.members.len()
     }
 
-    /// Whether the hull has no member.
+    /// Whether no member was found, which is whether the hull has none.
     pub fn is_empty(&self) -> bool
-        ensures { IsTrue result ↔ (self.now.hull.members ≡ []) }
+        ensures members { IsTrue result ↔ (self.now.members ≡ []) }
+        ensures hull { IsTrue result ↔ (self.now.hull.members ≡ []) }
     {
         self.hull.is_empty()
     }
@@ -193,7 +194,7 @@ impl Key {
         }
     }
 
-    /// The number of the entry of the first member with this point; none exactly where no member has it.
+    /// The number of the entry of a member with this point; none exactly where no member has it.
     #[tactic(auto, using(crate::proofs::Testing::search_steps))]
     pub fn place_of(&self, point: &[i128]) -> Option<usize>
         ensures { MatchOption result (¬ IsAmong point.now self.now.members) (λ place. (es : List (EntryOf (Position × Position))) → AreAt es (positions self.now) self.now.places self.now.members → StandsAt es place (positions self.now) point.now) }
