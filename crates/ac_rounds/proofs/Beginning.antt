@@ -39,7 +39,7 @@ begins_output u t known path h b =
 -- ---- from a key
 
 -- the pair of the first entry is that of the key
-at_key : (u : Unfolding) (key : KeyOf) (k : Position × Position) (p : List ℤ) → u.claim ≡ claim_of key → IsOfClaim u k p → k ≡ positions key
+pub at_key : (u : Unfolding) (key : KeyOf) (k : Position × Position) (p : List ℤ) → u.claim ≡ claim_of key → IsOfClaim u k p → k ≡ positions key
 at_key u key k p claim of = λ i. ((of.left_is ∙ ap (λ (c : Claim). c.left) claim) i, (of.right_is ∙ ap (λ (c : Claim). c.right) claim) i)
 
 wide_key : (u : Unfolding) (t : Template) (known : Known) (at : ℕ) (key : KeyOf) → IsKnown u.pair t known → slice_get known.keys.items at ≡ Some key → u.claim ≡ claim_of key → (k : Position × Position) (p : List ℤ) → IsOfClaim u k p → length p ≡ key.hull.columns
@@ -90,10 +90,10 @@ begins_there u t known at key path begin h w is claim b =
 
 -- ---- what is asked for and given
 
-start_at : (u : Unfolding) (t : Template) (known : Known) (from : Option ℕ) (at : ℕ) → from ≡ Some at → StartsFrom u t known from → IsStart u known (Some at)
+pub start_at : (u : Unfolding) (t : Template) (known : Known) (from : Option ℕ) (at : ℕ) → from ≡ Some at → StartsFrom u t known from → IsStart u known (Some at)
 start_at u t known from at e h = subst (IsStart u known) e h.start
 
-one_key : (known : Known) (at : ℕ) (x y : KeyOf) → slice_get known.keys.items at ≡ Some x → slice_get known.keys.items at ≡ Some y → x ≡ y
+pub one_key : (known : Known) (at : ℕ) (x y : KeyOf) → slice_get known.keys.items at ≡ Some x → slice_get known.keys.items at ≡ Some y → x ≡ y
 one_key known at x y e f = let same : Some x ≡ Some y = sym e ∙ f in cc
 
 pub from_within : (u : Unfolding) (t : Template) (known : Known) (from : Option ℕ) (at : ℕ) → from ≡ Some at → StartsFrom u t known from → at < length known.keys.items

@@ -8,3 +8,4 @@ pub mod Onward
 pub mod Making
 pub mod Choosing
 pub mod Orders
+pub mod Stopping

@@ -1,8 +1,8 @@
 -- What stands in lists, and their last items.
-use Rattle.std.proofs.Common.{◌≡◌, ◌⊎◌, inl, inr, Result, Ok, Err, ℕ, zero, suc, ◌+◌, ◌<◌, List, [], ◌∷◌, ◌++◌, length, map, take, get_or, sum, Some, refl, sym, ap, ◌∙◌, subst, arith}
+use Rattle.std.proofs.Common.{◌≡◌, ◌⊎◌, inl, inr, Result, Ok, Err, ℕ, zero, suc, ◌+◌, ◌<◌, List, [], ◌∷◌, ◌++◌, length, map, take, get_or, Some, refl, sym, ap, ◌∙◌, subst, arith}
 use Rattle.std.specs.Prelude.{slice_get}
-use Rattle.std.specs.List.{AllByRecursion, fold}
-use Rattle.std.specs.Result.{IfOk, OnOk}
+use Rattle.std.specs.List.{AllByRecursion}
+use Rattle.std.specs.Result.{IfErr, IfOk, IsErrAnd, OnOk}
 use Rattle.std.proofs.lemmas.Option.{slice_get_read}
 use Rattle.std.proofs.lemmas.List.{get_or_default, take_more}
 use Rattle.ac_forms.specs.Members.{IsAmong}
@@ -100,21 +100,6 @@ pub map_changed : {A B : Type 0} (f : A → B) (front : List A) (x y : A) (back 
 map_changed f [] x y back e = ap (λ z. z ∷ map f back) e
 map_changed f (z ∷ front) x y back e = ap (λ zs. f z ∷ zs) (map_changed f front x y back e)
 
-fold_from : (n : ℕ) (ns : List ℕ) → fold (λ a b. a + b) n ns ≡ n + fold (λ a b. a + b) 0 ns
-fold_from n [] = omega arith
-fold_from n (m ∷ ns) = let a = fold_from (n + m) ns in let b = fold_from (0 + m) ns in omega (arith, a, b)
-
-sum_first : (n : ℕ) (ns : List ℕ) → sum (n ∷ ns) ≡ n + sum ns
-sum_first n ns = let a : fold (λ a b. a + b) (0 + n) ns ≡ (0 + n) + sum ns = fold_from (0 + n) ns in a ∙ omega arith
-
-pub sum_changed : {A : Type 0} (f : A → ℕ) (front : List A) (x y : A) (back : List A) → f x < f y → sum (map f (front ++ x ∷ back)) < sum (map f (front ++ y ∷ back))
-sum_changed f [] x y back e = let a = sum_first (f x) (map f back) in let b = sum_first (f y) (map f back) in omega (arith, a, b, e)
-sum_changed f (z ∷ front) x y back e =
-    let a = sum_first (f z) (map f (front ++ x ∷ back)) in
-    let b = sum_first (f z) (map f (front ++ y ∷ back)) in
-    let less = sum_changed f front x y back e in
-    omega (arith, a, b, less)
-
 pub get_middle : {A : Type 0} (front : List A) (x : A) (back : List A) → slice_get (front ++ x ∷ back) (length front) ≡ Some x
 get_middle [] x back = refl
 get_middle (z ∷ front) x back = get_middle front x back
@@ -168,6 +153,10 @@ both_ok P Q R (Err e) f p q = tt
 pub if_ok : {A E : Type 0} (P Q : A → Type 0) (r : Result A E) → ((x : A) → P x → Q x) → IfOk r P → IfOk r Q
 if_ok P Q (Ok x) f h = f x h
 if_ok P Q (Err e) f h = tt
+
+pub if_err : {A E : Type 0} (P : E → Type 0) (r : Result A E) (e : E) → IsErrAnd r (λ x. x ≡ e) → P e → IfErr r P
+if_err P (Ok x) e is h = tt
+if_err P (Err x) e is h = subst P (sym is) h
 
 pub on_ok : {A E : Type 0} (P Q : Type 0) (r : Result A E) → (P → Q) → OnOk r P → OnOk r Q
 on_ok P Q (Ok x) f h = f h

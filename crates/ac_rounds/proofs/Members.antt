@@ -1,5 +1,5 @@
 -- What a further member leaves as it is.
-use Rattle.std.proofs.Common.{◌≡◌, inl, inr, ℕ, zero, suc, ◌+◌, ◌<◌, ℤ, List, [], ◌∷◌, ◌++◌, map, length, take, drop, get_or, sum, Some, refl, sym, ap, ◌∙◌, subst, arith, length-append}
+use Rattle.std.proofs.Common.{◌≡◌, inl, inr, ℕ, zero, suc, ◌+◌, ◌<◌, ℤ, List, [], ◌∷◌, ◌++◌, map, length, take, drop, get_or, Some, refl, sym, ap, ◌∙◌, subst, arith}
 use Rattle.std.specs.Prelude.{slice_get}
 use Rattle.std.specs.List.{insert, remove}
 use Rattle.std.proofs.lemmas.Option.{slice_get_within}
@@ -14,7 +14,7 @@ use Rattle.ac_keys.specs.declared.template.Template.{Template}
 use Rattle.ac_keys.proofs.Standing.{key_stays}
 use Rattle.ac_rounds.specs.Known.{IsWide}
 use Rattle.ac_rounds.specs.Members.{GrowsAt, HasWidthAt}
-use Rattle.ac_rounds.proofs.Lists.{each_changed, get_middle, in_get, each_in, length_taken, map_changed, sum_changed, take_none}
+use Rattle.ac_rounds.proofs.Lists.{each_changed, get_middle, in_get, each_in, length_taken, map_changed, take_none}
 
 same_columns : (k g : KeyOf) (p : List ℤ) (place : ℕ) → IsWith k p place g → g.hull.columns ≡ k.hull.columns
 same_columns k g p place h = elim h.hull [ inl z ↦ ap (λ x. x.columns) z.0.1 | inr z ↦ ap (λ x. x.columns) z.0.1 ]
@@ -47,13 +47,6 @@ grown_widths pair t old at p place new g h =
 pub grown_pairs : (t : Template) (old : List KeyOf) (at : ℕ) (p : List ℤ) (place : ℕ) (new : List KeyOf) (g : GrowsAt t old at p place new) → map positions new ≡ map positions old
 grown_pairs t old at p place new g =
     ap (map positions) g.new_is ∙ sym (map_changed positions g.front g.key g.grown g.back (same_positions g.key g.grown p place g.member)) ∙ ap (map positions) (sym g.old_is)
-
-pub grown_count : (t : Template) (old : List KeyOf) (at : ℕ) (p : List ℤ) (place : ℕ) (new : List KeyOf) (g : GrowsAt t old at p place new) → sum (map (λ (k : KeyOf). length k.members) old) < sum (map (λ (k : KeyOf). length k.members) new)
-grown_count t old at p place new g =
-    let more : length g.grown.members ≡ length g.key.members + 1 = ap length g.member.members ∙ length-append g.key.members (p ∷ []) in
-    let less : length g.key.members < length g.grown.members = omega (arith, more) in
-    let count : List KeyOf → ℕ = λ ks. sum (map (λ (k : KeyOf). length k.members) ks) in
-    subst (λ (xs : List KeyOf). count xs < count new) (sym g.old_is) (subst (λ (xs : List KeyOf). count (g.front ++ g.key ∷ g.back) < count xs) (sym g.new_is) (sum_changed (λ (k : KeyOf). length k.members) g.front g.key g.grown g.back less))
 
 -- ---- one key taken out and put back
 

@@ -16,7 +16,8 @@ use Rattle.ac_leading.specs.Leading.{Unfolding, setting_of}
 use Rattle.ac_keys.specs.Keys.{KeyOf, positions, claim_of}
 use Rattle.ac_keys.specs.declared.template.Template.{Template}
 use Rattle.ac_rounds.specs.Entering.{Begins}
-use Rattle.ac_rounds.specs.Known.{IsKnown, IsWidenedAt, claims_of, pairs_of, member_count}
+use Rattle.ac_rounds.specs.Known.{IsKnown, IsWidenedAt, claims_of, pairs_of}
+use Rattle.ac_rounds.specs.Members.{ClaimsGrow, once, again}
 use Rattle.ac_rounds.specs.Beginning.{AtEach, BeginsOf}
 use Rattle.ac_rounds.specs.Rounds.{ArePathsOf, IfKnown, IsRoundOf}
 use Rattle.ac_rounds.specs.Taking.{BeginsIf, IsPathFor, Takes, as_grown, pair_of as pair_of_claim}
@@ -94,7 +95,7 @@ behind_nothing u t start paths known begin path (Grown new) h begins k = record 
   is_known = k.is_known;
   pairs = k.pairs ∙ h.pairs;
   more = more_again start.entries known.entries new.entries h.more.0 k.more.0 h.more.1 k.more.1;
-  grown = subst (λ (x : Known). member_count x < member_count new) h.nothing.1 k.grown;
+  grown = subst (λ (x : Known). ClaimsGrow t x.keys.items new.keys.items) h.nothing.1 (once known.keys.items new.keys.items k.grown);
   mismatch = tt;
   nothing = tt;
   derivation = λ w d. k.derivation (begins_later u t start known h.more.0 path begin h.more.1 begins w) (h.derivation w d);
@@ -116,7 +117,7 @@ behind_grown u t start paths known begin path (Grown new) h begins k = record {
   is_known = k.is_known;
   pairs = k.pairs ∙ h.pairs;
   more = more_again start.entries known.entries new.entries h.more.0 k.more.0 h.more.1 k.more.1;
-  grown = let a = h.grown in let b = k.grown in omega (arith, a, b);
+  grown = again start.keys.items known.keys.items new.keys.items h.grown k.grown;
   mismatch = tt;
   nothing = tt;
   derivation = λ w d. k.derivation (begins_later u t start known h.more.0 path begin h.more.1 begins w) (h.derivation w d);
@@ -134,7 +135,7 @@ behind_grown u t start paths known begin path (Nothing new) h begins k = record 
   is_known = k.is_known;
   pairs = k.pairs ∙ h.pairs;
   more = more_again start.entries known.entries new.entries h.more.0 k.more.0 h.more.1 k.more.1;
-  grown = subst (λ (x : Known). member_count start < member_count x) (sym k.nothing.0) h.grown;
+  grown = subst (λ (x : Known). ClaimsGrow t start.keys.items x.keys.items) (sym k.nothing.0) h.grown;
   mismatch = tt;
   nothing = tt;
   derivation = λ w d. k.derivation (begins_later u t start known h.more.0 path begin h.more.1 begins w) (h.derivation w d);

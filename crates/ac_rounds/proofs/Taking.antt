@@ -30,7 +30,7 @@ use Rattle.ac_rounds.proofs.Ending.{claim_broken, end_place, end_there, end_uniq
 use Rattle.ac_rounds.proofs.Entered.{EndsWith, ends_with, entered_more, stands_last, still_derives}
 use Rattle.ac_rounds.specs.Rounds.{StillDerives}
 use Rattle.ac_rounds.proofs.Lists.{append_nil, each_in, get_in, get_map, in_get, length-map, map-append, map_among, map_get, among_map}
-use Rattle.ac_rounds.proofs.Members.{grown_count, grown_keys, grown_pairs, grown_widths, grows_key, read_is}
+use Rattle.ac_rounds.proofs.Members.{grown_keys, grown_pairs, grown_widths, grows_key, read_is}
 
 -- ---- the entries
 
@@ -117,8 +117,8 @@ end_wide u t claims known path h e end at key is same =
 
 pub taken_grown : (u : Unfolding) (t : Template) (claims : List Claim) (known new : Known) (begin : Begin) (path : List Entry) → IsPathFor u t claims known path → GoesOn path begin → (e : Entry) → IsEnd path e
     → (at : ℕ) (key : KeyOf) → slice_get known.keys.items at ≡ Some key → positions key ≡ key_of e → (place : ℕ) → new.entries ≡ entered known.entries begin path → suc place ≡ length new.entries → GrowsAt t known.keys.items at e.point place new.keys.items
-    → Takes u t claims known begin path (Grown new)
-taken_grown u t claims known new begin path h goes e end at key is same place entries last g =
+    → ¬ (Meets (claim_of key).rows e.point) → Takes u t claims known begin path (Grown new)
+taken_grown u t claims known new begin path h goes e end at key is same place entries last g breaks =
     let b = h.broken in
     let old = known.keys.items in
     let end_is = end_place u claims path b e end in
@@ -142,7 +142,7 @@ taken_grown u t claims known new begin path h goes e end at key is same place en
       };
       pairs = pairs;
       more = (more.0, entries ∙ more.1);
-      grown = grown_count t old at e.point place new.keys.items g;
+      grown = record { at = at; point = e.point; place = place; grows = g; breaks = subst (λ (k : KeyOf). ¬ (Meets (claim_of k).rows e.point)) (sym (grows_key t old at e.point place new.keys.items g key is)) breaks };
       mismatch = tt;
       nothing = tt;
       derivation = λ begins d. subst (λ (es : List Entry). StillDerives u known.entries es) (sym entries) (still_derives u b.point known.entries b.first b.rest begin path b.are (steps_on u claims path b) begins) d;

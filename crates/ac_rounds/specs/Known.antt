@@ -1,5 +1,5 @@
 -- What is known under one order: the keys, each by what the entries show there.
-use Rattle.std.specs.Prelude.{◌≡◌, ℕ, List, length, map, sum, true}
+use Rattle.std.specs.Prelude.{◌≡◌, List, map, true}
 use Rattle.ac_syntax.specs.declared.tree.Pair.{Pair}
 use Rattle.ac_syntax.specs.declared.tree.Position.{Position}
 use Rattle.ac_claims.specs.declared.types.Claim.{Claim}
@@ -19,10 +19,6 @@ pairs_of known = map positions known.keys.items
 
 abbrev pub claims_of : Known → List Claim
 claims_of known = map claim_of known.keys.items
-
--- how many members there are
-abbrev pub member_count : Known → ℕ
-member_count known = sum (map (λ k. length k.members) known.keys.items)
 
 -- a point at the key has as many numbers as one at its pair of positions
 abbrev pub IsWide : Pair → KeyOf → Type 0

@@ -4,6 +4,7 @@ pub mod Entering
 pub mod Beginning
 pub mod Members
 pub mod Taking
+pub mod Stopping
 pub mod Ends
 pub mod Parts
 pub mod Making

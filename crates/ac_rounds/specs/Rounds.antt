@@ -1,5 +1,5 @@
 -- Broken paths from one start, and what a round makes of them.
-use Rattle.std.specs.Prelude.{ℕ, ℤ, ◌≡◌, ◌<◌, ◌++◌, List, [], ◌∷◌, Option, Some, None, slice_get}
+use Rattle.std.specs.Prelude.{ℕ, ℤ, ◌≡◌, ◌++◌, List, [], ◌∷◌, Option, Some, None, slice_get}
 use Rattle.std.specs.List.{AllByRecursion}
 use Rattle.ac_syntax.specs.declared.tree.Position.{Position}
 use Rattle.ac_setting.specs.Programs.{IsOutputPair}
@@ -12,7 +12,8 @@ use Rattle.ac_leading.specs.Ends.{HaveBothArities}
 use Rattle.ac_leading.specs.Leading.{Unfolding, IsOfClaim, setting_of}
 use Rattle.ac_keys.specs.Keys.{KeyOf, claim_of}
 use Rattle.ac_keys.specs.declared.template.Template.{Template}
-use Rattle.ac_rounds.specs.Known.{IsKnown, IsWidenedAt, claims_of, pairs_of, member_count}
+use Rattle.ac_rounds.specs.Known.{IsKnown, IsWidenedAt, claims_of, pairs_of}
+use Rattle.ac_rounds.specs.Members.{ClaimsGrow}
 use Rattle.ac_rounds.specs.declared.known.Known.{Known}
 use Rattle.ac_rounds.specs.declared.rounds.Round.{Round}
 use Rattle.ac_rounds.specs.declared.rounds.Round.TheVariants.{Grown, Mismatch, Nothing}
@@ -73,12 +74,12 @@ EndsInMismatch s es = (front : List (EntryOf (Position × Position))) × (last :
 abbrev pub StillDerives : Unfolding → List Entry → List Entry → Type 0
 StillDerives u old new = IsDerivation (setting_of u) u.order (entries_of old) → IsDerivation (setting_of u) u.order (entries_of new)
 
--- what comes of the paths: all is known as before, with further entries and members; or the last entry is a mismatch; or nothing, without paths
+-- what comes of the paths: all is known as before, with further entries, and members that broke their claims; or the last entry is a mismatch; or nothing, without paths
 pub record IsRoundOf (u : Unfolding) (t : Template) (start : Known) (paths : List (List Entry)) (round : Round) : Type 0 where
   pub is_known : IfKnown (IsKnown u.pair t) round
   pub pairs : IfKnown (λ k. pairs_of k ≡ pairs_of start) round
   pub more : (es : List Entry) × (entries_behind round ≡ start.entries ++ es)
-  pub grown : IfGrown (λ k. member_count start < member_count k) round
+  pub grown : IfGrown (λ k. ClaimsGrow t start.keys.items k.keys.items) round
   pub mismatch : IfMismatch (EndsInMismatch (setting_of u)) round
   pub nothing : IfNothing (λ k. (paths ≡ []) × (k ≡ start)) round
   pub derivation : IsWidenedAt (setting_of u) t start → StillDerives u start.entries (entries_behind round)

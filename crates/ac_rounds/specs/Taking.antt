@@ -1,5 +1,5 @@
 -- One path of a round.
-use Rattle.std.specs.Prelude.{◌≡◌, ◌<◌, ◌++◌, List, map}
+use Rattle.std.specs.Prelude.{◌≡◌, ◌++◌, List, map}
 use Rattle.ac_syntax.specs.declared.tree.Position.{Position}
 use Rattle.ac_claims.specs.declared.types.Claim.{Claim}
 use Rattle.ac_widen.specs.declared.derivation.Entry.{Entry}
@@ -8,7 +8,8 @@ use Rattle.ac_leading.specs.Ends.{HaveBothArities}
 use Rattle.ac_leading.specs.Leading.{Unfolding, setting_of}
 use Rattle.ac_keys.specs.declared.template.Template.{Template}
 use Rattle.ac_rounds.specs.Entering.{Begins}
-use Rattle.ac_rounds.specs.Known.{IsKnown, IsWidenedAt, claims_of, pairs_of, member_count}
+use Rattle.ac_rounds.specs.Known.{IsKnown, IsWidenedAt, claims_of, pairs_of}
+use Rattle.ac_rounds.specs.Members.{ClaimGrows}
 use Rattle.ac_rounds.specs.Rounds.{EndsInMismatch, IfGrown, IfKnown, IfMismatch, IfNothing, StillDerives, entries_behind}
 use Rattle.ac_rounds.specs.declared.begins.Begin.{Begin}
 use Rattle.ac_rounds.specs.declared.known.Known.{Known}
@@ -35,7 +36,7 @@ pub record Takes (u : Unfolding) (t : Template) (claims : List Claim) (known : K
   pub is_known : IfKnown (IsKnown u.pair t) round
   pub pairs : IfKnown (λ k. pairs_of k ≡ pairs_of known) round
   pub more : (es : List Entry) × (entries_behind round ≡ known.entries ++ es)
-  pub grown : IfGrown (λ k. member_count known < member_count k) round
+  pub grown : IfGrown (λ k. ClaimGrows t known.keys.items k.keys.items) round
   pub mismatch : IfMismatch (EndsInMismatch (setting_of u)) round
   pub nothing : IfNothing (λ k. (k ≡ known) × (¬ (claims ≡ claims_of known))) round
   pub derivation : Begins (setting_of u) u.order known.entries path begin → StillDerives u known.entries (entries_behind round)

@@ -1,15 +1,19 @@
 //! Where broken paths begin.
-ghost use Rattle.std.specs.Prelude.{◌≡◌, ◌++◌, length, List, [], ◌∷◌, IfOk, OnOk};
+ghost use Rattle.std.specs.Prelude.{◌≡◌, ◌++◌, length, List, [], ◌∷◌, IfErr, IfOk, OnOk};
 ghost use Rattle.ac_leading.specs.Broken.{IsBroken};
 ghost use Rattle.ac_leading.specs.Leading.{Unfolding};
+ghost use Rattle.ac_setting.specs.Programs.{PairAt};
+ghost use Rattle.ac_syntax.specs.declared.tree.Pair.{Pair};
 ghost use Rattle.ac_syntax.specs.declared.tree.Position.{Position};
 ghost use Rattle.ac_widen.specs.Derivations.{EntryOf};
 ghost use Rattle.ac_keys.specs.Known.{IsKey};
+ghost use Rattle.ac_keys.specs.Keys.{positions};
 ghost use Rattle.ac_keys.specs.declared.template.Template.{Template};
 ghost use Rattle.ac_rounds.specs.Beginning.{AtEach, BeginsInside, BeginsOf, IsInside};
 ghost use Rattle.ac_rounds.specs.Entering.{GoesOn};
 ghost use Rattle.ac_rounds.specs.Known.{claims_of};
 ghost use Rattle.ac_rounds.specs.Rounds.{ArePathsOf, StartsFrom};
+ghost use Rattle.ac_rounds.specs.Stopping.{StopsAt};
 ghost use Rattle.ac_rounds.specs.declared.begins.Begin.{Begin};
 
 use crate::known::Known;
@@ -35,6 +39,7 @@ fn begin_at(alloc: Global, key: &Key, path: &[Entry]) -> Result<Begin, HullStop>
     requires inside { IsInside key.now path.now }
     ensures steps { IfOk result (GoesOn path.now) }
     ensures begins { IfOk result (BeginsInside key.now path.now) }
+    ensures stops { IfErr result (λ stop. (pair : Pair) (t : Template) (e : Entry) (rest : List Entry) → path.now ≡ e ∷ rest → PairAt pair (positions key.now) e.point → StopsAt pair t (key.now ∷ []) stop) }
 {
     let point = path[0].point.as_slice();
     if path.len() > 1 {
@@ -57,7 +62,8 @@ fn begin_of(
     path: &[Entry],
 ) -> Result<Begin, HullStop>
     requires { (u : Unfolding) × (t : Template) × StartsFrom u t known.now from × IsBroken u (claims_of known.now) path.now }
-    ensures { IfOk result (BeginsOf known.now from path.now) }
+    ensures begins { IfOk result (BeginsOf known.now from path.now) }
+    ensures stops { IfErr result (λ stop. (u : Unfolding) (t : Template) → StartsFrom u t known.now from → IsBroken u (claims_of known.now) path.now → StopsAt u.pair t known.now.keys.items stop) }
 {
     match from {
         Some(at) => begin_at(alloc, &known.keys[at], path),
@@ -74,7 +80,8 @@ fn push_begin(
     begins: &mut Items<Begin>,
 ) -> Result<(), HullStop>
     requires { (u : Unfolding) × (t : Template) × StartsFrom u t known.now from × IsBroken u (claims_of known.now) path.now }
-    ensures { OnOk result ((begin : Begin) × BeginsOf known.now from path.now begin × (begins.new ≡ begins.old ++ begin ∷ [])) }
+    ensures begins { OnOk result ((begin : Begin) × BeginsOf known.now from path.now begin × (begins.new ≡ begins.old ++ begin ∷ [])) }
+    ensures stops { IfErr result (λ stop. (u : Unfolding) (t : Template) → StartsFrom u t known.now from → IsBroken u (claims_of known.now) path.now → StopsAt u.pair t known.now.keys.items stop) }
 {
     match begin_of(alloc, known, from, path) {
         Ok(begin) => match begins.push(begin) {
@@ -95,6 +102,7 @@ pub(crate) fn begins_of(
     requires { (u : Unfolding) × (t : Template) × ArePathsOf u t known.now from paths.now }
     ensures count { IfOk result (λ begins. length begins ≡ length paths.now) }
     ensures each { IfOk result (AtEach (BeginsOf known.now from) paths.now) }
+    ensures stops { IfErr result (λ stop. (u : Unfolding) (t : Template) → ArePathsOf u t known.now from paths.now → StopsAt u.pair t known.now.keys.items stop) }
 {
     let mut begins = Items::new(alloc);
     for path in paths {

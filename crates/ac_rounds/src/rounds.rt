@@ -1,14 +1,18 @@
 //! A round of a search: broken paths from one start become entries, and their ends members.
-ghost use Rattle.std.specs.Prelude.{◌≡◌, ◌++◌, List, [], ◌∷◌, IfOk, MatchOption, slice_get};
+ghost use Rattle.std.specs.Prelude.{◌≡◌, ◌++◌, List, [], ◌∷◌, IfErr, IfOk, MatchOption, slice_get};
 ghost use Rattle.ac_claims.specs.declared.types.Claim.{Claim};
 ghost use Rattle.ac_leading.specs.Leading.{Unfolding};
+ghost use Rattle.ac_setting.specs.Programs.{PairAt};
+ghost use Rattle.ac_syntax.specs.declared.tree.Pair.{Pair};
 ghost use Rattle.ac_widen.specs.declared.derivation.Entry.{Entry};
+ghost use Rattle.ac_keys.specs.Keys.{KeyOf, positions};
 ghost use Rattle.ac_keys.specs.Known.{HasModuli};
 ghost use Rattle.ac_rounds.specs.Ends.{EndsFree, IsEnd, key_of};
 ghost use Rattle.ac_rounds.specs.Entering.{GoesOn};
 ghost use Rattle.ac_rounds.specs.Known.{claims_of, pairs_of};
 ghost use Rattle.ac_rounds.specs.Members.{GrowsAt, HasWidthAt};
 ghost use Rattle.ac_rounds.specs.Rounds.{ArePathsOf, IfKnown, IsRoundOf};
+ghost use Rattle.ac_rounds.specs.Stopping.{StopsAt, StopsBehind, StopsNext};
 ghost use Rattle.ac_rounds.specs.Taking.{BeginsIf, IsPathFor, Takes, as_grown};
 
 use crate::begins::{Begin, begins_of};
@@ -52,7 +56,8 @@ fn with_member(
 ) -> Result<Vec<Key>, HullStop>
     requires moduli { HasModuli template.now }
     requires width { HasWidthAt keys.items at point.now }
-    ensures { IfOk result (λ grown. GrowsAt template.now keys.items at point.now place grown.items) }
+    ensures grown { IfOk result (λ grown. GrowsAt template.now keys.items at point.now place grown.items) }
+    ensures stops { IfErr result (λ stop. (pair : Pair) (key : KeyOf) → slice_get keys.items at ≡ Some key → PairAt pair (positions key) point.now → StopsAt pair template.now keys.items stop) }
 {
     let mut keys = keys;
     let key = keys.remove(at);
@@ -80,7 +85,8 @@ fn take_member(
     requires path { (u : Unfolding) × (claims : List Claim) × IsPathFor u template.now claims known path.now }
     requires ends { IsEnd path.now end.now }
     requires key { slice_get (pairs_of known) at ≡ Some (key_of end.now) }
-    ensures { IfOk result (λ round. (u : Unfolding) (claims : List Claim) → IsPathFor u template.now claims known path.now → Takes u template.now claims known begin.now path.now round) }
+    ensures takes { IfOk result (λ round. (u : Unfolding) (claims : List Claim) → IsPathFor u template.now claims known path.now → Takes u template.now claims known begin.now path.now round) }
+    ensures stops { IfErr result (λ stop. (u : Unfolding) (claims : List Claim) → IsPathFor u template.now claims known path.now → StopsAt u.pair template.now known.keys.items stop) }
 {
     let point = end.point.as_slice();
     match known.keys[at].breaks(alloc, point) {
@@ -109,7 +115,8 @@ fn take_mismatch(
 ) -> Result<Round, HullStop>
     requires steps { GoesOn path.now begin.now }
     requires free { EndsFree (pairs_of known) path.now }
-    ensures { IfOk result (λ round. (u : Unfolding) (t : Template) (claims : List Claim) → IsPathFor u t claims known path.now → Takes u t claims known begin.now path.now round) }
+    ensures takes { IfOk result (λ round. (u : Unfolding) (t : Template) (claims : List Claim) → IsPathFor u t claims known path.now → Takes u t claims known begin.now path.now round) }
+    ensures stops { IfErr result (λ stop. (pair : Pair) (t : Template) (keys : List KeyOf) → StopsAt pair t keys stop) }
 {
     match enter(alloc, known.entries, begin, path) {
         Ok(entries) => Ok(Round::Mismatch(entries)),
@@ -128,7 +135,8 @@ fn take_path(
     requires moduli { HasModuli template.now }
     requires steps { GoesOn path.now begin.now }
     requires path { (u : Unfolding) × (claims : List Claim) × IsPathFor u template.now claims known path.now }
-    ensures { IfOk result (λ round. (u : Unfolding) (claims : List Claim) → IsPathFor u template.now claims known path.now → Takes u template.now claims known begin.now path.now round) }
+    ensures takes { IfOk result (λ round. (u : Unfolding) (claims : List Claim) → IsPathFor u template.now claims known path.now → Takes u template.now claims known begin.now path.now round) }
+    ensures stops { IfErr result (λ stop. (u : Unfolding) (claims : List Claim) → IsPathFor u template.now claims known path.now → StopsAt u.pair template.now known.keys.items stop) }
 {
     let Some(end) = end_of(path) else {
         return take_mismatch(alloc, known, begin, path);
@@ -161,7 +169,8 @@ fn take_next(
     requires moduli { HasModuli template.now }
     requires steps { GoesOn path.now begin.now }
     requires path { IfKnown (λ known. (u : Unfolding) × (claims : List Claim) × IsPathFor u template.now claims known path.now) round }
-    ensures { IfOk result (λ next. (u : Unfolding) (start : Known) (paths : List (List Entry)) → IsRoundOf u template.now start paths round → IsPathFor u template.now (claims_of start) start path.now → BeginsIf u template.now start path.now begin.now → IsRoundOf u template.now start (paths ++ path.now ∷ []) next) }
+    ensures takes { IfOk result (λ next. (u : Unfolding) (start : Known) (paths : List (List Entry)) → IsRoundOf u template.now start paths round → IsPathFor u template.now (claims_of start) start path.now → BeginsIf u template.now start path.now begin.now → IsRoundOf u template.now start (paths ++ path.now ∷ []) next) }
+    ensures stops { IfErr result (StopsNext template.now path.now round) }
 {
     match round {
         Round::Mismatch(entries) => Ok(Round::Mismatch(entries)),
@@ -176,8 +185,9 @@ fn take_next(
 impl Known {
     /// Takes the broken paths from one start, the claim of the key with the number `from`, or that of an output where it is none: each
     /// becomes entries, and its end a further member of the key there, up to the first that ends in a mismatch. A path that meets a
-    /// claim since one before it was taken is left out; so nothing comes of a round only where there are no paths. Refuses where a
-    /// number of a hull leaves `i128`, with the points, and for want of memory.
+    /// claim since one before it was taken is left out; so nothing comes of a round only where there are no paths, and where claims
+    /// grew, each further member broke the claim of its key as it was then. `Overflow` only with the members of a key, as it is
+    /// behind some of the paths, and a point of its pair of positions, where a number leaves `i128` as the point is taken beside them.
     pub fn take(
         self,
         alloc: Global,
@@ -187,7 +197,8 @@ impl Known {
     ) -> Result<Round, HullStop>
         requires moduli { HasModuli template.now }
         requires paths { (u : Unfolding) × ArePathsOf u template.now self from paths }
-        ensures { IfOk result (λ round. (u : Unfolding) → ArePathsOf u template.now self from paths → IsRoundOf u template.now self paths round) }
+        ensures takes { IfOk result (λ round. (u : Unfolding) → ArePathsOf u template.now self from paths → IsRoundOf u template.now self paths round) }
+        ensures stops { IfErr result (StopsBehind template.now self from paths) }
     {
         let paths = paths.as_slice();
         let begins = begins_of(alloc, &self, from, paths)?;

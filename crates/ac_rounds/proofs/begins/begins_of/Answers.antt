@@ -2,9 +2,13 @@ use Rattle.std.proofs.Common.{◌≡◌, ◌∙◌, ◌+◌, List, [], ◌∷◌
 use Rattle.std.proofs.lemmas.List.{take_all}
 use Rattle.ac_widen.specs.declared.derivation.Entry.{Entry}
 use Rattle.ac_leading.specs.Broken.{IsBroken}
+use Rattle.ac_leading.specs.Leading.{Unfolding}
+use Rattle.ac_keys.specs.declared.template.Template.{Template}
 use Rattle.ac_rounds.specs.Beginning.{AtEach, BeginsOf}
 use Rattle.ac_rounds.specs.Known.{claims_of}
-use Rattle.ac_rounds.proofs.Lists.{all_in, in_read}
+use Rattle.ac_rounds.specs.Rounds.{ArePathsOf}
+use Rattle.ac_rounds.specs.Stopping.{StopsAt}
+use Rattle.ac_rounds.proofs.Lists.{all_in, if_err, in_read}
 use Rattle.ac_rounds.proofs.Making.{each_more}
 use Rattle.ac_rounds.proofs.begins.begins_of.Goals as goal
 
@@ -20,7 +24,7 @@ pub loop-path-preserved : goal.loop-path-preserved
 loop-path-preserved c =
     let known = c.args.known.now in
     let from = c.args.from in
-    let e = c.in_ok-push_begin.ensures in
+    let e = c.in_ok-push_begin.ensures.begins in
     let i = c.loop-path.path-index in
     let old = c.loop-path.begins in
     let h = c.loop-path.invariant in
@@ -36,3 +40,13 @@ returns-clause-count c = let h = c.loop-path.invariant.count in let l = c.loop-p
 pub returns-clause-each : goal.returns-clause-each
 returns-clause-each c =
     subst (λ (ps : List (List Entry)). AtEach (BeginsOf c.args.known.now c.args.from) ps c.loop-path.begins) (take_all c.loop-path.path-index c.args.paths.now c.loop-path-test.false) c.loop-path.invariant.each
+
+pub returns-in_err-push_begin-clause-stops : goal.returns-in_err-push_begin-clause-stops
+returns-in_err-push_begin-clause-stops c =
+    let known = c.args.known.now in
+    let from = c.args.from in
+    let path = c.path-item.result in
+    let stop = c.in_err-push_begin.field-0.0 in
+    let among = in_read c.args.paths.now c.loop-path.path-index path c.loop-path-test.true c.path-item.is in
+    if_err (λ s. (u : Unfolding) (t : Template) → ArePathsOf u t known from c.args.paths.now → StopsAt u.pair t known.keys.items s) c.from_residual.result stop c.from_residual.ensures.1
+    (λ u t h. c.in_err-push_begin.ensures.stops u t h.0 (subst (IsBroken u (claims_of known)) (sym c.as_slice.ensures) (all_in (IsBroken u (claims_of known)) c.args.paths.now path h.1 among)))

@@ -1,7 +1,12 @@
 use Rattle.std.proofs.Common.{◌≡◌, ◌∙◌, ◌-◌, ap, length, subst, suc, sym, true, arith, List, ℤ}
 use Rattle.ac_forms.specs.Rows.{Meets}
-use Rattle.ac_keys.specs.Keys.{claim_of}
+use Rattle.ac_setting.specs.Programs.{PairAt}
+use Rattle.ac_keys.specs.Keys.{claim_of, positions}
+use Rattle.ac_derived.specs.Hulls.{entries_of}
 use Rattle.ac_rounds.specs.Members.{GrowsAt}
+use Rattle.ac_rounds.proofs.Beginning.{right_at}
+use Rattle.ac_rounds.proofs.Lists.{in_get}
+use Rattle.ac_rounds.proofs.Stopping.{end_at_key, stops_meeting}
 use Rattle.ac_rounds.proofs.Taking.{end_wide, key_at, some_entries, taken_grown, taken_nothing}
 use Rattle.ac_rounds.proofs.rounds.take_member.Goals as goal
 
@@ -12,8 +17,8 @@ breaks-requires c =
     let k = key_at known c.args.at c.args.end.now c.index.result.now c.requires.key c.index.ensures in
     ap length c.as_slice-point.ensures ∙ end_wide r.0 c.args.template.now r.1 known c.args.path.now r.2 c.args.end.now c.requires.ends c.args.at c.index.result.now k.0 k.1
 
-pub returns-in-Ok-false : goal.returns-in-Ok-false
-returns-in-Ok-false c =
+pub returns-in-Ok-false-clause-takes : goal.returns-in-Ok-false-clause-takes
+returns-in-Ok-false-clause-takes c =
     λ u claims h.
     let known = c.args.known in
     let end = c.args.end.now in
@@ -40,8 +45,8 @@ with_member-requires-clause-width c =
     let k = key_at known c.args.at c.args.end.now x c.requires.key c.index.ensures in
     (x, k.0, ap length c.as_slice-point.ensures ∙ end_wide r.0 c.args.template.now r.1 known c.args.path.now r.2 c.args.end.now c.requires.ends c.args.at x k.0 k.1)
 
-pub returns-in-Ok-with_member : goal.returns-in-Ok-with_member
-returns-in-Ok-with_member c =
+pub returns-in-Ok-with_member-clause-takes : goal.returns-in-Ok-with_member-clause-takes
+returns-in-Ok-with_member-clause-takes c =
     λ u claims h.
     let t = c.args.template.now in
     let known = c.args.known in
@@ -52,5 +57,25 @@ returns-in-Ok-with_member c =
     let some = some_entries u t claims known c.args.begin.now c.args.path.now entries h c.requires.steps c.in-Ok.ensures in
     let long = c.len-place.ensures in
     let last : suc (c.len-place.result - 1) ≡ length entries = omega (arith, some, long) in
-    let grows = subst (λ (p : List ℤ). GrowsAt t known.keys.items c.args.at p (c.len-place.result - 1) c.in-Ok-with_member.keys.items) c.as_slice-point.ensures c.in-Ok-with_member.ensures in
-    taken_grown u t claims known (record { keys = c.in-Ok-with_member.keys; entries = entries }) c.args.begin.now c.args.path.now h c.requires.steps end c.requires.ends c.args.at x k.0 k.1 (c.len-place.result - 1) c.in-Ok.ensures last grows
+    let grows = subst (λ (p : List ℤ). GrowsAt t known.keys.items c.args.at p (c.len-place.result - 1) c.in-Ok-with_member.keys.items) c.as_slice-point.ensures c.in-Ok-with_member.ensures.grown in
+    let breaks = subst (λ (p : List ℤ). ¬ (Meets (claim_of x).rows p)) c.as_slice-point.ensures (c.in-Ok-true.ensures.1.0 c.in-Ok-true.field-0-test) in
+    taken_grown u t claims known (record { keys = c.in-Ok-with_member.keys; entries = entries }) c.args.begin.now c.args.path.now h c.requires.steps end c.requires.ends c.args.at x k.0 k.1 (c.len-place.result - 1) c.in-Ok.ensures last grows breaks
+
+pub returns-in-Err-clause-stops : goal.returns-in-Err-clause-stops
+returns-in-Err-clause-stops c =
+    let t = c.args.template.now in
+    let known = c.args.known in
+    let x = c.index.result.now in
+    let k = key_at known c.args.at c.args.end.now x c.requires.key c.index.ensures in
+    λ u claims h.
+    stops_meeting u.pair t (entries_of known.entries) known.keys.items x c.as_slice-point.result.now c.in-Err.stop (in_get known.keys.items c.args.at x k.0) (right_at u t known c.args.at x h.is_known k.0)
+    (ap length c.as_slice-point.ensures ∙ end_wide u t claims known c.args.path.now h c.args.end.now c.requires.ends c.args.at x k.0 k.1)
+    (subst (PairAt u.pair (positions x)) (sym c.as_slice-point.ensures) (end_at_key u claims c.args.path.now h.broken c.args.end.now c.requires.ends x k.1)) c.in-Err.ensures
+
+pub returns-in-Err-with_member-clause-stops : goal.returns-in-Err-with_member-clause-stops
+returns-in-Err-with_member-clause-stops c =
+    λ u claims h.
+    let known = c.args.known in
+    let x = c.index.result.now in
+    let k = key_at known c.args.at c.args.end.now x c.requires.key c.index.ensures in
+    c.in-Err-with_member.ensures.stops u.pair x k.0 (subst (PairAt u.pair (positions x)) (sym c.as_slice-point.ensures) (end_at_key u claims c.args.path.now h.broken c.args.end.now c.requires.ends x k.1))

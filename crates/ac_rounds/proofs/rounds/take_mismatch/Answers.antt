@@ -4,7 +4,7 @@ use Rattle.ac_rounds.specs.declared.rounds.Round.TheVariants.{Mismatch}
 use Rattle.ac_rounds.proofs.Taking.{taken_mismatch}
 use Rattle.ac_rounds.proofs.rounds.take_mismatch.Goals as goal
 
-pub returns-in-Ok : goal.returns-in-Ok
-returns-in-Ok c =
+pub returns-in-Ok-clause-takes : goal.returns-in-Ok-clause-takes
+returns-in-Ok-clause-takes c =
     λ u t claims h.
     subst (Takes u t claims c.args.known c.args.begin.now c.args.path.now) (ap Mismatch (sym c.in-Ok.ensures)) (taken_mismatch u t claims c.args.known c.args.begin.now c.args.path.now h c.requires.steps c.requires.free)

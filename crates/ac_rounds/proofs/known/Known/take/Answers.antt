@@ -1,11 +1,13 @@
-use Rattle.std.proofs.Common.{◌≡◌, ◌∙◌, ◌<◌, ◌≤◌, List, ap, arith, get_or, length, subst, sym}
+use Rattle.std.proofs.Common.{◌≡◌, ◌∙◌, ◌<◌, ◌≤◌, List, ap, arith, get_or, length, subst, sym, take}
 use Rattle.std.proofs.lemmas.List.{take_all}
 use Rattle.ac_widen.specs.declared.derivation.Entry.{Entry}
 use Rattle.ac_rounds.specs.Beginning.{AtEach, BeginsOf}
-use Rattle.ac_rounds.specs.Rounds.{IsRoundOf}
+use Rattle.ac_rounds.specs.Rounds.{ArePathsOf, IsRoundOf}
+use Rattle.ac_rounds.specs.Stopping.{StopsBehind}
 use Rattle.ac_rounds.specs.declared.begins.Begin.{Begin}
-use Rattle.ac_rounds.proofs.Lists.{get_is}
+use Rattle.ac_rounds.proofs.Lists.{get_is, if_err}
 use Rattle.ac_rounds.proofs.Onward.{may_take, start_path, take_one}
+use Rattle.ac_rounds.proofs.Stopping.{begin_behind, next_behind}
 use Rattle.ac_rounds.proofs.known.Known.take.Goals as goal
 
 pub take_next-requires-clause-path : goal.take_next-requires-clause-path
@@ -45,13 +47,59 @@ loop-at-preserved c =
     let is : path ≡ get_or paths at path = subst (λ (p : List Entry). p ≡ get_or paths at p) (sym c.as_slice.ensures) is_read in
     let is_begin : begin ≡ get_or begins at begin = c.index-begins-at.is ∙ ap (λ (bs : List Begin). get_or bs at begin) c.as_slice-begins.ensures in
     let each = subst (λ (ps : List (List Entry)). AtEach (BeginsOf start from) ps begins) c.as_slice-paths.ensures c.in_ok-begins.ensures.each in
-    take_one u t start from paths begins at path begin c.loop-at.round c.in_ok-round.round h each l is (get_is begins at begin lb is_begin) (λ before r p b. c.in_ok-round.ensures u start before r p b) (c.loop-at.invariant u h)
+    take_one u t start from paths begins at path begin c.loop-at.round c.in_ok-round.round h each l is (get_is begins at begin lb is_begin) (λ before r p b. c.in_ok-round.ensures.takes u start before r p b) (c.loop-at.invariant u h)
 
-pub returns : goal.returns
-returns c =
+pub returns-clause-takes : goal.returns-clause-takes
+returns-clause-takes c =
     λ u h.
     let paths = c.args.paths in
     let many = ap length c.as_slice-paths.ensures in
     let test = c.loop-at-test.false in
     let l : length paths ≤ c.loop-at.at = omega (arith, many, test) in
     subst (λ (ps : List (List Entry)). IsRoundOf u c.args.template.now c.args.self ps c.loop-at.round) (take_all c.loop-at.at paths l) (c.loop-at.invariant u h)
+
+pub take_next-requires-clause-steps : goal.take_next-requires-clause-steps
+take_next-requires-clause-steps c =
+    let paths = c.args.paths in
+    let begins = c.in_ok-begins.begins in
+    let at = c.loop-at.at in
+    let path = c.as_slice.result.now in
+    let read = c.index-paths-at.result in
+    let begin = c.index-begins-at.result in
+    let many = ap length c.as_slice-paths.ensures in
+    let test = c.loop-at-test.true in
+    let count = c.in_ok-begins.ensures.count in
+    let l : at < length paths = omega (arith, many, test) in
+    let lb : at < length begins = omega (arith, count, test) in
+    let is_read : read ≡ get_or paths at read = c.index-paths-at.is ∙ ap (λ (ps : List (List Entry)). get_or ps at read) c.as_slice-paths.ensures in
+    let is : path ≡ get_or paths at path = subst (λ (p : List Entry). p ≡ get_or paths at p) (sym c.as_slice.ensures) is_read in
+    let is_begin : begin ≡ get_or begins at begin = c.index-begins-at.is ∙ ap (λ (bs : List Begin). get_or bs at begin) c.as_slice-begins.ensures in
+    let each = subst (λ (ps : List (List Entry)). AtEach (BeginsOf c.args.self c.args.from) ps begins) c.as_slice-paths.ensures c.in_ok-begins.ensures.each in
+    (each at path begin (get_is paths at path l is) (get_is begins at begin lb is_begin)).0
+
+pub returns-in_err-begins-clause-stops : goal.returns-in_err-begins-clause-stops
+returns-in_err-begins-clause-stops c =
+    let t = c.args.template.now in
+    let start = c.args.self in
+    let from = c.args.from in
+    let stop = c.in_err-begins.field-0.0 in
+    if_err (StopsBehind t start from c.args.paths) c.from_residual.result stop c.from_residual.ensures.1
+    (begin_behind t start from c.args.paths stop (λ u s h. c.in_err-begins.ensures.stops u s (subst (ArePathsOf u s start from) (sym c.as_slice-paths.ensures) h)))
+
+pub returns-in_err-round-clause-stops : goal.returns-in_err-round-clause-stops
+returns-in_err-round-clause-stops c =
+    let t = c.args.template.now in
+    let start = c.args.self in
+    let from = c.args.from in
+    let paths = c.args.paths in
+    let at = c.loop-at.at in
+    let path = c.as_slice.result.now in
+    let read = c.index-paths-at.result in
+    let stop = c.in_err-round.field-0.0 in
+    let many = ap length c.as_slice-paths.ensures in
+    let test = c.loop-at-test.true in
+    let l : at < length paths = omega (arith, many, test) in
+    let is_read : read ≡ get_or paths at read = c.index-paths-at.is ∙ ap (λ (ps : List (List Entry)). get_or ps at read) c.as_slice-paths.ensures in
+    let is : path ≡ get_or paths at path = subst (λ (p : List Entry). p ≡ get_or paths at p) (sym c.as_slice.ensures) is_read in
+    if_err (StopsBehind t start from paths) c.from_residual-in_err-round.result stop c.from_residual-in_err-round.ensures.1
+    (next_behind t start from paths (take at paths) at path c.loop-at.round stop c.loop-at.invariant (get_is paths at path l is) c.in_err-round.ensures.stops)
