@@ -36,9 +36,13 @@ recurring s w h is = widenings_recur s.pair.now s.setting.now.left_flow.now s.se
 pub lawful : (s : Search) (w : Widening) → IsSearch s → IsWideningOf s.pair.now w → IsLawful (searched s.pair.now s.array w)
 lawful s w h is = pairs_are_a_setting s.pair.now (s.array ∷ []) w.recurrent (λ key. template_rows (point_width s.pair.now key) w.thresholds w.moduli) (recurring s w h is)
 
--- the template rows with which it widens are those of the template
+-- the thresholds and moduli with which it widens are those of the template
+pub numbers_are : (s : Search) (w : Widening) → IsSearch s → IsWideningOf s.pair.now w → (w.thresholds ≡ s.template.now.thresholds) × (w.moduli ≡ s.template.now.moduli)
+numbers_are s w h is = (
+  first_is_one 64 (λ x. IsAmong x (threshold_candidates s.pair.now)) w.thresholds s.template.now.thresholds is.thresholds_are h.numbers.thresholds_are,
+  first_is_one 8 (λ m. IsAmong m (modulus_candidates s.pair.now)) w.moduli s.template.now.moduli is.moduli_are h.numbers.moduli_are,
+)
+
+-- and the template rows
 pub template_is : (s : Search) (w : Widening) → IsSearch s → IsWideningOf s.pair.now w → (key : Position × Position) → IsTemplateAt (searched s.pair.now s.array w) key s.template.now
-template_is s w h is key =
-    let ts : w.thresholds ≡ s.template.now.thresholds = first_is_one 64 (λ x. IsAmong x (threshold_candidates s.pair.now)) w.thresholds s.template.now.thresholds is.thresholds_are h.numbers.thresholds_are in
-    let ms : w.moduli ≡ s.template.now.moduli = first_is_one 8 (λ m. IsAmong m (modulus_candidates s.pair.now)) w.moduli s.template.now.moduli is.moduli_are h.numbers.moduli_are in
-    λ i. template_rows (point_width s.pair.now key) (ts i) (ms i)
+template_is s w h is key = let e = numbers_are s w h is in λ i. template_rows (point_width s.pair.now key) (e.0 i) (e.1 i)

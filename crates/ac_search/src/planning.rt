@@ -64,7 +64,7 @@ fn add(
     requires claims { HaveClaims search.now.stops.now claims.now }
     requires start { AreRowsOver (point_width search.now.pair.now (key_of start)) start.rows }
     ensures added { IfOk result (IsAdded search.now order.now claims.now start part) }
-    ensures causes { IfErr result (EndsEarly search.now.setting.now.budget) }
+    ensures causes { IfErr result (EndsEarly search.now order.now) }
 {
     let number = sum(search.first, part.claims.len())?;
     let base = sum(search.first, 1)?;
@@ -85,7 +85,7 @@ fn begin(
     requires search { IsSearch search.now }
     requires claims { HaveClaims search.now.stops.now claims.now }
     ensures added { IfOk result (IsFirstAdded search.now order.now claims.now) }
-    ensures causes { IfErr result (EndsEarly search.now.setting.now.budget) }
+    ensures causes { IfErr result (EndsEarly search.now order.now) }
 {
     let output = output_claim(alloc, &search.setting.programs, search.array)?;
     add(alloc, search, order, claims, no_part(alloc), output)
@@ -107,7 +107,7 @@ fn part_to(
     requires claims { AreClaimsAt known.now.keys.items numbers.now claims.now }
     requires count { count ≤ length numbers.now }
     ensures planned { IfOk result (IsPlannedTo search.now order.now known.now claims.now count) }
-    ensures causes { IfErr result (EndsEarly search.now.setting.now.budget) }
+    ensures causes { IfErr result (EndsEarly search.now order.now) }
 {
     let mut part = match begin(alloc, search, order, claims)? {
         Added::Part(part) => part,
@@ -144,7 +144,7 @@ fn part_with(
     requires claims { AreClaimsAt known.now.keys.items numbers.now claims.now }
     requires count { count ≤ length numbers.now }
     ensures planned { IfOk result (IsPlanned search.now order.now known.now) }
-    ensures causes { IfErr result (EndsEarly search.now.setting.now.budget) }
+    ensures causes { IfErr result (EndsEarly search.now order.now) }
 {
     match part_to(alloc, search, order, known, numbers, claims, count)? {
         Planning::Part(part) => {
@@ -171,7 +171,7 @@ pub(crate) fn plan(
     requires search { IsSearch search.now }
     requires known { IsKnownUnder search.now order.now known.now }
     ensures planned { IfOk result (IsPlanned search.now order.now known.now) }
-    ensures causes { IfErr result (EndsEarly search.now.setting.now.budget) }
+    ensures causes { IfErr result (EndsEarly search.now order.now) }
 {
     let keys = known.keys.as_slice();
     let ranks = ranked(alloc, keys)?;

@@ -30,7 +30,7 @@ pub(crate) fn take(
     requires paths { AreBrokenFrom search.now order.now known from paths }
     ensures known { IfOk result (IfKnown (IsKnownUnder search.now order.now)) }
     ensures mismatch { IfOk result (IfMismatch (ShowMismatch search.now order.now)) }
-    ensures causes { IfErr result (EndsEarly search.now.setting.now.budget) }
+    ensures causes { IfErr result (EndsEarly search.now order.now) }
 {
     match known.take(alloc, search.template, from, paths) {
         Ok(round) => Ok(round),
@@ -62,7 +62,7 @@ pub(crate) fn unfold(
     requires from { IfSome from (λ at. at < length known.keys.items) }
     ensures known { IfOk result (IfKnown (IsKnownUnder search.now order.now)) }
     ensures mismatch { IfOk result (IfMismatch (ShowMismatch search.now order.now)) }
-    ensures causes { IfErr result (EndsEarly search.now.setting.now.budget) }
+    ensures causes { IfErr result (EndsEarly search.now order.now) }
 {
     let output = output_claim(alloc, &search.setting.programs, search.array)?;
     let claims = known.claims(alloc)?;

@@ -57,7 +57,7 @@ fn turn_from(
     requires known { IsKnownUnder search.now order.now state.known }
     requires from { IfSome from (λ at. at < length state.known.keys.items) }
     ensures turn { IfOk result (IsTurn search.now order.now) }
-    ensures causes { IfErr result (EndsEarly search.now.setting.now.budget) }
+    ensures causes { IfErr result (EndsEarly search.now order.now) }
 {
     let State { known, marks } = state;
     let round = unfold(alloc, search, order, known, from)?;
@@ -83,7 +83,7 @@ fn turn_plans(
     requires search { IsSearch search.now }
     requires known { IsKnownUnder search.now order.now state.known }
     ensures turn { IfOk result (IsTurn search.now order.now) }
-    ensures causes { IfErr result (EndsEarly search.now.setting.now.budget) }
+    ensures causes { IfErr result (EndsEarly search.now order.now) }
 {
     let State { known, marks } = state;
     match plan(alloc, search, order, &known)? {
@@ -105,7 +105,7 @@ fn take_turn(
     requires search { IsSearch search.now }
     requires known { IsKnownUnder search.now order.now state.known }
     ensures turn { IfOk result (IsTurn search.now order.now) }
-    ensures causes { IfErr result (EndsEarly search.now.setting.now.budget) }
+    ensures causes { IfErr result (EndsEarly search.now order.now) }
 {
     if !state.marks.output {
         return turn_from(alloc, search, order, state, None);
@@ -120,12 +120,12 @@ fn take_turn(
 /// of a proof, behind as many claims as the search says, which stops at the recurrence pairs under the order; or with a derivation of a
 /// mismatch under the order, where each of the given pairs is a recurrence pair.
 ///
-/// It ends early where a number of a question or of a hull leaves `i128`, a question costs more than the budget, or too many ends are
-/// reached; and for want of memory.
+/// It ends early where a number of a question leaves `i128`, a question costs more than the budget, or too many ends are reached; with
+/// the members of a key of what is known under the order and a point there, where a number leaves `i128`; and for want of memory.
 pub fn walk(alloc: Global, search: &Search<'_>, order: &[(Site, Order)]) -> Result<Ended, Stop>
     requires { IsSearch search.now }
     ensures ends { IfOk result (IsEnd search.now order.now) }
-    ensures causes { IfErr result (EndsEarly search.now.setting.now.budget) }
+    ensures causes { IfErr result (EndsEarly search.now order.now) }
 {
     let known = Known::new(alloc, &search.setting.programs, search.stops)?;
     let marks = first_marks(alloc, known.keys.as_slice())?;

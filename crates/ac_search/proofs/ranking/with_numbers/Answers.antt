@@ -16,7 +16,7 @@ loop-at-preserved c =
           one_numbered keys c.args.bare c.args.numbers.items c.loop-at.at c.loop-at.made.items c.if-is_empty-bare.made.items c.loop-at-test.true c.loop-at.invariant more
       | else-is_empty-bare w ↦
           let same : c.if-is_empty-bare.made.items ≡ c.loop-at.made.items = (let a = w.made-is in cc) in
-          next_numbered keys c.args.bare c.args.numbers.items c.loop-at.at c.loop-at.made.items c.if-is_empty-bare.made.items key same at (not_bare c.is_empty.result c.args.bare key c.is_empty.ensures (apart c.is_empty.result c.args.bare w.if-is_empty-bare.false)) c.loop-at.invariant
+          next_numbered keys c.args.bare c.args.numbers.items c.loop-at.at c.loop-at.made.items c.if-is_empty-bare.made.items key same at (not_bare c.is_empty.result c.args.bare key c.is_empty.ensures.hull (apart c.is_empty.result c.args.bare w.if-is_empty-bare.false)) c.loop-at.invariant
     ]
 
 pub returns-clause-whole : goal.returns-clause-whole

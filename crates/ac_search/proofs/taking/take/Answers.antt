@@ -1,5 +1,8 @@
+use Rattle.std.proofs.Common.{subst, sym}
 use Rattle.ac_search.proofs.Rounds.{known_after, mismatch_after}
+use Rattle.ac_search.proofs.Stopped.{hull_ends}
 use Rattle.ac_search.proofs.Unfolded.{are_paths, plain_unfolding}
+use Rattle.ac_search.specs.Stops.{EndsEarly}
 use Rattle.ac_search.proofs.taking.take.Goals as goal
 
 pub take-requires-clause-paths : goal.take-requires-clause-paths
@@ -9,8 +12,13 @@ take-requires-clause-paths c =
 
 pub returns-in-Ok-clause-known : goal.returns-in-Ok-clause-known
 returns-in-Ok-clause-known c =
-    known_after c.args.search.now c.args.order.now c.args.known c.args.from c.args.paths c.in-Ok.round c.requires.search c.requires.known c.requires.paths c.in-Ok.ensures
+    known_after c.args.search.now c.args.order.now c.args.known c.args.from c.args.paths c.in-Ok.round c.requires.search c.requires.known c.requires.paths c.in-Ok.ensures.takes
 
 pub returns-in-Ok-clause-mismatch : goal.returns-in-Ok-clause-mismatch
 returns-in-Ok-clause-mismatch c =
-    mismatch_after c.args.search.now c.args.order.now c.args.known c.args.from c.args.paths c.in-Ok.round c.requires.search c.requires.known c.requires.paths c.in-Ok.ensures
+    mismatch_after c.args.search.now c.args.order.now c.args.known c.args.from c.args.paths c.in-Ok.round c.requires.search c.requires.known c.requires.paths c.in-Ok.ensures.takes
+
+pub returns-in-Err-clause-causes : goal.returns-in-Err-clause-causes
+returns-in-Err-clause-causes c =
+    subst (EndsEarly c.args.search.now c.args.order.now) (sym c.of_hull.ensures)
+    (hull_ends c.args.search.now c.args.order.now c.args.known c.args.from c.args.paths c.in-Err.stop c.requires.search c.requires.known c.requires.paths c.in-Err.ensures.stops)
