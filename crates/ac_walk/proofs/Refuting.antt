@@ -1,9 +1,10 @@
 -- Orders that a search refutes, and what it then says of the output.
-use Rattle.std.proofs.Common.{◌≡◌, ℕ, List, [], ◌∷◌, ◌++◌, Bool, subst}
+use Rattle.std.proofs.Common.{◌≡◌, ℕ, ℤ, List, [], ◌∷◌, ◌++◌, Bool, subst, sym}
 use Rattle.ac_syntax.specs.declared.tree.Order.{Order}
 use Rattle.ac_syntax.specs.declared.tree.Pair.{Pair}
 use Rattle.ac_syntax.specs.declared.tree.Position.{Position}
 use Rattle.ac_syntax.specs.declared.tree.Site.{Site}
+use Rattle.ac_forms.specs.Members.{IsAmong}
 use Rattle.ac_forms.specs.declared.row.Row.{Row}
 use Rattle.ac_hull.specs.Templates.{template_rows}
 use Rattle.ac_setting.specs.Programs.{point_width, setting}
@@ -15,12 +16,18 @@ use Rattle.ac_match.specs.declared.orders.Refuted.{Refuted}
 use Rattle.ac_refuted.specs.Searches.{IsUnmatched}
 use Rattle.ac_report.specs.declared.types.Cause.{Cause}
 use Rattle.ac_report.specs.declared.types.Cause.TheVariants.{Unmatched, OverflowQuestion, OverflowHull, SpentQuestion, SpentPieces, SpentPaths, SpentOrders}
+use Rattle.ac_keys.specs.Keys.{positions}
+use Rattle.ac_keys.specs.Known.{IsKey}
+use Rattle.ac_keys.specs.Stops.{AreTooLarge}
+use Rattle.ac_keys.proofs.Standing.{key_in}
+use Rattle.ac_rounds.specs.Known.{IsWide, pairs_of}
 use Rattle.ac_rounds.specs.Statements.{AllRefuted}
+use Rattle.ac_rounds.proofs.Lists.{among_map, each_in}
 use Rattle.ac_rounds.proofs.Orders.{leaves_none, refutes_part}
 use Rattle.ac_search.specs.Searches.{AreTaken, IsFound, IsSearch, ShowMismatch}
-use Rattle.ac_search.specs.Stops.{StopsSearch}
+use Rattle.ac_search.specs.Stops.{AreTooLargeUnder, StopsSearch}
 use Rattle.ac_search.specs.declared.types.Search.{Search}
-use Rattle.ac_search.proofs.Programs.{lawful}
+use Rattle.ac_search.proofs.Programs.{lawful, numbers_are, template_is}
 use Rattle.ac_searched.specs.Searched.{Widening, IsWideningOf, searched}
 use Rattle.ac_stopping.specs.Parts.{order_of}
 use Rattle.ac_widen.specs.Refutations.{IsPartOf, IsRefuted}
@@ -28,7 +35,7 @@ use Rattle.ac_widen.specs.declared.derivation.Derivation.{Derivation}
 use Rattle.ac_widen.specs.declared.derivation.Entry.{Entry}
 use Rattle.ac_walk.specs.Causes.{EndsSearch}
 use Rattle.ac_walk.specs.Deciding.{AreShown, GoesNoFurther, IsDecision, IsDifference, IsKept, IsOutputSearch, IsShown}
-use Rattle.ac_walk.specs.Verdicts.{AreRefutedOrders, IsCause}
+use Rattle.ac_walk.specs.Verdicts.{AreRefutedOrders, AreTooLargePoints, IsCause}
 use Rattle.ac_walk.specs.declared.deciding.Decision.{Decision}
 use Rattle.ac_walk.specs.declared.deciding.Decision.TheVariants.{Stands, Different, Unknown}
 
@@ -85,23 +92,43 @@ pub spent_decides : (s : Search) (number : ℕ) (o : OrdersOf) → IsOutputSearc
 spent_decides s number o h shown spent = record { kept = tt; ends = tt; cause = λ near. (are_refuted_orders s number o.refuted h shown near, spent.0.1) }
 
 -- the search under an order ends early
-early_cause : (s : Search) (budget : ℕ) (why : Cause) → StopsSearch budget why → IsCause s.pair.now s.array why
-early_cause s budget (Unmatched refuted) h = absurd h
-early_cause s budget (OverflowQuestion question) h = tt
-early_cause s budget (OverflowHull members) h = tt
-early_cause s budget (SpentQuestion question cost) h = tt
-early_cause s budget (SpentPieces position kept) h = tt
-early_cause s budget (SpentPaths paths) h = tt
-early_cause s budget (SpentOrders refuted) h = absurd h
+are_too_large : (s : Search) (number : ℕ) (order : List (Site × Order)) (points : List (List ℤ)) → IsOutputSearch s number → GoesNoFurther s → AreTooLargeUnder s order points → AreTooLargePoints s.pair.now s.array points
+are_too_large s number order points h near (known, under, key, among, large) =
+    let w = h.widening.0 in
+    let is = h.widening.1 in
+    let ns = numbers_are s w h.search is in
+    let at : IsAmong (positions key) (pairs_of known) = among_map positions known.keys.items key among in
+    record {
+      widening = w;
+      is_widening = is;
+      order = order_of order;
+      entries = known.entries;
+      derived = under.derived w is (near w is);
+      key = key;
+      right =
+          key_in (searched s.pair.now s.array w) s.template.now (entries_of known.entries) key (each_in (IsKey s.template.now (entries_of known.entries)) known.keys.items key under.right.keys among)
+          (each_in (IsWide s.pair.now) known.keys.items key under.right.widths among) (template_is s w h.search is (positions key));
+      recurs = near w is (positions key) ((under.pairs (positions key)).0 at);
+      large = subst (λ (ts : List ℤ). AreTooLarge s.pair.now ts w.moduli key points) (sym ns.0) (subst (λ (ms : List ℤ). AreTooLarge s.pair.now s.template.now.thresholds ms key points) (sym ns.1) large);
+    }
 
-early_ends : (budget : ℕ) (why : Cause) → StopsSearch budget why → EndsSearch budget why
-early_ends budget (Unmatched refuted) h = absurd h
-early_ends budget (OverflowQuestion question) h = tt
-early_ends budget (OverflowHull members) h = tt
-early_ends budget (SpentQuestion question cost) h = h
-early_ends budget (SpentPieces position kept) h = absurd h
-early_ends budget (SpentPaths paths) h = tt
-early_ends budget (SpentOrders refuted) h = absurd h
+early_cause : (s : Search) (number : ℕ) (order : List (Site × Order)) (why : Cause) → IsOutputSearch s number → GoesNoFurther s → StopsSearch s order why → IsCause s.pair.now s.array why
+early_cause s number order (Unmatched refuted) is near h = absurd h
+early_cause s number order (OverflowQuestion question) is near h = tt
+early_cause s number order (OverflowHull points) is near h = are_too_large s number order points is near h
+early_cause s number order (SpentQuestion question cost) is near h = tt
+early_cause s number order (SpentPieces position kept) is near h = tt
+early_cause s number order (SpentPaths paths) is near h = tt
+early_cause s number order (SpentOrders refuted) is near h = absurd h
 
-pub early_decides : (s : Search) (number : ℕ) (why : Cause) → StopsSearch s.setting.now.budget why → IsDecision s number (Unknown why)
-early_decides s number why h = record { kept = tt; ends = early_ends s.setting.now.budget why h; cause = λ near. early_cause s s.setting.now.budget why h }
+early_ends : (s : Search) (order : List (Site × Order)) (why : Cause) → StopsSearch s order why → EndsSearch s.setting.now.budget why
+early_ends s order (Unmatched refuted) h = absurd h
+early_ends s order (OverflowQuestion question) h = tt
+early_ends s order (OverflowHull members) h = tt
+early_ends s order (SpentQuestion question cost) h = h
+early_ends s order (SpentPieces position kept) h = absurd h
+early_ends s order (SpentPaths paths) h = tt
+early_ends s order (SpentOrders refuted) h = absurd h
+
+pub early_decides : (s : Search) (number : ℕ) (order : List (Site × Order)) (why : Cause) → IsOutputSearch s number → StopsSearch s order why → IsDecision s number (Unknown why)
+early_decides s number order why is h = record { kept = tt; ends = early_ends s order why h; cause = λ near. early_cause s number order why is near h }

@@ -1,5 +1,5 @@
 -- What the search says of a pair, output by output, and the proof that it gives.
-use Rattle.std.specs.Prelude.{ℕ, ◌≤◌, ℤ, List, [], ◌∷◌, ◌++◌, length, map, Some}
+use Rattle.std.specs.Prelude.{◌≡◌, ℕ, ◌≤◌, ℤ, List, [], ◌∷◌, ◌++◌, length, map, Some, true}
 use Rattle.ac_syntax.specs.Outputs.{IsValuation, SameOutput}
 use Rattle.ac_syntax.specs.declared.tree.Pair.{Pair}
 use Rattle.ac_instance.specs.Answers.{compared}
@@ -14,6 +14,14 @@ use Rattle.ac_matched.specs.Matches.{IsMatched}
 use Rattle.ac_refuted.specs.Searches.{IsUnmatched}
 use Rattle.ac_rounds.specs.Statements.{AllRefuted}
 use Rattle.ac_searched.specs.Searched.{Widening, IsWideningOf, searched}
+use Rattle.ac_derived.specs.Hulls.{entries_of}
+use Rattle.ac_keys.specs.Keys.{KeyOf, positions}
+use Rattle.ac_keys.specs.Known.{IsKeyIn}
+use Rattle.ac_keys.specs.Stops.{AreTooLarge}
+use Rattle.ac_syntax.specs.declared.tree.Order.{Order}
+use Rattle.ac_syntax.specs.declared.tree.Position.{Position}
+use Rattle.ac_widen.specs.Derivations.{IsDerivation}
+use Rattle.ac_widen.specs.declared.derivation.Entry.{Entry}
 use Rattle.ac_report.specs.declared.types.Cause.{Cause}
 use Rattle.ac_report.specs.declared.types.Cause.TheVariants.{Unmatched, OverflowQuestion, OverflowHull, SpentQuestion, SpentPieces, SpentPaths, SpentOrders}
 use Rattle.ac_report.specs.declared.types.Verdict.{Verdict}
@@ -30,12 +38,25 @@ pub record AreRefutedOrders (pair : Pair) (output : ℕ) (list : List Refuted) :
   pub widening : (w : Widening) × IsWideningOf pair w
   pub refuted : (w : Widening) → IsWideningOf pair w → AllRefuted (searched pair output w) list
 
--- unmatched: in the setting of the search on the output each of the orders is refuted, and each order has a mismatch; spent: each of
--- the orders is refuted there, and they are many
+-- in the setting of the search on the output, the points are members that a derivation under some order has at a recurrence pair, or those of
+-- their hull, and a point of that pair at which a number is too large
+pub record AreTooLargePoints (pair : Pair) (output : ℕ) (points : List (List ℤ)) : Type 0 where
+  pub widening : Widening
+  pub is_widening : IsWideningOf pair widening
+  pub order : Position × Position → Order
+  pub entries : List Entry
+  pub derived : IsDerivation (searched pair output widening) order (entries_of entries)
+  pub key : KeyOf
+  pub right : IsKeyIn (searched pair output widening) (entries_of entries) key
+  pub recurs : widening.recurrent (positions key) ≡ true
+  pub large : AreTooLarge pair widening.thresholds widening.moduli key points
+
+-- unmatched: in the setting of the search on the output each of the orders is refuted, and each order has a mismatch; overflow of a hull: a
+-- number is too large at its points; spent: each of the orders is refuted there, and they are many
 abbrev pub IsCause : Pair → ℕ → Cause → Type 0
 IsCause pair output (Unmatched refuted) = IsUnmatched pair output refuted
 IsCause pair output (OverflowQuestion question) = Unit {0}
-IsCause pair output (OverflowHull members) = Unit {0}
+IsCause pair output (OverflowHull points) = AreTooLargePoints pair output points
 IsCause pair output (SpentQuestion question cost) = Unit {0}
 IsCause pair output (SpentPieces position kept) = Unit {0}
 IsCause pair output (SpentPaths paths) = Unit {0}

@@ -139,7 +139,8 @@ fn without_point(
 /// executed has as many arguments as its symbol says.
 ///
 /// An output is unknown as `Unmatched` only where in the setting of the search on it each of the named partial orders is refuted by its
-/// derivation, and each order has a mismatch; as `SpentOrders` only with 1,024 or more such orders. A question that the search says to be
+/// derivation, and each order has a mismatch; as `SpentOrders` only with 1,024 or more such orders. As `OverflowHull` it is unknown only
+/// with members that a derivation there has at a recurrence pair and a point of that pair, where a number leaves `i128`. A question that the search says to be
 /// spent is too costly for the economical elimination, and for the full one, of which the cost is the first above the budget.
 ///
 /// Where the question of the context is too wide or costs more than the budget, each output is unknown for that cause; then where the

@@ -1,0 +1,14 @@
+use Rattle.std.proofs.Common.{subst, sym}
+use Rattle.ac_report.specs.declared.types.Cause.{Cause}
+use Rattle.ac_search.specs.Stops.{EndsEarly}
+use Rattle.ac_walk.specs.Deciding.{IsDecision}
+use Rattle.ac_walk.specs.declared.deciding.Decision.TheVariants.{Unknown}
+use Rattle.ac_walk.proofs.Refuting.{early_decides}
+use Rattle.ac_walk.proofs.deciding.try_order.Goals as goal
+
+pub returns-in-Err-Early-clause-further : goal.returns-in-Err-Early-clause-further
+returns-in-Err-Early-clause-further c =
+    let s = c.args.search.now in
+    let order = c.args.order.now in
+    let cause = c.in-Err-Early.cause in
+    subst (λ (why : Cause). IsDecision s c.args.number (Unknown why)) (sym c.in-Err-Early.cause-is) (early_decides s c.args.number order cause c.requires.search (subst (EndsEarly s order) c.in-Err-Early.field-0-is c.in-Err-Early.ensures.causes))
