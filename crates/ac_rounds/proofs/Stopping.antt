@@ -55,15 +55,18 @@ stops_combining pair t k p (Memory want) there h = tt
 
 pub stops_meeting : (pair : Pair) (t : Template) (es : List (EntryOf (Position × Position))) (keys : List KeyOf) (k : KeyOf) (p : List ℤ) (stop : HullStop) → IsAmong k keys → IsKey t es k → length p ≡ k.hull.columns → PairAt pair (positions k) p
     → HandsBack (k.hull.members ++ p ∷ []) stop (¬ CanMeet k p) → StopsAt pair t keys stop
-stops_meeting pair t es keys k p (Overflow ps) among right width there h =
-    (k, among, record {
-      members = k.hull.members;
-      are = inr refl;
-      point = p;
-      there = there;
-      points_are = h.1;
-      large = λ can. h.0 (can_test (template_rows (length p) t.thresholds t.moduli) k.rows p (template_among t es k (length p) right width) can.tests, λ _. can.combines);
-    })
+stops_meeting pair t es keys k p (Overflow ps) among right width there h = (
+  k,
+  among,
+  record {
+    members = k.hull.members;
+    are = inr refl;
+    point = p;
+    there = there;
+    points_are = h.1;
+    large = λ can. h.0 (can_test (template_rows (length p) t.thresholds t.moduli) k.rows p (template_among t es k (length p) right width) can.tests, λ _. can.combines);
+  },
+)
 stops_meeting pair t es keys k p (Memory want) among right width there h = tt
 
 pub stops_growing : (pair : Pair) (t : Template) (keys : List KeyOf) (k : KeyOf) (p : List ℤ) (stop : HullStop) → IsAmong k keys → length p ≡ k.hull.columns → PairAt pair (positions k) p → IsTooLarge k p stop → StopsAt pair t keys stop
