@@ -20,15 +20,14 @@ use Rattle.ac_widen.specs.declared.derivation.Entry.{Entry}
 use Rattle.ac_widen.proofs.Walking.{left_among}
 use Rattle.ac_leading.specs.Broken.{IsBroken}
 use Rattle.ac_leading.specs.Ends.{entry_at, steps_behind}
-use Rattle.ac_leading.specs.Leading.{Unfolding, params_of, point_of, positions_of, seats_of}
+use Rattle.ac_leading.specs.Leading.{Unfolding, params_of, point_of, positions_of}
 use Rattle.ac_keys.specs.Keys.{KeyOf, claim_of, positions}
 use Rattle.ac_keys.specs.Known.{CanMeet, IsKey, IsTooLarge, template_at}
 use Rattle.ac_keys.specs.declared.template.Template.{Template}
 use Rattle.ac_rounds.specs.Ends.{IsEnd, key_of}
-use Rattle.ac_rounds.specs.Known.{IsKnown, claims_of}
+use Rattle.ac_rounds.specs.Known.{claims_of}
 use Rattle.ac_rounds.specs.Rounds.{ArePathsOf, IsRoundOf, StartsFrom}
 use Rattle.ac_rounds.specs.Stopping.{StopsAt, StopsBehind, StopsNext}
-use Rattle.ac_rounds.specs.Taking.{IsPathFor}
 use Rattle.ac_rounds.specs.declared.known.Known.{Known}
 use Rattle.ac_rounds.specs.declared.rounds.Round.{Round}
 use Rattle.ac_rounds.specs.declared.rounds.Round.TheVariants.{Grown, Mismatch, Nothing}

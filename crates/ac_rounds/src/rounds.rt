@@ -89,10 +89,9 @@ fn take_member(
     ensures stops { IfErr result (λ stop. (u : Unfolding) (claims : List Claim) → IsPathFor u template.now claims known path.now → StopsAt u.pair template.now known.keys.items stop) }
 {
     let point = end.point.as_slice();
-    match known.keys[at].breaks(alloc, point) {
-        Ok(true) => {}
-        Ok(false) => return Ok(Round::Nothing(known)),
-        Err(stop) => return Err(stop),
+    let breaks = known.keys[at].breaks(alloc, point)?;
+    if !breaks {
+        return Ok(Round::Nothing(known));
     }
     let Known { keys, entries } = known;
     let entries = match enter(alloc, entries, begin, path) {

@@ -1,7 +1,6 @@
 //! Why the search on an output ends early.
 ghost use Rattle.std.specs.Prelude.{◌≡◌};
-ghost use Rattle.ac_search.specs.Stops.{EndsEarly, of_hull, of_unfolding};
-ghost use Rattle.ac_unfold.specs.Causes.{StopsAt};
+ghost use Rattle.ac_search.specs.Stops.{of_hull, of_unfolding};
 
 use ac_hull::HullStop;
 use ac_report::Cause;

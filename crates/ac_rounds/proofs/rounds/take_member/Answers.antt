@@ -5,7 +5,7 @@ use Rattle.ac_keys.specs.Keys.{claim_of, positions}
 use Rattle.ac_derived.specs.Hulls.{entries_of}
 use Rattle.ac_rounds.specs.Members.{GrowsAt}
 use Rattle.ac_rounds.proofs.Beginning.{right_at}
-use Rattle.ac_rounds.proofs.Lists.{in_get}
+use Rattle.ac_rounds.proofs.Lists.{if_err, in_get}
 use Rattle.ac_rounds.proofs.Stopping.{end_at_key, stops_meeting}
 use Rattle.ac_rounds.proofs.Taking.{end_wide, key_at, some_entries, taken_grown, taken_nothing}
 use Rattle.ac_rounds.proofs.rounds.take_member.Goals as goal
@@ -17,8 +17,8 @@ breaks-requires c =
     let k = key_at known c.args.at c.args.end.now c.index.result.now c.requires.key c.index.ensures in
     ap length c.as_slice-point.ensures ∙ end_wide r.0 c.args.template.now r.1 known c.args.path.now r.2 c.args.end.now c.requires.ends c.args.at c.index.result.now k.0 k.1
 
-pub returns-in-Ok-false-clause-takes : goal.returns-in-Ok-false-clause-takes
-returns-in-Ok-false-clause-takes c =
+pub returns-then-not-breaks-clause-takes : goal.returns-then-not-breaks-clause-takes
+returns-then-not-breaks-clause-takes c =
     λ u claims h.
     let known = c.args.known in
     let end = c.args.end.now in
@@ -26,8 +26,8 @@ returns-in-Ok-false-clause-takes c =
     let k = key_at known c.args.at end x c.requires.key c.index.ensures in
     taken_nothing u c.args.template.now claims known c.args.begin.now c.args.path.now h end c.requires.ends c.args.at x k.0 k.1
     (λ n.
-    let t : c.in-Ok-false.field-0 ≡ true = c.in-Ok-false.ensures.1.1 (subst (λ (p : List ℤ). ¬ (Meets (claim_of x).rows p)) (sym c.as_slice-point.ensures) n) in
-    let f = c.in-Ok-false.field-0-test in
+    let t : c.in_ok-breaks.breaks ≡ true = c.in_ok-breaks.ensures.1.1 (subst (λ (p : List ℤ). ¬ (Meets (claim_of x).rows p)) (sym c.as_slice-point.ensures) n) in
+    let f = c.if-not-breaks.true in
     absurd cc)
 
 pub overflow_sub-place : goal.overflow_sub-place
@@ -58,19 +58,21 @@ returns-in-Ok-with_member-clause-takes c =
     let long = c.len-place.ensures in
     let last : suc (c.len-place.result - 1) ≡ length entries = omega (arith, some, long) in
     let grows = subst (λ (p : List ℤ). GrowsAt t known.keys.items c.args.at p (c.len-place.result - 1) c.in-Ok-with_member.keys.items) c.as_slice-point.ensures c.in-Ok-with_member.ensures.grown in
-    let breaks = subst (λ (p : List ℤ). ¬ (Meets (claim_of x).rows p)) c.as_slice-point.ensures (c.in-Ok-true.ensures.1.0 c.in-Ok-true.field-0-test) in
+    let breaks = subst (λ (p : List ℤ). ¬ (Meets (claim_of x).rows p)) c.as_slice-point.ensures (c.in_ok-breaks.ensures.1.0 c.if-not-breaks.false) in
     taken_grown u t claims known (record { keys = c.in-Ok-with_member.keys; entries = entries }) c.args.begin.now c.args.path.now h c.requires.steps end c.requires.ends c.args.at x k.0 k.1 (c.len-place.result - 1) c.in-Ok.ensures last grows breaks
 
-pub returns-in-Err-clause-stops : goal.returns-in-Err-clause-stops
-returns-in-Err-clause-stops c =
+pub returns-in_err-breaks-clause-stops : goal.returns-in_err-breaks-clause-stops
+returns-in_err-breaks-clause-stops c =
     let t = c.args.template.now in
     let known = c.args.known in
     let x = c.index.result.now in
     let k = key_at known c.args.at c.args.end.now x c.requires.key c.index.ensures in
-    λ u claims h.
-    stops_meeting u.pair t (entries_of known.entries) known.keys.items x c.as_slice-point.result.now c.in-Err.stop (in_get known.keys.items c.args.at x k.0) (right_at u t known c.args.at x h.is_known k.0)
+    let stop = c.in_err-breaks.field-0.0 in
+    if_err _ c.from_residual.result stop c.from_residual.ensures.1
+    (λ u claims h.
+    stops_meeting u.pair t (entries_of known.entries) known.keys.items x c.as_slice-point.result.now stop (in_get known.keys.items c.args.at x k.0) (right_at u t known c.args.at x h.is_known k.0)
     (ap length c.as_slice-point.ensures ∙ end_wide u t claims known c.args.path.now h c.args.end.now c.requires.ends c.args.at x k.0 k.1)
-    (subst (PairAt u.pair (positions x)) (sym c.as_slice-point.ensures) (end_at_key u claims c.args.path.now h.broken c.args.end.now c.requires.ends x k.1)) c.in-Err.ensures
+    (subst (PairAt u.pair (positions x)) (sym c.as_slice-point.ensures) (end_at_key u claims c.args.path.now h.broken c.args.end.now c.requires.ends x k.1)) c.in_err-breaks.ensures)
 
 pub returns-in-Err-with_member-clause-stops : goal.returns-in-Err-with_member-clause-stops
 returns-in-Err-with_member-clause-stops c =
