@@ -1,5 +1,5 @@
 //! Symbols: whether two are one, and whether the arguments of one may be swapped.
-ghost use Rattle.std.specs.Prelude.{◌≡◌, ◌&&◌, nat_eq};
+ghost use Rattle.std.specs.Prelude.{◌≡◌, nat_eq};
 ghost use Rattle.std.specs.Cmp.Lexicographic.{pointwise};
 ghost use Rattle.std.specs.List.{list_any};
 ghost use Rattle.ac_syntax.specs.Outputs.{swaps_of};
@@ -32,11 +32,4 @@ pub fn may_swap(names: &[Name], symbol: &Symbol) -> bool
     ensures { result ≡ swaps_of names.now symbol.now }
 {
     symbol.arity == 2 && has_name(names, symbol.name.as_bytes())
-}
-
-/// Whether two symbols are one whose arguments may be swapped.
-pub fn swaps_both(names: &[Name], left: &Symbol, right: &Symbol) -> bool
-    ensures { result ≡ (same_symbol left.now right.now && swaps_of names.now left.now) }
-{
-    same_symbol(left, right) && may_swap(names, left)
 }
