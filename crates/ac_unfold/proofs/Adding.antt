@@ -9,7 +9,9 @@ use Rattle.ac_widen.specs.declared.derivation.Entry.{Entry}
 use Rattle.ac_graft.specs.Sides.{side_of}
 use Rattle.ac_graft.specs.declared.branching.Part.{Part}
 use Rattle.ac_leading.specs.Ends.{entries_at}
-use Rattle.ac_unfold.specs.Searching.{Adds, IsPathAt, IsPathBeside}
+use Rattle.ac_unfold.specs.Full.{EndsMore}
+use Rattle.ac_unfold.specs.Paths.{Found}
+use Rattle.ac_unfold.specs.Searching.{Adds, IsNone, IsPathAt, IsPathBeside}
 
 -- ---- lists
 
@@ -21,38 +23,70 @@ all_by : (Kind Other : List Entry → Type 0) (xs : List (List Entry)) → ((es 
 all_by Kind Other [] f h = tt
 all_by Kind Other (x ∷ xs) f h = (f x h.0, all_by Kind Other xs f h.1)
 
-pub adds_none : (Kind : List Entry → Type 0) (before after : List (List Entry)) → after ≡ before → Adds Kind before after
-adds_none Kind before after e = record { more = []; is = e ∙ sym (append-nil before); all = tt }
+-- ---- what is added
 
-pub adds_one : (Kind : List Entry → Type 0) (before after : List (List Entry)) (es : List Entry) → after ≡ before ++ es ∷ [] → Kind es → Adds Kind before after
-adds_one Kind before after es e k = record { more = es ∷ []; is = e; all = (k, tt) }
+-- nothing, of either
+pub adds_same : (Kind Ends : List Entry → Type 0) (before after : Found) → after.paths ≡ before.paths → after.ended ≡ before.ended → Adds Kind Ends before after
+adds_same Kind Ends before after e f = record { more = []; is = e ∙ sym (append-nil before.paths); all = tt; ends = []; ended_is = f ∙ sym (append-nil before.ended); all_ends = tt }
 
-pub adds_then : (Kind : List Entry → Type 0) (a b c : List (List Entry)) → Adds Kind a b → Adds Kind b c → Adds Kind a c
-adds_then Kind a b c h k = record { more = h.more ++ k.more; is = k.is ∙ ap (λ (xs : List (List Entry)). xs ++ k.more) h.is ∙ append_assoc a h.more k.more; all = all_both Kind h.more k.more h.all k.all }
+pub adds_none : (Kind Ends : List Entry → Type 0) (before after : Found) → after ≡ before → Adds Kind Ends before after
+adds_none Kind Ends before after e = adds_same Kind Ends before after (ap (λ (f : Found). f.paths) e) (ap (λ (f : Found). f.ended) e)
 
-pub adds_by : (Kind Other : List Entry → Type 0) (a b : List (List Entry)) → ((es : List Entry) → Kind es → Other es) → Adds Kind a b → Adds Other a b
-adds_by Kind Other a b f h = record { more = h.more; is = h.is; all = all_by Kind Other h.more f h.all }
+-- one broken path
+pub adds_one : (Kind Ends : List Entry → Type 0) (before after : Found) (es : List Entry) → after.paths ≡ before.paths ++ es ∷ [] → after.ended ≡ before.ended → Kind es → Adds Kind Ends before after
+adds_one Kind Ends before after es e f k = record { more = es ∷ []; is = e; all = (k, tt); ends = []; ended_is = f ∙ sym (append-nil before.ended); all_ends = tt }
 
--- none is lost
-pub adds_kept : (Kind : List Entry → Type 0) (a b : List (List Entry)) → Adds Kind a b → length a ≤ length b
-adds_kept Kind a b h = omega (arith, ap length h.is, length-append a h.more)
+-- an end that is reached, if it is kept
+pub adds_end : (Kind Ends : List Entry → Type 0) (before after : Found) → after.paths ≡ before.paths → EndsMore Ends before.ended after.ended → Adds Kind Ends before after
+adds_end Kind Ends before after e (inl f) = adds_same Kind Ends before after e f
+adds_end Kind Ends before after e (inr x) = record { more = []; is = e ∙ sym (append-nil before.paths); all = tt; ends = x.0 ∷ []; ended_is = x.2; all_ends = (x.1, tt) }
+
+pub adds_then : (Kind Ends : List Entry → Type 0) (a b c : Found) → Adds Kind Ends a b → Adds Kind Ends b c → Adds Kind Ends a c
+adds_then Kind Ends a b c h k = record {
+  more = h.more ++ k.more;
+  is = k.is ∙ ap (λ (xs : List (List Entry)). xs ++ k.more) h.is ∙ append_assoc a.paths h.more k.more;
+  all = all_both Kind h.more k.more h.all k.all;
+  ends = h.ends ++ k.ends;
+  ended_is = k.ended_is ∙ ap (λ (xs : List (List Entry)). xs ++ k.ends) h.ended_is ∙ append_assoc a.ended h.ends k.ends;
+  all_ends = all_both Ends h.ends k.ends h.all_ends k.all_ends;
+}
+
+pub adds_by : (Kind Other Ends : List Entry → Type 0) (a b : Found) → ((es : List Entry) → Kind es → Other es) → Adds Kind Ends a b → Adds Other Ends a b
+adds_by Kind Other Ends a b f h = record { more = h.more; is = h.is; all = all_by Kind Other h.more f h.all; ends = h.ends; ended_is = h.ended_is; all_ends = h.all_ends }
+
+-- the same with ends of another kind
+pub adds_ends : (Kind Ends Other : List Entry → Type 0) (a b : Found) → ((es : List Entry) → Ends es → Other es) → Adds Kind Ends a b → Adds Kind Other a b
+adds_ends Kind Ends Other a b f h = record { more = h.more; is = h.is; all = h.all; ends = h.ends; ended_is = h.ended_is; all_ends = all_by Ends Other h.ends f h.all_ends }
+
+-- where no end is reached
+pub adds_no_end : (Kind Ends : List Entry → Type 0) (a b : Found) → Adds Kind IsNone a b → Adds Kind Ends a b
+adds_no_end Kind Ends a b h = adds_ends Kind IsNone Ends a b (λ es x. absurd x) h
+
+-- no path is lost
+pub adds_kept : (Kind Ends : List Entry → Type 0) (a b : Found) → Adds Kind Ends a b → length a.paths ≤ length b.paths
+adds_kept Kind Ends a b h = omega (arith, ap length h.is, length-append a.paths h.more)
 
 -- the paths found before stay broken
-pub adds_all : (Kind Other : List Entry → Type 0) (a b : List (List Entry)) → ((es : List Entry) → Kind es → Other es) → Adds Kind a b → AllByRecursion Other a → AllByRecursion Other b
-adds_all Kind Other a b f h k = subst (AllByRecursion Other) (sym h.is) (all_both Other a h.more k (all_by Kind Other h.more f h.all))
+pub adds_all : (Kind Ends Other : List Entry → Type 0) (a b : Found) → ((es : List Entry) → Kind es → Other es) → Adds Kind Ends a b → AllByRecursion Other a.paths → AllByRecursion Other b.paths
+adds_all Kind Ends Other a b f h k = subst (AllByRecursion Other) (sym h.is) (all_both Other a.paths h.more k (all_by Kind Other h.more f h.all))
+
+-- so do the ends
+pub adds_all_ends : (Kind Ends Other : List Entry → Type 0) (a b : Found) → ((es : List Entry) → Ends es → Other es) → Adds Kind Ends a b → AllByRecursion Other a.ended → AllByRecursion Other b.ended
+adds_all_ends Kind Ends Other a b f h k = subst (AllByRecursion Other) (sym h.ended_is) (all_both Other a.ended h.ends k (all_by Ends Other h.ends f h.all_ends))
 
 -- ---- at a point
 
-pub found_at : (params n : ℕ) (trail : List (Seat × Seat)) (c : Conj) (p : List ℤ) (before after : List (List Entry)) → params ≡ n → IsPoint c p → after ≡ before ++ entries_at params p trail ∷ [] → Adds (IsPathAt n trail c) before after
-found_at params n trail c p before after e h is = adds_one (IsPathAt n trail c) before after (entries_at params p trail) is (record { point = p; there = h; are = ap (λ (k : ℕ). entries_at k p trail) e })
+pub found_at : (Ends : List Entry → Type 0) (params n : ℕ) (trail : List (Seat × Seat)) (c : Conj) (p : List ℤ) (before after : Found) → params ≡ n → IsPoint c p → after.paths ≡ before.paths ++ entries_at params p trail ∷ [] → after.ended ≡ before.ended
+    → Adds (IsPathAt n trail c) Ends before after
+found_at Ends params n trail c p before after e h is f = adds_one (IsPathAt n trail c) Ends before after (entries_at params p trail) is f (record { point = p; there = h; are = ap (λ (k : ℕ). entries_at k p trail) e })
 
 -- ---- at a side
 
-pub beside_some : (n : ℕ) (trail t : List (Seat × Seat)) (c d : Conj) (parts more : List Part) (part : Part) (before now after : List (List Entry)) → Adds (IsPathBeside n trail c parts) before now → t ≡ trail → d ≡ side_of c part → more ≡ parts ++ part ∷ []
-    → Adds (IsPathAt n t d) now after → Adds (IsPathBeside n trail c more) before after
-beside_some n trail t c d parts more part before now after h e f m k =
-    adds_then (IsPathBeside n trail c more) before now after (adds_by (IsPathBeside n trail c parts) (IsPathBeside n trail c more) before now (λ es x. record { part = x.part; among = subst (IsAmong x.part) (sym m) (first parts x.part x.among); at = x.at }) h)
-    (adds_by (IsPathAt n t d) (IsPathBeside n trail c more) now after
+pub beside_some : (Ends : List Entry → Type 0) (n : ℕ) (trail t : List (Seat × Seat)) (c d : Conj) (parts more : List Part) (part : Part) (before now after : Found) → Adds (IsPathBeside n trail c parts) Ends before now → t ≡ trail → d ≡ side_of c part → more ≡ parts ++ part ∷ []
+    → Adds (IsPathAt n t d) Ends now after → Adds (IsPathBeside n trail c more) Ends before after
+beside_some Ends n trail t c d parts more part before now after h e f m k =
+    adds_then (IsPathBeside n trail c more) Ends before now after (adds_by (IsPathBeside n trail c parts) (IsPathBeside n trail c more) Ends before now (λ es x. record { part = x.part; among = subst (IsAmong x.part) (sym m) (first parts x.part x.among); at = x.at }) h)
+    (adds_by (IsPathAt n t d) (IsPathBeside n trail c more) Ends now after
     (λ es x. record { part = part; among = subst (IsAmong part) (sym m) (last parts); at = record { point = x.point; there = subst (λ (y : Conj). IsPoint y x.point) f x.there; are = x.are ∙ ap (entries_at n x.point) e } }) k)
   where
     first : (xs : List Part) (y : Part) → IsAmong y xs → IsAmong y (xs ++ part ∷ [])
@@ -65,9 +99,9 @@ beside_some n trail t c d parts more part before now after h e f m k =
     last (x ∷ xs) = inr (last xs)
 
 -- those of the first parts are of all
-pub beside_all : (n : ℕ) (trail : List (Seat × Seat)) (c : Conj) (parts all rest : List Part) (before after : List (List Entry)) → all ≡ parts ++ rest → Adds (IsPathBeside n trail c parts) before after → Adds (IsPathBeside n trail c all) before after
-beside_all n trail c parts all rest before after e h =
-    adds_by (IsPathBeside n trail c parts) (IsPathBeside n trail c all) before after (λ es x. record { part = x.part; among = subst (IsAmong x.part) (sym e) (first parts x.part x.among); at = x.at }) h
+pub beside_all : (Ends : List Entry → Type 0) (n : ℕ) (trail : List (Seat × Seat)) (c : Conj) (parts all rest : List Part) (before after : Found) → all ≡ parts ++ rest → Adds (IsPathBeside n trail c parts) Ends before after → Adds (IsPathBeside n trail c all) Ends before after
+beside_all Ends n trail c parts all rest before after e h =
+    adds_by (IsPathBeside n trail c parts) (IsPathBeside n trail c all) Ends before after (λ es x. record { part = x.part; among = subst (IsAmong x.part) (sym e) (first parts x.part x.among); at = x.at }) h
   where
     first : (xs : List Part) (y : Part) → IsAmong y xs → IsAmong y (xs ++ rest)
     first [] y i = absurd i

@@ -1,6 +1,6 @@
 -- How an unfolding comes to the questions of a search, and what is broken there.
 use Rattle.std.proofs.lemmas.List.{take-append-drop}
-use Rattle.std.proofs.Common.{◌≡◌, inl, inr, ℕ, zero, suc, ◌+◌, ◌-◌, ◌≤◌, Bool, true, false, ℤ, List, [], ◌∷◌, ◌++◌, length, map, take, drop, Some, None, refl, sym, ap, ◌∙◌, subst, arith, append_assoc, append-nil}
+use Rattle.std.proofs.Common.{◌≡◌, ◌⊎◌, inl, inr, ℕ, zero, suc, ◌+◌, ◌-◌, ◌≤◌, Bool, true, false, ℤ, List, [], ◌∷◌, ◌++◌, length, map, take, drop, Some, None, refl, sym, ap, ◌∙◌, subst, arith, append_assoc, append-nil}
 use Rattle.std.specs.Prelude.{Result, Ok, Err, OnOk, slice_get, option_and_then, option_map}
 use Rattle.std.specs.List.{AllByRecursion, range_with_len}
 use Rattle.ac_forms.specs.Renaming.{picked, row_renaming, rows_renaming}
@@ -22,7 +22,6 @@ use Rattle.ac_paths.specs.declared.path.Branch.{Branch}
 use Rattle.ac_paths.specs.declared.path.Path.{Path}
 use Rattle.ac_paths.specs.declared.path.Seat.{Seat}
 use Rattle.ac_paths.specs.declared.path.Side.{Side}
-use Rattle.ac_paths.specs.declared.path.Side.TheVariants.{Left, Right}
 use Rattle.ac_widen.specs.declared.derivation.Entry.{Entry}
 use Rattle.ac_claims.specs.Domains.{of_width, piece_by}
 use Rattle.ac_claims.specs.ProofFaults.{domain, left_seat, piece_rows, right_seat, start, start_columns}
@@ -47,37 +46,49 @@ use Rattle.ac_leading.proofs.Reaching.{trails_lead}
 use Rattle.ac_leading.specs.Broken.{EndsBroken, HasNoClaim, IsBroken}
 use Rattle.ac_unfold.specs.Unfoldings.{IsUnfoldingOf}
 use Rattle.ac_unfold.specs.Cutting.{IsClaimBehind}
+use Rattle.ac_unfold.specs.Ended.{EndsAtClaimed, EndsWithoutStep, IsWalked}
+use Rattle.ac_unfold.specs.Full.{nothing_found}
 use Rattle.ac_unfold.specs.Making.{judge_of}
+use Rattle.ac_unfold.specs.Paths.{Found}
 use Rattle.ac_unfold.specs.Planned.{IsBrokenFrom}
-use Rattle.ac_unfold.specs.Searching.{Adds, AddsBroken, IsAt, IsFrom, IsInCase, IsKindThere, IsOf, IsPast, IsPathAt, IsPathBreaking, Reached}
+use Rattle.ac_unfold.specs.Searching.{Adds, AddsBroken, IsAt, IsFrom, IsInCase, IsKindThere, IsLeaf, IsOf, IsPast, IsPathAt, IsPathBreaking, Reached}
 use Rattle.ac_unfold.specs.declared.ends.Search.{Search}
 use Rattle.ac_unfold.specs.declared.kinds.Next.TheVariants as next
 use Rattle.ac_unfold.specs.declared.node.Node.{Node}
 use Rattle.ac_unfold.specs.declared.types.Setting.{Setting}
-use Rattle.ac_unfold.proofs.Adding.{adds_all, adds_kept}
+use Rattle.ac_unfold.proofs.Adding.{adds_all, adds_all_ends, adds_kept}
 
 -- ---- what is added, one after the other
 
-pub broken_none : (search : Search) (At : Unfolding → Type 0) (before after : List (List Entry)) → after ≡ before → AddsBroken search At before after
+-- nothing, of either
+pub broken_same : (search : Search) (At : Unfolding → Type 0) (before after : Found) → after.paths ≡ before.paths → after.ended ≡ before.ended → AddsBroken search At before after
 unfolding AddsBroken
-broken_none search At before after e = (omega (arith, ap length e), λ u of at h. subst (AllByRecursion (IsBroken u search.claims.now)) (sym e) h)
+broken_same search At before after e f =
+    (omega (arith, ap length e), λ u of at h. record { broken = subst (AllByRecursion (IsBroken u search.claims.now)) (sym e) h.broken; walked = subst (AllByRecursion (IsWalked u search.claims.now)) (sym f) h.walked })
 
-pub broken_then : (search : Search) (At : Unfolding → Type 0) (a b c : List (List Entry)) → AddsBroken search At a b → AddsBroken search At b c → AddsBroken search At a c
+pub broken_none : (search : Search) (At : Unfolding → Type 0) (before after : Found) → after ≡ before → AddsBroken search At before after
+broken_none search At before after e = broken_same search At before after (ap (λ (f : Found). f.paths) e) (ap (λ (f : Found). f.ended) e)
+
+pub broken_then : (search : Search) (At : Unfolding → Type 0) (a b c : Found) → AddsBroken search At a b → AddsBroken search At b c → AddsBroken search At a c
 unfolding AddsBroken
 broken_then search At a b c h k = (omega (arith, h.0, k.0), λ u of at all. k.1 u of at (h.1 u of at all))
 
 -- at one place, where it was at another
-pub broken_from : (search : Search) (At Next : Unfolding → Type 0) (before after : List (List Entry)) → ((u : Unfolding) → IsOf search u → At u → Next u) → AddsBroken search Next before after → AddsBroken search At before after
+pub broken_from : (search : Search) (At Next : Unfolding → Type 0) (before after : Found) → ((u : Unfolding) → IsOf search u → At u → Next u) → AddsBroken search Next before after → AddsBroken search At before after
 unfolding AddsBroken
 broken_from search At Next before after f h = (h.0, λ u of at. h.1 u of (f u of at))
 
--- by paths of one kind
-pub broken_by : (search : Search) (At : Unfolding → Type 0) (Kind : List Entry → Type 0) (before after : List (List Entry)) → ((u : Unfolding) → IsOf search u → At u → (es : List Entry) → Kind es → IsBroken u search.claims.now es) → Adds Kind before after → AddsBroken search At before after
+-- by paths of one kind, and ends of another
+pub broken_by : (search : Search) (At : Unfolding → Type 0) (Kind Ends : List Entry → Type 0) (before after : Found) → ((u : Unfolding) → IsOf search u → At u → (es : List Entry) → Kind es → IsBroken u search.claims.now es)
+    → ((u : Unfolding) → IsOf search u → At u → (es : List Entry) → Ends es → IsWalked u search.claims.now es) → Adds Kind Ends before after → AddsBroken search At before after
 unfolding AddsBroken
-broken_by search At Kind before after f h = (adds_kept Kind before after h, λ u of at all. adds_all Kind (IsBroken u search.claims.now) before after (f u of at) h all)
+broken_by search At Kind Ends before after f g h = (
+  adds_kept Kind Ends before after h,
+  λ u of at all. record { broken = adds_all Kind Ends (IsBroken u search.claims.now) before after (f u of at) h all.broken; walked = adds_all_ends Kind Ends (IsWalked u search.claims.now) before after (g u of at) h all.walked },
+)
 
 -- no path is lost
-pub broken_kept : (search : Search) (At : Unfolding → Type 0) (before after : List (List Entry)) → AddsBroken search At before after → length before ≤ length after
+pub broken_kept : (search : Search) (At : Unfolding → Type 0) (before after : Found) → AddsBroken search At before after → length before.paths ≤ length after.paths
 unfolding AddsBroken
 broken_kept search At before after h = h.0
 
@@ -98,7 +109,7 @@ is_past search trail q u none at = by q.gone refl
         let b = at.behind e in
         record { reached = at.reached; first = b.first; rest = b.between ++ seats_of q ∷ []; is = b.is; free = all_last search.claims.now b.between (seats_of q) b.free (none e) }
 
-pub broken_past : (search : Search) (trail : List (Seat × Seat)) (q : Path) (before after : List (List Entry)) → (q.gone ≡ true → HasNoClaim search.claims.now (seats_of q)) → AddsBroken search (IsPast search trail q) before after → AddsBroken search (IsAt search trail q) before after
+pub broken_past : (search : Search) (trail : List (Seat × Seat)) (q : Path) (before after : Found) → (q.gone ≡ true → HasNoClaim search.claims.now (seats_of q)) → AddsBroken search (IsPast search trail q) before after → AddsBroken search (IsAt search trail q) before after
 broken_past search trail q before after none h = broken_from search (IsAt search trail q) (IsPast search trail q) before after (λ u of at. is_past search trail q u none at) h
 
 -- ---- a point of a question
@@ -121,20 +132,45 @@ path_broken search u trail q p first rest es of reached long meets is are ends =
       ends = ends;
     }
 
+-- the same of a path to an end
+path_walked : (search : Search) (u : Unfolding) (trail : List (Seat × Seat)) (q : Path) (p : List ℤ) (first : Seat × Seat) (rest : List (Seat × Seat)) (es : List Entry) → IsOf search u → Reached search u trail q → q.conj.columns ≤ length p → Meets q.conj.rows p → trail ≡ first ∷ rest
+    → es ≡ entries_at (judge_of search).params p trail → EndsAtClaimed search.claims.now rest q ⊎ EndsWithoutStep u search.claims.now rest q → IsWalked u search.claims.now es
+path_walked search u trail q p first rest es of reached long meets is are ends =
+    let comes = trails_lead u search.setting.now.left_flow.now search.setting.now.right_flow.now trail q of.flows reached p long meets in
+    record {
+      first = first;
+      rest = rest;
+      question = q;
+      point = p;
+      comes = subst (λ (t : List (Seat × Seat)). ComesTo u t q p) is comes;
+      are = are ∙ ap (λ (n : ℕ). entries_at n p trail) (sym (params_are search u of)) ∙ ap (entries_at (params_of u) p) is;
+      ends = ends;
+    }
+
+-- at a pair without a step
+pub leaf_walked : (search : Search) (trail : List (Seat × Seat)) (q : Path) (u : Unfolding) (es : List Entry) → IsLeaf (judge_of search) q → IsOf search u → IsPast search trail q u → IsPathAt (judge_of search).params trail q.conj es → IsWalked u search.claims.now es
+leaf_walked search trail q u es leaf of at x =
+    let l = x.there.long in
+    let k : IsLeaf (pairing_of u.pair) q = subst (λ (g : Pairing). IsLeaf g q) (sym of.programs) leaf in
+    path_walked search u trail q x.point at.first at.rest es of at.reached (omega (arith, l)) x.there.meets at.is x.are (inr (record { free = at.free; readers = record { left = k.left; right = k.right }; calls = k.calls }))
+
 -- ---- mismatches
 
-pub mismatch_broken : (search : Search) (trail : List (Seat × Seat)) (q : Path) (before after : List (List Entry)) → IsKindThere search q next.Mismatch → Adds (IsPathAt (judge_of search).params trail q.conj) before after → AddsBroken search (IsPast search trail q) before after
+pub mismatch_broken : (search : Search) (trail : List (Seat × Seat)) (q : Path) (before after : Found) → IsKindThere search q next.Mismatch → IsLeaf (judge_of search) q
+    → Adds (IsPathAt (judge_of search).params trail q.conj) (IsPathAt (judge_of search).params trail q.conj) before after → AddsBroken search (IsPast search trail q) before after
 unfolding IsKindThere
-mismatch_broken search trail q before after kind h =
-    broken_by search (IsPast search trail q) (IsPathAt (judge_of search).params trail q.conj) before after
-    (λ u of at es x. let l = x.there.long in path_broken search u trail q x.point at.first at.rest es of at.reached (omega (arith, l)) x.there.meets at.is x.are (inl (record { free = at.free; nothing = kind u of x.point }))) h
+mismatch_broken search trail q before after kind leaf h =
+    broken_by search (IsPast search trail q) (IsPathAt (judge_of search).params trail q.conj) (IsPathAt (judge_of search).params trail q.conj) before after
+    (λ u of at es x. let l = x.there.long in path_broken search u trail q x.point at.first at.rest es of at.reached (omega (arith, l)) x.there.meets at.is x.are (inl (record { free = at.free; nothing = kind u of x.point })))
+    (λ u of at es x. leaf_walked search trail q u es leaf of at x) h
 
-pub match_broken : (search : Search) (trail : List (Seat × Seat)) (q : Path) (rows : List Row) (end : PlanNext) (before after : List (List Entry)) → IsKindThere search q (next.Match rows end) → Adds (IsPathBreaking (judge_of search).params trail q.conj rows) before after
-    → AddsBroken search (IsPast search trail q) before after
+pub match_broken : (search : Search) (trail : List (Seat × Seat)) (q : Path) (rows : List Row) (end : PlanNext) (before after : Found) → IsKindThere search q (next.Match rows end) → IsLeaf (judge_of search) q
+    → Adds (IsPathBreaking (judge_of search).params trail q.conj rows) (IsPathAt (judge_of search).params trail q.conj) before after → AddsBroken search (IsPast search trail q) before after
 unfolding IsKindThere
-match_broken search trail q rows end before after kind h =
-    broken_by search (IsPast search trail q) (IsPathBreaking (judge_of search).params trail q.conj rows) before after
-    (λ u of at es x. path_broken search u trail q x.point at.first at.rest es of at.reached x.long x.meets at.is x.are (inl (record { free = at.free; nothing = kind u of x.point x.row x.among x.fails }))) h
+match_broken search trail q rows end before after kind leaf h =
+    broken_by search (IsPast search trail q) (IsPathBreaking (judge_of search).params trail q.conj rows) (IsPathAt (judge_of search).params trail q.conj) before after
+    (λ u of at es x. path_broken search u trail q x.point at.first at.rest es of at.reached x.long x.meets at.is x.are (inl (record { free = at.free; nothing = kind u of x.point x.row x.among x.fails })))
+    (λ u of at es x. leaf_walked search trail q u es leaf of at x) h
 
 -- ---- claims
 
@@ -154,10 +190,28 @@ in_get [] i x e = absurd cc
 in_get (y ∷ xs) zero x e = inl cc
 in_get (y ∷ xs) (suc i) x e = inr (in_get xs i x e)
 
-pub claim_broken : (search : Search) (trail : List (Seat × Seat)) (q : Path) (number : ℕ) (claim : Claim) (rows : List Row) (before after : List (List Entry)) → IsClaimBehind search q number → slice_get search.claims.now number ≡ Some claim
-    → Some rows ≡ rows_renaming (base (judge_of search).params ++ (columns_of q.left ++ columns_of q.right)) claim.rows → Adds (IsPathBreaking (judge_of search).params trail q.conj rows) before after → AddsBroken search (IsAt search trail q) before after
+-- a path to the pair of a claim ends there
+pub claim_walked : (search : Search) (trail : List (Seat × Seat)) (q : Path) (number : ℕ) (u : Unfolding) (es : List Entry) → IsClaimBehind search q number → IsOf search u → IsAt search trail q u → IsPathAt (judge_of search).params trail q.conj es → IsWalked u search.claims.now es
+claim_walked search trail q number u es there of at x =
+    let b = at.behind there.gone in
+    let l = x.there.long in
+    path_walked search u trail q x.point b.first (b.between ++ seats_of q ∷ []) es of at.reached (omega (arith, l)) x.there.meets b.is x.are
+    (inl (record {
+      between = b.between;
+      rest_is = refl;
+      free = b.free;
+      claim = there.at.claim;
+      among = in_get search.claims.now number there.at.claim there.at.is;
+      left_is = position_is q.left.position there.at.claim.left there.at.left_is;
+      right_is = position_is q.right.position there.at.claim.right there.at.right_is;
+    }))
+
+pub claim_broken : (search : Search) (trail : List (Seat × Seat)) (q : Path) (number : ℕ) (claim : Claim) (rows : List Row) (before after : Found) → IsClaimBehind search q number → slice_get search.claims.now number ≡ Some claim
+    → Some rows ≡ rows_renaming (base (judge_of search).params ++ (columns_of q.left ++ columns_of q.right)) claim.rows
+    → Adds (IsPathBreaking (judge_of search).params trail q.conj rows) (IsPathAt (judge_of search).params trail q.conj) before after → AddsBroken search (IsAt search trail q) before after
 claim_broken search trail q number claim rows before after there get made h =
-    broken_by search (IsAt search trail q) (IsPathBreaking (judge_of search).params trail q.conj rows) before after (λ u of at es x. by u of at es x (renamed_in ks claim.rows rows (sym made) x.row x.among)) h
+    broken_by search (IsAt search trail q) (IsPathBreaking (judge_of search).params trail q.conj rows) (IsPathAt (judge_of search).params trail q.conj) before after (λ u of at es x. by u of at es x (renamed_in ks claim.rows rows (sym made) x.row x.among))
+    (λ u of at es x. claim_walked search trail q number u es there of at x) h
   where
     ks : List ℕ
     ks = base (judge_of search).params ++ (columns_of q.left ++ columns_of q.right)
@@ -215,7 +269,7 @@ is_begun search start left right path node u e made q t of from =
     not_both : (b : Bool) → b ≡ false → ¬ (b ≡ true)
     not_both b e f = let z : false ≡ true = sym e ∙ f in absurd cc
 
-pub begun_broken : (search : Search) (start : Claim) (left right : ℕ) (path : Path) (node next : Node) (before after : List (List Entry)) → start_at (judge_of search) start left right ≡ Some path → IsWellMade path.conj → node.question ≡ path → node.trail ≡ seats_of path ∷ []
+pub begun_broken : (search : Search) (start : Claim) (left right : ℕ) (path : Path) (node next : Node) (before after : Found) → start_at (judge_of search) start left right ≡ Some path → IsWellMade path.conj → node.question ≡ path → node.trail ≡ seats_of path ∷ []
     → next.question ≡ node.question → next.trail ≡ node.trail → AddsBroken search (IsAt search next.trail next.question) before after → AddsBroken search (IsFrom start) before after
 begun_broken search start left right path node next before after e made q t q' t' h =
     broken_from search (IsFrom start) (IsAt search next.trail next.question) before after (λ u of from. is_begun search start left right path next u e made (q' ∙ q) (t' ∙ t) of from) h
@@ -223,7 +277,7 @@ begun_broken search start left right path node next before after e made q t q' t
 -- ---- calls
 
 -- behind a branch of two calls
-behind_call : (search : Search) (trail : List (Seat × Seat)) (q : Path) (order : Order) (bs : List Path) (b : Path) (u : Unfolding) → IsOf search u → IsKindThere search q (next.Calls order) → branches (judge_of search) order q ≡ Some bs → IsAmong b bs → b.gone ≡ true → IsPast search trail q u
+pub behind_call : (search : Search) (trail : List (Seat × Seat)) (q : Path) (order : Order) (bs : List Path) (b : Path) (u : Unfolding) → IsOf search u → IsKindThere search q (next.Calls order) → branches (judge_of search) order q ≡ Some bs → IsAmong b bs → b.gone ≡ true → IsPast search trail q u
     → IsAt search (trail ++ seats_of b ∷ []) b u
 unfolding IsKindThere
 behind_call search trail q order bs b u of kind is i gone at =
@@ -239,18 +293,18 @@ behind_call search trail q order bs b u of kind is i gone at =
     }
 
 -- paths are added behind the first branches of some, of which these are the branches of two calls
-unfoldable pub AddsCalls : Search → Node → Order → List Branch → List (List Entry) → List (List Entry) → Type 0
+unfoldable pub AddsCalls : Search → Node → Order → List Branch → Found → Found → Type 0
 AddsCalls search node order found before after = (rest : List Branch) → Some (map (onto node.question) (found ++ rest)) ≡ branches (judge_of search) order node.question → AddsBroken search (IsPast search node.trail node.question) before after
 
-pub calls_none : (search : Search) (node : Node) (order : Order) (before after : List (List Entry)) → after ≡ before → AddsCalls search node order [] before after
+pub calls_none : (search : Search) (node : Node) (order : Order) (before after : Found) → after ≡ before → AddsCalls search node order [] before after
 unfolding AddsCalls
 calls_none search node order before after e rest is = broken_none search (IsPast search node.trail node.question) before after e
 
-in_middle : (q : Path) (xs rest : List Branch) (b : Branch) → IsAmong (onto q b) (map (onto q) (xs ++ b ∷ rest))
+pub in_middle : (q : Path) (xs rest : List Branch) (b : Branch) → IsAmong (onto q b) (map (onto q) (xs ++ b ∷ rest))
 in_middle q [] rest b = inl refl
 in_middle q (x ∷ xs) rest b = inr (in_middle q xs rest b)
 
-pub calls_more : (search : Search) (node : Node) (order : Order) (found : List Branch) (b : Branch) (child : Node) (before now after : List (List Entry)) → IsKindThere search node.question (next.Calls order) → AddsCalls search node order found before now
+pub calls_more : (search : Search) (node : Node) (order : Order) (found : List Branch) (b : Branch) (child : Node) (before now after : Found) → IsKindThere search node.question (next.Calls order) → AddsCalls search node order found before now
     → child.question ≡ onto node.question b → child.trail ≡ node.trail ++ (b.left, b.right) ∷ [] → AddsBroken search (IsAt search child.trail child.question) now after → AddsCalls search node order (found ++ b ∷ []) before after
 unfolding AddsCalls
 calls_more search node order found b child before now after kind h e f k rest is =
@@ -261,13 +315,13 @@ calls_more search node order found b child before now after kind h e f k rest is
     broken_then search (IsPast search node.trail node.question) before now after (h (b ∷ rest) all) (broken_from search (IsPast search node.trail node.question) (IsAt search child.trail child.question) now after there k)
 
 -- behind the first ones
-pub calls_some : (search : Search) (node : Node) (order : Order) (first found : List Branch) (n : ℕ) (before after : List (List Entry)) → AddsCalls search node order first before after → first ≡ take n found
+pub calls_some : (search : Search) (node : Node) (order : Order) (first found : List Branch) (n : ℕ) (before after : Found) → AddsCalls search node order first before after → first ≡ take n found
     → Some (map (onto node.question) found) ≡ branches (judge_of search) order node.question → AddsBroken search (IsPast search node.trail node.question) before after
 unfolding AddsCalls
 calls_some search node order first found n before after h e is =
     h (drop n found) (ap (λ (xs : List Branch). Some (map (onto node.question) (xs ++ drop n found))) e ∙ ap (λ (xs : List Branch). Some (map (onto node.question) xs)) (take-append-drop n found) ∙ is)
 
-pub calls_all : (search : Search) (node : Node) (order : Order) (found : List Branch) (before after : List (List Entry)) → AddsCalls search node order found before after → Some (map (onto node.question) found) ≡ branches (judge_of search) order node.question
+pub calls_all : (search : Search) (node : Node) (order : Order) (found : List Branch) (before after : Found) → AddsCalls search node order found before after → Some (map (onto node.question) found) ≡ branches (judge_of search) order node.question
     → AddsBroken search (IsPast search node.trail node.question) before after
 unfolding AddsCalls
 calls_all search node order found before after h is = h [] (ap (λ (xs : List Branch). Some (map (onto node.question) xs)) (append-nil found) ∙ is)
@@ -275,10 +329,10 @@ calls_all search node order found before after h is = h [] (ap (λ (xs : List Br
 -- ---- reads
 
 -- the same of a read or an output, and so many of its branches
-unfoldable pub AddsReads : Search → Node → ℕ → List Branch → List (List Entry) → List (List Entry) → Type 0
+unfoldable pub AddsReads : Search → Node → ℕ → List Branch → Found → Found → Type 0
 AddsReads search node number found before after = (number ≡ length found) × ((rest : List Branch) → Some (map (onto node.question) (found ++ rest)) ≡ branches (judge_of search) Keep node.question → AddsBroken search (IsPast search node.trail node.question) before after)
 
-pub reads_none : (search : Search) (node : Node) (before after : List (List Entry)) → after ≡ before → AddsReads search node 0 [] before after
+pub reads_none : (search : Search) (node : Node) (before after : Found) → after ≡ before → AddsReads search node 0 [] before after
 unfolding AddsReads
 reads_none search node before after e = (refl, λ rest is. broken_none search (IsPast search node.trail node.question) before after e)
 
@@ -291,7 +345,7 @@ length_last [] b = refl
 length_last (x ∷ xs) b = ap suc (length_last xs b) ∙ omega arith
 
 -- the branch of a case with its number
-in_case : (search : Search) (node : Node) (side : Side) (read : ReadFlow) (case : Case) (number : ℕ) (found rest : List Branch) (b : Branch) (u : Unfolding) → IsOf search u → IsKindThere search node.question (next.Read side)
+pub in_case : (search : Search) (node : Node) (side : Side) (read : ReadFlow) (case : Case) (number : ℕ) (found rest : List Branch) (b : Branch) (u : Unfolding) → IsOf search u → IsKindThere search node.question (next.Read side)
     → IsAmong read (flow_on search.setting.now.left_flow.now search.setting.now.right_flow.now side).reads → read.position ≡ (seat_of node.question side).position → slice_get read.cases number ≡ Some case → number ≡ length found
     → Some (map (onto node.question) (found ++ b ∷ rest)) ≡ branches (judge_of search) Keep node.question → IsPast search node.trail node.question u → IsInCase search case (node.trail ++ (b.left, b.right) ∷ []) (onto node.question b) u
 unfolding IsKindThere
@@ -318,7 +372,7 @@ in_case search node side read case number found rest b u of kind among position 
       gone = refl;
     }
 
-pub reads_more : (search : Search) (node : Node) (side : Side) (read : ReadFlow) (case : Case) (number next_number : ℕ) (found : List Branch) (b : Branch) (child : Node) (before now after : List (List Entry)) → IsKindThere search node.question (next.Read side)
+pub reads_more : (search : Search) (node : Node) (side : Side) (read : ReadFlow) (case : Case) (number next_number : ℕ) (found : List Branch) (b : Branch) (child : Node) (before now after : Found) → IsKindThere search node.question (next.Read side)
     → IsAmong read (flow_on search.setting.now.left_flow.now search.setting.now.right_flow.now side).reads → read.position ≡ (seat_of node.question side).position → slice_get read.cases number ≡ Some case → AddsReads search node number found before now
     → child.question ≡ onto node.question b → child.trail ≡ node.trail ++ (b.left, b.right) ∷ [] → next_number ≡ number + 1 → AddsBroken search (IsInCase search case child.trail child.question) now after → AddsReads search node next_number (found ++ b ∷ []) before after
 unfolding AddsReads
@@ -333,13 +387,13 @@ reads_more search node side read case number next_number found b child before no
 )
 
 -- behind the first ones
-pub reads_some : (search : Search) (node : Node) (number : ℕ) (first found : List Branch) (n : ℕ) (before after : List (List Entry)) → AddsReads search node number first before after → first ≡ take n found
+pub reads_some : (search : Search) (node : Node) (number : ℕ) (first found : List Branch) (n : ℕ) (before after : Found) → AddsReads search node number first before after → first ≡ take n found
     → Some (map (onto node.question) found) ≡ branches (judge_of search) Keep node.question → AddsBroken search (IsPast search node.trail node.question) before after
 unfolding AddsReads
 reads_some search node number first found n before after h e is =
     h.1 (drop n found) (ap (λ (xs : List Branch). Some (map (onto node.question) (xs ++ drop n found))) e ∙ ap (λ (xs : List Branch). Some (map (onto node.question) xs)) (take-append-drop n found) ∙ is)
 
-pub reads_all : (search : Search) (node : Node) (number : ℕ) (found : List Branch) (before after : List (List Entry)) → AddsReads search node number found before after → Some (map (onto node.question) found) ≡ branches (judge_of search) Keep node.question
+pub reads_all : (search : Search) (node : Node) (number : ℕ) (found : List Branch) (before after : Found) → AddsReads search node number found before after → Some (map (onto node.question) found) ≡ branches (judge_of search) Keep node.question
     → AddsBroken search (IsPast search node.trail node.question) before after
 unfolding AddsReads
 reads_all search node number found before after h is = h.1 [] (ap (λ (xs : List Branch). Some (map (onto node.question) xs)) (append-nil found) ∙ is)
@@ -352,7 +406,7 @@ rest_keeps n b rest d e =
     let m = map-some _ _ d a.2 in
     (ap (λ (x : Path). x.gone) m.2, ap seats_of m.2)
 
-at_piece : (search : Search) (case : Case) (trail : List (Seat × Seat)) (b d : Path) (rest : Remainder) (u : Unfolding) → IsOf search u → IsAmong rest case.pieces → at_rest (judge_of search).params b rest.conj ≡ Some d → IsInCase search case trail b u → IsAt search trail d u
+pub at_piece : (search : Search) (case : Case) (trail : List (Seat × Seat)) (b d : Path) (rest : Remainder) (u : Unfolding) → IsOf search u → IsAmong rest case.pieces → at_rest (judge_of search).params b rest.conj ≡ Some d → IsInCase search case trail b u → IsAt search trail d u
 at_piece search case trail b d rest u of i e at =
     let n = params_are search u of in
     let e' : at_rest (params_of u) b rest.conj ≡ Some d = ap (λ (k : ℕ). at_rest k b rest.conj) n ∙ e in
@@ -369,7 +423,7 @@ at_piece search case trail b d rest u of i e at =
       };
     }
 
-pub piece_broken : (search : Search) (case : Case) (node child next : Node) (rest : Remainder) (before now after : List (List Entry)) → AddsBroken search (IsInCase search case node.trail node.question) before now → IsAmong rest case.pieces
+pub piece_broken : (search : Search) (case : Case) (node child next : Node) (rest : Remainder) (before now after : Found) → AddsBroken search (IsInCase search case node.trail node.question) before now → IsAmong rest case.pieces
     → at_rest (judge_of search).params node.question rest.conj ≡ Some child.question → child.trail ≡ node.trail → next.question ≡ child.question → next.trail ≡ child.trail → AddsBroken search (IsAt search next.trail next.question) now after
     → AddsBroken search (IsInCase search case node.trail node.question) before after
 piece_broken search case node child next rest before now after h i e t q' t' k =
@@ -395,24 +449,28 @@ rest_is n q rest a made own columns more rows last o m c r e =
 
 -- ---- all paths of a start
 
-is_of : (search : Search) (setting : Setting) (start : Claim) (order : List (Site × Order)) → search.setting.now ≡ setting → search.order.now ≡ order → (u : Unfolding) → IsUnfoldingOf setting start order u → IsOf search u
+pub is_of : (search : Search) (setting : Setting) (start : Claim) (order : List (Site × Order)) → search.setting.now ≡ setting → search.order.now ≡ order → (u : Unfolding) → IsUnfoldingOf setting start order u → IsOf search u
 is_of search setting start order s o u is = record {
   programs = is.programs ∙ ap (λ (x : Setting). pairing x.programs) (sym s);
   flows = subst (λ (x : Setting). HaveFlows u.pair x.left_flow.now x.right_flow.now) (sym s) is.flows;
   orders = λ key. is.orders key ∙ ap (λ (x : List (Site × Order)). listed x key) (sym o);
 }
 
-pub paths_broken : (search : Search) (setting : Setting) (start : Claim) (claims : List Claim) (order : List (Site × Order)) (paths : List (List Entry)) → AddsBroken search (IsFrom start) [] paths → search.setting.now ≡ setting → search.claims.now ≡ claims
-    → search.order.now ≡ order → (u : Unfolding) → IsUnfoldingOf setting start order u → AllByRecursion (IsBroken u claims) paths
+pub paths_broken : (search : Search) (setting : Setting) (start : Claim) (claims : List Claim) (order : List (Site × Order)) (found : Found) → AddsBroken search (IsFrom start) nothing_found found → search.setting.now ≡ setting → search.claims.now ≡ claims
+    → search.order.now ≡ order → (u : Unfolding) → IsUnfoldingOf setting start order u → AllByRecursion (IsBroken u claims) found.paths
 unfolding AddsBroken
-paths_broken search setting start claims order paths h s c o u is = subst (λ (x : List Claim). AllByRecursion (IsBroken u x) paths) c (h.1 u (is_of search setting start order s o u is) is.claim tt)
+paths_broken search setting start claims order found h s c o u is =
+    let sound = h.1 u (is_of search setting start order s o u is) is.claim (record { broken = tt; walked = tt }) in
+    subst (λ (x : List Claim). AllByRecursion (IsBroken u x) found.paths) c sound.broken
 
 -- ---- plans
 
 -- the first path of a start is broken
-pub first_broken : (search : Search) (start : Claim) (paths : List (List Entry)) (path : List Entry) → AddsBroken search (IsFrom start) [] paths → slice_get paths 0 ≡ Some path → IsBrokenFrom search start path
+pub first_broken : (search : Search) (start : Claim) (found : Found) (path : List Entry) → AddsBroken search (IsFrom start) nothing_found found → slice_get found.paths 0 ≡ Some path → IsBrokenFrom search start path
 unfolding AddsBroken
-first_broken search start paths path h e u of from = first paths e (h.1 u of from tt)
+first_broken search start found path h e u of from =
+    let sound = h.1 u of from (record { broken = tt; walked = tt }) in
+    first found.paths e sound.broken
   where
     first : (xs : List (List Entry)) → slice_get xs 0 ≡ Some path → AllByRecursion (IsBroken u search.claims.now) xs → IsBroken u search.claims.now path
     first [] is all = absurd cc

@@ -22,6 +22,7 @@ use Rattle.ac_widen.specs.declared.derivation.Entry.{Entry}
 use Rattle.ac_graft.specs.Sides.{has_few, one_row, outside_of, rest_side}
 use Rattle.ac_graft.specs.declared.branching.Part.{Part}
 use Rattle.ac_leading.proofs.Picks.{front_and_rest, holds_front}
+use Rattle.ac_unfold.specs.Paths.{Found}
 use Rattle.ac_unfold.specs.Searching.{Adds, IsPathAt, IsPathBeside, IsPathBreaking}
 use Rattle.ac_unfold.proofs.Adding.{adds_by, adds_then}
 
@@ -104,10 +105,10 @@ outside_fails n (Div m f) part p over i l meets = by (has_few m) i
 
 -- ---- paths
 
-pub breaking_beside : (n : ℕ) (trail : List (Seat × Seat)) (c : Conj) (row : Row) (parts : List Part) (before after : List (List Entry)) → IsRowOver c.columns row → parts ≡ outside_of c.columns row → Adds (IsPathBeside n trail c parts) before after
-    → Adds (IsPathBreaking n trail c (row ∷ [])) before after
-breaking_beside n trail c row parts before after over e h =
-    adds_by (IsPathBeside n trail c parts) (IsPathBreaking n trail c (row ∷ [])) before after (λ es x. by es x (meets-parts c.rows x.part.rows x.at.point x.at.there.meets)) h
+pub breaking_beside : (Ends : List Entry → Type 0) (n : ℕ) (trail : List (Seat × Seat)) (c : Conj) (row : Row) (parts : List Part) (before after : Found) → IsRowOver c.columns row → parts ≡ outside_of c.columns row → Adds (IsPathBeside n trail c parts) Ends before after
+    → Adds (IsPathBreaking n trail c (row ∷ [])) Ends before after
+breaking_beside Ends n trail c row parts before after over e h =
+    adds_by (IsPathBeside n trail c parts) (IsPathBreaking n trail c (row ∷ [])) Ends before after (λ es x. by es x (meets-parts c.rows x.part.rows x.at.point x.at.there.meets)) h
   where
     by : (es : List Entry) → (x : IsPathBeside n trail c parts es) → Meets c.rows x.at.point × Meets x.part.rows x.at.point → IsPathBreaking n trail c (row ∷ []) es
     by es x m =
@@ -115,9 +116,9 @@ breaking_beside n trail c row parts before after over e h =
         let l = x.at.there.long in
         record { point = x.at.point; long = omega (arith, l); meets = m.0; row = row; among = inl refl; fails = record { over = over; fails = f.fails; exact = f.exact }; are = x.at.are }
 
-pub breaking_absurd : (n : ℕ) (trail : List (Seat × Seat)) (c : Conj) (row : Row) (before after : List (List Entry)) → IsRowOver c.columns row × ((p : List ℤ) → ¬ (Holds row p)) → Adds (IsPathAt n trail c) before after → Adds (IsPathBreaking n trail c (row ∷ [])) before after
-breaking_absurd n trail c row before after none h =
-    adds_by (IsPathAt n trail c) (IsPathBreaking n trail c (row ∷ [])) before after
+pub breaking_absurd : (Ends : List Entry → Type 0) (n : ℕ) (trail : List (Seat × Seat)) (c : Conj) (row : Row) (before after : Found) → IsRowOver c.columns row × ((p : List ℤ) → ¬ (Holds row p)) → Adds (IsPathAt n trail c) Ends before after → Adds (IsPathBreaking n trail c (row ∷ [])) Ends before after
+breaking_absurd Ends n trail c row before after none h =
+    adds_by (IsPathAt n trail c) (IsPathBreaking n trail c (row ∷ [])) Ends before after
     (λ es x. let l = x.there.long in record { point = x.point; long = omega (arith, l); meets = x.there.meets; row = row; among = inl refl; fails = record { over = none.0; fails = none.1 x.point; exact = λ f e. x.there.long }; are = x.are }) h
 
 among_more : (n : ℕ) (trail : List (Seat × Seat)) (c : Conj) (rows more : List Row) (es : List Entry) → ((r : Row) → IsAmong r rows → IsAmong r more) → IsPathBreaking n trail c rows es → IsPathBreaking n trail c more es
@@ -132,14 +133,14 @@ in_back : (xs ys : List Row) (r : Row) → IsAmong r ys → IsAmong r (xs ++ ys)
 in_back [] ys r i = i
 in_back (x ∷ xs) ys r i = inr (in_back xs ys r i)
 
-pub breaking_more : (n : ℕ) (trail t : List (Seat × Seat)) (c d : Conj) (rows more : List Row) (row : Row) (before now after : List (List Entry)) → t ≡ trail → d ≡ c → more ≡ rows ++ row ∷ [] → Adds (IsPathBreaking n trail c rows) before now
-    → Adds (IsPathBreaking n t d (row ∷ [])) now after → Adds (IsPathBreaking n trail c more) before after
-breaking_more n trail t c d rows more row before now after e f g h k =
-    let k' : Adds (IsPathBreaking n trail c (row ∷ [])) now after = subst (λ (x : List (Seat × Seat)). Adds (IsPathBreaking n x c (row ∷ [])) now after) e (subst (λ (x : Conj). Adds (IsPathBreaking n t x (row ∷ [])) now after) f k) in
-    adds_then (IsPathBreaking n trail c more) before now after
-    (adds_by (IsPathBreaking n trail c rows) (IsPathBreaking n trail c more) before now (λ es x. among_more n trail c rows more es (λ r i. subst (IsAmong r) (sym g) (in_front rows (row ∷ []) r i)) x) h)
-    (adds_by (IsPathBreaking n trail c (row ∷ [])) (IsPathBreaking n trail c more) now after (λ es x. among_more n trail c (row ∷ []) more es (λ r i. subst (IsAmong r) (sym g) (in_back rows (row ∷ []) r i)) x) k')
+pub breaking_more : (Ends : List Entry → Type 0) (n : ℕ) (trail t : List (Seat × Seat)) (c d : Conj) (rows more : List Row) (row : Row) (before now after : Found) → t ≡ trail → d ≡ c → more ≡ rows ++ row ∷ [] → Adds (IsPathBreaking n trail c rows) Ends before now
+    → Adds (IsPathBreaking n t d (row ∷ [])) Ends now after → Adds (IsPathBreaking n trail c more) Ends before after
+breaking_more Ends n trail t c d rows more row before now after e f g h k =
+    let k' : Adds (IsPathBreaking n trail c (row ∷ [])) Ends now after = subst (λ (x : List (Seat × Seat)). Adds (IsPathBreaking n x c (row ∷ [])) Ends now after) e (subst (λ (x : Conj). Adds (IsPathBreaking n t x (row ∷ [])) Ends now after) f k) in
+    adds_then (IsPathBreaking n trail c more) Ends before now after
+    (adds_by (IsPathBreaking n trail c rows) (IsPathBreaking n trail c more) Ends before now (λ es x. among_more n trail c rows more es (λ r i. subst (IsAmong r) (sym g) (in_front rows (row ∷ []) r i)) x) h)
+    (adds_by (IsPathBreaking n trail c (row ∷ [])) (IsPathBreaking n trail c more) Ends now after (λ es x. among_more n trail c (row ∷ []) more es (λ r i. subst (IsAmong r) (sym g) (in_back rows (row ∷ []) r i)) x) k')
 
 -- the rows behind the first ones may be any
-pub breaking_all : (n : ℕ) (trail : List (Seat × Seat)) (c : Conj) (rows all rest : List Row) (before after : List (List Entry)) → all ≡ rows ++ rest → Adds (IsPathBreaking n trail c rows) before after → Adds (IsPathBreaking n trail c all) before after
-breaking_all n trail c rows all rest before after e h = adds_by (IsPathBreaking n trail c rows) (IsPathBreaking n trail c all) before after (λ es x. among_more n trail c rows all es (λ r i. subst (IsAmong r) (sym e) (in_front rows rest r i)) x) h
+pub breaking_all : (Ends : List Entry → Type 0) (n : ℕ) (trail : List (Seat × Seat)) (c : Conj) (rows all rest : List Row) (before after : Found) → all ≡ rows ++ rest → Adds (IsPathBreaking n trail c rows) Ends before after → Adds (IsPathBreaking n trail c all) Ends before after
+breaking_all Ends n trail c rows all rest before after e h = adds_by (IsPathBreaking n trail c rows) (IsPathBreaking n trail c all) Ends before after (λ es x. among_more n trail c rows all es (λ r i. subst (IsAmong r) (sym e) (in_front rows rest r i)) x) h

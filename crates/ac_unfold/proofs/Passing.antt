@@ -1,16 +1,15 @@
 -- A case outside its kills: at its branch, with further rows, behind one kill more, and where all of them are passed.
-use Rattle.std.proofs.Common.{◌≡◌, inl, inr, ℕ, zero, suc, ◌+◌, ◌<◌, ◌≤◌, false, true, ℤ, List, [], ◌∷◌, ◌++◌, length, map, take, drop, Option, Some, None, refl, sym, ap, ◌∙◌, subst, arith, append_assoc, append-nil}
+use Rattle.std.proofs.Common.{◌≡◌, inl, inr, ℕ, zero, suc, ◌+◌, ◌≤◌, false, true, ℤ, List, [], ◌∷◌, ◌++◌, length, map, take, drop, Option, Some, None, refl, sym, ap, ◌∙◌, subst, arith, append_assoc, append-nil}
 use Rattle.std.proofs.lemmas.List.{take_all}
 use Rattle.std.proofs.Math.Nat.{min-le_left}
 use Rattle.std.specs.Prelude.{◌-◌, ◌^◌, IfOk, IfSome, Ok, Result, min, slice_get}
 use Rattle.ac_forms.specs.Members.{IsAmong}
 use Rattle.ac_forms.specs.Renaming.{picked, rows_renaming}
-use Rattle.ac_forms.specs.Rows.{Holds, Meets, AreRowsOver, IsRowOver, IsWellMade}
+use Rattle.ac_forms.specs.Rows.{Holds, Meets, AreRowsOver, IsRowOver}
 use Rattle.ac_forms.specs.declared.conj.Conj.{Conj}
 use Rattle.ac_forms.specs.declared.row.Row.{Row}
 use Rattle.ac_forms.proofs.Distinct.{rows_renaming-points}
 use Rattle.ac_syntax.specs.declared.tree.Position.TheVariants.{Output}
-use Rattle.ac_choices.specs.Points.{IsPoint}
 use Rattle.ac_choices.proofs.Keeping.{some-is}
 use Rattle.ac_paths.specs.Formed.{AllFormed, IsFormed}
 use Rattle.ac_paths.specs.Going.{at_rows, extended}
@@ -19,15 +18,14 @@ use Rattle.ac_paths.specs.declared.path.Assumed.{Assumed}
 use Rattle.ac_paths.specs.declared.path.Path.{Path}
 use Rattle.ac_paths.specs.declared.path.Seat.{Seat}
 use Rattle.ac_paths.proofs.Moving.{meets-both, meets-parts}
-use Rattle.ac_widen.specs.declared.derivation.Entry.{Entry}
 use Rattle.ac_claims.specs.declared.types.Kill.{Kill}
 use Rattle.ac_claims.specs.declared.types.Plan.{Plan}
 use Rattle.ac_flow.specs.declared.types.Case.{Case}
 use Rattle.ac_flow_laws.specs.Steps.{InNoKill}
-use Rattle.ac_graft.specs.Sides.{outside_of, side_of, AreSides}
+use Rattle.ac_graft.specs.Sides.{outside_of, AreSides}
 use Rattle.ac_graft.specs.declared.branching.Part.{Part}
 use Rattle.ac_graft.specs.declared.branching.Parts.{Parts}
-use Rattle.ac_leading.specs.Leading.{Unfolding, params_of, seats_of}
+use Rattle.ac_leading.specs.Leading.{Unfolding, seats_of}
 use Rattle.ac_leading.specs.Steps.{AreOutside, IsOutside, IsReached}
 use Rattle.ac_leading.proofs.Picks.{front_and_rest, holds_front, meets_front}
 use Rattle.ac_leading.proofs.Reaching.{trails_lead}
@@ -37,14 +35,14 @@ use Rattle.ac_plans.proofs.Sides.{sides_formed}
 use Rattle.ac_unfold.specs.Making.{judge_of}
 use Rattle.ac_unfold.specs.Missing.{HasNone}
 use Rattle.ac_unfold.specs.Passing.{AreApart, AreKillRows, GoesWithin, IsGrown, IsKillRow, IsOutsideKills, Misses, SidesMiss}
-use Rattle.ac_unfold.specs.Searching.{Adds, AddsBroken, IsAt, IsInCase, IsOf, IsPathAt, Reached}
+use Rattle.ac_unfold.specs.Paths.{Found}
+use Rattle.ac_unfold.specs.Searching.{Adds, AddsBroken, IsAt, IsInCase, IsNone, IsOf, IsPathAt, Reached}
 use Rattle.ac_unfold.specs.declared.asking.Answer.{Answer}
 use Rattle.ac_unfold.specs.declared.asking.Answer.TheVariants as answer
-use Rattle.ac_unfold.specs.declared.course.Course.{Course}
 use Rattle.ac_unfold.specs.declared.ends.Search.{Search}
 use Rattle.ac_unfold.specs.declared.node.Node.{Node}
 use Rattle.ac_unfold.specs.declared.types.UnfoldStop.{UnfoldStop}
-use Rattle.ac_unfold.proofs.Coming.{broken_by, broken_from, broken_none, broken_then, params_are}
+use Rattle.ac_unfold.proofs.Coming.{broken_by, broken_from, broken_then, params_are}
 use Rattle.ac_unfold.proofs.Failing.{outside_fails}
 use Rattle.ac_unfold.proofs.Results.{at_some}
 
@@ -94,10 +92,10 @@ within_same node next e f = record { question = subst (IsGrown node.question) (s
 -- ---- at a place outside the first kills
 
 -- at the branch of the case none is passed yet
-outside_start : (search : Search) (case : Case) (trail : List (Seat × Seat)) (q : Path) (u : Unfolding) → IsInCase search case trail q u → IsOutsideKills search case 0 trail q u
+pub outside_start : (search : Search) (case : Case) (trail : List (Seat × Seat)) (q : Path) (u : Unfolding) → IsInCase search case trail q u → IsOutsideKills search case 0 trail q u
 outside_start search case trail q u h = record { branch = q; in_case = h; grown = grown_itself q; outside = λ p long meets a last. tt }
 
-outside_within : (search : Search) (case : Case) (number : ℕ) (node next : Node) (u : Unfolding) → GoesWithin node next → IsOutsideKills search case number node.trail node.question u → IsOutsideKills search case number next.trail next.question u
+pub outside_within : (search : Search) (case : Case) (number : ℕ) (node next : Node) (u : Unfolding) → GoesWithin node next → IsOutsideKills search case number node.trail node.question u → IsOutsideKills search case number next.trail next.question u
 outside_within search case number node next u w h = record {
   branch = h.branch;
   in_case = subst (λ (t : List (Seat × Seat)). IsInCase search case t h.branch u) (sym w.trail) h.in_case;
@@ -120,7 +118,7 @@ in_no_fewer (k ∷ ks) n zero p l h = tt
 in_no_fewer (k ∷ ks) zero (suc m) p l h = absurd (omega (arith, l))
 in_no_fewer (k ∷ ks) (suc n) (suc m) p l h = (h.0, in_no_fewer ks n m p (omega (arith, l)) h.1)
 
-outside_next : (search : Search) (case : Case) (number next : ℕ) (trail : List (Seat × Seat)) (q : Path) (u : Unfolding) → next ≤ number + 1 → Misses search case number q → IsOutsideKills search case number trail q u → IsOutsideKills search case next trail q u
+pub outside_next : (search : Search) (case : Case) (number next : ℕ) (trail : List (Seat × Seat)) (q : Path) (u : Unfolding) → next ≤ number + 1 → Misses search case number q → IsOutsideKills search case number trail q u → IsOutsideKills search case next trail q u
 unfolding Misses
 outside_next search case number next trail q u l none h = record {
   branch = h.branch;
@@ -139,7 +137,7 @@ all_outside search case trail q u of h p long meets a last =
     let out = subst (λ (x : Path). x.conj.columns ≤ length p → Meets x.conj.rows p → (b : Assumed) → x.last ≡ Some b → InNoKill (take (length case.kills) case.kills) (picked (case_columns (judge_of search).params b) p)) h.grown.is (h.outside p) in
     subst (λ (k : ℕ). InNoKill case.kills (picked (case_columns k a) p)) (sym n) (subst (λ (ks : List (Conj × Kill)). InNoKill ks (picked (case_columns (judge_of search).params a) p)) all (out long meets a last))
 
-outside_all : (search : Search) (case : Case) (trail : List (Seat × Seat)) (q : Path) (u : Unfolding) → IsOf search u → IsOutsideKills search case (length case.kills) trail q u → IsAt search trail q u
+pub outside_all : (search : Search) (case : Case) (trail : List (Seat × Seat)) (q : Path) (u : Unfolding) → IsOf search u → IsOutsideKills search case (length case.kills) trail q u → IsAt search trail q u
 outside_all search case trail q u of h =
     let at = h.in_case in
     let b = h.branch in
@@ -158,7 +156,7 @@ outside_all search case trail q u of h =
     }
 
 -- something is left of the case, where there is such a point
-outside_left : (search : Search) (case : Case) (trail : List (Seat × Seat)) (q : Path) (u : Unfolding) → IsOf search u → IsOutsideKills search case (length case.kills) trail q u → (p : List ℤ) → q.conj.columns ≤ length p → Meets q.conj.rows p → ¬ (case.pieces ≡ [])
+pub outside_left : (search : Search) (case : Case) (trail : List (Seat × Seat)) (q : Path) (u : Unfolding) → IsOf search u → IsOutsideKills search case (length case.kills) trail q u → (p : List ℤ) → q.conj.columns ≤ length p → Meets q.conj.rows p → ¬ (case.pieces ≡ [])
 outside_left search case trail q u of h p long meets =
     let at = h.in_case in
     let b = h.branch in
@@ -170,51 +168,51 @@ outside_left search case trail q u of h p long meets =
 
 -- ---- what is added there
 
-pub start_broken : (search : Search) (case : Case) (node next : Node) (before after : List (List Entry)) → next.question ≡ node.question → next.trail ≡ node.trail → AddsBroken search (IsOutsideKills search case 0 next.trail next.question) before after
+pub start_broken : (search : Search) (case : Case) (node next : Node) (before after : Found) → next.question ≡ node.question → next.trail ≡ node.trail → AddsBroken search (IsOutsideKills search case 0 next.trail next.question) before after
     → AddsBroken search (IsInCase search case node.trail node.question) before after
 start_broken search case node next before after e f h =
     broken_from search (IsInCase search case node.trail node.question) (IsOutsideKills search case 0 next.trail next.question) before after
     (λ u of at. outside_within search case 0 node next u (within_same node next e f) (outside_start search case node.trail node.question u at)) h
 
-pub within_broken : (search : Search) (case : Case) (number : ℕ) (node next : Node) (before after : List (List Entry)) → GoesWithin node next → AddsBroken search (IsOutsideKills search case number next.trail next.question) before after
+pub within_broken : (search : Search) (case : Case) (number : ℕ) (node next : Node) (before after : Found) → GoesWithin node next → AddsBroken search (IsOutsideKills search case number next.trail next.question) before after
     → AddsBroken search (IsOutsideKills search case number node.trail node.question) before after
 within_broken search case number node next before after w h =
     broken_from search (IsOutsideKills search case number node.trail node.question) (IsOutsideKills search case number next.trail next.question) before after (λ u of at. outside_within search case number node next u w at) h
 
-pub next_broken : (search : Search) (case : Case) (number next : ℕ) (trail : List (Seat × Seat)) (q : Path) (before after : List (List Entry)) → next ≤ number + 1 → Misses search case number q → AddsBroken search (IsOutsideKills search case next trail q) before after
+pub next_broken : (search : Search) (case : Case) (number next : ℕ) (trail : List (Seat × Seat)) (q : Path) (before after : Found) → next ≤ number + 1 → Misses search case number q → AddsBroken search (IsOutsideKills search case next trail q) before after
     → AddsBroken search (IsOutsideKills search case number trail q) before after
 next_broken search case number next trail q before after l none h =
     broken_from search (IsOutsideKills search case number trail q) (IsOutsideKills search case next trail q) before after (λ u of at. outside_next search case number next trail q u l none at) h
 
 -- fewer kills are passed too
-fewer_outside : (search : Search) (case : Case) (number next : ℕ) (trail : List (Seat × Seat)) (q : Path) (u : Unfolding) → next ≤ number → IsOutsideKills search case number trail q u → IsOutsideKills search case next trail q u
+pub fewer_outside : (search : Search) (case : Case) (number next : ℕ) (trail : List (Seat × Seat)) (q : Path) (u : Unfolding) → next ≤ number → IsOutsideKills search case number trail q u → IsOutsideKills search case next trail q u
 fewer_outside search case number next trail q u l h =
     record { branch = h.branch; in_case = h.in_case; grown = h.grown; outside = λ p long meets a last. in_no_fewer case.kills number next (picked (case_columns (judge_of search).params a) p) l (h.outside p long meets a last) }
 
-pub fewer_broken : (search : Search) (case : Case) (number next : ℕ) (node opened : Node) (before after : List (List Entry)) → next ≤ number → opened.question ≡ node.question → opened.trail ≡ node.trail
+pub fewer_broken : (search : Search) (case : Case) (number next : ℕ) (node opened : Node) (before after : Found) → next ≤ number → opened.question ≡ node.question → opened.trail ≡ node.trail
     → AddsBroken search (IsOutsideKills search case next opened.trail opened.question) before after → AddsBroken search (IsOutsideKills search case number node.trail node.question) before after
 fewer_broken search case number next node opened before after l e f h =
     broken_from search (IsOutsideKills search case number node.trail node.question) (IsOutsideKills search case next opened.trail opened.question) before after
     (λ u of at. outside_within search case next node opened u (within_same node opened e f) (fewer_outside search case number next node.trail node.question u l at)) h
 
-pub survivor_broken : (search : Search) (case : Case) (trail : List (Seat × Seat)) (q : Path) (before after : List (List Entry)) → AddsBroken search (IsAt search trail q) before after → AddsBroken search (IsOutsideKills search case (length case.kills) trail q) before after
+pub survivor_broken : (search : Search) (case : Case) (trail : List (Seat × Seat)) (q : Path) (before after : Found) → AddsBroken search (IsAt search trail q) before after → AddsBroken search (IsOutsideKills search case (length case.kills) trail q) before after
 survivor_broken search case trail q before after h =
     broken_from search (IsOutsideKills search case (length case.kills) trail q) (IsAt search trail q) before after (λ u of at. outside_all search case trail q u of at) h
 
-pub nothing_left : (search : Search) (case : Case) (trail : List (Seat × Seat)) (q : Path) (before after : List (List Entry)) → case.pieces ≡ [] → Adds (IsPathAt (judge_of search).params trail q.conj) before after
+pub nothing_left : (search : Search) (case : Case) (trail : List (Seat × Seat)) (q : Path) (before after : Found) → case.pieces ≡ [] → Adds (IsPathAt (judge_of search).params trail q.conj) IsNone before after
     → AddsBroken search (IsOutsideKills search case (length case.kills) trail q) before after
 nothing_left search case trail q before after none h =
-    broken_by search (IsOutsideKills search case (length case.kills) trail q) (IsPathAt (judge_of search).params trail q.conj) before after
-    (λ u of at es x. let l = x.there.long in absurd (outside_left search case trail q u of at x.point (omega (arith, l)) x.there.meets none)) h
+    broken_by search (IsOutsideKills search case (length case.kills) trail q) (IsPathAt (judge_of search).params trail q.conj) IsNone before after
+    (λ u of at es x. let l = x.there.long in absurd (outside_left search case trail q u of at x.point (omega (arith, l)) x.there.meets none)) (λ u of at es x. absurd x) h
 
 -- all kills are passed behind the last one
-pub last_broken : (search : Search) (case : Case) (number : ℕ) (trail : List (Seat × Seat)) (q : Path) (before after : List (List Entry)) → length case.kills ≤ number → AddsBroken search (IsOutsideKills search case (length case.kills) trail q) before after
+pub last_broken : (search : Search) (case : Case) (number : ℕ) (trail : List (Seat × Seat)) (q : Path) (before after : Found) → length case.kills ≤ number → AddsBroken search (IsOutsideKills search case (length case.kills) trail q) before after
     → AddsBroken search (IsOutsideKills search case number trail q) before after
 last_broken search case number trail q before after l h =
     broken_from search (IsOutsideKills search case number trail q) (IsOutsideKills search case (length case.kills) trail q) before after (λ u of at. fewer_outside search case number (length case.kills) trail q u l at) h
 
 -- on a side that misses the next kill
-pub side_broken : (search : Search) (case : Case) (number : ℕ) (node beside : Node) (parts : List Part) (part : Part) (before now after : List (List Entry)) → AddsBroken search (IsOutsideKills search case number node.trail node.question) before now
+pub side_broken : (search : Search) (case : Case) (number : ℕ) (node beside : Node) (parts : List Part) (part : Part) (before now after : Found) → AddsBroken search (IsOutsideKills search case number node.trail node.question) before now
     → SidesMiss search case number node.question parts → IsAmong part parts → beside.question ≡ question_on node.question part → beside.trail ≡ node.trail → AddsBroken search (IsOutsideKills search case (number + 1) beside.trail beside.question) now after
     → AddsBroken search (IsOutsideKills search case number node.trail node.question) before after
 unfolding SidesMiss

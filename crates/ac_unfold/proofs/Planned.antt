@@ -4,7 +4,7 @@ use Rattle.std.specs.Prelude.{option_map}
 use Rattle.ac_choices.proofs.Keeping.{map-some}
 use Rattle.ac_paths.specs.Going.{Pairing}
 use Rattle.ac_claims.specs.Domains.{size_of}
-use Rattle.ac_claims.specs.ProofFaults.{Domain, domain}
+use Rattle.ac_claims.specs.ProofFaults.{domain}
 use Rattle.ac_claims.specs.declared.domains.Size.{Size}
 use Rattle.ac_claims.specs.declared.types.Claim.{Claim}
 use Rattle.ac_unfold.specs.Planned.{HasDomains}

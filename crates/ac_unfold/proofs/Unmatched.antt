@@ -1,6 +1,6 @@
 -- Pairs that match nothing: by what stands there, and at a point where a row that has to stand fails.
 use Rattle.std.proofs.Common.{◌≡◌, ◌⊎◌, inl, inr, ℕ, Bool, true, false, ℤ, List, [], ◌∷◌, ◌++◌, length, Option, Some, None, refl, sym, ap, ◌∙◌, subst, arith, append-nil, length-append}
-use Rattle.std.specs.Prelude.{is_some, option_map, slice_get}
+use Rattle.std.specs.Prelude.{Result, Ok, Err, IfOk, is_some, option_map, slice_get}
 use Rattle.ac_forms.specs.Affine.{Affine}
 use Rattle.ac_forms.specs.Negation.{above, below, negation, piece, HasExtension}
 use Rattle.ac_forms.specs.Pieces.{IsInSome}
@@ -29,10 +29,13 @@ use Rattle.ac_leading.specs.Leading.{Unfolding}
 use Rattle.ac_leading.specs.Steps.{AreNoReaders}
 use Rattle.ac_stopping.specs.Parts.{order_of}
 use Rattle.ac_syntax.specs.declared.tree.Order.{Order}
+use Rattle.ac_unfold.specs.Full.{IsEndOfSteps}
 use Rattle.ac_unfold.specs.Making.{judge_of}
 use Rattle.ac_unfold.specs.Searching.{Fails, IsKindThere, IsLeaf, IsNoNumber, IsOf}
 use Rattle.ac_unfold.specs.declared.ends.Search.{Search}
+use Rattle.ac_unfold.specs.declared.kinds.Next.{Next}
 use Rattle.ac_unfold.specs.declared.kinds.Next.TheVariants as next
+use Rattle.ac_unfold.specs.declared.types.UnfoldStop.{UnfoldStop}
 use Rattle.ac_unfold.proofs.Matching.{cells_are}
 
 -- ---- an equality that fails
@@ -206,3 +209,11 @@ calls_kind search q o r order e s f k is u of =
 pub leaf_is : (search : Search) (q : Path) (o r : Option CellForms) (calls : Bool) → o ≡ cell_read (judge_of search).left q.left.position → is_some o ≡ false → r ≡ cell_read (judge_of search).right q.right.position → is_some r ≡ false
     → (calls ≡ false → (c d : CallAt) → call_at (judge_of search).left q.left.position ≡ Some c → call_at (judge_of search).right q.right.position ≡ Some d → ¬ ((c.symbol ≡ d.symbol) × (length c.args ≡ length d.args))) → calls ≡ false → IsLeaf (judge_of search) q
 leaf_is search q o r calls e s f k h is = record { left = sym e ∙ none_of o s; right = sym f ∙ none_of r k; calls = h is }
+
+-- so no step is left, whatever comes of it
+pub leaf_ends : (res : Result Next UnfoldStop) (search : Search) (q : Path) → IsLeaf (judge_of search) q → IfOk res (IsEndOfSteps search q)
+leaf_ends (Ok (next.Read side)) search q leaf = tt
+leaf_ends (Ok (next.Calls order)) search q leaf = tt
+leaf_ends (Ok (next.Match rows end)) search q leaf = leaf
+leaf_ends (Ok next.Mismatch) search q leaf = leaf
+leaf_ends (Err stop) search q leaf = tt

@@ -1,9 +1,12 @@
+pub mod Asked
 pub mod Begun
 pub mod Unfoldings
 pub mod Cases
 pub mod Causes
 pub mod Courses
 pub mod Cutting
+pub mod Ended
+pub mod Full
 pub mod Making
 pub mod Missing
 pub mod Passing
@@ -13,4 +16,5 @@ pub mod Plans
 pub mod Searching
 pub mod Standing
 pub mod Stopping
+pub mod Stops
 pub mod Wanting

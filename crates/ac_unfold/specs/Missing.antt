@@ -3,7 +3,7 @@ use Rattle.std.specs.Prelude.{◌≡◌, ◌<◌, true, List, ℤ, length, Optio
 use Rattle.ac_forms.specs.Rows.{IsWellMade}
 use Rattle.ac_forms.specs.declared.conj.Conj.{Conj}
 use Rattle.ac_choices.specs.Points.{IsPoint}
-use Rattle.ac_widen.specs.declared.derivation.Entry.{Entry}
+use Rattle.ac_unfold.specs.Paths.{Found}
 use Rattle.ac_unfold.specs.declared.asking.Answer.{Answer}
 use Rattle.ac_unfold.specs.declared.asking.Answer.TheVariants as answer
 use Rattle.ac_unfold.specs.declared.asking.Opened.{Opened}
@@ -33,13 +33,13 @@ IsShownOpen (opened.On n) = Unit {0}
 -- ---- paths
 
 -- where plans are made, there is nothing only where a further path was found
-abbrev pub FindsElse : {A : Type 0} → Search → Option A → List (List Entry) → List (List Entry) → Type 0
-FindsElse search made before after = search.making ≡ true → made ≡ None → length before < length after
+abbrev pub FindsElse : {A : Type 0} → Search → Option A → Found → Found → Type 0
+FindsElse search made before after = search.making ≡ true → made ≡ None → length before.paths < length after.paths
 
-abbrev pub FindsStood : Search → Stood → List (List Entry) → List (List Entry) → Type 0
+abbrev pub FindsStood : Search → Stood → Found → Found → Type 0
 FindsStood search (stood.On course) before after = Unit {0}
 FindsStood search (stood.Ended o) before after = FindsElse search o before after
 
-abbrev pub FindsClosed : Search → Closed → List (List Entry) → List (List Entry) → Type 0
-FindsClosed search closed.Broken before after = search.making ≡ true → length before < length after
+abbrev pub FindsClosed : Search → Closed → Found → Found → Type 0
+FindsClosed search closed.Broken before after = search.making ≡ true → length before.paths < length after.paths
 FindsClosed search (closed.Refuted plans) before after = Unit {0}

@@ -6,6 +6,11 @@ use Rattle.ac_widen.specs.declared.derivation.Reason.{Reason}
 use Rattle.ac_widen.specs.declared.derivation.Reason.TheVariants.{Output, Step}
 use Rattle.ac_claims.specs.declared.types.ClaimTree.{ClaimTree}
 
+-- what an unfolding has found so far: broken paths, and the paths to ends that it reached
+pub record Found : Type 0 where
+  pub paths : List (List Entry)
+  pub ended : List (List Entry)
+
 -- the pair with this number is where the path begins, or a step of the one before
 abbrev pub reason_at : ℕ → Reason
 reason_at zero = Output

@@ -26,7 +26,9 @@ use Rattle.ac_leading.specs.Ends.{entries_at, MatchesNothing}
 use Rattle.ac_leading.specs.Leading.{Unfolding, positions_of, seats_of}
 use Rattle.ac_leading.specs.Steps.{flow_on, AreNoReaders, IsBranchOf, IsReached, ReadsOn}
 use Rattle.ac_leading.specs.Broken.{HasNoClaim, IsBroken}
+use Rattle.ac_unfold.specs.Ended.{IsWalked}
 use Rattle.ac_unfold.specs.Making.{judge_of}
+use Rattle.ac_unfold.specs.Paths.{Found}
 use Rattle.ac_unfold.specs.declared.asking.Answer.{Answer}
 use Rattle.ac_unfold.specs.declared.asking.Answer.TheVariants as answer
 use Rattle.ac_unfold.specs.declared.asking.Opened.{Opened}
@@ -43,11 +45,18 @@ use Rattle.ac_unfold.specs.declared.node.Node.{Node}
 
 -- ---- what is added
 
--- the second list is the first one with further paths, each of which is of this kind
-pub record Adds (Kind : List Entry → Type 0) (before after : List (List Entry)) : Type 0 where
+-- the second is the first one with further broken paths, each of which is of this kind, and further ends, each of that kind
+pub record Adds (Kind Ends : List Entry → Type 0) (before after : Found) : Type 0 where
   pub more : List (List Entry)
-  pub is : after ≡ before ++ more
+  pub is : after.paths ≡ before.paths ++ more
   pub all : AllByRecursion Kind more
+  pub ends : List (List Entry)
+  pub ended_is : after.ended ≡ before.ended ++ ends
+  pub all_ends : AllByRecursion Ends ends
+
+-- no path is of this kind
+abbrev pub IsNone : List Entry → Type 0
+IsNone es = ⊥
 
 -- the entries of a trail at a point of the rows
 pub record IsPathAt (params : ℕ) (trail : List (Seat × Seat)) (c : Conj) (es : List Entry) : Type 0 where
@@ -142,10 +151,14 @@ pub record IsInCase (search : Search) (case : Case) (trail : List (Seat × Seat)
   pub trail_is : trail ≡ before ++ seats_of b ∷ []
   pub gone : b.gone ≡ true
 
--- no path is lost, and the further ones are broken in each unfolding of the search that is at this place
-unfoldable pub AddsBroken : Search → (Unfolding → Type 0) → List (List Entry) → List (List Entry) → Type 0
-AddsBroken search At before after =
-    (length before ≤ length after) × ((u : Unfolding) → IsOf search u → At u → AllByRecursion (IsBroken u search.claims.now) before → AllByRecursion (IsBroken u search.claims.now) after)
+-- the paths are broken, and the others lead to ends
+pub record IsSound (u : Unfolding) (claims : List Claim) (found : Found) : Type 0 where
+  pub broken : AllByRecursion (IsBroken u claims) found.paths
+  pub walked : AllByRecursion (IsWalked u claims) found.ended
+
+-- no path is lost, and what is found stays sound in each unfolding of the search that is at this place
+unfoldable pub AddsBroken : Search → (Unfolding → Type 0) → Found → Found → Type 0
+AddsBroken search At before after = (length before.paths ≤ length after.paths) × ((u : Unfolding) → IsOf search u → At u → IsSound u search.claims.now before → IsSound u search.claims.now after)
 
 -- ---- kinds
 

@@ -1,7 +1,6 @@
 -- Where the plans of a search stop.
 use Rattle.std.specs.Prelude.{◌≡◌, ◌+◌, ℕ, true, List, Some, slice_get}
 use Rattle.ac_forms.specs.Members.{IsAmong}
-use Rattle.ac_forms.specs.declared.row.Row.{Row}
 use Rattle.ac_syntax.specs.declared.tree.Order.{Order}
 use Rattle.ac_syntax.specs.declared.tree.Position.{Position}
 use Rattle.ac_syntax.specs.declared.tree.Site.{Site}

@@ -1,5 +1,5 @@
 -- Rows that have to stand among others.
-use Rattle.std.specs.Prelude.{◌≡◌, ℕ, false}
+use Rattle.std.specs.Prelude.{◌≡◌, ℕ, false, true}
 use Rattle.ac_forms.specs.NormalForm.{is_absurd}
 use Rattle.ac_forms.specs.NormalRows.{normal_row, NormalFits}
 use Rattle.ac_forms.specs.Rows.{IsRowOver}
@@ -17,3 +17,9 @@ abbrev pub IsWanted : ℕ → Row → Wanted → Type 0
 IsWanted columns r Standing = CanStand columns r
 IsWanted columns r Absurd = Unit {0}
 IsWanted columns r Wide = Unit {0}
+
+-- why it does not stand: its normal form is absurd, or it has none over these columns
+abbrev pub IsRefused : ℕ → Row → Wanted → Type 0
+IsRefused columns r Standing = Unit {0}
+IsRefused columns r Absurd = is_absurd (normal_row r) ≡ true
+IsRefused columns r Wide = IsRowOver columns r → ¬ NormalFits r

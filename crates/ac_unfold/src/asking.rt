@@ -4,9 +4,11 @@ ghost use Rattle.ac_cert.specs.Accepted.{Accepts, absurd_refusals};
 ghost use Rattle.ac_forms.specs.Rows.{IsWellMade};
 ghost use Rattle.ac_paths.specs.declared.path.Path.{Path};
 ghost use Rattle.ac_graft.specs.declared.placing.Placing.{Placing};
-ghost use Rattle.ac_unfold.specs.Causes.{stop_of, StopsAt};
-ghost use Rattle.ac_unfold.specs.Wanting.{CanStand, IsWanted};
+ghost use Rattle.ac_unfold.specs.Causes.{stop_of};
+ghost use Rattle.ac_unfold.specs.Stops.{StopsAsking};
+ghost use Rattle.ac_unfold.specs.Wanting.{CanStand, IsRefused, IsWanted};
 ghost use Rattle.ac_unfold.specs.Making.{IsAnswer, IsOpen, IsRefuted, IsStanding};
+ghost use Rattle.ac_unfold.specs.Full.{IsNeverFull};
 ghost use Rattle.ac_unfold.specs.Missing.{HasNone, IsShown, IsShownOpen};
 ghost use Rattle.ac_unfold.specs.Searching.{IsPointIn, IsUnmet, KeepsTrail};
 
@@ -57,7 +59,8 @@ fn decided(alloc: Global, node: &Node, budget: u64) -> Result<Answer, UnfoldStop
     ensures shown { IfOk result IsShown }
     ensures point { IfOk result (IsPointIn node.now.question.conj) }
     ensures answer { IfOk result (IsAnswer node.now.placing node.now.question) }
-    ensures causes { IfErr result (StopsAt budget) }
+    ensures causes { IfErr result (StopsAsking budget node.now.question.conj) }
+    ensures full { IfErr result IsNeverFull }
 {
     if !node.question.conj.is_well_made() {
         return Err(UnfoldStop::Memory(AllocError));
@@ -75,7 +78,8 @@ fn settled(alloc: Global, node: &Node, budget: u64) -> Result<Answer, UnfoldStop
     ensures shown { IfOk result IsShown }
     ensures point { IfOk result (IsPointIn node.now.question.conj) }
     ensures answer { IfOk result (IsAnswer node.now.placing node.now.question) }
-    ensures causes { IfErr result (StopsAt budget) }
+    ensures causes { IfErr result (StopsAsking budget node.now.question.conj) }
+    ensures full { IfErr result IsNeverFull }
 {
     match settle(alloc, &node.question.conj, budget) {
         Ok(Decision::Empty(tree)) => {
@@ -93,7 +97,8 @@ pub(crate) fn found(alloc: Global, conj: &Conj, budget: u64) -> Result<Answer, U
     ensures answer { (s : Placing) (q : Path) → IfOk result (IsAnswer s q) }
     ensures none { IfOk result (HasNone conj.now) }
     ensures point { IfOk result (IsPointIn conj.now) }
-    ensures causes { IfErr result (StopsAt budget) }
+    ensures causes { IfErr result (StopsAsking budget conj.now) }
+    ensures full { IfErr result IsNeverFull }
 {
     if !conj.is_well_made() {
         return Err(UnfoldStop::Memory(AllocError));
@@ -115,7 +120,8 @@ pub(crate) fn asked(
     ensures shown { making ≡ true → IfOk result IsShown }
     ensures answer { IfOk result (IsAnswer node.now.placing node.now.question) }
     ensures point { IfOk result (IsPointIn node.now.question.conj) }
-    ensures causes { IfErr result (StopsAt budget) }
+    ensures causes { IfErr result (StopsAsking budget node.now.question.conj) }
+    ensures full { IfErr result IsNeverFull }
 {
     if making {
         decided(alloc, node, budget)
@@ -215,6 +221,7 @@ pub(crate) enum Wanted {
 pub(crate) fn kind_of(alloc: Global, row: &Row, columns: usize) -> Result<Wanted, AllocError>
     ensures wanted { IfOk result (IsWanted columns row.now) }
     ensures unmet { IfOk result (IsUnmet columns row.now) }
+    ensures refused { IfOk result (IsRefused columns row.now) }
 {
     if !row.is_over(columns) {
         return Ok(Wanted::Wide);
@@ -229,7 +236,8 @@ pub(crate) fn kind_of(alloc: Global, row: &Row, columns: usize) -> Result<Wanted
 
 /// Whether a row over so many columns stands where it is added.
 pub(crate) fn can_stand(alloc: Global, row: &Row, columns: usize) -> Result<bool, AllocError>
-    ensures { IfOk result (λ can. can ≡ true → CanStand columns row.now) }
+    ensures can { IfOk result (λ can. can ≡ true → CanStand columns row.now) }
+    ensures cannot { IfOk result (λ can. can ≡ false → ¬ CanStand columns row.now) }
 {
     match kind_of(alloc, row, columns)? {
         Wanted::Standing => Ok(true),

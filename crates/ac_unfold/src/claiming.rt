@@ -5,11 +5,12 @@ ghost use Rattle.ac_claims.specs.Ending.{same_position};
 ghost use Rattle.ac_claims.specs.declared.types.Claim.{Claim as Asked};
 ghost use Rattle.ac_leading.specs.Leading.{seats_of};
 ghost use Rattle.ac_leading.specs.Broken.{HasNoClaim};
-ghost use Rattle.ac_unfold.specs.Causes.{StopsAt};
 ghost use Rattle.ac_unfold.specs.Searching.{AddsBroken, IsAt};
+ghost use Rattle.ac_unfold.specs.Full.{FullUnder};
 ghost use Rattle.ac_unfold.specs.Making.{IsMade};
 ghost use Rattle.ac_unfold.specs.Missing.{FindsElse};
 ghost use Rattle.ac_unfold.specs.Cutting.{IsClaimBehind, IsNumbered};
+ghost use Rattle.ac_unfold.specs.Stops.{Follows, StopsUnder};
 
 use crate::ends::{Search, stand};
 use crate::finding::Finds;
@@ -68,7 +69,8 @@ pub(crate) fn at_claim(
     ensures missing { IfOk result (λ made. FindsElse search.now made finds.old finds.new) }
     ensures made { IfOk result (λ made. IfSome made (IsMade search.now node.placing node.question)) }
     ensures broken { OnOk result (AddsBroken search.now (IsAt search.now node.trail node.question) finds.old finds.new) }
-    ensures causes { IfErr result (StopsAt search.now.budget) }
+    ensures causes { IfErr result (StopsUnder search.now (Follows search.now node.question)) }
+    ensures full { IfErr result (FullUnder search.now (IsAt search.now node.trail node.question) finds.old) }
 {
     let Some(claim) = search.claims.get(number) else {
         return Err(UnfoldStop::Memory(AllocError));

@@ -4,11 +4,12 @@ ghost use Rattle.ac_forms.specs.Rows.{Holds, IsRowOver};
 ghost use Rattle.ac_graft.specs.Sides.{sides_of, CanBranch};
 ghost use Rattle.ac_unfold.specs.Courses.{IsBehind};
 ghost use Rattle.ac_ends.specs.Ends.{IsEnd};
-ghost use Rattle.ac_unfold.specs.Causes.{StopsAt};
 ghost use Rattle.ac_unfold.specs.Making.{judge_of, IsEndFor, IsMade, IsRefuted};
 ghost use Rattle.ac_unfold.specs.Missing.{FindsClosed, FindsElse, FindsStood};
-ghost use Rattle.ac_unfold.specs.Searching.{Adds, IsPathAt, IsPathBeside, IsPathBreaking, KeepsNode};
+ghost use Rattle.ac_unfold.specs.Full.{FullBy};
+ghost use Rattle.ac_unfold.specs.Searching.{Adds, IsNone, IsPathAt, IsPathBeside, IsPathBreaking, KeepsNode};
 ghost use Rattle.ac_unfold.specs.Standing.{AreStood, IsClosed, IsEndedPlan, IsStood};
+ghost use Rattle.ac_unfold.specs.Stops.{HandsBack, StopsAsking, StopsOutside, StopsStanding};
 ghost use Rattle.ac_unfold.specs.Wanting.{CanStand};
 
 use crate::asking::{Answer, Wanted, asked, kind_of, seen, stands_in};
@@ -47,7 +48,7 @@ impl Search<'_> {
 
     /// The question of a node, handed back as one that is too wide.
     pub(crate) fn too_wide(&self, alloc: Global, node: &Node) -> UnfoldStop
-        ensures { StopsAt self.now.budget result }
+        ensures { HandsBack node.now.question.conj (Unit {0}) result }
     {
         match node.question.conj.copy(alloc) {
             Ok(question) => UnfoldStop::Overflow(question),
@@ -65,8 +66,9 @@ pub(crate) fn refuted(
 ) -> Result<Option<Plan>, UnfoldStop>
     ensures missing { IfOk result (λ made. FindsElse search.now made finds.old finds.new) }
     ensures made { IfOk result (λ made. IfSome made (IsRefuted node.now.placing node.now.question)) }
-    ensures found { OnOk result (Adds (IsPathAt (judge_of search.now).params node.now.trail node.now.question.conj) finds.old finds.new) }
-    ensures causes { IfErr result (StopsAt search.now.budget) }
+    ensures found { OnOk result (Adds (IsPathAt (judge_of search.now).params node.now.trail node.now.question.conj) IsNone finds.old finds.new) }
+    ensures causes { IfErr result (StopsAsking search.now.budget node.now.question.conj) }
+    ensures full { IfErr result (FullBy IsNone finds.old.ended) }
 {
     match asked(alloc, node, search.budget, search.making)? {
         Answer::Empty(plan) => Ok(plan),
@@ -87,8 +89,9 @@ fn refuted_part(
 ) -> Result<Option<Plan>, UnfoldStop>
     ensures missing { IfOk result (λ made. FindsElse search.now made finds.old finds.new) }
     ensures made { IfOk result (λ made. IfSome made (IsRefuted beside.now.placing beside.now.question)) }
-    ensures found { OnOk result (Adds (IsPathAt (judge_of search.now).params beside.now.trail beside.now.question.conj) finds.old finds.new) }
-    ensures causes { IfErr result (StopsAt search.now.budget) }
+    ensures found { OnOk result (Adds (IsPathAt (judge_of search.now).params beside.now.trail beside.now.question.conj) IsNone finds.old finds.new) }
+    ensures causes { IfErr result (StopsAsking search.now.budget beside.now.question.conj) }
+    ensures full { IfErr result (FullBy IsNone finds.old.ended) }
 {
     match seen(alloc, beside, reduction, search.making)? {
         Some(Answer::Empty(plan)) => Ok(plan),
@@ -116,8 +119,9 @@ fn refute_parts(
 ) -> Result<Closed, UnfoldStop>
     ensures missing { IfOk result (λ made. FindsClosed search.now made finds.old finds.new) }
     ensures closed { IfOk result (IsClosed search.now node.now outside.now) }
-    ensures found { OnOk result (Adds (IsPathBeside (judge_of search.now).params node.now.trail node.now.question.conj outside.now) finds.old finds.new) }
-    ensures causes { IfErr result (StopsAt search.now.budget) }
+    ensures found { OnOk result (Adds (IsPathBeside (judge_of search.now).params node.now.trail node.now.question.conj outside.now) IsNone finds.old finds.new) }
+    ensures causes { IfErr result (StopsOutside search.now.budget node.now.question.conj outside.now) }
+    ensures full { IfErr result (FullBy IsNone finds.old.ended) }
 {
     let mut plans = Vec::new(alloc);
     for part in outside {
@@ -174,8 +178,9 @@ fn stand_absurd(
     ensures missing { IfOk result (λ made. FindsStood search.now made finds.old finds.new) }
     ensures stood { IfOk result (IsStood search.now course row.now) }
     ensures kept { IfOk result (KeepsNode course) }
-    ensures found { OnOk result (Adds (IsPathBreaking (judge_of search.now).params course.node.trail course.node.question.conj (row.now ∷ [])) finds.old finds.new) }
-    ensures causes { IfErr result (StopsAt search.now.budget) }
+    ensures found { OnOk result (Adds (IsPathBreaking (judge_of search.now).params course.node.trail course.node.question.conj (row.now ∷ [])) IsNone finds.old finds.new) }
+    ensures causes { IfErr result (StopsStanding search.now.budget course.node.question.conj (row.now ∷ [])) }
+    ensures full { IfErr result (FullBy IsNone finds.old.ended) }
 {
     let end = refuted(alloc, search, &course.node, finds)?;
     let made = ended(alloc, course, end)?;
@@ -195,8 +200,9 @@ fn stand_branched(
     ensures missing { IfOk result (λ made. FindsStood search.now made finds.old finds.new) }
     ensures stood { IfOk result (IsStood search.now course row.now) }
     ensures kept { IfOk result (KeepsNode course) }
-    ensures found { OnOk result (Adds (IsPathBreaking (judge_of search.now).params course.node.trail course.node.question.conj (row.now ∷ [])) finds.old finds.new) }
-    ensures causes { IfErr result (StopsAt search.now.budget) }
+    ensures found { OnOk result (Adds (IsPathBreaking (judge_of search.now).params course.node.trail course.node.question.conj (row.now ∷ [])) IsNone finds.old finds.new) }
+    ensures causes { IfErr result (StopsStanding search.now.budget course.node.question.conj (row.now ∷ [])) }
+    ensures full { IfErr result (FullBy IsNone finds.old.ended) }
 {
     let Some(parts) = parts_of(alloc, row, course.node.question.conj.columns)? else {
         return Err(search.too_wide(alloc, &course.node));
@@ -230,8 +236,9 @@ fn stand_row(
     ensures missing { IfOk result (λ made. FindsStood search.now made finds.old finds.new) }
     ensures stood { IfOk result (IsStood search.now course row.now) }
     ensures kept { IfOk result (KeepsNode course) }
-    ensures found { OnOk result (Adds (IsPathBreaking (judge_of search.now).params course.node.trail course.node.question.conj (row.now ∷ [])) finds.old finds.new) }
-    ensures causes { IfErr result (StopsAt search.now.budget) }
+    ensures found { OnOk result (Adds (IsPathBreaking (judge_of search.now).params course.node.trail course.node.question.conj (row.now ∷ [])) IsNone finds.old finds.new) }
+    ensures causes { IfErr result (StopsStanding search.now.budget course.node.question.conj (row.now ∷ [])) }
+    ensures full { IfErr result (FullBy IsNone finds.old.ended) }
 {
     let standing = stands_in(alloc, &course.node.question.conj, row)?;
     if standing {
@@ -268,10 +275,11 @@ fn stand_rows(
 ) -> Result<Stood, UnfoldStop>
     ensures missing { IfOk result (λ made. FindsStood search.now made finds.old finds.new) }
     ensures stood { IfOk result (AreStood search.now node rows.now) }
-    ensures found { OnOk result (Adds (IsPathBreaking (judge_of search.now).params node.trail node.question.conj rows.now) finds.old finds.new) }
-    ensures causes { IfErr result (StopsAt search.now.budget) }
+    ensures found { OnOk result (Adds (IsPathBreaking (judge_of search.now).params node.trail node.question.conj rows.now) (IsPathAt (judge_of search.now).params node.trail node.question.conj) finds.old finds.new) }
+    ensures causes { IfErr result (StopsStanding search.now.budget node.question.conj rows.now) }
+    ensures full { IfErr result (FullBy (IsPathAt (judge_of search.now).params node.trail node.question.conj) finds.old.ended) }
 {
-    finds.count(alloc)?;
+    finds.reach(alloc, search.params(), &node)?;
     let reduction = Reduction::of(alloc, &node.question.conj)?;
     let mut course = Course::new(alloc, node);
     for row in rows {
@@ -300,8 +308,9 @@ pub(crate) fn stand(
     requires { IsEndFor search.now node.question rows.now end }
     ensures missing { IfOk result (λ made. FindsElse search.now made finds.old finds.new) }
     ensures made { IfOk result (λ made. IfSome made (IsMade search.now node.placing node.question)) }
-    ensures found { OnOk result (Adds (IsPathBreaking (judge_of search.now).params node.trail node.question.conj rows.now) finds.old finds.new) }
-    ensures causes { IfErr result (StopsAt search.now.budget) }
+    ensures found { OnOk result (Adds (IsPathBreaking (judge_of search.now).params node.trail node.question.conj rows.now) (IsPathAt (judge_of search.now).params node.trail node.question.conj) finds.old finds.new) }
+    ensures causes { IfErr result (StopsStanding search.now.budget node.question.conj rows.now) }
+    ensures full { IfErr result (FullBy (IsPathAt (judge_of search.now).params node.trail node.question.conj) finds.old.ended) }
 {
     let stood = stand_rows(alloc, search, node, rows, finds)?;
     match stood {
@@ -323,10 +332,11 @@ pub(crate) fn mismatch(
 ) -> Result<Option<Plan>, UnfoldStop>
     ensures missing { IfOk result (λ made. FindsElse search.now made finds.old finds.new) }
     ensures made { IfOk result (λ made. IfSome made (IsRefuted node.now.placing node.now.question)) }
-    ensures found { OnOk result (Adds (IsPathAt (judge_of search.now).params node.now.trail node.now.question.conj) finds.old finds.new) }
-    ensures causes { IfErr result (StopsAt search.now.budget) }
+    ensures found { OnOk result (Adds (IsPathAt (judge_of search.now).params node.now.trail node.now.question.conj) (IsPathAt (judge_of search.now).params node.now.trail node.now.question.conj) finds.old finds.new) }
+    ensures causes { IfErr result (StopsAsking search.now.budget node.now.question.conj) }
+    ensures full { IfErr result (FullBy (IsPathAt (judge_of search.now).params node.now.trail node.now.question.conj) finds.old.ended) }
 {
-    finds.count(alloc)?;
+    finds.reach(alloc, search.params(), node)?;
     refuted(alloc, search, node, finds)
 }
 
@@ -338,7 +348,7 @@ pub(crate) fn rows_or(
     node: &Node,
 ) -> Result<Items<Row>, UnfoldStop>
     ensures rows { IfOk result (λ made. rows ≡ Some made) }
-    ensures causes { IfErr result (StopsAt search.now.budget) }
+    ensures causes { IfErr result (HandsBack node.now.question.conj (rows ≡ None)) }
 {
     match rows {
         Some(rows) => Ok(rows),

@@ -1,42 +1,50 @@
 //! Broken paths: the pairs that lead from a start to where it fails.
-ghost use Rattle.std.specs.Prelude.{◌≡◌, ◌<◌, ◌++◌, ◌∷◌, [], IfOk, OnOk, Some, length, pos, slice_get, slice_index_or, IfErr};
+ghost use Rattle.std.specs.Prelude.{◌≡◌, ◌<◌, ◌++◌, ◌∷◌, [], IfErr, IfOk, OnOk, Some, length, pos, slice_get, slice_index_or};
 ghost use Rattle.std.specs.List.{AllByRecursion, range_with_len};
 ghost use Rattle.ac_forms.specs.Renaming.{picked};
 ghost use Rattle.ac_leading.specs.Ends.{entries_at};
 ghost use Rattle.ac_leading.specs.Leading.{point_of};
+ghost use Rattle.ac_unfold.specs.Ended.{places_along, place_of};
+ghost use Rattle.ac_unfold.specs.Full.{nothing_found, EndsMore, FullBy, IsCounted};
 ghost use Rattle.ac_unfold.specs.Paths.{IsPath, reason_at};
-ghost use Rattle.ac_unfold.specs.declared.types.UnfoldStop.TheVariants.{Paths};
+ghost use Rattle.ac_unfold.specs.Searching.{IsPathAt};
 
 use crate::node::Node;
 use crate::types::UnfoldStop;
+use crate::witness::continued;
 use ac_forms::column_after;
 use ac_items::Items;
 use ac_paths::path::Seat;
+use ac_syntax::tree::Position;
 use ac_widen::{Entry, Reason};
 use std::alloc::{AllocError, Global};
+use std::cmp::Ordering;
 use std::marker::Model;
 
 /// How many ends of paths one start may have.
-const MOST_ENDS: u64 = 20_000;
+const MOST_ENDS: usize = 20_000;
 
-/// The broken paths found so far, and how many ends were reached. Contracts see the paths.
+/// The broken paths found so far, and the paths to ends that were reached, each through other positions than those before it.
+/// Contracts see both.
 #[derive(Debug, Drop)]
 pub(crate) struct Finds {
     paths: Items<Items<Entry>>,
-    ends: u64,
+    ended: Items<Items<Entry>>,
+    last: Items<usize>,
 }
 
 impl Model for Finds {
-    ghost use Rattle.std.specs.Prelude.{List};
+    ghost use Rattle.std.specs.Prelude.{◌≤◌, length, map};
     ghost use Rattle.std.specs.List.{AllByRecursion};
-    ghost use Rattle.ac_widen.specs.declared.derivation.Entry.{Entry};
-    ghost use Rattle.ac_unfold.specs.Paths.{IsPath};
+    ghost use Rattle.ac_unfold.specs.Ended.{places_along};
+    ghost use Rattle.ac_unfold.specs.Full.{IncreaseTo};
+    ghost use Rattle.ac_unfold.specs.Paths.{Found, IsPath};
 
-    ghost Value = { List (List Entry) };
+    ghost Value = { Found };
 
-    ghost view = { λ finds. finds.paths };
+    ghost view = { λ finds. record { paths = finds.paths; ended = finds.ended } };
 
-    ghost invariant = { λ finds. AllByRecursion IsPath finds.paths };
+    ghost invariant = { λ finds. AllByRecursion IsPath finds.paths × IncreaseTo (map places_along finds.ended) finds.last × (length finds.ended ≤ 20000) };
 }
 
 /// The number of a point in a column, 0 where it has none.
@@ -116,14 +124,52 @@ fn entries(
     Ok(made)
 }
 
+/// The numbers of a position.
+fn place_of(position: &Position) -> (usize, usize, usize)
+    ensures { place_of position.now ≡ result.0 ∷ result.1 ∷ result.2 ∷ [] }
+{
+    match position {
+        Position::Output(array) => (0, *array, 0),
+        Position::Node { stmt, node } => (1, *stmt, *node),
+        Position::InitialOutput(array) => (2, *array, 0),
+        Position::InitialNode { stmt, node } => (3, *stmt, *node),
+    }
+}
+
+/// The numbers of a position behind others.
+#[tactic(auto, using(crate::proofs::Reaching::places_steps))]
+fn push_place(places: &mut Items<usize>, position: &Position) -> Result<(), AllocError>
+    ensures { OnOk result (places.new ≡ places.old ++ place_of position.now) }
+{
+    let (kind, first, second) = place_of(position);
+    places.push(kind)?;
+    places.push(first)?;
+    places.push(second)
+}
+
+/// The numbers of the positions along a path.
+#[tactic(auto, using(crate::proofs::Reaching::places_steps))]
+fn places_along(alloc: Global, path: &[Entry]) -> Result<Items<usize>, AllocError>
+    ensures { IfOk result (λ places. places ≡ places_along path.now) }
+{
+    let mut places = Items::new(alloc);
+    for entry in path {
+        push_place(&mut places, &entry.left)?;
+        push_place(&mut places, &entry.right)?;
+    }
+    Ok(places)
+}
+
 impl Finds {
     /// Nothing is found.
+    #[tactic(auto, using(crate::proofs::Reaching::keep_steps))]
     pub(crate) fn new(alloc: Global) -> Finds
-        ensures { result ≡ [] }
+        ensures { result ≡ nothing_found }
     {
         Finds {
             paths: Items::new(alloc),
-            ends: 0,
+            ended: Items::new(alloc),
+            last: Items::new(alloc),
         }
     }
 
@@ -134,7 +180,7 @@ impl Finds {
 
     /// The paths.
     pub(crate) fn into_paths(self) -> Items<Items<Entry>>
-        ensures same { result ≡ self }
+        ensures same { result ≡ self.paths }
         ensures paths { AllByRecursion IsPath result }
     {
         let Finds { paths, .. } = self;
@@ -143,16 +189,15 @@ impl Finds {
 
     /// The first path.
     pub(crate) fn into_first(self) -> Items<Entry>
-        requires { 0 < length self }
-        ensures { slice_get self 0 ≡ Some result }
+        requires { 0 < length self.paths }
+        ensures { slice_get self.paths 0 ≡ Some result }
     {
-        let Finds { paths, .. } = self;
-        let mut paths = paths.into_vec();
+        let mut paths = self.into_paths().into_vec();
         paths.remove(0)
     }
 
     /// The path to a node, at a point of its question, is broken.
-    #[tactic(auto, using(crate::proofs::PathSteps::path_steps))]
+    #[tactic(auto, using(crate::proofs::PathSteps::path_steps, crate::proofs::Reaching::keep_steps))]
     pub(crate) fn push(
         &mut self,
         alloc: Global,
@@ -160,29 +205,43 @@ impl Finds {
         node: &Node,
         point: &[i128],
     ) -> Result<(), AllocError>
-        ensures { OnOk result (self.new ≡ self.old ++ entries_at params point.now node.now.trail ∷ []) }
+        ensures paths { OnOk result (self.new.paths ≡ self.old.paths ++ entries_at params point.now node.now.trail ∷ []) }
+        ensures ended { OnOk result (self.new.ended ≡ self.old.ended) }
     {
         self.paths
             .push(entries(alloc, params, node.trail.as_slice(), point)?)
     }
 
-    /// One end more is reached.
-    pub(crate) fn count(&mut self, alloc: Global) -> Result<(), UnfoldStop>
-        ensures same { OnOk result (self.new ≡ self.old) }
-        ensures paths { IfErr result (λ stop. stop ≡ Paths self.old) }
+    /// The end of a node is reached: its path is kept where a point of its question is known, if it goes through later positions
+    /// than the last one that was kept, in the order of the dictionary.
+    #[tactic(auto, using(crate::proofs::Reaching::keep_steps))]
+    pub(crate) fn reach(
+        &mut self,
+        alloc: Global,
+        params: usize,
+        node: &Node,
+    ) -> Result<(), UnfoldStop>
+        ensures paths { OnOk result (self.new.paths ≡ self.old.paths) }
+        ensures ended { OnOk result (EndsMore (IsPathAt params node.now.trail node.now.question.conj) self.old.ended self.new.ended) }
+        ensures full { IfErr result (FullBy (IsPathAt params node.now.trail node.now.question.conj) self.old.ended) }
+        ensures counted { IfErr result IsCounted }
     {
-        if self.ends >= MOST_ENDS {
-            return Err(self.stop(alloc));
+        let Some(point) = continued(alloc, &node.question.conj, node.known.as_slice())? else {
+            return Ok(());
+        };
+        let path = entries(alloc, params, node.trail.as_slice(), &point)?;
+        let places = places_along(alloc, path.as_slice())?;
+        match self.last.as_slice().cmp(places.as_slice()) {
+            Ordering::Less => {}
+            Ordering::Equal | Ordering::Greater => return Ok(()),
         }
-        self.ends += 1;
-        Ok(())
-    }
-
-    /// The stop where there are too many paths, or one is too long.
-    pub(crate) fn stop(&mut self, alloc: Global) -> UnfoldStop
-        ensures { result ≡ Paths self.old }
-    {
-        let paths = std::mem::replace(&mut self.paths, Items::new(alloc));
-        UnfoldStop::Paths(paths)
+        self.ended.push(path)?;
+        self.last = places;
+        if self.ended.len() <= MOST_ENDS {
+            return Ok(());
+        }
+        self.last = Items::new(alloc);
+        let ended = std::mem::replace(&mut self.ended, Items::new(alloc));
+        Err(UnfoldStop::Paths(ended))
     }
 }

@@ -1,16 +1,18 @@
 //! What a pair of positions asks for, by what stands at both.
-ghost use Rattle.std.specs.Prelude.{◌≡◌, IfErr, IfOk, IfSome, None, Some, false, length, slice_get};
+ghost use Rattle.std.specs.Prelude.{◌≡◌, IfErr, IfOk, IfSome, None, Some, false, true, length, slice_get};
 ghost use Rattle.ac_poly.specs.Model.{is_input};
 ghost use Rattle.ac_paths.specs.Calls.{pairing};
 ghost use Rattle.ac_paths.specs.Going.{seat_of};
 ghost use Rattle.ac_forms.specs.Members.{IsAmong};
 ghost use Rattle.ac_paths.specs.Places.{CallAt, call_at, initial_cell, number_at};
 ghost use Rattle.ac_stopping.specs.Parts.{order_of};
-ghost use Rattle.ac_unfold.specs.Causes.{StopsAt};
 ghost use Rattle.ac_leading.specs.Steps.{flow_on};
 ghost use Rattle.ac_unfold.specs.Cutting.{IsNext};
+ghost use Rattle.ac_unfold.specs.Full.{IsEndOfSteps};
 ghost use Rattle.ac_unfold.specs.Making.{judge_of};
 ghost use Rattle.ac_unfold.specs.Searching.{IsKindThere, IsLeaf, IsNoNumber};
+ghost use Rattle.ac_unfold.specs.Asked.{AreTwoCalls};
+ghost use Rattle.ac_unfold.specs.Stops.{HandsTargets, HasItsCalls, IsMatchOf};
 
 use crate::ends::{Search, rows_or};
 use crate::node::Node;
@@ -79,7 +81,8 @@ pub(crate) fn flow_of<'a>(setting: &Setting<'a>, path: &Path, side: Side) -> Opt
 
 /// Two calls of one symbol with as many arguments.
 fn are_calls(programs: &Programs<'_>, path: &Path) -> bool
-    ensures { result ≡ false → (c d : CallAt) → call_at (pairing programs.now).left path.now.left.position ≡ Some c → call_at (pairing programs.now).right path.now.right.position ≡ Some d → ¬ ((c.symbol ≡ d.symbol) × (length c.args ≡ length d.args)) }
+    ensures none { result ≡ false → (c d : CallAt) → call_at (pairing programs.now).left path.now.left.position ≡ Some c → call_at (pairing programs.now).right path.now.right.position ≡ Some d → ¬ ((c.symbol ≡ d.symbol) × (length c.args ≡ length d.args)) }
+    ensures there { result ≡ true → AreTwoCalls (pairing programs.now) path.now }
 {
     match call_at(programs.left, &path.left.position) {
         None => false,
@@ -119,7 +122,9 @@ fn numbers(
     requires right { number_at (judge_of search.now).right node.now.question.right.position ≡ Some other.now }
     ensures next { IfOk result (IsNext search.now node.now.question) }
     ensures kind { IsLeaf (judge_of search.now) node.now.question → IfOk result (IsKindThere search.now node.now.question) }
-    ensures causes { IfErr result (StopsAt search.now.budget) }
+    ensures calls { IfOk result (HasItsCalls search.now node.now.question) }
+    ensures targets { IfOk result (IsMatchOf search.now node.now.question) }
+    ensures causes { IfErr result (HandsTargets search.now node.now.question) }
 {
     let path = &node.question;
     let rows = equal_form_at(alloc, search.params(), &path.left, form, &path.right, other)?;
@@ -138,7 +143,9 @@ fn cells(
     requires right { initial_cell (judge_of search.now).right node.now.question.right.position ≡ Some other.now }
     ensures next { IfOk result (IsNext search.now node.now.question) }
     ensures kind { IsNoNumber (judge_of search.now) node.now.question → IfOk result (IsKindThere search.now node.now.question) }
-    ensures causes { IfErr result (StopsAt search.now.budget) }
+    ensures calls { IfOk result (HasItsCalls search.now node.now.question) }
+    ensures targets { IfOk result (IsMatchOf search.now node.now.question) }
+    ensures causes { IfErr result (HandsTargets search.now node.now.question) }
 {
     let programs = &search.setting.programs;
     if cell.array != other.array || !is_input(programs.left, cell.array) {
@@ -160,7 +167,9 @@ fn cells(
 fn initials(alloc: Global, search: &Search<'_>, node: &Node) -> Result<Next, UnfoldStop>
     ensures next { IfOk result (IsNext search.now node.now.question) }
     ensures kind { IsNoNumber (judge_of search.now) node.now.question → IfOk result (IsKindThere search.now node.now.question) }
-    ensures causes { IfErr result (StopsAt search.now.budget) }
+    ensures calls { IfOk result (HasItsCalls search.now node.now.question) }
+    ensures targets { IfOk result (IsMatchOf search.now node.now.question) }
+    ensures causes { IfErr result (HandsTargets search.now node.now.question) }
 {
     let programs = &search.setting.programs;
     let Some(cell) = initial_cell(alloc, programs.left, &node.question.left.position)? else {
@@ -176,7 +185,9 @@ fn initials(alloc: Global, search: &Search<'_>, node: &Node) -> Result<Next, Unf
 fn leaves(alloc: Global, search: &Search<'_>, node: &Node) -> Result<Next, UnfoldStop>
     ensures next { IfOk result (IsNext search.now node.now.question) }
     ensures kind { IsLeaf (judge_of search.now) node.now.question → IfOk result (IsKindThere search.now node.now.question) }
-    ensures causes { IfErr result (StopsAt search.now.budget) }
+    ensures calls { IfOk result (HasItsCalls search.now node.now.question) }
+    ensures targets { IfOk result (IsMatchOf search.now node.now.question) }
+    ensures causes { IfErr result (HandsTargets search.now node.now.question) }
 {
     let programs = &search.setting.programs;
     let Some(form) = number_at(programs.left, &node.question.left.position) else {
@@ -192,7 +203,10 @@ fn leaves(alloc: Global, search: &Search<'_>, node: &Node) -> Result<Next, Unfol
 pub(crate) fn next_of(alloc: Global, search: &Search<'_>, node: &Node) -> Result<Next, UnfoldStop>
     ensures next { IfOk result (IsNext search.now node.now.question) }
     ensures kind { IfOk result (IsKindThere search.now node.now.question) }
-    ensures causes { IfErr result (StopsAt search.now.budget) }
+    ensures calls { IfOk result (HasItsCalls search.now node.now.question) }
+    ensures targets { IfOk result (IsMatchOf search.now node.now.question) }
+    ensures ends { IfOk result (IsEndOfSteps search.now node.now.question) }
+    ensures causes { IfErr result (HandsTargets search.now node.now.question) }
 {
     let programs = &search.setting.programs;
     let (left, right) = (&node.question.left.position, &node.question.right.position);

@@ -1,12 +1,13 @@
 //! The rows of a case over the columns of a question: of what is left of it, and of its kills.
-ghost use Rattle.std.specs.Prelude.{◌≡◌, IfOk, Some, true, IfErr};
+ghost use Rattle.std.specs.Prelude.{◌≡◌, IfOk, None, Some, true, IfErr};
 ghost use Rattle.ac_forms.specs.Renaming.{rows_renaming};
 ghost use Rattle.ac_paths.specs.Killing.{case_columns};
 ghost use Rattle.ac_paths.specs.declared.path.Assumed.{Assumed};
 ghost use Rattle.ac_leading.specs.Steps.{at_rest};
-ghost use Rattle.ac_unfold.specs.Causes.{StopsAt};
+ghost use Rattle.ac_unfold.specs.Asked.{kill_on};
 ghost use Rattle.ac_unfold.specs.Making.{judge_of};
 ghost use Rattle.ac_unfold.specs.Passing.{AreApart};
+ghost use Rattle.ac_unfold.specs.Stops.{HandsBack};
 
 use crate::asking::{Answer, found, freely};
 use crate::ends::Search;
@@ -28,7 +29,7 @@ pub(crate) fn over_columns(
     columns: &[usize],
 ) -> Result<Items<Row>, UnfoldStop>
     ensures rows { IfOk result (λ made. Some made ≡ rows_renaming columns.now rows.now) }
-    ensures causes { IfErr result (StopsAt search.now.budget) }
+    ensures causes { IfErr result (HandsBack node.now.question.conj (rows_renaming columns.now rows.now ≡ None)) }
 {
     match renamed_rows(alloc, rows, columns) {
         Ok(made) => Ok(made),
@@ -46,7 +47,7 @@ pub(crate) fn at_remainder(
 ) -> Result<Node, UnfoldStop>
     ensures question { IfOk result (λ made. at_rest (judge_of search.now).params node.now.question rest.now ≡ Some made.question) }
     ensures trail { IfOk result (λ made. made.trail ≡ node.now.trail) }
-    ensures causes { IfErr result (StopsAt search.now.budget) }
+    ensures causes { IfErr result (HandsBack node.now.question.conj (at_rest (judge_of search.now).params node.now.question rest.now ≡ None)) }
 {
     let Some(assumed) = &node.question.last else {
         return Err(UnfoldStop::Memory(AllocError));
@@ -72,7 +73,8 @@ pub(crate) fn kill_rows(
     kill: &Conj,
 ) -> Result<Items<Row>, UnfoldStop>
     ensures rows { IfOk result (λ made. (a : Assumed) → node.now.question.last ≡ Some a → Some made ≡ rows_renaming (case_columns (judge_of search.now).params a) kill.now.rows) }
-    ensures causes { IfErr result (StopsAt search.now.budget) }
+    ensures there { IfOk result (λ made. kill_on (judge_of search.now).params node.now.question kill.now ≡ Some made) }
+    ensures causes { IfErr result (HandsBack node.now.question.conj (kill_on (judge_of search.now).params node.now.question kill.now ≡ None)) }
 {
     let Some(assumed) = &node.question.last else {
         return Err(UnfoldStop::Memory(AllocError));

@@ -10,8 +10,9 @@ ghost use Rattle.ac_decided.specs.Stopping.{key_of};
 ghost use Rattle.ac_plan_stops.specs.Stopped.{Stopped, StopsFrom};
 ghost use Rattle.ac_leading.specs.Leading.{Unfolding};
 ghost use Rattle.ac_leading.specs.Broken.{IsBroken};
-ghost use Rattle.ac_unfold.specs.Causes.{StopsAt};
+ghost use Rattle.ac_unfold.specs.Causes.{StopsUnfolding};
 ghost use Rattle.ac_unfold.specs.Unfoldings.{IsUnfoldingOf};
+ghost use Rattle.ac_unfold.specs.Full.{nothing_found, FullUnder};
 ghost use Rattle.ac_unfold.specs.Making.{judge_of, IsGiven};
 ghost use Rattle.ac_unfold.specs.Missing.{FindsElse};
 ghost use Rattle.ac_unfold.specs.Paths.{IsPath, ArePlansOf};
@@ -21,6 +22,7 @@ ghost use Rattle.ac_unfold.specs.Plans.{IsSettled};
 ghost use Rattle.ac_unfold.specs.Begun.{AreBegun, IsBegun};
 ghost use Rattle.ac_unfold.specs.Searching.{AddsBroken, IsFrom};
 ghost use Rattle.ac_unfold.specs.Stopping.{IsStoppedAt};
+ghost use Rattle.ac_unfold.specs.Stops.{StopsUnder};
 
 use crate::asking::{Opened, open_question};
 use crate::ends::Search;
@@ -73,7 +75,8 @@ fn unfold_at(
     ensures missing { IfOk result (λ made. FindsElse search.now made finds.old finds.new) }
     ensures begun { IfOk result (λ made. IfSome made (IsBegun search.now start.now left right)) }
     ensures broken { OnOk result (AddsBroken search.now (IsFrom start.now) finds.old finds.new) }
-    ensures causes { IfErr result (StopsAt search.now.budget) }
+    ensures causes { IfErr result (StopsUnder search.now (IsFrom start.now)) }
+    ensures full { IfErr result (FullUnder search.now (IsFrom start.now) finds.old) }
 {
     let programs = &search.setting.programs;
     let Some(path) = start_at(alloc, programs, start, left, right)? else {
@@ -113,7 +116,8 @@ fn find_beside(
     finds: &mut Finds,
 ) -> Result<(), UnfoldStop>
     ensures broken { OnOk result (AddsBroken search.now (IsFrom start.now) finds.old finds.new) }
-    ensures causes { IfErr result (StopsAt search.now.budget) }
+    ensures causes { IfErr result (StopsUnder search.now (IsFrom start.now)) }
+    ensures full { IfErr result (FullUnder search.now (IsFrom start.now) finds.old) }
 {
     for right in 0..rights {
         let _none = unfold_at(alloc, search, start, left, right, finds)?;
@@ -137,7 +141,7 @@ pub fn broken_paths(
 ) -> Result<Items<Items<Entry>>, UnfoldStop>
     ensures paths { IfOk result (AllByRecursion IsPath) }
     ensures broken { IfOk result (λ paths. (u : Unfolding) → IsUnfoldingOf setting.now start.now order.now u → AllByRecursion (IsBroken u claims.now) paths) }
-    ensures causes { IfErr result (StopsAt setting.now.budget) }
+    ensures causes { IfErr result (StopsUnfolding setting.now start.now claims.now order.now) }
 {
     let search = search_of(setting, claims, 0, order, false);
     let (lefts, rights) = pieces(alloc, setting, start)?;
@@ -165,7 +169,8 @@ fn push_trees(
     ensures claim { ArePlansOf number trees.new.items }
     ensures pieces { IfOk result (λ path. path ≡ None → map pieces_of trees.new.items ≡ map pieces_of trees.old.items ++ map (λ right. (left, right)) (range_with_len 0 rights)) }
     ensures accepted { IfOk result (λ path. path ≡ None → AreBegun search.now start.now trees.old.items → AreBegun search.now start.now trees.new.items) }
-    ensures causes { IfErr result (StopsAt search.now.budget) }
+    ensures causes { IfErr result (StopsUnder search.now (IsFrom start.now)) }
+    ensures full { IfErr result (FullUnder search.now (IsFrom start.now) nothing_found) }
 {
     let mut finds = Finds::new(alloc);
     for right in 0..rights {
@@ -203,7 +208,7 @@ pub fn claim_trees(
     ensures pieces { IfOk result (IfPlans (λ trees. map pieces_of trees ≡ pairs_of (count_by (domain setting.now.programs.left.now start.now.left)) (count_by (domain setting.now.programs.right.now start.now.right)))) }
     ensures accepted { IsSettled setting.now → IfOk result (IfPlans (λ trees. (cs : List Asked) → AreNumbered base claims.now cs → AllByRecursion (StartsAccepted (pairing setting.now.programs) cs start.now) trees)) }
     ensures stops { IfOk result (IfPlans (λ trees. (g : Stopped) → IsStoppedAt setting.now order.now base claims.now g → AllByRecursion (λ (t : Tree). StopsFrom g (key_of start.now) t.tree) trees)) }
-    ensures causes { IfErr result (StopsAt setting.now.budget) }
+    ensures causes { IfErr result (StopsUnfolding setting.now start.now claims.now order.now) }
 {
     let search = search_of(setting, claims, base, order, true);
     let counts = pieces(alloc, setting, start)?;

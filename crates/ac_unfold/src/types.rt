@@ -38,10 +38,11 @@ pub enum UnfoldStop {
         /// The full walk's first running cost above the budget.
         cost: u64,
     },
-    /// More than 20,000 ends are reached from one start, or the unfolding goes more than 2,000 calls deep: two for a step of two calls, four
-    /// or five for one of a read, and more where kills are passed or cut. With it come broken paths that were found so far, maybe none.
+    /// 20,001 paths lead from one start to ends, each through later positions than the one before it, in the order of the dictionary:
+    /// these paths, each at a point of its own.
     Paths(Items<Items<Entry>>),
-    /// There was no memory.
+    /// There was no memory; or the unfolding goes more than 2,000 calls deep, for which no stack is set aside: two for a step of two
+    /// calls, four or five for one of a read, and more where kills are passed or cut.
     Memory(AllocError),
 }
 

@@ -2,13 +2,15 @@
 ghost use Rattle.std.specs.Prelude.{◌≡◌, ◌+◌, IfErr, IfOk, IfSome, None, OnOk, Some, is_some, length, slice_get, true};
 ghost use Rattle.ac_paths.specs.Going.{model_of};
 ghost use Rattle.ac_syntax.specs.declared.tree.Order.TheVariants.{Keep};
-ghost use Rattle.ac_unfold.specs.Causes.{StopsAt};
+ghost use Rattle.ac_unfold.specs.Asked.{AreTwoCalls};
 ghost use Rattle.ac_unfold.specs.Cutting.{AreMadeOn, CutsMore, IsAssumed, IsKillThere, IsStep};
+ghost use Rattle.ac_unfold.specs.Full.{FullUnder};
 ghost use Rattle.ac_unfold.specs.Making.{judge_of, IsMade, IsMadeIn};
 ghost use Rattle.ac_unfold.specs.Missing.{FindsElse};
 ghost use Rattle.ac_unfold.specs.Passing.{AreKillRows, GoesWithin, IsKillRow, IsOutsideKills, SidesMiss};
 ghost use Rattle.ac_unfold.specs.Searching.{AddsBroken, IsAt, IsInCase, IsKindThere, IsPast};
 ghost use Rattle.ac_unfold.specs.Stopping.{MayStep};
+ghost use Rattle.ac_unfold.specs.Stops.{AreKillsRows, AreKillsSides, CutsOn, Follows, FollowsCase, FollowsCut, FollowsOn, IsKillsRow, StopsUnder};
 ghost use Rattle.ac_unfold.specs.declared.kinds.Next.TheVariants as kind;
 
 use crate::asking::{Opened, can_stand, open_question, stands_in};
@@ -49,10 +51,11 @@ pub(crate) fn visit(
     ensures missing { IfOk result (λ made. FindsElse search.now made finds.old finds.new) }
     ensures made { IfOk result (λ made. IfSome made (IsMade search.now node.placing node.question)) }
     ensures broken { OnOk result (AddsBroken search.now (IsAt search.now node.trail node.question) finds.old finds.new) }
-    ensures causes { IfErr result (StopsAt search.now.budget) }
+    ensures causes { IfErr result (StopsUnder search.now (Follows search.now node.question)) }
+    ensures full { IfErr result (FullUnder search.now (IsAt search.now node.trail node.question) finds.old) }
 {
     if room == 0 {
-        return Err(finds.stop(alloc));
+        return Err(UnfoldStop::Memory(AllocError));
     }
     if let Some(number) = claim_of(search, &node.question) {
         return at_claim(alloc, search, node, number, finds);
@@ -76,14 +79,16 @@ fn calls(
     finds: &mut Finds,
     room: usize,
 ) -> Result<Option<Plan>, UnfoldStop>
-    requires { IsKindThere search.now node.now.question (kind.Calls order) }
+    requires kind { IsKindThere search.now node.now.question (kind.Calls order) }
+    requires calls { AreTwoCalls (judge_of search.now) node.now.question }
     ensures missing { IfOk result (λ made. FindsElse search.now made finds.old finds.new) }
     ensures made { IfOk result (λ made. IfSome made (λ t. MayStep search.now node.now.question order → IsMade search.now node.now.placing node.now.question t)) }
     ensures broken { OnOk result (AddsBroken search.now (IsPast search.now node.now.trail node.now.question) finds.old finds.new) }
-    ensures causes { IfErr result (StopsAt search.now.budget) }
+    ensures causes { IfErr result (StopsUnder search.now (FollowsOn search.now node.now.question)) }
+    ensures full { IfErr result (FullUnder search.now (IsPast search.now node.now.trail node.now.question) finds.old) }
 {
     if room == 0 {
-        return Err(finds.stop(alloc));
+        return Err(UnfoldStop::Memory(AllocError));
     }
     let Some(found) = branches(alloc, &search.setting.programs, order, &node.question)? else {
         return Err(search.too_wide(alloc, node));
@@ -134,10 +139,11 @@ fn read(
     ensures missing { IfOk result (λ made. FindsElse search.now made finds.old finds.new) }
     ensures made { IfOk result (λ made. IfSome made (λ t. MayStep search.now node.now.question Keep → IsMade search.now node.now.placing node.now.question t)) }
     ensures broken { OnOk result (AddsBroken search.now (IsPast search.now node.now.trail node.now.question) finds.old finds.new) }
-    ensures causes { IfErr result (StopsAt search.now.budget) }
+    ensures causes { IfErr result (StopsUnder search.now (FollowsOn search.now node.now.question)) }
+    ensures full { IfErr result (FullUnder search.now (IsPast search.now node.now.trail node.now.question) finds.old) }
 {
     if room == 0 {
-        return Err(finds.stop(alloc));
+        return Err(UnfoldStop::Memory(AllocError));
     }
     let programs = &search.setting.programs;
     let Some(found) = branches(alloc, programs, Order::Keep, &node.question)? else {
@@ -219,10 +225,11 @@ fn enter(
     ensures missing { IfOk result (λ made. FindsElse search.now made finds.old finds.new) }
     ensures made { IfOk result (λ made. IfSome made (IsMadeIn search.now case.now node.placing node.question)) }
     ensures broken { OnOk result (AddsBroken search.now (IsInCase search.now case.now node.trail node.question) finds.old finds.new) }
-    ensures causes { IfErr result (StopsAt search.now.budget) }
+    ensures causes { IfErr result (StopsUnder search.now (FollowsCase search.now case.now node.question)) }
+    ensures full { IfErr result (FullUnder search.now (IsInCase search.now case.now node.trail node.question) finds.old) }
 {
     if room == 0 {
-        return Err(finds.stop(alloc));
+        return Err(UnfoldStop::Memory(AllocError));
     }
     if !search.making {
         return remainders(alloc, search, &node, case, finds, room - 1);
@@ -246,10 +253,11 @@ fn remainders(
 ) -> Result<Option<Plan>, UnfoldStop>
     ensures none { IfOk result (λ made. made ≡ None) }
     ensures broken { OnOk result (AddsBroken search.now (IsInCase search.now case.now node.now.trail node.now.question) finds.old finds.new) }
-    ensures causes { IfErr result (StopsAt search.now.budget) }
+    ensures causes { IfErr result (StopsUnder search.now (FollowsCase search.now case.now node.now.question)) }
+    ensures full { IfErr result (FullUnder search.now (IsInCase search.now case.now node.now.trail node.now.question) finds.old) }
 {
     if room == 0 {
-        return Err(finds.stop(alloc));
+        return Err(UnfoldStop::Memory(AllocError));
     }
     for rest in case.pieces.as_slice() {
         let left = at_remainder(alloc, search, node, &rest.conj)?;
@@ -279,10 +287,11 @@ fn kills(
     ensures broken { OnOk result (AddsBroken search.now (IsOutsideKills search.now case.now number node.trail node.question) finds.old finds.new) }
     ensures missing { IfOk result (λ made. FindsElse search.now made finds.old finds.new) }
     ensures made { IfOk result (λ made. IfSome made (IsMadeIn search.now case.now node.placing node.question)) }
-    ensures causes { IfErr result (StopsAt search.now.budget) }
+    ensures causes { IfErr result (StopsUnder search.now (FollowsCut search.now case.now node.question)) }
+    ensures full { IfErr result (FullUnder search.now (IsOutsideKills search.now case.now number node.trail node.question) finds.old) }
 {
     if room == 0 {
-        return Err(finds.stop(alloc));
+        return Err(UnfoldStop::Memory(AllocError));
     }
     let Some(kill) = case.kills.get(number) else {
         return survivor(alloc, search, node, case, finds, room - 1);
@@ -326,10 +335,11 @@ fn survivor(
     ensures broken { OnOk result (AddsBroken search.now (IsOutsideKills search.now case.now (length case.now.kills) node.trail node.question) finds.old finds.new) }
     ensures missing { IfOk result (λ made. FindsElse search.now made finds.old finds.new) }
     ensures made { IfOk result (λ made. IfSome made (IsMade search.now node.placing node.question)) }
-    ensures causes { IfErr result (StopsAt search.now.budget) }
+    ensures causes { IfErr result (StopsUnder search.now (FollowsCut search.now case.now node.question)) }
+    ensures full { IfErr result (FullUnder search.now (IsOutsideKills search.now case.now (length case.now.kills) node.trail node.question) finds.old) }
 {
     if room == 0 {
-        return Err(finds.stop(alloc));
+        return Err(UnfoldStop::Memory(AllocError));
     }
     if case.pieces.is_empty() {
         return refuted(alloc, search, &node, finds);
@@ -350,14 +360,16 @@ fn cut(
     finds: &mut Finds,
     room: usize,
 ) -> Result<Option<Plan>, UnfoldStop>
-    requires { AreKillRows search.now case.now number node.question rows.now }
+    requires numbered { AreKillRows search.now case.now number node.question rows.now }
+    requires there { AreKillsRows search.now case.now node.question rows.now }
     ensures broken { OnOk result (AddsBroken search.now (IsOutsideKills search.now case.now number node.trail node.question) finds.old finds.new) }
     ensures missing { IfOk result (λ made. FindsElse search.now made finds.old finds.new) }
     ensures made { IfOk result (λ made. IfSome made (λ t. IsKillThere search.now node.question case.now kill.now rows.now → IsMadeIn search.now case.now node.placing node.question t)) }
-    ensures causes { IfErr result (StopsAt search.now.budget) }
+    ensures causes { IfErr result (StopsUnder search.now (FollowsCut search.now case.now node.question)) }
+    ensures full { IfErr result (FullUnder search.now (IsOutsideKills search.now case.now number node.trail node.question) finds.old) }
 {
     if room == 0 {
-        return Err(finds.stop(alloc));
+        return Err(UnfoldStop::Memory(AllocError));
     }
     let mut course = Course::new(alloc, node);
     for row in rows {
@@ -387,15 +399,18 @@ fn cut_row(
     finds: &mut Finds,
     room: usize,
 ) -> Result<Option<Course>, UnfoldStop>
-    requires { IsKillRow search.now case.now number course.node.question row.now }
+    requires numbered { IsKillRow search.now case.now number course.node.question row.now }
+    requires there { IsKillsRow search.now case.now course.node.question row.now }
     ensures broken { OnOk result (AddsBroken search.now (IsOutsideKills search.now case.now number course.node.trail course.node.question) finds.old finds.new) }
     ensures missing { IfOk result (λ made. FindsElse search.now made finds.old finds.new) }
     ensures within { IfOk result (λ made. IfSome made (λ next. GoesWithin course.node next.node)) }
     ensures made { IfOk result (λ made. IfSome made (CutsMore search.now case.now course row.now)) }
-    ensures causes { IfErr result (StopsAt search.now.budget) }
+    ensures cuts { IfOk result (λ made. IfSome made (λ next. CutsOn search.now case.now course.node next.node)) }
+    ensures causes { IfErr result (StopsUnder search.now (FollowsCut search.now case.now course.node.question)) }
+    ensures full { IfErr result (FullUnder search.now (IsOutsideKills search.now case.now number course.node.trail course.node.question) finds.old) }
 {
     if room == 0 {
-        return Err(finds.stop(alloc));
+        return Err(UnfoldStop::Memory(AllocError));
     }
     let standing = stands_in(alloc, &course.node.question.conj, row)?;
     if standing {
@@ -440,14 +455,16 @@ fn outsides(
     finds: &mut Finds,
     room: usize,
 ) -> Result<Option<Vec<Plan>>, UnfoldStop>
-    requires { SidesMiss search.now case.now number node.now.question parts.now }
+    requires miss { SidesMiss search.now case.now number node.now.question parts.now }
+    requires there { AreKillsSides search.now case.now node.now.question parts.now }
     ensures broken { OnOk result (AddsBroken search.now (IsOutsideKills search.now case.now number node.now.trail node.now.question) finds.old finds.new) }
     ensures missing { IfOk result (λ made. FindsElse search.now made finds.old finds.new) }
     ensures made { IfOk result (λ made. IfSome made (λ plans. AreMadeOn search.now case.now node.now.placing node.now.question parts.now plans.items)) }
-    ensures causes { IfErr result (StopsAt search.now.budget) }
+    ensures causes { IfErr result (StopsUnder search.now (FollowsCut search.now case.now node.now.question)) }
+    ensures full { IfErr result (FullUnder search.now (IsOutsideKills search.now case.now number node.now.trail node.now.question) finds.old) }
 {
     if room == 0 {
-        return Err(finds.stop(alloc));
+        return Err(UnfoldStop::Memory(AllocError));
     }
     let mut plans = Vec::new(alloc);
     for part in parts {
@@ -478,10 +495,11 @@ fn outside_of(
     ensures broken { OnOk result (AddsBroken search.now (IsOutsideKills search.now case.now (number + 1) node.trail node.question) finds.old finds.new) }
     ensures missing { IfOk result (λ made. FindsElse search.now made finds.old finds.new) }
     ensures made { IfOk result (λ made. IfSome made (IsMadeIn search.now case.now node.placing node.question)) }
-    ensures causes { IfErr result (StopsAt search.now.budget) }
+    ensures causes { IfErr result (StopsUnder search.now (FollowsCut search.now case.now node.question)) }
+    ensures full { IfErr result (FullUnder search.now (IsOutsideKills search.now case.now (number + 1) node.trail node.question) finds.old) }
 {
     if room == 0 {
-        return Err(finds.stop(alloc));
+        return Err(UnfoldStop::Memory(AllocError));
     }
     let question = open_question(alloc, node, search.budget, true)?;
     match question {

@@ -3,16 +3,21 @@ use Rattle.std.proofs.lemmas.List.{take_all, take-append-drop}
 use Rattle.ac_claims.specs.declared.types.Plan.{Plan}
 use Rattle.ac_paths.specs.declared.path.Path.{Path}
 use Rattle.ac_graft.specs.declared.branching.Part.{Part}
+use Rattle.ac_unfold.specs.Full.{FullBy}
 use Rattle.ac_unfold.specs.Making.{judge_of, IsRefuted}
+use Rattle.ac_unfold.specs.Searching.{IsNone}
 use Rattle.ac_unfold.specs.Standing.{AreRefutedOn}
+use Rattle.ac_unfold.specs.Stops.{StopsOutside}
 use Rattle.ac_unfold.proofs.Adding.{adds_kept, adds_none, beside_all, beside_some}
-use Rattle.ac_unfold.proofs.Results.{at_some, next_item, refuted_more, refuted_none, refuted_off}
+use Rattle.ac_unfold.proofs.Reaching.{none_by}
+use Rattle.ac_unfold.proofs.Results.{at_some, in_read, next_item, refuted_more, refuted_none, refuted_off}
+use Rattle.ac_unfold.proofs.Stopped.{if_err, on_side_of}
 use Rattle.ac_unfold.proofs.ends.refute_parts.Goals as goal
 
 pub loop-part-init : goal.loop-part-init
 loop-part-init c = record {
   refuted = subst (λ (ts : List Plan). AreRefutedOn c.args.search.now c.args.node.now.placing c.args.node.now.question [] ts) (sym c.new-plans.ensures.items) (refuted_none c.args.search.now c.args.node.now.placing c.args.node.now.question);
-  found = adds_none _ _ _ refl;
+  found = adds_none _ _ _ _ refl;
 }
 
 pub loop-part-preserved-in-Some : goal.loop-part-preserved-in-Some
@@ -29,7 +34,7 @@ loop-part-preserved-in-Some c =
     record {
       refuted = subst (λ (xs : List Part). AreRefutedOn c.args.search.now s q xs c.push.new.self.items) (sym more)
           (subst (λ (ts : List Plan). AreRefutedOn c.args.search.now s q (take i ps ++ p ∷ []) ts) (sym c.in_ok-push-in-Some.ensures.items) (refuted_more c.args.search.now s q (take i ps) c.loop-part.plans.items p b t c.loop-part.invariant.refuted c.in_ok-beside.ensures.question c.in_ok-beside.ensures.placing r));
-      found = beside_some (judge_of c.args.search.now).params c.args.node.now.trail b.trail q.conj b.question.conj (take i ps) (take (i + 1) ps) p _ _ _ c.loop-part.invariant.found c.in_ok-beside.ensures.trail (ap (λ (x : Path). x.conj) c.in_ok-beside.ensures.question) more c.in_ok-plan.ensures.found;
+      found = beside_some IsNone (judge_of c.args.search.now).params c.args.node.now.trail b.trail q.conj b.question.conj (take i ps) (take (i + 1) ps) p _ _ _ c.loop-part.invariant.found c.in_ok-beside.ensures.trail (ap (λ (x : Path). x.conj) c.in_ok-beside.ensures.question) more c.in_ok-plan.ensures.found;
     }
 
 pub loop-part-preserved : goal.loop-part-preserved
@@ -41,7 +46,7 @@ loop-part-preserved c =
     let b = c.in_ok-beside.beside in
     record {
       refuted = refuted_off c.args.search.now c.args.node.now.placing c.args.node.now.question (take (c.loop-part.part-index + 1) c.args.outside.now) c.loop-part.plans.items c.if-search.false;
-      found = beside_some (judge_of c.args.search.now).params c.args.node.now.trail b.trail q.conj b.question.conj (take i ps) (take (i + 1) ps) p _ _ _ c.loop-part.invariant.found c.in_ok-beside.ensures.trail (ap (λ (x : Path). x.conj) c.in_ok-beside.ensures.question) (next_item ps i p c.loop-part-test.true c.part-item.is) c.in_ok-plan.ensures.found;
+      found = beside_some IsNone (judge_of c.args.search.now).params c.args.node.now.trail b.trail q.conj b.question.conj (take i ps) (take (i + 1) ps) p _ _ _ c.loop-part.invariant.found c.in_ok-beside.ensures.trail (ap (λ (x : Path). x.conj) c.in_ok-beside.ensures.question) (next_item ps i p c.loop-part-test.true c.part-item.is) c.in_ok-plan.ensures.found;
     }
 
 pub returns-then-search-clause-found : goal.returns-then-search-clause-found
@@ -52,8 +57,8 @@ returns-then-search-clause-found c =
     let i = c.loop-part.part-index in
     let b = c.in_ok-beside.beside in
     let n = (judge_of c.args.search.now).params in
-    beside_all n c.args.node.now.trail q.conj (take (i + 1) ps) ps (drop (i + 1) ps) _ _ (sym (take-append-drop (i + 1) ps))
-    (beside_some n c.args.node.now.trail b.trail q.conj b.question.conj (take i ps) (take (i + 1) ps) p _ _ _ c.loop-part.invariant.found c.in_ok-beside.ensures.trail (ap (λ (x : Path). x.conj) c.in_ok-beside.ensures.question) (next_item ps i p c.loop-part-test.true c.part-item.is) c.in_ok-plan.ensures.found)
+    beside_all IsNone n c.args.node.now.trail q.conj (take (i + 1) ps) ps (drop (i + 1) ps) _ _ (sym (take-append-drop (i + 1) ps))
+    (beside_some IsNone n c.args.node.now.trail b.trail q.conj b.question.conj (take i ps) (take (i + 1) ps) p _ _ _ c.loop-part.invariant.found c.in_ok-beside.ensures.trail (ap (λ (x : Path). x.conj) c.in_ok-beside.ensures.question) (next_item ps i p c.loop-part-test.true c.part-item.is) c.in_ok-plan.ensures.found)
 
 pub returns-clause-closed : goal.returns-clause-closed
 returns-clause-closed c = subst (λ (xs : List Part). AreRefutedOn c.args.search.now c.args.node.now.placing c.args.node.now.question xs c.loop-part.plans.items) (take_all c.loop-part.part-index c.args.outside.now c.loop-part-test.false) c.loop-part.invariant.refuted
@@ -62,10 +67,27 @@ pub returns-clause-found : goal.returns-clause-found
 returns-clause-found c =
     let ps = c.args.outside.now in
     let i = c.loop-part.part-index in
-    beside_all (judge_of c.args.search.now).params c.args.node.now.trail c.args.node.now.question.conj (take i ps) ps (drop i ps) _ _ (sym (take-append-drop i ps)) c.loop-part.invariant.found
+    beside_all IsNone (judge_of c.args.search.now).params c.args.node.now.trail c.args.node.now.question.conj (take i ps) ps (drop i ps) _ _ (sym (take-append-drop i ps)) c.loop-part.invariant.found
 
 pub returns-then-search-clause-missing : goal.returns-then-search-clause-missing
 returns-then-search-clause-missing c = λ on.
-    let k = adds_kept _ _ _ c.loop-part.invariant.found in
+    let k = adds_kept _ _ _ _ c.loop-part.invariant.found in
     let more = c.in_ok-plan.ensures.missing on c.in-None.is in
     omega (arith, k, more)
+
+-- GUESS: the name of the exit
+pub returns-in_err-plan-clause-causes : goal.returns-in_err-plan-clause-causes
+returns-in_err-plan-clause-causes c =
+    let b = c.args.search.now.budget in
+    let q = c.args.node.now.question in
+    let ps = c.args.outside.now in
+    let p = c.part-item.result in
+    let stop = c.in_err-plan.field-0.0 in
+    if_err (StopsOutside b q.conj ps) c.from_residual-in_err-plan.result stop c.from_residual-in_err-plan.ensures.1
+    (on_side_of b q c.in_ok-beside.beside.question ps p stop (in_read ps c.loop-part.part-index p c.loop-part-test.true c.part-item.is) c.in_ok-beside.ensures.question c.in_err-plan.ensures.causes)
+
+-- GUESS: the residual's name (a second one, behind that of within)
+pub returns-in_err-plan-clause-full : goal.returns-in_err-plan-clause-full
+returns-in_err-plan-clause-full c =
+    let stop = c.in_err-plan.field-0.0 in
+    if_err (FullBy IsNone c.args.finds.now.ended) c.from_residual-in_err-plan.result stop c.from_residual-in_err-plan.ensures.1 (none_by IsNone c.args.finds.now.ended c.loop-part.finds.ended stop c.in_err-plan.ensures.full)

@@ -14,4 +14,4 @@ pub returns-in-Ended-clause-made : goal.returns-in-Ended-clause-made
 returns-in-Ended-clause-made c = subst (λ (x : Stood). AreStood c.args.search.now c.args.node c.args.rows.now x) c.in-Ended.is c.in_ok-stood.ensures.stood
 
 pub returns-in_ok-made-in-On-clause-missing : goal.returns-in_ok-made-in-On-clause-missing
-returns-in_ok-made-in-On-clause-missing c = ended_finds (Ok c.in_ok-made-in-On.made) c.args.search.now c.end_of-last.result _ _ c.in_ok-made-in-On.ensures.missing c.end_of-last.ensures.there
+returns-in_ok-made-in-On-clause-missing c = ended_finds (Ok c.in_ok-made-in-On.made) c.args.search.now c.end_of-last.result c.args.finds.now c.stand_rows.new.finds c.in_ok-made-in-On.ensures.missing c.end_of-last.ensures.there

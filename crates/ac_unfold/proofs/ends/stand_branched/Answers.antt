@@ -1,11 +1,15 @@
-use Rattle.std.proofs.Common.{Option, subst, ap, ◌∙◌}
+use Rattle.std.proofs.Common.{◌∷◌, [], Option, subst, ap, ◌∙◌}
 use Rattle.ac_graft.specs.Sides.{AreSides}
 use Rattle.ac_graft.specs.declared.branching.Parts.{Parts}
 use Rattle.ac_unfold.specs.Standing.{IsClosed}
+use Rattle.ac_unfold.specs.Stops.{StopsStanding}
 use Rattle.ac_unfold.specs.declared.ends.Closed.{Closed}
 use Rattle.ac_unfold.specs.Making.{judge_of}
+use Rattle.ac_unfold.specs.Searching.{IsNone}
 use Rattle.ac_unfold.proofs.Failing.{breaking_beside}
+use Rattle.ac_unfold.proofs.Reaching.{hands_by}
 use Rattle.ac_unfold.proofs.Results.{branched}
+use Rattle.ac_unfold.proofs.Stopped.{if_err, row_unbranched, standing_lacks, standing_side}
 use Rattle.ac_unfold.proofs.ends.stand_branched.Goals as goal
 
 pub parts_of-requires : goal.parts_of-requires
@@ -24,11 +28,31 @@ returns-in-Broken-clause-found c =
     let course = c.args.course in
     let n = course.node.question.conj.columns in
     let sides = subst (λ (o : Option Parts). AreSides n c.args.row.now o) c.in-Some.is c.in_ok-parts.ensures in
-    breaking_beside (judge_of c.args.search.now).params course.node.trail course.node.question.conj c.args.row.now c.as_slice.result.now _ _ c.requires.over (c.as_slice.ensures ∙ ap (λ (x : Parts). x.outside) sides.1) c.in_ok-closed.ensures.found
+    breaking_beside IsNone (judge_of c.args.search.now).params course.node.trail course.node.question.conj c.args.row.now c.as_slice.result.now _ _ c.requires.over (c.as_slice.ensures ∙ ap (λ (x : Parts). x.outside) sides.1) c.in_ok-closed.ensures.found
 
 pub returns-in_ok-next-in-Refuted-clause-found : goal.returns-in_ok-next-in-Refuted-clause-found
 returns-in_ok-next-in-Refuted-clause-found c =
     let course = c.args.course in
     let n = course.node.question.conj.columns in
     let sides = subst (λ (o : Option Parts). AreSides n c.args.row.now o) c.in-Some.is c.in_ok-parts.ensures in
-    breaking_beside (judge_of c.args.search.now).params course.node.trail course.node.question.conj c.args.row.now c.as_slice.result.now _ _ c.requires.over (c.as_slice.ensures ∙ ap (λ (x : Parts). x.outside) sides.1) c.in_ok-closed.ensures.found
+    breaking_beside IsNone (judge_of c.args.search.now).params course.node.trail course.node.question.conj c.args.row.now c.as_slice.result.now _ _ c.requires.over (c.as_slice.ensures ∙ ap (λ (x : Parts). x.outside) sides.1) c.in_ok-closed.ensures.found
+
+pub returns-in_default-clause-causes : goal.returns-in_default-clause-causes
+returns-in_default-clause-causes c =
+    let k = c.args.course.node.question.conj in
+    let row = c.args.row.now in
+    standing_lacks c.args.search.now.budget k (row ∷ []) c.too_wide.result c.too_wide.ensures (row_unbranched k.columns row (subst (λ (o : Option Parts). AreSides k.columns row o) c.in_default.is c.in_ok-parts.ensures))
+
+pub returns-in_err-closed-clause-causes : goal.returns-in_err-closed-clause-causes
+returns-in_err-closed-clause-causes c =
+    let b = c.args.search.now.budget in
+    let k = c.args.course.node.question.conj in
+    let row = c.args.row.now in
+    let stop = c.in_err-closed.field-0.0 in
+    let sides = subst (λ (o : Option Parts). AreSides k.columns row o) c.in-Some.is c.in_ok-parts.ensures in
+    if_err (StopsStanding b k (row ∷ [])) c.from_residual-in_err-closed.result stop c.from_residual-in_err-closed.ensures.1
+    (standing_side b k row c.as_slice.result.now stop (c.as_slice.ensures ∙ ap (λ (x : Parts). x.outside) sides.1) c.in_err-closed.ensures.causes)
+
+-- GUESS: the name of the else of let
+pub returns-in_default-clause-full : goal.returns-in_default-clause-full
+returns-in_default-clause-full c = hands_by IsNone c.args.finds.now.ended c.args.course.node.question.conj (Unit {0}) c.too_wide.result c.too_wide.ensures

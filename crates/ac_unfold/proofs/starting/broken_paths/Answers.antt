@@ -1,7 +1,14 @@
-use Rattle.std.proofs.Common.{List, [], subst, sym}
+use Rattle.std.proofs.Common.{List, subst, sym}
+use Rattle.std.specs.List.{AllByRecursion}
 use Rattle.ac_widen.specs.declared.derivation.Entry.{Entry}
-use Rattle.ac_unfold.specs.Searching.{AddsBroken, IsFrom}
+use Rattle.ac_leading.specs.Broken.{IsBroken}
+use Rattle.ac_unfold.specs.Causes.{StopsUnfolding}
+use Rattle.ac_unfold.specs.Full.{nothing_found}
+use Rattle.ac_unfold.specs.Searching.{IsFrom}
 use Rattle.ac_unfold.proofs.Coming.{broken_none, broken_then, paths_broken}
+use Rattle.ac_unfold.proofs.Full.{full_after, stops_unfolding}
+use Rattle.ac_unfold.proofs.Places.{memory_stops}
+use Rattle.ac_unfold.proofs.Stopped.{if_err}
 use Rattle.ac_unfold.proofs.starting.broken_paths.Goals as goal
 
 pub loop-left-init : goal.loop-left-init
@@ -11,5 +18,25 @@ pub loop-left-preserved : goal.loop-left-preserved
 loop-left-preserved c = broken_then c.search_of-search.result (IsFrom c.args.start.now) _ _ _ c.loop-left.invariant c.in_ok-find_beside.ensures.broken
 
 pub returns-clause-broken : goal.returns-clause-broken
-returns-clause-broken c =
-    paths_broken c.search_of-search.result c.args.setting.now c.args.start.now c.args.claims.now c.args.order.now c.into_paths.result (subst (λ (xs : List (List Entry)). AddsBroken c.search_of-search.result (IsFrom c.args.start.now) [] xs) (sym c.into_paths.ensures.same) c.loop-left.invariant) c.search_of-search.ensures.setting c.search_of-search.ensures.claims c.search_of-search.ensures.order
+returns-clause-broken c = λ u is.
+    let s = c.search_of-search.result in
+    let broken = paths_broken s c.args.setting.now c.args.start.now c.args.claims.now c.args.order.now c.loop-left.finds c.loop-left.invariant c.search_of-search.ensures.setting c.search_of-search.ensures.claims c.search_of-search.ensures.order u is in
+    subst (λ (xs : List (List Entry)). AllByRecursion (IsBroken u c.args.claims.now) xs) (sym c.into_paths.ensures.same) broken
+
+-- ---- why it stops
+
+-- GUESS: the arm is named by the first name of the pattern
+pub returns-in_err-lefts-clause-causes : goal.returns-in_err-lefts-clause-causes
+returns-in_err-lefts-clause-causes c = memory_stops c.from_residual.result c.in_err-lefts.field-0.0 c.args.setting.now c.args.start.now c.args.claims.now c.args.order.now c.from_residual.ensures.1
+
+pub returns-in_err-find_beside-clause-causes : goal.returns-in_err-find_beside-clause-causes
+returns-in_err-find_beside-clause-causes c =
+    let s = c.search_of-search.result in
+    let setting = c.args.setting.now in
+    let start = c.args.start.now in
+    let claims = c.args.claims.now in
+    let order = c.args.order.now in
+    let stop = c.in_err-find_beside.field-0.0 in
+    if_err (StopsUnfolding setting start claims order) c.from_residual-in_err-find_beside.result stop c.from_residual-in_err-find_beside.ensures.1
+    (stops_unfolding s setting start claims order stop c.search_of-search.ensures.setting c.search_of-search.ensures.claims c.search_of-search.ensures.order c.search_of-search.ensures.budget c.in_err-find_beside.ensures.causes
+    (full_after s (IsFrom start) nothing_found c.loop-left.finds stop c.loop-left.invariant c.in_err-find_beside.ensures.full))

@@ -2,12 +2,16 @@ use Rattle.std.proofs.Common.{◌≡◌, ℕ, List, sym, ap, ◌∙◌, subst, a
 use Rattle.ac_claims.specs.ProofFaults.{domain}
 use Rattle.ac_claims.specs.Remaining.{count_by}
 use Rattle.ac_claims.specs.declared.types.ClaimTree.{ClaimTree}
+use Rattle.ac_unfold.specs.Causes.{StopsUnfolding}
 use Rattle.ac_unfold.specs.Paths.{ArePlansOf}
 use Rattle.ac_plans.specs.Due.{pairs_of}
 use Rattle.ac_unfold.specs.Planned.{IsBrokenFrom}
 use Rattle.ac_unfold.proofs.Coming.{path_is_broken}
+use Rattle.ac_unfold.proofs.Full.{stops_unfolding}
+use Rattle.ac_unfold.proofs.Places.{memory_stops}
 use Rattle.ac_unfold.proofs.Results.{at_some}
 use Rattle.ac_unfold.proofs.Starts.{accepted_by, begun_none, lefts_more, lefts_none, stopped_by}
+use Rattle.ac_unfold.proofs.Stopped.{if_err}
 use Rattle.ac_unfold.proofs.starting.claim_trees.Goals as goal
 
 pub loop-left-init : goal.loop-left-init
@@ -49,3 +53,19 @@ pub returns-clause-stops : goal.returns-clause-stops
 returns-clause-stops c = λ g at.
     stopped_by c.search_of-search.result c.args.setting.now c.args.order.now c.args.base c.args.claims.now c.args.start.now c.loop-left.trees.items c.search_of-search.ensures.setting c.search_of-search.ensures.order c.search_of-search.ensures.base c.search_of-search.ensures.claims c.search_of-search.ensures.making
     c.loop-left.invariant.begun g at
+
+-- ---- why it stops
+
+pub returns-in_err-counts-clause-causes : goal.returns-in_err-counts-clause-causes
+returns-in_err-counts-clause-causes c = memory_stops c.from_residual.result c.in_err-counts.field-0.0 c.args.setting.now c.args.start.now c.args.claims.now c.args.order.now c.from_residual.ensures.1
+
+pub returns-in_err-broken-clause-causes : goal.returns-in_err-broken-clause-causes
+returns-in_err-broken-clause-causes c =
+    let s = c.search_of-search.result in
+    let setting = c.args.setting.now in
+    let start = c.args.start.now in
+    let claims = c.args.claims.now in
+    let order = c.args.order.now in
+    let stop = c.in_err-broken.field-0.0 in
+    if_err (StopsUnfolding setting start claims order) c.from_residual-in_err-broken.result stop c.from_residual-in_err-broken.ensures.1
+    (stops_unfolding s setting start claims order stop c.search_of-search.ensures.setting c.search_of-search.ensures.claims c.search_of-search.ensures.order c.search_of-search.ensures.budget c.in_err-broken.ensures.causes c.in_err-broken.ensures.full)

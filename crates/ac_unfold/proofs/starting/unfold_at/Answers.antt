@@ -1,4 +1,5 @@
 use Rattle.std.proofs.Common.{◌≡◌, Some, refl, rules, sym, ◌∙◌, subst}
+use Rattle.std.proofs.lemmas.Result.{IfErr-weaker}
 use Rattle.ac_forms.specs.Rows.{IsWellMade}
 use Rattle.ac_claims.specs.Remaining.{start_at}
 use Rattle.ac_unfold.specs.Making.{judge_of, IsOpen}
@@ -8,6 +9,8 @@ use Rattle.ac_unfold.specs.Missing.{IsShownOpen}
 use Rattle.ac_unfold.specs.Searching.{IsFrom, KeepsTrail}
 use Rattle.ac_unfold.proofs.Missing.{finds_shown}
 use Rattle.ac_unfold.proofs.Coming.{begun_broken, broken_none, on_ok}
+use Rattle.ac_unfold.proofs.Full.{full_begun}
+use Rattle.ac_unfold.proofs.Places.{begun_stops}
 use Rattle.ac_unfold.proofs.starting.unfold_at.Goals as goal
 
 pub returns-in-Empty-clause-begun : goal.returns-in-Empty-clause-begun
@@ -40,4 +43,24 @@ returns-in-On-clause-broken c =
     on_ok c.visit.result _ _ (begun_broken s c.args.start.now c.args.left c.args.right c.in-Some.path n c.in-On.node _ _ starts made c.in_ok-node.ensures.question c.in_ok-node.ensures.trail opened.0 kept) c.visit.ensures.broken
 
 pub returns-in-Empty-clause-missing : goal.returns-in-Empty-clause-missing
-returns-in-Empty-clause-missing c = finds_shown c.args.search.now c.in-Empty.plan _ _ (λ on. subst IsShownOpen c.in-Empty.is (c.in_ok-question.ensures.shown on))
+returns-in-Empty-clause-missing c = finds_shown c.args.search.now c.in-Empty.plan c.args.finds.now c.args.finds.now (λ on. subst IsShownOpen c.in-Empty.is (c.in_ok-question.ensures.shown on))
+
+pub returns-in-On-clause-causes : goal.returns-in-On-clause-causes
+returns-in-On-clause-causes c =
+    let s = c.args.search.now in
+    let n = c.in_ok-node.node in
+    let starts : start_at (judge_of s) c.args.start.now c.args.left c.args.right ≡ Some c.in-Some.path = sym c.in_ok-path.ensures ∙ c.in-Some.is in
+    let opened = subst (λ (x : Opened). IsOpen n.placing n.question x) c.in-On.is c.in_ok-question.ensures.open in
+    begun_stops c.visit.result s c.args.start.now c.args.left c.args.right c.in-Some.path n c.in-On.node starts c.in_ok-node.ensures.question opened.0 c.visit.ensures.causes
+
+-- ---- too many paths
+
+pub returns-in-On-clause-full : goal.returns-in-On-clause-full
+returns-in-On-clause-full c =
+    let s = c.args.search.now in
+    let n = c.in_ok-node.node in
+    let made : IsWellMade c.in-Some.path.conj = search rules in
+    let starts : start_at (judge_of s) c.args.start.now c.args.left c.args.right ≡ Some c.in-Some.path = sym c.in_ok-path.ensures ∙ c.in-Some.is in
+    let opened = subst (λ (x : Opened). IsOpen n.placing n.question x) c.in-On.is c.in_ok-question.ensures.open in
+    let kept = subst (λ (x : Opened). KeepsTrail n x) c.in-On.is c.in_ok-question.ensures.trail in
+    IfErr-weaker c.visit.result _ _ (full_begun s c.args.start.now c.args.left c.args.right c.in-Some.path n c.in-On.node c.args.finds.now starts made c.in_ok-node.ensures.question c.in_ok-node.ensures.trail opened.0 kept) c.visit.ensures.full

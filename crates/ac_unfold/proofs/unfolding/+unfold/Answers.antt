@@ -1,9 +1,10 @@
-use Rattle.std.proofs.Common.{◌≡◌, ◌+◌, ◌≤◌, ◌++◌, ◌∷◌, [], List, None, Option, arith, refl, rules, sym, ◌∙◌, subst, take, length}
+use Rattle.std.proofs.Common.{◌≡◌, ◌+◌, ◌++◌, ◌∷◌, [], List, None, Option, arith, refl, rules, sym, ◌∙◌, subst, take, length, Some}
 use Rattle.std.specs.Prelude.{IfOk, IfSome}
 use Rattle.std.proofs.lemmas.Iterator.Adapters.{YieldsList-from_vec}
 use Rattle.std.proofs.lemmas.Iterator.Consumers.{YieldsList-end, YieldsList-so_far, YieldsList-turn}
 use Rattle.std.specs.Vec.Iter.{into_iter_len}
 use Rattle.std.proofs.lemmas.List.{take_all}
+use Rattle.std.proofs.lemmas.Result.{IfErr-weaker}
 use Rattle.ac_forms.specs.declared.row.Row.{Row}
 use Rattle.ac_paths.specs.Formed.{AreFormedIf}
 use Rattle.ac_paths.specs.Branching.{all_onto}
@@ -14,7 +15,9 @@ use Rattle.ac_graft.specs.Sides.{AreSides}
 use Rattle.ac_graft.specs.declared.branching.Part.{Part}
 use Rattle.ac_graft.specs.declared.branching.Parts.{Parts}
 use Rattle.ac_syntax.specs.declared.tree.Order.TheVariants.{Keep}
+use Rattle.ac_unfold.specs.Asked.{AreTargets}
 use Rattle.ac_unfold.specs.Cutting.{AreMadeOn, CutsMore, IsKillThere, IsNext}
+use Rattle.ac_unfold.specs.Full.{FullUnder, IsEndOfSteps}
 use Rattle.ac_unfold.specs.Making.{judge_of, IsEndFor, IsMade, IsMadeIn, IsOpen}
 use Rattle.ac_unfold.specs.Stopping.{MayStep}
 use Rattle.ac_unfold.specs.declared.asking.Opened.{Opened}
@@ -22,14 +25,18 @@ use Rattle.ac_unfold.specs.declared.kinds.Next.{Next}
 use Rattle.ac_unfold.specs.declared.kinds.Next.TheVariants as kind
 use Rattle.ac_flow.specs.declared.types.Remainder.{Remainder}
 use Rattle.ac_forms.specs.Members.{IsAmong}
+use Rattle.ac_unfold.proofs.Full.{full_calls, full_end, full_fewer, full_hands, full_last, full_next, full_none, full_past, full_piece, full_reads, full_side, full_start, full_survivor, full_within}
 use Rattle.ac_unfold.proofs.Keeping.{cut_stays}
 use Rattle.ac_unfold.proofs.Results.{all_made_in, all_refuted_made, at_some, cut_branched, cut_made, cut_more, cut_none, in_get, in_read, made_more, made_none, next_item, none_made, refuted_in, same_made_in, with_kill, AreCut}
 use Rattle.ac_unfold.proofs.Stepping.{case_made, map_itself, serve_more, serve_none, serve_off, step_made, ServeBranches}
 use Rattle.ac_unfold.specs.Missing.{IsShownOpen}
 use Rattle.ac_unfold.specs.Passing.{AreApart, AreKillRows, GoesWithin, IsOutsideKills}
 use Rattle.ac_unfold.specs.Searching.{IsAt, IsInCase, IsKindThere, IsPast, KeepsTrail}
+use Rattle.ac_unfold.specs.Stops.{AreKillsRows, CutsOn, Follows, FollowsCase, FollowsCut, FollowsOn, HasItsCalls, IsMatchOf, StopsUnder}
 use Rattle.ac_unfold.proofs.Missing.{finds_by, finds_off, finds_shown, none_behind}
 use Rattle.ac_unfold.proofs.Passing.{apart_misses, fewer_broken, kill_rows, last_broken, most, next_broken, nothing_left, parts_miss, rows_within, side_broken, start_broken, survivor_broken, within_broken, within_itself, within_more, within_part}
+use Rattle.ac_unfold.proofs.Places.{asking_stops, branch_stops, calls_stop, case_stops, cut_stops, cuts_itself, cuts_more, enter_stops, inside_cuts, kill_stops, kills_row, kills_rows, kills_sides, match_stops, opened_stops, past_stops, piece_stops, read_stops, rest_stops, row_stops, side_stops, survivor_stops}
+use Rattle.ac_unfold.proofs.Stopped.{followed_hands, if_err}
 use Rattle.ac_unfold.proofs.Yielding.{first_ones}
 use Rattle.ac_unfold.proofs.Coming.{broken_kept, broken_none, broken_past, broken_then, calls_all, calls_more, calls_none, calls_some, match_broken, mismatch_broken, on_ok, piece_broken, reads_all, reads_more, reads_none, reads_some, AddsCalls, AddsReads}
 use Rattle.ac_unfold.proofs.unfolding.+unfold.Goals as goal
@@ -58,7 +65,7 @@ calls-loop-branch-preserved-in-Some-made t c =
           let r : IsMade s b.placing b.question p = at_some c.in_ok-made.made p (IsMade s b.placing b.question) c.in-Some-made.is c.in_ok-made.ensures.made in
           subst (λ (ts : List Plan). ServeBranches s n.placing n.question (c.loop-branch.yielded ++ c.in-Some-branch.branch ∷ []) ts) (sym c.in_ok-push-in-Some-made.ensures.items)
           (serve_more s n.placing n.question c.loop-branch.yielded c.loop-branch.cases.items c.in-Some-branch.branch b p c.loop-branch.invariant.serve c.in_ok-child.ensures.question c.in_ok-child.ensures.placing r));
-      adds = calls_more s n c.args.order c.loop-branch.yielded c.in-Some-branch.branch c.in_ok-child.child c.args.finds.now c.loop-branch.finds c.visit.new.finds c.requires c.loop-branch.invariant.adds c.in_ok-child.ensures.question c.in_ok-child.ensures.trail c.in_ok-made.ensures.broken;
+      adds = calls_more s n c.args.order c.loop-branch.yielded c.in-Some-branch.branch c.in_ok-child.child c.args.finds.now c.loop-branch.finds c.visit.new.finds c.requires.kind c.loop-branch.invariant.adds c.in_ok-child.ensures.question c.in_ok-child.ensures.trail c.in_ok-made.ensures.broken;
       kept = (let b = c.in_ok-child.child in let k = c.loop-branch.invariant.kept in let m = broken_kept s (IsAt s b.trail b.question) _ _ c.in_ok-made.ensures.broken in omega (arith, k, m));
     }
 
@@ -68,7 +75,7 @@ calls-loop-branch-preserved t c =
     let n = c.args.node.now in
     record {
       serve = (serve_off c.args.search.now c.args.node.now.placing c.args.node.now.question (c.loop-branch.yielded ++ c.in-Some-branch.branch ∷ []) c.loop-branch.cases.items c.if-search.false);
-      adds = calls_more s n c.args.order c.loop-branch.yielded c.in-Some-branch.branch c.in_ok-child.child c.args.finds.now c.loop-branch.finds c.visit.new.finds c.requires c.loop-branch.invariant.adds c.in_ok-child.ensures.question c.in_ok-child.ensures.trail c.in_ok-made.ensures.broken;
+      adds = calls_more s n c.args.order c.loop-branch.yielded c.in-Some-branch.branch c.in_ok-child.child c.args.finds.now c.loop-branch.finds c.visit.new.finds c.requires.kind c.loop-branch.invariant.adds c.in_ok-child.ensures.question c.in_ok-child.ensures.trail c.in_ok-made.ensures.broken;
       kept = (let b = c.in_ok-child.child in let k = c.loop-branch.invariant.kept in let m = broken_kept s (IsAt s b.trail b.question) _ _ c.in_ok-made.ensures.broken in omega (arith, k, m));
     }
 
@@ -187,7 +194,13 @@ kills-cut-requires t c =
     let s = c.args.search.now in
     let k = c.args.case.now in
     let n = c.args.node in
-    (search rules, subst (λ (rows : List Row). AreKillRows s k c.args.number n.question rows) (sym c.as_slice-2.ensures) (kill_rows s k c.args.number n.question c.in-Some.kill.now c.in_ok-rows.rows (sym c.in-Some.ensures.value) c.in_ok-rows.ensures.rows))
+    let among = in_get k.kills c.args.number c.in-Some.kill.now (sym c.in-Some.ensures.value) in (
+      search rules,
+      (
+        subst (λ (rows : List Row). AreKillRows s k c.args.number n.question rows) (sym c.as_slice-2.ensures) (kill_rows s k c.args.number n.question c.in-Some.kill.now c.in_ok-rows.rows (sym c.in-Some.ensures.value) c.in_ok-rows.ensures.rows),
+        subst (λ (rows : List Row). AreKillsRows s k n.question rows) (sym c.as_slice-2.ensures) (kills_rows s k n.question c.in-Some.kill.now c.in_ok-rows.rows among c.in_ok-rows.ensures.there),
+      ),
+    )
 
 pub kills-returns-in_default-clause-broken : goal.kills-returns-in_default-clause-broken
 kills-returns-in_default-clause-broken t c =
@@ -228,6 +241,7 @@ cut-loop-row-init t c =
     record {
       cut = cut_none s k n c.new-course.result c.new-course.ensures.node c.new-course.ensures.branches;
       within = within_itself n c.new-course.result.node c.new-course.ensures.node;
+      cuts = cuts_itself s k n c.new-course.result.node c.new-course.ensures.node;
       adds = broken_none s (IsOutsideKills s k c.args.number n.trail n.question) _ _ refl;
     }
 
@@ -238,7 +252,13 @@ cut-cut_row-requires t c =
     let n = c.args.node in
     let v = c.loop-row.course.node in
     let rows = c.args.rows.now in
-    (search rules, record { rows = rows; are = rows_within s k c.args.number n.question v.question rows c.loop-row.invariant.within.question c.requires; among = in_read rows c.loop-row.row-index c.row-item.result c.loop-row-test.true c.row-item.is })
+    let among = in_read rows c.loop-row.row-index c.row-item.result c.loop-row-test.true c.row-item.is in (
+      search rules,
+      (
+        record { rows = rows; are = rows_within s k c.args.number n.question v.question rows c.loop-row.invariant.within.question c.requires.numbered; among = among },
+        kills_row s k n v rows c.row-item.result c.loop-row.invariant.within c.requires.there among,
+      ),
+    )
 
 pub cut-loop-row-preserved : goal.cut-loop-row-preserved
 cut-loop-row-preserved t c =
@@ -248,11 +268,13 @@ cut-loop-row-preserved t c =
     let s = c.args.search.now in
     let k = c.args.case.now in
     let more : CutsMore s k c.loop-row.course row c.in-Some.next = at_some c.in_ok-made.made c.in-Some.next (CutsMore s k c.loop-row.course row) c.in-Some.is c.in_ok-made.ensures.made in
+    let cuts : CutsOn s k c.loop-row.course.node c.in-Some.next.node = at_some c.in_ok-made.made c.in-Some.next (λ next. CutsOn s k c.loop-row.course.node next.node) c.in-Some.is c.in_ok-made.ensures.cuts in
     let goes : GoesWithin c.loop-row.course.node c.in-Some.next.node = at_some c.in_ok-made.made c.in-Some.next (λ next. GoesWithin c.loop-row.course.node next.node) c.in-Some.is c.in_ok-made.ensures.within in
     let n = c.args.node in
     record {
       cut = subst (λ (xs : List Row). AreCut s k n c.in-Some.next xs) (sym (next_item rows i row c.loop-row-test.true c.row-item.is)) (cut_more s k n c.loop-row.course c.in-Some.next (take i rows) row c.loop-row.invariant.cut more);
       within = within_more n c.loop-row.course.node c.in-Some.next.node c.loop-row.invariant.within goes;
+      cuts = cuts_more s k n c.loop-row.course.node c.in-Some.next.node c.loop-row.invariant.cuts cuts;
       adds = broken_then s (IsOutsideKills s k c.args.number n.trail n.question) _ _ _ c.loop-row.invariant.adds (within_broken s k c.args.number n c.loop-row.course.node _ _ c.loop-row.invariant.within c.in_ok-made.ensures.broken);
     }
 
@@ -267,7 +289,7 @@ pub cut-returns-in-None-clause-missing : goal.cut-returns-in-None-clause-missing
 cut-returns-in-None-clause-missing t c =
     let s = c.args.search.now in
     let n = c.args.node in
-    finds_by s None c.in_ok-made.made _ _ _ (λ e. c.in-None.is) (broken_kept s (IsOutsideKills s c.args.case.now c.args.number n.trail n.question) _ _ c.loop-row.invariant.adds) c.in_ok-made.ensures.missing
+    finds_by s None c.in_ok-made.made c.args.finds.now c.loop-row.finds c.cut_row.new.finds (λ e. c.in-None.is) (broken_kept s (IsOutsideKills s c.args.case.now c.args.number n.trail n.question) c.args.finds.now c.loop-row.finds c.loop-row.invariant.adds) c.in_ok-made.ensures.missing
 
 pub cut-returns-clause-made : goal.cut-returns-clause-made
 cut-returns-clause-made t c =
@@ -283,7 +305,7 @@ cut_row-returns-then-standing-clause-made t c = cut_stays c.args.search.now c.ar
 pub cut_row-returns-in_ok-next-in-Some-made-clause-made : goal.cut_row-returns-in_ok-next-in-Some-made-clause-made
 cut_row-returns-in_ok-next-in-Some-made-clause-made t c =
     let n = c.args.course.node.question.conj.columns in
-    let can = c.in_ok-can.ensures c.if-not-can.false in
+    let can = c.in_ok-can.ensures.can c.if-not-can.false in
     let s = c.args.search.now in
     let k = c.args.case.now in
     let v = c.args.course.node in
@@ -301,15 +323,18 @@ pub cut_row-returns-then-standing-clause-within : goal.cut_row-returns-then-stan
 cut_row-returns-then-standing-clause-within t c = within_itself c.args.course.node c.args.course.node refl
 
 pub cut_row-parts_of-requires : goal.cut_row-parts_of-requires
-cut_row-parts_of-requires t c = let can = c.in_ok-can.ensures c.if-not-can.false in can.over
+cut_row-parts_of-requires t c = let can = c.in_ok-can.ensures.can c.if-not-can.false in can.over
 
 pub cut_row-outsides-requires : goal.cut_row-outsides-requires
 cut_row-outsides-requires t c =
     let v = c.args.course.node.question in
-    let can = c.in_ok-can.ensures c.if-not-can.false in (
+    let can = c.in_ok-can.ensures.can c.if-not-can.false in
+    let are = subst (λ (o : Option Parts). AreSides v.conj.columns c.args.row.now o) c.in-Some.is c.in_ok-parts.ensures in (
       search rules,
-      parts_miss c.args.search.now c.args.case.now c.args.number v c.args.row.now c.in-Some.parts c.as_slice-parted.result.now can.over
-          (subst (λ (o : Option Parts). AreSides v.conj.columns c.args.row.now o) c.in-Some.is c.in_ok-parts.ensures) c.as_slice-parted.ensures c.requires,
+      (
+        parts_miss c.args.search.now c.args.case.now c.args.number v c.args.row.now c.in-Some.parts c.as_slice-parted.result.now can.over are c.as_slice-parted.ensures c.requires.numbered,
+        kills_sides c.args.search.now c.args.case.now v c.args.row.now c.in-Some.parts c.as_slice-parted.result.now are c.as_slice-parted.ensures c.requires.there,
+      ),
     )
 
 pub cut_row-returns-in_ok-next-in-Some-made-clause-within : goal.cut_row-returns-in_ok-next-in-Some-made-clause-within
@@ -341,20 +366,20 @@ outsides-loop-part-preserved t c =
     record {
       made = subst (λ (xs : List Part). AreMadeOn s k n.placing n.question xs c.push.new.self.items) (sym (next_item ps i p c.loop-part-test.true c.part-item.is))
           (subst (λ (ts : List Plan). AreMadeOn s k n.placing n.question (take i ps ++ p ∷ []) ts) (sym c.in_ok-push-in-Some.ensures.items) (made_more s k n.placing n.question (take i ps) c.loop-part.plans.items p b c.in-Some.plan c.loop-part.invariant.made c.in_ok-beside.ensures.question c.in_ok-beside.ensures.placing r));
-      adds = side_broken s k c.args.number n b ps p _ _ _ c.loop-part.invariant.adds c.requires (in_read ps i p c.loop-part-test.true c.part-item.is) c.in_ok-beside.ensures.question c.in_ok-beside.ensures.trail c.in_ok-made.ensures.broken;
+      adds = side_broken s k c.args.number n b ps p _ _ _ c.loop-part.invariant.adds c.requires.miss (in_read ps i p c.loop-part-test.true c.part-item.is) c.in_ok-beside.ensures.question c.in_ok-beside.ensures.trail c.in_ok-made.ensures.broken;
     }
 
 pub outsides-returns-in-None-clause-broken : goal.outsides-returns-in-None-clause-broken
 outsides-returns-in-None-clause-broken t c =
     let ps = c.args.parts.now in
     let p = c.part-item.result in
-    side_broken c.args.search.now c.args.case.now c.args.number c.args.node.now c.in_ok-beside.beside ps p _ _ _ c.loop-part.invariant.adds c.requires (in_read ps c.loop-part.part-index p c.loop-part-test.true c.part-item.is) c.in_ok-beside.ensures.question c.in_ok-beside.ensures.trail c.in_ok-made.ensures.broken
+    side_broken c.args.search.now c.args.case.now c.args.number c.args.node.now c.in_ok-beside.beside ps p _ _ _ c.loop-part.invariant.adds c.requires.miss (in_read ps c.loop-part.part-index p c.loop-part-test.true c.part-item.is) c.in_ok-beside.ensures.question c.in_ok-beside.ensures.trail c.in_ok-made.ensures.broken
 
 pub outsides-returns-in-None-clause-missing : goal.outsides-returns-in-None-clause-missing
 outsides-returns-in-None-clause-missing t c =
     let s = c.args.search.now in
     let n = c.args.node.now in
-    finds_by s None c.in_ok-made.made _ _ _ (λ e. c.in-None.is) (broken_kept s (IsOutsideKills s c.args.case.now c.args.number n.trail n.question) _ _ c.loop-part.invariant.adds) c.in_ok-made.ensures.missing
+    finds_by s None c.in_ok-made.made c.args.finds.now c.loop-part.finds c.outside_of.new.finds (λ e. c.in-None.is) (broken_kept s (IsOutsideKills s c.args.case.now c.args.number n.trail n.question) c.args.finds.now c.loop-part.finds c.loop-part.invariant.adds) c.in_ok-made.ensures.missing
 
 pub outsides-returns-clause-made : goal.outsides-returns-clause-made
 outsides-returns-clause-made t c =
@@ -411,7 +436,7 @@ calls-returns-then-search-clause-broken t c =
     let b = c.in-Some-branch.branch in
     let first = first_ones v.items found xs b c.into_vec-branch-items.ensures (YieldsList-so_far road xs c.loop-branch.branch-iterator c.loop-branch.yielded_by)
     (YieldsList-turn road xs c.loop-branch.branch-iterator c.loop-branch.yielded_by c.next.result c.next.new.self b c.in-Some-branch.is c.next.ensures.steps) in
-    let adds = calls_more s n c.args.order xs b c.in_ok-child.child c.args.finds.now c.loop-branch.finds c.visit.new.finds c.requires c.loop-branch.invariant.adds c.in_ok-child.ensures.question c.in_ok-child.ensures.trail c.in_ok-made.ensures.broken in
+    let adds = calls_more s n c.args.order xs b c.in_ok-child.child c.args.finds.now c.loop-branch.finds c.visit.new.finds c.requires.kind c.loop-branch.invariant.adds c.in_ok-child.ensures.question c.in_ok-child.ensures.trail c.in_ok-made.ensures.broken in
     calls_some s n c.args.order (xs ++ b ∷ []) found (length xs + 1) _ _ adds first (subst (λ (o : Option (List Branch)). all_onto q o ≡ branches (judge_of s) c.args.order q) c.in-Some.is c.in_ok-found.ensures.value)
 
 pub calls-returns-clause-broken : goal.calls-returns-clause-broken
@@ -484,13 +509,13 @@ pub visit-returns-in-Match-clause-broken : goal.visit-returns-in-Match-clause-br
 visit-returns-in-Match-clause-broken t c =
     let s = c.args.search.now in
     let v = c.args.node in
-    on_ok c.stand.result _ _ (λ h. broken_past s v.trail v.question _ _ (c.claim_of.ensures.none c.in_default.is) (match_broken s v.trail v.question c.as_slice.result.now c.in-Match.end _ _ (subst (λ (xs : List Row). IsKindThere s v.question (kind.Match xs c.in-Match.end)) (sym c.as_slice.ensures) (subst (λ (x : Next). IsKindThere s v.question x) c.in-Match.is c.in_ok-next.ensures.kind)) h)) c.stand.ensures.found
+    on_ok c.stand.result _ _ (λ h. broken_past s v.trail v.question _ _ (c.claim_of.ensures.none c.in_default.is) (match_broken s v.trail v.question c.as_slice.result.now c.in-Match.end _ _ (subst (λ (xs : List Row). IsKindThere s v.question (kind.Match xs c.in-Match.end)) (sym c.as_slice.ensures) (subst (λ (x : Next). IsKindThere s v.question x) c.in-Match.is c.in_ok-next.ensures.kind)) (subst (λ (x : Next). IsEndOfSteps s v.question x) c.in-Match.is c.in_ok-next.ensures.ends) h)) c.stand.ensures.found
 
 pub visit-returns-in-Mismatch-clause-broken : goal.visit-returns-in-Mismatch-clause-broken
 visit-returns-in-Mismatch-clause-broken t c =
     let s = c.args.search.now in
     let v = c.args.node in
-    on_ok c.mismatch.result _ _ (λ h. broken_past s v.trail v.question _ _ (c.claim_of.ensures.none c.in_default.is) (mismatch_broken s v.trail v.question _ _ (subst (λ (x : Next). IsKindThere s v.question x) c.in-Mismatch.is c.in_ok-next.ensures.kind) h)) c.mismatch.ensures.found
+    on_ok c.mismatch.result _ _ (λ h. broken_past s v.trail v.question _ _ (c.claim_of.ensures.none c.in_default.is) (mismatch_broken s v.trail v.question _ _ (subst (λ (x : Next). IsKindThere s v.question x) c.in-Mismatch.is c.in_ok-next.ensures.kind) (subst (λ (x : Next). IsEndOfSteps s v.question x) c.in-Mismatch.is c.in_ok-next.ensures.ends) h)) c.mismatch.ensures.found
 
 pub remainders-loop-rest-preserved-in-Empty : goal.remainders-loop-rest-preserved-in-Empty
 remainders-loop-rest-preserved-in-Empty t c = c.loop-rest.invariant
@@ -510,22 +535,392 @@ remainders-loop-rest-preserved t c =
 -- ---- missing plans
 
 pub calls-returns-then-search-clause-missing : goal.calls-returns-then-search-clause-missing
-calls-returns-then-search-clause-missing t c = finds_by c.args.search.now None c.in_ok-made.made _ _ _ (λ e. c.in-None-made.is) c.loop-branch.invariant.kept c.in_ok-made.ensures.missing
+calls-returns-then-search-clause-missing t c = finds_by c.args.search.now None c.in_ok-made.made c.args.finds.now c.loop-branch.finds c.visit.new.finds (λ e. c.in-None-made.is) c.loop-branch.invariant.kept c.in_ok-made.ensures.missing
 
 pub calls-returns-clause-missing : goal.calls-returns-clause-missing
-calls-returns-clause-missing t c = finds_shown c.args.search.now c.gone.result _ _ c.gone.ensures.there
+calls-returns-clause-missing t c = finds_shown c.args.search.now c.gone.result c.args.finds.now c.loop-branch.finds c.gone.ensures.there
 
 pub read-returns-then-search-clause-missing : goal.read-returns-then-search-clause-missing
-read-returns-then-search-clause-missing t c = finds_by c.args.search.now None c.in_ok-made.made _ _ _ (λ e. c.in-None-made.is) c.loop-branch.invariant.kept c.in_ok-made.ensures.missing
+read-returns-then-search-clause-missing t c = finds_by c.args.search.now None c.in_ok-made.made c.args.finds.now c.loop-branch.finds c.enter.new.finds (λ e. c.in-None-made.is) c.loop-branch.invariant.kept c.in_ok-made.ensures.missing
 
 pub read-returns-clause-missing : goal.read-returns-clause-missing
-read-returns-clause-missing t c = finds_shown c.args.search.now c.gone.result _ _ c.gone.ensures.there
+read-returns-clause-missing t c = finds_shown c.args.search.now c.gone.result c.args.finds.now c.loop-branch.finds c.gone.ensures.there
 
 pub enter-returns-then-not-search-clause-missing : goal.enter-returns-then-not-search-clause-missing
-enter-returns-then-not-search-clause-missing t c = finds_off c.remainders.result c.args.search.now _ _ c.if-not-search.true
+enter-returns-then-not-search-clause-missing t c = finds_off c.remainders.result c.args.search.now c.args.finds.now c.remainders.new.finds c.if-not-search.true
 
 pub enter-returns-in-Empty-clause-missing : goal.enter-returns-in-Empty-clause-missing
-enter-returns-in-Empty-clause-missing t c = finds_shown c.args.search.now c.in-Empty.plan _ _ (λ _. subst IsShownOpen c.in-Empty.is (c.in_ok-question.ensures.shown refl))
+enter-returns-in-Empty-clause-missing t c = finds_shown c.args.search.now c.in-Empty.plan c.args.finds.now c.args.finds.now (λ _. subst IsShownOpen c.in-Empty.is (c.in_ok-question.ensures.shown refl))
 
 pub outside_of-returns-in-Empty-clause-missing : goal.outside_of-returns-in-Empty-clause-missing
-outside_of-returns-in-Empty-clause-missing t c = finds_shown c.args.search.now c.in-Empty.plan _ _ (λ _. subst IsShownOpen c.in-Empty.is (c.in_ok-question.ensures.shown refl))
+outside_of-returns-in-Empty-clause-missing t c = finds_shown c.args.search.now c.in-Empty.plan c.args.finds.now c.args.finds.now (λ _. subst IsShownOpen c.in-Empty.is (c.in_ok-question.ensures.shown refl))
+
+-- ---- stops: pairs
+
+pub visit-calls-requires : goal.visit-calls-requires
+visit-calls-requires t c =
+    let s = c.args.search.now in
+    let q = c.args.node.question in
+    (search rules, (subst (λ (x : Next). IsKindThere s q x) c.in-Calls.is c.in_ok-next.ensures.kind, subst (λ (x : Next). HasItsCalls s q x) c.in-Calls.is c.in_ok-next.ensures.calls))
+
+pub visit-returns-in_err-next-clause-causes : goal.visit-returns-in_err-next-clause-causes
+visit-returns-in_err-next-clause-causes t c =
+    let s = c.args.search.now in
+    let q = c.args.node.question in
+    let stop = c.in_err-next.field-0.0 in
+    if_err (StopsUnder s (Follows s q)) c.from_residual.result stop c.from_residual.ensures.1 (followed_hands s q stop c.in_err-next.ensures.causes)
+
+pub visit-returns-in-Read-clause-causes : goal.visit-returns-in-Read-clause-causes
+visit-returns-in-Read-clause-causes t c = past_stops c.read.result c.args.search.now c.args.node.question (c.claim_of.ensures.none c.in_default.is) c.read.ensures.causes
+
+pub visit-returns-in-Calls-clause-causes : goal.visit-returns-in-Calls-clause-causes
+visit-returns-in-Calls-clause-causes t c = past_stops c.calls.result c.args.search.now c.args.node.question (c.claim_of.ensures.none c.in_default.is) c.calls.ensures.causes
+
+pub visit-returns-in-Match-clause-causes : goal.visit-returns-in-Match-clause-causes
+visit-returns-in-Match-clause-causes t c =
+    let s = c.args.search.now in
+    let q = c.args.node.question in
+    match_stops c.stand.result s q c.as_slice.result.now
+    (subst (λ (rows : List Row). AreTargets (judge_of s) s.claims.now q (Some rows)) (sym c.as_slice.ensures) (subst (λ (x : Next). IsMatchOf s q x) c.in-Match.is c.in_ok-next.ensures.targets)) c.stand.ensures.causes
+
+pub visit-returns-in-Mismatch-clause-causes : goal.visit-returns-in-Mismatch-clause-causes
+visit-returns-in-Mismatch-clause-causes t c = asking_stops c.mismatch.result c.args.search.now c.args.node.question c.mismatch.ensures.causes
+
+-- ---- stops: calls
+
+pub calls-returns-in_default-clause-causes : goal.calls-returns-in_default-clause-causes
+calls-returns-in_default-clause-causes t c =
+    let s = c.args.search.now in
+    let q = c.args.node.now.question in
+    calls_stop s q c.args.order c.too_wide.result c.requires.kind c.requires.calls (sym (subst (λ (o : Option (List Branch)). all_onto q o ≡ branches (judge_of s) c.args.order q) c.in_default.is c.in_ok-found.ensures.value)) c.too_wide.ensures
+
+pub calls-returns-in_err-made-clause-causes : goal.calls-returns-in_err-made-clause-causes
+calls-returns-in_err-made-clause-causes t c =
+    let s = c.args.search.now in
+    let q = c.args.node.now.question in
+    let found = c.in-Some.found in
+    let v = c.into_vec-branch-items.result in
+    let it = c.into_iter-branch-iterator.result in
+    let many : into_iter_len it ≡ length v.items = c.into_iter-branch-iterator.ensures.into_iter_gives.1 ∙ v.ok.0 in
+    let road = YieldsList-from_vec {s = it} v.items c.into_iter-branch-iterator.ensures.into_iter_gives.0 many in
+    let xs = c.loop-branch.yielded in
+    let b = c.in-Some-branch.branch in
+    let first = first_ones v.items found xs b c.into_vec-branch-items.ensures (YieldsList-so_far road xs c.loop-branch.branch-iterator c.loop-branch.yielded_by)
+    (YieldsList-turn road xs c.loop-branch.branch-iterator c.loop-branch.yielded_by c.next.result c.next.new.self b c.in-Some-branch.is c.next.ensures.steps) in
+    let stop = c.in_err-made.field-0.0 in
+    if_err (StopsUnder s (FollowsOn s q)) c.from_residual-in_err-made.result stop c.from_residual-in_err-made.ensures.1
+    (branch_stops s q c.in_ok-child.child.question c.args.order xs found b (length xs + 1) stop c.requires.kind first (subst (λ (o : Option (List Branch)). all_onto q o ≡ branches (judge_of s) c.args.order q) c.in-Some.is c.in_ok-found.ensures.value)
+    c.in_ok-child.ensures.question c.in_err-made.ensures.causes)
+
+-- ---- stops: reads
+
+pub read-returns-in_default-clause-causes : goal.read-returns-in_default-clause-causes
+read-returns-in_default-clause-causes t c =
+    let s = c.args.search.now in
+    let q = c.args.node.now.question in
+    read_stops s q c.args.side c.too_wide.result c.requires (sym (subst (λ (o : Option (List Branch)). all_onto q o ≡ branches (judge_of s) Keep q) c.in_default.is c.in_ok-found.ensures.value)) c.too_wide.ensures
+
+pub read-returns-in_err-made-clause-causes : goal.read-returns-in_err-made-clause-causes
+read-returns-in_err-made-clause-causes t c =
+    let s = c.args.search.now in
+    let n = c.args.node.now in
+    let q = n.question in
+    let found = c.in-Some.found in
+    let v = c.into_vec-branch-items.result in
+    let it = c.into_iter-branch-iterator.result in
+    let many : into_iter_len it ≡ length v.items = c.into_iter-branch-iterator.ensures.into_iter_gives.1 ∙ v.ok.0 in
+    let road = YieldsList-from_vec {s = it} v.items c.into_iter-branch-iterator.ensures.into_iter_gives.0 many in
+    let xs = c.loop-branch.yielded in
+    let b = c.in-Some-branch.branch in
+    let first = first_ones v.items found xs b c.into_vec-branch-items.ensures (YieldsList-so_far road xs c.loop-branch.branch-iterator c.loop-branch.yielded_by)
+    (YieldsList-turn road xs c.loop-branch.branch-iterator c.loop-branch.yielded_by c.next.result c.next.new.self b c.in-Some-branch.is c.next.ensures.steps) in
+    let stop = c.in_err-made.field-0.0 in
+    if_err (StopsUnder s (FollowsOn s q)) c.from_residual-in_err-made.result stop c.from_residual-in_err-made.ensures.1
+    (case_stops s n c.in_ok-child.child.question c.args.side c.in-Some-flow_of.flow.now c.in-Some-case_of.case.now c.loop-branch.number xs found b (length xs + 1) c.args.finds.now c.loop-branch.finds stop c.requires c.in-Some-flow_of.ensures.among c.in-Some-flow_of.ensures.position c.in-Some-case_of.ensures.number
+    c.loop-branch.invariant.adds first (subst (λ (o : Option (List Branch)). all_onto q o ≡ branches (judge_of s) Keep q) c.in-Some.is c.in_ok-found.ensures.value) c.in_ok-child.ensures.question c.in_err-made.ensures.causes)
+
+-- ---- stops: cases
+
+pub enter-returns-in-On-clause-causes : goal.enter-returns-in-On-clause-causes
+enter-returns-in-On-clause-causes t c =
+    let v = c.args.node in
+    let opened = subst (λ (x : Opened). IsOpen v.placing v.question x) c.in-On.is c.in_ok-question.ensures.open in
+    enter_stops c.kills.result c.args.search.now c.args.case.now v.question c.in-On.node.question opened.0 c.kills.ensures.causes
+
+pub remainders-returns-in_err-left-clause-causes : goal.remainders-returns-in_err-left-clause-causes
+remainders-returns-in_err-left-clause-causes t c =
+    let s = c.args.search.now in
+    let k = c.args.case.now in
+    let q = c.args.node.now.question in
+    let r = c.rest-item.result in
+    let among : IsAmong r k.pieces = subst (λ (xs : List Remainder). IsAmong r xs) c.as_slice-rest-items.ensures (in_read c.as_slice-rest-items.result.now c.loop-rest.rest-index r c.loop-rest-test.true c.rest-item.is) in
+    let stop = c.in_err-left.field-0.0 in
+    if_err (StopsUnder s (FollowsCase s k q)) c.from_residual.result stop c.from_residual.ensures.1 (rest_stops s k q r stop among c.in_err-left.ensures.causes)
+
+pub remainders-returns-in_err-_none-in-On-clause-causes : goal.remainders-returns-in_err-_none-in-On-clause-causes
+remainders-returns-in_err-_none-in-On-clause-causes t c =
+    let s = c.args.search.now in
+    let k = c.args.case.now in
+    let q = c.args.node.now.question in
+    let l = c.in_ok-left.left in
+    let r = c.rest-item.result in
+    let among : IsAmong r k.pieces = subst (λ (xs : List Remainder). IsAmong r xs) c.as_slice-rest-items.ensures (in_read c.as_slice-rest-items.result.now c.loop-rest.rest-index r c.loop-rest-test.true c.rest-item.is) in
+    let opened = subst (λ (x : Opened). IsOpen l.placing l.question x) c.in-On.is c.in_ok-question.ensures.open in
+    let stop = c.in_err-_none-in-On.field-0.0 in
+    if_err (StopsUnder s (FollowsCase s k q)) c.from_residual-in_err-_none-in-On.result stop c.from_residual-in_err-_none-in-On.ensures.1
+    (piece_stops s k q l.question c.in-On.child.question r stop among c.in_ok-left.ensures.question opened.0 c.in_err-_none-in-On.ensures.causes)
+
+-- ---- stops: kills
+
+pub kills-returns-in_err-rows-clause-causes : goal.kills-returns-in_err-rows-clause-causes
+kills-returns-in_err-rows-clause-causes t c =
+    let s = c.args.search.now in
+    let k = c.args.case.now in
+    let q = c.args.node.question in
+    let stop = c.in_err-rows.field-0.0 in
+    if_err (StopsUnder s (FollowsCut s k q)) c.from_residual.result stop c.from_residual.ensures.1 (kill_stops s k q c.in-Some.kill.now stop (in_get k.kills c.args.number c.in-Some.kill.now (sym c.in-Some.ensures.value)) c.in_err-rows.ensures.causes)
+
+pub survivor-returns-then-is_empty-clause-causes : goal.survivor-returns-then-is_empty-clause-causes
+survivor-returns-then-is_empty-clause-causes t c =
+    let s = c.args.search.now in
+    let q = c.args.node.question in
+    survivor_stops c.refuted.result s c.args.case.now q (asking_stops c.refuted.result s q c.refuted.ensures.causes)
+
+pub survivor-returns-clause-causes : goal.survivor-returns-clause-causes
+survivor-returns-clause-causes t c = survivor_stops c.visit.result c.args.search.now c.args.case.now c.args.node.question c.visit.ensures.causes
+
+pub cut-returns-in_err-made-clause-causes : goal.cut-returns-in_err-made-clause-causes
+cut-returns-in_err-made-clause-causes t c =
+    let s = c.args.search.now in
+    let k = c.args.case.now in
+    let n = c.args.node in
+    let stop = c.in_err-made.field-0.0 in
+    if_err (StopsUnder s (FollowsCut s k n.question)) c.from_residual.result stop c.from_residual.ensures.1 (cut_stops s k n c.loop-row.course.node stop c.loop-row.invariant.cuts c.in_err-made.ensures.causes)
+
+pub cut_row-returns-then-standing-clause-cuts : goal.cut_row-returns-then-standing-clause-cuts
+cut_row-returns-then-standing-clause-cuts t c = cuts_itself c.args.search.now c.args.case.now c.args.course.node c.args.course.node refl
+
+pub cut_row-returns-in_ok-next-in-Some-made-clause-cuts : goal.cut_row-returns-in_ok-next-in-Some-made-clause-cuts
+cut_row-returns-in_ok-next-in-Some-made-clause-cuts t c =
+    let v = c.args.course.node in
+    inside_cuts c.args.search.now c.args.case.now v c.in_ok-next-in-Some-made.next.node c.args.row.now c.in-Some.parts c.requires.there
+    (subst (λ (o : Option Parts). AreSides v.question.conj.columns c.args.row.now o) c.in-Some.is c.in_ok-parts.ensures) c.in_ok-next-in-Some-made.ensures.question
+
+pub cut_row-returns-then-not-can-clause-causes : goal.cut_row-returns-then-not-can-clause-causes
+cut_row-returns-then-not-can-clause-causes t c =
+    let no = c.in_ok-can.ensures.cannot c.if-not-can.true in
+    row_stops c.args.search.now c.args.case.now c.args.course.node.question c.args.row.now c.too_wide.result c.requires.there (λ can sides. no can) c.too_wide.ensures
+
+-- GUESS: the second call of too_wide is named by its arm
+pub cut_row-returns-in_default-clause-causes : goal.cut_row-returns-in_default-clause-causes
+cut_row-returns-in_default-clause-causes t c =
+    let v = c.args.course.node.question in
+    let no = subst (λ (o : Option Parts). AreSides v.conj.columns c.args.row.now o) c.in_default.is c.in_ok-parts.ensures in
+    row_stops c.args.search.now c.args.case.now v c.args.row.now c.too_wide-in_default.result c.requires.there (λ can. no) c.too_wide-in_default.ensures
+
+pub outsides-returns-in_err-made-clause-causes : goal.outsides-returns-in_err-made-clause-causes
+outsides-returns-in_err-made-clause-causes t c =
+    let s = c.args.search.now in
+    let k = c.args.case.now in
+    let q = c.args.node.now.question in
+    let ps = c.args.parts.now in
+    let p = c.part-item.result in
+    let stop = c.in_err-made.field-0.0 in
+    if_err (StopsUnder s (FollowsCut s k q)) c.from_residual-in_err-made.result stop c.from_residual-in_err-made.ensures.1
+    (side_stops s k q c.in_ok-beside.beside.question ps p stop c.requires.there (in_read ps c.loop-part.part-index p c.loop-part-test.true c.part-item.is) c.in_ok-beside.ensures.question c.in_err-made.ensures.causes)
+
+pub outside_of-returns-in-On-clause-causes : goal.outside_of-returns-in-On-clause-causes
+outside_of-returns-in-On-clause-causes t c =
+    let v = c.args.node in
+    let opened = subst (λ (x : Opened). IsOpen v.placing v.question x) c.in-On.is c.in_ok-question.ensures.open in
+    opened_stops c.kills.result c.args.search.now c.args.case.now v.question c.in-On.node.question opened.0 c.kills.ensures.causes
+
+-- ---- too many paths
+
+pub visit-returns-in_err-next-clause-full : goal.visit-returns-in_err-next-clause-full
+visit-returns-in_err-next-clause-full t c =
+    let s = c.args.search.now in
+    let v = c.args.node in
+    let stop = c.in_err-next.field-0.0 in
+    if_err (FullUnder s (IsAt s v.trail v.question) c.args.finds.now) c.from_residual.result stop c.from_residual.ensures.1
+    (full_hands s (IsAt s v.trail v.question) c.args.finds.now v.question.conj _ stop c.in_err-next.ensures.causes)
+
+pub visit-returns-in-Read-clause-full : goal.visit-returns-in-Read-clause-full
+visit-returns-in-Read-clause-full t c =
+    let v = c.args.node in
+    IfErr-weaker c.read.result _ _ (full_past c.args.search.now v.trail v.question c.args.finds.now (c.claim_of.ensures.none c.in_default.is)) c.read.ensures.full
+
+pub visit-returns-in-Calls-clause-full : goal.visit-returns-in-Calls-clause-full
+visit-returns-in-Calls-clause-full t c =
+    let v = c.args.node in
+    IfErr-weaker c.calls.result _ _ (full_past c.args.search.now v.trail v.question c.args.finds.now (c.claim_of.ensures.none c.in_default.is)) c.calls.ensures.full
+
+pub visit-returns-in-Match-clause-full : goal.visit-returns-in-Match-clause-full
+visit-returns-in-Match-clause-full t c =
+    let s = c.args.search.now in
+    let v = c.args.node in
+    IfErr-weaker c.stand.result _ _ (full_end s v.trail v.question c.args.finds.now (c.claim_of.ensures.none c.in_default.is) (subst (λ (x : Next). IsEndOfSteps s v.question x) c.in-Match.is c.in_ok-next.ensures.ends)) c.stand.ensures.full
+
+pub visit-returns-in-Mismatch-clause-full : goal.visit-returns-in-Mismatch-clause-full
+visit-returns-in-Mismatch-clause-full t c =
+    let s = c.args.search.now in
+    let v = c.args.node in
+    IfErr-weaker c.mismatch.result _ _ (full_end s v.trail v.question c.args.finds.now (c.claim_of.ensures.none c.in_default.is) (subst (λ (x : Next). IsEndOfSteps s v.question x) c.in-Mismatch.is c.in_ok-next.ensures.ends)) c.mismatch.ensures.full
+
+-- GUESS: the name of the branch of the first `let .. else`
+pub calls-returns-in_default-clause-full : goal.calls-returns-in_default-clause-full
+calls-returns-in_default-clause-full t c =
+    let s = c.args.search.now in
+    let n = c.args.node.now in
+    full_hands s (IsPast s n.trail n.question) c.args.finds.now n.question.conj (Unit {0}) c.too_wide.result c.too_wide.ensures
+
+pub calls-returns-in_err-made-clause-full : goal.calls-returns-in_err-made-clause-full
+calls-returns-in_err-made-clause-full t c =
+    let s = c.args.search.now in
+    let n = c.args.node.now in
+    let q = n.question in
+    let found = c.in-Some.found in
+    let v = c.into_vec-branch-items.result in
+    let it = c.into_iter-branch-iterator.result in
+    let many : into_iter_len it ≡ length v.items = c.into_iter-branch-iterator.ensures.into_iter_gives.1 ∙ v.ok.0 in
+    let road = YieldsList-from_vec {s = it} v.items c.into_iter-branch-iterator.ensures.into_iter_gives.0 many in
+    let xs = c.loop-branch.yielded in
+    let b = c.in-Some-branch.branch in
+    let first = first_ones v.items found xs b c.into_vec-branch-items.ensures (YieldsList-so_far road xs c.loop-branch.branch-iterator c.loop-branch.yielded_by)
+    (YieldsList-turn road xs c.loop-branch.branch-iterator c.loop-branch.yielded_by c.next.result c.next.new.self b c.in-Some-branch.is c.next.ensures.steps) in
+    let stop = c.in_err-made.field-0.0 in
+    if_err (FullUnder s (IsPast s n.trail q) c.args.finds.now) c.from_residual-in_err-made.result stop c.from_residual-in_err-made.ensures.1
+    (full_calls s n c.args.order xs found b (length xs + 1) c.in_ok-child.child c.args.finds.now c.loop-branch.finds c.requires.kind c.loop-branch.invariant.adds first
+    (subst (λ (o : Option (List Branch)). all_onto q o ≡ branches (judge_of s) c.args.order q) c.in-Some.is c.in_ok-found.ensures.value) c.in_ok-child.ensures.question c.in_ok-child.ensures.trail stop c.in_err-made.ensures.full)
+
+-- GUESS: the name of the branch of the first `let .. else`
+pub read-returns-in_default-clause-full : goal.read-returns-in_default-clause-full
+read-returns-in_default-clause-full t c =
+    let s = c.args.search.now in
+    let n = c.args.node.now in
+    full_hands s (IsPast s n.trail n.question) c.args.finds.now n.question.conj (Unit {0}) c.too_wide.result c.too_wide.ensures
+
+pub read-returns-in_err-made-clause-full : goal.read-returns-in_err-made-clause-full
+read-returns-in_err-made-clause-full t c =
+    let s = c.args.search.now in
+    let n = c.args.node.now in
+    let q = n.question in
+    let found = c.in-Some.found in
+    let v = c.into_vec-branch-items.result in
+    let it = c.into_iter-branch-iterator.result in
+    let many : into_iter_len it ≡ length v.items = c.into_iter-branch-iterator.ensures.into_iter_gives.1 ∙ v.ok.0 in
+    let road = YieldsList-from_vec {s = it} v.items c.into_iter-branch-iterator.ensures.into_iter_gives.0 many in
+    let xs = c.loop-branch.yielded in
+    let b = c.in-Some-branch.branch in
+    let first = first_ones v.items found xs b c.into_vec-branch-items.ensures (YieldsList-so_far road xs c.loop-branch.branch-iterator c.loop-branch.yielded_by)
+    (YieldsList-turn road xs c.loop-branch.branch-iterator c.loop-branch.yielded_by c.next.result c.next.new.self b c.in-Some-branch.is c.next.ensures.steps) in
+    let stop = c.in_err-made.field-0.0 in
+    if_err (FullUnder s (IsPast s n.trail q) c.args.finds.now) c.from_residual-in_err-made.result stop c.from_residual-in_err-made.ensures.1
+    (full_reads s n c.args.side c.in-Some-flow_of.flow.now c.in-Some-case_of.case.now c.loop-branch.number xs found b (length xs + 1) c.in_ok-child.child c.args.finds.now c.loop-branch.finds c.requires c.in-Some-flow_of.ensures.among c.in-Some-flow_of.ensures.position c.in-Some-case_of.ensures.number c.loop-branch.invariant.adds first
+    (subst (λ (o : Option (List Branch)). all_onto q o ≡ branches (judge_of s) Keep q) c.in-Some.is c.in_ok-found.ensures.value) c.in_ok-child.ensures.question c.in_ok-child.ensures.trail stop c.in_err-made.ensures.full)
+
+pub enter-returns-in-On-clause-full : goal.enter-returns-in-On-clause-full
+enter-returns-in-On-clause-full t c =
+    let v = c.args.node in
+    let opened = subst (λ (x : Opened). IsOpen v.placing v.question x) c.in-On.is c.in_ok-question.ensures.open in
+    let kept = subst (λ (x : Opened). KeepsTrail v x) c.in-On.is c.in_ok-question.ensures.trail in
+    IfErr-weaker c.kills.result _ _ (full_start c.args.search.now c.args.case.now v c.in-On.node c.args.finds.now opened.0 kept) c.kills.ensures.full
+
+pub remainders-returns-in_err-left-clause-full : goal.remainders-returns-in_err-left-clause-full
+remainders-returns-in_err-left-clause-full t c =
+    let s = c.args.search.now in
+    let n = c.args.node.now in
+    let stop = c.in_err-left.field-0.0 in
+    if_err (FullUnder s (IsInCase s c.args.case.now n.trail n.question) c.args.finds.now) c.from_residual.result stop c.from_residual.ensures.1
+    (full_hands s (IsInCase s c.args.case.now n.trail n.question) c.args.finds.now n.question.conj _ stop c.in_err-left.ensures.causes)
+
+-- GUESS: the arm's name stands behind that of the `let`, as in `c.in_ok-_none-in-On`
+pub remainders-returns-in_err-_none-in-On-clause-full : goal.remainders-returns-in_err-_none-in-On-clause-full
+remainders-returns-in_err-_none-in-On-clause-full t c =
+    let s = c.args.search.now in
+    let k = c.args.case.now in
+    let n = c.args.node.now in
+    let l = c.in_ok-left.left in
+    let r = c.rest-item.result in
+    let among : IsAmong r k.pieces = subst (λ (xs : List Remainder). IsAmong r xs) c.as_slice-rest-items.ensures (in_read c.as_slice-rest-items.result.now c.loop-rest.rest-index r c.loop-rest-test.true c.rest-item.is) in
+    let opened = subst (λ (x : Opened). IsOpen l.placing l.question x) c.in-On.is c.in_ok-question.ensures.open in
+    let kept = subst (λ (x : Opened). KeepsTrail l x) c.in-On.is c.in_ok-question.ensures.trail in
+    let stop = c.in_err-_none-in-On.field-0.0 in
+    if_err (FullUnder s (IsInCase s k n.trail n.question) c.args.finds.now) c.from_residual-in_err-_none-in-On.result stop c.from_residual-in_err-_none-in-On.ensures.1
+    (full_piece s k n l c.in-On.child r c.args.finds.now c.loop-rest.finds c.loop-rest.invariant among c.in_ok-left.ensures.question c.in_ok-left.ensures.trail opened.0 kept stop c.in_err-_none-in-On.ensures.full)
+
+pub kills-returns-in_default-clause-full : goal.kills-returns-in_default-clause-full
+kills-returns-in_default-clause-full t c =
+    let k = c.args.case.now in
+    let n = c.args.node in
+    IfErr-weaker c.survivor.result _ _ (full_last c.args.search.now k c.args.number n.trail n.question c.args.finds.now (none_behind k.kills c.args.number (search rules))) c.survivor.ensures.full
+
+pub kills-returns-in_err-rows-clause-full : goal.kills-returns-in_err-rows-clause-full
+kills-returns-in_err-rows-clause-full t c =
+    let s = c.args.search.now in
+    let n = c.args.node in
+    let stop = c.in_err-rows.field-0.0 in
+    if_err (FullUnder s (IsOutsideKills s c.args.case.now c.args.number n.trail n.question) c.args.finds.now) c.from_residual.result stop c.from_residual.ensures.1
+    (full_hands s (IsOutsideKills s c.args.case.now c.args.number n.trail n.question) c.args.finds.now n.question.conj _ stop c.in_err-rows.ensures.causes)
+
+pub kills-returns-then-apart-clause-full : goal.kills-returns-then-apart-clause-full
+kills-returns-then-apart-clause-full t c =
+    let s = c.args.search.now in
+    let k = c.args.case.now in
+    let n = c.args.node in
+    let rows = c.in_ok-rows.rows in
+    let are = kill_rows s k c.args.number n.question c.in-Some.kill.now rows (sym c.in-Some.ensures.value) c.in_ok-rows.ensures.rows in
+    let apart = subst (AreApart n.question.conj) c.as_slice.ensures (c.in_ok-apart.ensures c.if-apart.true) in
+    IfErr-weaker c.kills.result _ _ (full_next s k c.args.number c.saturating_add.result n.trail n.question c.args.finds.now (most c.args.number c.saturating_add.result c.saturating_add.ensures) (apart_misses s k c.args.number n.question rows are apart)) c.kills.ensures.full
+
+pub survivor-returns-then-is_empty-clause-full : goal.survivor-returns-then-is_empty-clause-full
+survivor-returns-then-is_empty-clause-full t c =
+    let s = c.args.search.now in
+    let k = c.args.case.now in
+    let n = c.args.node in
+    IfErr-weaker c.refuted.result _ _ (full_none s (IsOutsideKills s k (length k.kills) n.trail n.question) c.args.finds.now) c.refuted.ensures.full
+
+pub survivor-returns-clause-full : goal.survivor-returns-clause-full
+survivor-returns-clause-full t c =
+    let n = c.args.node in
+    IfErr-weaker c.visit.result _ _ (full_survivor c.args.search.now c.args.case.now n.trail n.question c.args.finds.now) c.visit.ensures.full
+
+pub cut-returns-in_err-made-clause-full : goal.cut-returns-in_err-made-clause-full
+cut-returns-in_err-made-clause-full t c =
+    let s = c.args.search.now in
+    let k = c.args.case.now in
+    let n = c.args.node in
+    let stop = c.in_err-made.field-0.0 in
+    if_err (FullUnder s (IsOutsideKills s k c.args.number n.trail n.question) c.args.finds.now) c.from_residual.result stop c.from_residual.ensures.1
+    (full_within s k c.args.number n c.loop-row.course.node c.args.finds.now c.loop-row.finds c.loop-row.invariant.adds c.loop-row.invariant.within stop c.in_err-made.ensures.full)
+
+pub cut_row-returns-then-not-can-clause-full : goal.cut_row-returns-then-not-can-clause-full
+cut_row-returns-then-not-can-clause-full t c =
+    let s = c.args.search.now in
+    let v = c.args.course.node in
+    full_hands s (IsOutsideKills s c.args.case.now c.args.number v.trail v.question) c.args.finds.now v.question.conj (Unit {0}) c.too_wide.result c.too_wide.ensures
+
+-- GUESS: the name of the second call of `too_wide`, `c.too_wide-in_default` (or `c.too_wide-2`)
+pub cut_row-returns-in_default-clause-full : goal.cut_row-returns-in_default-clause-full
+cut_row-returns-in_default-clause-full t c =
+    let s = c.args.search.now in
+    let v = c.args.course.node in
+    full_hands s (IsOutsideKills s c.args.case.now c.args.number v.trail v.question) c.args.finds.now v.question.conj (Unit {0}) c.too_wide-in_default.result c.too_wide-in_default.ensures
+
+pub outsides-returns-in_err-made-clause-full : goal.outsides-returns-in_err-made-clause-full
+outsides-returns-in_err-made-clause-full t c =
+    let s = c.args.search.now in
+    let k = c.args.case.now in
+    let n = c.args.node.now in
+    let ps = c.args.parts.now in
+    let p = c.part-item.result in
+    let stop = c.in_err-made.field-0.0 in
+    if_err (FullUnder s (IsOutsideKills s k c.args.number n.trail n.question) c.args.finds.now) c.from_residual-in_err-made.result stop c.from_residual-in_err-made.ensures.1
+    (full_side s k c.args.number n c.in_ok-beside.beside ps p c.args.finds.now c.loop-part.finds c.loop-part.invariant.adds c.requires.miss (in_read ps c.loop-part.part-index p c.loop-part-test.true c.part-item.is) c.in_ok-beside.ensures.question c.in_ok-beside.ensures.trail stop c.in_err-made.ensures.full)
+
+pub outside_of-returns-in-On-clause-full : goal.outside_of-returns-in-On-clause-full
+outside_of-returns-in-On-clause-full t c =
+    let v = c.args.node in
+    let opened = subst (λ (x : Opened). IsOpen v.placing v.question x) c.in-On.is c.in_ok-question.ensures.open in
+    let kept = subst (λ (x : Opened). KeepsTrail v x) c.in-On.is c.in_ok-question.ensures.trail in
+    IfErr-weaker c.kills.result _ _ (full_fewer c.args.search.now c.args.case.now (c.args.number + 1) c.saturating_add.result v c.in-On.node c.args.finds.now (most c.args.number c.saturating_add.result c.saturating_add.ensures) opened.0 kept) c.kills.ensures.full

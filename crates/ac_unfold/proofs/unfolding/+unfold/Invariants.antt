@@ -5,6 +5,7 @@ use Rattle.ac_unfold.proofs.Stepping.{ServeBranches}
 use Rattle.ac_unfold.proofs.Coming.{AddsCalls, AddsReads}
 use Rattle.ac_unfold.specs.Passing.{GoesWithin, IsOutsideKills}
 use Rattle.ac_unfold.specs.Searching.{AddsBroken, IsInCase}
+use Rattle.ac_unfold.specs.Stops.{CutsOn}
 use Rattle.ac_unfold.proofs.unfolding.+unfold.Given as goal
 
 abbrev pub decreases-visit : goal.decreases-visit
@@ -44,20 +45,21 @@ abbrev pub invariant-calls-loop-branch : goal.invariant-calls-loop-branch
 invariant-calls-loop-branch l = record {
   serve : ServeBranches l.search l.node.placing l.node.question l.yielded l.cases.items;
   adds : AddsCalls l.search l.node l.order l.yielded l.fn.finds l.finds;
-  kept : length l.fn.finds ≤ length l.finds;
+  kept : length l.fn.finds.paths ≤ length l.finds.paths;
 }
 
 abbrev pub invariant-read-loop-branch : goal.invariant-read-loop-branch
 invariant-read-loop-branch l = record {
   serve : ServeBranches l.search l.node.placing l.node.question l.yielded l.plans.items;
   adds : AddsReads l.search l.node l.number l.yielded l.fn.finds l.finds;
-  kept : length l.fn.finds ≤ length l.finds;
+  kept : length l.fn.finds.paths ≤ length l.finds.paths;
 }
 
 abbrev pub invariant-cut-loop-row : goal.invariant-cut-loop-row
 invariant-cut-loop-row l = record {
   cut : AreCut l.search l.case l.fn.node l.course (take l.row-index l.rows);
   within : GoesWithin l.fn.node l.course.node;
+  cuts : CutsOn l.search l.case l.fn.node l.course.node;
   adds : AddsBroken l.search (IsOutsideKills l.search l.case l.number l.fn.node.trail l.fn.node.question) l.fn.finds l.finds;
 }
 

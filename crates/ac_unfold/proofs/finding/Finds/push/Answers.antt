@@ -1,0 +1,19 @@
+use Rattle.std.proofs.Common.{[], ◌∷◌, ◌++◌, List, ap, ◌∙◌}
+use Rattle.ac_widen.specs.declared.derivation.Entry.{Entry}
+use Rattle.ac_leading.specs.Ends.{entries_at}
+use Rattle.ac_unfold.specs.Paths.{Found}
+use Rattle.ac_unfold.proofs.Coming.{on_ok}
+use Rattle.ac_unfold.proofs.Reaching.{ok_always}
+use Rattle.ac_unfold.proofs.finding.Finds.push.Goals as goal
+
+-- GUESS: the name of the unnamed path (in_ok-entries.field-0)
+pub returns-clause-paths : goal.returns-clause-paths
+returns-clause-paths c =
+    let path = entries_at c.args.params c.args.point.now c.args.node.now.trail in
+    on_ok c.push.result _ _
+    (λ h. h
+    ∙ ap (λ (es : List Entry). c.self.inside.paths ++ es ∷ []) (c.in_ok-entries.ensures.exact ∙ ap (entries_at c.args.params c.args.point.now) c.as_slice.ensures)
+    ∙ ap (λ (f : Found). f.paths ++ path ∷ []) c.self.view_is) c.push.ensures.ok
+
+pub returns-clause-ended : goal.returns-clause-ended
+returns-clause-ended c = ok_always c.push.result _ (ap (λ (f : Found). f.ended) c.self.view_is)

@@ -1,0 +1,16 @@
+use Rattle.std.proofs.Common.{ap}
+use Rattle.ac_unfold.specs.Ended.{place_of}
+use Rattle.ac_unfold.proofs.finding.place_of.Goals as goal
+
+-- GUESS: the arms' names; these may also close by themselves
+pub returns-in-Output : goal.returns-in-Output
+returns-in-Output c = ap place_of c.in-Output.is
+
+pub returns-in-Node : goal.returns-in-Node
+returns-in-Node c = ap place_of c.in-Node.is
+
+pub returns-in-InitialOutput : goal.returns-in-InitialOutput
+returns-in-InitialOutput c = ap place_of c.in-InitialOutput.is
+
+pub returns-in-InitialNode : goal.returns-in-InitialNode
+returns-in-InitialNode c = ap place_of c.in-InitialNode.is
