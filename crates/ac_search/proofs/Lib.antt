@@ -2,8 +2,9 @@ pub mod Lists
 pub mod Programs
 pub mod Unfolded
 pub mod Rounds
-pub mod Stopped
+pub mod Asked
 pub mod Ranked
 pub mod Added
 pub mod Found
 pub mod Planned
+pub mod Stopped

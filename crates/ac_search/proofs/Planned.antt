@@ -32,7 +32,7 @@ use Rattle.ac_search.proofs.Ranked.{claim_of_key, claim_there, key_has_claim}
 -- ---- the same claims in another order
 
 module _ (u : Unfolding) (cs ds : List Claim) (onto : (c : Claim) → IsAmong c cs → IsAmong c ds) (back : (c : Claim) → IsAmong c ds → IsAmong c cs) where
-  none_there : (s : Seat × Seat) → HasNoClaim cs s → HasNoClaim ds s
+  pub none_there : (s : Seat × Seat) → HasNoClaim cs s → HasNoClaim ds s
   none_there s h c i l r = h c (back c i) l r
 
   ends_there : (rest : List (Seat × Seat)) (q : Path) (p : List _) → EndsBroken u cs rest q p → EndsBroken u ds rest q p
@@ -61,12 +61,12 @@ module _ (s : Search) (order : List (Site × Order)) (known : Known) (numbers : 
   among_claims (k ∷ keys) key (inl e) = inl (ap claim_of e)
   among_claims (k ∷ keys) key (inr h) = inr (among_claims keys key h)
 
-  to_known : (c : Claim) → IsAmong c claims → IsAmong c (claims_of known)
+  pub to_known : (c : Claim) → IsAmong c claims → IsAmong c (claims_of known)
   to_known c i =
       let of = claim_of_key known.keys.items numbers claims c at i in
       subst (λ (x : Claim). IsAmong x (claims_of known)) (sym of.1.2) (among_claims known.keys.items of.1.0 (get_among known.keys.items of.0 of.1.0 of.1.1))
 
-  from_known : (c : Claim) → IsAmong c (claims_of known) → IsAmong c claims
+  pub from_known : (c : Claim) → IsAmong c (claims_of known) → IsAmong c claims
   from_known c i =
       let of = among_map claim_of known.keys.items c i in
       subst (λ (x : Claim). IsAmong x claims) (sym of.2) (key_has_claim known.keys.items numbers claims of.0 ranks at of.1)

@@ -1,22 +1,36 @@
 -- Stops of hulls and of unfoldings.
-use Rattle.std.proofs.Common.{◌↔◌, ℕ, List, Option, subst, sym}
+use Rattle.std.proofs.Common.{◌≡◌, ◌↔◌, ◌<◌, ℕ, List, Option, Some, None, length, ap, subst, sym, ◌∙◌}
+use Rattle.std.specs.Prelude.{slice_get, IfSome}
 use Rattle.ac_forms.specs.Members.{IsAmong}
 use Rattle.ac_syntax.specs.declared.tree.Order.{Order}
 use Rattle.ac_syntax.specs.declared.tree.Position.{Position}
 use Rattle.ac_syntax.specs.declared.tree.Site.{Site}
+use Rattle.ac_claims.specs.declared.types.Claim.{Claim}
 use Rattle.ac_hull.specs.declared.stop.HullStop.{HullStop}
 use Rattle.ac_hull.specs.declared.stop.HullStop.TheVariants as hull
 use Rattle.ac_widen.specs.declared.derivation.Entry.{Entry}
-use Rattle.ac_unfold.specs.Causes.{StopsAt as StopsUnfolding}
+use Rattle.ac_keys.specs.Keys.{KeyOf, claim_of}
+use Rattle.ac_report.specs.declared.types.Cause.{Cause}
+use Rattle.ac_report.specs.declared.types.Cause.TheVariants as cause
+use Rattle.ac_unfold.specs.Causes.{StopsUnfolding}
 use Rattle.ac_unfold.specs.declared.types.UnfoldStop.{UnfoldStop}
 use Rattle.ac_unfold.specs.declared.types.UnfoldStop.TheVariants as found
+use Rattle.ac_rounds.specs.Known.{claims_of}
 use Rattle.ac_rounds.specs.Stopping.{StopsBehind}
 use Rattle.ac_rounds.specs.declared.known.Known.{Known}
+use Rattle.ac_parts.specs.Elements.{IsElementClaim}
+use Rattle.ac_search.specs.Ranks.{AreClaimsAt, AreRanks}
 use Rattle.ac_search.specs.Searches.{IsKnownUnder, IsSearch}
-use Rattle.ac_search.specs.Stops.{EndsEarly, of_hull, of_unfolding}
-use Rattle.ac_search.specs.Taking.{AreBrokenFrom}
+use Rattle.ac_search.specs.Stops.{EndsEarly, EndsEarlyBy, EndsEarlyFirst, StopsSearch, StopsStart, StopsUnfoldingUnder, of_hull, of_unfolding}
+use Rattle.ac_search.specs.Taking.{AreBrokenFrom, IsStartOf, start_among}
+use Rattle.ac_search.specs.declared.stops.Stop.{Stop}
+use Rattle.ac_search.specs.declared.stops.Stop.TheVariants.{Early, Memory}
 use Rattle.ac_search.specs.declared.types.Search.{Search}
-use Rattle.ac_search.proofs.Unfolded.{are_paths, plain_unfolding, unfolding_at, widened}
+use Rattle.ac_search.proofs.Asked.{stops_of_same_claims}
+use Rattle.ac_search.proofs.Planned.{from_known, to_known}
+use Rattle.ac_search.proofs.Unfolded.{are_paths, is_start, plain_unfolding, unfolding_at, widened}
+
+-- ---- hulls
 
 -- what is known where a round stops
 known_there : (s : Search) (order : List (Site × Order)) (known : Known) (from : Option ℕ) (paths : List (List Entry)) (stop : HullStop) → IsSearch s → IsKnownUnder s order known → AreBrokenFrom s order known from paths
@@ -34,8 +48,69 @@ hull_ends s order known from paths (hull.Overflow points) is k b h =
     (h.known, known_there s order known from paths (hull.Overflow points) is k b h, at.0, at.1, at.2)
 hull_ends s order known from paths (hull.Memory want) is k b h = tt
 
-pub unfolding_ends : (s : Search) (order : List (Site × Order)) (stop : UnfoldStop) → StopsUnfolding s.setting.now.budget stop → EndsEarly s order (of_unfolding stop)
-unfolding_ends s order (found.Overflow question) h = tt
-unfolding_ends s order (found.Spent question cost) h = h
-unfolding_ends s order (found.Paths paths) h = tt
-unfolding_ends s order (found.Memory want) h = tt
+-- ---- unfoldings
+
+-- an unfolding of what is known ends the search under the order as it stops
+under_ends : (s : Search) (order : List (Site × Order)) (stop : UnfoldStop) → StopsUnfoldingUnder s order stop → EndsEarly s order (of_unfolding stop)
+under_ends s order (found.Overflow question) h = h
+under_ends s order (found.Spent question cost) h = h
+under_ends s order (found.Paths paths) h = h
+under_ends s order (found.Memory want) h = tt
+
+-- so does the one that looks for broken paths
+pub unfolding_ends : (s : Search) (order : List (Site × Order)) (known : Known) (from : Option ℕ) (output : Claim) (claims listed given : List Claim) (start : Claim) (stop : UnfoldStop) → IsKnownUnder s order known → IfSome from (λ at. at < length known.keys.items)
+    → IsElementClaim s.pair.now s.array output → claims ≡ claims_of known → listed ≡ claims → given ≡ claims → start ≡ start_among output listed from → StopsUnfolding s.setting.now start given order stop → EndsEarly s order (of_unfolding stop)
+unfolding_ends s order known from output claims listed given start stop k within h cs ls gs st stops =
+    let first : start ≡ start_among output (claims_of known) from = st ∙ ap (λ (xs : List Claim). start_among output xs from) (ls ∙ cs) in
+    under_ends s order stop (record {
+      known = known;
+      is_known = k;
+      from = from;
+      claim = start;
+      start = subst (IsStartOf s known from) (sym first) (is_start s known from output within h);
+      stops = subst (λ (xs : List Claim). StopsUnfolding s.setting.now start xs order stop) (gs ∙ cs) stops;
+    })
+
+-- ---- plans
+
+-- the plans of a start end as its unfolding stops
+pub start_ends : (s : Search) (order : List (Site × Order)) (claims : List Claim) (start : Claim) (stop : UnfoldStop) → StopsUnfolding s.setting.now start claims order stop → EndsEarlyBy s order claims start (of_unfolding stop)
+start_ends s order claims start (found.Overflow question) h = h
+start_ends s order claims start (found.Spent question cost) h = h
+start_ends s order claims start (found.Paths paths) h = h
+start_ends s order claims start (found.Memory want) h = tt
+
+-- those of the output are the first ones
+pub first_ends : (s : Search) (order : List (Site × Order)) (claims : List Claim) (output : Claim) (stop : Stop) → IsElementClaim s.pair.now s.array output → EndsEarlyBy s order claims output stop → EndsEarlyFirst s order claims stop
+first_ends s order claims output (Early why) is h = (output, is, h)
+first_ends s order claims output (Memory want) is h = tt
+
+-- plans against the claims of the keys, in the order of their numbers
+module _ (s : Search) (order : List (Site × Order)) (known : Known) (numbers : List ℕ) (claims : List Claim) (k : IsKnownUnder s order known) (ranks : AreRanks known.keys.items numbers) (at : AreClaimsAt known.keys.items numbers claims) where
+  stops_under : (from : Option ℕ) (start : Claim) (stop : UnfoldStop) → IsStartOf s known from start → StopsUnfolding s.setting.now start claims order stop → StopsUnfoldingUnder s order stop
+  stops_under from start stop is h = record {
+    known = known;
+    is_known = k;
+    from = from;
+    claim = start;
+    start = is;
+    stops = λ u of.
+        stops_of_same_claims u s.setting.now.left_flow.now s.setting.now.right_flow.now claims (claims_of known) (to_known s order known numbers claims ranks at) (from_known s order known numbers claims ranks at) s.setting.now.budget stop (h u of);
+  }
+
+  search_stops : (from : Option ℕ) (start : Claim) (why : Cause) → IsStartOf s known from start → StopsStart s order claims start why → StopsSearch s order why
+  search_stops from start (cause.Unmatched refuted) is h = absurd h
+  search_stops from start (cause.OverflowQuestion question) is h = stops_under from start (found.Overflow question) is h
+  search_stops from start (cause.OverflowHull points) is h = absurd h
+  search_stops from start (cause.SpentQuestion question cost) is h = stops_under from start (found.Spent question cost) is h
+  search_stops from start (cause.SpentPieces position kept) is h = absurd h
+  search_stops from start (cause.SpentPaths paths) is h = stops_under from start (found.Paths paths) is h
+  search_stops from start (cause.SpentOrders refuted) is h = absurd h
+
+  pub output_ends : (stop : Stop) → EndsEarlyFirst s order claims stop → EndsEarly s order stop
+  output_ends (Early why) h = search_stops None h.0 why h.1 h.2
+  output_ends (Memory want) h = tt
+
+  pub key_ends : (number : ℕ) (key : KeyOf) (start : Claim) (stop : Stop) → slice_get known.keys.items number ≡ Some key → start ≡ claim_of key → EndsEarlyBy s order claims start stop → EndsEarly s order stop
+  key_ends number key start (Early why) e is h = search_stops (Some number) start why (key, e, is) h
+  key_ends number key start (Memory want) e is h = tt

@@ -65,7 +65,7 @@ module _ (s : Search) (order : List (Site × Order)) (is : IsSearch s) where
 
 -- ---- what an unfolding finds
 
-is_start : (s : Search) (known : Known) (from : Option ℕ) (output : Claim) → IfSome from (λ at. at < length known.keys.items) → IsElementClaim s.pair.now s.array output → IsStartOf s known from (start_among output (claims_of known) from)
+pub is_start : (s : Search) (known : Known) (from : Option ℕ) (output : Claim) → IfSome from (λ at. at < length known.keys.items) → IsElementClaim s.pair.now s.array output → IsStartOf s known from (start_among output (claims_of known) from)
 is_start s known (Some at) output l h = by known.keys.items at l
   where
     by : (keys : List KeyOf) (n : ℕ) → n < length keys → (key : KeyOf) × (slice_get keys n ≡ Some key) × (unwrap_or (slice_get (map claim_of keys) n) output ≡ claim_of key)

@@ -1,5 +1,5 @@
 -- What a search on an output knows, what is known under an order, and what the search finds.
-use Rattle.std.specs.Prelude.{ℕ, ◌≡◌, ◌↔◌, List, length, true}
+use Rattle.std.specs.Prelude.{ℕ, ◌≡◌, ◌↔◌, List, [], ◌∷◌, length, true}
 use Rattle.ac_forms.specs.Members.{IsAmong}
 use Rattle.ac_forms.specs.declared.row.Row.{Row}
 use Rattle.ac_syntax.specs.declared.tree.Order.{Order}
@@ -11,6 +11,7 @@ use Rattle.ac_widen.specs.Derivations.{IsDerivation}
 use Rattle.ac_widen.specs.declared.derivation.Entry.{Entry}
 use Rattle.ac_graph.specs.Steps.{HaveFlows}
 use Rattle.ac_hull.specs.Templates.{template_rows}
+use Rattle.ac_leading.specs.Leading.{Unfolding}
 use Rattle.ac_setting.specs.Programs.{point_width}
 use Rattle.ac_agreeing.specs.Statements.{HaveArities}
 use Rattle.ac_searched.specs.Searched.{Widening, IsWideningOf, searched}
@@ -68,6 +69,10 @@ pub record IsKnownUnder (s : Search) (order : List (Site × Order)) (known : Kno
 -- the template rows with which it widens
 abbrev pub rows_at : Pair → Widening → Position × Position → List Row
 rows_at pair w key = template_rows (point_width pair key) w.thresholds w.moduli
+
+-- the unfolding of a claim under an order, in the setting of the search on an output that widens so
+abbrev pub unfolding_in : Pair → ℕ → Widening → (Position × Position → Order) → Claim → Unfolding
+unfolding_in pair output w order claim = record { pair = pair; order = order; claim = claim; outputs = output ∷ []; recurrent = w.recurrent; template = rows_at pair w }
 
 -- a part for the output behind so many claims, which stops at the recurrence pairs under an order
 pub record IsFound (pair : Pair) (order : Position × Position → Order) (array first : ℕ) (part : Part) : Type 0 where

@@ -6,7 +6,7 @@ ghost use Rattle.ac_setting.specs.Programs.{point_width};
 ghost use Rattle.ac_search.specs.Planning.{HaveClaims, IsAdded, IsFirstAdded, IsPlanned, IsPlannedTo};
 ghost use Rattle.ac_search.specs.Ranks.{AreClaimsAt, AreRanks};
 ghost use Rattle.ac_search.specs.Searches.{IsKnownUnder, IsSearch};
-ghost use Rattle.ac_search.specs.Stops.{EndsEarly};
+ghost use Rattle.ac_search.specs.Stops.{EndsEarly, EndsEarlyBy, EndsEarlyFirst};
 
 use crate::ranking::{claims_at, ranked};
 use crate::stops::{Stop, of_unfolding};
@@ -64,7 +64,7 @@ fn add(
     requires claims { HaveClaims search.now.stops.now claims.now }
     requires start { AreRowsOver (point_width search.now.pair.now (key_of start)) start.rows }
     ensures added { IfOk result (IsAdded search.now order.now claims.now start part) }
-    ensures causes { IfErr result (EndsEarly search.now order.now) }
+    ensures causes { IfErr result (EndsEarlyBy search.now order.now claims.now start) }
 {
     let number = sum(search.first, part.claims.len())?;
     let base = sum(search.first, 1)?;
@@ -85,7 +85,7 @@ fn begin(
     requires search { IsSearch search.now }
     requires claims { HaveClaims search.now.stops.now claims.now }
     ensures added { IfOk result (IsFirstAdded search.now order.now claims.now) }
-    ensures causes { IfErr result (EndsEarly search.now order.now) }
+    ensures causes { IfErr result (EndsEarlyFirst search.now order.now claims.now) }
 {
     let output = output_claim(alloc, &search.setting.programs, search.array)?;
     add(alloc, search, order, claims, no_part(alloc), output)

@@ -120,8 +120,10 @@ fn take_turn(
 /// of a proof, behind as many claims as the search says, which stops at the recurrence pairs under the order; or with a derivation of a
 /// mismatch under the order, where each of the given pairs is a recurrence pair.
 ///
-/// It ends early where a number of a question leaves `i128`, a question costs more than the budget, or too many ends are reached; with
-/// the members of a key of what is known under the order and a point there, where a number leaves `i128`; and for want of memory.
+/// It ends early at a question that an unfolding asks, from the claim of the output or of a key of what is known under the order: where a
+/// number leaves `i128`, or it costs more than the budget; and at one of which a row that comes next cannot be formed. It ends early, too,
+/// where too many ends are reached; with the members of a key of what is known and a point there, where a number leaves `i128`; and for
+/// want of memory.
 pub fn walk(alloc: Global, search: &Search<'_>, order: &[(Site, Order)]) -> Result<Ended, Stop>
     requires { IsSearch search.now }
     ensures ends { IfOk result (IsEnd search.now order.now) }

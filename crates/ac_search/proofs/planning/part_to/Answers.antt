@@ -1,9 +1,12 @@
 use Rattle.std.proofs.Common.{◌≡◌, ◌<◌, ℕ, Some, get_or, length, subst, arith}
 use Rattle.std.specs.Prelude.{slice_get}
+use Rattle.ac_rounds.proofs.Lists.{if_err}
 use Rattle.ac_search.specs.Planning.{IsAdded, IsFirstAdded}
+use Rattle.ac_search.specs.Stops.{EndsEarly}
 use Rattle.ac_search.proofs.Found.{have_claims}
 use Rattle.ac_search.proofs.Lists.{all_at, get_some}
 use Rattle.ac_search.proofs.Planned.{broken_key, broken_output, claim_is, key_there, next_begun}
+use Rattle.ac_search.proofs.Stopped.{key_ends, output_ends}
 use Rattle.ac_search.proofs.planning.part_to.Goals as goal
 
 pub begin-requires-clause-claims : goal.begin-requires-clause-claims
@@ -41,3 +44,25 @@ returns-in-Broken-2-clause-planned c =
     let there : slice_get known.keys.items n ≡ Some key = key_there known.keys.items c.as_slice-keys.result.now n key c.as_slice-keys.ensures.value (all_at (λ (m : ℕ). m < length known.keys.items) numbers c.loop-at.at 0 within c.requires.ranks.within) c.index-keys-number.is in
     broken_key s c.args.order.now known numbers c.args.claims.now c.requires.ranks c.requires.claims n key c.in_ok-start.start c.in-Broken-2.path there c.in_ok-start.ensures.value
     (subst (IsAdded s c.args.order.now c.args.claims.now c.in_ok-start.start c.loop-at.part) c.in-Broken-2.is c.in_ok-longer.ensures.added)
+
+-- GUESS
+pub returns-in_err-part-clause-causes : goal.returns-in_err-part-clause-causes
+returns-in_err-part-clause-causes c =
+    let s = c.args.search.now in
+    let stop = c.in_err-part.field-0.0 in
+    if_err (EndsEarly s c.args.order.now) c.from_residual.result stop c.from_residual.ensures.1
+    (output_ends s c.args.order.now c.args.known.now c.args.numbers.now c.args.claims.now c.requires.known c.requires.ranks c.requires.claims stop c.in_err-part.ensures.causes)
+
+-- GUESS
+pub returns-in_err-longer-clause-causes : goal.returns-in_err-longer-clause-causes
+returns-in_err-longer-clause-causes c =
+    let s = c.args.search.now in
+    let known = c.args.known.now in
+    let numbers = c.args.numbers.now in
+    let n = get_or numbers c.loop-at.at 0 in
+    let key = c.index-keys-number.result in
+    let stop = c.in_err-longer.field-0.0 in
+    let within : c.loop-at.at < length numbers = (let a = c.loop-at-test.true in let b = c.requires.count in omega (arith, a, b)) in
+    let there : slice_get known.keys.items n ≡ Some key = key_there known.keys.items c.as_slice-keys.result.now n key c.as_slice-keys.ensures.value (all_at (λ (m : ℕ). m < length known.keys.items) numbers c.loop-at.at 0 within c.requires.ranks.within) c.index-keys-number.is in
+    if_err (EndsEarly s c.args.order.now) c.from_residual-in_err-longer.result stop c.from_residual-in_err-longer.ensures.1
+    (key_ends s c.args.order.now known numbers c.args.claims.now c.requires.known c.requires.ranks c.requires.claims n key c.in_ok-start.start stop there c.in_ok-start.ensures.value c.in_err-longer.ensures.causes)
