@@ -26,7 +26,7 @@ use Rattle.ac_walk.specs.declared.types.Proved.{Proved}
 -- ---- one output
 
 -- a proof that stays as it is
-pub unknown_said : (budget : ℕ) (pair : Pair) (output : ℕ) (proof : Proof) (cause : Cause) → IsCause pair output cause → EndsSearch budget cause → IsValid pair proof → IsSaidOf budget pair output proof (Unknown cause, proof)
+pub unknown_said : (budget : ℕ) (pair : Pair) (output : ℕ) (proof : Proof) (cause : Cause) → IsCause pair output cause → EndsSearch budget pair output cause → IsValid pair proof → IsSaidOf budget pair output proof (Unknown cause, proof)
 unknown_said budget pair output proof cause c e h = record { verdict = c; matched = tt; searched = e; named_then = sym (append-nil (named proof)); valid = h }
 
 pub different_said : (budget : ℕ) (pair : Pair) (output : ℕ) (proof : Proof) (at element : List ℤ) → IsDifferentAt pair output at element → IsValid pair proof → IsSaidOf budget pair output proof (Different at element, proof)
@@ -55,9 +55,11 @@ more_equal pair (p ∷ os) o (w ∷ vs) v h = ap (λ z. if_equal p w ++ z) (more
 take_next : (xs : List ℕ) (n x : ℕ) → slice_get xs n ≡ Some x → take (n + 1) xs ≡ take n xs ++ x ∷ []
 take_next xs n x e = take_more xs n x (slice_get_within xs n x e) ∙ ap (λ z. take n xs ++ z ∷ []) (get_or_from_slice_get xs n x x e)
 
-more_searched : (budget : ℕ) (vs : List Verdict) (v : Verdict) → AreSearched budget vs → IsSearched budget v → AreSearched budget (vs ++ v ∷ [])
-more_searched budget [] v h k = (k, tt)
-more_searched budget (w ∷ vs) v h k = (h.0, more_searched budget vs v h.1 k)
+more_searched : (budget : ℕ) (pair : Pair) (os : List ℕ) (o : ℕ) (vs : List Verdict) (v : Verdict) → AreSearched budget pair os vs → IsSearched budget pair o v → AreSearched budget pair (os ++ o ∷ []) (vs ++ v ∷ [])
+more_searched budget pair [] o [] v h k = (k, tt)
+more_searched budget pair [] o (w ∷ vs) v h k = absurd h
+more_searched budget pair (p ∷ os) o [] v h k = absurd h
+more_searched budget pair (p ∷ os) o (w ∷ vs) v h k = (h.0, more_searched budget pair os o vs v h.1 k)
 
 -- the verdict on one more output
 pub one_more : (budget : ℕ) (pair : Pair) (number array : ℕ) (before after : Proved) (said : Verdict × Proof) → slice_get pair.outputs number ≡ Some array → IsSearchedOf budget pair (take number pair.outputs) before → IsSaidOf budget pair array before.proof said
@@ -68,7 +70,7 @@ one_more budget pair number array before after said at p s vs proof =
     let grown : IsSearchedOf budget pair (os ++ array ∷ []) after = record {
       verdicts = subst (AreVerdicts pair (os ++ array ∷ [])) (sym vs) (more_verdicts pair os array before.verdicts said.0 p.verdicts s.verdict);
       matched = subst (AreMatched pair (os ++ array ∷ [])) (sym vs) (more_matched pair os array before.verdicts said.0 p.matched s.matched);
-      searched = subst (AreSearched budget) (sym vs) (more_searched budget before.verdicts said.0 p.searched s.searched);
+      searched = subst (AreSearched budget pair (os ++ array ∷ [])) (sym vs) (more_searched budget pair os array before.verdicts said.0 p.searched s.searched);
       equal = ap named proof ∙ s.named_then ∙ ap (λ z. z ++ if_equal array said.0) p.equal ∙ sym (more_equal pair os array before.verdicts said.0 p.verdicts) ∙ ap (equal_outputs (os ++ array ∷ [])) (sym vs);
       valid = subst (IsValid pair) (sym proof) s.valid;
     } in
@@ -91,7 +93,7 @@ pub none_searched : (budget : ℕ) (pair : Pair) (proved : Proved) (point : List
 none_searched budget pair proved point heads vs e h = record {
   verdicts = subst (AreVerdicts pair []) (sym vs) tt;
   matched = subst (AreMatched pair []) (sym vs) tt;
-  searched = subst (AreSearched budget) (sym vs) tt;
+  searched = subst (AreSearched budget pair []) (sym vs) tt;
   equal = none_named proved.proof point heads e;
   valid = h;
 }

@@ -1,11 +1,13 @@
 -- Orders that a search refutes, and what it then says of the output.
-use Rattle.std.proofs.Common.{◌≡◌, ℕ, ℤ, List, [], ◌∷◌, ◌++◌, Bool, subst, sym}
+use Rattle.std.proofs.Common.{◌≡◌, ◌⊎◌, inl, inr, ℕ, ℤ, List, [], ◌∷◌, ◌++◌, Bool, Option, Some, None, subst, sym}
 use Rattle.ac_syntax.specs.declared.tree.Order.{Order}
 use Rattle.ac_syntax.specs.declared.tree.Pair.{Pair}
 use Rattle.ac_syntax.specs.declared.tree.Position.{Position}
 use Rattle.ac_syntax.specs.declared.tree.Site.{Site}
 use Rattle.ac_forms.specs.Members.{IsAmong}
 use Rattle.ac_forms.specs.declared.row.Row.{Row}
+use Rattle.ac_claims.specs.declared.types.Claim.{Claim}
+use Rattle.ac_hull.proofs.Comparing.{each_from}
 use Rattle.ac_hull.specs.Templates.{template_rows}
 use Rattle.ac_setting.specs.Programs.{point_width, setting}
 use Rattle.ac_derived.specs.Checks.{choices_of}
@@ -16,25 +18,33 @@ use Rattle.ac_match.specs.declared.orders.Refuted.{Refuted}
 use Rattle.ac_refuted.specs.Searches.{IsUnmatched}
 use Rattle.ac_report.specs.declared.types.Cause.{Cause}
 use Rattle.ac_report.specs.declared.types.Cause.TheVariants.{Unmatched, OverflowQuestion, OverflowHull, SpentQuestion, SpentPieces, SpentPaths, SpentOrders}
-use Rattle.ac_keys.specs.Keys.{positions}
-use Rattle.ac_keys.specs.Known.{IsKey}
+use Rattle.ac_keys.specs.Keys.{claim_of, positions}
+use Rattle.ac_keys.specs.Known.{IsKey, IsKeyIn}
 use Rattle.ac_keys.specs.Stops.{AreTooLarge}
 use Rattle.ac_keys.proofs.Standing.{key_in}
-use Rattle.ac_rounds.specs.Known.{IsWide, pairs_of}
+use Rattle.ac_parts.specs.Elements.{IsElementClaim}
+use Rattle.ac_rounds.specs.Known.{IsWide, claims_of, pairs_of}
 use Rattle.ac_rounds.specs.Statements.{AllRefuted}
+use Rattle.ac_rounds.specs.declared.known.Known.{Known}
 use Rattle.ac_rounds.proofs.Lists.{among_map, each_in}
 use Rattle.ac_rounds.proofs.Orders.{leaves_none, refutes_part}
-use Rattle.ac_search.specs.Searches.{AreTaken, IsFound, IsSearch, ShowMismatch}
-use Rattle.ac_search.specs.Stops.{AreTooLargeUnder, StopsSearch}
+use Rattle.ac_search.specs.Searches.{AreTaken, IsFound, IsSearch, ShowMismatch, rows_at}
+use Rattle.ac_search.specs.Stops.{AreTooLargeUnder, StopsSearch, StopsUnfoldingUnder}
+use Rattle.ac_search.specs.Taking.{IsStartOf}
 use Rattle.ac_search.specs.declared.types.Search.{Search}
+use Rattle.ac_search.proofs.Lists.{get_among}
 use Rattle.ac_search.proofs.Programs.{lawful, numbers_are, template_is}
+use Rattle.ac_search.proofs.Unfolded.{is_unfolding, unfolding_at}
 use Rattle.ac_searched.specs.Searched.{Widening, IsWideningOf, searched}
 use Rattle.ac_stopping.specs.Parts.{order_of}
 use Rattle.ac_widen.specs.Refutations.{IsPartOf, IsRefuted}
 use Rattle.ac_widen.specs.declared.derivation.Derivation.{Derivation}
 use Rattle.ac_widen.specs.declared.derivation.Entry.{Entry}
+use Rattle.ac_unfold.specs.declared.types.UnfoldStop.{UnfoldStop}
+use Rattle.ac_unfold.specs.declared.types.UnfoldStop.TheVariants as unfolded
 use Rattle.ac_walk.specs.Causes.{EndsSearch}
 use Rattle.ac_walk.specs.Deciding.{AreShown, GoesNoFurther, IsDecision, IsDifference, IsKept, IsOutputSearch, IsShown}
+use Rattle.ac_walk.specs.Stops.{UnfoldingStops}
 use Rattle.ac_walk.specs.Verdicts.{AreRefutedOrders, AreTooLargePoints, IsCause}
 use Rattle.ac_walk.specs.declared.deciding.Decision.{Decision}
 use Rattle.ac_walk.specs.declared.deciding.Decision.TheVariants.{Stands, Different, Unknown}
@@ -82,14 +92,14 @@ are_unmatched s number o h shown done near = record {
 }
 
 pub unmatched_decides : (s : Search) (number : ℕ) (o : OrdersOf) → IsOutputSearch s number → AreShown s o.refuted → IsNext o Done → IsDecision s number (Unknown (Unmatched o.refuted))
-unmatched_decides s number o h shown done = record { kept = tt; ends = tt; cause = λ near. are_unmatched s number o h shown done near }
+unmatched_decides s number o h shown done = record { kept = tt; ends = λ near. tt; cause = λ near. are_unmatched s number o h shown done near }
 
 -- too many are refuted
 are_refuted_orders : (s : Search) (number : ℕ) (list : List Refuted) → IsOutputSearch s number → AreShown s list → GoesNoFurther s → AreRefutedOrders s.pair.now s.array list
 are_refuted_orders s number list h shown near = record { widening = h.widening; refuted = λ w is. all_refuted s w h.search is (near w is) list shown }
 
 pub spent_decides : (s : Search) (number : ℕ) (o : OrdersOf) → IsOutputSearch s number → AreShown s o.refuted → IsNext o Spent → IsDecision s number (Unknown (SpentOrders o.refuted))
-spent_decides s number o h shown spent = record { kept = tt; ends = tt; cause = λ near. (are_refuted_orders s number o.refuted h shown near, spent.0.1) }
+spent_decides s number o h shown spent = record { kept = tt; ends = λ near. tt; cause = λ near. (are_refuted_orders s number o.refuted h shown near, spent.0.1) }
 
 -- the search under an order ends early
 are_too_large : (s : Search) (number : ℕ) (order : List (Site × Order)) (points : List (List ℤ)) → IsOutputSearch s number → GoesNoFurther s → AreTooLargeUnder s order points → AreTooLargePoints s.pair.now s.array points
@@ -121,14 +131,47 @@ early_cause s number order (SpentPieces position kept) is near h = tt
 early_cause s number order (SpentPaths paths) is near h = tt
 early_cause s number order (SpentOrders refuted) is near h = absurd h
 
-early_ends : (s : Search) (order : List (Site × Order)) (why : Cause) → StopsSearch s order why → EndsSearch s.setting.now.budget why
-early_ends s order (Unmatched refuted) h = absurd h
-early_ends s order (OverflowQuestion question) h = tt
-early_ends s order (OverflowHull members) h = tt
-early_ends s order (SpentQuestion question cost) h = h
-early_ends s order (SpentPieces position kept) h = absurd h
-early_ends s order (SpentPaths paths) h = tt
-early_ends s order (SpentOrders refuted) h = absurd h
+-- a start of what is known is the claim of the output, or one of the claims
+start_is : (s : Search) (known : Known) (from : Option ℕ) (claim : Claim) → IsStartOf s known from claim → IsElementClaim s.pair.now s.array claim ⊎ IsAmong claim (claims_of known)
+start_is s known (Some at) claim h = inr (subst (λ (c : Claim). IsAmong c (claims_of known)) (sym h.2) (among_map claim_of known.keys.items h.0 (get_among known.keys.items at h.0 h.1)))
+start_is s known None claim h = inl h
+
+-- an unfolding of what is known stops so in the setting of the search
+unfolding_stops : (s : Search) (number : ℕ) (order : List (Site × Order)) (stop : UnfoldStop) → IsOutputSearch s number → GoesNoFurther s → StopsUnfoldingUnder s order stop → UnfoldingStops s.setting.now.budget s.pair.now s.array stop
+unfolding_stops s number order stop h near under =
+    let w = h.widening.0 in
+    let is = h.widening.1 in
+    let known = under.known in
+    let k = under.is_known in
+    record {
+      widening = w;
+      is_widening = is;
+      order = order_of order;
+      entries = known.entries;
+      derived = k.derived w is (near w is);
+      keys = known.keys.items;
+      right = each_from (IsKeyIn (searched s.pair.now s.array w) (entries_of known.entries)) known.keys.items
+          (λ key among.
+          key_in (searched s.pair.now s.array w) s.template.now (entries_of known.entries) key (each_in (IsKey s.template.now (entries_of known.entries)) known.keys.items key k.right.keys among)
+          (each_in (IsWide s.pair.now) known.keys.items key k.right.widths among) (template_is s w h.search is (positions key)));
+      recur = λ key. ((λ i. near w is key ((k.pairs key).0 i)), λ e. (k.pairs key).1 (h.search.stops w is key e));
+      distinct = k.right.distinct;
+      start = under.claim;
+      starts = start_is s known under.from under.claim under.start;
+      left_flow = s.setting.now.left_flow.now;
+      right_flow = s.setting.now.right_flow.now;
+      flows = h.search.flows;
+      stops = under.stops (unfolding_at s order under.claim w) (is_unfolding s order h.search under.claim w.recurrent (rows_at s.pair.now w));
+    }
+
+early_ends : (s : Search) (number : ℕ) (order : List (Site × Order)) (why : Cause) → IsOutputSearch s number → GoesNoFurther s → StopsSearch s order why → EndsSearch s.setting.now.budget s.pair.now s.array why
+early_ends s number order (Unmatched refuted) is near h = absurd h
+early_ends s number order (OverflowQuestion question) is near h = unfolding_stops s number order (unfolded.Overflow question) is near h
+early_ends s number order (OverflowHull members) is near h = tt
+early_ends s number order (SpentQuestion question cost) is near h = unfolding_stops s number order (unfolded.Spent question cost) is near h
+early_ends s number order (SpentPieces position kept) is near h = absurd h
+early_ends s number order (SpentPaths paths) is near h = unfolding_stops s number order (unfolded.Paths paths) is near h
+early_ends s number order (SpentOrders refuted) is near h = absurd h
 
 pub early_decides : (s : Search) (number : ℕ) (order : List (Site × Order)) (why : Cause) → IsOutputSearch s number → StopsSearch s order why → IsDecision s number (Unknown why)
-early_decides s number order why is h = record { kept = tt; ends = early_ends s order why h; cause = λ near. early_cause s number order why is near h }
+early_decides s number order why is h = record { kept = tt; ends = λ near. early_ends s number order why is near h; cause = λ near. early_cause s number order why is near h }

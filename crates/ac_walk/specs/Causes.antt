@@ -1,6 +1,6 @@
 -- What stands before the search of a pair: the question of its context and the flows of both programs, at a budget; what is said of
 -- each output where one of them stops; and where the search on an output may end.
-use Rattle.std.specs.Prelude.{◌≡◌, ℕ, ℤ, List, length, Option, Some, None, option_map}
+use Rattle.std.specs.Prelude.{◌≡◌, ℕ, ℤ, List, [], ◌∷◌, length, Option, Some, None, option_map}
 use Rattle.std.specs.List.{AllByRecursion}
 use Rattle.ac_forms.specs.Rows.{Meets}
 use Rattle.ac_refutations.specs.declared.strategy.Strategy.TheVariants.{Full}
@@ -21,7 +21,8 @@ use Rattle.ac_report.specs.declared.types.Cause.{Cause}
 use Rattle.ac_report.specs.declared.types.Cause.TheVariants as cause
 use Rattle.ac_report.specs.declared.types.Verdict.{Verdict}
 use Rattle.ac_report.specs.declared.types.Verdict.TheVariants.{Equal, Different, Unknown}
-use Rattle.ac_unfold.specs.Causes.{IsTooCostly}
+use Rattle.ac_unfold.specs.declared.types.UnfoldStop.TheVariants as unfolded
+use Rattle.ac_walk.specs.Stops.{UnfoldingStops}
 use Rattle.ac_walk.specs.declared.types.ProveStop.{ProveStop}
 use Rattle.ac_walk.specs.declared.types.ProveStop.TheVariants.{EmptyContext, Memory}
 
@@ -63,24 +64,29 @@ pub record HasFlow (m : Model) : Type 0 where
   pub cases : AreFlows m (readers m) flow.reads
   pub sources : CasesAreSources m flow
 
--- a search at a budget may end with the cause: a question that is said to be spent is too costly, and no read has too many pieces
-abbrev pub EndsSearch : ℕ → Cause → Type 0
-EndsSearch budget (cause.Unmatched refuted) = Unit {0}
-EndsSearch budget (cause.OverflowQuestion question) = Unit {0}
-EndsSearch budget (cause.OverflowHull members) = Unit {0}
-EndsSearch budget (cause.SpentQuestion question cost) = IsTooCostly budget cost question
-EndsSearch budget (cause.SpentPieces position kept) = ⊥
-EndsSearch budget (cause.SpentPaths paths) = Unit {0}
-EndsSearch budget (cause.SpentOrders refuted) = Unit {0}
+-- the search on an output may end with the cause at a budget: an unfolding asks a question that is too wide or too costly, or it cannot form a row that comes
+-- next at one, or it reaches the ends of too many paths; and no read has too many pieces
+abbrev pub EndsSearch : ℕ → Pair → ℕ → Cause → Type 0
+EndsSearch budget pair output (cause.Unmatched refuted) = Unit {0}
+EndsSearch budget pair output (cause.OverflowQuestion question) = UnfoldingStops budget pair output (unfolded.Overflow question)
+EndsSearch budget pair output (cause.OverflowHull members) = Unit {0}
+EndsSearch budget pair output (cause.SpentQuestion question cost) = UnfoldingStops budget pair output (unfolded.Spent question cost)
+EndsSearch budget pair output (cause.SpentPieces position kept) = ⊥
+EndsSearch budget pair output (cause.SpentPaths paths) = UnfoldingStops budget pair output (unfolded.Paths paths)
+EndsSearch budget pair output (cause.SpentOrders refuted) = Unit {0}
 
 -- and with the verdict
-abbrev pub IsSearched : ℕ → Verdict → Type 0
-IsSearched budget Equal = Unit {0}
-IsSearched budget (Different at element) = Unit {0}
-IsSearched budget (Unknown why) = EndsSearch budget why
+abbrev pub IsSearched : ℕ → Pair → ℕ → Verdict → Type 0
+IsSearched budget pair output Equal = Unit {0}
+IsSearched budget pair output (Different at element) = Unit {0}
+IsSearched budget pair output (Unknown why) = EndsSearch budget pair output why
 
-abbrev pub AreSearched : ℕ → List Verdict → Type 0
-AreSearched budget verdicts = AllByRecursion (IsSearched budget) verdicts
+-- of each output with its verdict
+abbrev pub AreSearched : ℕ → Pair → List ℕ → List Verdict → Type 0
+AreSearched budget pair [] [] = Unit {0}
+AreSearched budget pair [] (v ∷ vs) = ⊥
+AreSearched budget pair (o ∷ os) [] = ⊥
+AreSearched budget pair (o ∷ os) (v ∷ vs) = IsSearched budget pair o v × AreSearched budget pair os vs
 
 -- what the verdicts on a pair rest on: the question of its context stops, or else the flow of the first program, or else that of the
 -- second, and each output is unknown for this cause; or there are both flows, and the search on each output ends with its verdict
@@ -90,7 +96,7 @@ pub data IsAnswered (budget : ℕ) (pair : Pair) (verdicts : List Verdict) : Typ
       → IsAnswered budget pair verdicts
   right_stopped : (stop : FlowStop) → HasValuation budget (left_model pair) → HasFlow (left_model pair) → StopsAmong budget (right_model pair) (readers (right_model pair)) stop → AreUnknown (cause_of stop) verdicts
       → IsAnswered budget pair verdicts
-  searched : HasValuation budget (left_model pair) → HasFlow (left_model pair) → HasFlow (right_model pair) → AreSearched budget verdicts → IsAnswered budget pair verdicts
+  searched : HasValuation budget (left_model pair) → HasFlow (left_model pair) → HasFlow (right_model pair) → AreSearched budget pair pair.outputs verdicts → IsAnswered budget pair verdicts
 
 -- at the budget the question of the context has an answer: that there is no valuation
 abbrev pub IsEmptyAt : ℕ → Pair → ProveStop → Type 0

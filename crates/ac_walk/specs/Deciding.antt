@@ -68,10 +68,10 @@ IfUnknown P (Stands part) = Unit {0}
 IfUnknown P (Different found) = Unit {0}
 IfUnknown P (Unknown why) = P why
 
--- so it is; where the output is unknown, a search may end with the cause, which is one if the search goes no further than the recurrence pairs
+-- so it is; where the output is unknown and the search goes no further than the recurrence pairs, it may end with the cause, which is one
 pub record IsDecision (s : Search) (number : ℕ) (d : Decision) : Type 0 where
   pub kept : IsKept s number d
-  pub ends : IfUnknown (EndsSearch s.setting.now.budget) d
+  pub ends : GoesNoFurther s → IfUnknown (EndsSearch s.setting.now.budget s.pair.now s.array) d
   pub cause : GoesNoFurther s → IfUnknown (IsCause s.pair.now s.array) d
 
 abbrev pub IsFurther : Search → ℕ → Further → Type 0

@@ -42,7 +42,7 @@ pub record IsHeld (pair : Pair) (proof : Proof) : Type 0 where
 pub record IsSaidOf (budget : ℕ) (pair : Pair) (output : ℕ) (proof : Proof) (said : Verdict × Proof) : Type 0 where
   pub verdict : IsVerdict pair output said.0
   pub matched : IsMatchedIf pair output said.0
-  pub searched : IsSearched budget said.0
+  pub searched : IsSearched budget pair output said.0
   pub named_then : named said.1 ≡ named proof ++ if_equal output said.0
   pub valid : IsValid pair said.1
 
@@ -57,6 +57,6 @@ pub record IsProvedOf (pair : Pair) (outputs : List ℕ) (proved : Proved) : Typ
 pub record IsSearchedOf (budget : ℕ) (pair : Pair) (outputs : List ℕ) (proved : Proved) : Type 0 where
   pub verdicts : AreVerdicts pair outputs proved.verdicts
   pub matched : AreMatched pair outputs proved.verdicts
-  pub searched : AreSearched budget proved.verdicts
+  pub searched : AreSearched budget pair outputs proved.verdicts
   pub equal : named proved.proof ≡ equal_outputs outputs proved.verdicts
   pub valid : IsValid pair proved.proof

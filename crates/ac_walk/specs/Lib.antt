@@ -1,5 +1,6 @@
 pub mod Verdicts
 pub mod Deciding
 pub mod Gathering
+pub mod Stops
 pub mod Causes
 pub mod Terms

@@ -141,7 +141,8 @@ fn without_point(
 /// An output is unknown as `Unmatched` only where in the setting of the search on it each of the named partial orders is refuted by its
 /// derivation, and each order has a mismatch; as `SpentOrders` only with 1,024 or more such orders. As `OverflowHull` it is unknown only
 /// with members that a derivation there has at a recurrence pair and a point of that pair, where a number leaves `i128`. A question that the search says to be
-/// spent is too costly for the economical elimination, and for the full one, of which the cost is the first above the budget.
+/// too wide or spent is one at which an unfolding stops, from the output or a recurrence pair, against claims whose members a derivation there has: it is asked
+/// there, and too wide or too costly for both eliminations, with the cost of the full one; or a row that comes next at it cannot be formed in `i128`.
 ///
 /// Where the question of the context is too wide or costs more than the budget, each output is unknown for that cause; then where the
 /// flow of the first program stops, for the cause of its stop, and then likewise for the second. A context without a valuation

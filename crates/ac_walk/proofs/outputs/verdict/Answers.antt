@@ -53,4 +53,4 @@ returns c =
     let s : Search = record { pair = b.pair; setting = b.setting; template = b.template; array = c.args.array; stops = c.as_slice.result; first = c.len.result } in
     let said = subst (λ (d : Decision). IsDecision s c.args.number d) c.in-Unknown.is c.in_ok-part.ensures in
     let same = subst (λ (keys : List (Position × Position)). AreSame keys b.graph.now.recurrent) (sym c.as_slice.ensures) c.in_ok-reach.ensures in
-    unknown_said b.setting.now.budget b.pair.now c.args.array c.args.proof c.in-Unknown.cause (said.cause (λ w is. takes_each b _ c.requires.basis same w is)) said.ends c.requires.proof
+    unknown_said b.setting.now.budget b.pair.now c.args.array c.args.proof c.in-Unknown.cause (said.cause (λ w is. takes_each b _ c.requires.basis same w is)) (said.ends (λ w is. takes_each b _ c.requires.basis same w is)) c.requires.proof
