@@ -13,7 +13,6 @@ returns-in_ok-with_claim-in-Ok-Plans-clause-added c =
     let plans = plans_for s c.args.order.now c.args.claims.now c.args.start c.in_ok-number.number c.in_ok-base.base c.in-Ok-Plans.field-0 c.in-Ok-Plans.trees c.in-Ok-Plans.field-0-is c.requires.search made.claim made.pieces made.accepted made.domains made.stops in
     adds s c.args.order.now c.args.claims.now c.args.start c.requires.search c.requires.claims c.requires.start c.args.part longer.field-0 c.in-Ok-Plans.trees.items c.in_ok-number.number c.in_ok-base.base number c.in_ok-base.ensures plans longer.ensures.claims longer.ensures.planned longer.ensures.stops
 
--- GUESS
 pub returns-in-Err-clause-causes : goal.returns-in-Err-clause-causes
 returns-in-Err-clause-causes c =
     subst (EndsEarlyBy c.args.search.now c.args.order.now c.args.claims.now c.args.start) (sym c.of_unfolding.ensures)

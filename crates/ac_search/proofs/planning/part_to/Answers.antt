@@ -45,7 +45,6 @@ returns-in-Broken-2-clause-planned c =
     broken_key s c.args.order.now known numbers c.args.claims.now c.requires.ranks c.requires.claims n key c.in_ok-start.start c.in-Broken-2.path there c.in_ok-start.ensures.value
     (subst (IsAdded s c.args.order.now c.args.claims.now c.in_ok-start.start c.loop-at.part) c.in-Broken-2.is c.in_ok-longer.ensures.added)
 
--- GUESS
 pub returns-in_err-part-clause-causes : goal.returns-in_err-part-clause-causes
 returns-in_err-part-clause-causes c =
     let s = c.args.search.now in
@@ -53,7 +52,6 @@ returns-in_err-part-clause-causes c =
     if_err (EndsEarly s c.args.order.now) c.from_residual.result stop c.from_residual.ensures.1
     (output_ends s c.args.order.now c.args.known.now c.args.numbers.now c.args.claims.now c.requires.known c.requires.ranks c.requires.claims stop c.in_err-part.ensures.causes)
 
--- GUESS
 pub returns-in_err-longer-clause-causes : goal.returns-in_err-longer-clause-causes
 returns-in_err-longer-clause-causes c =
     let s = c.args.search.now in

@@ -75,7 +75,6 @@ returns-then-search-clause-missing c = λ on.
     let more = c.in_ok-plan.ensures.missing on c.in-None.is in
     omega (arith, k, more)
 
--- GUESS: the name of the exit
 pub returns-in_err-plan-clause-causes : goal.returns-in_err-plan-clause-causes
 returns-in_err-plan-clause-causes c =
     let b = c.args.search.now.budget in
@@ -86,7 +85,6 @@ returns-in_err-plan-clause-causes c =
     if_err (StopsOutside b q.conj ps) c.from_residual-in_err-plan.result stop c.from_residual-in_err-plan.ensures.1
     (on_side_of b q c.in_ok-beside.beside.question ps p stop (in_read ps c.loop-part.part-index p c.loop-part-test.true c.part-item.is) c.in_ok-beside.ensures.question c.in_err-plan.ensures.causes)
 
--- GUESS: the residual's name (a second one, behind that of within)
 pub returns-in_err-plan-clause-full : goal.returns-in_err-plan-clause-full
 returns-in_err-plan-clause-full c =
     let stop = c.in_err-plan.field-0.0 in

@@ -11,7 +11,6 @@ use Rattle.ac_unfold.proofs.ends.refuted.Goals as goal
 pub returns-in-Empty-clause-found : goal.returns-in-Empty-clause-found
 returns-in-Empty-clause-found c = adds_none _ _ _ _ refl
 
--- GUESS: the answer's name (in_ok-plan, by the first name that the arms bind)
 pub returns-in_ok-push-in-Point-clause-found : goal.returns-in_ok-push-in-Point-clause-found
 returns-in_ok-push-in-Point-clause-found c =
     let n = c.args.node.now in

@@ -53,6 +53,5 @@ returns-in_err-closed-clause-causes c =
     if_err (StopsStanding b k (row ∷ [])) c.from_residual-in_err-closed.result stop c.from_residual-in_err-closed.ensures.1
     (standing_side b k row c.as_slice.result.now stop (c.as_slice.ensures ∙ ap (λ (x : Parts). x.outside) sides.1) c.in_err-closed.ensures.causes)
 
--- GUESS: the name of the else of let
 pub returns-in_default-clause-full : goal.returns-in_default-clause-full
 returns-in_default-clause-full c = hands_by IsNone c.args.finds.now.ended c.args.course.node.question.conj (Unit {0}) c.too_wide.result c.too_wide.ensures

@@ -19,6 +19,5 @@ returns-in-Wide-clause-causes c =
     let row = c.args.row.now in
     standing_lacks c.args.search.now.budget k (row ∷ []) c.too_wide.result c.too_wide.ensures (row_refused k.columns row (subst (IsRefused k.columns row) c.in-Wide.is c.in_ok-kind.ensures.refused))
 
--- GUESS: the arm's name
 pub returns-in-Wide-clause-full : goal.returns-in-Wide-clause-full
 returns-in-Wide-clause-full c = hands_by IsNone c.args.finds.now.ended c.args.course.node.question.conj (Unit {0}) c.too_wide.result c.too_wide.ensures

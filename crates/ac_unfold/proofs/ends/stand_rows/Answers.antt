@@ -96,7 +96,6 @@ returns-in_err-reach-clause-causes c =
     let stop = c.in_err-reach.field-0.0 in
     if_err (StopsStanding s.budget q c.args.rows.now) c.from_residual.result stop c.from_residual.ensures.1 (counted_standing s.budget q c.args.rows.now stop c.in_err-reach.ensures.counted)
 
--- GUESS: the residual's name (a third one, behind those of reach and of Reduction::of)
 pub returns-in_err-stood-clause-full : goal.returns-in_err-stood-clause-full
 returns-in_err-stood-clause-full c =
     let v = c.args.node in

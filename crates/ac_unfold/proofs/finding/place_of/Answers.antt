@@ -2,7 +2,6 @@ use Rattle.std.proofs.Common.{ap}
 use Rattle.ac_unfold.specs.Ended.{place_of}
 use Rattle.ac_unfold.proofs.finding.place_of.Goals as goal
 
--- GUESS: the arms' names; these may also close by themselves
 pub returns-in-Output : goal.returns-in-Output
 returns-in-Output c = ap place_of c.in-Output.is
 

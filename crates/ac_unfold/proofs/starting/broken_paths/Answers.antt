@@ -25,7 +25,6 @@ returns-clause-broken c = λ u is.
 
 -- ---- why it stops
 
--- GUESS: the arm is named by the first name of the pattern
 pub returns-in_err-lefts-clause-causes : goal.returns-in_err-lefts-clause-causes
 returns-in_err-lefts-clause-causes c = memory_stops c.from_residual.result c.in_err-lefts.field-0.0 c.args.setting.now c.args.start.now c.args.claims.now c.args.order.now c.from_residual.ensures.1
 

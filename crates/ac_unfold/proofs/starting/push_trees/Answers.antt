@@ -53,7 +53,6 @@ returns-in_default-clause-broken c =
 
 -- ---- too many paths
 
--- GUESS: the arm of the `?` is called after `tree`, as in `c.in_ok-tree`
 pub returns-in_err-tree-clause-full : goal.returns-in_err-tree-clause-full
 returns-in_err-tree-clause-full c =
     let s = c.args.search.now in

@@ -711,7 +711,6 @@ cut_row-returns-then-not-can-clause-causes t c =
     let no = c.in_ok-can.ensures.cannot c.if-not-can.true in
     row_stops c.args.search.now c.args.case.now c.args.course.node.question c.args.row.now c.too_wide.result c.requires.there (λ can sides. no can) c.too_wide.ensures
 
--- GUESS: the second call of too_wide is named by its arm
 pub cut_row-returns-in_default-clause-causes : goal.cut_row-returns-in_default-clause-causes
 cut_row-returns-in_default-clause-causes t c =
     let v = c.args.course.node.question in
@@ -767,7 +766,6 @@ visit-returns-in-Mismatch-clause-full t c =
     let v = c.args.node in
     IfErr-weaker c.mismatch.result _ _ (full_end s v.trail v.question c.args.finds.now (c.claim_of.ensures.none c.in_default.is) (subst (λ (x : Next). IsEndOfSteps s v.question x) c.in-Mismatch.is c.in_ok-next.ensures.ends)) c.mismatch.ensures.full
 
--- GUESS: the name of the branch of the first `let .. else`
 pub calls-returns-in_default-clause-full : goal.calls-returns-in_default-clause-full
 calls-returns-in_default-clause-full t c =
     let s = c.args.search.now in
@@ -793,7 +791,6 @@ calls-returns-in_err-made-clause-full t c =
     (full_calls s n c.args.order xs found b (length xs + 1) c.in_ok-child.child c.args.finds.now c.loop-branch.finds c.requires.kind c.loop-branch.invariant.adds first
     (subst (λ (o : Option (List Branch)). all_onto q o ≡ branches (judge_of s) c.args.order q) c.in-Some.is c.in_ok-found.ensures.value) c.in_ok-child.ensures.question c.in_ok-child.ensures.trail stop c.in_err-made.ensures.full)
 
--- GUESS: the name of the branch of the first `let .. else`
 pub read-returns-in_default-clause-full : goal.read-returns-in_default-clause-full
 read-returns-in_default-clause-full t c =
     let s = c.args.search.now in
@@ -834,7 +831,6 @@ remainders-returns-in_err-left-clause-full t c =
     if_err (FullUnder s (IsInCase s c.args.case.now n.trail n.question) c.args.finds.now) c.from_residual.result stop c.from_residual.ensures.1
     (full_hands s (IsInCase s c.args.case.now n.trail n.question) c.args.finds.now n.question.conj _ stop c.in_err-left.ensures.causes)
 
--- GUESS: the arm's name stands behind that of the `let`, as in `c.in_ok-_none-in-On`
 pub remainders-returns-in_err-_none-in-On-clause-full : goal.remainders-returns-in_err-_none-in-On-clause-full
 remainders-returns-in_err-_none-in-On-clause-full t c =
     let s = c.args.search.now in
@@ -900,7 +896,6 @@ cut_row-returns-then-not-can-clause-full t c =
     let v = c.args.course.node in
     full_hands s (IsOutsideKills s c.args.case.now c.args.number v.trail v.question) c.args.finds.now v.question.conj (Unit {0}) c.too_wide.result c.too_wide.ensures
 
--- GUESS: the name of the second call of `too_wide`, `c.too_wide-in_default` (or `c.too_wide-2`)
 pub cut_row-returns-in_default-clause-full : goal.cut_row-returns-in_default-clause-full
 cut_row-returns-in_default-clause-full t c =
     let s = c.args.search.now in

@@ -2,7 +2,6 @@ use Rattle.std.proofs.Common.{ap}
 use Rattle.ac_unfold.specs.Paths.{Found}
 use Rattle.ac_unfold.proofs.finding.Finds.into_paths.Goals as goal
 
--- GUESS: that the value is opened as c.self where it is taken apart
 pub returns-clause-same : goal.returns-clause-same
 returns-clause-same c = ap (λ (f : Found). f.paths) c.self.view_is
 

@@ -6,7 +6,6 @@ use Rattle.ac_unfold.proofs.Coming.{on_ok}
 use Rattle.ac_unfold.proofs.Reaching.{ok_always}
 use Rattle.ac_unfold.proofs.finding.Finds.push.Goals as goal
 
--- GUESS: the name of the unnamed path (in_ok-entries.field-0)
 pub returns-clause-paths : goal.returns-clause-paths
 returns-clause-paths c =
     let path = entries_at c.args.params c.args.point.now c.args.node.now.trail in
