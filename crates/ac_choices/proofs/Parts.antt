@@ -1,5 +1,5 @@
 -- Lists that a loop puts together part by part, one part for each row.
-use Rattle.std.proofs.Common.{◌≡◌, ℕ, zero, suc, ◌+◌, ◌<◌, ◌≤◌, ℤ, pos, neg_ℤ, ◌≤ℤ◌, List, [], ◌∷◌, ◌++◌, length, get_or, take, drop, map, add-one, set, append_assoc, Option, Some, None, Bool, true, false, ◌&&◌, cond, refl, sym, ap, ◌∙◌, arith}
+use Rattle.std.proofs.Common.{◌≡◌, ℕ, zero, suc, ◌+◌, ◌<◌, ◌≤◌, ℤ, pos, neg_ℤ, ◌≤ℤ◌, List, [], ◌∷◌, ◌++◌, length, get_or, take, drop, map, add-one, append_assoc, Option, Some, None, Bool, true, false, ◌&&◌, cond, refl, sym, ap, ◌∙◌, arith}
 use Rattle.std.proofs.lemmas.List.{map-append}
 use Rattle.std.specs.Int.Signed.{lt_z}
 use Rattle.std.proofs.lemmas.Int.{ints}
@@ -11,11 +11,6 @@ use Rattle.ac_choices.specs.declared.column.Bound.{Bound}
 use Rattle.ac_choices.specs.Bounds.{low_bound, high_bound, lows, highs}
 use Rattle.ac_choices.specs.Choices.{shadow_form, shadows_with, replaced_row, others}
 use Rattle.ac_choices.specs.ChoiceFits.{sizes_fit, ArePositive, shadow_fits, shadows_fit_with, replaced_row_fits, all_replaced_fit}
-
-pub set_beyond : {A : Type 0} (xs : List A) (i : ℕ) (x : A) → length xs ≤ i → set xs i x ≡ xs
-set_beyond [] i x h = refl
-set_beyond (y ∷ ys) zero x h = absurd (omega arith)
-set_beyond (y ∷ ys) (suc i) x h = ap (λ (l : List _). y ∷ l) (set_beyond ys i x (omega arith))
 
 pub drop-at : {A : Type 0} (xs : List A) (i : ℕ) (x : A) → i < length xs → x ≡ get_or xs i x → drop i xs ≡ x ∷ drop (i + 1) xs
 drop-at xs i x h e = at_drop_more (λ y. y) xs i x h ∙ ap (λ y. y ∷ drop (i + 1) xs) (sym e)

@@ -13,9 +13,9 @@ ghost use Rattle.ac_choices.specs.ChoiceFits.{low_values_fit, high_values_fit, b
 ghost use Rattle.ac_choices.specs.Extremes.{greater, lesser, greatest_from, least_from};
 
 use crate::choose::Choice;
-use crate::column::{is_high, is_low, set_number};
+use crate::column::{is_high, is_low};
 use crate::replace::{product, sum};
-use ac_forms::{Conj, Form, FormStop, Row, Wide, coefficient};
+use ac_forms::{Conj, Form, FormStop, Row, Wide, coefficient, set_number};
 use std::alloc::{AllocError, Global};
 
 /// A point with another number at a column.

@@ -1,4 +1,4 @@
-ghost use Rattle.std.specs.Prelude.{◌≡◌, [], ◌∷◌, ◌++◌, true, not, cond, Some, None, IfOk, set};
+ghost use Rattle.std.specs.Prelude.{◌≡◌, [], ◌∷◌, ◌++◌, true, not, cond, Some, None, IfOk};
 ghost use Rattle.ac_choices.specs.Bounds.{without, is_low, is_high, lows, highs, rows_without, only_bounds, is_none, is_one_sided};
 ghost use Rattle.ac_forms.specs.Columns.{has_column};
 ghost use Rattle.ac_choices.specs.ChoiceFits.{sizes_fit};
@@ -32,38 +32,12 @@ pub(crate) fn is_high(z: usize, form: &Form) -> bool
     form.coef(z) < 0
 }
 
-/// Writes a number at a place, where the list has it.
-#[tactic(auto, using(ac_integers::proofs::Bits::again_128, crate::proofs::Parts::set_beyond))]
-pub(crate) fn set_number(numbers: &mut [i128], at: usize, number: &i128)
-    ensures { numbers.new ≡ set numbers.old at number.now }
-{
-    if at < numbers.len() {
-        numbers[at] = *number;
-    }
-}
-
-/// The form with other numbers as its constant and as the coefficient of a column, where it keeps one.
-#[tactic(auto, using(ac_integers::proofs::Bits::again_128))]
-pub(crate) fn with_numbers(
-    alloc: Global,
-    z: usize,
-    form: &Form,
-    coef: &i128,
-    konst: &i128,
-) -> Result<Form, AllocError>
-    ensures { IfOk result (λ made. made ≡ record { konst = konst.now; coefs = set form.now.coefs z coef.now }) }
-{
-    let mut coefs = Vec::from_slice(alloc, form.coefs())?;
-    set_number(coefs.as_mut_slice(), z, coef);
-    Form::from_parts(alloc, *konst, coefs.as_slice())
-}
-
 /// The form without the column.
 #[tactic(auto, using(ac_integers::proofs::Bits::again_128))]
 pub(crate) fn without(alloc: Global, z: usize, form: &Form) -> Result<Form, AllocError>
     ensures { IfOk result (λ made. made ≡ without z form.now) }
 {
-    with_numbers(alloc, z, form, &0, &form.konst())
+    form.with_numbers(alloc, z, &0, &form.konst())
 }
 
 /// Adds the bound of a lower row.
@@ -151,7 +125,7 @@ fn keep_free(alloc: Global, z: usize, row: &Row, kept: &mut Items<Row>) -> Resul
 pub(crate) fn rows_without(alloc: Global, z: usize, rows: &[Row]) -> Result<Items<Row>, AllocError>
     ensures { IfOk result (λ made. made ≡ rows_without z rows.now) }
 {
-    let mut made = Items::new(alloc);
+    let mut made = Items::from(Vec::with_capacity(alloc, rows.len())?);
     for row in rows {
         keep_free(alloc, z, row, &mut made)?;
     }

@@ -5,7 +5,7 @@ ghost use Rattle.ac_forms.specs.declared.row.Row.TheVariants.{Eq};
 ghost use Rattle.ac_choices.specs.Choices.{size_of, against, replaced, replaced_row, others, by_equality, substitute_residue, substitute_residue_row};
 ghost use Rattle.ac_choices.specs.ChoiceFits.{replaced_fits, replaced_row_fits, all_replaced_fit, equality_fits, spread_fits, spread_row_fits, all_spread_fit};
 
-use crate::column::{with_numbers, without};
+use crate::column::without;
 use crate::combine::combination;
 use ac_forms::{Conj, Form, Row};
 use ac_items::Items;
@@ -143,7 +143,7 @@ fn replaced_others(
     requires size { size.now ≡ size_of (coef z equality.now) }
     ensures { IfOk result (λ made. made ≡ cond (all_replaced_fit z equality.now (others at rows.now)) (Some (map (replaced_row z equality.now) (others at rows.now))) None) }
 {
-    let made = Items::new(alloc);
+    let made = Items::from(Vec::with_capacity(alloc, rows.len())?);
     let Some(made) = replaced_rows(alloc, z, equality, size, before(rows, at), made)? else {
         return Ok(None);
     };
@@ -209,7 +209,7 @@ fn substitute_residue(
     let Some(konst) = sum(&form.konst(), &shift) else {
         return Ok(None);
     };
-    Ok(Some(with_numbers(alloc, z, form, &multiple, &konst)?))
+    Ok(Some(form.with_numbers(alloc, z, &multiple, &konst)?))
 }
 
 /// A row at `m z + r` in place of the column z.
@@ -244,7 +244,7 @@ pub(crate) fn substitute_residue_rows(
 ) -> Result<Option<Items<Row>>, AllocError>
     ensures { IfOk result (λ made. made ≡ cond (all_spread_fit z m.now r.now rows.now) (Some (map (substitute_residue_row z m.now r.now) rows.now)) None) }
 {
-    let mut made = Items::new(alloc);
+    let mut made = Items::from(Vec::with_capacity(alloc, rows.len())?);
     for row in rows {
         let Some(row) = substitute_residue_row(alloc, z, m, r, row)? else {
             return Ok(None);

@@ -47,7 +47,7 @@ fn shadow_form(alloc: Global, low: &Bound, high: &Bound) -> Result<Option<Form>,
     let Some(konst) = difference(&sum.konst(), &product) else {
         return Ok(None);
     };
-    Ok(Some(Form::from_parts(alloc, konst, sum.coefs())?))
+    Ok(Some(sum.with_konst(konst)))
 }
 
 /// The dark shadows of a lower row and each upper row, in order, behind other rows.

@@ -1,5 +1,5 @@
 //! The exact pairs of a lower and an upper row of a column.
-ghost use Rattle.std.specs.Prelude.{◌≡◌, ◌&&◌, ◌||◌, ◌-ℤ◌, ◌*ℤ◌, neg_ℤ, ◌≤ℤ◌, pos, true, cond, is_some, IfOk, IfSome, Some, None, set};
+ghost use Rattle.std.specs.Prelude.{◌≡◌, ◌&&◌, ◌||◌, ◌-ℤ◌, ◌*ℤ◌, neg_ℤ, ◌≤ℤ◌, pos, true, cond, is_some, IfOk, IfSome, Some, None};
 ghost use Rattle.ac_forms.specs.Affine.{coef};
 ghost use Rattle.ac_forms.specs.Fits.{fits};
 ghost use Rattle.ac_forms.specs.NormalRows.{normal_ge};
@@ -17,7 +17,6 @@ ghost use Rattle.ac_exact.specs.Tests.{is_same_left, is_implied, is_exact, pair_
 
 use crate::implied::{implying_row, implying_rows};
 use ac_forms::{Form, FormStop, NormalRow, Row};
-use smallvec::SmallVec;
 use std::alloc::{AllocError, Global};
 
 /// Why the dark shadow of a pair loses no point of the real one.
@@ -45,24 +44,12 @@ struct LeftShadows {
     real: NormalRow,
 }
 
-/// The coefficients with 0 in a column.
-#[tactic(auto, using(ac_integers::proofs::Bits::again_128, ac_choices::proofs::Parts::set_beyond))]
-fn clear(coefs: &mut [i128], z: usize)
-    ensures { coefs.new ≡ set coefs.old z (pos 0) }
-{
-    if z < coefs.len() {
-        coefs[z] = 0;
-    }
-}
-
 /// The form without a column.
 #[tactic(auto, using(ac_integers::proofs::Bits::again_128))]
 fn without(alloc: Global, z: usize, form: &Form) -> Result<Form, AllocError>
     ensures { IfOk result (λ made. made ≡ without z form.now) }
 {
-    let mut coefs = SmallVec::<i128, 8>::from_slice(alloc, form.coefs())?;
-    clear(coefs.as_mut_slice(), z);
-    Form::from_parts(alloc, form.konst(), coefs.as_slice())
+    form.with_numbers(alloc, z, &0, &form.konst())
 }
 
 /// `left` times a form plus `right` times another, where the numbers stay in `i128`.

@@ -7,6 +7,8 @@ pub mod Comparing
 pub mod RowTests
 pub mod Sizes
 pub mod Trims
+pub mod Divisions
+pub mod Settings
 pub mod Values
 pub mod NormalLaws
 pub mod Signs

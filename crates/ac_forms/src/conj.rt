@@ -25,13 +25,13 @@ impl Conj {
     pub fn copy(&self, alloc: Global) -> Result<Conj, AllocError>
         ensures { IfOk result (λ conj. conj ≡ self.now) }
     {
-        let mut rows = Items::new(alloc);
+        let mut rows = Vec::with_capacity(alloc, self.rows.len())?;
         for row in self.rows.as_slice() {
             rows.push(row.copy(alloc)?)?;
         }
         Ok(Conj {
             columns: self.columns,
-            rows,
+            rows: Items::from(rows),
         })
     }
 

@@ -1,4 +1,4 @@
-ghost use Rattle.std.specs.Prelude.{◌≡◌, ◌<◌, ◌≤◌, ◌+◌, ◌-◌, ◌*ℤ◌, ◌+ℤ◌, pos, negsuc, length, OkIff, IfOk, slice_index_or};
+ghost use Rattle.std.specs.Prelude.{◌≡◌, ◌<◌, ◌≤◌, ◌+◌, ◌-◌, ◌*ℤ◌, ◌+ℤ◌, pos, negsuc, length, OkIff, IfOk, IfSome, slice_index_or, set};
 ghost use Rattle.ac_forms.specs.Affine.{Affine, value_at, coef, constant_form, column_form, added, scaled, combined, shifted, FormFits, CanEvaluate, CanCombine, CanAddTimes, MixFits};
 ghost use Rattle.ac_forms.specs.Fits.{Fits, AllFit};
 ghost use Rattle.ac_forms.specs.Negation.{opposite, with_column};
@@ -147,7 +147,7 @@ impl Form {
         ensures { MadeIff result (CanCombine left self.now right other.now) (combined left self.now right other.now) }
     {
         let columns = self.columns().max(other.columns());
-        let mut coefs = SmallVec::new(alloc);
+        let mut coefs = SmallVec::with_capacity(alloc, columns)?;
         for column in 0..columns {
             let coef = mixed(left, self.coef(column), right, other.coef(column))?;
             coefs.push(coef)?;
@@ -192,6 +192,36 @@ impl Form {
         self.scale(alloc, -1)
     }
 
+    /// The form with another constant.
+    #[tactic(auto, using(ac_integers::proofs::Bits::again_128))]
+    pub fn with_konst(self, konst: i128) -> Form
+        ensures { result ≡ record { konst = konst; coefs = self.coefs } }
+    {
+        Form {
+            konst,
+            coefs: self.coefs,
+        }
+    }
+
+    /// The form with other numbers as its constant and as the coefficient of a column, where it keeps one.
+    #[tactic(auto, using(ac_integers::proofs::Bits::again_128))]
+    pub fn with_numbers(
+        &self,
+        alloc: Global,
+        column: usize,
+        coef: &i128,
+        konst: &i128,
+    ) -> Result<Form, AllocError>
+        ensures { IfOk result (λ form. form ≡ record { konst = konst.now; coefs = set self.now.coefs column coef.now }) }
+    {
+        let mut coefs = SmallVec::from_slice(alloc, self.coefs.as_slice())?;
+        set_number(coefs.as_mut_slice(), column, coef);
+        Ok(Form {
+            konst: *konst,
+            coefs,
+        })
+    }
+
     /// The form plus a number; `Wide` exactly where the constant leaves `i128`.
     #[tactic(auto, using(ac_integers::proofs::Bits::again_128))]
     pub fn shift(&self, alloc: Global, c: i128) -> Result<Form, FormStop>
@@ -228,6 +258,16 @@ impl Form {
     }
 }
 
+/// Writes a number at a place, where the list has it.
+#[tactic(auto, using(ac_integers::proofs::Bits::again_128, crate::proofs::Settings::set_beyond))]
+pub fn set_number(numbers: &mut [i128], at: usize, number: &i128)
+    ensures { numbers.new ≡ set numbers.old at number.now }
+{
+    if at < numbers.len() {
+        numbers[at] = *number;
+    }
+}
+
 /// The number of a column, 0 past the end of the list.
 pub fn coefficient(coefs: &[i128], column: usize) -> i128
     ensures { result ≡ slice_index_or coefs.now column (pos 0) }
@@ -244,16 +284,33 @@ pub fn coefficient(coefs: &[i128], column: usize) -> i128
 fn mixed(left: i128, x: i128, right: i128, y: i128) -> Result<i128, Wide>
     ensures { OkIff result (MixFits left x right y) (left *ℤ x +ℤ right *ℤ y) }
 {
-    let Some(first) = left.checked_mul(x) else {
-        return Err(Wide);
-    };
-    let Some(second) = right.checked_mul(y) else {
-        return Err(Wide);
-    };
+    let first = product(left, x)?;
+    let second = product(right, y)?;
     match first.checked_add(second) {
         Some(sum) => Ok(sum),
         None => Err(Wide),
     }
+}
+
+/// `x * y`, by a product in 64 bits where that serves.
+#[tactic(auto, using(ac_integers::proofs::Bits::again_128))]
+fn product(x: i128, y: i128) -> Result<i128, Wide>
+    ensures { OkIff result (Fits (x *ℤ y)) (x *ℤ y) }
+{
+    match short_product(x, y) {
+        Some(short) => Ok(short),
+        None => x.checked_mul(y).ok_or(Wide),
+    }
+}
+
+/// `x * y`, where both numbers and the product have 64 bits.
+#[tactic(auto, using(ac_integers::proofs::Bits::again_128))]
+fn short_product(x: i128, y: i128) -> Option<i128>
+    ensures { IfSome result (λ short. short ≡ x *ℤ y) }
+{
+    let left = i64::try_from(x).ok()?;
+    let right = i64::try_from(y).ok()?;
+    Some(i128::from(left.checked_mul(right)?))
 }
 
 /// Shows that each number of a slice is one of `i128`.

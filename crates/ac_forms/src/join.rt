@@ -39,7 +39,7 @@ fn left_of_rows(alloc: Global, rows: &[Row]) -> Result<LeftRows, FormStop>
     requires { HaveModuli rows.now }
     ensures { MadeWhere result (RowsFit rows.now) (λ left. (left.rows.items ≡ left_rows rows.now) × (left.is_absurd ≡ has_absurd rows.now)) }
 {
-    let mut made = Vec::new(alloc);
+    let mut made = Vec::with_capacity(alloc, rows.len())?;
     let mut is_absurd = false;
     for row in rows {
         match row.normalise(alloc)? {

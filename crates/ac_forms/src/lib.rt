@@ -19,7 +19,7 @@ mod stop;
 mod trim;
 
 pub use conj::Conj;
-pub use form::{Form, coefficient};
+pub use form::{Form, coefficient, set_number};
 pub use normal::NormalRow;
 pub use present::{has_column, is_present};
 pub use range::{column_after, push_range};

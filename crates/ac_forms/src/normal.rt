@@ -1,6 +1,6 @@
 ghost use Rattle.std.specs.Prelude.{◌≡◌, ◌≤◌, ◌↔◌, ℤ, List, pos, ◌≤ℤ◌, ◌+◌, ◌<◌, ◌^◌, OkIff, IfOk, IsTrue, take, unsigned_abs};
 ghost use Rattle.ac_integers.specs.Dot.{floored, residues};
-ghost use Rattle.ac_integers.specs.Gcd.{content, gcd_all};
+ghost use Rattle.ac_integers.specs.Gcd.{content, gcd, gcd_all};
 ghost use Rattle.ac_integers.specs.Multiple.{divides};
 ghost use Rattle.ac_forms.specs.Fits.{AllFit};
 ghost use Rattle.ac_forms.specs.declared.row.Row.TheVariants.{Eq};
@@ -119,10 +119,7 @@ fn common_size(coefs: &[i128]) -> Result<i128, Wide>
     let mut divisor: u128 = 0;
     for coef in coefs {
         match coef.checked_abs() {
-            Some(size) => divisor = ac_integers::greatest_common_divisor(
-                divisor,
-                size.unsigned_abs(),
-            ),
+            Some(size) => divisor = common_divisor(divisor, size.unsigned_abs()),
             None => return Err(Wide),
         }
     }
@@ -138,9 +135,26 @@ fn common_with(modulus: i128, coefs: &[i128]) -> i128
 {
     let mut divisor = modulus.unsigned_abs();
     for coef in coefs {
-        divisor = ac_integers::greatest_common_divisor(divisor, coef.unsigned_abs());
+        divisor = common_divisor(divisor, coef.unsigned_abs());
     }
     divisor as i128
+}
+
+/// The greatest common divisor of two numbers, without a division where one of them is 0 or 1, as most are.
+fn common_divisor(a: u128, b: u128) -> u128
+    ensures { result ≡ gcd a b }
+{
+    if b == 0 {
+        a
+    } else if a == 0 {
+        b
+    } else if a == 1 {
+        a
+    } else if b == 1 {
+        b
+    } else {
+        ac_integers::greatest_common_divisor(a, b)
+    }
 }
 
 /// Whether a positive number divides another.
@@ -148,7 +162,11 @@ fn divides_out(divisor: i128, number: i128) -> bool
     requires { pos 1 ≤ℤ divisor }
     ensures { result ≡ divides (unsigned_abs divisor) number }
 {
-    ac_integers::is_multiple(number, divisor)
+    if divisor == 1 {
+        true
+    } else {
+        ac_integers::is_multiple(number, divisor)
+    }
 }
 
 /// The form divided by a positive number and rounded down, without zeros at its end.
@@ -156,6 +174,10 @@ fn quotient_of(alloc: Global, form: &Form, divisor: i128) -> Result<Form, AllocE
     requires { pos 1 ≤ℤ divisor }
     ensures { IfOk result (λ quotient. quotient ≡ divided divisor form.now) }
 {
+    if divisor == 1 {
+        let coefs = SmallVec::from_slice(alloc, form.coefs())?;
+        return Ok(trimmed(form.konst(), coefs));
+    }
     let coefs = quotients(alloc, form.coefs(), divisor)?;
     Ok(trimmed(form.konst().div_euclid(divisor), coefs))
 }
@@ -198,7 +220,7 @@ fn quotients(alloc: Global, coefs: &[i128], divisor: i128) -> Result<SmallVec<i1
     requires { pos 1 ≤ℤ divisor }
     ensures { IfOk result (λ made. made.items ≡ floored divisor coefs.now) }
 {
-    let mut made = SmallVec::new(alloc);
+    let mut made = SmallVec::with_capacity(alloc, coefs.len())?;
     for coef in coefs {
         made.push(coef.div_euclid(divisor))?;
     }
@@ -211,7 +233,7 @@ fn remainders(alloc: Global, coefs: &[i128], modulus: i128) -> Result<SmallVec<i
     requires { pos 1 ≤ℤ modulus }
     ensures { IfOk result (λ made. made.items ≡ residues modulus coefs.now) }
 {
-    let mut made = SmallVec::new(alloc);
+    let mut made = SmallVec::with_capacity(alloc, coefs.len())?;
     for coef in coefs {
         made.push(coef.rem_euclid(modulus))?;
     }

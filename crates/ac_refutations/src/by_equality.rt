@@ -122,15 +122,11 @@ pub(crate) fn splinter_rows(
 }
 
 /// The form without the column.
-#[tactic(auto, using(ac_integers::proofs::Bits::again_128, ac_choices::proofs::Parts::set_beyond))]
+#[tactic(auto, using(ac_integers::proofs::Bits::again_128))]
 fn without(alloc: Global, z: usize, form: &Form) -> Result<Form, AllocError>
     ensures { IfOk result (λ rest. rest ≡ without z form.now) }
 {
-    let mut coefs = Vec::from_slice(alloc, form.coefs())?;
-    if z < coefs.len() {
-        coefs[z] = 0;
-    }
-    let rest = Form::from_parts(alloc, form.konst(), coefs.as_slice())?;
+    let rest = form.with_numbers(alloc, z, &0, &form.konst())?;
     Ok(rest)
 }
 

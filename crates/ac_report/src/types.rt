@@ -27,7 +27,7 @@ pub enum Cause {
         /// The pieces, each of which has a point.
         kept: Items<Conj>,
     },
-    /// More than 20,000 feasible paths from one start: each as entries from that start on.
+    /// 20,001 paths from one start to ends: each as entries from that start on.
     SpentPaths(Items<Items<Entry>>),
     /// So many partial orders are refuted that no further one is tried.
     SpentOrders(Items<Refuted>),

@@ -107,3 +107,14 @@ beside_all Ends n trail c parts all rest before after e h =
     first [] y i = absurd i
     first (x ∷ xs) y (inl i) = inl i
     first (x ∷ xs) y (inr i) = inr (first xs y i)
+
+-- those at one part more
+pub beside_more : (Ends : List Entry → Type 0) (n : ℕ) (trail : List (Seat × Seat)) (c : Conj) (parts more : List Part) (part : Part) (before now after : Found) → more ≡ parts ++ part ∷ [] → Adds (IsPathBeside n trail c parts) Ends before now
+    → Adds (IsPathBeside n trail c (part ∷ [])) Ends now after → Adds (IsPathBeside n trail c more) Ends before after
+beside_more Ends n trail c parts more part before now after m h k =
+    adds_then (IsPathBeside n trail c more) Ends before now after (beside_all Ends n trail c parts more (part ∷ []) before now m h)
+    (adds_by (IsPathBeside n trail c (part ∷ [])) (IsPathBeside n trail c more) Ends now after (λ es x. record { part = x.part; among = subst (IsAmong x.part) (sym m) (last parts x.part x.among); at = x.at }) k)
+  where
+    last : (xs : List Part) (y : Part) → IsAmong y (part ∷ []) → IsAmong y (xs ++ part ∷ [])
+    last [] y i = i
+    last (x ∷ xs) y i = inr (last xs y i)

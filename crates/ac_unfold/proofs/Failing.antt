@@ -144,3 +144,7 @@ breaking_more Ends n trail t c d rows more row before now after e f g h k =
 -- the rows behind the first ones may be any
 pub breaking_all : (Ends : List Entry → Type 0) (n : ℕ) (trail : List (Seat × Seat)) (c : Conj) (rows all rest : List Row) (before after : Found) → all ≡ rows ++ rest → Adds (IsPathBreaking n trail c rows) Ends before after → Adds (IsPathBreaking n trail c all) Ends before after
 breaking_all Ends n trail c rows all rest before after e h = adds_by (IsPathBreaking n trail c rows) (IsPathBreaking n trail c all) Ends before after (λ es x. among_more n trail c rows all es (λ r i. subst (IsAmong r) (sym e) (in_front rows rest r i)) x) h
+
+-- those on which one of the last ones fails, too
+pub breaking_rest : (Ends : List Entry → Type 0) (n : ℕ) (trail : List (Seat × Seat)) (c : Conj) (front rest all : List Row) (before after : Found) → all ≡ front ++ rest → Adds (IsPathBreaking n trail c rest) Ends before after → Adds (IsPathBreaking n trail c all) Ends before after
+breaking_rest Ends n trail c front rest all before after e h = adds_by (IsPathBreaking n trail c rest) (IsPathBreaking n trail c all) Ends before after (λ es x. among_more n trail c rest all es (λ r i. subst (IsAmong r) (sym e) (in_back front rest r i)) x) h

@@ -10,6 +10,7 @@ pub mod Keeping
 pub mod Matching
 pub mod Missing
 pub mod Passing
+pub mod Further
 pub mod PathSteps
 pub mod Places
 pub mod Planned

@@ -29,8 +29,8 @@ pub enum Planned {
 /// Why an unfolding has no answer.
 #[derive(Debug, Drop)]
 pub enum UnfoldStop {
-    /// A question that is asked is too wide for both walks, or its greatest numbers are too large for a certificate; or a row that comes
-    /// next at it is not formed in `i128`.
+    /// The economical walk does not decide a question that is asked, and on the full one a number leaves `i128`, or its greatest numbers
+    /// are too large for a certificate; or a row that comes next at the question is not formed in `i128`.
     Overflow(Conj),
     /// The running cost of a question that is asked exceeds the budget: the economical walk does not decide it, and the full one is given up.
     Spent {

@@ -1,13 +1,15 @@
 use Rattle.std.proofs.Common.{◌≡◌, take}
+use Rattle.std.specs.Prelude.{IfSome}
 use Rattle.ac_unfold.specs.Making.{judge_of}
 use Rattle.ac_unfold.specs.Searching.{Adds, IsPathAt, IsPathBreaking}
 use Rattle.ac_unfold.specs.Standing.{AreKept}
 use Rattle.ac_unfold.proofs.ends.stand_rows.Given as goal
 
-abbrev pub invariant-loop-row : goal.invariant-loop-row
-invariant-loop-row l = record {
-  kept : AreKept l.search l.fn.node l.course (take l.row-index l.rows);
+abbrev pub invariant-loop-at : goal.invariant-loop-at
+invariant-loop-at l = record {
+  kept : AreKept l.search l.fn.node l.course (take l.at l.rows);
   question : l.course.node.question ≡ l.fn.node.question;
   trail : l.course.node.trail ≡ l.fn.node.trail;
-  found : Adds (IsPathBreaking (judge_of l.search).params l.fn.node.trail l.fn.node.question.conj (take l.row-index l.rows)) (IsPathAt (judge_of l.search).params l.fn.node.trail l.fn.node.question.conj) l.fn.finds l.finds;
+  spare : IfSome l.spare (λ same. same ≡ l.fn.node);
+  found : Adds (IsPathBreaking (judge_of l.search).params l.fn.node.trail l.fn.node.question.conj (take l.at l.rows)) (IsPathAt (judge_of l.search).params l.fn.node.trail l.fn.node.question.conj) l.fn.finds l.finds;
 }
