@@ -31,7 +31,7 @@ use Rattle.ac_unfold.proofs.Adding.{adds_by, adds_then}
 flat : (c : Conj) (p : List ℤ) → length p ≡ c.columns → Meets c.rows p → HasExtension c p
 flat c p l m = ([], ap length (append-nil p) ∙ l, subst (Meets c.rows) (sym (append-nil p)) m)
 
-class_fails : (m : ℤ) (f : Affine) (r : ℕ) (p : List ℤ) → 1 ≤ r → r < unsigned_abs m → Holds (class_row m f (pos r)) p → ¬ (Holds (Div m f) p)
+pub class_fails : (m : ℤ) (f : Affine) (r : ℕ) (p : List ℤ) → 1 ≤ r → r < unsigned_abs m → Holds (class_row m f (pos r)) p → ¬ (Holds (Div m f) p)
 class_fails m f r p a b h k =
     let v = value_at f p in
     let e : value_at (shifted f (neg_ℤ (pos r))) p ≡ v +ℤ neg_ℤ (pos r) = value_at-shifted f (neg_ℤ (pos r)) p in

@@ -10,7 +10,7 @@ pub mod Keeping
 pub mod Matching
 pub mod Missing
 pub mod Passing
-pub mod Further
+pub mod Beyond
 pub mod PathSteps
 pub mod Places
 pub mod Planned
@@ -25,3 +25,4 @@ pub mod Stops
 pub mod Tracing
 pub mod Unmatched
 pub mod Yielding
+pub mod Unbroken

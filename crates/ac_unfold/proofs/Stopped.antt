@@ -225,7 +225,7 @@ asked_around u left right claims q rows c at t (inr b) =
     subst (λ (x : Conj). IsAsked u left right claims x) (sym b.side.is) (IsAsked.beside q rows b.row b.side.part at t b.among b.side.among)
 
 -- the rows by the programs of an unfolding
-targets_by : (search : Search) (u : Unfolding) (q : Path) (o : Option (List Row)) → IsOf search u → AreTargets (judge_of search) search.claims.now q o → AreTargets (pairing_of u.pair) search.claims.now q o
+pub targets_by : (search : Search) (u : Unfolding) (q : Path) (o : Option (List Row)) → IsOf search u → AreTargets (judge_of search) search.claims.now q o → AreTargets (pairing_of u.pair) search.claims.now q o
 targets_by search u q o of t = subst (λ (g : Pairing). AreTargets g search.claims.now q o) (sym of.programs) t
 
 -- it asks a question to which it follows a path

@@ -18,3 +18,5 @@ pub mod Standing
 pub mod Stopping
 pub mod Stops
 pub mod Wanting
+pub mod Stands
+pub mod Unbroken

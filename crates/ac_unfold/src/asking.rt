@@ -1,7 +1,7 @@
 //! Questions of an unfolding.
-ghost use Rattle.std.specs.Prelude.{◌≡◌, IfErr, IfOk, IfSome, Ok, true, false};
+ghost use Rattle.std.specs.Prelude.{◌≡◌, ℤ, IfErr, IfOk, IfSome, List, Ok, true, false};
 ghost use Rattle.ac_cert.specs.Accepted.{Accepts, absurd_refusals};
-ghost use Rattle.ac_forms.specs.Rows.{IsWellMade};
+ghost use Rattle.ac_forms.specs.Rows.{Holds, Meets, IsWellMade};
 ghost use Rattle.ac_paths.specs.declared.path.Path.{Path};
 ghost use Rattle.ac_graft.specs.declared.placing.Placing.{Placing};
 ghost use Rattle.ac_unfold.specs.Causes.{stop_of};
@@ -11,6 +11,7 @@ ghost use Rattle.ac_unfold.specs.Making.{IsAnswer, IsOpen, IsRefuted, IsStanding
 ghost use Rattle.ac_unfold.specs.Full.{IsNeverFull};
 ghost use Rattle.ac_unfold.specs.Missing.{HasNone, IsShown, IsShownOpen};
 ghost use Rattle.ac_unfold.specs.Searching.{IsPointIn, IsUnmet, KeepsTrail};
+ghost use Rattle.ac_unfold.specs.Unbroken.{IsEmptyOpen};
 
 use crate::node::Node;
 use crate::types::UnfoldStop;
@@ -57,6 +58,7 @@ fn plan_by(alloc: Global, node: &Node, tree: &Tree<Absurd>) -> Result<Plan, Allo
 /// Whether a question has a point, with a plan where it has none.
 fn decided(alloc: Global, node: &Node, budget: u64) -> Result<Answer, UnfoldStop>
     ensures shown { IfOk result IsShown }
+    ensures none { IfOk result (HasNone node.now.question.conj) }
     ensures point { IfOk result (IsPointIn node.now.question.conj) }
     ensures answer { IfOk result (IsAnswer node.now.placing node.now.question) }
     ensures causes { IfErr result (StopsAsking budget node.now.question.conj) }
@@ -76,6 +78,7 @@ fn decided(alloc: Global, node: &Node, budget: u64) -> Result<Answer, UnfoldStop
 fn settled(alloc: Global, node: &Node, budget: u64) -> Result<Answer, UnfoldStop>
     requires { IsWellMade node.now.question.conj }
     ensures shown { IfOk result IsShown }
+    ensures none { IfOk result (HasNone node.now.question.conj) }
     ensures point { IfOk result (IsPointIn node.now.question.conj) }
     ensures answer { IfOk result (IsAnswer node.now.placing node.now.question) }
     ensures causes { IfErr result (StopsAsking budget node.now.question.conj) }
@@ -119,6 +122,7 @@ pub(crate) fn asked(
 ) -> Result<Answer, UnfoldStop>
     ensures shown { making ≡ true → IfOk result IsShown }
     ensures answer { IfOk result (IsAnswer node.now.placing node.now.question) }
+    ensures none { IfOk result (HasNone node.now.question.conj) }
     ensures point { IfOk result (IsPointIn node.now.question.conj) }
     ensures causes { IfErr result (StopsAsking budget node.now.question.conj) }
     ensures full { IfErr result IsNeverFull }
@@ -140,6 +144,7 @@ pub(crate) fn seen(
 ) -> Result<Option<Answer>, AllocError>
     ensures shown { making ≡ true → IfOk result (λ seen. IfSome seen IsShown) }
     ensures answer { IfOk result (λ seen. IfSome seen (IsAnswer node.now.placing node.now.question)) }
+    ensures none { IfOk result (λ seen. IfSome seen (HasNone node.now.question.conj)) }
 {
     let question = &node.question.conj;
     if !question.is_well_made() {
@@ -184,6 +189,7 @@ pub(crate) fn open_question(
 ) -> Result<Opened, AllocError>
     ensures shown { making ≡ true → IfOk result IsShownOpen }
     ensures open { IfOk result (IsOpen node.placing node.question) }
+    ensures none { IfOk result (IsEmptyOpen node.question.conj) }
     ensures trail { IfOk result (KeepsTrail node) }
 {
     if let Some(point) = continued(alloc, &node.question.conj, node.known.as_slice())? {
@@ -199,7 +205,8 @@ pub(crate) fn open_question(
 /// Whether a row over a question's columns stands among its rows.
 #[tactic(auto, using(ac_paths::proofs::Moduli::conj_moduli))]
 pub(crate) fn stands_in(alloc: Global, conj: &Conj, row: &Row) -> Result<bool, AllocError>
-    ensures { IfOk result (λ standing. standing ≡ true → IsStanding conj.now row.now) }
+    ensures stands { IfOk result (λ standing. standing ≡ true → IsStanding conj.now row.now) }
+    ensures holds { IfOk result (λ standing. standing ≡ true → (p : List ℤ) → Meets conj.now.rows p → Holds row.now p) }
 {
     if !conj.is_well_made() || !row.is_over(conj.columns) {
         return Ok(false);

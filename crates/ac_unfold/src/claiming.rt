@@ -11,6 +11,7 @@ ghost use Rattle.ac_unfold.specs.Making.{IsMade};
 ghost use Rattle.ac_unfold.specs.Missing.{FindsElse};
 ghost use Rattle.ac_unfold.specs.Cutting.{IsClaimBehind, IsNumbered};
 ghost use Rattle.ac_unfold.specs.Stops.{Follows, StopsUnder};
+ghost use Rattle.ac_unfold.specs.Unbroken.{FindsNone, StandsIn};
 
 use crate::ends::{Search, stand};
 use crate::finding::Finds;
@@ -68,6 +69,7 @@ pub(crate) fn at_claim(
     requires { IsClaimBehind search.now node.question number }
     ensures missing { IfOk result (λ made. FindsElse search.now made finds.old finds.new) }
     ensures made { IfOk result (λ made. IfSome made (IsMade search.now node.placing node.question)) }
+    ensures stands { OnOk result (FindsNone search.now finds.old finds.new → StandsIn search.now node.question) }
     ensures broken { OnOk result (AddsBroken search.now (IsAt search.now node.trail node.question) finds.old finds.new) }
     ensures causes { IfErr result (StopsUnder search.now (Follows search.now node.question)) }
     ensures full { IfErr result (FullUnder search.now (IsAt search.now node.trail node.question) finds.old) }

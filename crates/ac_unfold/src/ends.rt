@@ -1,6 +1,6 @@
 //! The ends of paths: a mismatch, and rows that have to stand.
 ghost use Rattle.std.specs.Prelude.{◌≡◌, ◌∷◌, [], ℤ, List, IfOk, IfSome, None, OnOk, Some, is_some, true, IfErr, false};
-ghost use Rattle.ac_forms.specs.Rows.{Holds, IsRowOver};
+ghost use Rattle.ac_forms.specs.Rows.{Holds, IsRowOver, IsWellMade};
 ghost use Rattle.ac_graft.specs.Sides.{sides_of, CanBranch};
 ghost use Rattle.ac_unfold.specs.Courses.{IsBehind};
 ghost use Rattle.ac_ends.specs.Ends.{IsEnd};
@@ -9,12 +9,15 @@ ghost use Rattle.ac_unfold.specs.Missing.{FindsClosed, FindsElse, FindsStood};
 ghost use Rattle.ac_unfold.specs.Full.{FullBy};
 ghost use Rattle.ac_unfold.specs.Searching.{Adds, IsNone, IsPathAt, IsPathBeside, IsPathBreaking, KeepsNode};
 ghost use Rattle.ac_unfold.specs.Standing.{AreStood, IsClosed, IsEndedPlan, IsStood};
+ghost use Rattle.ac_unfold.specs.Stands.{AllHold, HasNoPoint};
 ghost use Rattle.ac_unfold.specs.Stops.{HandsBack, StopsAsking, StopsOutside, StopsStanding};
+ghost use Rattle.ac_unfold.specs.Unbroken.{FindsNone, IsAllRefuted, HoldsOrEnds};
 ghost use Rattle.ac_unfold.specs.Wanting.{CanStand};
 
-use crate::asking::{Answer, Wanted, asked, freely, kind_of, seen, stands_in};
+use crate::asking::{Answer, Wanted, asked, kind_of, seen, stands_in};
 use crate::course::Course;
 use crate::finding::Finds;
+use crate::further::{again, further};
 use crate::node::Node;
 use crate::types::{Setting, UnfoldStop};
 use ac_claims::types::{Claim, Plan, PlanNext};
@@ -66,6 +69,7 @@ pub(crate) fn refuted(
 ) -> Result<Option<Plan>, UnfoldStop>
     ensures missing { IfOk result (λ made. FindsElse search.now made finds.old finds.new) }
     ensures made { IfOk result (λ made. IfSome made (IsRefuted node.now.placing node.now.question)) }
+    ensures empty { OnOk result (FindsNone search.now finds.old finds.new → HasNoPoint node.now.question.conj) }
     ensures found { OnOk result (Adds (IsPathAt (judge_of search.now).params node.now.trail node.now.question.conj) IsNone finds.old finds.new) }
     ensures causes { IfErr result (StopsAsking search.now.budget node.now.question.conj) }
     ensures full { IfErr result (FullBy IsNone finds.old.ended) }
@@ -89,6 +93,7 @@ fn refuted_part(
 ) -> Result<Option<Plan>, UnfoldStop>
     ensures missing { IfOk result (λ made. FindsElse search.now made finds.old finds.new) }
     ensures made { IfOk result (λ made. IfSome made (IsRefuted beside.now.placing beside.now.question)) }
+    ensures empty { OnOk result (FindsNone search.now finds.old finds.new → HasNoPoint beside.now.question.conj) }
     ensures found { OnOk result (Adds (IsPathAt (judge_of search.now).params beside.now.trail beside.now.question.conj) IsNone finds.old finds.new) }
     ensures causes { IfErr result (StopsAsking search.now.budget beside.now.question.conj) }
     ensures full { IfErr result (FullBy IsNone finds.old.ended) }
@@ -119,6 +124,7 @@ fn refute_parts(
 ) -> Result<Closed, UnfoldStop>
     ensures missing { IfOk result (λ made. FindsClosed search.now made finds.old finds.new) }
     ensures closed { IfOk result (IsClosed search.now node.now outside.now) }
+    ensures empty { IfOk result (λ closed. FindsNone search.now finds.old finds.new → IsAllRefuted node.now.question.conj outside.now closed) }
     ensures found { OnOk result (Adds (IsPathBeside (judge_of search.now).params node.now.trail node.now.question.conj outside.now) IsNone finds.old finds.new) }
     ensures causes { IfErr result (StopsOutside search.now.budget node.now.question.conj outside.now) }
     ensures full { IfErr result (FullBy IsNone finds.old.ended) }
@@ -177,6 +183,7 @@ fn stand_absurd(
     requires { IsRowOver course.node.question.conj.columns row.now × ((p : List ℤ) → ¬ (Holds row.now p)) }
     ensures missing { IfOk result (λ made. FindsStood search.now made finds.old finds.new) }
     ensures stood { IfOk result (IsStood search.now course row.now) }
+    ensures met { IsWellMade course.node.question.conj → IfOk result (λ stood. FindsNone search.now finds.old finds.new → HoldsOrEnds course.node.question.conj row.now stood) }
     ensures kept { IfOk result (KeepsNode course) }
     ensures found { OnOk result (Adds (IsPathBreaking (judge_of search.now).params course.node.trail course.node.question.conj (row.now ∷ [])) IsNone finds.old finds.new) }
     ensures causes { IfErr result (StopsStanding search.now.budget course.node.question.conj (row.now ∷ [])) }
@@ -199,6 +206,7 @@ fn stand_branched(
     requires { CanStand course.node.question.conj.columns row.now }
     ensures missing { IfOk result (λ made. FindsStood search.now made finds.old finds.new) }
     ensures stood { IfOk result (IsStood search.now course row.now) }
+    ensures met { IsWellMade course.node.question.conj → IfOk result (λ stood. FindsNone search.now finds.old finds.new → HoldsOrEnds course.node.question.conj row.now stood) }
     ensures kept { IfOk result (KeepsNode course) }
     ensures found { OnOk result (Adds (IsPathBreaking (judge_of search.now).params course.node.trail course.node.question.conj (row.now ∷ [])) IsNone finds.old finds.new) }
     ensures causes { IfErr result (StopsStanding search.now.budget course.node.question.conj (row.now ∷ [])) }
@@ -235,6 +243,7 @@ fn stand_row(
 ) -> Result<Stood, UnfoldStop>
     ensures missing { IfOk result (λ made. FindsStood search.now made finds.old finds.new) }
     ensures stood { IfOk result (IsStood search.now course row.now) }
+    ensures met { IsWellMade course.node.question.conj → IfOk result (λ stood. FindsNone search.now finds.old finds.new → HoldsOrEnds course.node.question.conj row.now stood) }
     ensures kept { IfOk result (KeepsNode course) }
     ensures found { OnOk result (Adds (IsPathBreaking (judge_of search.now).params course.node.trail course.node.question.conj (row.now ∷ [])) IsNone finds.old finds.new) }
     ensures causes { IfErr result (StopsStanding search.now.budget course.node.question.conj (row.now ∷ [])) }
@@ -264,145 +273,6 @@ fn end_of(alloc: Global, search: &Search<'_>, end: PlanNext) -> Option<Plan>
     }
 }
 
-/// Adds a path to a part of a row's negation, where a point of it is found. Whether there was one.
-fn further_part(
-    alloc: Global,
-    search: &Search<'_>,
-    node: &Node,
-    part: &Part,
-    reduction: &Reduction,
-    finds: &mut Finds,
-) -> Result<bool, AllocError>
-    ensures { OnOk result (Adds (IsPathBeside (judge_of search.now).params node.now.trail node.now.question.conj (part.now ∷ [])) IsNone finds.old finds.new) }
-{
-    let beside = node.within(alloc, part)?;
-    if seen(alloc, &beside, reduction, false)?.is_some() {
-        return Ok(false);
-    }
-    match freely(asked(alloc, &beside, search.budget, false))? {
-        Some(Answer::Point(point)) => {
-            finds.push(alloc, search.params(), &beside, &point)?;
-            Ok(true)
-        }
-        Some(Answer::Empty(_)) | None => Ok(false),
-    }
-}
-
-/// Adds a path to the first part of a row's negation of which a point is found.
-fn further_parts(
-    alloc: Global,
-    search: &Search<'_>,
-    node: &Node,
-    outside: &[Part],
-    reduction: &Reduction,
-    finds: &mut Finds,
-) -> Result<(), AllocError>
-    ensures { OnOk result (Adds (IsPathBeside (judge_of search.now).params node.now.trail node.now.question.conj outside.now) IsNone finds.old finds.new) }
-{
-    for part in outside {
-        if further_part(alloc, search, node, part, reduction, finds)? {
-            return Ok(());
-        }
-    }
-    Ok(())
-}
-
-/// Adds a path on which a row that is not there fails, where one is found.
-fn further_branched(
-    alloc: Global,
-    search: &Search<'_>,
-    node: &Node,
-    row: &Row,
-    reduction: &Reduction,
-    finds: &mut Finds,
-) -> Result<(), AllocError>
-    requires { CanStand node.now.question.conj.columns row.now }
-    ensures { OnOk result (Adds (IsPathBreaking (judge_of search.now).params node.now.trail node.now.question.conj (row.now ∷ [])) IsNone finds.old finds.new) }
-{
-    match parts_of(alloc, row, node.question.conj.columns)? {
-        Some(parts) => {
-            further_parts(
-                alloc,
-                search,
-                node,
-                parts.outside.as_slice(),
-                reduction,
-                finds,
-            )?;
-            Ok(())
-        }
-        None => Ok(()),
-    }
-}
-
-/// Adds a path on which a row fails, where one is found.
-fn further_row(
-    alloc: Global,
-    search: &Search<'_>,
-    node: &Node,
-    row: &Row,
-    reduction: &Reduction,
-    finds: &mut Finds,
-) -> Result<(), AllocError>
-    ensures { OnOk result (Adds (IsPathBreaking (judge_of search.now).params node.now.trail node.now.question.conj (row.now ∷ [])) IsNone finds.old finds.new) }
-{
-    let standing = stands_in(alloc, &node.question.conj, row)?;
-    if standing {
-        return Ok(());
-    }
-    let kind = kind_of(alloc, row, node.question.conj.columns)?;
-    match kind {
-        Wanted::Standing => further_branched(alloc, search, node, row, reduction, finds),
-        Wanted::Absurd => Ok(()),
-        Wanted::Wide => Ok(()),
-    }
-}
-
-/// Adds a path for each of the rows that fails at some point of a node, where one is found.
-fn further_rows(
-    alloc: Global,
-    search: &Search<'_>,
-    node: &Node,
-    rows: &[Row],
-    reduction: &Reduction,
-    finds: &mut Finds,
-) -> Result<(), AllocError>
-    ensures { OnOk result (Adds (IsPathBreaking (judge_of search.now).params node.now.trail node.now.question.conj rows.now) IsNone finds.old finds.new) }
-{
-    for row in rows {
-        further_row(alloc, search, node, row, reduction, finds)?;
-    }
-    Ok(())
-}
-
-/// The same for the rows behind one that fails, where paths are looked for.
-fn further(
-    alloc: Global,
-    search: &Search<'_>,
-    again: &Option<Node>,
-    rows: &[Row],
-    reduction: &Reduction,
-    finds: &mut Finds,
-) -> Result<(), AllocError>
-    ensures { (n : Node) → IfSome again.now (λ same. same ≡ n) → OnOk result (Adds (IsPathBreaking (judge_of search.now).params n.trail n.question.conj rows.now) IsNone finds.old finds.new) }
-{
-    match again {
-        Some(node) => further_rows(alloc, search, node, rows, reduction, finds),
-        None => Ok(()),
-    }
-}
-
-/// A node again, where paths are looked for.
-fn again(alloc: Global, search: &Search<'_>, node: &Node) -> Result<Option<Node>, AllocError>
-    ensures { IfOk result (λ again. IfSome again (λ same. same ≡ node.now)) }
-{
-    if search.making {
-        Ok(None)
-    } else {
-        Ok(Some(node.copy(alloc)?))
-    }
-}
-
 /// Rows have to stand at a node: each that is not there is branched on, and no part of its negation has a point. The course to
 /// where they stand, or its end.
 fn stand_rows(
@@ -414,10 +284,14 @@ fn stand_rows(
 ) -> Result<Stood, UnfoldStop>
     ensures missing { IfOk result (λ made. FindsStood search.now made finds.old finds.new) }
     ensures stood { IfOk result (AreStood search.now node rows.now) }
+    ensures met { OnOk result (FindsNone search.now finds.old finds.new → AllHold node.question.conj rows.now) }
     ensures found { OnOk result (Adds (IsPathBreaking (judge_of search.now).params node.trail node.question.conj rows.now) (IsPathAt (judge_of search.now).params node.trail node.question.conj) finds.old finds.new) }
     ensures causes { IfErr result (StopsStanding search.now.budget node.question.conj rows.now) }
     ensures full { IfErr result (FullBy (IsPathAt (judge_of search.now).params node.trail node.question.conj) finds.old.ended) }
 {
+    if !node.question.conj.is_well_made() {
+        return Err(UnfoldStop::Memory(AllocError));
+    }
     finds.reach(alloc, search.params(), &node)?;
     let reduction = Reduction::of(alloc, &node.question.conj)?;
     let spare = again(alloc, search, &node)?;
@@ -451,6 +325,7 @@ pub(crate) fn stand(
     requires { IsEndFor search.now node.question rows.now end }
     ensures missing { IfOk result (λ made. FindsElse search.now made finds.old finds.new) }
     ensures made { IfOk result (λ made. IfSome made (IsMade search.now node.placing node.question)) }
+    ensures met { OnOk result (FindsNone search.now finds.old finds.new → AllHold node.question.conj rows.now) }
     ensures found { OnOk result (Adds (IsPathBreaking (judge_of search.now).params node.trail node.question.conj rows.now) (IsPathAt (judge_of search.now).params node.trail node.question.conj) finds.old finds.new) }
     ensures causes { IfErr result (StopsStanding search.now.budget node.question.conj rows.now) }
     ensures full { IfErr result (FullBy (IsPathAt (judge_of search.now).params node.trail node.question.conj) finds.old.ended) }
@@ -475,6 +350,7 @@ pub(crate) fn mismatch(
 ) -> Result<Option<Plan>, UnfoldStop>
     ensures missing { IfOk result (λ made. FindsElse search.now made finds.old finds.new) }
     ensures made { IfOk result (λ made. IfSome made (IsRefuted node.now.placing node.now.question)) }
+    ensures empty { OnOk result (FindsNone search.now finds.old finds.new → HasNoPoint node.now.question.conj) }
     ensures found { OnOk result (Adds (IsPathAt (judge_of search.now).params node.now.trail node.now.question.conj) (IsPathAt (judge_of search.now).params node.now.trail node.now.question.conj) finds.old finds.new) }
     ensures causes { IfErr result (StopsAsking search.now.budget node.now.question.conj) }
     ensures full { IfErr result (FullBy (IsPathAt (judge_of search.now).params node.now.trail node.now.question.conj) finds.old.ended) }

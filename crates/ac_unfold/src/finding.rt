@@ -174,7 +174,9 @@ impl Finds {
     }
 
     /// How many paths were found.
-    pub(crate) fn len(&self) -> usize {
+    pub(crate) fn len(&self) -> usize
+        ensures { result ≡ length self.now.paths }
+    {
         self.paths.len()
     }
 

@@ -8,6 +8,7 @@ mod claiming;
 mod course;
 mod ends;
 mod finding;
+mod further;
 mod killing;
 mod kinds;
 pub mod laws;

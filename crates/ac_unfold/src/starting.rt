@@ -1,5 +1,5 @@
 //! Where an unfolding starts: each pair of pieces of a claim.
-ghost use Rattle.std.specs.Prelude.{◌≡◌, ◌++◌, IfOk, IfSome, List, None, OnOk, map, true, IfErr};
+ghost use Rattle.std.specs.Prelude.{◌≡◌, ◌++◌, [], IfOk, IfSome, List, None, OnOk, map, true, IfErr};
 ghost use Rattle.std.specs.List.{AllByRecursion, range_with_len};
 ghost use Rattle.ac_paths.specs.Calls.{pairing};
 ghost use Rattle.ac_claims.specs.ProofFaults.{domain};
@@ -22,7 +22,9 @@ ghost use Rattle.ac_unfold.specs.Plans.{IsSettled};
 ghost use Rattle.ac_unfold.specs.Begun.{AreBegun, IsBegun};
 ghost use Rattle.ac_unfold.specs.Searching.{AddsBroken, IsFrom};
 ghost use Rattle.ac_unfold.specs.Stopping.{IsStoppedAt};
+ghost use Rattle.ac_unfold.specs.Stands.{StartStands};
 ghost use Rattle.ac_unfold.specs.Stops.{StopsUnder};
+ghost use Rattle.ac_unfold.specs.Unbroken.{FindsNone, StandsAtStart, StandsBeside};
 
 use crate::asking::{Opened, open_question};
 use crate::ends::Search;
@@ -74,6 +76,7 @@ fn unfold_at(
 ) -> Result<Option<Plan>, UnfoldStop>
     ensures missing { IfOk result (λ made. FindsElse search.now made finds.old finds.new) }
     ensures begun { IfOk result (λ made. IfSome made (IsBegun search.now start.now left right)) }
+    ensures stands { OnOk result (FindsNone search.now finds.old finds.new → StandsAtStart search.now start.now left right) }
     ensures broken { OnOk result (AddsBroken search.now (IsFrom start.now) finds.old finds.new) }
     ensures causes { IfErr result (StopsUnder search.now (IsFrom start.now)) }
     ensures full { IfErr result (FullUnder search.now (IsFrom start.now) finds.old) }
@@ -115,6 +118,7 @@ fn find_beside(
     rights: usize,
     finds: &mut Finds,
 ) -> Result<(), UnfoldStop>
+    ensures stands { OnOk result (FindsNone search.now finds.old finds.new → StandsBeside search.now start.now left rights) }
     ensures broken { OnOk result (AddsBroken search.now (IsFrom start.now) finds.old finds.new) }
     ensures causes { IfErr result (StopsUnder search.now (IsFrom start.now)) }
     ensures full { IfErr result (FullUnder search.now (IsFrom start.now) finds.old) }
@@ -125,8 +129,9 @@ fn find_beside(
     Ok(())
 }
 
-/// Concrete paths on which a start fails, maybe not all of them, and none where some fail: from one of its pairs along the steps to a
-/// mismatch, or to the pair of a claim that breaks one of its rows.
+/// Concrete paths on which a start fails, maybe not all of them: from one of its pairs along the steps to a mismatch, or to the pair
+/// of a claim that breaks one of its rows. Where there are none the start stands: what it leads to, by the branches of calls and by
+/// what is left of the cases of reads and outputs, has no point, or ends at a pair where a claim holds or both sides match.
 ///
 /// The start's pairs are the points of its rows, the context and a piece of each of its positions, over the parameters, the
 /// coordinates of the left position and those of the right one. A path ends at the first pair of a claim behind at least one
@@ -140,6 +145,7 @@ pub fn broken_paths(
     order: &[(Site, Order)],
 ) -> Result<Items<Items<Entry>>, UnfoldStop>
     ensures paths { IfOk result (AllByRecursion IsPath) }
+    ensures stands { IfOk result (λ paths. paths ≡ [] → (u : Unfolding) → IsUnfoldingOf setting.now start.now order.now u → StartStands u setting.now.left_flow.now setting.now.right_flow.now claims.now) }
     ensures broken { IfOk result (λ paths. (u : Unfolding) → IsUnfoldingOf setting.now start.now order.now u → AllByRecursion (IsBroken u claims.now) paths) }
     ensures causes { IfErr result (StopsUnfolding setting.now start.now claims.now order.now) }
 {

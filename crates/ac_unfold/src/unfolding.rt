@@ -2,7 +2,7 @@
 ghost use Rattle.std.specs.Prelude.{◌≡◌, ◌+◌, IfErr, IfOk, IfSome, None, OnOk, Some, is_some, length, slice_get, true};
 ghost use Rattle.ac_paths.specs.Going.{model_of};
 ghost use Rattle.ac_syntax.specs.declared.tree.Order.TheVariants.{Keep};
-ghost use Rattle.ac_unfold.specs.Asked.{AreTwoCalls};
+ghost use Rattle.ac_unfold.specs.Asked.{AreTwoCalls, GoesOn};
 ghost use Rattle.ac_unfold.specs.Cutting.{AreMadeOn, CutsMore, IsAssumed, IsKillThere, IsStep};
 ghost use Rattle.ac_unfold.specs.Full.{FullUnder};
 ghost use Rattle.ac_unfold.specs.Making.{judge_of, IsMade, IsMadeIn};
@@ -11,6 +11,7 @@ ghost use Rattle.ac_unfold.specs.Passing.{AreKillRows, GoesWithin, IsKillRow, Is
 ghost use Rattle.ac_unfold.specs.Searching.{AddsBroken, IsAt, IsInCase, IsKindThere, IsPast};
 ghost use Rattle.ac_unfold.specs.Stopping.{MayStep};
 ghost use Rattle.ac_unfold.specs.Stops.{AreKillsRows, AreKillsSides, CutsOn, Follows, FollowsCase, FollowsCut, FollowsOn, IsKillsRow, StopsUnder};
+ghost use Rattle.ac_unfold.specs.Unbroken.{CaseStands, FindsNone, StandsIn};
 ghost use Rattle.ac_unfold.specs.declared.kinds.Next.TheVariants as kind;
 
 use crate::asking::{Opened, can_stand, open_question, stands_in};
@@ -50,6 +51,7 @@ pub(crate) fn visit(
 ) -> Result<Option<Plan>, UnfoldStop>
     ensures missing { IfOk result (λ made. FindsElse search.now made finds.old finds.new) }
     ensures made { IfOk result (λ made. IfSome made (IsMade search.now node.placing node.question)) }
+    ensures stands { OnOk result (FindsNone search.now finds.old finds.new → StandsIn search.now node.question) }
     ensures broken { OnOk result (AddsBroken search.now (IsAt search.now node.trail node.question) finds.old finds.new) }
     ensures causes { IfErr result (StopsUnder search.now (Follows search.now node.question)) }
     ensures full { IfErr result (FullUnder search.now (IsAt search.now node.trail node.question) finds.old) }
@@ -83,6 +85,7 @@ fn calls(
     requires calls { AreTwoCalls (judge_of search.now) node.now.question }
     ensures missing { IfOk result (λ made. FindsElse search.now made finds.old finds.new) }
     ensures made { IfOk result (λ made. IfSome made (λ t. MayStep search.now node.now.question order → IsMade search.now node.now.placing node.now.question t)) }
+    ensures stands { GoesOn search.now.claims.now node.now.question → OnOk result (FindsNone search.now finds.old finds.new → StandsIn search.now node.now.question) }
     ensures broken { OnOk result (AddsBroken search.now (IsPast search.now node.now.trail node.now.question) finds.old finds.new) }
     ensures causes { IfErr result (StopsUnder search.now (FollowsOn search.now node.now.question)) }
     ensures full { IfErr result (FullUnder search.now (IsPast search.now node.now.trail node.now.question) finds.old) }
@@ -138,6 +141,7 @@ fn read(
     requires { IsKindThere search.now node.now.question (kind.Read side) }
     ensures missing { IfOk result (λ made. FindsElse search.now made finds.old finds.new) }
     ensures made { IfOk result (λ made. IfSome made (λ t. MayStep search.now node.now.question Keep → IsMade search.now node.now.placing node.now.question t)) }
+    ensures stands { GoesOn search.now.claims.now node.now.question → OnOk result (FindsNone search.now finds.old finds.new → StandsIn search.now node.now.question) }
     ensures broken { OnOk result (AddsBroken search.now (IsPast search.now node.now.trail node.now.question) finds.old finds.new) }
     ensures causes { IfErr result (StopsUnder search.now (FollowsOn search.now node.now.question)) }
     ensures full { IfErr result (FullUnder search.now (IsPast search.now node.now.trail node.now.question) finds.old) }
@@ -224,6 +228,7 @@ fn enter(
 ) -> Result<Option<Plan>, UnfoldStop>
     ensures missing { IfOk result (λ made. FindsElse search.now made finds.old finds.new) }
     ensures made { IfOk result (λ made. IfSome made (IsMadeIn search.now case.now node.placing node.question)) }
+    ensures stands { OnOk result (FindsNone search.now finds.old finds.new → CaseStands search.now case.now node.question) }
     ensures broken { OnOk result (AddsBroken search.now (IsInCase search.now case.now node.trail node.question) finds.old finds.new) }
     ensures causes { IfErr result (StopsUnder search.now (FollowsCase search.now case.now node.question)) }
     ensures full { IfErr result (FullUnder search.now (IsInCase search.now case.now node.trail node.question) finds.old) }
@@ -252,6 +257,7 @@ fn remainders(
     room: usize,
 ) -> Result<Option<Plan>, UnfoldStop>
     ensures none { IfOk result (λ made. made ≡ None) }
+    ensures stands { OnOk result (FindsNone search.now finds.old finds.new → CaseStands search.now case.now node.now.question) }
     ensures broken { OnOk result (AddsBroken search.now (IsInCase search.now case.now node.now.trail node.now.question) finds.old finds.new) }
     ensures causes { IfErr result (StopsUnder search.now (FollowsCase search.now case.now node.now.question)) }
     ensures full { IfErr result (FullUnder search.now (IsInCase search.now case.now node.now.trail node.now.question) finds.old) }

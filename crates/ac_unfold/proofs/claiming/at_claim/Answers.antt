@@ -15,6 +15,7 @@ use Rattle.ac_unfold.specs.Stops.{Follows, StopsStanding, StopsUnder}
 use Rattle.ac_unfold.proofs.Coming.{claim_broken, on_ok}
 use Rattle.ac_unfold.proofs.Full.{full_claim, full_hands}
 use Rattle.ac_unfold.proofs.Stopped.{claim_targets, followed_hands, followed_standing, hands_because, if_err}
+use Rattle.ac_unfold.proofs.Unbroken.{claim_stands, none_by}
 use Rattle.ac_unfold.proofs.claiming.at_claim.Goals as goal
 
 below : (a b : ℕ) → ltb a b ≡ true → a < b
@@ -90,3 +91,17 @@ pub returns-clause-full : goal.returns-clause-full
 returns-clause-full c =
     let v = c.args.node in
     IfErr-weaker c.stand.result _ _ (full_claim c.args.search.now v.trail v.question c.args.number c.args.finds.now c.requires) c.stand.ensures.full
+
+-- ---- where no further path is found
+
+pub returns-clause-stands : goal.returns-clause-stands
+returns-clause-stands c =
+    let s = c.args.search.now in
+    let q = c.args.node.question in
+    let columns : c.as_slice-2.result.now ≡ base (judge_of s).params ++ (columns_of q.left ++ columns_of q.right) =
+    c.as_slice-2.ensures ∙ c.in_ok-columns.ensures ∙ ap (λ (n : ℕ). base n ++ (columns_of q.left ++ columns_of q.right)) c.params-params.ensures in
+    let rows : Some c.in_ok-rows.rows ≡ rows_renaming (base (judge_of s).params ++ (columns_of q.left ++ columns_of q.right)) c.in-Some.claim.now.rows =
+    c.in_ok-rows.ensures.rows ∙ ap (λ ks. rows_renaming ks c.as_slice.result.now) columns ∙ ap (rows_renaming (base (judge_of s).params ++ (columns_of q.left ++ columns_of q.right))) c.as_slice.ensures in
+    let within : c.args.number < length s.claims.now = below c.args.number (length s.claims.now) (sym c.in-Some.ensures.lookup.0) in
+    let there = slice_get_read s.claims.now (length s.claims.now) c.args.number c.in-Some.claim.now refl within c.in-Some.ensures.lookup.1 in
+    none_by c.stand.result s c.args.finds.now c.stand.new.finds _ _ (claim_stands s q c.args.number c.in-Some.claim.now c.as_slice-3.result.now c.requires there (ap Some c.as_slice-3.ensures ∙ rows)) c.stand.ensures.met

@@ -10,6 +10,7 @@ use Rattle.ac_unfold.proofs.Coming.{on_ok}
 use Rattle.ac_unfold.proofs.Missing.{finds_after}
 use Rattle.ac_unfold.proofs.Reaching.{counted_asking, none_by}
 use Rattle.ac_unfold.proofs.Stopped.{if_err}
+use Rattle.ac_unfold.proofs.Unbroken.{none_same}
 use Rattle.ac_unfold.proofs.ends.mismatch.Goals as goal
 
 pub returns-clause-missing : goal.returns-clause-missing
@@ -44,3 +45,6 @@ returns-in_err-reach-clause-causes c =
     let q = c.args.node.now.question.conj in
     let stop = c.in_err-reach.field-0.0 in
     if_err (StopsAsking s.budget q) c.from_residual.result stop c.from_residual.ensures.1 (counted_asking s.budget q stop c.in_err-reach.ensures.counted)
+
+pub returns-clause-empty : goal.returns-clause-empty
+returns-clause-empty c = none_same c.refuted.result c.args.search.now c.args.finds.now c.reach.new.self c.refuted.new.finds _ c.in_ok-reach.ensures.paths c.refuted.ensures.empty

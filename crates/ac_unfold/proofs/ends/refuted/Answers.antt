@@ -6,6 +6,8 @@ use Rattle.ac_unfold.specs.Searching.{IsNone, IsPointIn}
 use Rattle.ac_unfold.proofs.Adding.{adds_none, found_at}
 use Rattle.ac_unfold.proofs.Reaching.{never_by}
 use Rattle.ac_unfold.proofs.Stopped.{if_err}
+use Rattle.ac_unfold.specs.Missing.{HasNone}
+use Rattle.ac_unfold.proofs.Unbroken.{not_one}
 use Rattle.ac_unfold.proofs.ends.refuted.Goals as goal
 
 pub returns-in-Empty-clause-found : goal.returns-in-Empty-clause-found
@@ -23,3 +25,9 @@ pub returns-in_err-plan-clause-full : goal.returns-in_err-plan-clause-full
 returns-in_err-plan-clause-full c =
     let stop = c.in_err-plan.field-0.0 in
     if_err (FullBy IsNone c.args.finds.now.ended) c.from_residual.result stop c.from_residual.ensures.1 (never_by IsNone c.args.finds.now.ended stop c.in_err-plan.ensures.full)
+
+pub returns-in-Empty-clause-empty : goal.returns-in-Empty-clause-empty
+returns-in-Empty-clause-empty c = λ none. (subst (HasNone c.args.node.now.question.conj) c.in-Empty.is c.in_ok-plan.ensures.none).1
+
+pub returns-in_ok-push-in-Point-clause-empty : goal.returns-in_ok-push-in-Point-clause-empty
+returns-in_ok-push-in-Point-clause-empty c = λ none. absurd (not_one c.args.search.now _ _ _ c.in_ok-push-in-Point.ensures.paths none)

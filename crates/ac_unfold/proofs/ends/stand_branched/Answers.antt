@@ -10,6 +10,8 @@ use Rattle.ac_unfold.proofs.Failing.{breaking_beside}
 use Rattle.ac_unfold.proofs.Reaching.{hands_by}
 use Rattle.ac_unfold.proofs.Results.{branched}
 use Rattle.ac_unfold.proofs.Stopped.{if_err, row_unbranched, standing_lacks, standing_side}
+use Rattle.ac_unfold.specs.Unbroken.{AreEmpty, FindsNone, IsAllRefuted}
+use Rattle.ac_unfold.proofs.Unbroken.{refuted_holds}
 use Rattle.ac_unfold.proofs.ends.stand_branched.Goals as goal
 
 pub parts_of-requires : goal.parts_of-requires
@@ -55,3 +57,17 @@ returns-in_err-closed-clause-causes c =
 
 pub returns-in_default-clause-full : goal.returns-in_default-clause-full
 returns-in_default-clause-full c = hands_by IsNone c.args.finds.now.ended c.args.course.node.question.conj (Unit {0}) c.too_wide.result c.too_wide.ensures
+
+-- ---- where no further path is found
+
+pub returns-in-Broken-clause-met : goal.returns-in-Broken-clause-met
+returns-in-Broken-clause-met c = λ made none.
+    let q = c.args.course.node.question.conj in
+    absurd (subst (λ (x : Closed). FindsNone c.args.search.now c.args.finds.now c.refute_parts.new.finds → IsAllRefuted q c.as_slice.result.now x) c.in-Broken.is c.in_ok-closed.ensures.empty none)
+
+pub returns-in_ok-next-in-Refuted-clause-met : goal.returns-in_ok-next-in-Refuted-clause-met
+returns-in_ok-next-in-Refuted-clause-met c = λ made none.
+    let q = c.args.course.node.question.conj in
+    let sides = subst (λ (o : Option Parts). AreSides q.columns c.args.row.now o) c.in-Some.is c.in_ok-parts.ensures in
+    let empty : AreEmpty q c.as_slice.result.now = subst (λ (x : Closed). FindsNone c.args.search.now c.args.finds.now c.refute_parts.new.finds → IsAllRefuted q c.as_slice.result.now x) c.in-Refuted.is c.in_ok-closed.ensures.empty none in
+    refuted_holds q c.args.row.now c.as_slice.result.now made c.requires.over (c.as_slice.ensures ∙ ap (λ (x : Parts). x.outside) sides.1) empty

@@ -8,7 +8,7 @@ use Rattle.ac_unfold.proofs.Stopped.{row_refused, standing_lacks}
 use Rattle.ac_unfold.proofs.ends.stand_row.Goals as goal
 
 pub returns-then-standing-clause-stood : goal.returns-then-standing-clause-stood
-returns-then-standing-clause-stood c = stays_more c.args.search.now c.args.course c.args.row.now (c.in_ok-standing.ensures c.if-standing.true)
+returns-then-standing-clause-stood c = stays_more c.args.search.now c.args.course c.args.row.now (c.in_ok-standing.ensures.stands c.if-standing.true)
 
 pub returns-then-standing-clause-found : goal.returns-then-standing-clause-found
 returns-then-standing-clause-found c = adds_none _ _ _ _ refl
@@ -21,3 +21,6 @@ returns-in-Wide-clause-causes c =
 
 pub returns-in-Wide-clause-full : goal.returns-in-Wide-clause-full
 returns-in-Wide-clause-full c = hands_by IsNone c.args.finds.now.ended c.args.course.node.question.conj (Unit {0}) c.too_wide.result c.too_wide.ensures
+
+pub returns-then-standing-clause-met : goal.returns-then-standing-clause-met
+returns-then-standing-clause-met c = λ made none p point. (c.in_ok-standing.ensures.holds c.if-standing.true p point.meets, tt)

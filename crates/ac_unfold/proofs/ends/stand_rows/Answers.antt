@@ -1,4 +1,4 @@
-use Rattle.std.proofs.Common.{◌+◌, ℕ, List, arith, sym, ap, ◌∙◌, subst, take, drop}
+use Rattle.std.proofs.Common.{rules, ◌+◌, ℕ, List, arith, sym, ap, ◌∙◌, subst, take, drop}
 use Rattle.std.proofs.lemmas.List.{take_all, take-append-drop}
 use Rattle.ac_forms.specs.declared.row.Row.{Row}
 use Rattle.ac_paths.specs.declared.path.Path.{Path}
@@ -12,11 +12,15 @@ use Rattle.ac_unfold.specs.declared.ends.Stood.{Stood}
 use Rattle.ac_unfold.specs.declared.ends.Stood.TheVariants as stood
 use Rattle.ac_unfold.specs.declared.node.Node.{Node}
 use Rattle.ac_unfold.proofs.Adding.{adds_end, adds_kept, adds_no_end, adds_then}
-use Rattle.ac_unfold.proofs.Further.{behind_all}
+use Rattle.ac_unfold.proofs.Beyond.{behind_all}
 use Rattle.ac_unfold.proofs.Failing.{breaking_all, breaking_more, breaking_rest}
 use Rattle.ac_unfold.proofs.Reaching.{counted_standing, none_by}
 use Rattle.ac_unfold.proofs.Results.{ended_made, in_read, kept_more, kept_none, next_item}
 use Rattle.ac_unfold.proofs.Stopped.{if_err, standing_among}
+use Rattle.ac_forms.specs.Rows.{IsWellMade}
+use Rattle.ac_unfold.specs.Stands.{AllHold, HasNoPoint}
+use Rattle.ac_unfold.specs.Unbroken.{FindsNone, HoldsOrEnds}
+use Rattle.ac_unfold.proofs.Unbroken.{hold_empty, hold_more, hold_none, none_after, none_before}
 use Rattle.ac_unfold.proofs.ends.stand_rows.Goals as goal
 
 pub loop-at-init : goal.loop-at-init
@@ -26,6 +30,8 @@ loop-at-init c = record {
   trail = ap (λ (n : Node). n.trail) c.new-course.ensures.node;
   spare = c.in_ok-spare.ensures;
   found = adds_end _ _ _ _ c.in_ok-reach.ensures.paths (subst (λ (k : ℕ). EndsMore (IsPathAt k c.args.node.trail c.args.node.question.conj) c.args.finds.now.ended c.reach.new.self.ended) c.params.ensures c.in_ok-reach.ensures.ended);
+  made = search rules;
+  met = λ none. hold_none c.args.node.question.conj;
 }
 
 pub loop-at-preserved : goal.loop-at-preserved
@@ -43,6 +49,11 @@ loop-at-preserved c =
       spare = c.loop-at.invariant.spare;
       found = breaking_more (IsPathAt (judge_of c.args.search.now).params c.args.node.trail c.args.node.question.conj) (judge_of c.args.search.now).params c.args.node.trail c.loop-at.course.node.trail c.args.node.question.conj c.loop-at.course.node.question.conj (take i rows) (take (i + 1) rows) row _ _ _ c.loop-at.invariant.trail
           (ap (λ (x : Path). x.conj) c.loop-at.invariant.question) more c.loop-at.invariant.found (adds_no_end _ _ _ _ c.in_ok-stood.ensures.found);
+      made = c.loop-at.invariant.made;
+      met = (let now = c.loop-at.course.node.question.conj in
+          let well : IsWellMade now = subst IsWellMade (sym (ap (λ (x : Path). x.conj) c.loop-at.invariant.question)) c.loop-at.invariant.made in
+          hold_more c.args.search.now c.args.node.question.conj now (take i rows) (take (i + 1) rows) row _ _ _ (ap (λ (x : Path). x.conj) c.loop-at.invariant.question) more (adds_kept _ _ _ _ c.loop-at.invariant.found) (adds_kept _ _ _ _ c.in_ok-stood.ensures.found) c.loop-at.invariant.met
+          (subst (λ (x : Stood). FindsNone c.args.search.now c.loop-at.finds c.stand_row.new.finds → HoldsOrEnds now row x) c.in-On.is (c.in_ok-stood.ensures.met well)));
     }
 
 pub returns-in-Ended-clause-stood : goal.returns-in-Ended-clause-stood
@@ -110,3 +121,19 @@ returns-in_err-stood-clause-full c =
     let stop = c.in_err-stood.field-0.0 in
     let At = IsPathAt (judge_of c.args.search.now).params v.trail v.question.conj in
     if_err (FullBy At c.args.finds.now.ended) c.from_residual-in_err-stood.result stop c.from_residual-in_err-stood.ensures.1 (none_by At c.args.finds.now.ended c.loop-at.finds.ended stop c.in_err-stood.ensures.full)
+
+-- ---- where no further path is found
+
+pub returns-in-Ended-clause-met : goal.returns-in-Ended-clause-met
+returns-in-Ended-clause-met c = λ none.
+    let s = c.args.search.now in
+    let q = c.args.node.question.conj in
+    let now = c.loop-at.course.node.question.conj in
+    let same = ap (λ (x : Path). x.conj) c.loop-at.invariant.question in
+    let well : IsWellMade now = subst IsWellMade (sym same) c.loop-at.invariant.made in
+    let further = adds_kept _ _ _ _ (c.in_ok-further-in-Ended.ensures c.args.node c.loop-at.invariant.spare) in
+    let here : FindsNone s c.loop-at.finds c.stand_row.new.finds = none_before s _ _ _ further (none_after s _ _ _ (adds_kept _ _ _ _ c.loop-at.invariant.found) none) in
+    hold_empty q c.args.rows.now (subst HasNoPoint same (subst (λ (x : Stood). FindsNone s c.loop-at.finds c.stand_row.new.finds → HoldsOrEnds now c.index-rows-at.result x) c.in-Ended.is (c.in_ok-stood.ensures.met well) here))
+
+pub returns-clause-met : goal.returns-clause-met
+returns-clause-met c = λ none. subst (AllHold c.args.node.question.conj) (take_all c.loop-at.at c.args.rows.now c.loop-at-test.false) (c.loop-at.invariant.met none)

@@ -1,8 +1,11 @@
 use Rattle.std.proofs.Common.{◌≡◌, take}
 use Rattle.std.specs.Prelude.{IfSome}
+use Rattle.ac_forms.specs.Rows.{IsWellMade}
 use Rattle.ac_unfold.specs.Making.{judge_of}
 use Rattle.ac_unfold.specs.Searching.{Adds, IsPathAt, IsPathBreaking}
 use Rattle.ac_unfold.specs.Standing.{AreKept}
+use Rattle.ac_unfold.specs.Stands.{AllHold}
+use Rattle.ac_unfold.specs.Unbroken.{FindsNone}
 use Rattle.ac_unfold.proofs.ends.stand_rows.Given as goal
 
 abbrev pub invariant-loop-at : goal.invariant-loop-at
@@ -12,4 +15,6 @@ invariant-loop-at l = record {
   trail : l.course.node.trail ≡ l.fn.node.trail;
   spare : IfSome l.spare (λ same. same ≡ l.fn.node);
   found : Adds (IsPathBreaking (judge_of l.search).params l.fn.node.trail l.fn.node.question.conj (take l.at l.rows)) (IsPathAt (judge_of l.search).params l.fn.node.trail l.fn.node.question.conj) l.fn.finds l.finds;
+  made : IsWellMade l.fn.node.question.conj;
+  met : FindsNone l.search l.fn.finds l.finds → AllHold l.fn.node.question.conj (take l.at l.rows);
 }

@@ -11,6 +11,8 @@ use Rattle.ac_unfold.proofs.Missing.{finds_shown}
 use Rattle.ac_unfold.proofs.Coming.{begun_broken, broken_none, on_ok}
 use Rattle.ac_unfold.proofs.Full.{full_begun}
 use Rattle.ac_unfold.proofs.Places.{begun_stops}
+use Rattle.ac_unfold.specs.Unbroken.{IsEmptyOpen}
+use Rattle.ac_unfold.proofs.Unbroken.{begun_empty, begun_stands, none_by}
 use Rattle.ac_unfold.proofs.starting.unfold_at.Goals as goal
 
 pub returns-in-Empty-clause-begun : goal.returns-in-Empty-clause-begun
@@ -64,3 +66,22 @@ returns-in-On-clause-full c =
     let opened = subst (λ (x : Opened). IsOpen n.placing n.question x) c.in-On.is c.in_ok-question.ensures.open in
     let kept = subst (λ (x : Opened). KeepsTrail n x) c.in-On.is c.in_ok-question.ensures.trail in
     IfErr-weaker c.visit.result _ _ (full_begun s c.args.start.now c.args.left c.args.right c.in-Some.path n c.in-On.node c.args.finds.now starts made c.in_ok-node.ensures.question c.in_ok-node.ensures.trail opened.0 kept) c.visit.ensures.full
+
+-- ---- where no further path is found
+
+pub returns-in-Empty-clause-stands : goal.returns-in-Empty-clause-stands
+returns-in-Empty-clause-stands c = λ none.
+    let s = c.args.search.now in
+    let n = c.in_ok-node.node in
+    let starts : start_at (judge_of s) c.args.start.now c.args.left c.args.right ≡ Some c.in-Some.path = sym c.in_ok-path.ensures ∙ c.in-Some.is in
+    let made : IsWellMade c.in-Some.path.conj = search rules in
+    begun_empty s c.args.start.now c.args.left c.args.right c.in-Some.path n.question starts made c.in_ok-node.ensures.question (subst (λ (x : Opened). IsEmptyOpen n.question.conj x) c.in-Empty.is c.in_ok-question.ensures.none)
+
+pub returns-in-On-clause-stands : goal.returns-in-On-clause-stands
+returns-in-On-clause-stands c =
+    let s = c.args.search.now in
+    let n = c.in_ok-node.node in
+    let starts : start_at (judge_of s) c.args.start.now c.args.left c.args.right ≡ Some c.in-Some.path = sym c.in_ok-path.ensures ∙ c.in-Some.is in
+    let opened = subst (λ (x : Opened). IsOpen n.placing n.question x) c.in-On.is c.in_ok-question.ensures.open in
+    let made : IsWellMade c.in-Some.path.conj = search rules in
+    none_by c.visit.result s c.args.finds.now c.visit.new.finds _ _ (begun_stands s c.args.start.now c.args.left c.args.right c.in-Some.path c.in-On.node.question starts made (opened.0 ∙ c.in_ok-node.ensures.question)) c.visit.ensures.stands

@@ -33,10 +33,12 @@ use Rattle.ac_unfold.specs.Missing.{IsShownOpen}
 use Rattle.ac_unfold.specs.Passing.{AreApart, AreKillRows, GoesWithin, IsOutsideKills}
 use Rattle.ac_unfold.specs.Searching.{IsAt, IsInCase, IsKindThere, IsPast, KeepsTrail}
 use Rattle.ac_unfold.specs.Stops.{AreKillsRows, CutsOn, Follows, FollowsCase, FollowsCut, FollowsOn, HasItsCalls, IsMatchOf, StopsUnder}
+use Rattle.ac_unfold.specs.Unbroken.{IsEmptyOpen, StandsIn}
 use Rattle.ac_unfold.proofs.Missing.{finds_by, finds_off, finds_shown, none_behind}
 use Rattle.ac_unfold.proofs.Passing.{apart_misses, fewer_broken, kill_rows, last_broken, most, next_broken, nothing_left, parts_miss, rows_within, side_broken, start_broken, survivor_broken, within_broken, within_itself, within_more, within_part}
 use Rattle.ac_unfold.proofs.Places.{asking_stops, branch_stops, calls_stop, case_stops, cut_stops, cuts_itself, cuts_more, enter_stops, inside_cuts, kill_stops, kills_row, kills_rows, kills_sides, match_stops, opened_stops, past_stops, piece_stops, read_stops, rest_stops, row_stops, side_stops, survivor_stops}
 use Rattle.ac_unfold.proofs.Stopped.{followed_hands, if_err}
+use Rattle.ac_unfold.proofs.Unbroken.{branches_more, branches_none, calls_stand, cases_more, cases_none, empty_stands, match_stands, none_by, not_making, off_making, pieces_all, pieces_more, pieces_none, reads_stand, BranchesStand, CasesStand}
 use Rattle.ac_unfold.proofs.Yielding.{first_ones}
 use Rattle.ac_unfold.proofs.Coming.{broken_kept, broken_none, broken_past, broken_then, calls_all, calls_more, calls_none, calls_some, match_broken, mismatch_broken, on_ok, piece_broken, reads_all, reads_more, reads_none, reads_some, AddsCalls, AddsReads}
 use Rattle.ac_unfold.proofs.unfolding.+unfold.Goals as goal
@@ -51,6 +53,7 @@ calls-loop-branch-init t c =
       serve = (subst (λ (ts : List Plan). ServeBranches c.args.search.now c.args.node.now.placing c.args.node.now.question [] ts) (sym c.new-cases.ensures.items) (serve_none c.args.search.now c.args.node.now.placing c.args.node.now.question));
       adds = calls_none s n c.args.order _ _ refl;
       kept = omega arith;
+      stand = branches_none s n.question _ _;
     }
 
 pub calls-loop-branch-preserved-in-Some-made : goal.calls-loop-branch-preserved-in-Some-made
@@ -67,6 +70,8 @@ calls-loop-branch-preserved-in-Some-made t c =
           (serve_more s n.placing n.question c.loop-branch.yielded c.loop-branch.cases.items c.in-Some-branch.branch b p c.loop-branch.invariant.serve c.in_ok-child.ensures.question c.in_ok-child.ensures.placing r));
       adds = calls_more s n c.args.order c.loop-branch.yielded c.in-Some-branch.branch c.in_ok-child.child c.args.finds.now c.loop-branch.finds c.visit.new.finds c.requires.kind c.loop-branch.invariant.adds c.in_ok-child.ensures.question c.in_ok-child.ensures.trail c.in_ok-made.ensures.broken;
       kept = (let b = c.in_ok-child.child in let k = c.loop-branch.invariant.kept in let m = broken_kept s (IsAt s b.trail b.question) _ _ c.in_ok-made.ensures.broken in omega (arith, k, m));
+      stand = (let b = c.in_ok-child.child in
+          branches_more s n.question b.question c.loop-branch.yielded c.in-Some-branch.branch c.args.finds.now c.loop-branch.finds c.visit.new.finds c.loop-branch.invariant.kept (broken_kept s (IsAt s b.trail b.question) _ _ c.in_ok-made.ensures.broken) c.loop-branch.invariant.stand c.in_ok-child.ensures.question c.in_ok-made.ensures.stands);
     }
 
 pub calls-loop-branch-preserved : goal.calls-loop-branch-preserved
@@ -77,6 +82,8 @@ calls-loop-branch-preserved t c =
       serve = (serve_off c.args.search.now c.args.node.now.placing c.args.node.now.question (c.loop-branch.yielded ++ c.in-Some-branch.branch ∷ []) c.loop-branch.cases.items c.if-search.false);
       adds = calls_more s n c.args.order c.loop-branch.yielded c.in-Some-branch.branch c.in_ok-child.child c.args.finds.now c.loop-branch.finds c.visit.new.finds c.requires.kind c.loop-branch.invariant.adds c.in_ok-child.ensures.question c.in_ok-child.ensures.trail c.in_ok-made.ensures.broken;
       kept = (let b = c.in_ok-child.child in let k = c.loop-branch.invariant.kept in let m = broken_kept s (IsAt s b.trail b.question) _ _ c.in_ok-made.ensures.broken in omega (arith, k, m));
+      stand = (let b = c.in_ok-child.child in
+          branches_more s n.question b.question c.loop-branch.yielded c.in-Some-branch.branch c.args.finds.now c.loop-branch.finds c.visit.new.finds c.loop-branch.invariant.kept (broken_kept s (IsAt s b.trail b.question) _ _ c.in_ok-made.ensures.broken) c.loop-branch.invariant.stand c.in_ok-child.ensures.question c.in_ok-made.ensures.stands);
     }
 
 pub calls-returns-clause-made : goal.calls-returns-clause-made
@@ -105,6 +112,7 @@ read-loop-branch-init t c =
       serve = (subst (λ (ts : List Plan). ServeBranches c.args.search.now c.args.node.now.placing c.args.node.now.question [] ts) (sym c.new-plans.ensures.items) (serve_none c.args.search.now c.args.node.now.placing c.args.node.now.question));
       adds = reads_none s n _ _ refl;
       kept = omega arith;
+      stand = cases_none s n.question c.in-Some-flow_of.flow.now _ _;
     }
 
 pub read-loop-branch-preserved-in-Some-made : goal.read-loop-branch-preserved-in-Some-made
@@ -123,6 +131,9 @@ read-loop-branch-preserved-in-Some-made t c =
           (case_made s c.args.side c.in-Some-flow_of.flow.now k b.placing b.question p c.in-Some-flow_of.ensures.among c.in-Some-case_of.ensures.assumed r)));
       adds = reads_more s n c.args.side c.in-Some-flow_of.flow.now c.in-Some-case_of.case.now c.loop-branch.number c.in_ok-number.number c.loop-branch.yielded c.in-Some-branch.branch c.in_ok-child.child c.args.finds.now c.loop-branch.finds c.enter.new.finds c.requires c.in-Some-flow_of.ensures.among c.in-Some-flow_of.ensures.position c.in-Some-case_of.ensures.number c.loop-branch.invariant.adds c.in_ok-child.ensures.question c.in_ok-child.ensures.trail c.in_ok-number.ensures c.in_ok-made.ensures.broken;
       kept = (let b = c.in_ok-child.child in let k = c.loop-branch.invariant.kept in let m = broken_kept s (IsInCase s c.in-Some-case_of.case.now b.trail b.question) _ _ c.in_ok-made.ensures.broken in omega (arith, k, m));
+      stand = (let b = c.in_ok-child.child in
+          cases_more s n.question b.question c.in-Some-flow_of.flow.now c.in-Some-case_of.case.now c.loop-branch.number c.in_ok-number.number c.loop-branch.yielded c.in-Some-branch.branch c.args.finds.now c.loop-branch.finds c.enter.new.finds c.loop-branch.invariant.kept
+          (broken_kept s (IsInCase s c.in-Some-case_of.case.now b.trail b.question) _ _ c.in_ok-made.ensures.broken) c.in-Some-case_of.ensures.number c.loop-branch.invariant.stand c.in_ok-child.ensures.question c.in_ok-number.ensures c.in_ok-made.ensures.stands);
     }
 
 pub read-loop-branch-preserved : goal.read-loop-branch-preserved
@@ -133,6 +144,9 @@ read-loop-branch-preserved t c =
       serve = (serve_off c.args.search.now c.args.node.now.placing c.args.node.now.question (c.loop-branch.yielded ++ c.in-Some-branch.branch ∷ []) c.loop-branch.plans.items c.if-search.false);
       adds = reads_more s n c.args.side c.in-Some-flow_of.flow.now c.in-Some-case_of.case.now c.loop-branch.number c.in_ok-number.number c.loop-branch.yielded c.in-Some-branch.branch c.in_ok-child.child c.args.finds.now c.loop-branch.finds c.enter.new.finds c.requires c.in-Some-flow_of.ensures.among c.in-Some-flow_of.ensures.position c.in-Some-case_of.ensures.number c.loop-branch.invariant.adds c.in_ok-child.ensures.question c.in_ok-child.ensures.trail c.in_ok-number.ensures c.in_ok-made.ensures.broken;
       kept = (let b = c.in_ok-child.child in let k = c.loop-branch.invariant.kept in let m = broken_kept s (IsInCase s c.in-Some-case_of.case.now b.trail b.question) _ _ c.in_ok-made.ensures.broken in omega (arith, k, m));
+      stand = (let b = c.in_ok-child.child in
+          cases_more s n.question b.question c.in-Some-flow_of.flow.now c.in-Some-case_of.case.now c.loop-branch.number c.in_ok-number.number c.loop-branch.yielded c.in-Some-branch.branch c.args.finds.now c.loop-branch.finds c.enter.new.finds c.loop-branch.invariant.kept
+          (broken_kept s (IsInCase s c.in-Some-case_of.case.now b.trail b.question) _ _ c.in_ok-made.ensures.broken) c.in-Some-case_of.ensures.number c.loop-branch.invariant.stand c.in_ok-child.ensures.question c.in_ok-number.ensures c.in_ok-made.ensures.stands);
     }
 
 pub read-returns-clause-made : goal.read-returns-clause-made
@@ -300,7 +314,7 @@ cut-returns-clause-made t c =
     cut_made s k c.args.node c.loop-row.course rows c.args.kill.now c.in_ok-end.end c.in_ok-plan.plan all c.in_ok-end.ensures c.in_ok-plan.ensures
 
 pub cut_row-returns-then-standing-clause-made : goal.cut_row-returns-then-standing-clause-made
-cut_row-returns-then-standing-clause-made t c = cut_stays c.args.search.now c.args.case.now c.args.course c.args.row.now (c.in_ok-standing.ensures c.if-standing.true)
+cut_row-returns-then-standing-clause-made t c = cut_stays c.args.search.now c.args.case.now c.args.course c.args.row.now (c.in_ok-standing.ensures.stands c.if-standing.true)
 
 pub cut_row-returns-in_ok-next-in-Some-made-clause-made : goal.cut_row-returns-in_ok-next-in-Some-made-clause-made
 cut_row-returns-in_ok-next-in-Some-made-clause-made t c =
@@ -495,7 +509,10 @@ enter-returns-in-On-clause-broken t c =
     on_ok c.kills.result _ _ (start_broken c.args.search.now c.args.case.now v c.in-On.node _ _ opened.0 kept) c.kills.ensures.broken
 
 pub remainders-loop-rest-init : goal.remainders-loop-rest-init
-remainders-loop-rest-init t c = broken_none c.args.search.now (IsInCase c.args.search.now c.args.case.now c.args.node.now.trail c.args.node.now.question) _ _ refl
+remainders-loop-rest-init t c = record {
+  adds = broken_none c.args.search.now (IsInCase c.args.search.now c.args.case.now c.args.node.now.trail c.args.node.now.question) _ _ refl;
+  stand = pieces_none c.args.search.now c.args.node.now.question _ _;
+}
 
 pub visit-returns-in-Read-clause-broken : goal.visit-returns-in-Read-clause-broken
 visit-returns-in-Read-clause-broken t c =
@@ -518,7 +535,20 @@ visit-returns-in-Mismatch-clause-broken t c =
     on_ok c.mismatch.result _ _ (λ h. broken_past s v.trail v.question _ _ (c.claim_of.ensures.none c.in_default.is) (mismatch_broken s v.trail v.question _ _ (subst (λ (x : Next). IsKindThere s v.question x) c.in-Mismatch.is c.in_ok-next.ensures.kind) (subst (λ (x : Next). IsEndOfSteps s v.question x) c.in-Mismatch.is c.in_ok-next.ensures.ends) h)) c.mismatch.ensures.found
 
 pub remainders-loop-rest-preserved-in-Empty : goal.remainders-loop-rest-preserved-in-Empty
-remainders-loop-rest-preserved-in-Empty t c = c.loop-rest.invariant
+remainders-loop-rest-preserved-in-Empty t c =
+    let s = c.args.search.now in
+    let k = c.args.case.now in
+    let n = c.args.node.now in
+    let l = c.in_ok-left.left in
+    let r = c.rest-item.result in
+    let i = c.loop-rest.rest-index in
+    let more : take (i + 1) k.pieces ≡ take i k.pieces ++ r ∷ [] = subst (λ (xs : List Remainder). take (i + 1) xs ≡ take i xs ++ r ∷ []) c.as_slice-rest-items.ensures (next_item c.as_slice-rest-items.result.now i r c.loop-rest-test.true c.rest-item.is) in
+    let none = subst (λ (x : Opened). IsEmptyOpen l.question.conj x) c.in-Empty.is c.in_ok-question.ensures.none in
+    record {
+      adds = c.loop-rest.invariant.adds;
+      stand = pieces_more s n.question l.question (take i k.pieces) (take (i + 1) k.pieces) r c.args.finds.now c.loop-rest.finds c.loop-rest.finds more (broken_kept s (IsInCase s k n.trail n.question) _ _ c.loop-rest.invariant.adds) (omega arith) c.loop-rest.invariant.stand
+          c.in_ok-left.ensures.question (λ _. empty_stands s l.question none);
+    }
 
 pub remainders-loop-rest-preserved : goal.remainders-loop-rest-preserved
 remainders-loop-rest-preserved t c =
@@ -530,7 +560,13 @@ remainders-loop-rest-preserved t c =
     let among : IsAmong r k.pieces = subst (λ (xs : List Remainder). IsAmong r xs) c.as_slice-rest-items.ensures (in_read c.as_slice-rest-items.result.now c.loop-rest.rest-index r c.loop-rest-test.true c.rest-item.is) in
     let opened = subst (λ (x : Opened). IsOpen l.placing l.question x) c.in-On.is c.in_ok-question.ensures.open in
     let kept = subst (λ (x : Opened). KeepsTrail l x) c.in-On.is c.in_ok-question.ensures.trail in
-    piece_broken s k n l c.in-On.child r _ _ _ c.loop-rest.invariant among c.in_ok-left.ensures.question c.in_ok-left.ensures.trail opened.0 kept c.in_ok-_none-in-On.ensures.broken
+    let i = c.loop-rest.rest-index in
+    let more : take (i + 1) k.pieces ≡ take i k.pieces ++ r ∷ [] = subst (λ (xs : List Remainder). take (i + 1) xs ≡ take i xs ++ r ∷ []) c.as_slice-rest-items.ensures (next_item c.as_slice-rest-items.result.now i r c.loop-rest-test.true c.rest-item.is) in
+    record {
+      adds = piece_broken s k n l c.in-On.child r _ _ _ c.loop-rest.invariant.adds among c.in_ok-left.ensures.question c.in_ok-left.ensures.trail opened.0 kept c.in_ok-_none-in-On.ensures.broken;
+      stand = pieces_more s n.question l.question (take i k.pieces) (take (i + 1) k.pieces) r c.args.finds.now c.loop-rest.finds c.visit.new.finds more (broken_kept s (IsInCase s k n.trail n.question) _ _ c.loop-rest.invariant.adds)
+          (broken_kept s (IsAt s c.in-On.child.trail c.in-On.child.question) _ _ c.in_ok-_none-in-On.ensures.broken) c.loop-rest.invariant.stand c.in_ok-left.ensures.question (λ none. subst (StandsIn s) opened.0 (c.in_ok-_none-in-On.ensures.stands none));
+    }
 
 -- ---- missing plans
 
@@ -843,7 +879,7 @@ remainders-returns-in_err-_none-in-On-clause-full t c =
     let kept = subst (λ (x : Opened). KeepsTrail l x) c.in-On.is c.in_ok-question.ensures.trail in
     let stop = c.in_err-_none-in-On.field-0.0 in
     if_err (FullUnder s (IsInCase s k n.trail n.question) c.args.finds.now) c.from_residual-in_err-_none-in-On.result stop c.from_residual-in_err-_none-in-On.ensures.1
-    (full_piece s k n l c.in-On.child r c.args.finds.now c.loop-rest.finds c.loop-rest.invariant among c.in_ok-left.ensures.question c.in_ok-left.ensures.trail opened.0 kept stop c.in_err-_none-in-On.ensures.full)
+    (full_piece s k n l c.in-On.child r c.args.finds.now c.loop-rest.finds c.loop-rest.invariant.adds among c.in_ok-left.ensures.question c.in_ok-left.ensures.trail opened.0 kept stop c.in_err-_none-in-On.ensures.full)
 
 pub kills-returns-in_default-clause-full : goal.kills-returns-in_default-clause-full
 kills-returns-in_default-clause-full t c =
@@ -919,3 +955,71 @@ outside_of-returns-in-On-clause-full t c =
     let opened = subst (λ (x : Opened). IsOpen v.placing v.question x) c.in-On.is c.in_ok-question.ensures.open in
     let kept = subst (λ (x : Opened). KeepsTrail v x) c.in-On.is c.in_ok-question.ensures.trail in
     IfErr-weaker c.kills.result _ _ (full_fewer c.args.search.now c.args.case.now (c.args.number + 1) c.saturating_add.result v c.in-On.node c.args.finds.now (most c.args.number c.saturating_add.result c.saturating_add.ensures) opened.0 kept) c.kills.ensures.full
+
+-- ---- where no further path is found
+
+pub visit-returns-in-Read-clause-stands : goal.visit-returns-in-Read-clause-stands
+visit-returns-in-Read-clause-stands t c = c.read.ensures.stands (c.claim_of.ensures.none c.in_default.is)
+
+pub visit-returns-in-Calls-clause-stands : goal.visit-returns-in-Calls-clause-stands
+visit-returns-in-Calls-clause-stands t c = c.calls.ensures.stands (c.claim_of.ensures.none c.in_default.is)
+
+pub visit-returns-in-Match-clause-stands : goal.visit-returns-in-Match-clause-stands
+visit-returns-in-Match-clause-stands t c =
+    let s = c.args.search.now in
+    let q = c.args.node.question in
+    let targets = subst (λ (rows : List Row). AreTargets (judge_of s) s.claims.now q (Some rows)) (sym c.as_slice.ensures) (subst (λ (x : Next). IsMatchOf s q x) c.in-Match.is c.in_ok-next.ensures.targets) in
+    none_by c.stand.result s c.args.finds.now c.stand.new.finds _ _ (match_stands s q c.as_slice.result.now (c.claim_of.ensures.none c.in_default.is) targets) c.stand.ensures.met
+
+pub visit-returns-in-Mismatch-clause-stands : goal.visit-returns-in-Mismatch-clause-stands
+visit-returns-in-Mismatch-clause-stands t c = none_by c.mismatch.result c.args.search.now c.args.finds.now c.mismatch.new.finds _ _ (empty_stands c.args.search.now c.args.node.question) c.mismatch.ensures.empty
+
+pub calls-returns-then-search-clause-stands : goal.calls-returns-then-search-clause-stands
+calls-returns-then-search-clause-stands t c = λ goes none. absurd (not_making c.args.search.now _ _ c.if-search.true none)
+
+pub calls-returns-clause-stands : goal.calls-returns-clause-stands
+calls-returns-clause-stands t c =
+    let s = c.args.search.now in
+    let q = c.args.node.now.question in
+    let found = c.in-Some.found in
+    let v = c.into_vec-branch-items.result in
+    let it = c.into_iter-branch-iterator.result in
+    let many : into_iter_len it ≡ length v.items = c.into_iter-branch-iterator.ensures.into_iter_gives.1 ∙ v.ok.0 in
+    let y = YieldsList-end (YieldsList-from_vec {s = it} v.items c.into_iter-branch-iterator.ensures.into_iter_gives.0 many) c.loop-branch.yielded c.loop-branch.branch-iterator c.loop-branch.yielded_by c.next.result c.next.new.self c.in-None.is c.next.ensures.steps in
+    let all : c.loop-branch.yielded ≡ found = sym (map_itself c.loop-branch.yielded) ∙ y.0 ∙ c.into_vec-branch-items.ensures in
+    λ goes none.
+    calls_stand s q c.args.order found c.args.finds.now c.loop-branch.finds c.requires.kind c.requires.calls goes (subst (λ (o : Option (List Branch)). all_onto q o ≡ branches (judge_of s) c.args.order q) c.in-Some.is c.in_ok-found.ensures.value)
+    (subst (λ (bs : List Branch). BranchesStand s q bs c.args.finds.now c.loop-branch.finds) all c.loop-branch.invariant.stand) none
+
+pub read-returns-then-search-clause-stands : goal.read-returns-then-search-clause-stands
+read-returns-then-search-clause-stands t c = λ goes none. absurd (not_making c.args.search.now _ _ c.if-search.true none)
+
+pub read-returns-clause-stands : goal.read-returns-clause-stands
+read-returns-clause-stands t c =
+    let s = c.args.search.now in
+    let q = c.args.node.now.question in
+    let found = c.in-Some.found in
+    let v = c.into_vec-branch-items.result in
+    let it = c.into_iter-branch-iterator.result in
+    let many : into_iter_len it ≡ length v.items = c.into_iter-branch-iterator.ensures.into_iter_gives.1 ∙ v.ok.0 in
+    let y = YieldsList-end (YieldsList-from_vec {s = it} v.items c.into_iter-branch-iterator.ensures.into_iter_gives.0 many) c.loop-branch.yielded c.loop-branch.branch-iterator c.loop-branch.yielded_by c.next.result c.next.new.self c.in-None.is c.next.ensures.steps in
+    let all : c.loop-branch.yielded ≡ found = sym (map_itself c.loop-branch.yielded) ∙ y.0 ∙ c.into_vec-branch-items.ensures in
+    let flow = c.in-Some-flow_of.flow.now in
+    λ goes none.
+    reads_stand s q c.args.side flow c.loop-branch.number found c.args.finds.now c.loop-branch.finds c.requires c.in-Some-flow_of.ensures.among c.in-Some-flow_of.ensures.position goes
+    (subst (λ (o : Option (List Branch)). all_onto q o ≡ branches (judge_of s) Keep q) c.in-Some.is c.in_ok-found.ensures.value) (subst (λ (bs : List Branch). CasesStand s q flow c.loop-branch.number bs c.args.finds.now c.loop-branch.finds) all c.loop-branch.invariant.stand) none
+
+pub enter-returns-in-Empty-clause-stands : goal.enter-returns-in-Empty-clause-stands
+enter-returns-in-Empty-clause-stands t c = λ none. absurd (not_making c.args.search.now _ _ c.if-not-search.false none)
+
+pub enter-returns-in-On-clause-stands : goal.enter-returns-in-On-clause-stands
+enter-returns-in-On-clause-stands t c = off_making c.kills.result c.args.search.now c.args.finds.now c.kills.new.finds _ c.if-not-search.false
+
+pub remainders-returns-clause-stands : goal.remainders-returns-clause-stands
+remainders-returns-clause-stands t c =
+    let s = c.args.search.now in
+    let k = c.args.case.now in
+    let i = c.loop-rest.rest-index in
+    let slice = c.as_slice-rest-items.result.now in
+    let all : take i k.pieces ≡ k.pieces = subst (λ (xs : List Remainder). take i xs ≡ xs) c.as_slice-rest-items.ensures (take_all i slice c.loop-rest-test.false) in
+    pieces_all s k c.args.node.now.question (take i k.pieces) c.args.finds.now c.loop-rest.finds all c.loop-rest.invariant.stand

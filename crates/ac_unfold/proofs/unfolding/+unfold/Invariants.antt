@@ -6,6 +6,7 @@ use Rattle.ac_unfold.proofs.Coming.{AddsCalls, AddsReads}
 use Rattle.ac_unfold.specs.Passing.{GoesWithin, IsOutsideKills}
 use Rattle.ac_unfold.specs.Searching.{AddsBroken, IsInCase}
 use Rattle.ac_unfold.specs.Stops.{CutsOn}
+use Rattle.ac_unfold.proofs.Unbroken.{BranchesStand, CasesStand, PiecesStand}
 use Rattle.ac_unfold.proofs.unfolding.+unfold.Given as goal
 
 abbrev pub decreases-visit : goal.decreases-visit
@@ -46,6 +47,7 @@ invariant-calls-loop-branch l = record {
   serve : ServeBranches l.search l.node.placing l.node.question l.yielded l.cases.items;
   adds : AddsCalls l.search l.node l.order l.yielded l.fn.finds l.finds;
   kept : length l.fn.finds.paths ≤ length l.finds.paths;
+  stand : BranchesStand l.search l.node.question l.yielded l.fn.finds l.finds;
 }
 
 abbrev pub invariant-read-loop-branch : goal.invariant-read-loop-branch
@@ -53,6 +55,7 @@ invariant-read-loop-branch l = record {
   serve : ServeBranches l.search l.node.placing l.node.question l.yielded l.plans.items;
   adds : AddsReads l.search l.node l.number l.yielded l.fn.finds l.finds;
   kept : length l.fn.finds.paths ≤ length l.finds.paths;
+  stand : CasesStand l.search l.node.question l.flow l.number l.yielded l.fn.finds l.finds;
 }
 
 abbrev pub invariant-cut-loop-row : goal.invariant-cut-loop-row
@@ -70,4 +73,7 @@ invariant-outsides-loop-part l = record {
 }
 
 abbrev pub invariant-remainders-loop-rest : goal.invariant-remainders-loop-rest
-invariant-remainders-loop-rest l = AddsBroken l.search (IsInCase l.search l.case l.node.trail l.node.question) l.fn.finds l.finds
+invariant-remainders-loop-rest l = record {
+  adds : AddsBroken l.search (IsInCase l.search l.case l.node.trail l.node.question) l.fn.finds l.finds;
+  stand : PiecesStand l.search l.node.question (take l.rest-index l.case.pieces) l.fn.finds l.finds;
+}

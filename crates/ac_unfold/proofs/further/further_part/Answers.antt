@@ -4,8 +4,8 @@ use Rattle.ac_leading.specs.Ends.{entries_at}
 use Rattle.ac_unfold.specs.Making.{judge_of}
 use Rattle.ac_unfold.specs.Searching.{IsNone, IsPointIn}
 use Rattle.ac_unfold.proofs.Adding.{adds_none, beside_some, found_at}
-use Rattle.ac_unfold.proofs.Further.{on_ok, point_in}
-use Rattle.ac_unfold.proofs.ends.further_part.Goals as goal
+use Rattle.ac_unfold.proofs.Beyond.{on_ok, point_in}
+use Rattle.ac_unfold.proofs.further.further_part.Goals as goal
 
 pub returns-then-is_some : goal.returns-then-is_some
 returns-then-is_some c = adds_none _ _ _ _ refl

@@ -5,7 +5,7 @@ use Rattle.ac_unfold.specs.Searching.{IsNone}
 use Rattle.ac_unfold.proofs.Adding.{adds_none}
 use Rattle.ac_unfold.proofs.Failing.{breaking_all, breaking_more}
 use Rattle.ac_unfold.proofs.Results.{next_item}
-use Rattle.ac_unfold.proofs.ends.further_rows.Goals as goal
+use Rattle.ac_unfold.proofs.further.further_rows.Goals as goal
 
 pub loop-row-init : goal.loop-row-init
 loop-row-init c = adds_none _ _ _ _ refl

@@ -4,7 +4,7 @@ use Rattle.ac_unfold.specs.Making.{judge_of}
 use Rattle.ac_unfold.specs.Searching.{IsNone}
 use Rattle.ac_unfold.proofs.Adding.{adds_none, beside_all, beside_more}
 use Rattle.ac_unfold.proofs.Results.{next_item}
-use Rattle.ac_unfold.proofs.ends.further_parts.Goals as goal
+use Rattle.ac_unfold.proofs.further.further_parts.Goals as goal
 
 pub loop-part-init : goal.loop-part-init
 loop-part-init c = adds_none _ _ _ _ refl

@@ -1,6 +1,6 @@
 use Rattle.std.proofs.Common.{refl}
 use Rattle.ac_unfold.proofs.Adding.{adds_none}
-use Rattle.ac_unfold.proofs.ends.further_row.Goals as goal
+use Rattle.ac_unfold.proofs.further.further_row.Goals as goal
 
 pub returns-then-standing : goal.returns-then-standing
 returns-then-standing c = adds_none _ _ _ _ refl

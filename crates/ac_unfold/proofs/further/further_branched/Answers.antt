@@ -5,7 +5,7 @@ use Rattle.ac_unfold.specs.Making.{judge_of}
 use Rattle.ac_unfold.specs.Searching.{IsNone}
 use Rattle.ac_unfold.proofs.Adding.{adds_none}
 use Rattle.ac_unfold.proofs.Failing.{breaking_beside}
-use Rattle.ac_unfold.proofs.ends.further_branched.Goals as goal
+use Rattle.ac_unfold.proofs.further.further_branched.Goals as goal
 
 pub parts_of-requires : goal.parts_of-requires
 parts_of-requires c = c.requires.over
