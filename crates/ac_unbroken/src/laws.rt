@@ -8,8 +8,8 @@ pub fn standing_starts_are_fine()
     ensures { StandingStartsAreFine }
 {}
 
-/// So no trail of the unfolding comes to a pair that matches nothing, and none to a pair at which its claim fails, where no two claims are
-/// of the same positions.
+/// So, where each call that is executed has as many arguments as its symbol says, no trail of the unfolding comes to a pair that matches
+/// nothing, and none to a pair at which its claim fails, if no two claims are of the same positions.
 pub fn nothing_is_broken()
     ensures { NothingIsBroken }
 {}
