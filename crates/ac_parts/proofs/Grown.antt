@@ -15,7 +15,7 @@ use Rattle.ac_claims.proofs.DueForms.{all_both}
 use Rattle.ac_decided.specs.Stopping.{key_of}
 use Rattle.ac_plans.specs.Due.{AreNumbered, StartsAccepted, pieces_of}
 use Rattle.ac_parts.specs.Growing.{StaysPlanned, StaysStopping}
-use Rattle.ac_parts.specs.Plans.{IsTreeAccepted, due_numbers, numbers_of}
+use Rattle.ac_parts.specs.Plans.{ArePlanned, IsClaimPlanned, IsTreeAccepted, numbers_of}
 use Rattle.ac_parts.specs.Stopping.{StopsFrom, TreeStops}
 use Rattle.ac_parts.specs.declared.types.Part.{Part}
 use Rattle.ac_parts.proofs.Dues.{numbers_more}
@@ -31,22 +31,20 @@ accepted_each g cs n claim [] there h a = tt
 accepted_each g cs n claim (t ∷ ts) there h a =
     ((λ c e. subst (λ (z : Claim). StartsAccepted g cs z t) (some-is claim c (sym there ∙ ap (slice_get cs) (sym h.0) ∙ e)) a.0), accepted_each g cs n claim ts there h.1 a.1)
 
+-- with a claim that has its plans, all claims have theirs
+pub planned_more : (g : Pairing) (cs : List Claim) (first : ℕ) (claims : List Claim) (plans : List ClaimTree) (claim : Claim) (trees : List ClaimTree) → ArePlanned g cs first claims plans → IsClaimPlanned g cs (first + length claims) claim trees → ArePlanned g cs first (claims ++ claim ∷ []) (plans ++ trees)
+planned_more g cs first claims plans claim trees p c =
+    let n = first + length claims in
+    record {
+      made = all_both (IsClaimMade g) claims (claim ∷ []) p.made (c.made, tt);
+      due = map-append numbers_of plans trees ∙ (λ i. p.due i ++ (numbered n trees c.numbered ∙ ap (map (λ (q : ℕ × ℕ). (n, q.0, q.1))) c.pieces) i) ∙ sym (numbers_more g first claims claim);
+      accepted = all_both (IsTreeAccepted g cs) plans trees p.accepted (accepted_each g cs n claim trees c.there c.numbered c.accepted);
+    }
+
 pub stays_planned : (part longer : Part) (claim : Claim) (trees : List ClaimTree) → longer.claims.items ≡ part.claims.items ++ claim ∷ [] → longer.trees.items ≡ part.trees.items ++ trees → StaysPlanned part claim trees longer
 stays_planned part longer claim trees ec et g cs first p c =
-    let n = first + length part.claims.items in
-    let all = part.claims.items ++ claim ∷ [] in
-    let plans = part.trees.items ++ trees in
-    let due : map numbers_of plans ≡ due_numbers g first all =
-    map-append numbers_of part.trees.items trees
-    ∙ (λ i. p.due i ++ (numbered n trees c.numbered ∙ ap (map (λ (q : ℕ × ℕ). (n, q.0, q.1))) c.pieces) i)
-    ∙ sym (numbers_more g first part.claims.items claim) in
-    let made = all_both (IsClaimMade g) part.claims.items (claim ∷ []) p.made (c.made, tt) in
-    let accepted = all_both (IsTreeAccepted g cs) part.trees.items trees p.accepted (accepted_each g cs n claim trees c.there c.numbered c.accepted) in
-    record {
-      made = subst (AllByRecursion (IsClaimMade g)) (sym ec) made;
-      due = ap (map numbers_of) et ∙ due ∙ ap (due_numbers g first) (sym ec);
-      accepted = subst (AllByRecursion (IsTreeAccepted g cs)) (sym et) accepted;
-    }
+    let more = planned_more g cs first part.claims.items part.trees.items claim trees p c in
+    subst (λ (xs : List Claim). ArePlanned g cs first xs longer.trees.items) (sym ec) (subst (ArePlanned g cs first (part.claims.items ++ claim ∷ [])) (sym et) more)
 
 stops_each : (pair : Pair) (order : Position × Position → Order) (recurrent : Position × Position → Bool) (numbers : ℕ → Bool) (cs : List Claim) (n : ℕ) (claim : Claim) (ts : List ClaimTree) → slice_get cs n ≡ Some claim → AllByRecursion (λ (t : ClaimTree). t.claim ≡ n) ts
     → AllByRecursion (λ (t : ClaimTree). StopsFrom pair order recurrent numbers (key_of claim) t.tree) ts → AllByRecursion (TreeStops pair order recurrent numbers cs) ts
@@ -54,9 +52,14 @@ stops_each pair order recurrent numbers cs n claim [] there h s = tt
 stops_each pair order recurrent numbers cs n claim (t ∷ ts) there h s =
     ((λ c e. subst (λ (z : Claim). StopsFrom pair order recurrent numbers (key_of z) t.tree) (some-is claim c (sym there ∙ ap (slice_get cs) (sym h.0) ∙ e)) s.0), stops_each pair order recurrent numbers cs n claim ts there h.1 s.1)
 
+-- with plans that stop from the pair of their claim on, all plans stop
+pub stopping_more : (pair : Pair) (order : Position × Position → Order) (recurrent : Position × Position → Bool) (numbers : ℕ → Bool) (cs : List Claim) (n : ℕ) (claim : Claim) (plans trees : List ClaimTree) → AllByRecursion (TreeStops pair order recurrent numbers cs) plans → slice_get cs n ≡ Some claim
+    → AllByRecursion (λ (t : ClaimTree). t.claim ≡ n) trees → AllByRecursion (λ (t : ClaimTree). StopsFrom pair order recurrent numbers (key_of claim) t.tree) trees → AllByRecursion (TreeStops pair order recurrent numbers cs) (plans ++ trees)
+stopping_more pair order recurrent numbers cs n claim plans trees s there h own = all_both (TreeStops pair order recurrent numbers cs) plans trees s (stops_each pair order recurrent numbers cs n claim trees there h own)
+
 pub stays_stopping : (part longer : Part) (claim : Claim) (trees : List ClaimTree) → longer.trees.items ≡ part.trees.items ++ trees → StaysStopping part claim trees longer
 stays_stopping part longer claim trees et pair order recurrent numbers cs n s there h own =
-    subst (AllByRecursion (TreeStops pair order recurrent numbers cs)) (sym et) (all_both (TreeStops pair order recurrent numbers cs) part.trees.items trees s (stops_each pair order recurrent numbers cs n claim trees there h own))
+    subst (AllByRecursion (TreeStops pair order recurrent numbers cs)) (sym et) (stopping_more pair order recurrent numbers cs n claim part.trees.items trees s there h own)
 
 -- ---- the claims of a part behind others: the output's, then those of recurrence pairs
 

@@ -1,5 +1,5 @@
 -- The part of an output that stands.
-use Rattle.std.proofs.Common.{◌≡◌, ◌⊎◌, inl, inr, ◌<◌, ◌&&◌, ℕ, zero, suc, ◌+◌, List, ◌∷◌, ◌++◌, append_assoc, length, length-append, take, drop, Bool, true, false, Some, nat_le, refl, sym, ap, subst, ◌∙◌, arith}
+use Rattle.std.proofs.Common.{◌≡◌, ◌⊎◌, inl, inr, ◌<◌, ◌&&◌, ℕ, zero, suc, ◌+◌, List, [], ◌∷◌, ◌++◌, append_assoc, length, length-append, take, drop, Bool, true, false, Some, nat_le, refl, sym, ap, subst, ◌∙◌, arith}
 use Rattle.std.specs.Prelude.{slice_get}
 use Rattle.std.specs.List.{AllByRecursion}
 use Rattle.std.proofs.lemmas.Bool.{le-leb}
@@ -37,13 +37,13 @@ use Rattle.ac_parts.specs.Parts.{in_part}
 use Rattle.ac_parts.specs.Plans.{ArePlanned, IsTreeAccepted}
 use Rattle.ac_parts.specs.Stopping.{TreeStops}
 use Rattle.ac_parts.specs.declared.types.Part.{Part}
-use Rattle.ac_search.specs.Planning.{HaveClaims, IsBegun, IsPartly, IsPlanned, IsPlannedTo}
+use Rattle.ac_search.specs.Planning.{AreApart, HaveClaims, IsBegun, IsPartly, IsPlanned, IsPlannedTo}
 use Rattle.ac_search.specs.Ranks.{AreClaimsAt, AreRanks}
 use Rattle.ac_search.specs.Searches.{IsFound, IsKnownUnder, IsSearch, rows_at}
 use Rattle.ac_search.specs.declared.planning.Planning.{Planning}
 use Rattle.ac_search.specs.declared.planning.Planning.TheVariants as planning
 use Rattle.ac_search.specs.declared.types.Search.{Search}
-use Rattle.ac_search.proofs.Lists.{all_both, among_map, among_take, get_among, get_front, get_map, take_rest}
+use Rattle.ac_search.proofs.Lists.{all_both, among_both, among_map, among_take, get_among, get_front, get_map, take_rest}
 use Rattle.ac_search.proofs.Programs.{recurring, template_is}
 use Rattle.ac_search.proofs.Ranked.{claim_of_key, counted, key_has_claim}
 
@@ -155,20 +155,33 @@ own_cut s order all part partly hits =
 
 -- ---- the part
 
-module _ (s : Search) (order : List (Site × Order)) (known : Known) (numbers : List ℕ) (claims : List Claim) (is : IsSearch s) (k : IsKnownUnder s order known) (at : AreClaimsAt known.keys.items numbers claims) where
-  among_own : (count : ℕ) (part : Part) (b : IsBegun s order claims count part) (c : Claim) → IsAmong c part.claims.items → (c ≡ b.output) ⊎ IsAmong c claims
-  among_own count part b c i = among_take (b.output ∷ claims) (length part.claims.items) c (subst (IsAmong c) b.partly.claims i)
+-- the claims of the keys, and behind them tabled ones, none of which is of a pair up to which the search goes
+module _ (s : Search) (order : List (Site × Order)) (known : Known) (numbers : List ℕ) (claims tabled : List Claim) (is : IsSearch s) (k : IsKnownUnder s order known) (at : AreClaimsAt known.keys.items numbers claims) (apart : AreApart s tabled) where
+  among_own : (count : ℕ) (part : Part) (b : IsBegun s order claims tabled count part) (c : Claim) → IsAmong c part.claims.items → (c ≡ b.output) ⊎ (IsAmong c claims ⊎ IsAmong c tabled)
+  among_own count part b c i = by (among_take (b.output ∷ (claims ++ tabled)) (length part.claims.items) c (subst (IsAmong c) b.partly.claims i))
+    where
+      by : (c ≡ b.output) ⊎ IsAmong c (claims ++ tabled) → (c ≡ b.output) ⊎ (IsAmong c claims ⊎ IsAmong c tabled)
+      by (inl e) = inl e
+      by (inr m) = inr (among_both claims tabled c m)
 
   not_output : (w : Widening) (output : Claim) → IsElementClaim s.pair.now s.array output → IsWideningOf s.pair.now w → ¬ (w.recurrent (key_of output) ≡ true)
   not_output w output e v = no_output s w output is v e.left_is e.right_is
 
-  alone : (count : ℕ) (part : Part) (b : IsBegun s order claims count part) (w : Widening) → IsWideningOf s.pair.now w → (c d : Claim) → IsAmong c part.claims.items → IsAmong d part.claims.items → w.recurrent (key_of c) ≡ true → key_of c ≡ key_of d → c ≡ d
+  not_tabled : (w : Widening) (c : Claim) → IsWideningOf s.pair.now w → IsAmong c tabled → ¬ (w.recurrent (key_of c) ≡ true)
+  not_tabled w c v i recurs = apart c i (key_of c) (is.stops w v (key_of c) recurs) refl
+
+  alone : (count : ℕ) (part : Part) (b : IsBegun s order claims tabled count part) (w : Widening) → IsWideningOf s.pair.now w → (c d : Claim) → IsAmong c part.claims.items → IsAmong d part.claims.items → w.recurrent (key_of c) ≡ true → key_of c ≡ key_of d → c ≡ d
   alone count part b w v c d i j recurs same = by (among_own count part b c i) (among_own count part b d j)
     where
-      by : (c ≡ b.output) ⊎ IsAmong c claims → (d ≡ b.output) ⊎ IsAmong d claims → c ≡ d
+      other_recurs : w.recurrent (key_of d) ≡ true
+      other_recurs = subst (λ (key : Position × Position). w.recurrent key ≡ true) same recurs
+
+      by : (c ≡ b.output) ⊎ (IsAmong c claims ⊎ IsAmong c tabled) → (d ≡ b.output) ⊎ (IsAmong d claims ⊎ IsAmong d tabled) → c ≡ d
       by (inl e) f = absurd (not_output w b.output b.is_output v (subst (λ (x : Claim). w.recurrent (key_of x) ≡ true) e recurs))
-      by (inr m) (inl f) = absurd (not_output w b.output b.is_output v (subst (λ (x : Claim). w.recurrent (key_of x) ≡ true) f (subst (λ (key : Position × Position). w.recurrent key ≡ true) same recurs)))
-      by (inr m) (inr n) =
+      by (inr (inr m)) f = absurd (not_tabled w c v m recurs)
+      by (inr (inl m)) (inl f) = absurd (not_output w b.output b.is_output v (subst (λ (x : Claim). w.recurrent (key_of x) ≡ true) f other_recurs))
+      by (inr (inl m)) (inr (inr n)) = absurd (not_tabled w d v n other_recurs)
+      by (inr (inl m)) (inr (inl n)) =
           let of = claim_of_key known.keys.items numbers claims c at m in
           let other = claim_of_key known.keys.items numbers claims d at n in
           let one : positions of.1.0 ≡ positions other.1.0 = sym (ap key_of of.1.2) ∙ same ∙ ap key_of other.1.2 in
@@ -176,21 +189,22 @@ module _ (s : Search) (order : List (Site × Order)) (known : Known) (numbers : 
           let other_place : slice_get (pairs_of known) other.0 ≡ Some (positions of.1.0) = get_map positions known.keys.items other.0 other.1.0 other.1.1 ∙ ap Some (sym one) in
           of.1.2 ∙ ap claim_of (one_key known of.0 other.0 of.1.0 other.1.0 of.1.1 other.1.1 (k.right.distinct of.0 other.0 (positions of.1.0) place other_place)) ∙ sym other.1.2
 
-  rows : (count : ℕ) (part : Part) (b : IsBegun s order claims count part) (w : Widening) → IsWideningOf s.pair.now w → (c : Claim) → IsAmong c part.claims.items → w.recurrent (key_of c) ≡ true → Each (IsClaimRow (rows_at s.pair.now w (key_of c))) c.rows
+  rows : (count : ℕ) (part : Part) (b : IsBegun s order claims tabled count part) (w : Widening) → IsWideningOf s.pair.now w → (c : Claim) → IsAmong c part.claims.items → w.recurrent (key_of c) ≡ true → Each (IsClaimRow (rows_at s.pair.now w (key_of c))) c.rows
   rows count part b w v c i recurs = by (among_own count part b c i)
     where
-      by : (c ≡ b.output) ⊎ IsAmong c claims → Each (IsClaimRow (rows_at s.pair.now w (key_of c))) c.rows
+      by : (c ≡ b.output) ⊎ (IsAmong c claims ⊎ IsAmong c tabled) → Each (IsClaimRow (rows_at s.pair.now w (key_of c))) c.rows
       by (inl e) = absurd (not_output w b.output b.is_output v (subst (λ (x : Claim). w.recurrent (key_of x) ≡ true) e recurs))
-      by (inr m) =
+      by (inr (inr m)) = absurd (not_tabled w c v m recurs)
+      by (inr (inl m)) =
           let of = claim_of_key known.keys.items numbers claims c at m in
           subst (λ (x : Claim). Each (IsClaimRow (rows_at s.pair.now w (key_of x))) x.rows) (sym of.1.2) (key_rows s order known w of.1.0 is k v (get_among known.keys.items of.0 of.1.0 of.1.1))
 
-  found_by : (count : ℕ) (part : Part) → IsBegun s order claims count part → IsOwn s order part → IsFound s.pair.now (order_of order) s.array s.first part
+  found_by : (count : ℕ) (part : Part) → IsBegun s order claims tabled count part → IsOwn s order part → IsFound s.pair.now (order_of order) s.array s.first part
   found_by count part b own = record {
     is_part = λ before len. record {
       among = is.output;
       claim = b.output;
-      first = subst (λ cs. slice_get cs 0 ≡ Some b.output) (sym b.partly.claims) (head_taken b.output claims (length part.claims.items) (let n = b.counted in omega (arith, n)));
+      first = subst (λ cs. slice_get cs 0 ≡ Some b.output) (sym b.partly.claims) (head_taken b.output (claims ++ tabled) (length part.claims.items) (let n = b.counted in omega (arith, n)));
       output = b.is_output.output;
       planned = subst (λ (n : ℕ). ArePlanned (programs_of s.pair.now) (before ++ part.claims.items) n part.claims.items part.trees.items) (sym len) (own.planned before len);
     };
@@ -201,15 +215,23 @@ module _ (s : Search) (order : List (Site × Order)) (known : Known) (numbers : 
     };
   }
 
-  pub found_cut : (count : ℕ) (part : Part) → IsBegun s order claims count part → TreesHitWithin (s.first + length part.claims.items) part.trees.items → IsFound s.pair.now (order_of order) s.array s.first part
-  found_cut count part b hits = found_by count part b (own_cut s order (b.output ∷ claims) part b.partly hits)
+  pub found_cut : (count : ℕ) (part : Part) → IsBegun s order claims tabled count part → TreesHitWithin (s.first + length part.claims.items) part.trees.items → IsFound s.pair.now (order_of order) s.array s.first part
+  found_cut count part b hits = found_by count part b (own_cut s order (b.output ∷ (claims ++ tabled)) part b.partly hits)
 
-  pub found_whole : (part : Part) → IsBegun s order claims (length numbers) part → length numbers ≡ length claims → IsFound s.pair.now (order_of order) s.array s.first part
-  found_whole part b long =
-      let count : length part.claims.items ≡ length (b.output ∷ claims) = (let n = b.counted in omega (arith, n, long)) in
-      found_by (length numbers) part b (own_whole s order (b.output ∷ claims) part b.partly count)
+  pub found_whole : (count : ℕ) (part : Part) → IsBegun s order claims tabled count part → count ≡ length (claims ++ tabled) → IsFound s.pair.now (order_of order) s.array s.first part
+  found_whole count part b long =
+      let whole : length part.claims.items ≡ length (b.output ∷ (claims ++ tabled)) = (let n = b.counted in omega (arith, n, long)) in
+      found_by count part b (own_whole s order (b.output ∷ (claims ++ tabled)) part b.partly whole)
 
-  -- what comes of the plans of all of them
-  pub found_all : (count : ℕ) (made : Planning) → count ≡ length numbers → IsPlannedTo s order known claims count made → IsPlanned s order known made
-  found_all count (planning.Part part) e h = found_whole part (subst (λ (n : ℕ). IsBegun s order claims n part) e h) (counted known.keys.items numbers claims at)
-  found_all count (planning.Broken from path) e h = h
+-- where nothing is tabled
+pub nothing_apart : (s : Search) → AreApart s []
+nothing_apart s c i key j = absurd i
+
+-- what comes of the plans of all of them
+pub found_all : (s : Search) (order : List (Site × Order)) (known : Known) (numbers : List ℕ) (claims : List Claim) (count : ℕ) (made : Planning) → IsSearch s → IsKnownUnder s order known → AreClaimsAt known.keys.items numbers claims → count ≡ length numbers
+    → IsPlannedTo s order known claims [] count made → IsPlanned s order known made
+found_all s order known numbers claims count (planning.Part part) is k at e h =
+    let long : length numbers ≡ length claims = counted known.keys.items numbers claims at in
+    let none : length (claims ++ []) ≡ length claims + 0 = length-append claims [] in
+    found_whole s order known numbers claims [] is k at (nothing_apart s) count part h (omega (arith, e, long, none))
+found_all s order known numbers claims count (planning.Broken from path) is k at e h = h

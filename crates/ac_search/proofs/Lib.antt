@@ -8,3 +8,4 @@ pub mod Added
 pub mod Found
 pub mod Planned
 pub mod Stopped
+pub mod Tabled

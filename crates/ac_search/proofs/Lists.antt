@@ -1,5 +1,5 @@
 -- Lists, by their places and their members.
-use Rattle.std.proofs.Common.{◌≡◌, inl, inr, ◌<◌, ℕ, zero, suc, ◌+◌, List, [], ◌∷◌, ◌++◌, take, drop, map, length, get_or, Some, refl, sym, ap, subst, ◌∙◌, arith}
+use Rattle.std.proofs.Common.{◌≡◌, ◌⊎◌, inl, inr, ◌<◌, ℕ, zero, suc, ◌+◌, List, [], ◌∷◌, ◌++◌, take, drop, map, length, get_or, Some, refl, sym, ap, subst, ◌∙◌, arith}
 use Rattle.std.specs.Prelude.{slice_get}
 use Rattle.std.specs.List.{AllByRecursion}
 use Rattle.ac_forms.specs.Members.{IsAmong}
@@ -54,6 +54,15 @@ pub get_front : {A : Type 0} (xs ys : List A) (i : ℕ) (x : A) → slice_get xs
 get_front [] ys i x e = absurd cc
 get_front (z ∷ xs) ys zero x e = e
 get_front (z ∷ xs) ys (suc i) x e = get_front xs ys i x e
+
+pub among_both : {A : Type 0} (xs ys : List A) (x : A) → IsAmong x (xs ++ ys) → IsAmong x xs ⊎ IsAmong x ys
+among_both [] ys x i = inr i
+among_both (z ∷ xs) ys x (inl e) = inl (inl e)
+among_both (z ∷ xs) ys x (inr i) = by (among_both xs ys x i)
+  where
+    by : IsAmong x xs ⊎ IsAmong x ys → IsAmong x (z ∷ xs) ⊎ IsAmong x ys
+    by (inl j) = inl (inr j)
+    by (inr j) = inr j
 
 pub get_map : {A B : Type 0} (f : A → B) (xs : List A) (i : ℕ) (x : A) → slice_get xs i ≡ Some x → slice_get (map f xs) i ≡ Some (f x)
 get_map f [] i x e = absurd cc

@@ -1,5 +1,5 @@
 -- Plans of the output and of claims, start by start.
-use Rattle.std.proofs.Common.{◌≡◌, inl, inr, ◌<◌, ℕ, suc, ◌+◌, List, [], ◌∷◌, length, map, Some, None, get_or, sym, ap, subst, ◌∙◌, arith}
+use Rattle.std.proofs.Common.{◌≡◌, inl, inr, ◌<◌, ℕ, suc, ◌+◌, List, [], ◌∷◌, ◌++◌, length, map, Some, None, get_or, sym, ap, subst, ◌∙◌, arith}
 use Rattle.std.specs.Prelude.{slice_get}
 use Rattle.std.specs.List.{AllByRecursion}
 use Rattle.ac_forms.specs.Members.{IsAmong}
@@ -26,7 +26,7 @@ use Rattle.ac_search.specs.Ranks.{AreClaimsAt, AreRanks}
 use Rattle.ac_search.specs.Searches.{IsKnownUnder}
 use Rattle.ac_search.specs.Taking.{AreBrokenFrom}
 use Rattle.ac_search.specs.declared.types.Search.{Search}
-use Rattle.ac_search.proofs.Lists.{all_map, among_map, get_among, get_some}
+use Rattle.ac_search.proofs.Lists.{all_map, among_map, get_among, get_front, get_some}
 use Rattle.ac_search.proofs.Ranked.{claim_of_key, claim_there, key_has_claim}
 
 -- ---- the same claims in another order
@@ -82,10 +82,11 @@ module _ (s : Search) (order : List (Site × Order)) (known : Known) (numbers : 
 
 -- ---- the next claim
 
-pub next_begun : (s : Search) (order : List (Site × Order)) (claims : List Claim) (at : ℕ) (part longer : Part) (start : Claim) → slice_get claims at ≡ Some start → IsBegun s order claims at part → AddsNext s order claims start part longer → IsBegun s order claims (at + 1) longer
-next_begun s order claims at part longer start e b adds =
+pub next_begun : (s : Search) (order : List (Site × Order)) (claims tabled : List Claim) (at : ℕ) (part longer : Part) (start : Claim) → slice_get claims at ≡ Some start → IsBegun s order claims tabled at part → AddsNext s order (claims ++ tabled) start part longer
+    → IsBegun s order claims tabled (at + 1) longer
+next_begun s order claims tabled at part longer start e b adds =
     let place : length part.claims.items ≡ suc at = (let n = b.counted in omega (arith, n)) in
-    let next : slice_get (b.output ∷ claims) (length part.claims.items) ≡ Some start = ap (λ (n : ℕ). slice_get (b.output ∷ claims) n) place ∙ e in
+    let next : slice_get (b.output ∷ (claims ++ tabled)) (length part.claims.items) ≡ Some start = ap (λ (n : ℕ). slice_get (b.output ∷ (claims ++ tabled)) n) place ∙ get_front claims tabled at start e in
     let grown = adds b.output next b.partly in
     record { output = b.output; is_output = b.is_output; partly = grown.0; counted = (let n = b.counted in let m = grown.1 in omega (arith, n, m)) }
 

@@ -33,17 +33,21 @@ use Rattle.ac_search.specs.declared.types.Search.{Search}
 abbrev pub HaveClaims : List (Position × Position) → List Claim → Type 0
 HaveClaims keys claims = (key : Position × Position) → IsAmong key keys → (c : Claim) × IsAmong c claims × (key_of c ≡ key)
 
+-- none of the claims is of a pair up to which the search goes
+abbrev pub AreApart : Search → List Claim → Type 0
+AreApart s tabled = (c : Claim) → IsAmong c tabled → (key : Position × Position) → IsAmong key s.stops.now → ¬ (key_of c ≡ key)
+
 -- a part with the first of some claims, behind others: each has its plans, which end at claims of these, and stop at the recurrence pairs
 pub record IsPartly (s : Search) (order : List (Site × Order)) (all : List Claim) (part : Part) : Type 0 where
   pub claims : part.claims.items ≡ take (length part.claims.items) all
   pub planned : (before : List Claim) → length before ≡ s.first → ArePlanned (programs_of s.pair.now) (before ++ all) s.first part.claims.items part.trees.items
   pub stops : (before : List Claim) → length before ≡ s.first → (w : Widening) → IsWideningOf s.pair.now w → AllByRecursion (TreeStops s.pair.now (order_of order) w.recurrent (in_part s.first (length all)) (before ++ all)) part.trees.items
 
--- it has the claim of the output, and the first ones of the others, so many
-pub record IsBegun (s : Search) (order : List (Site × Order)) (claims : List Claim) (count : ℕ) (part : Part) : Type 0 where
+-- it has the claim of the output, and the first ones of the others, so many; the plans may end at tabled claims behind all of them
+pub record IsBegun (s : Search) (order : List (Site × Order)) (claims tabled : List Claim) (count : ℕ) (part : Part) : Type 0 where
   pub output : Claim
   pub is_output : IsElementClaim s.pair.now s.array output
-  pub partly : IsPartly s order (output ∷ claims) part
+  pub partly : IsPartly s order (output ∷ (claims ++ tabled)) part
   pub counted : length part.claims.items ≡ count + 1
 
 -- ---- claim by claim
@@ -52,27 +56,27 @@ pub record IsBegun (s : Search) (order : List (Site × Order)) (claims : List Cl
 abbrev pub IsBrokenBy : Search → List (Site × Order) → List Claim → Claim → List Entry → Type 0
 IsBrokenBy s order claims start path = (u : Unfolding) → IsUnfoldingOf s.setting.now start order u → IsBroken u claims path
 
--- the next one of the claims is added
+-- the next one of all claims is added
 abbrev pub AddsNext : Search → List (Site × Order) → List Claim → Claim → Part → Part → Type 0
-AddsNext s order claims start part longer =
-    (output : Claim) → slice_get (output ∷ claims) (length part.claims.items) ≡ Some start → IsPartly s order (output ∷ claims) part → IsPartly s order (output ∷ claims) longer × (length longer.claims.items ≡ length part.claims.items + 1)
+AddsNext s order all start part longer =
+    (output : Claim) → slice_get (output ∷ all) (length part.claims.items) ≡ Some start → IsPartly s order (output ∷ all) part → IsPartly s order (output ∷ all) longer × (length longer.claims.items ≡ length part.claims.items + 1)
 
 -- a start is added, with its plans; or it is broken
-abbrev pub IsAdded : Search → List (Site × Order) → List Claim → Claim → Part → Added → Type 0
-IsAdded s order claims start part (added.Part longer) = AddsNext s order claims start part longer
-IsAdded s order claims start part (added.Broken path) = IsBrokenBy s order claims start path
+abbrev pub IsAdded : Search → List (Site × Order) → List Claim → List Claim → Claim → Part → Added → Type 0
+IsAdded s order claims tabled start part (added.Part longer) = AddsNext s order (claims ++ tabled) start part longer
+IsAdded s order claims tabled start part (added.Broken path) = IsBrokenBy s order claims start path
 
 -- the output is, as the first one
-abbrev pub IsFirstAdded : Search → List (Site × Order) → List Claim → Added → Type 0
-IsFirstAdded s order claims (added.Part part) = IsBegun s order claims 0 part
-IsFirstAdded s order claims (added.Broken path) = (output : Claim) × IsElementClaim s.pair.now s.array output × IsBrokenBy s order claims output path
+abbrev pub IsFirstAdded : Search → List (Site × Order) → List Claim → List Claim → Added → Type 0
+IsFirstAdded s order claims tabled (added.Part part) = IsBegun s order claims tabled 0 part
+IsFirstAdded s order claims tabled (added.Broken path) = (output : Claim) × IsElementClaim s.pair.now s.array output × IsBrokenBy s order claims output path
 
 -- ---- all of them
 
 -- so many claims have their plans; or a path is broken
-abbrev pub IsPlannedTo : Search → List (Site × Order) → Known → List Claim → ℕ → Planning → Type 0
-IsPlannedTo s order known claims count (planning.Part part) = IsBegun s order claims count part
-IsPlannedTo s order known claims count (planning.Broken from path) = AreBrokenFrom s order known from (path ∷ [])
+abbrev pub IsPlannedTo : Search → List (Site × Order) → Known → List Claim → List Claim → ℕ → Planning → Type 0
+IsPlannedTo s order known claims tabled count (planning.Part part) = IsBegun s order claims tabled count part
+IsPlannedTo s order known claims tabled count (planning.Broken from path) = AreBrokenFrom s order known from (path ∷ [])
 
 abbrev pub IsPlanned : Search → List (Site × Order) → Known → Planning → Type 0
 IsPlanned s order known (planning.Part part) = IsFound s.pair.now (order_of order) s.array s.first part

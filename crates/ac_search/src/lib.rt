@@ -7,6 +7,7 @@ mod marks;
 mod planning;
 mod ranking;
 mod stops;
+mod tabling;
 mod taking;
 pub mod types;
 mod walking;

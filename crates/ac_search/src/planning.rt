@@ -10,6 +10,7 @@ ghost use Rattle.ac_search.specs.Stops.{EndsEarly, EndsEarlyBy, EndsEarlyFirst};
 
 use crate::ranking::{claims_at, ranked};
 use crate::stops::{Stop, of_unfolding};
+use crate::tabling::part_tabled;
 use crate::types::Search;
 use ac_claims::types::Claim;
 use ac_hits::trees_hit_within;
@@ -42,7 +43,7 @@ pub(crate) enum Planning {
 }
 
 /// The sum of two numbers.
-fn sum(first: usize, second: usize) -> Result<usize, AllocError>
+pub(crate) fn sum(first: usize, second: usize) -> Result<usize, AllocError>
     ensures { IfOk result (λ all. all ≡ first + second) }
 {
     match first.checked_add(second) {
@@ -57,18 +58,20 @@ fn add(
     search: &Search<'_>,
     order: &[(Site, Order)],
     claims: &[Claim],
+    tabled: &[Claim],
     part: Part,
     start: Claim,
 ) -> Result<Added, Stop>
     requires search { IsSearch search.now }
     requires claims { HaveClaims search.now.stops.now claims.now }
     requires start { AreRowsOver (point_width search.now.pair.now (key_of start)) start.rows }
-    ensures added { IfOk result (IsAdded search.now order.now claims.now start part) }
+    ensures added { IfOk result (IsAdded search.now order.now claims.now tabled.now start part) }
     ensures causes { IfErr result (EndsEarlyBy search.now order.now claims.now start) }
 {
     let number = sum(search.first, part.claims.len())?;
     let base = sum(search.first, 1)?;
-    match claim_trees(alloc, search.setting, number, &start, base, claims, order) {
+    let setting = search.setting;
+    match claim_trees(alloc, setting, number, &start, base, claims, tabled, order) {
         Ok(Planned::Plans(trees)) => Ok(Added::Part(with_claim(part, start, trees)?)),
         Ok(Planned::Broken(path)) => Ok(Added::Broken(path)),
         Err(stop) => Err(of_unfolding(stop)),
@@ -81,24 +84,27 @@ fn begin(
     search: &Search<'_>,
     order: &[(Site, Order)],
     claims: &[Claim],
+    tabled: &[Claim],
 ) -> Result<Added, Stop>
     requires search { IsSearch search.now }
     requires claims { HaveClaims search.now.stops.now claims.now }
-    ensures added { IfOk result (IsFirstAdded search.now order.now claims.now) }
+    ensures added { IfOk result (IsFirstAdded search.now order.now claims.now tabled.now) }
     ensures causes { IfErr result (EndsEarlyFirst search.now order.now claims.now) }
 {
     let output = output_claim(alloc, &search.setting.programs, search.array)?;
-    add(alloc, search, order, claims, no_part(alloc), output)
+    add(alloc, search, order, claims, tabled, no_part(alloc), output)
 }
 
-/// The part of the output, and of the first of the claims of keys with these numbers.
-fn part_to(
+/// The part of the output, and of the first of the claims of keys with these numbers, whose plans may end at tabled claims behind all of
+/// these.
+pub(crate) fn part_to(
     alloc: Global,
     search: &Search<'_>,
     order: &[(Site, Order)],
     known: &Known,
     numbers: &[usize],
     claims: &[Claim],
+    tabled: &[Claim],
     count: usize,
 ) -> Result<Planning, Stop>
     requires search { IsSearch search.now }
@@ -106,10 +112,10 @@ fn part_to(
     requires ranks { AreRanks known.now.keys.items numbers.now }
     requires claims { AreClaimsAt known.now.keys.items numbers.now claims.now }
     requires count { count ≤ length numbers.now }
-    ensures planned { IfOk result (IsPlannedTo search.now order.now known.now claims.now count) }
+    ensures planned { IfOk result (IsPlannedTo search.now order.now known.now claims.now tabled.now count) }
     ensures causes { IfErr result (EndsEarly search.now order.now) }
 {
-    let mut part = match begin(alloc, search, order, claims)? {
+    let mut part = match begin(alloc, search, order, claims, tabled)? {
         Added::Part(part) => part,
         Added::Broken(path) => return Ok(Planning::Broken(None, path)),
     };
@@ -117,7 +123,7 @@ fn part_to(
     for at in 0..count {
         let number = numbers[at];
         let start = keys[number].claim(alloc)?;
-        match add(alloc, search, order, claims, part, start)? {
+        match add(alloc, search, order, claims, tabled, part, start)? {
             Added::Part(longer) => {
                 part = longer;
                 continue;
@@ -146,14 +152,14 @@ fn part_with(
     ensures planned { IfOk result (IsPlanned search.now order.now known.now) }
     ensures causes { IfErr result (EndsEarly search.now order.now) }
 {
-    match part_to(alloc, search, order, known, numbers, claims, count)? {
+    match part_to(alloc, search, order, known, numbers, claims, &[], count)? {
         Planning::Part(part) => {
             let limit = sum(search.first, part.claims.len())?;
             if trees_hit_within(part.trees.as_slice(), limit) {
                 return Ok(Planning::Part(part));
             }
             let all = numbers.len();
-            let planned = part_to(alloc, search, order, known, numbers, claims, all)?;
+            let planned = part_to(alloc, search, order, known, numbers, claims, &[], all)?;
             Ok(planned)
         }
         Planning::Broken(from, path) => Ok(Planning::Broken(from, path)),
@@ -161,7 +167,8 @@ fn part_with(
 }
 
 /// The part of the output, where it stands with the claims of the keys: its claim, those of the keys that have members, and their
-/// plans; or a path that is broken. The claims of the other keys are behind them only if a plan ends at one.
+/// plans; or a path that is broken. The claims of the other keys are behind them only if a plan ends at one, or where pairs are tabled:
+/// then the tabled claims are behind all of them.
 pub(crate) fn plan(
     alloc: Global,
     search: &Search<'_>,
@@ -177,6 +184,9 @@ pub(crate) fn plan(
     let ranks = ranked(alloc, keys)?;
     let numbers = ranks.numbers.as_slice();
     let claims = claims_at(alloc, keys, numbers)?;
+    if search.tabling {
+        return part_tabled(alloc, search, order, known, numbers, claims);
+    }
     let count = ranks.count.min(numbers.len());
     part_with(
         alloc,

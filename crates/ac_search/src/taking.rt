@@ -1,20 +1,29 @@
 //! Unfoldings of the output and of claims, and the broken paths that they find.
-ghost use Rattle.std.specs.Prelude.{◌≡◌, ◌<◌, length, IfOk, IfErr, IfSome};
+ghost use Rattle.std.specs.Prelude.{◌≡◌, ◌<◌, [], ◌∷◌, length, IfOk, IfErr, IfSome};
+ghost use Rattle.std.specs.List.{AllByRecursion};
+ghost use Rattle.ac_leading.specs.Broken.{IsBroken};
+ghost use Rattle.ac_leading.specs.Leading.{Unfolding};
+ghost use Rattle.ac_unfold.specs.Causes.{StopsUnfolding};
+ghost use Rattle.ac_unfold.specs.Unfoldings.{IsUnfoldingOf};
+ghost use Rattle.ac_rounds.specs.Known.{claims_of};
 ghost use Rattle.ac_rounds.specs.Rounds.{IfKnown, IfMismatch};
 ghost use Rattle.ac_search.specs.Searches.{IsKnownUnder, IsSearch, ShowMismatch};
 ghost use Rattle.ac_search.specs.Stops.{EndsEarly};
 ghost use Rattle.ac_search.specs.Taking.{AreBrokenFrom, start_among};
 
 use crate::stops::{Stop, of_hull, of_unfolding};
+use crate::tabling::table_of;
 use crate::types::Search;
 use ac_claims::types::Claim;
 use ac_items::Items;
 use ac_parts::output_claim;
 use ac_rounds::{Known, Round};
 use ac_syntax::tree::{Order, Site};
+use ac_tables::unfold as unfold_with;
 use ac_unfold::broken_paths;
+use ac_unfold::types::{Planned, UnfoldStop};
 use ac_widen::Entry;
-use std::alloc::Global;
+use std::alloc::{AllocError, Global};
 
 /// Takes broken paths of one start.
 pub(crate) fn take(
@@ -49,6 +58,52 @@ fn start_among<'a>(output: &'a Claim, claims: &'a [Claim], from: Option<usize>) 
     }
 }
 
+/// One path alone.
+pub(crate) fn alone(alloc: Global, path: Items<Entry>) -> Result<Items<Items<Entry>>, AllocError>
+    ensures { IfOk result (λ paths. paths ≡ path ∷ []) }
+{
+    let mut paths = Items::new(alloc);
+    paths.push(path)?;
+    Ok(paths)
+}
+
+/// The broken path that an unfolding with a table finds from a start, if there is one.
+fn tabled_path(
+    alloc: Global,
+    search: &Search<'_>,
+    order: &[(Site, Order)],
+    claims: Vec<Claim>,
+    start: &Claim,
+) -> Result<Items<Items<Entry>>, UnfoldStop>
+    ensures broken { IfOk result (λ paths. (u : Unfolding) → IsUnfoldingOf search.now.setting.now start.now order.now u → AllByRecursion (IsBroken u claims.items) paths) }
+    ensures causes { IfErr result (StopsUnfolding search.now.setting.now start.now claims.items order.now) }
+{
+    let mut table = table_of(alloc, 1, claims, order)?;
+    match unfold_with(alloc, search.setting, 0, start, &mut table)? {
+        Planned::Plans(_) => Ok(Items::new(alloc)),
+        Planned::Broken(path) => Ok(alone(alloc, path)?),
+    }
+}
+
+/// Broken paths from a start: those that one unfolding finds; where pairs are tabled, one at most.
+fn paths_from(
+    alloc: Global,
+    search: &Search<'_>,
+    order: &[(Site, Order)],
+    known: &Known,
+    claims: &[Claim],
+    start: &Claim,
+) -> Result<Items<Items<Entry>>, UnfoldStop>
+    requires { claims.now ≡ claims_of known.now }
+    ensures broken { IfOk result (λ paths. (u : Unfolding) → IsUnfoldingOf search.now.setting.now start.now order.now u → AllByRecursion (IsBroken u claims.now) paths) }
+    ensures causes { IfErr result (StopsUnfolding search.now.setting.now start.now claims.now order.now) }
+{
+    if search.tabling {
+        return tabled_path(alloc, search, order, known.claims(alloc)?, start);
+    }
+    broken_paths(alloc, search.setting, start, claims, order)
+}
+
 /// Unfolds the output, or the claim of the key with a number, and takes the paths that are broken.
 pub(crate) fn unfold(
     alloc: Global,
@@ -67,7 +122,7 @@ pub(crate) fn unfold(
     let output = output_claim(alloc, &search.setting.programs, search.array)?;
     let claims = known.claims(alloc)?;
     let start = start_among(&output, claims.as_slice(), from);
-    let paths = match broken_paths(alloc, search.setting, start, claims.as_slice(), order) {
+    let paths = match paths_from(alloc, search, order, &known, claims.as_slice(), start) {
         Ok(paths) => paths,
         Err(stop) => return Err(of_unfolding(stop)),
     };

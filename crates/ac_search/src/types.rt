@@ -16,6 +16,8 @@ pub struct Search<'a> {
     pub stops: &'a [(Position, Position)],
     /// The number that the claim of the output gets in the proof.
     pub first: usize,
+    /// Whether pairs of calls are tabled: each is proved once for each relation in which paths come to it.
+    pub tabling: bool,
 }
 
 /// How the search under one order ends.

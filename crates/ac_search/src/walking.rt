@@ -1,5 +1,5 @@
 //! The search under one order, turn by turn.
-ghost use Rattle.std.specs.Prelude.{◌≡◌, ◌<◌, [], ◌∷◌, IfOk, IfErr, IfSome, length};
+ghost use Rattle.std.specs.Prelude.{◌<◌, IfOk, IfErr, IfSome, length};
 ghost use Rattle.ac_search.specs.Ends.{IsEnd, IsTurn, TurnsOn};
 ghost use Rattle.ac_search.specs.Searches.{IsKnownUnder, IsSearch};
 ghost use Rattle.ac_search.specs.Stops.{EndsEarly};
@@ -7,12 +7,11 @@ ghost use Rattle.ac_search.specs.Stops.{EndsEarly};
 use crate::marks::{Marks, first_marks, marked, waiting};
 use crate::planning::{Planning, plan};
 use crate::stops::Stop;
-use crate::taking::{take, unfold};
+use crate::taking::{alone, take, unfold};
 use crate::types::{Ended, Search};
-use ac_items::Items;
 use ac_rounds::{Known, Round};
 use ac_syntax::tree::{Order, Site};
-use ac_widen::{Derivation, Entry};
+use ac_widen::Derivation;
 use std::alloc::{AllocError, Global};
 
 /// What is known under an order, and which starts were seen to stand.
@@ -62,15 +61,6 @@ fn turn_from(
     let State { known, marks } = state;
     let round = unfold(alloc, search, order, known, from)?;
     Ok(turn_of(round, marks, from))
-}
-
-/// One path alone.
-fn alone(alloc: Global, path: Items<Entry>) -> Result<Items<Items<Entry>>, AllocError>
-    ensures { IfOk result (λ paths. paths ≡ path ∷ []) }
-{
-    let mut paths = Items::new(alloc);
-    paths.push(path)?;
-    Ok(paths)
 }
 
 /// Plans the output and the claims, where all were seen to stand.

@@ -1,5 +1,6 @@
 //! Calls on what the search widens by, as cases of text: hulls of points, template rows, orders of sites, the graph of a
-//! pair of programs, the sources of a program's reads at a valuation, and the plans and broken paths of a claim.
+//! pair of programs, the sources of a program's reads at a valuation, the plans and broken paths of a claim, and what is tabled on
+//! the way from it.
 //!
 //! Columns are `c0`, `c1` and so on. A point is `(3, -1)`, with a number for each column. A program is a quoted text, and where
 //! a pair is wanted, one text alone stands for the program against itself.
@@ -15,6 +16,7 @@ mod orders;
 mod positions;
 mod shown;
 mod sources;
+mod tables;
 mod templates;
 mod traced;
 mod unfolding;
@@ -35,6 +37,7 @@ pub fn answer(
             || graphs::answer(alloc, call, words, out)?
             || orders::answer(alloc, call, words, out)?
             || traced::answer(alloc, call, words, out)?
-            || unfolding::answer(alloc, call, words, out)?,
+            || unfolding::answer(alloc, call, words, out)?
+            || tables::answer(alloc, call, words, out)?,
     )
 }

@@ -10,10 +10,12 @@ use ac_case_text::{CaseStop, Words};
 use ac_claims::domains::size_at;
 use ac_claims::starts::start_columns;
 use ac_claims::types::Claim;
+use ac_flow::types::Flow;
 use ac_forms::Row;
 use ac_items::Items;
 use ac_parts::output_claim;
 use ac_paths::path::Programs;
+use ac_poly::types::Model;
 use ac_syntax::tree::Pair;
 use ac_unfold::types::{Planned, Setting, UnfoldStop};
 use ac_unfold::{broken_paths, claim_trees};
@@ -62,17 +64,28 @@ fn show(
     let right = lowered_under(alloc, &pair.right, &pair.context)?;
     let left_flow = flow_of_model(alloc, &left)?;
     let right_flow = flow_of_model(alloc, &right)?;
-    let setting = Setting {
+    let setting = setting_of(pair, &left, &right, &left_flow, &right_flow);
+    show_from(alloc, &setting, call, words, out)
+}
+
+/// What is known of a pair: its models under its context, and their flows.
+pub(crate) fn setting_of<'a>(
+    pair: &'a Pair,
+    left: &'a Model,
+    right: &'a Model,
+    left_flow: &'a Flow,
+    right_flow: &'a Flow,
+) -> Setting<'a> {
+    Setting {
         programs: Programs {
-            left: &left,
-            right: &right,
+            left,
+            right,
             commutative: pair.commutative.as_slice(),
         },
-        left_flow: &left_flow,
-        right_flow: &right_flow,
+        left_flow,
+        right_flow,
         budget: BUDGET,
-    };
-    show_from(alloc, &setting, call, words, out)
+    }
 }
 
 /// Adds what comes of the start that a call names.
@@ -104,7 +117,11 @@ fn are_over(columns: usize, rows: &[Row]) -> bool {
 }
 
 /// Whether a claim is one of the programs' positions, over their coordinates.
-fn is_claim(alloc: Global, programs: &Programs<'_>, claim: &Claim) -> Result<bool, AllocError> {
+pub(crate) fn is_claim(
+    alloc: Global,
+    programs: &Programs<'_>,
+    claim: &Claim,
+) -> Result<bool, AllocError> {
     let left = size_at(alloc, programs.left, &claim.left)?;
     let right = size_at(alloc, programs.right, &claim.right)?;
     match (left, right) {
@@ -126,7 +143,7 @@ fn show_unfolded(
     if !is_claim(alloc, &setting.programs, start)? {
         return Err(CaseStop::Malformed("a claim on the pair"));
     }
-    match claim_trees(alloc, setting, 0, start, 1, claims, &[]) {
+    match claim_trees(alloc, setting, 0, start, 1, claims, &[], &[]) {
         Ok(planned) => push_planned(out, &planned)?,
         Err(stop) => push_stop(out, stop)?,
     }
@@ -137,14 +154,14 @@ fn show_unfolded(
     }
 }
 
-fn push_planned(out: &mut String, planned: &Planned) -> Result<(), AllocError> {
+pub(crate) fn push_planned(out: &mut String, planned: &Planned) -> Result<(), AllocError> {
     match planned {
         Planned::Plans(trees) => push_counts(out, trees.as_slice()),
         Planned::Broken(_) => out.push_str("no plans"),
     }
 }
 
-fn push_stop(out: &mut String, stop: UnfoldStop) -> Result<(), CaseStop> {
+pub(crate) fn push_stop(out: &mut String, stop: UnfoldStop) -> Result<(), CaseStop> {
     out.push_str(match stop {
         UnfoldStop::Overflow(_) => "overflow",
         UnfoldStop::Spent { .. } => "spent",

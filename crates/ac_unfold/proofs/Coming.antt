@@ -340,7 +340,7 @@ get_middle : (q : Path) (xs rest : List Branch) (b : Branch) → slice_get (map 
 get_middle q [] rest b = refl
 get_middle q (x ∷ xs) rest b = get_middle q xs rest b
 
-length_last : (xs : List Branch) (b : Branch) → length (xs ++ b ∷ []) ≡ length xs + 1
+pub length_last : (xs : List Branch) (b : Branch) → length (xs ++ b ∷ []) ≡ length xs + 1
 length_last [] b = refl
 length_last (x ∷ xs) b = ap suc (length_last xs b) ∙ omega arith
 

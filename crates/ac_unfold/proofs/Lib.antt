@@ -26,3 +26,4 @@ pub mod Tracing
 pub mod Unmatched
 pub mod Yielding
 pub mod Unbroken
+pub mod Tabled

@@ -1,7 +1,7 @@
 -- Rows that stand at the end of a path, and what the end is then.
 use Rattle.std.proofs.Common.{◌≡◌, ℕ, ◌+◌, ◌&&◌, Bool, true, false, cond, List, [], ◌∷◌, ◌++◌, Some, None, sym, ap, ◌∙◌, subst, arith}
 use Rattle.std.proofs.lemmas.Bool.Decides.{nat_tests}
-use Rattle.std.specs.Prelude.{nat_eq, slice_get}
+use Rattle.std.specs.Prelude.{nat_eq, length, slice_get}
 use Rattle.ac_forms.specs.Affine.{Affine}
 use Rattle.ac_forms.specs.Renaming.{rows_renaming}
 use Rattle.ac_forms.specs.Rows.{IsWellMade}
@@ -21,9 +21,10 @@ use Rattle.ac_ends.specs.Standing.{RowsStandAlong}
 use Rattle.ac_ends.proofs.Carrying.{standing_along}
 use Rattle.ac_ends.proofs.Ending.{cells_plans, hits_plans, numbers_plans}
 use Rattle.ac_decided.specs.Stopping.{key_at}
+use Rattle.ac_plans.specs.Due.{AreNumbered}
 use Rattle.ac_plan_stops.proofs.Stopping.{hits_stop, initial_cells_stop, numbers_stop}
-use Rattle.ac_unfold.specs.Cutting.{IsClaimBehind}
-use Rattle.ac_unfold.specs.Making.{judge_of, AreStanding, EndsWhere, IsEndFor}
+use Rattle.ac_unfold.specs.Cutting.{columns_there, IsClaimBehind, IsNumbered, IsTabledBehind}
+use Rattle.ac_unfold.specs.Making.{judge_of, AreStanding, EndsWhere, IsEndFor, IsGiven}
 use Rattle.ac_unfold.specs.Stopping.{IsUnclaimed, StopsIn}
 use Rattle.ac_unfold.specs.declared.ends.Search.{Search}
 use Rattle.ac_unfold.proofs.Stops.{may_go}
@@ -83,25 +84,37 @@ forms_same q n m fs gs xs ys e f g =
 
 -- ---- claims
 
-claims_end : (search : Search) (q : Path) (number : ℕ) (claim : Claim) (rows : List Row) → IsClaimBehind search q number → slice_get search.claims.now number ≡ Some claim
-    → Some rows ≡ rows_renaming (base (judge_of search).params ++ (columns_of q.left ++ columns_of q.right)) claim.rows → EndsWhere search q rows (Hit (search.base + number))
+-- a hit on a claim of the pair of a question behind a step, numbered so among all claims
+numbered_end : (search : Search) (q : Path) (first : ℕ) (claims : List Claim) (number : ℕ) (claim : Claim) (rows : List Row) → q.gone ≡ true → IsNumbered claims q.left.position q.right.position number → slice_get claims number ≡ Some claim
+    → Some rows ≡ rows_renaming (columns_there search q) claim.rows → ((cs : List Claim) → IsGiven search cs → AreNumbered first claims cs) → EndsWhere search q rows (Hit (first + number))
 unfolding EndsWhere
-claims_end search q number claim rows there is e cs s c t given formed standing end =
+numbered_end search q first claims number claim rows gone there is e numbered cs s c t given formed standing end =
     let g = judge_of search in
-    let same : there.at.claim ≡ claim = some_is there.at.claim claim (sym there.at.is ∙ is) in
+    let same : there.claim ≡ claim = some_is there.claim claim (sym there.is ∙ is) in
     let v = at_rows q c in
     let at : IsClaimAt g.params v claim rows = subst (λ (x : Claim). IsClaimAt g.params v x rows) same (record {
-      gone = there.gone;
-      left = there.at.left_is;
-      right = there.at.right_is;
+      gone = gone;
+      left = there.left_is;
+      right = there.right_is;
       rows = ap (λ (x : Claim). rows_renaming (base g.params ++ (columns_of q.left ++ columns_of q.right)) x.rows) same ∙ sym e;
     }) in
-    hits_plans g cs s v claim (search.base + number) rows t at (given.numbered number claim is) (rows_along g.params s v rows formed.made standing) end
+    hits_plans g cs s v claim (first + number) rows t at (numbered cs given number claim is) (rows_along g.params s v rows formed.made standing) end
   where
     some_is : (x y : Claim) → Some x ≡ Some y → x ≡ y
     some_is x y e = cc
 
 pub claim_ends : (search : Search) (q : Path) (number : ℕ) (claim : Claim) (rows : List Row) → IsClaimBehind search q number → slice_get search.claims.now number ≡ Some claim
-    → Some rows ≡ rows_renaming (base (judge_of search).params ++ (columns_of q.left ++ columns_of q.right)) claim.rows → IsEndFor search q rows (Hit (search.base + number))
+    → Some rows ≡ rows_renaming (columns_there search q) claim.rows → IsEndFor search q rows (Hit (search.base + number))
 unfolding StopsIn
-claim_ends search q number claim rows there is e = record { ends = claims_end search q number claim rows there is e; stops = λ making g at. hits_stop g (key_at q) q.gone (search.base + number) (at.part number claim is) }
+claim_ends search q number claim rows there is e = record {
+  ends = numbered_end search q search.base search.claims.now number claim rows there.gone there.at is e (λ cs given. given.numbered);
+  stops = λ making g at. hits_stop g (key_at q) q.gone (search.base + number) (at.part number claim is);
+}
+
+pub tabled_ends : (search : Search) (q : Path) (number : ℕ) (claim : Claim) (rows : List Row) → IsTabledBehind search q number → slice_get search.tabled.now number ≡ Some claim
+    → Some rows ≡ rows_renaming (columns_there search q) claim.rows → IsEndFor search q rows (Hit (search.base + length search.claims.now + number))
+unfolding StopsIn
+tabled_ends search q number claim rows there is e = record {
+  ends = numbered_end search q (search.base + length search.claims.now) search.tabled.now number claim rows there.gone there.at is e (λ cs given. given.tabled);
+  stops = λ making g at. hits_stop g (key_at q) q.gone (search.base + length search.claims.now + number) (at.tabled_part number claim is);
+}

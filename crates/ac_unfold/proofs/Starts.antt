@@ -110,26 +110,29 @@ begun_more search start trees t h b = record {
 pub begun_none : (search : Search) (start : Claim) (trees : List ClaimTree) → trees ≡ [] → AreBegun search start trees
 begun_none search start trees e = subst (AreBegun search start) (sym e) (record { accepted = λ cs given. tt; stop = tt })
 
-pub accepted_by : (search : Search) (setting : Setting) (base : ℕ) (claims : List Claim) (start : Claim) (trees : List ClaimTree) → search.setting.now ≡ setting → search.base ≡ base → search.claims.now ≡ claims → search.making ≡ true → AreBegun search start trees → IsSettled setting
-    → (cs : List Claim) → AreNumbered base claims cs → AllByRecursion (StartsAccepted (pairing setting.programs) cs start) trees
-accepted_by search setting base claims start trees e b k m h settled cs numbered =
+pub accepted_by : (search : Search) (setting : Setting) (base : ℕ) (claims tabled : List Claim) (start : Claim) (trees : List ClaimTree) → search.setting.now ≡ setting → search.base ≡ base → search.claims.now ≡ claims → search.tabled.now ≡ tabled → search.making ≡ true
+    → AreBegun search start trees → IsSettled setting → (cs : List Claim) → AreNumbered base claims cs → AreNumbered (base + length claims) tabled cs → AllByRecursion (StartsAccepted (pairing setting.programs) cs start) trees
+accepted_by search setting base claims tabled start trees e b k t m h settled cs numbered behind =
     let given : IsGiven search cs = record {
       making = m;
       settled = subst IsSettled (sym e) settled;
       numbered = subst (λ (n : ℕ). AreNumbered n search.claims.now cs) (sym b) (subst (λ (xs : List Claim). AreNumbered base xs cs) (sym k) numbered);
+      tabled = subst (λ (n : ℕ). AreNumbered (n + length search.claims.now) search.tabled.now cs) (sym b)
+          (subst (λ (xs : List Claim). AreNumbered (base + length xs) search.tabled.now cs) (sym k) (subst (λ (xs : List Claim). AreNumbered (base + length claims) xs cs) (sym t) behind));
     } in
     subst (λ (x : Setting). AllByRecursion (StartsAccepted (pairing x.programs) cs start) trees) e (h.accepted cs given)
 
-pub stopped_by : (search : Search) (setting : Setting) (order : List (Site × Order)) (base : ℕ) (claims : List Claim) (start : Claim) (trees : List ClaimTree) → search.setting.now ≡ setting → search.order.now ≡ order → search.base ≡ base → search.claims.now ≡ claims → search.making ≡ true
-    → AreBegun search start trees → (g : Stopped) → IsStoppedAt setting order base claims g → AllByRecursion (λ (t : ClaimTree). StopsFrom g (key_of start) t.tree) trees
+pub stopped_by : (search : Search) (setting : Setting) (order : List (Site × Order)) (base : ℕ) (claims tabled : List Claim) (start : Claim) (trees : List ClaimTree) → search.setting.now ≡ setting → search.order.now ≡ order → search.base ≡ base → search.claims.now ≡ claims
+    → search.tabled.now ≡ tabled → search.making ≡ true → AreBegun search start trees → (g : Stopped) → IsStoppedAt setting order base claims tabled g → AllByRecursion (λ (t : ClaimTree). StopsFrom g (key_of start) t.tree) trees
 unfolding StopsAtStart
-stopped_by search setting order base claims start trees e o b k m h g at = each trees h.stop
+stopped_by search setting order base claims tabled start trees e o b k t m h g at = each trees h.stop
   where
     there : IsStoppedIn search g
     there =
-        subst (λ (x : Setting). IsStoppedAt x search.order.now search.base search.claims.now g) (sym e)
-        (subst (λ (x : List (Site × Order)). IsStoppedAt setting x search.base search.claims.now g) (sym o)
-        (subst (λ (x : ℕ). IsStoppedAt setting order x search.claims.now g) (sym b) (subst (λ (x : List Claim). IsStoppedAt setting order base x g) (sym k) at)))
+        subst (λ (x : Setting). IsStoppedAt x search.order.now search.base search.claims.now search.tabled.now g) (sym e)
+        (subst (λ (x : List (Site × Order)). IsStoppedAt setting x search.base search.claims.now search.tabled.now g) (sym o)
+        (subst (λ (x : ℕ). IsStoppedAt setting order x search.claims.now search.tabled.now g) (sym b)
+        (subst (λ (x : List Claim). IsStoppedAt setting order base x search.tabled.now g) (sym k) (subst (λ (x : List Claim). IsStoppedAt setting order base claims x g) (sym t) at))))
 
     each : (ts : List ClaimTree) → AllByRecursion (λ (t : ClaimTree). StopsAtStart search start t.tree) ts → AllByRecursion (λ (t : ClaimTree). StopsFrom g (key_of start) t.tree) ts
     each [] s = tt

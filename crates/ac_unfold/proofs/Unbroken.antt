@@ -61,7 +61,7 @@ use Rattle.ac_unfold.specs.Unfoldings.{IsUnfoldingOf}
 use Rattle.ac_unfold.specs.declared.ends.Search.{Search}
 use Rattle.ac_unfold.specs.declared.kinds.Next.TheVariants as next
 use Rattle.ac_unfold.specs.declared.types.Setting.{Setting}
-use Rattle.ac_unfold.proofs.Coming.{is_of, params_are}
+use Rattle.ac_unfold.proofs.Coming.{is_of, length_last, params_are}
 use Rattle.ac_unfold.proofs.Failing.{class_fails}
 use Rattle.ac_unfold.proofs.Results.{in_get}
 use Rattle.ac_unfold.proofs.Stopped.{targets_by}
@@ -285,10 +285,6 @@ CasesStand search q read number found before after =
 pub cases_none : (search : Search) (q : Path) (read : ReadFlow) (before after : Found) → CasesStand search q read 0 [] before after
 unfolding CasesStand
 cases_none search q read before after = (refl, λ none n b e. absurd cc)
-
-length_last : (xs : List Branch) (b : Branch) → length (xs ++ b ∷ []) ≡ length xs + 1
-length_last [] b = refl
-length_last (x ∷ xs) b = ap suc (length_last xs b) ∙ omega arith
 
 pub cases_more : (search : Search) (q child : Path) (read : ReadFlow) (case : Case) (number next_number : ℕ) (found : List Branch) (b : Branch) (before now after : Found) → length before.paths ≤ length now.paths → length now.paths ≤ length after.paths → slice_get read.cases number ≡ Some case
     → CasesStand search q read number found before now → child ≡ onto q b → next_number ≡ number + 1 → (FindsNone search now after → CaseStands search case child) → CasesStand search q read next_number (found ++ b ∷ []) before after

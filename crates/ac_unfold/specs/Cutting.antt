@@ -8,6 +8,7 @@ use Rattle.ac_forms.specs.declared.row.Row.{Row}
 use Rattle.ac_syntax.specs.declared.tree.Order.{Order}
 use Rattle.ac_syntax.specs.declared.tree.Order.TheVariants.{Keep}
 use Rattle.ac_syntax.specs.declared.tree.Position.{Position}
+use Rattle.ac_paths.specs.Columns.{base, columns_of}
 use Rattle.ac_paths.specs.Formed.{AllFormed, HasModuli, IsFormed}
 use Rattle.ac_paths.specs.Going.{Pairing, branches, model_of}
 use Rattle.ac_paths.specs.Killing.{case_columns, case_width}
@@ -53,6 +54,15 @@ pub record IsNumbered (claims : List Claim) (left right : Position) (number : �
 pub record IsClaimBehind (search : Search) (q : Path) (number : ℕ) : Type 0 where
   pub gone : q.gone ≡ true
   pub at : IsNumbered search.claims.now q.left.position q.right.position number
+
+-- and at those of the tabled claim with the number
+pub record IsTabledBehind (search : Search) (q : Path) (number : ℕ) : Type 0 where
+  pub gone : q.gone ≡ true
+  pub at : IsNumbered search.tabled.now q.left.position q.right.position number
+
+-- the columns of a question in which the rows of a claim stand at its pair: those of the parameters and of both positions
+abbrev pub columns_there : Search → Path → List ℕ
+columns_there search q = base (judge_of search).params ++ (columns_of q.left ++ columns_of q.right)
 
 -- ---- kinds
 

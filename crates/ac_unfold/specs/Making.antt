@@ -1,5 +1,5 @@
 -- What the functions of an unfolding promise of the plans that they make.
-use Rattle.std.specs.Prelude.{◌≡◌, ◌≤◌, true, List, length, Some, IfSome}
+use Rattle.std.specs.Prelude.{◌≡◌, ◌≤◌, ◌+◌, true, List, length, Some, IfSome}
 use Rattle.std.specs.List.{AllByRecursion}
 use Rattle.ac_forms.specs.Rows.{form_of}
 use Rattle.ac_forms.specs.Standing.{stands}
@@ -39,11 +39,12 @@ use Rattle.ac_unfold.specs.declared.ends.Search.{Search}
 abbrev pub judge_of : Search → Pairing
 judge_of search = pairing search.setting.now.programs
 
--- plans are made, and the claims of the search have their numbers among these
+-- plans are made, and the claims of the search have their numbers among these, the tabled ones behind the others
 pub record IsGiven (search : Search) (cs : List Claim) : Type 0 where
   pub making : search.making ≡ true
   pub settled : IsSettled search.setting.now
   pub numbered : AreNumbered search.base search.claims.now cs
+  pub tabled : AreNumbered (search.base + length search.claims.now) search.tabled.now cs
 
 -- a plan for the question so placed, against whatever pair and claims: it shows that the question has no point, and stops anywhere
 pub record IsRefuted (s : Placing) (q : Path) (t : Plan) : Type 0 where

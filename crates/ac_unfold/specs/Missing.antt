@@ -1,9 +1,9 @@
 -- Where plans are made, one is missing only where a path was found.
-use Rattle.std.specs.Prelude.{◌≡◌, ◌<◌, true, List, ℤ, length, Option, None, is_some}
+use Rattle.std.specs.Prelude.{◌≡◌, ◌<◌, true, length, Option, None, is_some}
 use Rattle.ac_forms.specs.Rows.{IsWellMade}
 use Rattle.ac_forms.specs.declared.conj.Conj.{Conj}
-use Rattle.ac_choices.specs.Points.{IsPoint}
 use Rattle.ac_unfold.specs.Paths.{Found}
+use Rattle.ac_unfold.specs.Stands.{HasNoPoint}
 use Rattle.ac_unfold.specs.declared.asking.Answer.{Answer}
 use Rattle.ac_unfold.specs.declared.asking.Answer.TheVariants as answer
 use Rattle.ac_unfold.specs.declared.asking.Opened.{Opened}
@@ -18,7 +18,7 @@ use Rattle.ac_unfold.specs.declared.ends.Stood.TheVariants as stood
 
 -- where the answer is that there is no point, there is none
 abbrev pub HasNone : Conj → Answer → Type 0
-HasNone c (answer.Empty o) = IsWellMade c × ((p : List ℤ) → ¬ (IsPoint c p))
+HasNone c (answer.Empty o) = IsWellMade c × HasNoPoint c
 HasNone c (answer.Point p) = Unit {0}
 
 -- and a plan shows it

@@ -1,5 +1,5 @@
 -- Where the plans of a search stop.
-use Rattle.std.specs.Prelude.{◌≡◌, ◌+◌, ℕ, true, List, Some, slice_get}
+use Rattle.std.specs.Prelude.{◌≡◌, ◌+◌, ℕ, true, List, Some, length, slice_get}
 use Rattle.ac_forms.specs.Members.{IsAmong}
 use Rattle.ac_syntax.specs.declared.tree.Order.{Order}
 use Rattle.ac_syntax.specs.declared.tree.Position.{Position}
@@ -19,15 +19,16 @@ use Rattle.ac_unfold.specs.declared.ends.Search.{Search}
 use Rattle.ac_unfold.specs.declared.types.Setting.{Setting}
 
 -- plans of the two programs stop so: they take arguments in the order that is listed, a recurrence pair has one of the claims, and the
--- claims, numbered from the base on, are of the part
-pub record IsStoppedAt (setting : Setting) (order : List (Site × Order)) (base : ℕ) (claims : List Claim) (g : Stopped) : Type 0 where
+-- claims, numbered from the base on, are of the part, and so are the tabled ones behind them
+pub record IsStoppedAt (setting : Setting) (order : List (Site × Order)) (base : ℕ) (claims tabled : List Claim) (g : Stopped) : Type 0 where
   pub programs : programs_of g.pair ≡ pairing setting.programs
   pub orders : (key : Position × Position) → g.order key ≡ order_of order key
   pub claimed : (key : Position × Position) → g.recurrent key ≡ true → (c : Claim) × IsAmong c claims × (key_of c ≡ key)
   pub part : (i : ℕ) (c : Claim) → slice_get claims i ≡ Some c → g.part (base + i) ≡ true
+  pub tabled_part : (i : ℕ) (c : Claim) → slice_get tabled i ≡ Some c → g.part (base + length claims + i) ≡ true
 
 abbrev pub IsStoppedIn : Search → Stopped → Type 0
-IsStoppedIn search g = IsStoppedAt search.setting.now search.order.now search.base search.claims.now g
+IsStoppedIn search g = IsStoppedAt search.setting.now search.order.now search.base search.claims.now search.tabled.now g
 
 -- where plans are made, what comes behind steps stops so from the pair of the question
 unfoldable pub StopsIn : Search → Path → PlanNext → Type 0

@@ -161,7 +161,7 @@ pub(crate) fn seen(
 }
 
 /// The answer to a question without which the search can go on; none where it is wide or spent.
-pub(crate) fn freely(answer: Result<Answer, UnfoldStop>) -> Result<Option<Answer>, AllocError>
+pub(crate) fn freely<A: Drop>(answer: Result<A, UnfoldStop>) -> Result<Option<A>, AllocError>
     ensures { IfOk result (λ free. IfSome free (λ seen. answer ≡ Ok seen)) }
 {
     match answer {

@@ -1,6 +1,7 @@
 //! The end of a path at the claim of its pair.
 ghost use Rattle.std.specs.Prelude.{◌≡◌, ◌&&◌, IfErr, IfOk, IfSome, None, OnOk, true};
 ghost use Rattle.ac_forms.specs.Members.{IsAmong};
+ghost use Rattle.ac_forms.specs.Renaming.{rows_renaming};
 ghost use Rattle.ac_claims.specs.Ending.{same_position};
 ghost use Rattle.ac_claims.specs.declared.types.Claim.{Claim as Asked};
 ghost use Rattle.ac_leading.specs.Leading.{seats_of};
@@ -9,8 +10,8 @@ ghost use Rattle.ac_unfold.specs.Searching.{AddsBroken, IsAt};
 ghost use Rattle.ac_unfold.specs.Full.{FullUnder};
 ghost use Rattle.ac_unfold.specs.Making.{IsMade};
 ghost use Rattle.ac_unfold.specs.Missing.{FindsElse};
-ghost use Rattle.ac_unfold.specs.Cutting.{IsClaimBehind, IsNumbered};
-ghost use Rattle.ac_unfold.specs.Stops.{Follows, StopsUnder};
+ghost use Rattle.ac_unfold.specs.Cutting.{columns_there, IsClaimBehind, IsNumbered};
+ghost use Rattle.ac_unfold.specs.Stops.{Follows, HandsBack, StopsUnder};
 ghost use Rattle.ac_unfold.specs.Unbroken.{FindsNone, StandsIn};
 
 use crate::ends::{Search, stand};
@@ -20,14 +21,15 @@ use crate::remaining::over_columns;
 use crate::types::UnfoldStop;
 use ac_claims::ending::same_position;
 use ac_claims::types::{Claim, Plan, PlanNext};
-use ac_forms::column_after;
+use ac_forms::{Row, column_after};
+use ac_items::Items;
 use ac_paths::columns::columns_of_both;
 use ac_paths::path::Path;
 use ac_syntax::tree::Position;
 use std::alloc::{AllocError, Global};
 
 /// Whether a claim is of a pair.
-fn is_of(claim: &Claim, left: &Position, right: &Position) -> bool
+pub(crate) fn is_of(claim: &Claim, left: &Position, right: &Position) -> bool
     ensures { result ≡ (same_position left.now claim.now.left && same_position right.now claim.now.right) }
 {
     same_position(left, &claim.left) && same_position(right, &claim.right)
@@ -58,6 +60,27 @@ pub(crate) fn claim_of(search: &Search<'_>, path: &Path) -> Option<usize>
     claim_at(search.claims, &path.left.position, &path.right.position)
 }
 
+/// The rows of a claim over the columns of a node of its pair.
+pub(crate) fn rows_at(
+    alloc: Global,
+    search: &Search<'_>,
+    node: &Node,
+    claim: &Claim,
+) -> Result<Items<Row>, UnfoldStop>
+    ensures rows { IfOk result (λ rows. Some rows ≡ rows_renaming (columns_there search.now node.now.question) claim.now.rows) }
+    ensures causes { IfErr result (HandsBack node.now.question.conj (rows_renaming (columns_there search.now node.now.question) claim.now.rows ≡ None)) }
+{
+    let params = search.params();
+    let columns = columns_of_both(alloc, params, &node.question.left, &node.question.right)?;
+    over_columns(
+        alloc,
+        search,
+        node,
+        claim.rows.as_slice(),
+        columns.as_slice(),
+    )
+}
+
 /// A pair of a claim, behind at least one step: the rows of the claim have to stand.
 pub(crate) fn at_claim(
     alloc: Global,
@@ -77,15 +100,7 @@ pub(crate) fn at_claim(
     let Some(claim) = search.claims.get(number) else {
         return Err(UnfoldStop::Memory(AllocError));
     };
-    let params = search.params();
-    let columns = columns_of_both(alloc, params, &node.question.left, &node.question.right)?;
-    let rows = over_columns(
-        alloc,
-        search,
-        &node,
-        claim.rows.as_slice(),
-        columns.as_slice(),
-    )?;
+    let rows = rows_at(alloc, search, &node, claim)?;
     let hit = PlanNext::Hit(column_after(search.base, number)?);
     stand(alloc, search, node, rows.as_slice(), hit, finds)
 }

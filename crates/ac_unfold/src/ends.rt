@@ -29,12 +29,13 @@ use ac_syntax::tree::{Order, Site};
 use std::alloc::{AllocError, Global};
 
 /// What an unfolding looks for: the broken paths of a start against claims, under an order of the sites, or plans, in which the
-/// claims are numbered from `base` on.
+/// claims are numbered from `base` on, and behind them tabled ones.
 #[derive(Clone, Copy)]
 pub(crate) struct Search<'a> {
     pub setting: &'a Setting<'a>,
     pub budget: u64,
     pub claims: &'a [Claim],
+    pub tabled: &'a [Claim],
     pub base: usize,
     pub order: &'a [(Site, Order)],
     pub making: bool,

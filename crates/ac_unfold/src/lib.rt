@@ -15,6 +15,7 @@ pub mod laws;
 mod node;
 mod remaining;
 mod starting;
+mod tabling;
 pub mod types;
 mod unfolding;
 mod witness;

@@ -1,5 +1,5 @@
 //! Where an unfolding starts: each pair of pieces of a claim.
-ghost use Rattle.std.specs.Prelude.{◌≡◌, ◌++◌, [], IfOk, IfSome, List, None, OnOk, map, true, IfErr};
+ghost use Rattle.std.specs.Prelude.{◌≡◌, ◌+◌, ◌++◌, [], IfOk, IfSome, List, None, OnOk, length, map, true, IfErr};
 ghost use Rattle.std.specs.List.{AllByRecursion, range_with_len};
 ghost use Rattle.ac_paths.specs.Calls.{pairing};
 ghost use Rattle.ac_claims.specs.ProofFaults.{domain};
@@ -44,6 +44,7 @@ use std::alloc::{AllocError, Global};
 fn search_of<'a>(
     setting: &'a Setting<'a>,
     claims: &'a [Claim],
+    tabled: &'a [Claim],
     base: usize,
     order: &'a [(Site, Order)],
     making: bool,
@@ -51,6 +52,7 @@ fn search_of<'a>(
     ensures setting { result.setting.now ≡ setting.now }
     ensures base { result.base ≡ base }
     ensures claims { result.claims.now ≡ claims.now }
+    ensures tabled { result.tabled.now ≡ tabled.now }
     ensures order { result.order.now ≡ order.now }
     ensures making { result.making ≡ making }
     ensures budget { result.budget ≡ setting.now.budget }
@@ -59,6 +61,7 @@ fn search_of<'a>(
         setting,
         budget: setting.budget,
         claims,
+        tabled,
         base,
         order,
         making,
@@ -149,7 +152,7 @@ pub fn broken_paths(
     ensures broken { IfOk result (λ paths. (u : Unfolding) → IsUnfoldingOf setting.now start.now order.now u → AllByRecursion (IsBroken u claims.now) paths) }
     ensures causes { IfErr result (StopsUnfolding setting.now start.now claims.now order.now) }
 {
-    let search = search_of(setting, claims, 0, order, false);
+    let search = search_of(setting, claims, &[], 0, order, false);
     let (lefts, rights) = pieces(alloc, setting, start)?;
     let mut finds = Finds::new(alloc);
     for left in 0..lefts {
@@ -193,10 +196,11 @@ fn push_trees(
     Ok(None)
 }
 
-/// The plans of a start that stands, one for each pair of pieces in order: the start has the number `number` in the proof, and
-/// the claim with number i in the list has `base + i`. A judge of proofs accepts each of them where the start begins at its
-/// pieces, against whatever claims these are among with their numbers. It stops at pairs of the list's claims: behind its first step
-/// it neither goes on from such a pair nor ends there at a number or an initial cell.
+/// The plans of a start that stands, one for each pair of pieces in order: the start has the number `number` in the proof, the
+/// claims of the list have the numbers from `base` on, and the tabled ones those behind them. A judge of proofs accepts each plan where
+/// the start begins at its pieces, against whatever claims these are among with their numbers. It stops at pairs of the list's claims:
+/// behind its first step it neither goes on from such a pair nor ends there at a number or an initial cell. At a pair of a tabled
+/// claim it ends only where that claim's rows are known to stand, and goes on elsewhere; so no path fails there.
 ///
 /// Where the start does not stand, a concrete path on which it fails, as those of `broken_paths`.
 pub fn claim_trees(
@@ -206,17 +210,18 @@ pub fn claim_trees(
     start: &Claim,
     base: usize,
     claims: &[Claim],
+    tabled: &[Claim],
     order: &[(Site, Order)],
 ) -> Result<Planned, UnfoldStop>
     ensures broken { IfOk result (IfBroken (λ path. (u : Unfolding) → IsUnfoldingOf setting.now start.now order.now u → IsBroken u claims.now path)) }
     ensures domains { IfOk result (IfPlans (λ trees. HasDomains (pairing setting.now.programs) start.now)) }
     ensures claim { IfOk result (IfPlans (λ trees. ArePlansOf number trees)) }
     ensures pieces { IfOk result (IfPlans (λ trees. map pieces_of trees ≡ pairs_of (count_by (domain setting.now.programs.left.now start.now.left)) (count_by (domain setting.now.programs.right.now start.now.right)))) }
-    ensures accepted { IsSettled setting.now → IfOk result (IfPlans (λ trees. (cs : List Asked) → AreNumbered base claims.now cs → AllByRecursion (StartsAccepted (pairing setting.now.programs) cs start.now) trees)) }
-    ensures stops { IfOk result (IfPlans (λ trees. (g : Stopped) → IsStoppedAt setting.now order.now base claims.now g → AllByRecursion (λ (t : Tree). StopsFrom g (key_of start.now) t.tree) trees)) }
+    ensures accepted { IsSettled setting.now → IfOk result (IfPlans (λ trees. (cs : List Asked) → AreNumbered base claims.now cs → AreNumbered (base + length claims.now) tabled.now cs → AllByRecursion (StartsAccepted (pairing setting.now.programs) cs start.now) trees)) }
+    ensures stops { IfOk result (IfPlans (λ trees. (g : Stopped) → IsStoppedAt setting.now order.now base claims.now tabled.now g → AllByRecursion (λ (t : Tree). StopsFrom g (key_of start.now) t.tree) trees)) }
     ensures causes { IfErr result (StopsUnfolding setting.now start.now claims.now order.now) }
 {
-    let search = search_of(setting, claims, base, order, true);
+    let search = search_of(setting, claims, tabled, base, order, true);
     let counts = pieces(alloc, setting, start)?;
     let mut trees = Vec::new(alloc);
     for left in 0..counts.0 {

@@ -24,6 +24,7 @@ use crate::killing::killed;
 use crate::kinds::{Next, flow_of, next_of};
 use crate::node::Node;
 use crate::remaining::{at_remainder, is_apart, kill_rows};
+use crate::tabling::tabled_hit;
 use crate::types::UnfoldStop;
 use ac_claims::types::{Kill, Plan};
 use ac_flow::types::{Case, ReadFlow};
@@ -39,8 +40,8 @@ use std::alloc::{AllocError, Global};
 /// How deep the unfolding may go, in calls.
 pub(crate) const MOST_DEEP: usize = 2_000;
 
-/// Unfolds a pair of positions: to the claim of the pair, to the cases of a read or an output, to the arguments of two calls,
-/// or to an end.
+/// Unfolds a pair of positions: to the claim of the pair, to a tabled one whose rows stand, to the cases of a read or an output, to
+/// the arguments of two calls, or to an end.
 #[cycle(unfold)]
 pub(crate) fn visit(
     alloc: Global,
@@ -61,6 +62,9 @@ pub(crate) fn visit(
     }
     if let Some(number) = claim_of(search, &node.question) {
         return at_claim(alloc, search, node, number, finds);
+    }
+    if let Some(plan) = tabled_hit(alloc, search, &node)? {
+        return Ok(Some(plan));
     }
     let next = next_of(alloc, search, &node)?;
     match next {

@@ -42,6 +42,13 @@ pub(crate) struct Reach {
     pub sites: Items<Site>,
 }
 
+impl Reach {
+    /// Whether many ways lead to some pair.
+    pub(crate) fn is_shared(&self) -> bool {
+        !self.shared.is_empty()
+    }
+}
+
 /// How many ways may lead to a pair before the search stops there as at a recurrence pair.
 const MOST_WAYS: u64 = 16;
 
@@ -189,12 +196,14 @@ fn decide_further(
         array: search.array,
         stops: stops.as_slice(),
         first: search.first,
+        tabling: false,
     };
     decide_up_to(alloc, &further, number, reach.sites.as_slice())
 }
 
 /// Searches on the output with a number: where many ways lead to some pairs, up to these as up to recurrence pairs; and where that is
-/// not so, or where it leaves the output unknown, up to the recurrence pairs alone.
+/// not so, or where it leaves the output unknown, up to the recurrence pairs alone, then with pairs of calls tabled where many ways lead to
+/// some.
 pub(crate) fn decide(
     alloc: Global,
     search: &Search<'_>,
@@ -205,7 +214,7 @@ pub(crate) fn decide(
     requires further { GoesNoFurther search.now }
     ensures { IfOk result (IsDecision search.now number) }
 {
-    if !reach.shared.is_empty() {
+    if reach.is_shared() {
         match decide_further(alloc, search, number, reach)? {
             Decision::Unknown(_) => {}
             decision => return Ok(decision),

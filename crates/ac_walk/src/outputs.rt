@@ -47,6 +47,7 @@ fn verdict(
         array,
         stops: reach.recurrent.as_slice(),
         first: proof.claims.len(),
+        tabling: reach.is_shared(),
     };
     match decide(alloc, &search, number, &reach)? {
         Decision::Stands(part) => Ok((Verdict::Equal, with_part(proof, part, array)?)),

@@ -1,6 +1,6 @@
 use Rattle.std.proofs.Common.{◌≡◌, ◌+◌, length, subst, sym, arith}
 use Rattle.ac_search.specs.Stops.{EndsEarlyBy}
-use Rattle.ac_search.proofs.Added.{adds, plans_for}
+use Rattle.ac_search.proofs.Added.{adds, made_of, plans_for}
 use Rattle.ac_search.proofs.Stopped.{start_ends}
 use Rattle.ac_search.proofs.planning.add.Goals as goal
 
@@ -10,8 +10,9 @@ returns-in_ok-with_claim-in-Ok-Plans-clause-added c =
     let made = c.in-Ok-Plans.ensures in
     let longer = c.in_ok-with_claim-in-Ok-Plans in
     let number : c.in_ok-number.number ≡ s.first + length c.args.part.claims.items = omega (arith, c.in_ok-number.ensures, c.len.ensures, c.args.part.claims.ok) in
-    let plans = plans_for s c.args.order.now c.args.claims.now c.args.start c.in_ok-number.number c.in_ok-base.base c.in-Ok-Plans.field-0 c.in-Ok-Plans.trees c.in-Ok-Plans.field-0-is c.requires.search made.claim made.pieces made.accepted made.domains made.stops in
-    adds s c.args.order.now c.args.claims.now c.args.start c.requires.search c.requires.claims c.requires.start c.args.part longer.field-0 c.in-Ok-Plans.trees.items c.in_ok-number.number c.in_ok-base.base number c.in_ok-base.ensures plans longer.ensures.claims longer.ensures.planned longer.ensures.stops
+    let plans = plans_for s c.args.order.now c.args.claims.now c.args.tabled.now c.args.start c.in_ok-number.number c.in_ok-base.base c.in-Ok-Plans.field-0 c.in-Ok-Plans.trees c.in-Ok-Plans.field-0-is c.requires.search made.claim made.pieces made.accepted made.stops in
+    let is_made = made_of s c.args.start c.in-Ok-Plans.field-0 c.in-Ok-Plans.trees c.in-Ok-Plans.field-0-is c.requires.search made.domains c.requires.start in
+    adds s c.args.order.now c.args.claims.now c.args.tabled.now c.requires.search c.requires.claims c.args.start is_made c.args.part longer.field-0 c.in-Ok-Plans.trees.items c.in_ok-number.number c.in_ok-base.base number c.in_ok-base.ensures plans longer.ensures.claims longer.ensures.trees
 
 pub returns-in-Err-clause-causes : goal.returns-in-Err-clause-causes
 returns-in-Err-clause-causes c =

@@ -18,7 +18,7 @@ add-requires-clause-claims c = have_claims c.args.search.now c.args.order.now c.
 pub returns-in-Broken-clause-planned : goal.returns-in-Broken-clause-planned
 returns-in-Broken-clause-planned c =
     let s = c.args.search.now in
-    let h = subst (IsFirstAdded s c.args.order.now c.args.claims.now) c.in-Broken.is c.in_ok-part.ensures.added in
+    let h = subst (IsFirstAdded s c.args.order.now c.args.claims.now c.args.tabled.now) c.in-Broken.is c.in_ok-part.ensures.added in
     broken_output s c.args.order.now c.args.known.now c.args.numbers.now c.args.claims.now c.requires.ranks c.requires.claims h.0 c.in-Broken.path h.1 h.2
 
 pub loop-at-preserved : goal.loop-at-preserved
@@ -31,7 +31,7 @@ loop-at-preserved c =
     let within : c.loop-at.at < length numbers = (let a = c.loop-at-test.true in let b = c.requires.count in omega (arith, a, b)) in
     let there : slice_get known.keys.items n ≡ Some key = key_there known.keys.items c.as_slice-keys.result.now n key c.as_slice-keys.ensures.value (all_at (λ (m : ℕ). m < length known.keys.items) numbers c.loop-at.at 0 within c.requires.ranks.within) c.index-keys-number.is in
     let start : slice_get c.args.claims.now c.loop-at.at ≡ Some c.in_ok-start.start = claim_is known numbers c.args.claims.now c.loop-at.at n key c.in_ok-start.start c.requires.claims (get_some numbers c.loop-at.at 0 within) there c.in_ok-start.ensures.value in
-    next_begun s c.args.order.now c.args.claims.now c.loop-at.at c.loop-at.part c.in-Part-2.longer c.in_ok-start.start start c.loop-at.invariant (subst (IsAdded s c.args.order.now c.args.claims.now c.in_ok-start.start c.loop-at.part) c.in-Part-2.is c.in_ok-longer.ensures.added)
+    next_begun s c.args.order.now c.args.claims.now c.args.tabled.now c.loop-at.at c.loop-at.part c.in-Part-2.longer c.in_ok-start.start start c.loop-at.invariant (subst (IsAdded s c.args.order.now c.args.claims.now c.args.tabled.now c.in_ok-start.start c.loop-at.part) c.in-Part-2.is c.in_ok-longer.ensures.added)
 
 pub returns-in-Broken-2-clause-planned : goal.returns-in-Broken-2-clause-planned
 returns-in-Broken-2-clause-planned c =
@@ -43,7 +43,7 @@ returns-in-Broken-2-clause-planned c =
     let within : c.loop-at.at < length numbers = (let a = c.loop-at-test.true in let b = c.requires.count in omega (arith, a, b)) in
     let there : slice_get known.keys.items n ≡ Some key = key_there known.keys.items c.as_slice-keys.result.now n key c.as_slice-keys.ensures.value (all_at (λ (m : ℕ). m < length known.keys.items) numbers c.loop-at.at 0 within c.requires.ranks.within) c.index-keys-number.is in
     broken_key s c.args.order.now known numbers c.args.claims.now c.requires.ranks c.requires.claims n key c.in_ok-start.start c.in-Broken-2.path there c.in_ok-start.ensures.value
-    (subst (IsAdded s c.args.order.now c.args.claims.now c.in_ok-start.start c.loop-at.part) c.in-Broken-2.is c.in_ok-longer.ensures.added)
+    (subst (IsAdded s c.args.order.now c.args.claims.now c.args.tabled.now c.in_ok-start.start c.loop-at.part) c.in-Broken-2.is c.in_ok-longer.ensures.added)
 
 pub returns-in_err-part-clause-causes : goal.returns-in_err-part-clause-causes
 returns-in_err-part-clause-causes c =

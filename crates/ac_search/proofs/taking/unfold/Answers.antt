@@ -1,8 +1,11 @@
-use Rattle.std.proofs.Common.{subst, sym}
+use Rattle.std.proofs.Common.{◌∙◌, subst, sym}
 use Rattle.ac_search.specs.Stops.{EndsEarly}
 use Rattle.ac_search.proofs.Stopped.{unfolding_ends}
 use Rattle.ac_search.proofs.Unfolded.{broken_from}
 use Rattle.ac_search.proofs.taking.unfold.Goals as goal
+
+pub paths_from-requires : goal.paths_from-requires
+paths_from-requires c = c.as_slice-2.ensures.value ∙ c.in_ok-claims.ensures
 
 pub take-requires-clause-paths : goal.take-requires-clause-paths
 take-requires-clause-paths c =

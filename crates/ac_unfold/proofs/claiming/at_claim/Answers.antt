@@ -1,12 +1,12 @@
-use Rattle.std.proofs.Common.{◌≡◌, ◌+◌, ◌++◌, ◌<◌, ltb, true, ℕ, List, length, Some, None, refl, sym, ap, ◌∙◌, subst, arith}
+use Rattle.std.proofs.Common.{◌≡◌, ◌+◌, ◌<◌, ltb, true, ℕ, List, length, Some, None, refl, sym, ap, ◌∙◌, subst, arith}
 use Rattle.std.proofs.lemmas.Bool.Decides.{nat_tests}
 use Rattle.std.proofs.lemmas.Option.{slice_get_read}
 use Rattle.std.proofs.lemmas.Result.{IfErr-weaker}
 use Rattle.ac_forms.specs.Renaming.{rows_renaming}
 use Rattle.ac_forms.specs.declared.row.Row.{Row}
-use Rattle.ac_paths.specs.Columns.{base, columns_of}
 use Rattle.ac_claims.specs.declared.types.PlanNext.TheVariants.{Hit}
 use Rattle.ac_unfold.specs.Asked.{AreTargets}
+use Rattle.ac_unfold.specs.Cutting.{columns_there}
 use Rattle.ac_unfold.specs.Full.{FullUnder}
 use Rattle.ac_unfold.specs.Making.{judge_of, IsEndFor}
 use Rattle.ac_unfold.proofs.Matching.{claim_ends}
@@ -25,57 +25,44 @@ pub stand-requires : goal.stand-requires
 stand-requires c =
     let s = c.args.search.now in
     let q = c.args.node.question in
-    let columns : c.as_slice-2.result.now ≡ base (judge_of s).params ++ (columns_of q.left ++ columns_of q.right) =
-    c.as_slice-2.ensures ∙ c.in_ok-columns.ensures ∙ ap (λ (n : ℕ). base n ++ (columns_of q.left ++ columns_of q.right)) c.params-params.ensures in
-    let rows : Some c.in_ok-rows.rows ≡ rows_renaming (base (judge_of s).params ++ (columns_of q.left ++ columns_of q.right)) c.in-Some.claim.now.rows =
-    c.in_ok-rows.ensures.rows ∙ ap (λ ks. rows_renaming ks c.as_slice.result.now) columns ∙ ap (rows_renaming (base (judge_of s).params ++ (columns_of q.left ++ columns_of q.right))) c.as_slice.ensures in
+    let rows : Some c.in_ok-rows.rows ≡ rows_renaming (columns_there s q) c.in-Some.claim.now.rows = c.in_ok-rows.ensures.rows in
     let within : c.args.number < length s.claims.now = below c.args.number (length s.claims.now) (sym c.in-Some.ensures.lookup.0) in
-    subst (λ (n : ℕ). IsEndFor s q c.as_slice-3.result.now (Hit n)) (sym c.in_ok-column_after.ensures)
-    (subst (λ (xs : List Row). IsEndFor s q xs (Hit (s.base + c.args.number))) (sym c.as_slice-3.ensures) (claim_ends s q c.args.number c.in-Some.claim.now c.in_ok-rows.rows c.requires (slice_get_read s.claims.now (length s.claims.now) c.args.number c.in-Some.claim.now refl within c.in-Some.ensures.lookup.1) rows))
+    subst (λ (n : ℕ). IsEndFor s q c.as_slice.result.now (Hit n)) (sym c.in_ok-column_after.ensures)
+    (subst (λ (xs : List Row). IsEndFor s q xs (Hit (s.base + c.args.number))) (sym c.as_slice.ensures) (claim_ends s q c.args.number c.in-Some.claim.now c.in_ok-rows.rows c.requires (slice_get_read s.claims.now (length s.claims.now) c.args.number c.in-Some.claim.now refl within c.in-Some.ensures.lookup.1) rows))
 
 pub returns-clause-broken : goal.returns-clause-broken
 returns-clause-broken c =
     let s = c.args.search.now in
     let q = c.args.node.question in
     let n = (judge_of s).params in
-    let columns : c.as_slice-2.result.now ≡ base (judge_of s).params ++ (columns_of q.left ++ columns_of q.right) =
-    c.as_slice-2.ensures ∙ c.in_ok-columns.ensures ∙ ap (λ (n : ℕ). base n ++ (columns_of q.left ++ columns_of q.right)) c.params-params.ensures in
-    let rows : Some c.in_ok-rows.rows ≡ rows_renaming (base (judge_of s).params ++ (columns_of q.left ++ columns_of q.right)) c.in-Some.claim.now.rows =
-    c.in_ok-rows.ensures.rows ∙ ap (λ ks. rows_renaming ks c.as_slice.result.now) columns ∙ ap (rows_renaming (base (judge_of s).params ++ (columns_of q.left ++ columns_of q.right))) c.as_slice.ensures in
+    let rows : Some c.in_ok-rows.rows ≡ rows_renaming (columns_there s q) c.in-Some.claim.now.rows = c.in_ok-rows.ensures.rows in
     let within : c.args.number < length s.claims.now = below c.args.number (length s.claims.now) (sym c.in-Some.ensures.lookup.0) in
     let there = slice_get_read s.claims.now (length s.claims.now) c.args.number c.in-Some.claim.now refl within c.in-Some.ensures.lookup.1 in
-    on_ok c.stand.result (Adds (IsPathBreaking n c.args.node.trail q.conj c.as_slice-3.result.now) (IsPathAt n c.args.node.trail q.conj) c.args.finds.now c.stand.new.finds) _
+    on_ok c.stand.result (Adds (IsPathBreaking n c.args.node.trail q.conj c.as_slice.result.now) (IsPathAt n c.args.node.trail q.conj) c.args.finds.now c.stand.new.finds) _
     (λ h. claim_broken s c.args.node.trail q c.args.number c.in-Some.claim.now c.in_ok-rows.rows c.args.finds.now c.stand.new.finds c.requires there rows
-    (subst (λ (xs : List Row). Adds (IsPathBreaking n c.args.node.trail q.conj xs) (IsPathAt n c.args.node.trail q.conj) c.args.finds.now c.stand.new.finds) c.as_slice-3.ensures h)) c.stand.ensures.found
+    (subst (λ (xs : List Row). Adds (IsPathBreaking n c.args.node.trail q.conj xs) (IsPathAt n c.args.node.trail q.conj) c.args.finds.now c.stand.new.finds) c.as_slice.ensures h)) c.stand.ensures.found
 
 pub returns-in_err-rows-clause-causes : goal.returns-in_err-rows-clause-causes
 returns-in_err-rows-clause-causes c =
     let s = c.args.search.now in
     let q = c.args.node.question in
     let stop = c.in_err-rows.field-0.0 in
-    let columns : c.as_slice-2.result.now ≡ base (judge_of s).params ++ (columns_of q.left ++ columns_of q.right) =
-    c.as_slice-2.ensures ∙ c.in_ok-columns.ensures ∙ ap (λ (n : ℕ). base n ++ (columns_of q.left ++ columns_of q.right)) c.params-params.ensures in
-    let same : rows_renaming c.as_slice-2.result.now c.as_slice.result.now ≡ rows_renaming (base (judge_of s).params ++ (columns_of q.left ++ columns_of q.right)) c.in-Some.claim.now.rows =
-    ap (λ ks. rows_renaming ks c.as_slice.result.now) columns ∙ ap (rows_renaming (base (judge_of s).params ++ (columns_of q.left ++ columns_of q.right))) c.as_slice.ensures in
     let within : c.args.number < length s.claims.now = below c.args.number (length s.claims.now) (sym c.in-Some.ensures.lookup.0) in
     let there = slice_get_read s.claims.now (length s.claims.now) c.args.number c.in-Some.claim.now refl within c.in-Some.ensures.lookup.1 in
-    if_err (StopsUnder s (Follows s q)) c.from_residual-in_err-rows.result stop c.from_residual-in_err-rows.ensures.1
+    if_err (StopsUnder s (Follows s q)) c.from_residual.result stop c.from_residual.ensures.1
     (followed_hands s q stop
-    (hands_because q.conj (rows_renaming c.as_slice-2.result.now c.as_slice.result.now ≡ None) (AreTargets (judge_of s) s.claims.now q None) stop
-    (λ e. claim_targets s q c.args.number c.in-Some.claim.now None c.requires there (sym e ∙ same)) c.in_err-rows.ensures.causes))
+    (hands_because q.conj (rows_renaming (columns_there s q) c.in-Some.claim.now.rows ≡ None) (AreTargets (judge_of s) s.claims.now q None) stop
+    (λ e. claim_targets s q c.args.number c.in-Some.claim.now None c.requires there (sym e)) c.in_err-rows.ensures.causes))
 
 pub returns-clause-causes : goal.returns-clause-causes
 returns-clause-causes c =
     let s = c.args.search.now in
     let q = c.args.node.question in
-    let columns : c.as_slice-2.result.now ≡ base (judge_of s).params ++ (columns_of q.left ++ columns_of q.right) =
-    c.as_slice-2.ensures ∙ c.in_ok-columns.ensures ∙ ap (λ (n : ℕ). base n ++ (columns_of q.left ++ columns_of q.right)) c.params-params.ensures in
-    let rows : Some c.in_ok-rows.rows ≡ rows_renaming (base (judge_of s).params ++ (columns_of q.left ++ columns_of q.right)) c.in-Some.claim.now.rows =
-    c.in_ok-rows.ensures.rows ∙ ap (λ ks. rows_renaming ks c.as_slice.result.now) columns ∙ ap (rows_renaming (base (judge_of s).params ++ (columns_of q.left ++ columns_of q.right))) c.as_slice.ensures in
+    let rows : Some c.in_ok-rows.rows ≡ rows_renaming (columns_there s q) c.in-Some.claim.now.rows = c.in_ok-rows.ensures.rows in
     let within : c.args.number < length s.claims.now = below c.args.number (length s.claims.now) (sym c.in-Some.ensures.lookup.0) in
     let there = slice_get_read s.claims.now (length s.claims.now) c.args.number c.in-Some.claim.now refl within c.in-Some.ensures.lookup.1 in
-    IfErr-weaker c.stand.result (StopsStanding s.budget q.conj c.as_slice-3.result.now) (StopsUnder s (Follows s q))
-    (λ stop h. followed_standing s q c.as_slice-3.result.now stop (claim_targets s q c.args.number c.in-Some.claim.now (Some c.as_slice-3.result.now) c.requires there (ap Some c.as_slice-3.ensures ∙ rows)) h) c.stand.ensures.causes
+    IfErr-weaker c.stand.result (StopsStanding s.budget q.conj c.as_slice.result.now) (StopsUnder s (Follows s q))
+    (λ stop h. followed_standing s q c.as_slice.result.now stop (claim_targets s q c.args.number c.in-Some.claim.now (Some c.as_slice.result.now) c.requires there (ap Some c.as_slice.ensures ∙ rows)) h) c.stand.ensures.causes
 
 -- ---- too many paths
 
@@ -84,7 +71,7 @@ returns-in_err-rows-clause-full c =
     let s = c.args.search.now in
     let v = c.args.node in
     let stop = c.in_err-rows.field-0.0 in
-    if_err (FullUnder s (IsAt s v.trail v.question) c.args.finds.now) c.from_residual-in_err-rows.result stop c.from_residual-in_err-rows.ensures.1
+    if_err (FullUnder s (IsAt s v.trail v.question) c.args.finds.now) c.from_residual.result stop c.from_residual.ensures.1
     (full_hands s (IsAt s v.trail v.question) c.args.finds.now v.question.conj _ stop c.in_err-rows.ensures.causes)
 
 pub returns-clause-full : goal.returns-clause-full
@@ -98,10 +85,7 @@ pub returns-clause-stands : goal.returns-clause-stands
 returns-clause-stands c =
     let s = c.args.search.now in
     let q = c.args.node.question in
-    let columns : c.as_slice-2.result.now ≡ base (judge_of s).params ++ (columns_of q.left ++ columns_of q.right) =
-    c.as_slice-2.ensures ∙ c.in_ok-columns.ensures ∙ ap (λ (n : ℕ). base n ++ (columns_of q.left ++ columns_of q.right)) c.params-params.ensures in
-    let rows : Some c.in_ok-rows.rows ≡ rows_renaming (base (judge_of s).params ++ (columns_of q.left ++ columns_of q.right)) c.in-Some.claim.now.rows =
-    c.in_ok-rows.ensures.rows ∙ ap (λ ks. rows_renaming ks c.as_slice.result.now) columns ∙ ap (rows_renaming (base (judge_of s).params ++ (columns_of q.left ++ columns_of q.right))) c.as_slice.ensures in
+    let rows : Some c.in_ok-rows.rows ≡ rows_renaming (columns_there s q) c.in-Some.claim.now.rows = c.in_ok-rows.ensures.rows in
     let within : c.args.number < length s.claims.now = below c.args.number (length s.claims.now) (sym c.in-Some.ensures.lookup.0) in
     let there = slice_get_read s.claims.now (length s.claims.now) c.args.number c.in-Some.claim.now refl within c.in-Some.ensures.lookup.1 in
-    none_by c.stand.result s c.args.finds.now c.stand.new.finds _ _ (claim_stands s q c.args.number c.in-Some.claim.now c.as_slice-3.result.now c.requires there (ap Some c.as_slice-3.ensures ∙ rows)) c.stand.ensures.met
+    none_by c.stand.result s c.args.finds.now c.stand.new.finds _ _ (claim_stands s q c.args.number c.in-Some.claim.now c.as_slice.result.now c.requires there (ap Some c.as_slice.ensures ∙ rows)) c.stand.ensures.met

@@ -39,9 +39,9 @@ returns-clause-pieces c =
     c.loop-left.invariant.lefts.are ∙ ap (λ (n : ℕ). pairs_of n c.in_ok-counts.counts.1) (e ∙ f) ∙ ap (λ (n : ℕ). pairs_of lefts n) g
 
 pub returns-clause-accepted : goal.returns-clause-accepted
-returns-clause-accepted c = λ settled cs numbered.
-    accepted_by c.search_of-search.result c.args.setting.now c.args.base c.args.claims.now c.args.start.now c.loop-left.trees.items c.search_of-search.ensures.setting c.search_of-search.ensures.base c.search_of-search.ensures.claims c.search_of-search.ensures.making
-    c.loop-left.invariant.begun settled cs numbered
+returns-clause-accepted c = λ settled cs numbered behind.
+    accepted_by c.search_of-search.result c.args.setting.now c.args.base c.args.claims.now c.args.tabled.now c.args.start.now c.loop-left.trees.items c.search_of-search.ensures.setting c.search_of-search.ensures.base c.search_of-search.ensures.claims
+    c.search_of-search.ensures.tabled c.search_of-search.ensures.making c.loop-left.invariant.begun settled cs numbered behind
 
 pub returns-in-Some-clause-broken : goal.returns-in-Some-clause-broken
 returns-in-Some-clause-broken c =
@@ -51,8 +51,8 @@ returns-in-Some-clause-broken c =
 
 pub returns-clause-stops : goal.returns-clause-stops
 returns-clause-stops c = λ g at.
-    stopped_by c.search_of-search.result c.args.setting.now c.args.order.now c.args.base c.args.claims.now c.args.start.now c.loop-left.trees.items c.search_of-search.ensures.setting c.search_of-search.ensures.order c.search_of-search.ensures.base c.search_of-search.ensures.claims c.search_of-search.ensures.making
-    c.loop-left.invariant.begun g at
+    stopped_by c.search_of-search.result c.args.setting.now c.args.order.now c.args.base c.args.claims.now c.args.tabled.now c.args.start.now c.loop-left.trees.items c.search_of-search.ensures.setting c.search_of-search.ensures.order c.search_of-search.ensures.base
+    c.search_of-search.ensures.claims c.search_of-search.ensures.tabled c.search_of-search.ensures.making c.loop-left.invariant.begun g at
 
 -- ---- why it stops
 

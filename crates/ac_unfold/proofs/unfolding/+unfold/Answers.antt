@@ -514,6 +514,9 @@ remainders-loop-rest-init t c = record {
   stand = pieces_none c.args.search.now c.args.node.now.question _ _;
 }
 
+pub visit-returns-in-Some-2-clause-broken : goal.visit-returns-in-Some-2-clause-broken
+visit-returns-in-Some-2-clause-broken t c = broken_none c.args.search.now (IsAt c.args.search.now c.args.node.trail c.args.node.question) _ _ refl
+
 pub visit-returns-in-Read-clause-broken : goal.visit-returns-in-Read-clause-broken
 visit-returns-in-Read-clause-broken t c =
     on_ok c.read.result _ _ (broken_past c.args.search.now c.args.node.trail c.args.node.question _ _ (c.claim_of.ensures.none c.in_default.is)) c.read.ensures.broken
@@ -604,7 +607,7 @@ visit-returns-in_err-next-clause-causes t c =
     let s = c.args.search.now in
     let q = c.args.node.question in
     let stop = c.in_err-next.field-0.0 in
-    if_err (StopsUnder s (Follows s q)) c.from_residual.result stop c.from_residual.ensures.1 (followed_hands s q stop c.in_err-next.ensures.causes)
+    if_err (StopsUnder s (Follows s q)) c.from_residual-in_err-next.result stop c.from_residual-in_err-next.ensures.1 (followed_hands s q stop c.in_err-next.ensures.causes)
 
 pub visit-returns-in-Read-clause-causes : goal.visit-returns-in-Read-clause-causes
 visit-returns-in-Read-clause-causes t c = past_stops c.read.result c.args.search.now c.args.node.question (c.claim_of.ensures.none c.in_default.is) c.read.ensures.causes
@@ -777,7 +780,7 @@ visit-returns-in_err-next-clause-full t c =
     let s = c.args.search.now in
     let v = c.args.node in
     let stop = c.in_err-next.field-0.0 in
-    if_err (FullUnder s (IsAt s v.trail v.question) c.args.finds.now) c.from_residual.result stop c.from_residual.ensures.1
+    if_err (FullUnder s (IsAt s v.trail v.question) c.args.finds.now) c.from_residual-in_err-next.result stop c.from_residual-in_err-next.ensures.1
     (full_hands s (IsAt s v.trail v.question) c.args.finds.now v.question.conj _ stop c.in_err-next.ensures.causes)
 
 pub visit-returns-in-Read-clause-full : goal.visit-returns-in-Read-clause-full

@@ -1,4 +1,4 @@
-use Rattle.std.proofs.Common.{List, refl, sym, subst, ◌∙◌}
+use Rattle.std.proofs.Common.{List, false, refl, sym, subst, ◌∙◌}
 use Rattle.std.proofs.lemmas.Result.{IfOk-weaker}
 use Rattle.ac_syntax.specs.declared.tree.Position.{Position}
 use Rattle.ac_search.specs.declared.types.Search.{Search}
@@ -28,5 +28,5 @@ decide_up_to-requires c =
 pub returns : goal.returns
 returns c =
     let s = c.args.search.now in
-    let further : Search = record { pair = s.pair; setting = s.setting; template = s.template; array = s.array; stops = c.as_slice-2.result; first = s.first } in
+    let further : Search = record { pair = s.pair; setting = s.setting; template = s.template; array = s.array; stops = c.as_slice-2.result; first = s.first; tabling = false } in
     IfOk-weaker c.decide_up_to.result _ _ (λ d h. kept_same further s c.args.number d refl refl refl h.kept) c.decide_up_to.ensures

@@ -35,7 +35,7 @@ decide-requires-clause-further c =
 pub returns-in-Stands : goal.returns-in-Stands
 returns-in-Stands c =
     let b = c.args.basis.now in
-    let s : Search = record { pair = b.pair; setting = b.setting; template = b.template; array = c.args.array; stops = c.as_slice.result; first = c.len.result } in
+    let s : Search = record { pair = b.pair; setting = b.setting; template = b.template; array = c.args.array; stops = c.as_slice.result; first = c.len.result; tabling = c.is_shared.result } in
     let kept = (subst (λ (d : Decision). IsDecision s c.args.number d) c.in-Stands.is c.in_ok-part.ensures).kept in
     let made = c.in_ok-with_part-in-Stands.ensures in
     equal_said b b.setting.now.budget kept.0 c.args.proof c.in_ok-with_part-in-Stands.field-0 c.in-Stands.part c.args.array c.len.result c.requires.basis c.len.ensures kept.1 made.longer made.accepted made.stops made.named c.requires.proof
@@ -43,14 +43,14 @@ returns-in-Stands c =
 pub returns-in-Different : goal.returns-in-Different
 returns-in-Different c =
     let b = c.args.basis.now in
-    let s : Search = record { pair = b.pair; setting = b.setting; template = b.template; array = c.args.array; stops = c.as_slice.result; first = c.len.result } in
+    let s : Search = record { pair = b.pair; setting = b.setting; template = b.template; array = c.args.array; stops = c.as_slice.result; first = c.len.result; tabling = c.is_shared.result } in
     let kept = (subst (λ (d : Decision). IsDecision s c.args.number d) c.in-Different.is c.in_ok-part.ensures).kept in
     different_said b.setting.now.budget b.pair.now c.args.array c.args.proof c.in-Different.found.at c.in-Different.found.element (kept c.args.array c.requires.array) c.requires.proof
 
 pub returns : goal.returns
 returns c =
     let b = c.args.basis.now in
-    let s : Search = record { pair = b.pair; setting = b.setting; template = b.template; array = c.args.array; stops = c.as_slice.result; first = c.len.result } in
+    let s : Search = record { pair = b.pair; setting = b.setting; template = b.template; array = c.args.array; stops = c.as_slice.result; first = c.len.result; tabling = c.is_shared.result } in
     let said = subst (λ (d : Decision). IsDecision s c.args.number d) c.in-Unknown.is c.in_ok-part.ensures in
     let same = subst (λ (keys : List (Position × Position)). AreSame keys b.graph.now.recurrent) (sym c.as_slice.ensures) c.in_ok-reach.ensures in
     unknown_said b.setting.now.budget b.pair.now c.args.array c.args.proof c.in-Unknown.cause (said.cause (λ w is. takes_each b _ c.requires.basis same w is)) (said.ends (λ w is. takes_each b _ c.requires.basis same w is)) c.requires.proof

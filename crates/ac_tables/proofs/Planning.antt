@@ -1,0 +1,50 @@
+-- What comes of a claim that is unfolded against a table.
+use Rattle.std.proofs.Common.{◌≡◌, ℕ, ◌+◌, List, length, map, subst, Option, Some}
+use Rattle.std.specs.Prelude.{Result, Ok, Err, IfOk, IfSome}
+use Rattle.std.specs.List.{AllByRecursion}
+use Rattle.ac_syntax.specs.declared.tree.Order.{Order}
+use Rattle.ac_syntax.specs.declared.tree.Site.{Site}
+use Rattle.ac_paths.specs.Calls.{pairing}
+use Rattle.ac_claims.specs.ProofFaults.{domain}
+use Rattle.ac_claims.specs.Remaining.{count_by}
+use Rattle.ac_claims.specs.declared.types.Claim.{Claim}
+use Rattle.ac_claims.specs.declared.types.ClaimTree.{ClaimTree}
+use Rattle.ac_decided.specs.Stopping.{key_of}
+use Rattle.ac_plans.specs.Due.{pairs_of, pieces_of, AreNumbered, StartsAccepted}
+use Rattle.ac_plan_stops.specs.Stopped.{Stopped, StopsFrom}
+use Rattle.ac_unfold.specs.Paths.{ArePlansOf}
+use Rattle.ac_unfold.specs.Planned.{HasDomains, IfPlans}
+use Rattle.ac_unfold.specs.Plans.{IsSettled}
+use Rattle.ac_unfold.specs.Stopping.{IsStoppedAt}
+use Rattle.ac_unfold.specs.declared.types.Planned.{Planned}
+use Rattle.ac_unfold.specs.declared.types.Planned.TheVariants.{Plans, Broken}
+use Rattle.ac_unfold.specs.declared.types.Setting.{Setting}
+use Rattle.ac_unfold.specs.declared.types.UnfoldStop.{UnfoldStop}
+use Rattle.ac_tables.specs.Trees.{AreTreesOf}
+
+-- the plans of a start, by what is known of each of their parts
+pub trees_made : (s : Setting) (base : ℕ) (claims tabled : List Claim) (order : List (Site × Order)) (number : ℕ) (start : Claim) (r : Result Planned UnfoldStop)
+    → IfOk r (IfPlans (λ trees. HasDomains (pairing s.programs) start))
+    → IfOk r (IfPlans (λ trees. ArePlansOf number trees))
+    → IfOk r (IfPlans (λ trees. map pieces_of trees ≡ pairs_of (count_by (domain s.programs.left.now start.left)) (count_by (domain s.programs.right.now start.right))))
+    → (IsSettled s → IfOk r (IfPlans (λ trees. (cs : List Claim) → AreNumbered base claims cs → AreNumbered (base + length claims) tabled cs → AllByRecursion (StartsAccepted (pairing s.programs) cs start) trees)))
+    → IfOk r (IfPlans (λ trees. (g : Stopped) → IsStoppedAt s order base claims tabled g → AllByRecursion (λ (t : ClaimTree). StopsFrom g (key_of start) t.tree) trees))
+    → IfOk r (IfPlans (AreTreesOf s base claims tabled order number start))
+trees_made s base claims tabled order number start (Ok (Plans trees)) d n p a g = record { claim = n; domains = d; pieces = p; accepted = a; stops = g }
+trees_made s base claims tabled order number start (Ok (Broken path)) d n p a g = tt
+trees_made s base claims tabled order number start (Err stop) d n p a g = tt
+
+-- the same, where the claims are those of a table
+pub trees_at : (s : Setting) (base b : ℕ) (claims xs tabled ys : List Claim) (order os : List (Site × Order)) (number : ℕ) (start : Claim) (r : Result Planned UnfoldStop)
+    → b ≡ base → xs ≡ claims → ys ≡ tabled → os ≡ order → IfOk r (IfPlans (AreTreesOf s b xs ys os number start)) → IfOk r (IfPlans (AreTreesOf s base claims tabled order number start))
+trees_at s base b claims xs tabled ys order os number start r e f g h made =
+    subst (λ (o : List (Site × Order)). IfOk r (IfPlans (AreTreesOf s base claims tabled o number start))) h
+    (subst (λ (zs : List Claim). IfOk r (IfPlans (AreTreesOf s base claims zs os number start))) g
+    (subst (λ (zs : List Claim). IfOk r (IfPlans (AreTreesOf s base zs ys os number start))) f
+    (subst (λ (k : ℕ). IfOk r (IfPlans (AreTreesOf s k xs ys os number start))) e made)))
+
+-- what is known of plans holds where they are handed on
+pub plans_free : (P : List ClaimTree → Type 0) (r : Result Planned UnfoldStop) (o : Option Planned) (x : Planned) → IfOk r (IfPlans P) → IfSome o (λ made. r ≡ Ok made) → o ≡ Some x → IfPlans P x
+plans_free P r o x h f e =
+    let is : r ≡ Ok x = subst (λ y. IfSome y (λ made. r ≡ Ok made)) e f in
+    subst (λ y. IfOk y (IfPlans P)) is h

@@ -1,0 +1,11 @@
+use Rattle.ac_tables.specs.Tabled.{AddsTabled}
+use Rattle.ac_tables.proofs.unfolding.+tabling.Given as goal
+
+abbrev pub decreases-table_pair : goal.decreases-table_pair
+decreases-table_pair l = l.room
+
+abbrev pub decreases-table_behind : goal.decreases-table_behind
+decreases-table_behind l = l.room
+
+abbrev pub invariant-table_behind-loop-question : goal.invariant-table_behind-loop-question
+invariant-table_behind-loop-question l = AddsTabled l.setting l.fn.table l.table

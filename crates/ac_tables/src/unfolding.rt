@@ -1,0 +1,185 @@
+//! Unfolding a start against a table, behind what can be tabled.
+ghost use Rattle.std.specs.Prelude.{◌≡◌, ◌+◌, IfErr, IfOk, IfSome, Ok, length};
+ghost use Rattle.ac_forms.specs.Members.{IsAmong};
+ghost use Rattle.ac_claims.specs.declared.types.Claim.{Claim as Asked};
+ghost use Rattle.ac_decided.specs.Stopping.{key_of};
+ghost use Rattle.ac_leading.specs.Broken.{IsBroken};
+ghost use Rattle.ac_leading.specs.Leading.{Unfolding};
+ghost use Rattle.ac_unfold.specs.Causes.{StopsUnfolding};
+ghost use Rattle.ac_unfold.specs.Planned.{IfBroken, IfPlans};
+ghost use Rattle.ac_unfold.specs.Unfoldings.{IsUnfoldingOf};
+ghost use Rattle.ac_tables.specs.Tabled.{AddsTabled, AreTabled};
+ghost use Rattle.ac_tables.specs.Tables.{Grows};
+ghost use Rattle.ac_tables.specs.Trees.{AreTreesOf};
+
+use crate::relations::{copy_of, fitting, is_claimed, is_covered, relation_of};
+use crate::stepping::questions_behind;
+use crate::table::Table;
+use ac_claims::types::Claim;
+use ac_forms::column_after;
+use ac_items::Items;
+use ac_paths::places::call_at;
+use ac_unfold::claim_trees;
+use ac_unfold::types::{Planned, Setting, UnfoldStop};
+use std::alloc::{AllocError, Global};
+
+/// How deep the pairs behind a start are gone through, in calls: two for each step.
+const MOST_DEEP: usize = 2_000;
+
+/// What comes of a relation; none where a question is too wide or costs too much.
+fn freely(planned: Result<Planned, UnfoldStop>) -> Result<Option<Planned>, AllocError>
+    ensures { IfOk result (λ free. IfSome free (λ made. planned ≡ Ok made)) }
+{
+    match planned {
+        Ok(planned) => Ok(Some(planned)),
+        Err(UnfoldStop::Memory(want)) => Err(want),
+        Err(_) => Ok(None),
+    }
+}
+
+/// Whether two calls stand at the pair of a relation.
+fn are_calls(setting: &Setting<'_>, relation: &Claim) -> bool {
+    let programs = &setting.programs;
+    call_at(programs.left, &relation.left).is_some()
+        && call_at(programs.right, &relation.right).is_some()
+}
+
+/// What comes of a claim with a number that is unfolded against a table as it stands.
+fn planned(
+    alloc: Global,
+    setting: &Setting<'_>,
+    number: usize,
+    start: &Claim,
+    table: &Table,
+) -> Result<Planned, UnfoldStop>
+    ensures trees { IfOk result (IfPlans (AreTreesOf setting.now table.now.base table.now.claims table.now.tabled table.now.order number start.now)) }
+    ensures broken { IfOk result (IfBroken (λ path. (u : Unfolding) → IsUnfoldingOf setting.now start.now table.now.order u → IsBroken u table.now.claims path)) }
+    ensures causes { IfErr result (StopsUnfolding setting.now start.now table.now.claims table.now.order) }
+{
+    claim_trees(
+        alloc,
+        setting,
+        number,
+        start,
+        table.base(),
+        table.claims(),
+        table.tabled(),
+        table.order(),
+    )
+}
+
+/// The number of the next claim that is tabled.
+fn next_number(table: &Table) -> Result<usize, AllocError>
+    ensures { IfOk result (λ number. number ≡ table.now.base + length table.now.claims + length table.now.tabled) }
+{
+    let behind = column_after(table.base(), table.claims().len())?;
+    column_after(behind, table.tabled().len())
+}
+
+/// Tables a relation, if it stands. False where a path of it is broken.
+fn table_proved(
+    alloc: Global,
+    setting: &Setting<'_>,
+    relation: Claim,
+    table: &mut Table,
+) -> Result<bool, AllocError>
+    requires { (d : Asked) → IsAmong d table.old.claims → ¬ (key_of d ≡ key_of relation) }
+    ensures { AddsTabled setting.now table.old table.new }
+{
+    let Some(relation) = fitting(alloc, setting, relation)? else {
+        return Ok(true);
+    };
+    let number = next_number(table)?;
+    match freely(planned(alloc, setting, number, &relation, table))? {
+        Some(Planned::Plans(trees)) => {
+            table.push(relation, trees)?;
+            Ok(true)
+        }
+        Some(Planned::Broken(_)) => Ok(false),
+        None => Ok(true),
+    }
+}
+
+/// Tables what lies behind a relation, and then the relation, where two calls stand at its pair and it stands. Nothing is tabled where the
+/// pair has a claim, or a relation that says no more was met or tabled before. False where a path of it is known to be broken.
+#[cycle(tabling)]
+fn table_pair(
+    alloc: Global,
+    setting: &Setting<'_>,
+    relation: Claim,
+    table: &mut Table,
+    met: &mut Items<Claim>,
+    room: usize,
+) -> Result<bool, AllocError>
+    ensures { AddsTabled setting.now table.old table.new }
+{
+    if room == 0 {
+        return Ok(true);
+    }
+    if is_claimed(table.claims(), &relation) {
+        return Ok(true);
+    }
+    if is_covered(met.as_slice(), &relation) || is_covered(table.tabled(), &relation) {
+        return Ok(true);
+    }
+    met.push(copy_of(alloc, &relation)?)?;
+    let may_stand = table_behind(alloc, setting, &relation, table, met, room - 1)?;
+    if !may_stand || !are_calls(setting, &relation) {
+        return Ok(may_stand);
+    }
+    table_proved(alloc, setting, relation, table)
+}
+
+/// Tables what lies behind the pairs of a claim: the relations of the questions to which one step leads from there, in order, up to the first
+/// of which a path is broken. False where there is one: each point of such a relation is reached from the claim, which does not stand then.
+#[cycle(tabling)]
+fn table_behind(
+    alloc: Global,
+    setting: &Setting<'_>,
+    claim: &Claim,
+    table: &mut Table,
+    met: &mut Items<Claim>,
+    room: usize,
+) -> Result<bool, AllocError>
+    ensures { AddsTabled setting.now table.old table.new }
+{
+    if room == 0 {
+        return Ok(true);
+    }
+    let params = setting.programs.left.params;
+    let questions = questions_behind(alloc, setting, table.order(), claim)?;
+    for question in questions.as_slice() {
+        let Some(relation) = relation_of(alloc, params, question, setting.budget)? else {
+            continue;
+        };
+        let may_stand = table_pair(alloc, setting, relation, table, met, room - 1)?;
+        if !may_stand {
+            return Ok(false);
+        }
+    }
+    Ok(true)
+}
+
+/// Unfolds a start against a table, to which is added what is proved on the way; the start has the number `number` in the proof.
+///
+/// The plans of the start end at the claims of the table, and at tabled ones where their rows stand. A judge of proofs accepts them
+/// where the claims have the numbers from the base on, and the tabled ones those behind them. So it is with the plans of each tabled
+/// claim, which end at the claims and at those that were tabled before it. A path that is broken leads to a mismatch or to a claim of the
+/// table, and a stop is one of the start: what is asked of relations is never its cause.
+pub fn unfold(
+    alloc: Global,
+    setting: &Setting<'_>,
+    number: usize,
+    start: &Claim,
+    table: &mut Table,
+) -> Result<Planned, UnfoldStop>
+    ensures trees { IfOk result (IfPlans (AreTreesOf setting.now table.new.base table.new.claims table.new.tabled table.new.order number start.now)) }
+    ensures broken { IfOk result (IfBroken (λ path. (u : Unfolding) → IsUnfoldingOf setting.now start.now table.new.order u → IsBroken u table.new.claims path)) }
+    ensures causes { IfErr result (StopsUnfolding setting.now start.now table.new.claims table.new.order) }
+    ensures kept { Grows table.old table.new }
+    ensures valid { AreTabled setting.now table.old → AreTabled setting.now table.new }
+{
+    let mut met = Items::new(alloc);
+    let _may_stand = table_behind(alloc, setting, start, table, &mut met, MOST_DEEP)?;
+    planned(alloc, setting, number, start, table)
+}
