@@ -80,7 +80,7 @@ by-on g order s q h made f None None bs e =
     (subst (λ (o : Option CallAt). PathsOn g.params s q bs (branches_of_calls g order h (call_at g.left q.left.position) o)) (sym (ap (call_at g.right) f.right.position))
     (calls-on g order s q h f (call_at g.left q.left.position) (call_at g.right q.right.position) bs e))
 
-branches-on : (g : Pairing) (order : Order) (s : Placing) (q h : Path) → IsWellMade q.conj → Follows g.params s q h → (bs : List Path) → branches g order q ≡ Some bs → PathsOn g.params s q bs (branches g order h)
+pub branches-on : (g : Pairing) (order : Order) (s : Placing) (q h : Path) → IsWellMade q.conj → Follows g.params s q h → (bs : List Path) → branches g order q ≡ Some bs → PathsOn g.params s q bs (branches g order h)
 branches-on g order s q h made f bs e =
     subst (λ (o : Option CellForms). PathsOn g.params s q bs (branches_by g order h o (cell_read g.right h.right.position))) (sym (ap (cell_read g.left) f.left.position))
     (subst (λ (o : Option CellForms). PathsOn g.params s q bs (branches_by g order h (cell_read g.left q.left.position) o)) (sym (ap (cell_read g.right) f.right.position))
