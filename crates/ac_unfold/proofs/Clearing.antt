@@ -17,7 +17,7 @@ NoneOf claims P Q = (c : Claim) → IsAmong c claims → P ≡ c.left → ¬ (Q 
 same_if : (P Q : Position) → P ≡ Q → same_position P Q ≡ true
 same_if P Q e = subst (λ (z : Position). same_position P z ≡ true) e (same_self P)
 
-get_is : (xs : List Claim) (i : ℕ) (x : Claim) → i < length xs → x ≡ get_or xs i x → slice_get xs i ≡ Some x
+pub get_is : (xs : List Claim) (i : ℕ) (x : Claim) → i < length xs → x ≡ get_or xs i x → slice_get xs i ≡ Some x
 get_is [] i x l e = absurd (omega (arith, l))
 get_is (y ∷ xs) zero x l e = ap Some (sym e)
 get_is (y ∷ xs) (suc i) x l e = get_is xs i x (omega (arith, l)) e

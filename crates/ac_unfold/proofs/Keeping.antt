@@ -19,7 +19,6 @@ use Rattle.ac_plans.specs.Serving.{question_on, AreSidePlans}
 use Rattle.ac_plans.proofs.Covering.{cover_themselves, covered_give_plans, may_stay, serve_covered}
 use Rattle.ac_plans.proofs.Serving.{branches_give_plans}
 use Rattle.ac_plans.proofs.Sides.{sides_formed}
-use Rattle.ac_decided.specs.Stopping.{key_at}
 use Rattle.ac_unfold.specs.Courses.{IsBehind, IsOpened}
 use Rattle.ac_unfold.specs.Making.{judge_of, AreStanding, IsCaseAt, IsRefuted, IsStanding}
 use Rattle.ac_unfold.specs.Cutting.{AreMadeOn, CutsMore}
@@ -31,6 +30,7 @@ use Rattle.ac_unfold.specs.declared.ends.Search.{Search}
 use Rattle.ac_unfold.specs.declared.node.Node.{Node}
 use Rattle.ac_forms.proofs.Standings.{stands-more}
 use Rattle.ac_unfold.proofs.Behind.{behind_last}
+use Rattle.ac_unfold.proofs.Growing.{grown_part, grown_same}
 use Rattle.ac_unfold.proofs.Sides.{all_standing_side, inside_is, one_more_stands, standing_inside}
 use Rattle.ac_unfold.proofs.Stops.{all_anywhere_stop, anywhere_stops, behind_stops, beside_more}
 
@@ -156,7 +156,7 @@ pub branch_more : (search : Search) (course next : Course) (row : Row) (outside 
     → CanStand course.node.question.conj.columns row → CanBranch row → AreRefutedOn search course.node.placing course.node.question (outside_of course.node.question.conj.columns row) outside → KeepsMore search course row next
 branch_more search course next row outside o same placed can branch sides = record {
   keeps = λ cs s q rows given k. keeps_more search cs s q course next row outside rows k o same placed can branch (sides.sides given.making (judge_of search) cs);
-  beside = λ q b. beside_more search q course next row outside o (ap key_at same) (ap (λ (x : Path). x.gone) same) (all_anywhere_stop search course.node.question outside sides.stop) b;
+  beside = λ q b. beside_more search q course next row outside o (grown_same course.node.question next.node.question same) (all_anywhere_stop search course.node.question outside sides.stop) b;
 }
 
 pub cut_stays : (search : Search) (case : Case) (course : Course) (row : Row) → IsStanding course.node.question.conj row → CutsMore search case course row course
@@ -182,5 +182,5 @@ pub cut_goes : (search : Search) (case : Case) (course next : Course) (row : Row
     → CanStand course.node.question.conj.columns row → CanBranch row → AreMadeOn search case course.node.placing course.node.question (outside_of course.node.question.conj.columns row) outside → CutsMore search case course row next
 cut_goes search case course next row outside o same placed can branch sides = record {
   cuts = λ cs s q rows given assumed k. cuts_more search cs s q course next row outside rows k o same placed can branch (λ formed. sides.sides cs given (case_goes (judge_of search) q course.node.question case k.positions assumed) formed);
-  beside = λ q b. beside_more search q course next row outside o (ap key_at same) (ap (λ (x : Path). x.gone) same) sides.stop b;
+  beside = λ q b. beside_more search q course next row outside o (grown_part course.node.question next.node.question (inside_of row) same) sides.stop b;
 }

@@ -6,6 +6,7 @@ pub mod Clearing
 pub mod Coming
 pub mod Failing
 pub mod Full
+pub mod Growing
 pub mod Keeping
 pub mod Matching
 pub mod Missing

@@ -1,5 +1,5 @@
 -- A case outside its kills: at its branch, with further rows, behind one kill more, and where all of them are passed.
-use Rattle.std.proofs.Common.{◌≡◌, inl, inr, ℕ, zero, suc, ◌+◌, ◌≤◌, false, true, ℤ, List, [], ◌∷◌, ◌++◌, length, map, take, drop, Option, Some, None, refl, sym, ap, ◌∙◌, subst, arith, append_assoc, append-nil}
+use Rattle.std.proofs.Common.{◌≡◌, inl, inr, ℕ, zero, suc, ◌+◌, ◌≤◌, false, true, ℤ, List, [], ◌∷◌, ◌++◌, length, map, take, drop, Option, Some, None, refl, sym, ap, ◌∙◌, subst, arith}
 use Rattle.std.proofs.lemmas.List.{take_all}
 use Rattle.std.proofs.Math.Nat.{min-le_left}
 use Rattle.std.specs.Prelude.{◌-◌, ◌^◌, IfOk, IfSome, Ok, Result, min, slice_get}
@@ -44,27 +44,10 @@ use Rattle.ac_unfold.specs.declared.node.Node.{Node}
 use Rattle.ac_unfold.specs.declared.types.UnfoldStop.{UnfoldStop}
 use Rattle.ac_unfold.proofs.Coming.{broken_by, broken_from, broken_then, params_are}
 use Rattle.ac_unfold.proofs.Failing.{outside_fails}
+use Rattle.ac_unfold.proofs.Growing.{grown_itself, grown_more, grown_on}
 use Rattle.ac_unfold.proofs.Results.{at_some}
 
 -- ---- further rows and columns
-
-pub grown_itself : (q : Path) → IsGrown q q
-grown_itself q =
-    let z : q.conj.columns ≡ q.conj.columns + 0 = omega arith in
-    let y : q.conj.rows ≡ q.conj.rows ++ [] = sym (append-nil q.conj.rows) in
-    let same : q.conj ≡ extended q.conj 0 [] = λ i. record { columns = z i; rows = y i } in
-    record { more = 0; rows = []; is = ap (at_rows q) same }
-
-pub grown_more : (b q v : Path) → IsGrown b q → IsGrown q v → IsGrown b v
-grown_more b q v h k =
-    let c = b.conj in
-    let z : c.columns + h.more + k.more ≡ c.columns + (h.more + k.more) = omega arith in
-    let y : (c.rows ++ h.rows) ++ k.rows ≡ c.rows ++ (h.rows ++ k.rows) = append_assoc c.rows h.rows k.rows in
-    let twice : extended (extended c h.more h.rows) k.more k.rows ≡ extended c (h.more + k.more) (h.rows ++ k.rows) = λ i. record { columns = z i; rows = y i } in
-    record { more = h.more + k.more; rows = h.rows ++ k.rows; is = k.is ∙ ap (λ (x : Path). at_rows x (extended x.conj k.more k.rows)) h.is ∙ ap (at_rows b) twice }
-
-pub grown_on : (q : Path) (part : Part) → IsGrown q (question_on q part)
-grown_on q part = record { more = part.question_columns; rows = part.rows; is = refl }
 
 -- its points are points of the first path
 grown_meets : (q v : Path) → IsGrown q v → (p : List ℤ) → v.conj.columns ≤ length p → Meets v.conj.rows p → (q.conj.columns ≤ length p) × Meets q.conj.rows p

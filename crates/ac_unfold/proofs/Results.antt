@@ -26,17 +26,16 @@ use Rattle.ac_ends.specs.Ends.{IsEnd}
 use Rattle.ac_ends.specs.Kills.{IsKillAt, kill_on}
 use Rattle.ac_ends.proofs.Killing.{kills_plans}
 use Rattle.ac_unfold.specs.Courses.{IsBehind, IsOpened}
-use Rattle.ac_decided.specs.Stopping.{key_at}
-use Rattle.ac_plan_stops.specs.Stopped.{StopsAnywhere}
 use Rattle.ac_unfold.specs.Cutting.{AreMadeOn, CutsMore, IsKilled, IsKillThere}
 use Rattle.ac_unfold.specs.Making.{judge_of, EndsWhere, IsCaseAt, IsEndFor, IsGiven, IsMade, IsMadeIn, IsPlanIn, IsRefuted}
 use Rattle.ac_unfold.specs.Standing.{AreKept, AreRefutedOn, Cuts, IsEndedPlan, IsEndOf, KeepsMore, StopsBeside}
-use Rattle.ac_unfold.specs.Stopping.{StopsIn}
+use Rattle.ac_unfold.specs.Stopping.{EndsAnywhere, StopsIn}
 use Rattle.ac_unfold.specs.Wanting.{CanStand}
 use Rattle.ac_unfold.specs.declared.course.Course.{Course}
 use Rattle.ac_unfold.specs.declared.ends.Search.{Search}
 use Rattle.ac_unfold.specs.declared.node.Node.{Node}
 use Rattle.ac_unfold.specs.declared.types.UnfoldStop.{UnfoldStop}
+use Rattle.ac_unfold.proofs.Growing.{grown_part}
 use Rattle.ac_unfold.proofs.Keeping.{branch_more, case_beside, cut_goes, cuts_start, keeps_start, refuted_end}
 use Rattle.ac_unfold.proofs.Matching.{rows_along}
 use Rattle.ac_unfold.proofs.Stops.{all_more, anywhere_stops, behind_stops, beside_none, there_stops}
@@ -166,7 +165,7 @@ pub refuted_more : (search : Search) (s : Placing) (q : Path) (ps : List Part) (
     → AreRefutedOn search s q (ps ++ p ∷ []) (ts ++ t ∷ [])
 refuted_more search s q ps ts p beside t h e f r = record {
   sides = λ making g cs. sides_more g cs s q ps ts p t (h.sides making g cs) (subst (λ (z : Placing). IsPlanFor g cs z (question_on q p) t) f (subst (λ (x : Path). IsPlanFor g cs beside.placing x t) e (r.plan g cs)));
-  stop = λ making. all_more (λ (u : Plan). StopsAnywhere u.next) ts t (h.stop making) r.stops;
+  stop = λ making. all_more (λ (u : Plan). EndsAnywhere u.next) ts t (h.stop making) r.stops;
 }
 
 pub refuted_off : (search : Search) (s : Placing) (q : Path) (ps : List Part) (ts : List Plan) → search.making ≡ false → AreRefutedOn search s q ps ts
@@ -189,7 +188,7 @@ made_more search case s q ps ts p beside t h e f made = record {
       let there : IsCaseAt g beside.question case = subst (λ (x : Path). IsCaseAt g x case) (sym e) (case_beside g q (question_on q p).conj case assumed) in
       let plan : IsPlanFor g cs beside.placing beside.question t = made.plan there cs given (subst (λ (x : Path). IsFormed g.params x) (sym e) k.1) in
       sides_more g cs s q ps ts p t (h.sides cs given assumed k.0) (subst (λ (z : Placing). IsPlanFor g cs z (question_on q p) t) f (subst (λ (x : Path). IsPlanFor g cs beside.placing x t) e plan));
-  stop = all_more (λ (u : Plan). StopsIn search q u.next) ts t h.stop (there_stops search q beside.question t.next (ap key_at e) (ap (λ (x : Path). x.gone) e) made.stops);
+  stop = all_more (λ (u : Plan). StopsIn search q u.next) ts t h.stop (there_stops search q beside.question t.next (grown_part q beside.question p e) made.stops);
 }
 
 -- ---- the rows of a kill

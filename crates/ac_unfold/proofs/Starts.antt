@@ -4,7 +4,7 @@ use Rattle.std.specs.Prelude.{Result, Ok, Err, IfOk, IfSome}
 use Rattle.std.specs.List.{AllByRecursion, range_with_len}
 use Rattle.ac_forms.specs.Rows.{IsWellMade}
 use Rattle.ac_forms.specs.declared.row.Row.{Row}
-use Rattle.ac_choices.proofs.Keeping.{bind-some, map-some}
+use Rattle.ac_choices.proofs.Keeping.{bind-some, map-some, some-is}
 use Rattle.ac_syntax.specs.declared.tree.Order.{Order}
 use Rattle.ac_syntax.specs.declared.tree.Position.{Position}
 use Rattle.ac_syntax.specs.declared.tree.Site.{Site}
@@ -24,13 +24,15 @@ use Rattle.ac_graft.specs.Placings.{itself}
 use Rattle.ac_graft.specs.declared.placing.Placing.{Placing}
 use Rattle.ac_plans.proofs.Starting.{accepted_at_starts}
 use Rattle.ac_decided.specs.Stopping.{key_at, key_of}
+use Rattle.ac_plan_heeds.specs.Heeded.{HaveClaimModuli, Heeds, HeedsFromStart}
+use Rattle.ac_plan_heeds.proofs.Heeding.{starts_heed}
 use Rattle.ac_plan_stops.specs.Stopped.{Stopped, StopsFrom, StopsOn}
 use Rattle.ac_plan_stops.proofs.Stopping.{plans_stop}
 use Rattle.ac_unfold.specs.Begun.{AreBegun, IsBegun, StopsAtStart}
 use Rattle.ac_unfold.specs.Making.{judge_of, IsGiven, IsMade, IsPlanIn, IsRefuted}
 use Rattle.ac_plans.specs.Due.{pairs_of, pieces_of, AreNumbered, StartsAccepted}
 use Rattle.ac_unfold.specs.Plans.{IsSettled}
-use Rattle.ac_unfold.specs.Stopping.{IsStoppedAt, IsStoppedIn, StopsIn}
+use Rattle.ac_unfold.specs.Stopping.{IsHeeding, IsStoppedAt, IsStoppedIn, StopsIn}
 use Rattle.ac_unfold.specs.declared.ends.Search.{Search}
 use Rattle.ac_unfold.specs.declared.node.Node.{Node}
 use Rattle.ac_unfold.specs.declared.types.Setting.{Setting}
@@ -87,7 +89,12 @@ stops_at_start : (search : Search) (start : Claim) (left right : ℕ) (path : Pa
 unfolding StopsIn StopsAtStart
 stops_at_start search start left right path t e h making g at =
     let p = start_pair (judge_of search) start left right path e in
-    plans_stop g (key_of start) t (subst (λ (k : Position × Position). StopsOn g k false t.next) p.0 (subst (λ (b : Bool). StopsOn g (key_at path) b t.next) p.1 (h making g at)))
+    plans_stop g (key_of start) t (subst (λ (k : Position × Position). StopsOn g k false t.next) p.0 (subst (λ (b : Bool). StopsOn g (key_at path) b t.next) p.1 ((h making).0 g at)))
+
+-- what heeds claims on the path of the start heeds them from there on
+heeds_at_start : (search : Search) (path : Path) (t : Plan) → IsFormed (judge_of search).params path → StopsIn search path t.next → search.making ≡ true → IsHeeding search → Heeds (judge_of search) search.tabled.now t.next path
+unfolding StopsIn
+heeds_at_start search path t formed h making heeding = starts_heed (judge_of search) search.tabled.now path t.next formed ((h making).1 heeding)
 
 -- a plan for the start of a claim is accepted on it
 pub begun : (search : Search) (start : Claim) (left right : ℕ) (path : Path) (node : Node) (t : Plan) → start_at (judge_of search) start left right ≡ Some path → IsWellMade path.conj → node.question ≡ path → node.placing ≡ itself path.conj.columns (length path.conj.rows)
@@ -97,18 +104,30 @@ begun search start left right path node t e made q s plan =
     let g = judge_of search in
     let formed = at_formed g start left right path e made in
     let there : IsMade search (itself path.conj.columns (length path.conj.rows)) path t = subst (λ (x : Path). IsMade search (itself path.conj.columns (length path.conj.rows)) x t) q (subst (λ (z : Placing). IsMade search z node.question t) s plan) in
-    record { path = path; starts = e; accepted = λ cs given. accepted_at_starts g cs path t formed (there.plan cs given formed); stops = stops_at_start search start left right path t e there.stops }
+    record {
+      path = path;
+      starts = e;
+      accepted = λ cs given. accepted_at_starts g cs path t formed (there.plan cs given formed);
+      stops = stops_at_start search start left right path t e there.stops;
+      heeds = heeds_at_start search path t formed there.stops;
+    }
 
 -- ---- the trees
+
+from_start : (search : Search) (start : Claim) (t : ClaimTree) → IsBegun search start t.left_piece t.right_piece t.tree → search.making ≡ true → IsHeeding search → HeedsFromStart (judge_of search) search.tabled.now start t
+from_start search start t b making heeding = λ p e.
+    let same : b.path ≡ p = some-is b.path p (sym b.starts ∙ e) in
+    subst (Heeds (judge_of search) search.tabled.now t.tree.next) same (b.heeds making heeding)
 
 pub begun_more : (search : Search) (start : Claim) (trees : List ClaimTree) (t : ClaimTree) → AreBegun search start trees → IsBegun search start t.left_piece t.right_piece t.tree → AreBegun search start (trees ++ t ∷ [])
 begun_more search start trees t h b = record {
   accepted = λ cs given. all_more (StartsAccepted (judge_of search) cs start) trees t (h.accepted cs given) (record { path = b.path; starts = b.starts; accepted = b.accepted cs given });
   stop = all_more (λ (x : ClaimTree). StopsAtStart search start x.tree) trees t h.stop b.stops;
+  heed = λ making heeding. all_more (HeedsFromStart (judge_of search) search.tabled.now start) trees t (h.heed making heeding) (from_start search start t b making heeding);
 }
 
 pub begun_none : (search : Search) (start : Claim) (trees : List ClaimTree) → trees ≡ [] → AreBegun search start trees
-begun_none search start trees e = subst (AreBegun search start) (sym e) (record { accepted = λ cs given. tt; stop = tt })
+begun_none search start trees e = subst (AreBegun search start) (sym e) (record { accepted = λ cs given. tt; stop = tt; heed = λ making heeding. tt })
 
 pub accepted_by : (search : Search) (setting : Setting) (base : ℕ) (claims tabled : List Claim) (start : Claim) (trees : List ClaimTree) → search.setting.now ≡ setting → search.base ≡ base → search.claims.now ≡ claims → search.tabled.now ≡ tabled → search.making ≡ true
     → AreBegun search start trees → IsSettled setting → (cs : List Claim) → AreNumbered base claims cs → AreNumbered (base + length claims) tabled cs → AllByRecursion (StartsAccepted (pairing setting.programs) cs start) trees
@@ -137,6 +156,12 @@ stopped_by search setting order base claims tabled start trees e o b k t m h g a
     each : (ts : List ClaimTree) → AllByRecursion (λ (t : ClaimTree). StopsAtStart search start t.tree) ts → AllByRecursion (λ (t : ClaimTree). StopsFrom g (key_of start) t.tree) ts
     each [] s = tt
     each (t ∷ ts) s = (s.0 m g there, each ts s.1)
+
+pub heeded_by : (search : Search) (setting : Setting) (tabled : List Claim) (start : Claim) (trees : List ClaimTree) → search.setting.now ≡ setting → search.tabled.now ≡ tabled → search.making ≡ true
+    → AreBegun search start trees → IsSettled setting → HaveClaimModuli tabled → AllByRecursion (HeedsFromStart (pairing setting.programs) tabled start) trees
+heeded_by search setting tabled start trees e t m h settled moduli =
+    let heeding : IsHeeding search = record { settled = subst IsSettled (sym e) settled; moduli = subst HaveClaimModuli (sym t) moduli } in
+    subst (λ (x : Setting). AllByRecursion (HeedsFromStart (pairing x.programs) tabled start) trees) e (subst (λ (xs : List Claim). AllByRecursion (HeedsFromStart (judge_of search) xs start) trees) t (h.heed m heeding))
 
 -- the trees behind some, each with the next right piece
 pub record Rights (left done : ℕ) (old new : List ClaimTree) : Type 0 where

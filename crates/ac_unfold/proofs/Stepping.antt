@@ -17,15 +17,16 @@ use Rattle.ac_graft.specs.Placings.{grown}
 use Rattle.ac_graft.specs.declared.placing.Placing.{Placing}
 use Rattle.ac_plans.specs.Following.{behind_branch, ArePlansFor, IsPlanFor}
 use Rattle.ac_decided.specs.Stopping.{key_at}
-use Rattle.ac_plan_stops.specs.Stopped.{Stopped, StopEach, StopsOn}
+use Rattle.ac_plan_heeds.specs.Heeded.{HeedEach, HeedsOn}
+use Rattle.ac_plan_stops.specs.Stopped.{StopEach, StopsOn}
 use Rattle.ac_leading.specs.Steps.{flow_on}
 use Rattle.ac_unfold.specs.Cutting.{IsAssumed, IsStep}
 use Rattle.ac_unfold.specs.Making.{judge_of, IsGiven, IsMade, IsMadeIn, IsPlanIn}
-use Rattle.ac_unfold.specs.Stopping.{IsStoppedIn, MayStep, StopsIn}
+use Rattle.ac_unfold.specs.Stopping.{MayStep, StopsIn}
 use Rattle.ac_unfold.specs.declared.ends.Search.{Search}
 use Rattle.ac_unfold.specs.declared.node.Node.{Node}
 use Rattle.ac_unfold.proofs.Assuming.{case_there}
-use Rattle.ac_unfold.proofs.Stops.{each_more, step_stops}
+use Rattle.ac_unfold.proofs.Stops.{each_heeds_more, each_more, step_stops, StopBranches}
 
 plans_more : (g : Pairing) (cs : List Claim) (s : Placing) (q : Path) (bs : List Path) (ts : List Plan) (b : Path) (t : Plan) → ArePlansFor g cs s q bs ts → IsPlanFor g cs (behind_branch s q b) b t → ArePlansFor g cs s q (bs ++ b ∷ []) (ts ++ t ∷ [])
 plans_more g cs s q [] [] b t h p = (p, tt)
@@ -50,10 +51,10 @@ behind_onto s q b =
 -- plans for the first branches, if these are formed, which stop from them
 pub record ServeBranches (search : Search) (s : Placing) (q : Path) (bs : List Branch) (ts : List Plan) : Type 0 where
   pub serve : (cs : List Claim) → IsGiven search cs → AllFormed (judge_of search).params (map (onto q) bs) → ArePlansFor (judge_of search) cs s q (map (onto q) bs) ts
-  pub stop : search.making ≡ true → (g : Stopped) → IsStoppedIn search g → StopEach g (map (onto q) bs) ts
+  pub stop : StopBranches search (map (onto q) bs) ts
 
 pub serve_none : (search : Search) (s : Placing) (q : Path) → ServeBranches search s q [] []
-serve_none search s q = record { serve = λ cs given formed. tt; stop = λ making g at. tt }
+serve_none search s q = record { serve = λ cs given formed. tt; stop = record { stop = λ making g at. tt; heed = λ making heeding. tt } }
 
 pub serve_more : (search : Search) (s : Placing) (q : Path) (bs : List Branch) (ts : List Plan) (b : Branch) (child : Node) (t : Plan) → ServeBranches search s q bs ts → child.question ≡ onto q b → child.placing ≡ grown s b.columns (length b.rows)
     → IsMade search child.placing child.question t → ServeBranches search s q (bs ++ b ∷ []) (ts ++ t ∷ [])
@@ -66,9 +67,16 @@ serve_more search s q bs ts b child t h e f made = record {
       let p' : IsPlanFor g cs (behind_branch s q (onto q b)) (onto q b) t =
       subst (λ (z : Placing). IsPlanFor g cs z (onto q b) t) (f ∙ sym (behind_onto s q b)) (subst (λ (x : Path). IsPlanFor g cs child.placing x t) e p) in
       subst (λ (xs : List Path). ArePlansFor g cs s q xs (ts ++ t ∷ [])) (sym (onto_more q bs b)) (plans_more g cs s q (map (onto q) bs) ts (onto q b) t (h.serve cs given k.0) p');
-  stop = λ making g at.
-      subst (λ (xs : List Path). StopEach g xs (ts ++ t ∷ [])) (sym (onto_more q bs b))
-      (each_more g (map (onto q) bs) ts (onto q b) t (h.stop making g at) (subst (λ (x : Path). StopsOn g (key_at x) x.gone t.next) e (made.stops making g at)));
+  stop = record {
+    stop = λ making g at.
+        subst (λ (xs : List Path). StopEach g xs (ts ++ t ∷ [])) (sym (onto_more q bs b))
+        (each_more g (map (onto q) bs) ts (onto q b) t (h.stop.stop making g at) (subst (λ (x : Path). StopsOn g (key_at x) x.gone t.next) e ((made.stops making).0 g at)));
+    heed = λ making heeding.
+        let g = judge_of search in
+        let claims = search.tabled.now in
+        subst (λ (xs : List Path). HeedEach g claims xs (ts ++ t ∷ [])) (sym (onto_more q bs b))
+        (each_heeds_more g claims (map (onto q) bs) ts (onto q b) t (h.stop.heed making heeding) (subst (λ (x : Path). HeedsOn g claims x t.next) e ((made.stops making).1 heeding)));
+  };
 }
 
 served_step : (search : Search) (s : Placing) (q : Path) (order : Order) (found : List Branch) (ts : List Plan) (t : Plan) → ServeBranches search s q found ts → IsStep order ts t → Some (map (onto q) found) ≡ branches (judge_of search) order q
@@ -79,7 +87,7 @@ served_step search s q order found ts t serve step is formed cs given f =
     step.follows g given.settled.left given.settled.right cs s q (map (onto q) found) f (sym is) (serve.serve cs given (formed given.settled.left given.settled.right f))
 
 pub serve_off : (search : Search) (s : Placing) (q : Path) (bs : List Branch) (ts : List Plan) → search.making ≡ false → ServeBranches search s q bs ts
-serve_off search s q bs ts e = record { serve = λ cs given formed. let z : true ≡ false = sym given.making ∙ e in absurd cc; stop = λ making g at. let z : true ≡ false = sym making ∙ e in absurd cc }
+serve_off search s q bs ts e = record { serve = λ cs given formed. let z : true ≡ false = sym given.making ∙ e in absurd cc; stop = record { stop = λ making g at. let z : true ≡ false = sym making ∙ e in absurd cc; heed = λ making heeding. let z : true ≡ false = sym making ∙ e in absurd cc } }
 
 -- the plan of the step, where there is one and the step may be taken
 pub step_made : (search : Search) (s : Placing) (q : Path) (order : Order) (found : List Branch) (ts : List Plan) (o : Option Plan) → ServeBranches search s q found ts → IfSome o (IsStep order ts) → Some (map (onto q) found) ≡ branches (judge_of search) order q

@@ -21,6 +21,7 @@ use Rattle.ac_paths.specs.declared.path.Assumed.{Assumed}
 use Rattle.ac_paths.specs.declared.path.Branch.{Branch}
 use Rattle.ac_paths.specs.declared.path.Path.{Path}
 use Rattle.ac_paths.specs.declared.places.CellForms.{CellForms}
+use Rattle.ac_claims.specs.declared.types.Claim.{Claim}
 use Rattle.ac_claims.specs.declared.types.Kill.{Kill}
 use Rattle.ac_claims.specs.declared.types.Plan.{Plan}
 use Rattle.ac_claims.specs.declared.types.PlanNext.{PlanNext}
@@ -31,7 +32,9 @@ use Rattle.ac_graph.specs.Moves.{pairing_of}
 use Rattle.ac_setting.specs.Programs.{may_swap, order_at}
 use Rattle.ac_decided.specs.Stopping.{key_at, programs_of}
 use Rattle.ac_stopping.specs.Parts.{order_of}
-use Rattle.ac_plan_stops.specs.Stopped.{Stopped, MayGoOnFrom, StopEach, StopsAnywhere, StopsOn}
+use Rattle.ac_plan_heeds.specs.Heeded.{HeedEach, HeedsOn}
+use Rattle.ac_plan_heeds.proofs.Heeding.{branches_heed, further_rows_heed, kills_heed, steps_heed}
+use Rattle.ac_plan_stops.specs.Stopped.{Stopped, MayGoOnFrom, StopEach, StopsOn}
 use Rattle.ac_plan_stops.proofs.Stopping.{branches_stop, kills_stop, steps_stop}
 use Rattle.ac_leading.specs.Leading.{Unfolding}
 use Rattle.ac_leading.specs.Steps.{AreNoReaders}
@@ -40,11 +43,13 @@ use Rattle.ac_unfold.specs.Courses.{IsBehind, IsOpened}
 use Rattle.ac_unfold.specs.Cutting.{IsKilled, IsStep}
 use Rattle.ac_unfold.specs.Making.{judge_of}
 use Rattle.ac_unfold.specs.Standing.{StopsBeside}
-use Rattle.ac_unfold.specs.Stopping.{IsStoppedIn, IsUnclaimed, MayStep, StopsIn, TakesIn}
+use Rattle.ac_unfold.specs.Passing.{IsGrown}
+use Rattle.ac_unfold.specs.Stopping.{EndsAnywhere, IsHeeding, IsStoppedIn, IsUnclaimed, MayStep, StopsIn, TakesIn}
 use Rattle.ac_unfold.specs.declared.course.Course.{Course}
 use Rattle.ac_unfold.specs.declared.course.Open.{Open}
 use Rattle.ac_unfold.specs.declared.ends.Search.{Search}
 use Rattle.ac_unfold.specs.declared.node.Node.{Node}
+use Rattle.ac_unfold.proofs.Growing.{grown_gone, grown_more, grown_pair, grown_same}
 
 pub all_more : {A : Type 0} (P : A → Type 0) (xs : List A) (x : A) → AllByRecursion P xs → P x → AllByRecursion P (xs ++ x ∷ [])
 all_more P [] x h k = (k, tt)
@@ -52,51 +57,56 @@ all_more P (y ∷ xs) x h k = (h.0, all_more P xs x h.1 k)
 
 -- ---- one pair
 
-pub anywhere_stops : (search : Search) (q : Path) (x : PlanNext) → StopsAnywhere x → StopsIn search q x
+pub anywhere_stops : (search : Search) (q : Path) (x : PlanNext) → EndsAnywhere x → StopsIn search q x
 unfolding StopsIn
-anywhere_stops search q x h making g at = h g (key_at q) q.gone
+anywhere_stops search q x h making = ((λ g at. h.stops g (key_at q) q.gone), (λ heeding p s formed follows. h.heeds (judge_of search) search.tabled.now p))
 
-pub all_anywhere_stop : (search : Search) (q : Path) (ts : List Plan) → (search.making ≡ true → AllByRecursion (λ (t : Plan). StopsAnywhere t.next) ts) → AllByRecursion (λ (t : Plan). StopsIn search q t.next) ts
+pub all_anywhere_stop : (search : Search) (q : Path) (ts : List Plan) → (search.making ≡ true → AllByRecursion (λ (t : Plan). EndsAnywhere t.next) ts) → AllByRecursion (λ (t : Plan). StopsIn search q t.next) ts
 unfolding StopsIn
 all_anywhere_stop search q [] h = tt
-all_anywhere_stop search q (t ∷ ts) h = ((λ making g at. (h making).0 g (key_at q) q.gone), all_anywhere_stop search q ts (λ making. (h making).1))
+all_anywhere_stop search q (t ∷ ts) h = ((λ making. anywhere_stops search q t.next (h making).0 making), all_anywhere_stop search q ts (λ making. (h making).1))
 
--- at another question of the pair
-pub there_stops : (search : Search) (q v : Path) (x : PlanNext) → key_at v ≡ key_at q → v.gone ≡ q.gone → StopsIn search v x → StopsIn search q x
+-- on the question with further rows and columns
+pub there_stops : (search : Search) (q v : Path) (x : PlanNext) → IsGrown q v → StopsIn search v x → StopsIn search q x
 unfolding StopsIn
-there_stops search q v x e f h making g at = subst (λ (k : Position × Position). StopsOn g k q.gone x) e (subst (λ (b : Bool). StopsOn g (key_at v) b x) f (h making g at))
+there_stops search q v x w h making = (
+  (λ g at. subst (λ (k : Position × Position). StopsOn g k q.gone x) (grown_pair q v w) (subst (λ (b : Bool). StopsOn g (key_at v) b x) (grown_gone q v w) ((h making).0 g at))),
+  (λ heeding. further_rows_heed (judge_of search) search.tabled.now q w.more w.rows x (subst (λ (y : Path). HeedsOn (judge_of search) search.tabled.now y x) w.is ((h making).1 heeding))),
+)
 
-pub all_there_stop : (search : Search) (q v : Path) (ts : List Plan) → key_at v ≡ key_at q → v.gone ≡ q.gone → AllByRecursion (λ (t : Plan). StopsIn search v t.next) ts → AllByRecursion (λ (t : Plan). StopsIn search q t.next) ts
-all_there_stop search q v [] e f h = tt
-all_there_stop search q v (t ∷ ts) e f h = (there_stops search q v t.next e f h.0, all_there_stop search q v ts e f h.1)
+pub all_there_stop : (search : Search) (q v : Path) (ts : List Plan) → IsGrown q v → AllByRecursion (λ (t : Plan). StopsIn search v t.next) ts → AllByRecursion (λ (t : Plan). StopsIn search q t.next) ts
+all_there_stop search q v [] w h = tt
+all_there_stop search q v (t ∷ ts) w h = (there_stops search q v t.next w h.0, all_there_stop search q v ts w h.1)
 
 -- ---- courses
 
 pub beside_none : (search : Search) (node : Node) (course : Course) → course.node ≡ node → course.branches.items ≡ [] → StopsBeside search node.question course
 beside_none search node course e none = record {
-  pair = ap (λ (n : Node). key_at n.question) e;
-  gone = ap (λ (n : Node). n.question.gone) e;
+  within = grown_same node.question course.node.question (ap (λ (n : Node). n.question) e);
   outside = subst (λ (bs : List Open). AllByRecursion (λ (b : Open). AllByRecursion (λ (t : Plan). StopsIn search node.question t.next) b.outside.items) bs) (sym none) tt;
 }
 
-pub beside_more : (search : Search) (q : Path) (course next : Course) (row : Row) (outside : List Plan) → IsOpened course row outside next → key_at next.node.question ≡ key_at course.node.question → next.node.question.gone ≡ course.node.question.gone
+pub beside_more : (search : Search) (q : Path) (course next : Course) (row : Row) (outside : List Plan) → IsOpened course row outside next → IsGrown course.node.question next.node.question
     → AllByRecursion (λ (t : Plan). StopsIn search course.node.question t.next) outside → StopsBeside search q course → StopsBeside search q next
-beside_more search q course next row outside o e f all b =
-    let here : AllByRecursion (λ (t : Plan). StopsIn search q t.next) o.last.outside.items = subst (λ (ts : List Plan). AllByRecursion (λ (t : Plan). StopsIn search q t.next) ts) (sym o.outside_are) (all_there_stop search q course.node.question outside b.pair b.gone all) in
+beside_more search q course next row outside o w all b =
+    let here : AllByRecursion (λ (t : Plan). StopsIn search q t.next) o.last.outside.items = subst (λ (ts : List Plan). AllByRecursion (λ (t : Plan). StopsIn search q t.next) ts) (sym o.outside_are) (all_there_stop search q course.node.question outside b.within all) in
     record {
-      pair = e ∙ b.pair;
-      gone = f ∙ b.gone;
+      within = grown_more q course.node.question next.node.question b.within w;
       outside = subst (λ (bs : List Open). AllByRecursion (λ (b : Open). AllByRecursion (λ (t : Plan). StopsIn search q t.next) b.outside.items) bs) (sym o.branches)
           (all_more (λ (b : Open). AllByRecursion (λ (t : Plan). StopsIn search q t.next) b.outside.items) course.branches.items o.last b.outside here);
     }
 
 branches_in : (search : Search) (q : Path) (ts : List Plan) (x : PlanNext) → BranchesTo ts x → AllByRecursion (λ (t : Plan). StopsIn search q t.next) ts → StopsIn search q x
 unfolding StopsIn
-branches_in search q ts x b all making g at = branches_stop g (key_at q) q.gone ts x b (each ts all)
+branches_in search q ts x b all making = ((λ g at. branches_stop g (key_at q) q.gone ts x b (each g at ts all)), (λ heeding. branches_heed (judge_of search) search.tabled.now q ts x b (heed heeding ts all)))
   where
-    each : (us : List Plan) → AllByRecursion (λ (t : Plan). StopsIn search q t.next) us → AllByRecursion (λ (t : Plan). StopsOn g (key_at q) q.gone t.next) us
-    each [] h = tt
-    each (u ∷ us) h = (h.0 making g at, each us h.1)
+    each : (g : Stopped) → IsStoppedIn search g → (us : List Plan) → AllByRecursion (λ (t : Plan). StopsIn search q t.next) us → AllByRecursion (λ (t : Plan). StopsOn g (key_at q) q.gone t.next) us
+    each g at [] h = tt
+    each g at (u ∷ us) h = ((h.0 making).0 g at, each g at us h.1)
+
+    heed : IsHeeding search → (us : List Plan) → AllByRecursion (λ (t : Plan). StopsIn search q t.next) us → AllByRecursion (λ (t : Plan). HeedsOn (judge_of search) search.tabled.now q t.next) us
+    heed heeding [] h = tt
+    heed heeding (u ∷ us) h = ((h.0 making).1 heeding, heed heeding us h.1)
 
 -- a plan behind branches beside which plans stop
 pub behind_stops : (search : Search) (q : Path) (bs : List Open) (end t : Plan) → AllByRecursion (λ (b : Open). AllByRecursion (λ (t : Plan). StopsIn search q t.next) b.outside.items) bs → IsBehind bs end t → StopsIn search q end.next → StopsIn search q t.next
@@ -109,7 +119,7 @@ pub may_go : (search : Search) (q : Path) (g : Stopped) → IsStoppedIn search g
 may_go search q g at none gone = by (g.recurrent (key_at q)) refl
   where
     by : (b : Bool) → g.recurrent (key_at q) ≡ b → b ≡ false
-    by true e = let c = at.claimed (key_at q) e in absurd (none gone c.0 c.1 (ap (λ (k : Position × Position). k.0) (sym c.2)) (ap (λ (k : Position × Position). k.1) (sym c.2)))
+    by true e = let c = at.claimed (key_at q) e in absurd (none.none gone c.0 c.1 (ap (λ (k : Position × Position). k.0) (sym c.2)) (ap (λ (k : Position × Position). k.1) (sym c.2)))
     by false e = refl
 
 pub each_more : (g : Stopped) (bs : List Path) (ts : List Plan) (b : Path) (t : Plan) → StopEach g bs ts → StopsOn g (key_at b) true t.next → StopEach g (bs ++ b ∷ []) (ts ++ t ∷ [])
@@ -118,14 +128,31 @@ each_more g [] (u ∷ ts) b t h s = absurd h
 each_more g (c ∷ bs) [] b t h s = absurd h
 each_more g (c ∷ bs) (u ∷ ts) b t h s = (h.0, each_more g bs ts b t h.1 s)
 
-pub step_stops : (search : Search) (q : Path) (order : Order) (found : List Branch) (ts : List Plan) (t : Plan) → (search.making ≡ true → (g : Stopped) → IsStoppedIn search g → StopEach g (map (onto q) found) ts) → IsStep order ts t → Some (map (onto q) found) ≡ branches (judge_of search) order q → MayStep search q order
+pub each_heeds_more : (g : Pairing) (claims : List Claim) (bs : List Path) (ts : List Plan) (b : Path) (t : Plan) → HeedEach g claims bs ts → HeedsOn g claims b t.next → HeedEach g claims (bs ++ b ∷ []) (ts ++ t ∷ [])
+each_heeds_more g claims [] [] b t h s = (s, tt)
+each_heeds_more g claims [] (u ∷ ts) b t h s = absurd h
+each_heeds_more g claims (c ∷ bs) [] b t h s = absurd h
+each_heeds_more g claims (c ∷ bs) (u ∷ ts) b t h s = (h.0, each_heeds_more g claims bs ts b t h.1 s)
+
+-- plans that stop and heed the tabled claims on their branches
+pub record StopBranches (search : Search) (bs : List Path) (ts : List Plan) : Type 0 where
+  pub stop : search.making ≡ true → (g : Stopped) → IsStoppedIn search g → StopEach g bs ts
+  pub heed : search.making ≡ true → IsHeeding search → HeedEach (judge_of search) search.tabled.now bs ts
+
+pub step_stops : (search : Search) (q : Path) (order : Order) (found : List Branch) (ts : List Plan) (t : Plan) → StopBranches search (map (onto q) found) ts → IsStep order ts t → Some (map (onto q) found) ≡ branches (judge_of search) order q → MayStep search q order
     → StopsIn search q t.next
 unfolding StopsIn TakesIn
-step_stops search q order found ts t each step is may making g at =
-    let bs = map (onto q) found in
-    let there : branches (programs_of g.pair) order q ≡ Some bs = ap (λ (p : Pairing). branches p order q) at.programs ∙ sym is in
-    subst (StopsOn g (key_at q) q.gone) (sym step.next_is)
-    (steps_stop g q order step.plans bs (may_go search q g at may.unclaimed) (may.takes g at bs there) there (subst (λ (us : List Plan). StopEach g bs us) (sym step.plans_are) (each making g at)))
+step_stops search q order found ts t each step is may making =
+    let bs = map (onto q) found in (
+      (λ g at.
+          let there : branches (programs_of g.pair) order q ≡ Some bs = ap (λ (p : Pairing). branches p order q) at.programs ∙ sym is in
+          subst (StopsOn g (key_at q) q.gone) (sym step.next_is)
+          (steps_stop g q order step.plans bs (may_go search q g at may.unclaimed) (may.takes g at bs there) there (subst (λ (us : List Plan). StopEach g bs us) (sym step.plans_are) (each.stop making g at)))),
+      (λ heeding.
+          subst (HeedsOn (judge_of search) search.tabled.now q) (sym step.next_is)
+          (steps_heed (judge_of search) heeding.settled.left heeding.settled.right search.tabled.now q order step.plans bs (may.unclaimed.passes making heeding.moduli) (sym is)
+          (subst (λ (us : List Plan). HeedEach (judge_of search) search.tabled.now bs us) (sym step.plans_are) (each.heed making heeding)))),
+    )
 
 -- ---- orders
 
@@ -178,5 +205,8 @@ pub is_killed : (search : Search) (node : Node) (kill : Kill) (own : ℕ) (moved
 is_killed search node kill own moved t own_is are steps next = record {
   ends = λ a last.
       (steps, next ∙ ap (λ (cs : List Choice). Killed (record { stmt = kill.stmt; piece = kill.piece; after = kill.after; before = kill.before; choices = cs })) (are ∙ ap (λ (n : ℕ). map (behind n node.placing.next_column) kill.choices) (own_is a last)));
-  stops = subst StopsAnywhere (sym next) (kills_stop (record { stmt = kill.stmt; piece = kill.piece; after = kill.after; before = kill.before; choices = moved }));
+  stops = subst EndsAnywhere (sym next) (record {
+    stops = kills_stop (record { stmt = kill.stmt; piece = kill.piece; after = kill.after; before = kill.before; choices = moved });
+    heeds = kills_heed (record { stmt = kill.stmt; piece = kill.piece; after = kill.after; before = kill.before; choices = moved });
+  });
 }

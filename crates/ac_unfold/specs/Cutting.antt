@@ -31,10 +31,9 @@ use Rattle.ac_plans.specs.Following.{ArePlansFor, IsPlanFor}
 use Rattle.ac_plans.specs.Serving.{question_on, AreSidePlans}
 use Rattle.ac_unfold.specs.Cases.{AssumesCase}
 use Rattle.ac_ends.specs.Ends.{IsEnd}
-use Rattle.ac_plan_stops.specs.Stopped.{StopsAnywhere}
 use Rattle.ac_unfold.specs.Making.{judge_of, IsCaseAt, IsEndFor, IsGiven}
 use Rattle.ac_unfold.specs.Standing.{Cuts, StopsBeside}
-use Rattle.ac_unfold.specs.Stopping.{IsUnclaimed, StopsIn, TakesIn}
+use Rattle.ac_unfold.specs.Stopping.{EndsAnywhere, IsUnclaimed, StopsIn, TakesIn}
 use Rattle.ac_unfold.specs.declared.course.Course.{Course}
 use Rattle.ac_unfold.specs.declared.ends.Search.{Search}
 use Rattle.ac_unfold.specs.declared.kinds.Next.{Next}
@@ -108,7 +107,7 @@ pub record AreMadeOn (search : Search) (case : Case) (s : Placing) (q : Path) (p
   pub sides : (cs : List Claim) → IsGiven search cs → IsCaseAt (judge_of search) q case → AllFormed (judge_of search).params (map (question_on q) parts) → AreSidePlans (judge_of search) cs s q parts plans
   pub stop : AllByRecursion (λ (t : Plan). StopsIn search q t.next) plans
 
--- the end at the kill, with its choices behind the columns of the node's path, which stops anywhere
+-- the end at the kill, with its choices behind the columns of the node's path, which stops anywhere and heeds whatever claims
 pub record IsKilled (search : Search) (node : Node) (kill : Kill) (t : Plan) : Type 0 where
   pub ends : (a : Assumed) → node.question.last ≡ Some a → IsEnd (Killed (on_path (case_width (judge_of search).params a) node.placing.next_column kill)) t
-  pub stops : StopsAnywhere t.next
+  pub stops : EndsAnywhere t.next

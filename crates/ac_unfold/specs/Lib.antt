@@ -7,6 +7,9 @@ pub mod Courses
 pub mod Cutting
 pub mod Ended
 pub mod Full
+pub mod Flows
+pub mod GivenUp
+pub mod Heeding
 pub mod Making
 pub mod Missing
 pub mod Passing

@@ -24,9 +24,8 @@ use Rattle.ac_graft.specs.declared.placing.Placing.{Placing}
 use Rattle.ac_ends.specs.Ends.{IsEnd}
 use Rattle.ac_plans.specs.Following.{IsPlanFor}
 use Rattle.ac_plans.specs.Due.{AreNumbered}
-use Rattle.ac_plan_stops.specs.Stopped.{StopsAnywhere}
 use Rattle.ac_unfold.specs.Plans.{IsSettled}
-use Rattle.ac_unfold.specs.Stopping.{StopsIn}
+use Rattle.ac_unfold.specs.Stopping.{EndsAnywhere, StopsIn}
 use Rattle.ac_unfold.specs.declared.asking.Answer.{Answer}
 use Rattle.ac_unfold.specs.declared.asking.Answer.TheVariants as answer
 use Rattle.ac_unfold.specs.declared.asking.Opened.{Opened}
@@ -46,10 +45,10 @@ pub record IsGiven (search : Search) (cs : List Claim) : Type 0 where
   pub numbered : AreNumbered search.base search.claims.now cs
   pub tabled : AreNumbered (search.base + length search.claims.now) search.tabled.now cs
 
--- a plan for the question so placed, against whatever pair and claims: it shows that the question has no point, and stops anywhere
+-- a plan for the question so placed, against whatever pair and claims: it shows that the question has no point, stops anywhere, and heeds whatever claims
 pub record IsRefuted (s : Placing) (q : Path) (t : Plan) : Type 0 where
   pub plan : (g : Pairing) (cs : List Claim) → IsPlanFor g cs s q t
-  pub stops : StopsAnywhere t.next
+  pub stops : EndsAnywhere t.next
 
 -- a plan for the question so placed, wherever the search is given
 unfoldable pub IsPlanIn : Search → Placing → Path → Plan → Type 0

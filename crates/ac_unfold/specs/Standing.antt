@@ -13,11 +13,10 @@ use Rattle.ac_graft.specs.declared.placing.Placing.{Placing}
 use Rattle.ac_plans.specs.Covering.{Covers}
 use Rattle.ac_plans.specs.Following.{IsPlanFor}
 use Rattle.ac_plans.specs.Serving.{AreSidePlans}
-use Rattle.ac_decided.specs.Stopping.{key_at}
-use Rattle.ac_plan_stops.specs.Stopped.{StopsAnywhere}
 use Rattle.ac_unfold.specs.Courses.{IsBehind}
 use Rattle.ac_unfold.specs.Making.{judge_of, AreStanding, IsGiven, IsMade}
-use Rattle.ac_unfold.specs.Stopping.{StopsIn}
+use Rattle.ac_unfold.specs.Passing.{IsGrown}
+use Rattle.ac_unfold.specs.Stopping.{EndsAnywhere, StopsIn}
 use Rattle.ac_unfold.specs.declared.course.Course.{Course}
 use Rattle.ac_unfold.specs.declared.course.Open.{Open}
 use Rattle.ac_unfold.specs.declared.ends.Closed.{Closed}
@@ -31,10 +30,9 @@ use Rattle.ac_unfold.specs.declared.node.Node.{Node}
 abbrev pub Leads : Pairing → List Claim → Placing → Path → Course → Placing → Path → Type 0
 Leads g cs s q course z v = (end t : Plan) → IsPlanFor g cs z v end → IsBehind course.branches.items end t → IsPlanFor g cs s q t
 
--- the course has come to the pair of the question, and the plans beside it stop there
+-- the course has come to the question, with further rows and columns, and the plans beside it stop there
 pub record StopsBeside (search : Search) (q : Path) (course : Course) : Type 0 where
-  pub pair : key_at course.node.question ≡ key_at q
-  pub gone : course.node.question.gone ≡ q.gone
+  pub within : IsGrown q course.node.question
   pub outside : AllByRecursion (λ (b : Open). AllByRecursion (λ (t : Plan). StopsIn search q t.next) b.outside.items) course.branches.items
 
 -- ---- rows that stand on the path
@@ -81,10 +79,10 @@ pub record IsEndedPlan (course : Course) (end : Option Plan) (t : Plan) : Type 0
   pub is : end ≡ Some last
   pub behind : IsBehind course.branches.items last t
 
--- a plan for each of some sides, where plans are made, each of which stops anywhere
+-- a plan for each of some sides, where plans are made, each of which stops anywhere and heeds whatever claims
 pub record AreRefutedOn (search : Search) (s : Placing) (q : Path) (parts : List Part) (plans : List Plan) : Type 0 where
   pub sides : search.making ≡ true → (g : Pairing) (cs : List Claim) → AreSidePlans g cs s q parts plans
-  pub stop : search.making ≡ true → AllByRecursion (λ (t : Plan). StopsAnywhere t.next) plans
+  pub stop : search.making ≡ true → AllByRecursion (λ (t : Plan). EndsAnywhere t.next) plans
 
 abbrev pub IsClosed : Search → Node → List Part → Closed → Type 0
 IsClosed search node parts closed.Broken = Unit {0}

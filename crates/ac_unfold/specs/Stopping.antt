@@ -1,4 +1,4 @@
--- Where the plans of a search stop.
+-- Where the plans of a search stop, and which claims they heed.
 use Rattle.std.specs.Prelude.{◌≡◌, ◌+◌, ℕ, true, List, Some, length, slice_get}
 use Rattle.ac_forms.specs.Members.{IsAmong}
 use Rattle.ac_syntax.specs.declared.tree.Order.{Order}
@@ -12,9 +12,11 @@ use Rattle.ac_claims.specs.declared.types.PlanNext.{PlanNext}
 use Rattle.ac_setting.specs.Programs.{order_at}
 use Rattle.ac_decided.specs.Stopping.{key_at, key_of, programs_of}
 use Rattle.ac_stopping.specs.Parts.{order_of}
-use Rattle.ac_plan_stops.specs.Stopped.{Stopped, StopsOn}
+use Rattle.ac_plan_heeds.specs.Heeded.{HaveClaimModuli, HeedsAnywhere, HeedsOn, PassesNone}
+use Rattle.ac_plan_stops.specs.Stopped.{Stopped, StopsAnywhere, StopsOn}
 use Rattle.ac_leading.specs.Broken.{HasNoClaim}
 use Rattle.ac_leading.specs.Leading.{seats_of}
+use Rattle.ac_unfold.specs.Plans.{IsSettled}
 use Rattle.ac_unfold.specs.declared.ends.Search.{Search}
 use Rattle.ac_unfold.specs.declared.types.Setting.{Setting}
 
@@ -30,15 +32,27 @@ pub record IsStoppedAt (setting : Setting) (order : List (Site × Order)) (base 
 abbrev pub IsStoppedIn : Search → Stopped → Type 0
 IsStoppedIn search g = IsStoppedAt search.setting.now search.order.now search.base search.claims.now search.tabled.now g
 
--- where plans are made, what comes behind steps stops so from the pair of the question
+-- the setting is settled, and each modulus in the rows of the tabled claims is at least 1
+pub record IsHeeding (search : Search) : Type 0 where
+  pub settled : IsSettled search.setting.now
+  pub moduli : HaveClaimModuli search.tabled.now
+
+-- where plans are made, what comes behind steps stops so from the pair of the question, and heeds the tabled claims on it
 unfoldable pub StopsIn : Search → Path → PlanNext → Type 0
-StopsIn search q x = search.making ≡ true → (g : Stopped) → IsStoppedIn search g → StopsOn g (key_at q) q.gone x
+StopsIn search q x =
+    search.making ≡ true → ((g : Stopped) → IsStoppedIn search g → StopsOn g (key_at q) q.gone x) × (IsHeeding search → HeedsOn (pairing search.setting.now.programs) search.tabled.now q x)
+
+-- it stops anywhere, and heeds whatever claims
+pub record EndsAnywhere (x : PlanNext) : Type 0 where
+  pub stops : StopsAnywhere x
+  pub heeds : HeedsAnywhere x
 
 -- ---- where a plan may go on
 
--- behind a step the pair of the question has no claim
-abbrev pub IsUnclaimed : Search → Path → Type 0
-IsUnclaimed search q = q.gone ≡ true → HasNoClaim search.claims.now (seats_of q)
+-- behind a step the pair of the question has no claim; and where plans are made, no tabled claim is hit on it
+pub record IsUnclaimed (search : Search) (q : Path) : Type 0 where
+  pub none : q.gone ≡ true → HasNoClaim search.claims.now (seats_of q)
+  pub passes : search.making ≡ true → HaveClaimModuli search.tabled.now → PassesNone (pairing search.setting.now.programs) search.tabled.now q
 
 -- where its step has branches in an order, that is the order there
 unfoldable pub TakesIn : Search → Path → Order → Type 0

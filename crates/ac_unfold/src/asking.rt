@@ -1,7 +1,8 @@
 //! Questions of an unfolding.
 ghost use Rattle.std.specs.Prelude.{◌≡◌, ℤ, IfErr, IfOk, IfSome, List, Ok, true, false};
 ghost use Rattle.ac_cert.specs.Accepted.{Accepts, absurd_refusals};
-ghost use Rattle.ac_forms.specs.Rows.{Holds, Meets, IsWellMade};
+ghost use Rattle.ac_forms.specs.Rows.{Holds, Meets, IsRowOver, IsWellMade};
+ghost use Rattle.ac_forms.specs.Standing.{stands};
 ghost use Rattle.ac_paths.specs.declared.path.Path.{Path};
 ghost use Rattle.ac_graft.specs.declared.placing.Placing.{Placing};
 ghost use Rattle.ac_unfold.specs.Causes.{stop_of};
@@ -14,7 +15,7 @@ ghost use Rattle.ac_unfold.specs.Searching.{IsPointIn, IsUnmet, KeepsTrail};
 ghost use Rattle.ac_unfold.specs.Unbroken.{IsEmptyOpen};
 
 use crate::node::Node;
-use crate::types::UnfoldStop;
+use crate::types::{UnfoldStop, freely};
 use crate::witness::continued;
 use ac_cert::{Absurd, Tree};
 use ac_claims::types::Plan;
@@ -160,17 +161,6 @@ pub(crate) fn seen(
     }
 }
 
-/// The answer to a question without which the search can go on; none where it is wide or spent.
-pub(crate) fn freely<A: Drop>(answer: Result<A, UnfoldStop>) -> Result<Option<A>, AllocError>
-    ensures { IfOk result (λ free. IfSome free (λ seen. answer ≡ Ok seen)) }
-{
-    match answer {
-        Ok(answer) => Ok(Some(answer)),
-        Err(UnfoldStop::Memory(want)) => Err(want),
-        Err(_) => Ok(None),
-    }
-}
-
 /// What comes of a question before it is unfolded.
 #[derive(Drop)]
 pub(crate) enum Opened {
@@ -206,6 +196,7 @@ pub(crate) fn open_question(
 #[tactic(auto, using(ac_paths::proofs::Moduli::conj_moduli))]
 pub(crate) fn stands_in(alloc: Global, conj: &Conj, row: &Row) -> Result<bool, AllocError>
     ensures stands { IfOk result (λ standing. standing ≡ true → IsStanding conj.now row.now) }
+    ensures fails { IfOk result (λ standing. standing ≡ false → IsWellMade conj.now → IsRowOver conj.now.columns row.now → stands conj.now.rows row.now ≡ false) }
     ensures holds { IfOk result (λ standing. standing ≡ true → (p : List ℤ) → Meets conj.now.rows p → Holds row.now p) }
 {
     if !conj.is_well_made() || !row.is_over(conj.columns) {

@@ -4,10 +4,11 @@ ghost use Rattle.ac_unfold.specs.Making.{judge_of};
 ghost use Rattle.ac_unfold.specs.Searching.{Adds, IsNone, IsPathBeside, IsPathBreaking};
 ghost use Rattle.ac_unfold.specs.Wanting.{CanStand};
 
-use crate::asking::{Answer, Wanted, asked, freely, kind_of, seen, stands_in};
+use crate::asking::{Answer, Wanted, asked, kind_of, seen, stands_in};
 use crate::ends::Search;
 use crate::finding::Finds;
 use crate::node::Node;
+use crate::types::freely;
 use ac_forms::Row;
 use ac_graft::{Part, parts_of};
 use ac_sums::Reduction;

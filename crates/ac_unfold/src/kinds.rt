@@ -1,12 +1,8 @@
 //! What a pair of positions asks for, by what stands at both.
-ghost use Rattle.std.specs.Prelude.{◌≡◌, IfErr, IfOk, IfSome, None, Some, false, true, length, slice_get};
+ghost use Rattle.std.specs.Prelude.{◌≡◌, IfErr, IfOk, None, Some, false, true, length, slice_get};
 ghost use Rattle.ac_poly.specs.Model.{is_input};
 ghost use Rattle.ac_paths.specs.Calls.{pairing};
-ghost use Rattle.ac_paths.specs.Going.{seat_of};
-ghost use Rattle.ac_forms.specs.Members.{IsAmong};
 ghost use Rattle.ac_paths.specs.Places.{CallAt, call_at, initial_cell, number_at};
-ghost use Rattle.ac_stopping.specs.Parts.{order_of};
-ghost use Rattle.ac_leading.specs.Steps.{flow_on};
 ghost use Rattle.ac_unfold.specs.Cutting.{IsNext};
 ghost use Rattle.ac_unfold.specs.Full.{IsEndOfSteps};
 ghost use Rattle.ac_unfold.specs.Making.{judge_of};
@@ -16,10 +12,9 @@ ghost use Rattle.ac_unfold.specs.Stops.{HandsTargets, HasItsCalls, IsMatchOf};
 
 use crate::ends::{Search, rows_or};
 use crate::node::Node;
-use crate::types::{Setting, UnfoldStop};
-use ac_claims::ending::same_position;
+use crate::steps::order_at;
+use crate::types::UnfoldStop;
 use ac_claims::types::PlanNext;
-use ac_flow::types::{Flow, ReadFlow};
 use ac_forms::{Form, Row};
 use ac_items::Items;
 use ac_paths::columns::{equal_at, equal_form_at};
@@ -27,7 +22,7 @@ use ac_paths::path::{Path, Programs, Side};
 use ac_paths::places::{CellForms, call_at, cell_read, initial_cell, number_at};
 use ac_paths::symbols::same_symbol;
 use ac_poly::types::Model;
-use ac_syntax::tree::{Kind, Order, Position, Site};
+use ac_syntax::tree::{Kind, Order};
 use std::alloc::Global;
 
 /// What a pair of positions asks for.
@@ -41,42 +36,6 @@ pub(crate) enum Next {
     Match(Items<Row>, PlanNext),
     /// The pair does not match.
     Mismatch,
-}
-
-/// The order of a pair of calls.
-fn order_at(order: &[(Site, Order)], left: &Position, right: &Position) -> Order
-    ensures { result ≡ order_of order.now (left.now, right.now) }
-{
-    for choice in order {
-        if same_position(&choice.0.left, left) && same_position(&choice.0.right, right) {
-            return choice.1;
-        }
-    }
-    Order::Keep
-}
-
-/// The flow of a read or an output.
-fn flow_at<'a>(flow: &'a Flow, position: &Position) -> Option<&'a ReadFlow>
-    ensures among { IfSome result (λ read. IsAmong read.now flow.now.reads) }
-    ensures position { IfSome result (λ read. read.now.position ≡ position.now) }
-{
-    for read in flow.reads.as_slice() {
-        if same_position(&read.position, position) {
-            return Some(read);
-        }
-    }
-    None
-}
-
-/// The flow of the read or output on a side.
-pub(crate) fn flow_of<'a>(setting: &Setting<'a>, path: &Path, side: Side) -> Option<&'a ReadFlow>
-    ensures among { IfSome result (λ read. IsAmong read.now (flow_on setting.now.left_flow.now setting.now.right_flow.now side).reads) }
-    ensures position { IfSome result (λ read. read.now.position ≡ (seat_of path.now side).position) }
-{
-    match side {
-        Side::Left => flow_at(setting.left_flow, &path.left.position),
-        Side::Right => flow_at(setting.right_flow, &path.right.position),
-    }
 }
 
 /// Two calls of one symbol with as many arguments.

@@ -15,6 +15,7 @@ pub mod laws;
 mod node;
 mod remaining;
 mod starting;
+pub mod steps;
 mod tabling;
 pub mod types;
 mod unfolding;

@@ -9,10 +9,10 @@ ghost use Rattle.ac_unfold.specs.Making.{judge_of};
 ghost use Rattle.ac_unfold.specs.Passing.{AreApart};
 ghost use Rattle.ac_unfold.specs.Stops.{HandsBack};
 
-use crate::asking::{Answer, found, freely};
+use crate::asking::{Answer, found};
 use crate::ends::Search;
 use crate::node::{Node, with_rows};
-use crate::types::UnfoldStop;
+use crate::types::{UnfoldStop, freely};
 use crate::witness::continued;
 use ac_forms::{Conj, FormStop, Row, push_range, renamed_rows};
 use ac_items::Items;

@@ -7,6 +7,7 @@ ghost use Rattle.ac_claims.specs.Remaining.{count_by};
 ghost use Rattle.ac_claims.specs.declared.types.Claim.{Claim as Asked};
 ghost use Rattle.ac_claims.specs.declared.types.ClaimTree.{ClaimTree as Tree};
 ghost use Rattle.ac_decided.specs.Stopping.{key_of};
+ghost use Rattle.ac_plan_heeds.specs.Heeded.{HaveClaimModuli, HeedsFromStart};
 ghost use Rattle.ac_plan_stops.specs.Stopped.{Stopped, StopsFrom};
 ghost use Rattle.ac_leading.specs.Leading.{Unfolding};
 ghost use Rattle.ac_leading.specs.Broken.{IsBroken};
@@ -200,7 +201,8 @@ fn push_trees(
 /// claims of the list have the numbers from `base` on, and the tabled ones those behind them. A judge of proofs accepts each plan where
 /// the start begins at its pieces, against whatever claims these are among with their numbers. It stops at pairs of the list's claims:
 /// behind its first step it neither goes on from such a pair nor ends there at a number or an initial cell. At a pair of a tabled
-/// claim it ends only where that claim's rows are known to stand, and goes on elsewhere; so no path fails there.
+/// claim it ends only where that claim's rows are known to stand, and goes on elsewhere; so no path fails there. And it heeds the
+/// tabled claims: followed by its steps alone from the start on, it goes on from no path on which a hit on one of them would be accepted.
 ///
 /// Where the start does not stand, a concrete path on which it fails, as those of `broken_paths`.
 pub fn claim_trees(
@@ -218,6 +220,7 @@ pub fn claim_trees(
     ensures claim { IfOk result (IfPlans (λ trees. ArePlansOf number trees)) }
     ensures pieces { IfOk result (IfPlans (λ trees. map pieces_of trees ≡ pairs_of (count_by (domain setting.now.programs.left.now start.now.left)) (count_by (domain setting.now.programs.right.now start.now.right)))) }
     ensures accepted { IsSettled setting.now → IfOk result (IfPlans (λ trees. (cs : List Asked) → AreNumbered base claims.now cs → AreNumbered (base + length claims.now) tabled.now cs → AllByRecursion (StartsAccepted (pairing setting.now.programs) cs start.now) trees)) }
+    ensures heeds { IsSettled setting.now → HaveClaimModuli tabled.now → IfOk result (IfPlans (AllByRecursion (HeedsFromStart (pairing setting.now.programs) tabled.now start.now))) }
     ensures stops { IfOk result (IfPlans (λ trees. (g : Stopped) → IsStoppedAt setting.now order.now base claims.now tabled.now g → AllByRecursion (λ (t : Tree). StopsFrom g (key_of start.now) t.tree) trees)) }
     ensures causes { IfErr result (StopsUnfolding setting.now start.now claims.now order.now) }
 {

@@ -1,3 +1,9 @@
+//! What an unfolding is given, and what comes of it.
+ghost use Rattle.std.specs.Prelude.{◌≡◌, Err, IfErr, IfOk, IfSome, None, Ok};
+ghost use Rattle.ac_unfold.specs.GivenUp.{IsStop};
+ghost use Rattle.ac_unfold.specs.declared.types.UnfoldStop.{UnfoldStop as Stop};
+ghost use Rattle.ac_unfold.specs.declared.types.UnfoldStop.TheVariants.{Memory};
+
 use ac_claims::types::ClaimTree;
 use ac_flow::types::Flow;
 use ac_forms::Conj;
@@ -66,5 +72,19 @@ impl<T: Drop> From<AllocFailed<T>> for UnfoldStop {
 
     fn from(_failed: AllocFailed<T>) -> UnfoldStop {
         UnfoldStop::Memory(AllocError)
+    }
+}
+
+/// What was answered, for a caller that goes on without an answer: none where a question is too wide or too costly, or the paths are too many.
+/// Want of memory is handed on.
+pub fn freely<A: Drop>(answer: Result<A, UnfoldStop>) -> Result<Option<A>, AllocError>
+    ensures answered { IfOk result (λ free. IfSome free (λ seen. answer ≡ Ok seen)) }
+    ensures given_up { IfOk result (λ free. free ≡ None → (stop : Stop) × IsStop stop × (answer ≡ Err stop)) }
+    ensures memory { IfErr result (λ want. answer ≡ Err (Memory want)) }
+{
+    match answer {
+        Ok(answer) => Ok(Some(answer)),
+        Err(UnfoldStop::Memory(want)) => Err(want),
+        Err(_) => Ok(None),
     }
 }

@@ -21,9 +21,10 @@ use crate::course::Course;
 use crate::ends::{Search, mismatch, refuted, stand};
 use crate::finding::Finds;
 use crate::killing::killed;
-use crate::kinds::{Next, flow_of, next_of};
+use crate::kinds::{Next, next_of};
 use crate::node::Node;
 use crate::remaining::{at_remainder, is_apart, kill_rows};
+use crate::steps::flow_of;
 use crate::tabling::tabled_hit;
 use crate::types::UnfoldStop;
 use ac_claims::types::{Kill, Plan};
@@ -63,7 +64,8 @@ pub(crate) fn visit(
     if let Some(number) = claim_of(search, &node.question) {
         return at_claim(alloc, search, node, number, finds);
     }
-    if let Some(plan) = tabled_hit(alloc, search, &node)? {
+    let tabled = tabled_hit(alloc, search, &node)?;
+    if let Some(plan) = tabled {
         return Ok(Some(plan));
     }
     let next = next_of(alloc, search, &node)?;

@@ -19,7 +19,7 @@ returns-in-Some-Point c =
     let b = c.in_ok-beside.beside in
     let k = (judge_of c.args.search.now).params in
     let p = c.in-Some-Point.point in
-    let there = subst (IsPointIn b.question.conj) c.in-Some-Point.field-0-is (point_in b.question.conj c.asked.result c.in_ok-point.field-0 c.in-Some-Point.field-0 c.asked.ensures.point c.in_ok-point.ensures c.in-Some-Point.is) in
+    let there = subst (IsPointIn b.question.conj) c.in-Some-Point.field-0-is (point_in b.question.conj c.asked.result c.in_ok-point.field-0 c.in-Some-Point.field-0 c.asked.ensures.point c.in_ok-point.ensures.answered c.in-Some-Point.is) in
     let paths : c.push.new.self.paths ≡ c.args.finds.now.paths ++ entries_at c.params.result p.items b.trail ∷ [] =
     c.in_ok-push-in-Some-Point.ensures.paths ∙ ap (λ xs. c.args.finds.now.paths ++ entries_at c.params.result xs b.trail ∷ []) c.deref.ensures.value in
     beside_some IsNone k n.trail b.trail n.question.conj b.question.conj [] (c.args.part.now ∷ []) c.args.part.now _ _ _ (adds_none _ _ _ _ refl) c.in_ok-beside.ensures.trail (ap (λ (x : Path). x.conj) c.in_ok-beside.ensures.question) refl

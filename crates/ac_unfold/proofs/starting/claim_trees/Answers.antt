@@ -10,7 +10,7 @@ use Rattle.ac_unfold.proofs.Coming.{path_is_broken}
 use Rattle.ac_unfold.proofs.Full.{stops_unfolding}
 use Rattle.ac_unfold.proofs.Places.{memory_stops}
 use Rattle.ac_unfold.proofs.Results.{at_some}
-use Rattle.ac_unfold.proofs.Starts.{accepted_by, begun_none, lefts_more, lefts_none, stopped_by}
+use Rattle.ac_unfold.proofs.Starts.{accepted_by, begun_none, heeded_by, lefts_more, lefts_none, stopped_by}
 use Rattle.ac_unfold.proofs.Stopped.{if_err}
 use Rattle.ac_unfold.proofs.starting.claim_trees.Goals as goal
 
@@ -53,6 +53,10 @@ pub returns-clause-stops : goal.returns-clause-stops
 returns-clause-stops c = λ g at.
     stopped_by c.search_of-search.result c.args.setting.now c.args.order.now c.args.base c.args.claims.now c.args.tabled.now c.args.start.now c.loop-left.trees.items c.search_of-search.ensures.setting c.search_of-search.ensures.order c.search_of-search.ensures.base
     c.search_of-search.ensures.claims c.search_of-search.ensures.tabled c.search_of-search.ensures.making c.loop-left.invariant.begun g at
+
+pub returns-clause-heeds : goal.returns-clause-heeds
+returns-clause-heeds c = λ settled moduli.
+    heeded_by c.search_of-search.result c.args.setting.now c.args.tabled.now c.args.start.now c.loop-left.trees.items c.search_of-search.ensures.setting c.search_of-search.ensures.tabled c.search_of-search.ensures.making c.loop-left.invariant.begun settled moduli
 
 -- ---- why it stops
 

@@ -416,20 +416,20 @@ visit-returns-in-Read-clause-made t c =
     let s = c.args.search.now in
     let v = c.args.node in
     with_kill c.read.result (MayStep s v.question Keep) (IsMade s v.placing v.question) c.read.ensures.made
-    (record { unclaimed = c.claim_of.ensures.none c.in_default.is; takes = subst (λ (x : Next). IsNext s v.question x) c.in-Read.is c.in_ok-next.ensures.next })
+    (record { unclaimed = record { none = c.claim_of.ensures.none c.in_default.is; passes = c.in_ok-tabled.ensures.none c.in_default-tabled.is }; takes = subst (λ (x : Next). IsNext s v.question x) c.in-Read.is c.in_ok-next.ensures.next })
 
 pub visit-returns-in-Calls-clause-made : goal.visit-returns-in-Calls-clause-made
 visit-returns-in-Calls-clause-made t c =
     let s = c.args.search.now in
     let v = c.args.node in
     with_kill c.calls.result (MayStep s v.question c.in-Calls.order) (IsMade s v.placing v.question) c.calls.ensures.made
-    (record { unclaimed = c.claim_of.ensures.none c.in_default.is; takes = subst (λ (x : Next). IsNext s v.question x) c.in-Calls.is c.in_ok-next.ensures.next })
+    (record { unclaimed = record { none = c.claim_of.ensures.none c.in_default.is; passes = c.in_ok-tabled.ensures.none c.in_default-tabled.is }; takes = subst (λ (x : Next). IsNext s v.question x) c.in-Calls.is c.in_ok-next.ensures.next })
 
 pub visit-stand-requires : goal.visit-stand-requires
 visit-stand-requires t c =
     let s = c.args.search.now in
     let q = c.args.node.question in
-    subst (λ (rows : List Row). IsEndFor s q rows c.in-Match.end) (sym c.as_slice.ensures) (subst (λ (x : Next). IsNext s q x) c.in-Match.is c.in_ok-next.ensures.next (c.claim_of.ensures.none c.in_default.is))
+    subst (λ (rows : List Row). IsEndFor s q rows c.in-Match.end) (sym c.as_slice.ensures) (subst (λ (x : Next). IsNext s q x) c.in-Match.is c.in_ok-next.ensures.next (record { none = c.claim_of.ensures.none c.in_default.is; passes = c.in_ok-tabled.ensures.none c.in_default-tabled.is }))
 
 pub visit-returns-in-Mismatch-clause-made : goal.visit-returns-in-Mismatch-clause-made
 visit-returns-in-Mismatch-clause-made t c = all_refuted_made c.mismatch.result c.args.search.now c.args.node.placing c.args.node.question c.mismatch.ensures.made
@@ -514,8 +514,8 @@ remainders-loop-rest-init t c = record {
   stand = pieces_none c.args.search.now c.args.node.now.question _ _;
 }
 
-pub visit-returns-in-Some-2-clause-broken : goal.visit-returns-in-Some-2-clause-broken
-visit-returns-in-Some-2-clause-broken t c = broken_none c.args.search.now (IsAt c.args.search.now c.args.node.trail c.args.node.question) _ _ refl
+pub visit-returns-in-Some-tabled-clause-broken : goal.visit-returns-in-Some-tabled-clause-broken
+visit-returns-in-Some-tabled-clause-broken t c = broken_none c.args.search.now (IsAt c.args.search.now c.args.node.trail c.args.node.question) _ _ refl
 
 pub visit-returns-in-Read-clause-broken : goal.visit-returns-in-Read-clause-broken
 visit-returns-in-Read-clause-broken t c =

@@ -1,6 +1,6 @@
 use Rattle.std.proofs.Common.{◌≡◌, drop}
 use Rattle.ac_stopping.specs.Parts.{order_of}
-use Rattle.ac_unfold.proofs.kinds.order_at.Given as goal
+use Rattle.ac_unfold.proofs.steps.order_at.Given as goal
 
 abbrev pub invariant-loop-choice : goal.invariant-loop-choice
 invariant-loop-choice l = order_of (drop l.choice-index l.order) (l.left, l.right) ≡ order_of l.order (l.left, l.right)

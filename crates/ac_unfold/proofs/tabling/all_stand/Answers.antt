@@ -1,0 +1,21 @@
+use Rattle.std.proofs.Common.{sym, subst, take}
+use Rattle.std.proofs.lemmas.List.{take_all}
+use Rattle.ac_unfold.specs.Making.{AreStanding, IsStanding}
+use Rattle.ac_unfold.proofs.Results.{in_read, next_item}
+use Rattle.ac_unfold.proofs.Stops.{all_more}
+use Rattle.ac_unfold.proofs.Tabled.{all_fail}
+use Rattle.ac_unfold.proofs.tabling.all_stand.Goals as goal
+
+pub loop-row-preserved : goal.loop-row-preserved
+loop-row-preserved c =
+    let k = c.args.conj.now in
+    let rows = c.args.rows.now in
+    let i = c.loop-row.row-index in
+    subst (AreStanding k) (sym (next_item rows i c.row-item.result c.loop-row-test.true c.row-item.is)) (all_more (IsStanding k) (take i rows) c.row-item.result c.loop-row.invariant (c.in_ok-standing.ensures.stands c.if-not-standing.false))
+
+pub returns-then-not-standing-clause-fails : goal.returns-then-not-standing-clause-fails
+returns-then-not-standing-clause-fails c = λ _ made over.
+    all_fail c.args.conj.now c.args.rows.now c.row-item.result (in_read c.args.rows.now c.loop-row.row-index c.row-item.result c.loop-row-test.true c.row-item.is) (c.in_ok-standing.ensures.fails c.if-not-standing.true) made over
+
+pub returns-clause-stand : goal.returns-clause-stand
+returns-clause-stand c = λ _. subst (AreStanding c.args.conj.now) (take_all c.loop-row.row-index c.args.rows.now c.loop-row-test.false) c.loop-row.invariant

@@ -1,0 +1,6 @@
+use Rattle.std.proofs.Common.{take}
+use Rattle.ac_unfold.specs.Making.{AreStanding}
+use Rattle.ac_unfold.proofs.tabling.all_stand.Given as goal
+
+abbrev pub invariant-loop-row : goal.invariant-loop-row
+invariant-loop-row l = AreStanding l.conj (take l.row-index l.rows)
