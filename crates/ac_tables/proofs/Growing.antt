@@ -12,7 +12,7 @@ use Rattle.ac_decided.specs.Stopping.{key_of}
 use Rattle.ac_unfold.specs.declared.types.Setting.{Setting}
 use Rattle.ac_tables.specs.Tabled.{AddsTabled, IsFit, IsTabled}
 use Rattle.ac_tables.specs.Tables.{Grows, TableOf, with_tabled}
-use Rattle.ac_tables.specs.Trees.{AreTreesOf}
+use Rattle.ac_tables.specs.Trees.{AreTreesOf, Heed}
 
 -- ---- a table grows
 
@@ -61,12 +61,12 @@ fit_for s old new c d found e h same free =
     subst (λ (xs : List Claim). IsFit s xs d) (sym same) (subst (IsFit s old) (sym is.0) (record { made = is.1; free = free }))
 
 -- by one claim with its plans
-pub adds_one : (s : Setting) (a b : TableOf) (c : Claim) (ts : List ClaimTree) (number : ℕ) → b ≡ with_tabled a c ts → number ≡ a.base + length a.claims + length a.tabled → AreTreesOf s a.base a.claims a.tabled a.order number c ts → IsFit s a.claims c → AddsTabled s a b
-adds_one s a b c ts number e n h fit =
+pub adds_one : (s : Setting) (a b : TableOf) (c : Claim) (ts : List ClaimTree) (number : ℕ) → b ≡ with_tabled a c ts → number ≡ a.base + length a.claims + length a.tabled → AreTreesOf s a.base a.claims a.tabled a.order number c ts → Heed s a.tabled c ts → IsFit s a.claims c → AddsTabled s a b
+adds_one s a b c ts number e n h heed fit =
     subst (λ (t : TableOf). AddsTabled s a t) (sym e)
     (record {
       kept = grows_one a c ts;
-      valid = λ v. IsTabled.more a.tabled a.trees c ts (a.tabled ++ c ∷ []) (a.trees ++ ts ∷ []) v (subst (λ (k : ℕ). AreTreesOf s a.base a.claims a.tabled a.order k c ts) n h) refl refl fit;
+      valid = λ v. IsTabled.more a.tabled a.trees c ts (a.tabled ++ c ∷ []) (a.trees ++ ts ∷ []) v (subst (λ (k : ℕ). AreTreesOf s a.base a.claims a.tabled a.order k c ts) n h) heed refl refl fit;
     })
 
 -- ---- nothing is tabled

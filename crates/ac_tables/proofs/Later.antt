@@ -79,14 +79,14 @@ pub record IsProvedAt (s : Setting) (base : ℕ) (claims : List Claim) (order : 
 -- as many plans are there as claims
 pub as_many : (s : Setting) (base : ℕ) (claims : List Claim) (order : List (Site × Order)) (tabled : List Claim) (trees : List (List ClaimTree)) → IsTabled s base claims order tabled trees → length trees ≡ length tabled
 as_many s base claims order tabled trees IsTabled.none = refl
-as_many s base claims order tabled trees (IsTabled.more before done c ts _ _ h are e f fit) =
+as_many s base claims order tabled trees (IsTabled.more before done c ts _ _ h are heed e f fit) =
     let same = as_many s base claims order before done h in
     ap length f ∙ length-append done (ts ∷ []) ∙ ap (λ (n : ℕ). n + 1) same ∙ sym (length-append before (c ∷ [])) ∙ sym (ap length e)
 
 pub proved_at : (s : Setting) (base : ℕ) (claims : List Claim) (order : List (Site × Order)) (tabled : List Claim) (trees : List (List ClaimTree)) (i : ℕ) (c : Claim)
     → IsTabled s base claims order tabled trees → slice_get tabled i ≡ Some c → IsProvedAt s base claims order tabled trees i c
 proved_at s base claims order tabled trees i c IsTabled.none at = absurd cc
-proved_at s base claims order tabled trees i c (IsTabled.more before done d ts _ _ h are e f fit) at =
+proved_at s base claims order tabled trees i c (IsTabled.more before done d ts _ _ h are heed e f fit) at =
     let goal : List Claim → List (List ClaimTree) → Type 0 = λ xs ys. IsProvedAt s base claims order xs ys i c in
     let here : slice_get (before ++ d ∷ []) i ≡ Some c = subst (λ (xs : List Claim). slice_get xs i ≡ Some c) e at in
     let proved : goal (before ++ d ∷ []) (done ++ ts ∷ []) = elim (get_split before d i c here) [

@@ -1,3 +1,12 @@
+pub mod Behind
+pub mod Claiming
+pub mod Columns
 pub mod Growing
 pub mod Later
+pub mod Lists
+pub mod Places
 pub mod Planning
+pub mod Projecting
+pub mod Resting
+pub mod Seated
+pub mod Tabling

@@ -1,6 +1,6 @@
 -- What comes of a claim that is unfolded against a table.
-use Rattle.std.proofs.Common.{◌≡◌, ℕ, ◌+◌, List, length, map, subst, Option, Some}
-use Rattle.std.specs.Prelude.{Result, Ok, Err, IfOk, IfSome}
+use Rattle.std.proofs.Common.{◌≡◌, inl, ℕ, ◌+◌, List, [], ◌∷◌, length, map, refl, sym, subst, Option, Some}
+use Rattle.std.specs.Prelude.{Result, Ok, Err, IfErr, IfOk, IfSome}
 use Rattle.std.specs.List.{AllByRecursion}
 use Rattle.ac_syntax.specs.declared.tree.Order.{Order}
 use Rattle.ac_syntax.specs.declared.tree.Site.{Site}
@@ -13,14 +13,24 @@ use Rattle.ac_decided.specs.Stopping.{key_of}
 use Rattle.ac_plans.specs.Due.{pairs_of, pieces_of, AreNumbered, StartsAccepted}
 use Rattle.ac_plan_stops.specs.Stopped.{Stopped, StopsFrom}
 use Rattle.ac_unfold.specs.Paths.{ArePlansOf}
-use Rattle.ac_unfold.specs.Planned.{HasDomains, IfPlans}
+use Rattle.ac_unfold.specs.Planned.{HasDomains, IfBroken, IfPlans}
+use Rattle.ac_unfold.specs.Causes.{StopsUnfolding}
+use Rattle.ac_unfold.specs.Unfoldings.{IsUnfoldingOf}
+use Rattle.ac_leading.specs.Broken.{IsBroken}
+use Rattle.ac_leading.specs.Leading.{Unfolding}
+use Rattle.ac_widen.specs.declared.derivation.Entry.{Entry}
 use Rattle.ac_unfold.specs.Plans.{IsSettled}
 use Rattle.ac_unfold.specs.Stopping.{IsStoppedAt}
 use Rattle.ac_unfold.specs.declared.types.Planned.{Planned}
 use Rattle.ac_unfold.specs.declared.types.Planned.TheVariants.{Plans, Broken}
 use Rattle.ac_unfold.specs.declared.types.Setting.{Setting}
 use Rattle.ac_unfold.specs.declared.types.UnfoldStop.{UnfoldStop}
-use Rattle.ac_tables.specs.Trees.{AreTreesOf}
+use Rattle.ac_tables.specs.Tables.{TableOf, with_tabled}
+use Rattle.ac_tables.specs.Thorough.{Fails, IsCovered}
+use Rattle.ac_unfold.specs.GivenUp.{IsStop}
+use Rattle.ac_plan_heeds.specs.Heeded.{HaveClaimModuli, HeedsFromStart}
+use Rattle.ac_tables.specs.Trees.{AreTreesOf, Heed}
+use Rattle.ac_tables.proofs.Lists.{among_right}
 
 -- the plans of a start, by what is known of each of their parts
 pub trees_made : (s : Setting) (base : ℕ) (claims tabled : List Claim) (order : List (Site × Order)) (number : ℕ) (start : Claim) (r : Result Planned UnfoldStop)
@@ -43,8 +53,36 @@ trees_at s base b claims xs tabled ys order os number start r e f g h made =
     (subst (λ (zs : List Claim). IfOk r (IfPlans (AreTreesOf s base zs ys os number start))) f
     (subst (λ (k : ℕ). IfOk r (IfPlans (AreTreesOf s k xs ys os number start))) e made)))
 
+-- they heed what is tabled
+pub heed_made : (s : Setting) (tabled ys : List Claim) (start : Claim) (r : Result Planned UnfoldStop) → ys ≡ tabled → (IsSettled s → HaveClaimModuli ys → IfOk r (IfPlans (AllByRecursion (HeedsFromStart (pairing s.programs) ys start)))) → IfOk r (IfPlans (Heed s tabled start))
+heed_made s tabled ys start r e h = subst (λ (xs : List Claim). IfOk r (IfPlans (Heed s xs start))) e (by r h)
+  where
+    by : (x : Result Planned UnfoldStop) → (IsSettled s → HaveClaimModuli ys → IfOk x (IfPlans (AllByRecursion (HeedsFromStart (pairing s.programs) ys start)))) → IfOk x (IfPlans (Heed s ys start))
+    by (Ok (Plans trees)) k = λ settled moduli. k settled moduli
+    by (Ok (Broken path)) k = tt
+    by (Err stop) k = tt
+
 -- what is known of plans holds where they are handed on
 pub plans_free : (P : List ClaimTree → Type 0) (r : Result Planned UnfoldStop) (o : Option Planned) (x : Planned) → IfOk r (IfPlans P) → IfSome o (λ made. r ≡ Ok made) → o ≡ Some x → IfPlans P x
 plans_free P r o x h f e =
     let is : r ≡ Ok x = subst (λ y. IfSome y (λ made. r ≡ Ok made)) e f in
     subst (λ y. IfOk y (IfPlans P)) is h
+
+-- the same of a broken path
+pub broken_free : (P : List Entry → Type 0) (r : Result Planned UnfoldStop) (o : Option Planned) (x : Planned) → IfOk r (IfBroken P) → IfSome o (λ made. r ≡ Ok made) → o ≡ Some x → IfBroken P x
+broken_free P r o x h f e =
+    let is : r ≡ Ok x = subst (λ y. IfSome y (λ made. r ≡ Ok made)) e f in
+    subst (λ y. IfOk y (IfBroken P)) is h
+
+-- where a path of a relation is broken, or it has a stop, it fails
+pub broken_fails : (s : Setting) (order : List (Site × Order)) (claims : List Claim) (r d : Claim) (path : List Entry) → d ≡ r → ((u : Unfolding) → IsUnfoldingOf s d order u → IsBroken u claims path) → Fails s order claims r
+broken_fails s order claims r d path e h = subst (Fails s order claims) e (Fails.broken path h)
+
+pub stop_fails : (s : Setting) (order : List (Site × Order)) (claims : List Claim) (r d : Claim) (planned : Result Planned UnfoldStop) → d ≡ r → IfErr planned (StopsUnfolding s d claims order) → (stop : UnfoldStop) × IsStop stop × (planned ≡ Err stop) → Fails s order claims r
+stop_fails s order claims r d planned e h x = subst (Fails s order claims) e (Fails.stops x.0 x.1 (subst (λ y. IfErr y (StopsUnfolding s d claims order)) x.2 h))
+
+-- what was tabled last covers itself
+pub tabled_one : (t u : TableOf) (d c : Claim) (ts : List ClaimTree) → u ≡ with_tabled t d ts → d ≡ c → IsCovered u.tabled c
+tabled_one t u d c ts e same =
+    let here : IsCovered (with_tabled t d ts).tabled d = (d, among_right d t.tabled (d ∷ []) (inl refl), record { pair = refl; meets = λ x h. h }) in
+    subst (IsCovered u.tabled) same (subst (λ (v : TableOf). IsCovered v.tabled d) (sym e) here)

@@ -9,7 +9,7 @@ use Rattle.ac_claims.specs.declared.types.Claim.{Claim}
 use Rattle.ac_decided.specs.Stopping.{key_of}
 use Rattle.ac_claims.specs.declared.types.ClaimTree.{ClaimTree}
 use Rattle.ac_tables.specs.Tables.{TableOf, Grows}
-use Rattle.ac_tables.specs.Trees.{AreTreesOf}
+use Rattle.ac_tables.specs.Trees.{AreTreesOf, Heed}
 use Rattle.ac_unfold.specs.declared.types.Setting.{Setting}
 
 -- both positions are there, and the rows are over the parameters and their coordinates; and none of the claims is of the pair
@@ -17,11 +17,11 @@ pub record IsFit (setting : Setting) (claims : List Claim) (c : Claim) : Type 0 
   pub made : IsClaimMade (pairing setting.programs) c
   pub free : (d : Claim) → IsAmong d claims → ¬ (key_of d ≡ key_of c)
 
--- nothing is tabled; or one claim more behind those before, with plans that end at the claims and at those before alone, by the next number
+-- nothing is tabled; or one claim more behind those before, with plans that end at the claims and at those before alone and heed these, by the next number
 pub data IsTabled (setting : Setting) (base : ℕ) (claims : List Claim) (order : List (Site × Order)) : List Claim → List (List ClaimTree) → Type 0 where
   none : IsTabled setting base claims order [] []
   more : (before : List Claim) (done : List (List ClaimTree)) (c : Claim) (ts : List ClaimTree) (tabled : List Claim) (trees : List (List ClaimTree))
-      → IsTabled setting base claims order before done → AreTreesOf setting base claims before order (base + length claims + length before) c ts
+      → IsTabled setting base claims order before done → AreTreesOf setting base claims before order (base + length claims + length before) c ts → Heed setting before c ts
       → tabled ≡ before ++ c ∷ [] → trees ≡ done ++ ts ∷ [] → IsFit setting claims c → IsTabled setting base claims order tabled trees
 
 -- so are all claims that a table has beside its own

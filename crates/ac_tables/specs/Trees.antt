@@ -10,6 +10,7 @@ use Rattle.ac_claims.specs.declared.types.Claim.{Claim}
 use Rattle.ac_claims.specs.declared.types.ClaimTree.{ClaimTree}
 use Rattle.ac_decided.specs.Stopping.{key_of}
 use Rattle.ac_plans.specs.Due.{pairs_of, pieces_of, AreNumbered, StartsAccepted}
+use Rattle.ac_plan_heeds.specs.Heeded.{HaveClaimModuli, HeedsFromStart}
 use Rattle.ac_plan_stops.specs.Stopped.{Stopped, StopsFrom}
 use Rattle.ac_unfold.specs.Paths.{ArePlansOf}
 use Rattle.ac_unfold.specs.Planned.{HasDomains}
@@ -25,3 +26,7 @@ pub record AreTreesOf (setting : Setting) (base : ℕ) (claims tabled : List Cla
   pub pieces : map pieces_of trees ≡ pairs_of (count_by (domain setting.programs.left.now start.left)) (count_by (domain setting.programs.right.now start.right))
   pub accepted : IsSettled setting → (cs : List Claim) → AreNumbered base claims cs → AreNumbered (base + length claims) tabled cs → AllByRecursion (StartsAccepted (pairing setting.programs) cs start) trees
   pub stops : (g : Stopped) → IsStoppedAt setting order base claims tabled g → AllByRecursion (λ (t : ClaimTree). StopsFrom g (key_of start) t.tree) trees
+
+-- where the setting is settled and each modulus in the rows of the tabled claims is at least 1, the plans of a start heed these
+abbrev pub Heed : Setting → List Claim → Claim → List ClaimTree → Type 0
+Heed setting tabled start trees = IsSettled setting → HaveClaimModuli tabled → AllByRecursion (HeedsFromStart (pairing setting.programs) tabled start) trees

@@ -1,11 +1,17 @@
 //! The relation of a question: what it says of the parameters and of the coordinates of its own pair.
-ghost use Rattle.std.specs.Prelude.{◌≡◌, ◌&&◌, IfOk, IfSome, false};
+ghost use Rattle.std.specs.Prelude.{◌≡◌, ◌≤◌, ◌↔◌, ◌&&◌, ℤ, IfOk, IfSome, List, MatchOption, None, false, true};
 ghost use Rattle.ac_forms.specs.Members.{IsAmong};
+ghost use Rattle.ac_forms.specs.Renaming.{picked};
+ghost use Rattle.ac_forms.specs.Rows.{Meets};
+ghost use Rattle.ac_choices.specs.Points.{IsPoint};
 ghost use Rattle.ac_paths.specs.Calls.{pairing};
 ghost use Rattle.ac_claims.specs.Checking.{IsClaimMade};
 ghost use Rattle.ac_claims.specs.Ending.{same_position};
 ghost use Rattle.ac_claims.specs.declared.types.Claim.{Claim as Asked};
 ghost use Rattle.ac_decided.specs.Stopping.{key_of};
+ghost use Rattle.ac_tables.specs.Projected.{AreLeftOn, IsLeftOn};
+ghost use Rattle.ac_tables.specs.Relations.{HasNoPiece, HasNoRelation, IsRelationOf, IsSeated, LacksPoint, columns_first, place_of, places_of};
+ghost use Rattle.ac_tables.specs.Thorough.{HasClaim, IsCovered};
 
 use ac_claims::domains::size_at;
 use ac_claims::ending::same_position;
@@ -21,7 +27,9 @@ use ac_unfold::types::Setting;
 use std::alloc::{AllocError, Global};
 
 /// The place of a column in a list, if it is there.
-fn place_of(own: &[usize], column: usize) -> Option<usize> {
+fn place_of(own: &[usize], column: usize) -> Option<usize>
+    ensures { result ≡ place_of own.now column }
+{
     for at in 0..own.len() {
         if own[at] == column {
             return Some(at);
@@ -31,7 +39,9 @@ fn place_of(own: &[usize], column: usize) -> Option<usize> {
 }
 
 /// The new columns of so many ones, by which those of a list come first, in its order, and the others behind them.
-fn places(alloc: Global, own: &[usize], columns: usize) -> Result<Vec<usize>, AllocError> {
+fn places(alloc: Global, own: &[usize], columns: usize) -> Result<Vec<usize>, AllocError>
+    ensures { IfOk result (λ made. made.items ≡ places_of own.now columns) }
+{
     let mut places = Vec::new(alloc);
     let mut further = own.len();
     for column in 0..columns {
@@ -46,7 +56,10 @@ fn places(alloc: Global, own: &[usize], columns: usize) -> Result<Vec<usize>, Al
 }
 
 /// The rows of a question where the columns of a list come first. None where a number leaves `i128`.
-fn reordered(alloc: Global, own: &[usize], conj: &Conj) -> Result<Option<Conj>, AllocError> {
+fn reordered(alloc: Global, own: &[usize], conj: &Conj) -> Result<Option<Conj>, AllocError>
+    ensures value { IfOk result (λ made. made ≡ columns_first own.now conj.now) }
+    ensures points { IfOk result (λ made. IfSome made (λ c. (p : List ℤ) → Meets c.rows p ↔ Meets conj.now.rows (picked (places_of own.now conj.now.columns) p))) }
+{
     let places = places(alloc, own, conj.columns)?;
     match renamed_rows(alloc, conj.rows.as_slice(), places.as_slice()) {
         Ok(rows) => Ok(Some(Conj {
@@ -65,8 +78,11 @@ fn projected(
     conj: &Conj,
     first: usize,
     budget: u64,
-) -> Result<Option<Items<Piece>>, AllocError> {
-    if !conj.is_well_made() || first > conj.columns {
+) -> Result<Option<Items<Piece>>, AllocError>
+    requires { first ≤ conj.now.columns }
+    ensures { IfOk result (λ made. MatchOption made (HasNoPiece budget first conj.now) (AreLeftOn budget first conj.now)) }
+{
+    if !conj.is_well_made() {
         return Ok(None);
     }
     match kill_pieces(alloc, conj, first, budget) {
@@ -77,7 +93,10 @@ fn projected(
 }
 
 /// Whether a conjunction is known to have a point.
-fn has_point(alloc: Global, conj: &Conj, budget: u64) -> Result<bool, AllocError> {
+fn has_point(alloc: Global, conj: &Conj, budget: u64) -> Result<bool, AllocError>
+    ensures some { IfOk result (λ has. has ≡ true → (p : List ℤ) × IsPoint conj.now p) }
+    ensures none { IfOk result (λ has. has ≡ false → LacksPoint budget conj.now) }
+{
     if !conj.is_well_made() {
         return Ok(false);
     }
@@ -95,7 +114,10 @@ fn relation_on(
     conj: &Conj,
     first: usize,
     budget: u64,
-) -> Result<Option<Items<Row>>, AllocError> {
+) -> Result<Option<Items<Row>>, AllocError>
+    requires { first ≤ conj.now.columns }
+    ensures { IfOk result (λ made. MatchOption made (HasNoPiece budget first conj.now) (IsLeftOn first conj.now)) }
+{
     let Some(pieces) = projected(alloc, conj, first, budget)? else {
         return Ok(None);
     };
@@ -117,7 +139,10 @@ pub(crate) fn relation_of(
     params: usize,
     question: &Path,
     budget: u64,
-) -> Result<Option<Claim>, AllocError> {
+) -> Result<Option<Claim>, AllocError>
+    requires { IsSeated params question.now }
+    ensures { IfOk result (λ made. MatchOption made (HasNoRelation budget params question.now) (IsRelationOf params question.now)) }
+{
     let own = columns_of_both(alloc, params, &question.left, &question.right)?;
     let Some(conj) = reordered(alloc, own.as_slice(), &question.conj)? else {
         return Ok(None);
@@ -133,7 +158,9 @@ pub(crate) fn relation_of(
 }
 
 /// The same claim again.
-pub(crate) fn copy_of(alloc: Global, claim: &Claim) -> Result<Claim, AllocError> {
+pub(crate) fn copy_of(alloc: Global, claim: &Claim) -> Result<Claim, AllocError>
+    ensures { IfOk result (λ made. made ≡ claim.now) }
+{
     let mut rows = Items::new(alloc);
     for row in claim.rows.as_slice() {
         rows.push(row.copy(alloc)?)?;
@@ -153,7 +180,9 @@ pub(crate) fn is_of_pair(claim: &Claim, other: &Claim) -> bool
 }
 
 /// Whether each of some rows is one of the rows.
-fn are_among(rows: &[Row], among: &[Row]) -> bool {
+fn are_among(rows: &[Row], among: &[Row]) -> bool
+    ensures { result ≡ true → (p : List ℤ) → Meets among.now p → Meets rows.now p }
+{
     for row in rows {
         if !is_among(row, among) {
             return false;
@@ -163,7 +192,9 @@ fn are_among(rows: &[Row], among: &[Row]) -> bool {
 }
 
 /// Whether one of the claims has each point of a relation of its pair: each of its rows is one of the relation's.
-pub(crate) fn is_covered(known: &[Claim], relation: &Claim) -> bool {
+pub(crate) fn is_covered(known: &[Claim], relation: &Claim) -> bool
+    ensures { result ≡ true → IsCovered known.now relation.now }
+{
     for claim in known {
         if is_of_pair(claim, relation)
             && are_among(claim.rows.as_slice(), relation.rows.as_slice())
@@ -176,7 +207,8 @@ pub(crate) fn is_covered(known: &[Claim], relation: &Claim) -> bool {
 
 /// Whether one of the claims is of the pair of a relation.
 pub(crate) fn is_claimed(claims: &[Claim], relation: &Claim) -> bool
-    ensures { result ≡ false → (d : Asked) → IsAmong d claims.now → ¬ (key_of d ≡ key_of relation.now) }
+    ensures none { result ≡ false → (d : Asked) → IsAmong d claims.now → ¬ (key_of d ≡ key_of relation.now) }
+    ensures claimed { result ≡ true → HasClaim claims.now (key_of relation.now) }
 {
     for number in 0..claims.len() {
         let claim = &claims[number];
@@ -193,7 +225,8 @@ pub(crate) fn fitting(
     setting: &Setting<'_>,
     relation: Claim,
 ) -> Result<Option<Claim>, AllocError>
-    ensures { IfOk result (λ fit. IfSome fit (λ c. (c ≡ relation) × IsClaimMade (pairing setting.now.programs) relation)) }
+    ensures fit { IfOk result (λ fit. IfSome fit (λ c. (c ≡ relation) × IsClaimMade (pairing setting.now.programs) relation)) }
+    ensures unfit { IfOk result (λ fit. fit ≡ None → ¬ (IsClaimMade (pairing setting.now.programs) relation)) }
 {
     let lefts = size_at(alloc, setting.programs.left, &relation.left)?;
     let rights = size_at(alloc, setting.programs.right, &relation.right)?;

@@ -1,46 +1,25 @@
 //! The questions to which one step leads from the pairs of a claim.
+ghost use Rattle.std.specs.Prelude.{◌≡◌, ◌++◌, IfOk, OnOk};
+ghost use Rattle.std.specs.Option.{option_to_list};
+ghost use Rattle.ac_paths.specs.Going.{at_rows, extended};
+ghost use Rattle.ac_leading.specs.Steps.{at_rest};
+ghost use Rattle.ac_tables.specs.Behind.{judge};
+ghost use Rattle.ac_tables.specs.Questions.{beside_of, branches_of, cases_of, next_if, next_of, questions_of, reads_of, rests_of};
+
 use ac_claims::domains::size_at;
-use ac_claims::ending::same_position;
 use ac_claims::starts::start_at;
 use ac_claims::types::Claim;
-use ac_flow::types::{Case, Flow, ReadFlow};
+use ac_flow::types::Case;
 use ac_forms::{Conj, FormStop, Row, column_after, push_range, renamed_rows};
 use ac_items::Items;
 use ac_paths::going::{branches, join, onto};
 use ac_paths::killing::case_columns;
 use ac_paths::path::{Path, Side, at_rows};
 use ac_paths::places::cell_read;
-use ac_syntax::tree::{Order, Position, Site};
+use ac_syntax::tree::{Order, Site};
+use ac_unfold::steps::{flow_of, order_at};
 use ac_unfold::types::Setting;
 use std::alloc::{AllocError, Global};
-
-/// The order of a pair of calls: that of the first place of the list at which it stands, else `Keep`.
-fn order_at(order: &[(Site, Order)], left: &Position, right: &Position) -> Order {
-    for choice in order {
-        if same_position(&choice.0.left, left) && same_position(&choice.0.right, right) {
-            return choice.1;
-        }
-    }
-    Order::Keep
-}
-
-/// The flow of a read or an output, if it is there.
-fn flow_at<'a>(flow: &'a Flow, position: &Position) -> Option<&'a ReadFlow> {
-    for read in flow.reads.as_slice() {
-        if same_position(&read.position, position) {
-            return Some(read);
-        }
-    }
-    None
-}
-
-/// The flow of the read or output on a side, if it is there.
-fn flow_of<'a>(setting: &Setting<'a>, question: &Path, side: Side) -> Option<&'a ReadFlow> {
-    match side {
-        Side::Left => flow_at(setting.left_flow, &question.left.position),
-        Side::Right => flow_at(setting.right_flow, &question.right.position),
-    }
-}
 
 /// The question at what is left of a case that it assumes: the quotients of the case are further columns. None where nothing is assumed,
 /// or a number leaves `i128`.
@@ -49,7 +28,9 @@ fn at_rest(
     params: usize,
     question: &Path,
     rest: &Conj,
-) -> Result<Option<Path>, AllocError> {
+) -> Result<Option<Path>, AllocError>
+    ensures { IfOk result (λ made. made ≡ at_rest params question.now rest.now) }
+{
     let Some(assumed) = &question.last else {
         return Ok(None);
     };
@@ -69,7 +50,9 @@ fn extended(
     question: &Path,
     further: usize,
     rows: Items<Row>,
-) -> Result<Path, AllocError> {
+) -> Result<Path, AllocError>
+    ensures { IfOk result (λ made. made ≡ at_rows question.now (extended question.now.conj further rows)) }
+{
     let Conj {
         columns,
         rows: first,
@@ -81,6 +64,17 @@ fn extended(
     Ok(at_rows(question, conj))
 }
 
+/// Adds a question, if it is there.
+fn push_made(found: &mut Items<Path>, made: Option<Path>) -> Result<(), AllocError>
+    ensures { OnOk result (found.new ≡ found.old ++ option_to_list made) }
+{
+    match made {
+        Some(question) => found.push(question)?,
+        None => {}
+    }
+    Ok(())
+}
+
 /// Adds the questions at what is left of a case.
 fn push_case(
     alloc: Global,
@@ -88,13 +82,48 @@ fn push_case(
     question: &Path,
     case: &Case,
     found: &mut Items<Path>,
-) -> Result<(), AllocError> {
+) -> Result<(), AllocError>
+    ensures { OnOk result (found.new ≡ found.old ++ rests_of params question.now case.now) }
+{
     for rest in case.pieces.as_slice() {
-        if let Some(made) = at_rest(alloc, params, question, &rest.conj)? {
-            found.push(made)?;
-        }
+        push_made(found, at_rest(alloc, params, question, &rest.conj)?)?;
     }
     Ok(())
+}
+
+/// Adds the questions at what is left of each case, each at the branch with its number.
+fn push_cases(
+    alloc: Global,
+    params: usize,
+    branches: &[Path],
+    cases: &[Case],
+    found: &mut Items<Path>,
+) -> Result<(), AllocError>
+    ensures { OnOk result (found.new ≡ found.old ++ cases_of params branches.now cases.now) }
+{
+    for number in 0..branches.len().min(cases.len()) {
+        push_case(alloc, params, &branches[number], &cases[number], found)?;
+    }
+    Ok(())
+}
+
+/// The branches of a question: none where there is no step, or a number leaves `i128`.
+fn branches_of(
+    alloc: Global,
+    setting: &Setting<'_>,
+    order: Order,
+    question: &Path,
+) -> Result<Items<Path>, AllocError>
+    ensures { IfOk result (λ made. made ≡ branches_of (judge setting.now) order question.now) }
+{
+    let mut behind = Items::new(alloc);
+    let Some(made) = branches(alloc, &setting.programs, order, question)? else {
+        return Ok(behind);
+    };
+    for branch in made.into_vec() {
+        behind.push(onto(question.copy(alloc)?, branch)?)?;
+    }
+    Ok(behind)
 }
 
 /// Adds the questions to which the step of a read or an output leads: one for each piece of what is left of each case.
@@ -104,20 +133,20 @@ fn push_reads(
     question: &Path,
     side: Side,
     found: &mut Items<Path>,
-) -> Result<(), AllocError> {
+) -> Result<(), AllocError>
+    ensures { OnOk result (found.new ≡ found.old ++ reads_of setting.now side question.now) }
+{
     let Some(flow) = flow_of(setting, question, side) else {
         return Ok(());
     };
-    let Some(made) = branches(alloc, &setting.programs, Order::Keep, question)? else {
-        return Ok(());
-    };
-    for (number, branch) in made.into_vec().into_iter().enumerate() {
-        if let Some(case) = flow.cases.get(number) {
-            let child = onto(question.copy(alloc)?, branch)?;
-            push_case(alloc, setting.programs.left.params, &child, case, found)?;
-        }
-    }
-    Ok(())
+    let behind = branches_of(alloc, setting, Order::Keep, question)?;
+    push_cases(
+        alloc,
+        setting.programs.left.params,
+        behind.as_slice(),
+        flow.cases.as_slice(),
+        found,
+    )
 }
 
 /// Adds the questions to which the step of two calls leads: one for each pair of their arguments.
@@ -127,12 +156,12 @@ fn push_calls(
     order: Order,
     question: &Path,
     found: &mut Items<Path>,
-) -> Result<(), AllocError> {
-    let Some(made) = branches(alloc, &setting.programs, order, question)? else {
-        return Ok(());
-    };
-    for branch in made.into_vec() {
-        found.push(onto(question.copy(alloc)?, branch)?)?;
+) -> Result<(), AllocError>
+    ensures { OnOk result (found.new ≡ found.old ++ branches_of (judge setting.now) order question.now) }
+{
+    let behind = branches_of(alloc, setting, order, question)?;
+    for branch in behind.into_vec() {
+        found.push(branch)?;
     }
     Ok(())
 }
@@ -144,7 +173,9 @@ fn push_step(
     order: &[(Site, Order)],
     question: &Path,
     found: &mut Items<Path>,
-) -> Result<(), AllocError> {
+) -> Result<(), AllocError>
+    ensures { OnOk result (found.new ≡ found.old ++ next_of setting.now order.now question.now) }
+{
     let programs = &setting.programs;
     let (left, right) = (&question.left.position, &question.right.position);
     if cell_read(alloc, programs.left, left)?.is_some() {
@@ -162,6 +193,22 @@ fn push_step(
     )
 }
 
+/// Adds the questions to which one step leads from a start, if it is made.
+fn push_start(
+    alloc: Global,
+    setting: &Setting<'_>,
+    order: &[(Site, Order)],
+    start: Option<Path>,
+    found: &mut Items<Path>,
+) -> Result<(), AllocError>
+    ensures { OnOk result (found.new ≡ found.old ++ next_if setting.now order.now start) }
+{
+    match start {
+        Some(question) => push_step(alloc, setting, order, &question, found),
+        None => Ok(()),
+    }
+}
+
 /// Adds the questions to which one step leads from the pairs of a claim at one piece of its left position.
 fn push_beside(
     alloc: Global,
@@ -171,11 +218,12 @@ fn push_beside(
     left: usize,
     rights: usize,
     found: &mut Items<Path>,
-) -> Result<(), AllocError> {
+) -> Result<(), AllocError>
+    ensures { OnOk result (found.new ≡ found.old ++ beside_of setting.now order.now claim.now rights left) }
+{
     for right in 0..rights {
-        if let Some(question) = start_at(alloc, &setting.programs, claim, left, right)? {
-            push_step(alloc, setting, order, &question, found)?;
-        }
+        let start = start_at(alloc, &setting.programs, claim, left, right)?;
+        push_start(alloc, setting, order, start, found)?;
     }
     Ok(())
 }
@@ -186,7 +234,9 @@ pub(crate) fn questions_behind(
     setting: &Setting<'_>,
     order: &[(Site, Order)],
     claim: &Claim,
-) -> Result<Items<Path>, AllocError> {
+) -> Result<Items<Path>, AllocError>
+    ensures { IfOk result (λ found. found ≡ questions_of setting.now order.now claim.now) }
+{
     let mut found = Items::new(alloc);
     let Some(lefts) = size_at(alloc, setting.programs.left, &claim.left)? else {
         return Ok(found);

@@ -1,5 +1,5 @@
 //! Unfolding a start against a table, behind what can be tabled.
-ghost use Rattle.std.specs.Prelude.{◌≡◌, ◌+◌, IfErr, IfOk, IfSome, Ok, length};
+ghost use Rattle.std.specs.Prelude.{◌≡◌, ◌⊎◌, ◌+◌, ◌*◌, ℕ, IfErr, IfOk, false, length, true};
 ghost use Rattle.ac_forms.specs.Members.{IsAmong};
 ghost use Rattle.ac_claims.specs.declared.types.Claim.{Claim as Asked};
 ghost use Rattle.ac_decided.specs.Stopping.{key_of};
@@ -9,8 +9,11 @@ ghost use Rattle.ac_unfold.specs.Causes.{StopsUnfolding};
 ghost use Rattle.ac_unfold.specs.Planned.{IfBroken, IfPlans};
 ghost use Rattle.ac_unfold.specs.Unfoldings.{IsUnfoldingOf};
 ghost use Rattle.ac_tables.specs.Tabled.{AddsTabled, AreTabled};
+ghost use Rattle.ac_tables.specs.Behind.{judge};
 ghost use Rattle.ac_tables.specs.Tables.{Grows};
-ghost use Rattle.ac_tables.specs.Trees.{AreTreesOf};
+ghost use Rattle.ac_tables.specs.Tabling.{ComesOut, IsMet, StandsBehind};
+ghost use Rattle.ac_tables.specs.Thorough.{AreCalls, AreTried, Fails, IsCovered, IsHindered, IsReached, IsThorough};
+ghost use Rattle.ac_tables.specs.Trees.{AreTreesOf, Heed};
 
 use crate::relations::{copy_of, fitting, is_claimed, is_covered, relation_of};
 use crate::stepping::questions_behind;
@@ -20,25 +23,16 @@ use ac_forms::column_after;
 use ac_items::Items;
 use ac_paths::places::call_at;
 use ac_unfold::claim_trees;
-use ac_unfold::types::{Planned, Setting, UnfoldStop};
+use ac_unfold::types::{Planned, Setting, UnfoldStop, freely};
 use std::alloc::{AllocError, Global};
 
 /// How deep the pairs behind a start are gone through, in calls: two for each step.
 const MOST_DEEP: usize = 2_000;
 
-/// What comes of a relation; none where a question is too wide or costs too much.
-fn freely(planned: Result<Planned, UnfoldStop>) -> Result<Option<Planned>, AllocError>
-    ensures { IfOk result (λ free. IfSome free (λ made. planned ≡ Ok made)) }
-{
-    match planned {
-        Ok(planned) => Ok(Some(planned)),
-        Err(UnfoldStop::Memory(want)) => Err(want),
-        Err(_) => Ok(None),
-    }
-}
-
 /// Whether two calls stand at the pair of a relation.
-fn are_calls(setting: &Setting<'_>, relation: &Claim) -> bool {
+fn are_calls(setting: &Setting<'_>, relation: &Claim) -> bool
+    ensures { result ≡ false → ¬ (AreCalls (judge setting.now) relation.now) }
+{
     let programs = &setting.programs;
     call_at(programs.left, &relation.left).is_some()
         && call_at(programs.right, &relation.right).is_some()
@@ -53,6 +47,7 @@ fn planned(
     table: &Table,
 ) -> Result<Planned, UnfoldStop>
     ensures trees { IfOk result (IfPlans (AreTreesOf setting.now table.now.base table.now.claims table.now.tabled table.now.order number start.now)) }
+    ensures heed { IfOk result (IfPlans (Heed setting.now table.now.tabled start.now)) }
     ensures broken { IfOk result (IfBroken (λ path. (u : Unfolding) → IsUnfoldingOf setting.now start.now table.now.order u → IsBroken u table.now.claims path)) }
     ensures causes { IfErr result (StopsUnfolding setting.now start.now table.now.claims table.now.order) }
 {
@@ -84,7 +79,8 @@ fn table_proved(
     table: &mut Table,
 ) -> Result<bool, AllocError>
     requires { (d : Asked) → IsAmong d table.old.claims → ¬ (key_of d ≡ key_of relation) }
-    ensures { AddsTabled setting.now table.old table.new }
+    ensures adds { AddsTabled setting.now table.old table.new }
+    ensures done { IfOk result (λ stands. Fails setting.now table.old.order table.old.claims relation ⊎ ((stands ≡ true) × IsCovered table.new.tabled relation)) }
 {
     let Some(relation) = fitting(alloc, setting, relation)? else {
         return Ok(true);
@@ -111,7 +107,8 @@ fn table_pair(
     met: &mut Items<Claim>,
     room: usize,
 ) -> Result<bool, AllocError>
-    ensures { AddsTabled setting.now table.old table.new }
+    ensures adds { AddsTabled setting.now table.old table.new }
+    ensures done { IfOk result (λ stands. (start : Asked) (n : ℕ) → IsReached setting.now table.old.order table.old.claims start n relation → room + 2 * n ≡ 2001 → ComesOut setting.now start table.old table.new met.old met.new stands (IsMet table.new met.new relation)) }
 {
     if room == 0 {
         return Ok(true);
@@ -141,7 +138,8 @@ fn table_behind(
     met: &mut Items<Claim>,
     room: usize,
 ) -> Result<bool, AllocError>
-    ensures { AddsTabled setting.now table.old table.new }
+    ensures adds { AddsTabled setting.now table.old table.new }
+    ensures done { IfOk result (λ stands. (start : Asked) (n : ℕ) → StandsBehind setting.now table.old.order table.old.claims start n claim.now → room + 2 * n ≡ 2000 → ComesOut setting.now start table.old table.new met.old met.new stands (AreTried setting.now table.new met.new claim.now)) }
 {
     if room == 0 {
         return Ok(true);
@@ -174,10 +172,12 @@ pub fn unfold(
     table: &mut Table,
 ) -> Result<Planned, UnfoldStop>
     ensures trees { IfOk result (IfPlans (AreTreesOf setting.now table.new.base table.new.claims table.new.tabled table.new.order number start.now)) }
+    ensures heed { IfOk result (IfPlans (Heed setting.now table.new.tabled start.now)) }
     ensures broken { IfOk result (IfBroken (λ path. (u : Unfolding) → IsUnfoldingOf setting.now start.now table.new.order u → IsBroken u table.new.claims path)) }
     ensures causes { IfErr result (StopsUnfolding setting.now start.now table.new.claims table.new.order) }
     ensures kept { Grows table.old table.new }
     ensures valid { AreTabled setting.now table.old → AreTabled setting.now table.new }
+    ensures tabled { IfOk result (λ planned. IsThorough setting.now table.new start.now ⊎ IsHindered setting.now table.new.order table.new.claims start.now) }
 {
     let mut met = Items::new(alloc);
     let _may_stand = table_behind(alloc, setting, start, table, &mut met, MOST_DEEP)?;

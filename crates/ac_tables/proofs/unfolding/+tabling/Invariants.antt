@@ -1,4 +1,5 @@
-use Rattle.ac_tables.specs.Tabled.{AddsTabled}
+use Rattle.std.proofs.Common.{take}
+use Rattle.ac_tables.proofs.Tabling.{Keeps}
 use Rattle.ac_tables.proofs.unfolding.+tabling.Given as goal
 
 abbrev pub decreases-table_pair : goal.decreases-table_pair
@@ -8,4 +9,4 @@ abbrev pub decreases-table_behind : goal.decreases-table_behind
 decreases-table_behind l = l.room
 
 abbrev pub invariant-table_behind-loop-question : goal.invariant-table_behind-loop-question
-invariant-table_behind-loop-question l = AddsTabled l.setting l.fn.table l.table
+invariant-table_behind-loop-question l = Keeps l.setting l.claim l.room l.fn.table l.table l.fn.met l.met (take l.question-index l.question-items)
