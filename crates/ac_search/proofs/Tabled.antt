@@ -92,7 +92,7 @@ module _ (s : Search) (order : List (Site × Order)) (claims tabled : List Claim
   planned_behind first len some trees rest none whole p =
       subst (λ (xs : List Claim). ArePlanned (programs_of s.pair.now) (first ++ output ∷ (claims ++ tabled)) s.first xs (plans ++ [])) (sym (append_none own))
       (subst (ArePlanned (programs_of s.pair.now) (first ++ output ∷ (claims ++ tabled)) s.first own) (sym (append_none plans)) p)
-  planned_behind first len some trees rest (more before done c ts some' trees' h made some_is trees_are fit) whole p =
+  planned_behind first len some trees rest (more before done c ts some' trees' h made heed some_is trees_are fit) whole p =
       let again : before ++ c ∷ rest ≡ tabled = sym (append_assoc before (c ∷ []) rest) ∙ ap (λ (xs : List Claim). xs ++ rest) (sym some_is) ∙ whole in
       let fewer = planned_behind first len before done (c ∷ rest) h again p in
       let is_made : IsClaimMade (programs_of s.pair.now) c = subst (λ (g : Pairing). IsClaimMade g c) (sym (programs_are s is)) fit.made in
@@ -107,7 +107,7 @@ module _ (s : Search) (order : List (Site × Order)) (claims tabled : List Claim
       → AllByRecursion (TreeStops s.pair.now (order_of order) w.recurrent (in_part s.first (length (output ∷ (claims ++ tabled)))) (first ++ output ∷ (claims ++ tabled))) (plans ++ all_trees trees)
   stops_behind first len w v some trees rest none whole p =
       subst (AllByRecursion (TreeStops s.pair.now (order_of order) w.recurrent (in_part s.first (length (output ∷ (claims ++ tabled)))) (first ++ output ∷ (claims ++ tabled)))) (sym (append_none plans)) p
-  stops_behind first len w v some trees rest (more before done c ts some' trees' h made some_is trees_are fit) whole p =
+  stops_behind first len w v some trees rest (more before done c ts some' trees' h made heed some_is trees_are fit) whole p =
       let again : before ++ c ∷ rest ≡ tabled = sym (append_assoc before (c ∷ []) rest) ∙ ap (λ (xs : List Claim). xs ++ rest) (sym some_is) ∙ whole in
       let fewer = stops_behind first len w v before done (c ∷ rest) h again p in
       let is_made : IsClaimMade (programs_of s.pair.now) c = subst (λ (g : Pairing). IsClaimMade g c) (sym (programs_are s is)) fit.made in
@@ -163,7 +163,7 @@ tabled_apart s order claims t have table c i key among same =
   where
     fit : (some : List Claim) (trees : List (List ClaimTree)) → IsTabled s.setting.now t.base t.claims t.order some trees → (c : Claim) → IsAmong c some → (d : Claim) → IsAmong d t.claims → ¬ (key_of d ≡ key_of c)
     fit some trees none c i d m = absurd i
-    fit some trees (more before done x ts some' trees' h made some_is trees_are is_fit) c i d m = by (λ j. fit before done h c j d m) (among_both before (x ∷ []) c (subst (IsAmong c) some_is i))
+    fit some trees (more before done x ts some' trees' h made heed some_is trees_are is_fit) c i d m = by (λ j. fit before done h c j d m) (among_both before (x ∷ []) c (subst (IsAmong c) some_is i))
       where
         by : (IsAmong c before → ¬ (key_of d ≡ key_of c)) → IsAmong c before ⊎ IsAmong c (x ∷ []) → ¬ (key_of d ≡ key_of c)
         by earlier (inl j) = earlier j

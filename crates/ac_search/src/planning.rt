@@ -1,5 +1,5 @@
 //! The plans of the output and of the claims, where all of them stand.
-ghost use Rattle.std.specs.Prelude.{◌≡◌, ◌+◌, ◌<◌, ◌≤◌, length, IfOk, IfErr};
+ghost use Rattle.std.specs.Prelude.{◌≡◌, ◌<◌, ◌≤◌, length, IfOk, IfErr};
 ghost use Rattle.ac_forms.specs.Rows.{AreRowsOver};
 ghost use Rattle.ac_decided.specs.Stopping.{key_of};
 ghost use Rattle.ac_setting.specs.Programs.{point_width};
@@ -13,6 +13,7 @@ use crate::stops::{Stop, of_unfolding};
 use crate::tabling::part_tabled;
 use crate::types::Search;
 use ac_claims::types::Claim;
+use ac_forms::column_after;
 use ac_hits::trees_hit_within;
 use ac_items::Items;
 use ac_parts::types::Part;
@@ -22,7 +23,7 @@ use ac_syntax::tree::{Order, Site};
 use ac_unfold::claim_trees;
 use ac_unfold::types::Planned;
 use ac_widen::Entry;
-use std::alloc::{AllocError, Global};
+use std::alloc::Global;
 
 /// What comes of the plans of one start.
 #[derive(Drop)]
@@ -42,16 +43,6 @@ pub(crate) enum Planning {
     Broken(Option<usize>, Items<Entry>),
 }
 
-/// The sum of two numbers.
-pub(crate) fn sum(first: usize, second: usize) -> Result<usize, AllocError>
-    ensures { IfOk result (λ all. all ≡ first + second) }
-{
-    match first.checked_add(second) {
-        Some(all) => Ok(all),
-        None => Err(AllocError),
-    }
-}
-
 /// Adds a start with its plans to a part.
 fn add(
     alloc: Global,
@@ -68,8 +59,8 @@ fn add(
     ensures added { IfOk result (IsAdded search.now order.now claims.now tabled.now start part) }
     ensures causes { IfErr result (EndsEarlyBy search.now order.now claims.now start) }
 {
-    let number = sum(search.first, part.claims.len())?;
-    let base = sum(search.first, 1)?;
+    let number = column_after(search.first, part.claims.len())?;
+    let base = column_after(search.first, 1)?;
     let setting = search.setting;
     match claim_trees(alloc, setting, number, &start, base, claims, tabled, order) {
         Ok(Planned::Plans(trees)) => Ok(Added::Part(with_claim(part, start, trees)?)),
@@ -154,7 +145,7 @@ fn part_with(
 {
     match part_to(alloc, search, order, known, numbers, claims, &[], count)? {
         Planning::Part(part) => {
-            let limit = sum(search.first, part.claims.len())?;
+            let limit = column_after(search.first, part.claims.len())?;
             if trees_hit_within(part.trees.as_slice(), limit) {
                 return Ok(Planning::Part(part));
             }

@@ -8,10 +8,11 @@ ghost use Rattle.ac_search.specs.Searches.{IsKnownUnder, IsSearch};
 ghost use Rattle.ac_search.specs.Stops.{EndsEarly, EndsEarlyBy};
 ghost use Rattle.ac_search.specs.Tabling.{IsFilled};
 
-use crate::planning::{Planning, part_to, sum};
+use crate::planning::{Planning, part_to};
 use crate::stops::{Stop, of_unfolding};
 use crate::types::Search;
 use ac_claims::types::{Claim, ClaimTree};
+use ac_forms::column_after;
 use ac_items::Items;
 use ac_parts::output_claim;
 use ac_parts::types::Part;
@@ -78,7 +79,7 @@ fn fill(
     ensures filled { IfOk result (IsFilled search.now order.now known.now claims.items) }
     ensures causes { IfErr result (EndsEarly search.now order.now) }
 {
-    let base = sum(search.first, 1)?;
+    let base = column_after(search.first, 1)?;
     let mut table = table_of(alloc, base, claims, order)?;
     let output = output_claim(alloc, &search.setting.programs, search.array)?;
     if let Some(path) = fill_from(alloc, search, &output, &mut table)? {
