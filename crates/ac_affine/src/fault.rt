@@ -40,7 +40,7 @@ impl fmt::Display for Which {
 }
 
 /// The rule that is broken.
-#[derive(Clone, Copy, Debug, PartialEq, Eq)]
+#[derive(Clone, Copy, PartialEq, Eq)]
 pub enum Rule {
     NotAffine,
     Undeclared,
@@ -51,7 +51,7 @@ pub enum Rule {
 }
 
 /// A broken rule, and where.
-#[derive(Clone, Copy, Debug, PartialEq, Eq)]
+#[derive(Clone, Copy, PartialEq, Eq)]
 pub struct Broken {
     pub rule: Rule,
     pub place: Place,

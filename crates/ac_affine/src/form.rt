@@ -9,7 +9,7 @@ use ac_syntax::tree::{IndexExpr, Place};
 use std::alloc::{AllocError, Global};
 
 /// An affine form: a constant, a coefficient for each integer parameter, and one for each iterator, the outermost first.
-#[derive(Debug, Drop)]
+#[derive(Drop)]
 pub struct Affine {
     pub constant: i128,
     pub params: Items<i128>,
@@ -17,7 +17,7 @@ pub struct Affine {
 }
 
 /// What is collected of an expression.
-#[derive(Debug, Drop)]
+#[derive(Drop)]
 pub enum Collected {
     /// Its form, in exact numbers of at most 2^126 in absolute value.
     Known(Affine),

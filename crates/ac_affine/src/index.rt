@@ -11,7 +11,7 @@ use std::alloc::{AllocError, Global};
 
 /// What the rules say of an index expression: its first byte, its form, whether a number of some subexpression passes the limit, and the
 /// first rule that is broken in it.
-#[derive(Debug, Drop)]
+#[derive(Drop)]
 pub struct Judged {
     pub place: Place,
     pub form: Collected,
@@ -20,7 +20,7 @@ pub struct Judged {
 }
 
 /// The same of several expressions; `known` where each has a form.
-#[derive(Clone, Copy, Debug)]
+#[derive(Clone, Copy)]
 pub struct Parts {
     pub known: bool,
     pub large: bool,

@@ -7,7 +7,7 @@ use ac_items::Items;
 use ac_syntax::name::Name;
 
 /// What a name means at a place.
-#[derive(Clone, Copy, Debug, PartialEq, Eq)]
+#[derive(Clone, Copy, PartialEq, Eq)]
 pub enum Meaning {
     /// The integer parameter with this number.
     Parameter(usize),
@@ -24,7 +24,7 @@ pub enum Meaning {
 }
 
 /// A declared name and what it means.
-#[derive(Debug, Drop)]
+#[derive(Drop)]
 pub struct Entry {
     pub name: Name,
     pub meaning: Meaning,
@@ -32,7 +32,7 @@ pub struct Entry {
 
 /// Where an expression stands: how many integer parameters there are, the names of the loops that run, the innermost
 /// first, the name of the untyped loop whose start this is, and whether only parameters may stand here.
-#[derive(Debug, Drop)]
+#[derive(Drop)]
 pub struct Scope {
     pub params: usize,
     pub iterators: Items<Name>,

@@ -9,7 +9,7 @@ use ac_forms::{Conj, Row};
 use std::alloc::Global;
 
 /// The end at a row without coefficients that is false, so that there is no point.
-#[derive(Clone, Copy, Debug, Drop)]
+#[derive(Clone, Copy, Drop)]
 pub struct Absurd {
     /// The place of the row.
     pub row: usize,

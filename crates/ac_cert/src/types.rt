@@ -3,7 +3,7 @@ use ac_items::Items;
 use std::alloc::{AllocError, Global};
 
 /// The rules of proofs, by which a proof is refused. Each is printed as its variant's name in lower case.
-#[derive(Clone, Copy, Debug, PartialEq, Eq, Drop)]
+#[derive(Clone, Copy, PartialEq, Eq, Drop)]
 pub enum Rule {
     /// The text of a proof.
     Text,
@@ -57,7 +57,7 @@ pub enum Rule {
 
 /// A step along a path: it adds rows to those so far, which are named by their places from 0. What a variant says is
 /// what its rule asks; a step that is no instance of its rule can be made, and is refused.
-#[derive(Debug, Drop)]
+#[derive(Drop)]
 pub enum Step {
     /// The sum of multiples of `Eq` and `Ge` rows, those of `Ge` rows not negative.
     Add(Items<(usize, i128)>),
@@ -105,7 +105,7 @@ pub enum Next<E> {
 }
 
 /// Why a step, a branch or an end was stopped.
-#[derive(Debug, Drop)]
+#[derive(Drop)]
 pub enum EndStop {
     /// It is refused, by this rule.
     Refused(Rule),
@@ -114,7 +114,7 @@ pub enum EndStop {
 }
 
 /// Why the check of a tree was stopped.
-#[derive(Debug, Drop)]
+#[derive(Drop)]
 pub enum TreeFault {
     /// The first node in preorder that fails, numbered from 0, and its rule. Steps, branches and ends are nodes.
     Refused { node: u64, rule: Rule },

@@ -13,7 +13,7 @@ use std::alloc::{AllocError, Global};
 
 /// A choice of elimination (W. Pugh, The Omega test, 1991). The first number is the column that goes; rows are named by
 /// their places.
-#[derive(Clone, Copy, Debug, PartialEq, Eq, Drop)]
+#[derive(Clone, Copy, PartialEq, Eq, Drop)]
 pub enum Choice {
     /// Rows `>= 0` bound the column from one side only, or not at all: they go.
     Drop(usize),
@@ -28,7 +28,7 @@ pub enum Choice {
 }
 
 /// Why a choice was not taken.
-#[derive(Debug, Drop)]
+#[derive(Drop)]
 pub enum StepStop {
     /// The conjunction is absurd, or the choice's condition fails.
     Illegal,

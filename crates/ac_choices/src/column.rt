@@ -8,7 +8,7 @@ use ac_items::Items;
 use std::alloc::{AllocError, Global};
 
 /// A bound of one column: `size z + rest >= 0` from below, or `rest - size z >= 0` from above, with a positive size.
-#[derive(Debug, Drop)]
+#[derive(Drop)]
 pub struct Bound {
     /// The absolute value of the column's coefficient.
     pub size: i128,

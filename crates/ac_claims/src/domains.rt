@@ -13,14 +13,14 @@ use ac_syntax::tree::{Kind, Position};
 use std::alloc::{AllocError, Global};
 
 /// How many coordinates a position has, and how many pieces.
-#[derive(Clone, Copy, Debug, PartialEq, Eq)]
+#[derive(Clone, Copy, PartialEq, Eq)]
 pub struct Size {
     pub width: usize,
     pub pieces: usize,
 }
 
 /// A piece of a position: its rows, over the parameters and so many coordinates.
-#[derive(Debug, Drop)]
+#[derive(Drop)]
 pub struct Piece {
     pub width: usize,
     pub rows: Items<Row>,

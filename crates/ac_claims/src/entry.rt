@@ -5,7 +5,7 @@ use ac_paths::path::{Assumed, Branch, Seat};
 use std::alloc::AllocError;
 
 /// The first line that fails, and its rule.
-#[derive(Clone, Copy, Debug, PartialEq, Eq, Drop)]
+#[derive(Clone, Copy, PartialEq, Eq, Drop)]
 pub struct Refusal {
     /// The line.
     pub line: u64,
@@ -14,7 +14,7 @@ pub struct Refusal {
 }
 
 /// Why an item was not taken.
-#[derive(Debug, Drop)]
+#[derive(Drop)]
 pub(crate) enum TakeStop {
     /// It is refused.
     Refused(Refusal),
@@ -35,7 +35,7 @@ impl From<AllocError> for TakeStop {
 
 /// A path without its rows: how many columns and rows it has, and what else belongs to it. The rows are the first of the
 /// path under way.
-#[derive(Clone, Copy, Debug, Drop)]
+#[derive(Clone, Copy, Drop)]
 pub(crate) struct Prefix {
     pub columns: usize,
     /// How many rows.
@@ -47,7 +47,7 @@ pub(crate) struct Prefix {
 }
 
 /// The classes of a residue branch that are still to come: those from `next` to the modulus less 1.
-#[derive(Debug, Drop)]
+#[derive(Drop)]
 pub(crate) struct Classes {
     pub modulus: i128,
     pub form: Form,
@@ -55,7 +55,7 @@ pub(crate) struct Classes {
 }
 
 /// A copy whose choices are still to come.
-#[derive(Debug, Drop)]
+#[derive(Drop)]
 pub(crate) struct Choosing {
     /// The line that names the copy.
     pub line: u64,
@@ -68,7 +68,7 @@ pub(crate) struct Choosing {
 }
 
 /// What is due at a path.
-#[derive(Debug, Drop)]
+#[derive(Drop)]
 pub(crate) enum Awaited {
     /// A plan.
     Plan,
@@ -83,7 +83,7 @@ pub(crate) enum Awaited {
 }
 
 /// What is due, and at which path.
-#[derive(Debug, Drop)]
+#[derive(Drop)]
 pub(crate) struct Entry {
     pub prefix: Prefix,
     pub awaited: Awaited,
@@ -91,7 +91,7 @@ pub(crate) struct Entry {
 
 /// A plan under way: the rows of its one path, and what is due, the next one last. The path of each entry is the front of
 /// this one, and no longer than that of a later entry: so rows are added behind the next entry's, and no row is copied.
-#[derive(Debug, Drop)]
+#[derive(Drop)]
 pub(crate) struct Ongoing {
     pub rows: Items<Row>,
     pub entries: Items<Entry>,

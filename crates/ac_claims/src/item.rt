@@ -5,7 +5,7 @@ use ac_items::Items;
 use ac_syntax::tree::{Order, Position};
 
 /// An item of a proof: a line of its text after the first one.
-#[derive(Debug, Drop)]
+#[derive(Drop)]
 pub enum Item {
     /// A valuation of the parameters.
     Point(Items<i128>),

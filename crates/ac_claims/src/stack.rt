@@ -31,7 +31,7 @@ use std::marker::Model;
 ///
 /// The paths of a plan share their rows, which are held once: so what is held grows by the lines that were taken, and
 /// neither a branch nor a step of the pair copies a row.
-#[derive(Debug, Drop)]
+#[derive(Drop)]
 pub struct Stack {
     alloc: Global,
     ongoing: Items<Ongoing>,

@@ -8,7 +8,7 @@ use std::alloc::AllocError;
 
 /// A statement that two positions have equal values wherever some rows hold, over the parameters, the coordinates of the
 /// left position and those of the right one.
-#[derive(Debug, Drop)]
+#[derive(Drop)]
 pub struct Claim {
     /// A position of the left program.
     pub left: Position,
@@ -19,7 +19,7 @@ pub struct Claim {
 }
 
 /// A copy that stands between a read and the source that is assumed for it, so that there is no such place.
-#[derive(Debug, Drop)]
+#[derive(Drop)]
 pub struct Kill {
     /// The assignment of the copy.
     pub stmt: usize,
@@ -80,7 +80,7 @@ pub struct ClaimTree {
 
 /// For which shapes of programs a proof was made: for each assignment of the left and of the right program its number of
 /// counters and of quotients.
-#[derive(Debug, Drop)]
+#[derive(Drop)]
 pub struct Heads {
     /// Those of the left program.
     pub left: Items<(u64, u64)>,
@@ -104,7 +104,7 @@ pub struct Proof {
 }
 
 /// Why a proof was not accepted.
-#[derive(Debug, Drop)]
+#[derive(Drop)]
 pub enum ProofFault {
     /// The first line that fails, and its rule.
     Refused { line: u64, rule: Rule },

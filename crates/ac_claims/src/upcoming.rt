@@ -13,7 +13,7 @@ use ac_syntax::tree::Position;
 use std::alloc::{AllocError, Global};
 
 /// The next plan: its claim, and the numbers of a piece of each of its positions.
-#[derive(Clone, Copy, Debug, PartialEq, Eq)]
+#[derive(Clone, Copy, PartialEq, Eq)]
 pub struct Upcoming {
     pub claim: usize,
     pub left_piece: usize,

@@ -11,7 +11,7 @@ use clap::{ArgMatches, Error};
 use std::alloc::{AllocError, Global};
 
 /// What the words ask for.
-#[derive(Clone, Copy, Debug, PartialEq, Eq)]
+#[derive(Clone, Copy, PartialEq, Eq)]
 pub enum Command<'a> {
     /// `prove A B [--budget n] [--proof P]`: compare the files A and B at each valuation of their context, with at most n steps for
     /// each question, and write what proves them equal to the file P.

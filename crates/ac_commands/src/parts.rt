@@ -7,7 +7,7 @@ use crate::numbers::integer;
 use std::alloc::{AllocError, Global};
 
 /// A name and the integer that is given to it.
-#[derive(Clone, Copy, Debug, PartialEq, Eq)]
+#[derive(Clone, Copy, PartialEq, Eq)]
 pub struct Given<'a> {
     pub name: &'a [u8],
     pub value: i64,

@@ -20,7 +20,7 @@ use ac_forms::{Form, FormStop, NormalRow, Row};
 use std::alloc::{AllocError, Global};
 
 /// Why the dark shadow of a pair loses no point of the real one.
-#[derive(Clone, Copy, Debug, PartialEq, Eq)]
+#[derive(Clone, Copy, PartialEq, Eq)]
 pub enum Reason {
     /// Both shadows have the same normal form.
     SameNormalForm,
@@ -31,14 +31,14 @@ pub enum Reason {
 }
 
 /// The real shadow of a pair, and the constant of the dark one, which has the same coefficients.
-#[derive(Debug, Drop)]
+#[derive(Drop)]
 struct Shadows {
     real: Form,
     dark: i128,
 }
 
 /// What is left of the dark and of the real shadow of a pair in normal form.
-#[derive(Debug, Drop)]
+#[derive(Drop)]
 struct LeftShadows {
     dark: NormalRow,
     real: NormalRow,

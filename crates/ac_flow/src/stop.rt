@@ -3,7 +3,7 @@ use ac_items::Items;
 use std::alloc::AllocError;
 
 /// Why the cases of a read or an output stop.
-#[derive(Debug, Drop)]
+#[derive(Drop)]
 pub(crate) enum CaseStop {
     /// A number of a question leaves `i128`.
     Overflow(Conj),

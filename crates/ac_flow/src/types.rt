@@ -5,7 +5,7 @@ use ac_syntax::tree::Position;
 use std::alloc::AllocError;
 
 /// What is left of a case within a piece of its reader.
-#[derive(Debug, Drop)]
+#[derive(Drop)]
 pub struct Remainder {
     /// The piece of the reader's assignment; 0 for an output.
     pub reader: usize,
@@ -16,7 +16,7 @@ pub struct Remainder {
 
 /// A source of a read or an output: an assignment, one of its pieces and a level by which it stands before the reader; or the
 /// initial contents of the cell.
-#[derive(Debug, Drop)]
+#[derive(Drop)]
 pub struct Case {
     /// The assignment; none for the initial contents.
     pub source: Option<usize>,
@@ -34,7 +34,7 @@ pub struct Case {
 
 /// A read or an output with its cases: one for each assignment of the array, piece and level, in this order, and then the one
 /// of the initial contents.
-#[derive(Debug, Drop)]
+#[derive(Drop)]
 pub struct ReadFlow {
     /// The read or the output.
     pub position: Position,
@@ -43,21 +43,21 @@ pub struct ReadFlow {
 }
 
 /// The sources of all reads of a program, in the order of the text, and then those of its outputs.
-#[derive(Debug, Drop)]
+#[derive(Drop)]
 pub struct Flow {
     /// The reads and outputs.
     pub reads: Items<ReadFlow>,
 }
 
 /// How far the search may go.
-#[derive(Clone, Copy, Debug, PartialEq, Eq)]
+#[derive(Clone, Copy, PartialEq, Eq)]
 pub struct Limits {
     /// The greatest running cost of a question.
     pub budget: u64,
 }
 
 /// Why there is no flow.
-#[derive(Debug, Drop)]
+#[derive(Drop)]
 pub enum FlowStop {
     /// A number of a question leaves `i128`.
     Overflow(Conj),
@@ -92,7 +92,7 @@ impl From<AllocError> for FlowStop {
 }
 
 /// Why there is no valuation of a context.
-#[derive(Debug, Drop)]
+#[derive(Drop)]
 pub enum ContextStop {
     /// There is none.
     EmptyContext,

@@ -12,7 +12,7 @@ use std::alloc::{AllocError, Global};
 /// A conjunction: rows over that many columns that all hold.
 ///
 /// It is well made if each modulus is at least 1 and no form keeps more coefficients than there are columns.
-#[derive(Debug, Drop, PartialEq, Eq)]
+#[derive(Drop, PartialEq, Eq)]
 pub struct Conj {
     /// The number of columns.
     pub columns: usize,

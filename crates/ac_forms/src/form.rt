@@ -12,7 +12,7 @@ use std::marker::Model;
 /// An affine form: a constant plus a sum of columns, each times its coefficient.
 ///
 /// A missing coefficient is 0. Up to 8 coefficients are kept in the form itself, without an allocation.
-#[derive(Debug, Drop)]
+#[derive(Drop)]
 pub struct Form {
     konst: i128,
     coefs: SmallVec<i128, 8>,

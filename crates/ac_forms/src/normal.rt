@@ -16,7 +16,7 @@ use smallvec::SmallVec;
 use std::alloc::{AllocError, Global};
 
 /// What is left of a row in normal form.
-#[derive(Debug, Drop)]
+#[derive(Drop)]
 pub enum NormalRow {
     /// This row, with the same integer points.
     Kept(Row),

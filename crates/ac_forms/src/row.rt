@@ -12,7 +12,7 @@ use std::alloc::{AllocError, Global};
 use std::cmp::Ordering;
 
 /// A row over integer columns: `form = 0`, the modulus (at least 1) divides the form, or `form >= 0`.
-#[derive(Debug, Drop)]
+#[derive(Drop)]
 pub enum Row {
     /// `form = 0`.
     Eq(Form),

@@ -1,11 +1,11 @@
 use std::alloc::{AllocError, AllocFailed};
 
 /// A number left the range of `i128`.
-#[derive(Clone, Copy, Debug, PartialEq, Eq, Drop)]
+#[derive(Clone, Copy, PartialEq, Eq, Drop)]
 pub struct Wide;
 
 /// Why a call that makes forms stopped.
-#[derive(Debug, Drop)]
+#[derive(Drop)]
 pub enum FormStop {
     /// A number left the range of `i128`.
     Wide,

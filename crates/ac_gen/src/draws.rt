@@ -7,7 +7,7 @@ use std::alloc::{AllocError, Global};
 
 /// What is drawn for a stage of the pipeline: which of the four functions its loop applies, how many elements ahead of its own
 /// element it reads, and by how much the loop is shifted.
-#[derive(Clone, Copy, Debug, PartialEq, Eq)]
+#[derive(Clone, Copy, PartialEq, Eq)]
 pub struct Stage {
     pub function: u8,
     pub reach: u8,

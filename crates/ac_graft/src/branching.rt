@@ -18,7 +18,7 @@ pub(crate) const MOST_CLASSES: i128 = 64;
 
 /// One side of a branch: the rows that the question has there, over its columns and so many further ones; where they stand on
 /// the path, counted from its next row; and how many columns and rows the path has more.
-#[derive(Debug, Drop)]
+#[derive(Drop)]
 pub struct Part {
     pub rows: Items<Row>,
     pub places: Items<usize>,
@@ -28,7 +28,7 @@ pub struct Part {
 }
 
 /// The side on which a row holds, and those of the parts of its negation.
-#[derive(Debug, Drop)]
+#[derive(Drop)]
 pub struct Parts {
     pub inside: Part,
     pub outside: Items<Part>,

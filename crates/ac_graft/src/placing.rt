@@ -12,7 +12,7 @@ use std::alloc::{AllocError, Global};
 
 /// Where the columns and rows of a question stand on the path of its plan, and how many columns and rows the path has. What a
 /// plan adds stands behind these, one for one.
-#[derive(Debug, Drop)]
+#[derive(Drop)]
 pub struct Placing {
     /// The path's column for each column.
     pub columns: Items<usize>,

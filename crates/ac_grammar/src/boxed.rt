@@ -4,7 +4,7 @@ use std::alloc::{AllocError, Global};
 use std::marker::Model;
 
 /// A part of a tree that is kept apart. Contracts see a `Boxed<T>` as what it holds.
-#[derive(Debug, Drop)]
+#[derive(Drop)]
 pub struct Boxed<T> {
     held: Box<T>,
 }

@@ -20,7 +20,7 @@ use ac_syntax::tree::Place;
 use std::alloc::{AllocError, Global};
 
 /// A condition, or an expression.
-#[derive(Debug, Drop)]
+#[derive(Drop)]
 pub enum Mixed {
     Condition(Items<Part>),
     Expression(Expr),

@@ -79,7 +79,7 @@ fn file_of(
 }
 
 /// Why tokens are no file, with the place of the first token with which no file goes on.
-#[derive(Clone, Copy, Debug, PartialEq, Eq, Drop)]
+#[derive(Clone, Copy, PartialEq, Eq, Drop)]
 pub enum GrammarFault {
     /// No file at all goes on with this token.
     Syntax(Place),

@@ -8,7 +8,7 @@ use ac_items::Items;
 use std::alloc::{AllocError, Global};
 
 /// The operands and operators of a chain, as far as it is read.
-#[derive(Debug, Drop)]
+#[derive(Drop)]
 pub struct Links {
     pub operands: Items<Expr>,
     pub operators: Items<Operator>,

@@ -9,7 +9,7 @@ use ac_lex::tokens::{Token, TokenKind};
 
 /// A terminal of the grammar. `Context`, `Commutative` and `Output` are names too, wherever a name may stand. `Other` is a
 /// token that no rule of the grammar has, as any other reserved word, and `End` stands behind the last token.
-#[derive(Clone, Copy, Debug, PartialEq, Eq)]
+#[derive(Clone, Copy, PartialEq, Eq)]
 pub enum Terminal {
     Open,
     Close,

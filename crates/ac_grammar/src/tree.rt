@@ -6,21 +6,21 @@ use ac_syntax::name::Name;
 use ac_syntax::tree::Place;
 
 /// A name, a symbol or the spelling of a decimal, and the place of its first byte.
-#[derive(Debug, Drop)]
+#[derive(Drop)]
 pub struct Word {
     pub name: Name,
     pub place: Place,
 }
 
 /// A whole number and the place of its first digit. A number above 2147483648 is kept as 2147483649.
-#[derive(Clone, Copy, Debug, PartialEq, Eq)]
+#[derive(Clone, Copy, PartialEq, Eq)]
 pub struct Numeral {
     pub number: u32,
     pub place: Place,
 }
 
 /// An operator of two operands.
-#[derive(Clone, Copy, Debug, PartialEq, Eq)]
+#[derive(Clone, Copy, PartialEq, Eq)]
 pub enum Operator {
     Add,
     Subtract,
@@ -33,7 +33,7 @@ pub enum Operator {
 ///
 /// The operands of a chain are one more than its operators, and group to the left; a chain has operators of one level,
 /// either `+` and `-`, or `*`, `/` and `%`. So the depth of an expression is bounded by how deep its text nests.
-#[derive(Debug, Drop)]
+#[derive(Drop)]
 pub enum Expr {
     Number(Numeral),
     /// A decimal constant, by its spelling.
@@ -65,7 +65,7 @@ pub enum Expr {
 }
 
 /// How two expressions are compared.
-#[derive(Clone, Copy, Debug, PartialEq, Eq)]
+#[derive(Clone, Copy, PartialEq, Eq)]
 pub enum Relation {
     Less,
     AtMost,
@@ -76,7 +76,7 @@ pub enum Relation {
 
 /// One comparison of a condition. A condition is a list of these, in the order of the text: parentheses round parts of it
 /// leave nothing.
-#[derive(Debug, Drop)]
+#[derive(Drop)]
 pub struct Part {
     pub left: Expr,
     pub relation: Relation,
@@ -85,7 +85,7 @@ pub struct Part {
 
 /// The step of a loop: `target` is what is changed, `source` the name to which `by` is added or from which it is taken where
 /// one is written (`i = j + 2`), and `down` whether it is taken. `i++` has the number 1, at the operator's place.
-#[derive(Debug, Drop)]
+#[derive(Drop)]
 pub struct Step {
     pub target: Word,
     pub source: Option<Word>,
@@ -94,7 +94,7 @@ pub struct Step {
 }
 
 /// A statement. Blocks and empty statements leave nothing: a body is the list of what stands in it.
-#[derive(Debug, Drop)]
+#[derive(Drop)]
 pub enum Statement {
     /// A loop; `typed` where its name has a type. `place` is that of `for`.
     Loop {
@@ -123,14 +123,14 @@ pub enum Statement {
 }
 
 /// The extent of a dimension, and the place of its opening bracket.
-#[derive(Debug, Drop)]
+#[derive(Drop)]
 pub struct Extent {
     pub size: Expr,
     pub place: Place,
 }
 
 /// A declared name: a parameter or a local. `whole` where its type is `int` or `long`.
-#[derive(Debug, Drop)]
+#[derive(Drop)]
 pub struct Declared {
     pub whole: bool,
     pub name: Word,
@@ -138,7 +138,7 @@ pub struct Declared {
 }
 
 /// A line that begins with `#pragma affine`.
-#[derive(Debug, Drop)]
+#[derive(Drop)]
 pub enum Pragma {
     Context(Items<Part>),
     Commutative(Items<Word>),
@@ -146,7 +146,7 @@ pub enum Pragma {
 }
 
 /// A file: one function, and the pragma lines before and behind it, in the order of the text.
-#[derive(Debug, Drop)]
+#[derive(Drop)]
 pub struct File {
     pub name: Word,
     pub params: Items<Declared>,

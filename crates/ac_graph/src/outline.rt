@@ -12,7 +12,7 @@ use ac_syntax::tree::{Stmt, Symbol, Value};
 use std::alloc::{AllocError, Global};
 
 /// A node of a value. The nodes of a value stand in preorder, the root first.
-#[derive(Debug, Drop)]
+#[derive(Drop)]
 pub(crate) enum Outline {
     /// The value of an index expression.
     Number,

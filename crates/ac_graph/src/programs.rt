@@ -11,7 +11,7 @@ use ac_syntax::tree::{Pair, Position, Program, Symbol};
 use std::alloc::{AllocError, Global};
 
 /// A program as far as pairs move by it.
-#[derive(Debug, Drop)]
+#[derive(Drop)]
 pub(crate) struct Outlines {
     /// The nodes of each assignment's value, in the order of the text.
     pub stmts: Items<Items<Outline>>,
@@ -102,7 +102,7 @@ impl Outlines {
 }
 
 /// Both programs, and the symbols whose arguments may be swapped.
-#[derive(Debug, Drop)]
+#[derive(Drop)]
 pub(crate) struct Both<'a> {
     pub left: Outlines,
     pub right: Outlines,

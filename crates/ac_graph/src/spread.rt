@@ -12,7 +12,7 @@ use ac_syntax::tree::Position;
 use std::alloc::{AllocError, Global};
 
 /// Pairs, and the places among them of the pairs to which each of them moves.
-#[derive(Debug, Drop)]
+#[derive(Drop)]
 pub(crate) struct Reached {
     pub pairs: Items<(Position, Position)>,
     pub next: Items<Items<usize>>,

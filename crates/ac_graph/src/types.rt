@@ -2,7 +2,7 @@ use ac_items::Items;
 use ac_syntax::tree::Position;
 
 /// Where pairs of positions of two programs move.
-#[derive(Debug, Drop)]
+#[derive(Drop)]
 pub struct Graph {
     /// The edges of the left program: from a read or an output to the root of each of its sources, and to its initial
     /// position.

@@ -9,7 +9,7 @@ use ac_syntax::tree::{Cond, IndexExpr, Pair, Program, Stmt, Value};
 use std::alloc::{AllocError, Global};
 
 /// A number of a text.
-#[derive(Clone, Copy, Debug, Drop)]
+#[derive(Clone, Copy, Drop)]
 pub(crate) enum Collected {
     /// The constant of a form.
     Constant(i64),

@@ -9,7 +9,7 @@ use ac_forms::{Wide, coefficient};
 use ac_items::Items;
 
 /// A row over the difference of two columns, of which one past the end stands for 0.
-#[derive(Clone, Copy, Debug, Drop)]
+#[derive(Clone, Copy, Drop)]
 pub(crate) struct Difference {
     pub first: usize,
     pub second: usize,

@@ -19,7 +19,7 @@ use std::marker::Model;
 
 /// The rational affine hull of integer points, by members none of which lies in the hull of those before it, with the
 /// rows of their elimination and the equalities of the hull.
-#[derive(Debug, Drop)]
+#[derive(Drop)]
 pub struct Hull {
     alloc: Global,
     columns: usize,

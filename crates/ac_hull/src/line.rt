@@ -11,7 +11,7 @@ use ac_items::Items;
 use std::alloc::{AllocError, Global};
 
 /// A row of the elimination: its coordinates, and its weights over the differences of the members to the first.
-#[derive(Debug, Drop)]
+#[derive(Drop)]
 pub(crate) struct Line {
     pub coords: Items<i128>,
     pub weights: Items<i128>,

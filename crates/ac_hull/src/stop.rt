@@ -2,7 +2,7 @@ use ac_items::Items;
 use std::alloc::AllocError;
 
 /// Why a call on a hull stopped.
-#[derive(Debug, Drop)]
+#[derive(Drop)]
 pub enum HullStop {
     /// A number of the elimination left the range of `i128`: the hull's members, followed by the point that was handed
     /// in.

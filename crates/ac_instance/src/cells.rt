@@ -8,7 +8,7 @@ use std::alloc::{AllocError, Global};
 use std::marker::Model;
 
 /// A cell that is read or assigned: an array's number and an index for each of its dimensions.
-#[derive(Debug, PartialEq, Eq, Hash, Drop)]
+#[derive(PartialEq, Eq, Hash, Drop)]
 pub struct Target {
     pub array: usize,
     pub index: Vec<i64>,

@@ -6,14 +6,14 @@ use ac_syntax::tree::Place;
 use std::alloc::{AllocError, AllocFailed};
 
 /// One of the two programs that are compared.
-#[derive(Clone, Copy, Debug, PartialEq, Eq)]
+#[derive(Clone, Copy, PartialEq, Eq)]
 pub enum Side {
     Left,
     Right,
 }
 
 /// What a comparison of an output found.
-#[derive(Debug, Drop, PartialEq, Eq)]
+#[derive(Drop, PartialEq, Eq)]
 pub enum Outcome {
     /// The terms of all elements agree.
     Equal,
@@ -22,14 +22,14 @@ pub enum Outcome {
 }
 
 /// An outcome for each output, in order, and the number of events.
-#[derive(Debug, Drop, PartialEq, Eq)]
+#[derive(Drop, PartialEq, Eq)]
 pub struct Ran {
     pub outcomes: Items<Outcome>,
     pub events: u64,
 }
 
 /// Why there is no answer.
-#[derive(Debug, Drop)]
+#[derive(Drop)]
 pub enum Halt {
     /// The valuation does not meet the context.
     OutsideContext,

@@ -28,7 +28,7 @@ use std::alloc::{AllocError, Global};
 use std::marker::Model;
 
 /// What is known at a recurrence pair.
-#[derive(Debug, Drop)]
+#[derive(Drop)]
 pub struct Key {
     left: Position,
     right: Position,

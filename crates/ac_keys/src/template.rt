@@ -8,7 +8,7 @@ use ac_syntax::tree::Pair;
 use std::alloc::{AllocError, Global};
 
 /// The numbers at which the template rows of claims may stop, and the moduli of their residue classes.
-#[derive(Debug, Drop)]
+#[derive(Drop)]
 pub struct Template {
     pub thresholds: Items<i128>,
     pub moduli: Items<i128>,

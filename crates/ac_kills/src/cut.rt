@@ -13,7 +13,7 @@ use ac_omega::{Decided, Stop, settle_point};
 use std::alloc::{AllocError, AllocFailed, Global};
 
 /// Why cutting stops.
-#[derive(Debug, Drop)]
+#[derive(Drop)]
 pub enum CutStop {
     /// A number of a question leaves `i128`.
     Overflow(Conj),

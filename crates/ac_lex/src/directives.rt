@@ -6,7 +6,7 @@ use crate::bytes::is_gap;
 use crate::front::word_len;
 
 /// Which directive a line is; of `#pragma affine` with the number of bytes through `affine`.
-#[derive(Clone, Copy, Debug, PartialEq, Eq)]
+#[derive(Clone, Copy, PartialEq, Eq)]
 pub enum Directive {
     Skipped,
     Affine(usize),

@@ -6,7 +6,7 @@ use crate::numerals::{is_decimal, is_number, run_at};
 use crate::tokens::TokenKind;
 
 /// Why a text is refused.
-#[derive(Clone, Copy, Debug, PartialEq, Eq)]
+#[derive(Clone, Copy, PartialEq, Eq)]
 pub enum Refusal {
     Byte,
     Number,

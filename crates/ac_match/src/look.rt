@@ -5,14 +5,14 @@ use ac_items::Items;
 use ac_syntax::tree::Order;
 
 /// An order at a site, by the site's number. A number past the end is that of no site.
-#[derive(Clone, Copy, Debug, Drop)]
+#[derive(Clone, Copy, Drop)]
 pub(crate) struct Choice {
     pub site: usize,
     pub order: Order,
 }
 
 /// How a partial order stands to what is assigned.
-#[derive(Clone, Copy, Debug, Drop)]
+#[derive(Clone, Copy, Drop)]
 pub(crate) enum Look {
     /// No order with what is assigned extends it.
     Contradicted,

@@ -13,7 +13,7 @@ use std::alloc::{AllocError, Global};
 use std::marker::Model;
 
 /// A refuted partial order: each order that extends it has a mismatch, and `why` derives it.
-#[derive(Debug, Drop)]
+#[derive(Drop)]
 pub struct Refuted {
     pub partial: Items<(Site, Order)>,
     pub why: Derivation,
@@ -21,7 +21,7 @@ pub struct Refuted {
 
 /// The orders of some sites, and the refuted partial orders. An order gives each site `Keep` or `Swap`; where a site stands
 /// in the list twice, its first place counts.
-#[derive(Debug, Drop)]
+#[derive(Drop)]
 pub struct Orders {
     alloc: Global,
     sites: Items<Site>,
@@ -41,7 +41,7 @@ impl Model for Orders {
 }
 
 /// What comes next in a search over orders.
-#[derive(Debug, Drop)]
+#[derive(Drop)]
 pub enum Next {
     /// An order of all sites, in their order, that extends no refuted one.
     Order(Items<(Site, Order)>),

@@ -12,7 +12,7 @@ use ac_refutations::Strategy;
 use std::alloc::{AllocError, Global};
 
 /// Where one stands among the choices for a column, which are made one at a time.
-#[derive(Debug, Drop)]
+#[derive(Drop)]
 pub(crate) enum Cursor {
     /// At the equality with a place, the only choice.
     Equal(usize),
@@ -33,7 +33,7 @@ pub(crate) enum Cursor {
 }
 
 /// What comes next among choices.
-#[derive(Debug, Drop)]
+#[derive(Drop)]
 pub(crate) enum Next {
     /// A choice, and where one stands behind it.
     Try(Choice, Cursor),

@@ -23,7 +23,7 @@ use ac_refutations::{Refutation, Strategy, certify};
 use std::alloc::{AllocError, Global};
 
 /// What a question comes to.
-#[derive(Debug, Drop)]
+#[derive(Drop)]
 pub enum Decided {
     /// It has no point; the greatest numbers that its walk meets.
     Empty(Maxima),

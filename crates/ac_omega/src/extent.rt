@@ -5,7 +5,7 @@ use ac_choices::Choice;
 use ac_forms::{Form, Row};
 
 /// The greatest absolute values that a walk meets.
-#[derive(Clone, Copy, Debug, PartialEq, Eq, Drop)]
+#[derive(Clone, Copy, PartialEq, Eq, Drop)]
 pub struct Maxima {
     /// Of coefficients, moduli and the moduli of residues.
     pub factor: u128,

@@ -13,7 +13,7 @@ use ac_refutations::Strategy;
 use std::alloc::{AllocError, Global};
 
 /// A column that rows bound from both sides, with the numbers by which it is compared.
-#[derive(Clone, Copy, Debug)]
+#[derive(Clone, Copy)]
 pub(crate) struct Candidate {
     /// The column.
     pub(crate) column: usize,

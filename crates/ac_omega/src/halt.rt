@@ -1,7 +1,7 @@
 use std::alloc::AllocError;
 
 /// Why a walk stops.
-#[derive(Debug, Drop)]
+#[derive(Drop)]
 pub(crate) enum Halt {
     /// A number leaves `i128`.
     Wide,

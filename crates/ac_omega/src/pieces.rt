@@ -18,7 +18,7 @@ use ac_refutations::Strategy;
 use std::alloc::{AllocError, Global};
 
 /// Why a question has no answer. The question is handed back as a copy.
-#[derive(Debug, Drop)]
+#[derive(Drop)]
 pub enum Stop {
     /// A number leaves `i128`.
     Overflow(Conj),

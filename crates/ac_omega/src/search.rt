@@ -26,7 +26,7 @@ use ac_refutations::{Refutation, Strategy};
 use std::alloc::{AllocError, Global};
 
 /// What a walk is for.
-#[derive(Clone, Copy, Debug)]
+#[derive(Clone, Copy)]
 pub(crate) enum Aim {
     /// A point: it ends at the first conjunction from which nothing is left to eliminate.
     ForPoint,
@@ -37,7 +37,7 @@ pub(crate) enum Aim {
 }
 
 /// What a walk comes to.
-#[derive(Debug, Drop)]
+#[derive(Drop)]
 pub(crate) enum Walked {
     /// It has gone through all choices.
     Empty {

@@ -17,14 +17,14 @@ pub struct Programs<'a> {
 }
 
 /// One of the two programs of a pair.
-#[derive(Clone, Copy, Debug, PartialEq, Eq)]
+#[derive(Clone, Copy, PartialEq, Eq)]
 pub enum Side {
     Left,
     Right,
 }
 
 /// A position with the columns of its coordinates: `width` columns from `first` on.
-#[derive(Clone, Copy, Debug, PartialEq, Eq)]
+#[derive(Clone, Copy, PartialEq, Eq)]
 pub struct Seat {
     pub position: Position,
     pub first: usize,
@@ -33,7 +33,7 @@ pub struct Seat {
 
 /// What the last step of a read or an output assumed: that its source is an instance of an assignment, or that there is
 /// none.
-#[derive(Clone, Copy, Debug)]
+#[derive(Clone, Copy)]
 pub struct Assumed {
     pub side: Side,
     /// The read or output.
@@ -44,7 +44,7 @@ pub struct Assumed {
 
 /// Where a plan has come to: the rows so far, the pair of positions with their columns, whether a step of the pair was
 /// taken, and what the last one assumed, if it was that of a read or an output.
-#[derive(Debug, Drop)]
+#[derive(Drop)]
 pub struct Path {
     pub conj: Conj,
     pub left: Seat,
@@ -55,7 +55,7 @@ pub struct Path {
 
 /// What a branch of a step of the pair adds to a path: columns and rows behind those of the path; and what the positions are
 /// then, and what was assumed.
-#[derive(Debug, Drop)]
+#[derive(Drop)]
 pub struct Branch {
     pub columns: usize,
     pub rows: Items<Row>,
@@ -65,7 +65,7 @@ pub struct Branch {
 }
 
 /// The numbers that name a copy.
-#[derive(Clone, Copy, Debug, PartialEq, Eq)]
+#[derive(Clone, Copy, PartialEq, Eq)]
 pub struct CopyNumbers {
     /// Its assignment.
     pub stmt: usize,

@@ -12,7 +12,7 @@ use ac_syntax::tree::{Position, Symbol};
 use std::alloc::{AllocError, Global};
 
 /// A cell: an array and the forms of its subscripts, over the parameters and the coordinates.
-#[derive(Debug, Drop)]
+#[derive(Drop)]
 pub struct CellForms {
     pub array: usize,
     pub subs: Items<Form>,

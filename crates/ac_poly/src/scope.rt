@@ -2,7 +2,7 @@ use ac_forms::{Form, Row};
 use ac_items::Items;
 
 /// What is around a statement, over the parameters and the counters of its loops.
-#[derive(Debug, Drop)]
+#[derive(Drop)]
 pub struct Scope {
     /// The number of parameters.
     pub params: usize,

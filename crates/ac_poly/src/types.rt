@@ -4,7 +4,7 @@ use ac_syntax::tree::{Kind, Place, Symbol};
 use std::alloc::{AllocError, AllocFailed};
 
 /// A node of a value. The nodes of a value stand in preorder, the root first; subscripts are no nodes.
-#[derive(Debug, Drop)]
+#[derive(Drop)]
 pub enum NodeModel {
     /// The value of a form.
     Number(Form),
@@ -16,7 +16,7 @@ pub enum NodeModel {
 
 /// An assignment as integer points. Its forms and rows are over the parameters and then the counters of its loops, the
 /// outermost first.
-#[derive(Debug, Drop)]
+#[derive(Drop)]
 pub struct StmtModel {
     /// The numbers of the loops around it, from the outside in. Loops are numbered from 0 in the order of the text.
     pub loops: Items<usize>,
@@ -31,7 +31,7 @@ pub struct StmtModel {
 }
 
 /// A program as integer points.
-#[derive(Debug, Drop)]
+#[derive(Drop)]
 pub struct Model {
     /// The number of parameters.
     pub params: usize,
@@ -47,7 +47,7 @@ pub struct Model {
 
 /// Why a program was not lowered. Of the assignments with too many pieces or too large a number the first in the text is
 /// named.
-#[derive(Debug, Drop)]
+#[derive(Drop)]
 pub enum LowerFault {
     /// The assignment there has more than 16 pieces.
     Pieces(Place),

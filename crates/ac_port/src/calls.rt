@@ -5,7 +5,7 @@ ghost use Rattle.ac_port.specs.Calls.{is_listed, after_call};
 use std::alloc::{AllocError, Global};
 use std::marker::Model;
 
-#[derive(Debug, Drop)]
+#[derive(Drop)]
 pub struct CallLog {
     next: u64,
     failing: Vec<u64>,

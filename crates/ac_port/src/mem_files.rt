@@ -13,7 +13,7 @@ use std::alloc::{AllocError, Global};
 use std::collections::VecDeque;
 use std::marker::Model;
 
-#[derive(Debug, Drop)]
+#[derive(Drop)]
 struct Entry {
     name: Vec<u8>,
     bytes: Vec<u8>,
@@ -21,7 +21,7 @@ struct Entry {
 
 /// Files in memory, for tests. Reads and writes are numbered from 0, each kind for itself, and those that
 /// were listed fail; the number ends at 2^64 - 1. A read of a name that is not there fails too.
-#[derive(Debug, Drop)]
+#[derive(Drop)]
 pub struct MemFiles {
     alloc: Global,
     log: VecDeque<Entry>,

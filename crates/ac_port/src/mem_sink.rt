@@ -10,7 +10,7 @@ use std::marker::Model;
 
 /// A sink in memory, for tests. Puts are numbered from 0, and those that were listed fail; the number ends
 /// at 2^64 - 1.
-#[derive(Debug, Drop)]
+#[derive(Drop)]
 pub struct MemSink {
     bytes: Vec<u8>,
     puts: CallLog,

@@ -6,7 +6,7 @@ ghost use Rattle.ac_port.specs.declared.sink.SinkStop.TheVariants as sink_stop;
 use std::alloc::AllocError;
 
 /// Why a put did not append all of its bytes.
-#[derive(Clone, Copy, Debug, PartialEq, Eq)]
+#[derive(Clone, Copy, PartialEq, Eq)]
 pub enum SinkStop {
     /// The bytes could not all be written; the count of faults tells of it.
     Failed,

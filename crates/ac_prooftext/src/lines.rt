@@ -9,7 +9,7 @@ use ac_proofitems::read_item;
 use std::alloc::{AllocError, Global};
 
 /// What is known of a text after some of its lines.
-#[derive(Clone, Copy, Debug, PartialEq, Eq, Drop)]
+#[derive(Clone, Copy, PartialEq, Eq, Drop)]
 pub enum Reading {
     /// There was no line.
     Unopened,

@@ -1,5 +1,5 @@
 /// What comes next in the text of a proof.
-#[derive(Clone, Copy, Debug, PartialEq, Eq, Drop)]
+#[derive(Clone, Copy, PartialEq, Eq, Drop)]
 pub enum Stage {
     /// The point, and the shapes of the programs behind it where the text has them.
     Point(bool),

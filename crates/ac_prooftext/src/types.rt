@@ -2,7 +2,7 @@ use ac_cert::types::Rule;
 use std::alloc::AllocError;
 
 /// What is told of a text.
-#[derive(Clone, Copy, Debug, PartialEq, Eq, Drop)]
+#[derive(Clone, Copy, PartialEq, Eq, Drop)]
 pub struct Nesting {
     /// The greatest number of branches that are open on one path, over the lines before the fault. It stands still at the last `u64`.
     pub deepest: u64,
@@ -12,7 +12,7 @@ pub struct Nesting {
 }
 
 /// Why bytes give no proof.
-#[derive(Debug, Drop)]
+#[derive(Drop)]
 pub enum TextFault {
     /// The first line that is missing, malformed or may not stand where it does, from 1.
     Line(u64),
@@ -32,7 +32,7 @@ impl From<AllocError> for TextFault {
 }
 
 /// Why a stream of bytes is not accepted as a proof.
-#[derive(Debug, Drop)]
+#[derive(Drop)]
 pub enum CheckFault {
     /// It has more than 67,108,864 bytes.
     TooLong,

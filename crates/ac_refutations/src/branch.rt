@@ -17,7 +17,7 @@ use ac_forms::{Conj, Row};
 use std::alloc::{AllocError, Global};
 
 /// The rows that a choice leaves, behind the steps of a trail, under names for their columns.
-#[derive(Debug, Drop)]
+#[derive(Drop)]
 pub(crate) struct Branch {
     pub(crate) trail: Trail,
     pub(crate) names: Vec<usize>,

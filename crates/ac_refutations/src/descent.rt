@@ -8,7 +8,7 @@ use ac_items::Items;
 use std::alloc::Global;
 
 /// How many columns and rows a path has, and where its row `1 >= 0` stands.
-#[derive(Clone, Copy, Debug, PartialEq, Eq, Drop)]
+#[derive(Clone, Copy, PartialEq, Eq, Drop)]
 pub(crate) struct Base {
     pub(crate) columns: usize,
     pub(crate) rows: usize,
@@ -16,14 +16,14 @@ pub(crate) struct Base {
 }
 
 /// Rows, and the place of each on a path.
-#[derive(Debug, Drop)]
+#[derive(Drop)]
 pub(crate) struct Standing {
     pub(crate) rows: Vec<Row>,
     pub(crate) places: Vec<usize>,
 }
 
 /// Where the rows of a normal form stand.
-#[derive(Debug, Drop)]
+#[derive(Drop)]
 pub(crate) enum Below {
     /// Nowhere: an absurd row stands at this place.
     Absurd(usize),

@@ -13,7 +13,7 @@ use ac_forms::{FormStop, NormalRow, Row};
 use std::alloc::{AllocError, Global};
 
 /// What is left of a row in normal form, and the place where that stands.
-#[derive(Debug, Drop)]
+#[derive(Drop)]
 pub(crate) struct Left {
     pub(crate) place: usize,
     pub(crate) row: NormalRow,

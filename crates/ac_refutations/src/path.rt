@@ -19,7 +19,7 @@ use ac_items::Items;
 use std::alloc::{AllocError, Global};
 
 /// The steps of a tree so far, and what is known of the rows that they lead to. After want of memory a trail is of no use.
-#[derive(Debug, Drop)]
+#[derive(Drop)]
 pub struct Trail {
     /// The steps.
     pub steps: Items<Step>,

@@ -6,7 +6,7 @@ use ac_forms::Conj;
 use ac_items::Items;
 
 /// Why a conjunction in normal form has no integer point (W. Pugh, The Omega test, 1991).
-#[derive(Debug, Drop)]
+#[derive(Drop)]
 pub enum Refutation {
     /// It is the absurd one.
     Absurd(Conj),

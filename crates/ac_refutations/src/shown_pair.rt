@@ -26,7 +26,7 @@ use ac_forms::{Form, FormStop, NormalRow, Row};
 use std::alloc::{AllocError, Global};
 
 /// A lower row of a column, and the place where it stands. Less the margin it stands at another one.
-#[derive(Debug, Drop)]
+#[derive(Drop)]
 pub(crate) struct Lower<'a> {
     pub(crate) form: &'a Form,
     pub(crate) own: usize,
@@ -35,7 +35,7 @@ pub(crate) struct Lower<'a> {
 }
 
 /// A column, and all rows with their places.
-#[derive(Debug, Drop)]
+#[derive(Drop)]
 pub(crate) struct Bounded<'a> {
     pub(crate) column: usize,
     pub(crate) rows: &'a [Row],
@@ -43,7 +43,7 @@ pub(crate) struct Bounded<'a> {
 }
 
 /// The form of a row `>= 0`, and the place where it stands.
-#[derive(Debug, Drop)]
+#[derive(Drop)]
 pub(crate) struct Shown {
     pub(crate) form: Form,
     pub(crate) place: usize,

@@ -1,5 +1,5 @@
 /// For which upper rows of a column its lower rows have splinters.
-#[derive(Clone, Copy, Debug, PartialEq, Eq)]
+#[derive(Clone, Copy, PartialEq, Eq)]
 pub enum Strategy {
     /// For each: up to the last splinter for the greatest size of an upper row (W. Pugh, The Omega test, 1991).
     Full,

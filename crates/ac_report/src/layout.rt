@@ -11,7 +11,7 @@ use std::alloc::{AllocError, Global};
 use std::marker::Model;
 
 /// How many loops are around an assignment, and for each node of its value the array that it reads, if it is a read.
-#[derive(Debug, Drop)]
+#[derive(Drop)]
 pub struct Assignment {
     pub loops: usize,
     pub reads: Items<Option<usize>>,

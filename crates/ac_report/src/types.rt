@@ -5,7 +5,7 @@ use ac_syntax::tree::Position;
 use ac_widen::Entry;
 
 /// Why an output is neither shown equal nor different.
-#[derive(Debug, Drop)]
+#[derive(Drop)]
 pub enum Cause {
     /// Each order of commutative arguments meets a mismatch: the refuted partial orders, each with what derives a mismatch.
     Unmatched(Items<Refuted>),
@@ -34,7 +34,7 @@ pub enum Cause {
 }
 
 /// What is said of an output.
-#[derive(Debug, Drop)]
+#[derive(Drop)]
 pub enum Verdict {
     /// It is the same.
     Equal,

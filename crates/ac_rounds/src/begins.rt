@@ -24,7 +24,7 @@ use ac_widen::{Entry, Reason};
 use std::alloc::Global;
 
 /// Where a path begins.
-#[derive(Debug, Drop)]
+#[derive(Drop)]
 pub(crate) enum Begin {
     /// At the entry with this number.
     At(usize),

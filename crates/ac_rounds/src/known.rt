@@ -18,7 +18,7 @@ use ac_widen::Entry;
 use std::alloc::{AllocError, Global};
 
 /// What is known under one order: the keys with their members, and a derivation so far.
-#[derive(Debug, Drop)]
+#[derive(Drop)]
 pub struct Known {
     /// At most one for each pair of positions.
     pub keys: Vec<Key>,

@@ -4,7 +4,7 @@ use std::alloc::{AllocError, Global};
 use std::mem;
 
 /// Where in a line a reader stands.
-#[derive(Clone, Copy, Debug)]
+#[derive(Clone, Copy)]
 enum Place {
     Between,
     Plain,

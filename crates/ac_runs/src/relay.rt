@@ -7,7 +7,7 @@ use ac_port::{Files, ReadStop, Sink, SinkStop};
 use std::alloc::Global;
 
 /// Why a relay stopped.
-#[derive(Clone, Copy, Debug, PartialEq, Eq)]
+#[derive(Clone, Copy, PartialEq, Eq)]
 pub enum RelayStop {
     Read,
     TooBig,

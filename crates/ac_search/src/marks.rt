@@ -5,7 +5,7 @@ use ac_keys::Key;
 use std::alloc::{AllocError, Global};
 
 /// Whether the output was seen to stand, and for each key how many members it had when its claim was.
-#[derive(Debug, Drop)]
+#[derive(Drop)]
 pub(crate) struct Marks {
     pub output: bool,
     pub members: Vec<usize>,

@@ -10,7 +10,7 @@ use ac_keys::Key;
 use std::alloc::{AllocError, Global};
 
 /// The numbers of all keys, those with members first.
-#[derive(Debug, Drop)]
+#[derive(Drop)]
 pub(crate) struct Ranks {
     pub numbers: Vec<usize>,
     /// How many have members.

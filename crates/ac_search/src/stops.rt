@@ -8,7 +8,7 @@ use ac_unfold::types::UnfoldStop;
 use std::alloc::AllocError;
 
 /// Why the search on an output ends early.
-#[derive(Debug, Drop)]
+#[derive(Drop)]
 pub enum Stop {
     /// With this cause.
     Early(Cause),

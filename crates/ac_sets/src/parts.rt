@@ -13,7 +13,7 @@ use ac_items::Items;
 use std::alloc::{AllocError, Global};
 
 /// An end of the tree of a difference.
-#[derive(Clone, Copy, Debug, PartialEq, Eq, Drop)]
+#[derive(Clone, Copy, PartialEq, Eq, Drop)]
 pub enum Part {
     /// The piece with this number, from 0.
     Piece(usize),
@@ -22,7 +22,7 @@ pub enum Part {
 }
 
 /// What the ends of the tree of a difference speak of.
-#[derive(Debug, Drop)]
+#[derive(Drop)]
 pub struct Parts {
     /// The pieces, which may have further columns behind those of the conjunction that is taken away.
     pub pieces: Items<Conj>,

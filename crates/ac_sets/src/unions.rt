@@ -12,7 +12,7 @@ use std::alloc::{AllocError, Global};
 
 /// A union of conjunctions over visible columns. The columns of a piece from `visible` on are its quotients, which its
 /// rows fix.
-#[derive(Debug, Drop, PartialEq, Eq)]
+#[derive(Drop, PartialEq, Eq)]
 pub struct Union {
     /// The number of visible columns.
     pub visible: usize,

@@ -10,7 +10,7 @@ use std::marker::Model;
 
 /// The rows that were asked about last beside their normal forms. Where the rows of the next question begin as they do, those forms
 /// are taken. Contracts see nothing of it: what is kept changes no answer.
-#[derive(Debug, Drop)]
+#[derive(Drop)]
 pub struct NormalForms {
     noted: Vec<Noted>,
 }

@@ -9,7 +9,7 @@ use ac_forms::{FormStop, NormalRow, Row};
 use std::alloc::{AllocError, Global};
 
 /// A row beside its normal form, where it is made in `i128`.
-#[derive(Debug, Drop)]
+#[derive(Drop)]
 pub(crate) struct Noted {
     /// The row.
     pub row: Row,

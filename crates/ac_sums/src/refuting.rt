@@ -14,7 +14,7 @@ use std::alloc::{AllocError, Global};
 use std::marker::Model;
 
 /// What is found among the rows: places of bounds whose sum is false, or of a divisibility that is.
-#[derive(Clone, Copy, Debug)]
+#[derive(Clone, Copy)]
 enum Found {
     One(usize),
     Two(usize, usize),
@@ -22,7 +22,7 @@ enum Found {
 }
 
 /// A bound at a place, behind the equalities.
-#[derive(Debug, Drop)]
+#[derive(Drop)]
 struct Bound {
     place: usize,
     form: Form,
@@ -318,7 +318,7 @@ pub fn refuting_sum(alloc: Global, question: &Conj) -> Result<Option<Tree<Absurd
 }
 
 /// The rows of a conjunction, made ready for questions that have them and a few rows more. Contracts see their number.
-#[derive(Debug, Drop)]
+#[derive(Drop)]
 pub struct Reduction {
     rows: usize,
     equalities: Vec<Solved>,

@@ -7,14 +7,14 @@ use ac_forms::{Form, FormStop};
 use std::alloc::{AllocError, Global};
 
 /// A sum of multiples of the rows of a conjunction: its form over the columns, and the factors over the rows.
-#[derive(Debug, Drop)]
+#[derive(Drop)]
 pub(crate) struct Sum {
     pub form: Form,
     pub factors: Form,
 }
 
 /// A sum of equalities with a column whose coefficient is 1 or -1, and whether it is 1: it takes that column out of others.
-#[derive(Debug, Drop)]
+#[derive(Drop)]
 pub(crate) struct Solved {
     column: usize,
     is_one: bool,

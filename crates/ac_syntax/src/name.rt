@@ -5,7 +5,7 @@ use std::hash::{Hash, Hasher};
 use std::marker::Model;
 
 /// A name of the source text, from 1 to 64 bytes. Contracts see it as the list of its bytes.
-#[derive(Debug, Drop)]
+#[derive(Drop)]
 pub struct Name {
     bytes: Vec<u8>,
 }

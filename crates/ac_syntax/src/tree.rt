@@ -9,7 +9,7 @@ pub struct Place {
 
 /// An affine expression of index values: a constant, a coefficient for each parameter in the order of the parameter
 /// list, and one for each loop around it, the outermost first. `place` is its first byte.
-#[derive(Debug, Drop, PartialEq, Eq)]
+#[derive(Drop, PartialEq, Eq)]
 pub struct IndexExpr {
     pub konst: i64,
     pub params: Items<i64>,
@@ -18,35 +18,35 @@ pub struct IndexExpr {
 }
 
 /// What a comparison says of the value of its form: at least 0, or equal to 0.
-#[derive(Clone, Copy, Debug, PartialEq, Eq)]
+#[derive(Clone, Copy, PartialEq, Eq)]
 pub enum Rel {
     NonNegative,
     Zero,
 }
 
 /// One comparison, collected as a form that is compared with 0.
-#[derive(Debug, Drop, PartialEq, Eq)]
+#[derive(Drop, PartialEq, Eq)]
 pub struct Comparison {
     pub form: IndexExpr,
     pub rel: Rel,
 }
 
 /// A condition: the conjunction of its comparisons, in the order of the text.
-#[derive(Debug, Drop, PartialEq, Eq)]
+#[derive(Drop, PartialEq, Eq)]
 pub struct Cond {
     pub parts: Items<Comparison>,
 }
 
 /// What a call applies: a name and how many arguments it takes. Operators are symbols, and so are decimal constants,
 /// without arguments and named by their spelling.
-#[derive(Debug, Drop, PartialEq, Eq, Hash)]
+#[derive(Drop, PartialEq, Eq, Hash)]
 pub struct Symbol {
     pub name: Name,
     pub arity: u8,
 }
 
 /// The right side of an assignment. Its nodes are numbered in preorder, the root 0; subscripts are no nodes.
-#[derive(Debug, Drop, PartialEq, Eq)]
+#[derive(Drop, PartialEq, Eq)]
 pub enum Value {
     /// The value of an index expression.
     Number(IndexExpr),
@@ -65,7 +65,7 @@ pub enum Value {
 }
 
 /// A statement. Blocks and empty statements leave none. Assignments are numbered in the order of the text, from 0.
-#[derive(Debug, Drop, PartialEq, Eq)]
+#[derive(Drop, PartialEq, Eq)]
 pub enum Stmt {
     /// A loop: `iter` starts at `start`, the body runs as long as `cond` holds, and `step` is added after each turn. The
     /// innermost iterator of `cond` and of `body` is this loop's own; `start` does not see it.
@@ -94,14 +94,14 @@ pub enum Stmt {
 }
 
 /// Whether an array's initial contents are an input, one for both programs of a pair, or a program's own.
-#[derive(Clone, Copy, Debug, PartialEq, Eq)]
+#[derive(Clone, Copy, PartialEq, Eq)]
 pub enum Kind {
     Input,
     Local,
 }
 
 /// An array or scalar with an extent for each dimension; the extents are over the parameters alone.
-#[derive(Debug, Drop, PartialEq, Eq)]
+#[derive(Drop, PartialEq, Eq)]
 pub struct Array {
     pub name: Name,
     pub extents: Items<IndexExpr>,
@@ -109,7 +109,7 @@ pub struct Array {
 }
 
 /// What stands at a place of the parameter list: the integer parameter or the array with that number.
-#[derive(Clone, Copy, Debug, PartialEq, Eq)]
+#[derive(Clone, Copy, PartialEq, Eq)]
 pub enum Slot {
     Param(usize),
     Array(usize),
@@ -117,7 +117,7 @@ pub enum Slot {
 
 /// One function. Arrays are numbered from 0, those of the parameter list in its order and then the locals in theirs.
 /// `slots` is the parameter list; `outputs` is none where no output line stands in the text.
-#[derive(Debug, Drop, PartialEq, Eq)]
+#[derive(Drop, PartialEq, Eq)]
 pub struct Program {
     pub name: Name,
     pub params: Items<Name>,
@@ -131,7 +131,7 @@ pub struct Program {
 
 /// Two functions that are compared, over one parameter list: the context of both, the commutative names of both, and
 /// the arrays that are compared, in the order of the parameter list.
-#[derive(Debug, Drop, PartialEq, Eq)]
+#[derive(Drop, PartialEq, Eq)]
 pub struct Pair {
     pub left: Program,
     pub right: Program,
@@ -142,7 +142,7 @@ pub struct Pair {
 
 /// Where a value stands in a program: an output array, a node of an assignment's value, or one of these after its read
 /// was resolved to the initial contents of the cell.
-#[derive(Clone, Copy, Debug, PartialEq, Eq)]
+#[derive(Clone, Copy, PartialEq, Eq)]
 pub enum Position {
     Output(usize),
     Node { stmt: usize, node: usize },
@@ -151,14 +151,14 @@ pub enum Position {
 }
 
 /// The order in which the arguments of two calls are paired.
-#[derive(Clone, Copy, Debug, PartialEq, Eq)]
+#[derive(Clone, Copy, PartialEq, Eq)]
 pub enum Order {
     Keep,
     Swap,
 }
 
 /// A pair of calls of one commutative symbol of two arguments.
-#[derive(Clone, Copy, Debug, PartialEq, Eq)]
+#[derive(Clone, Copy, PartialEq, Eq)]
 pub struct Site {
     pub left: Position,
     pub right: Position,

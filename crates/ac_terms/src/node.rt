@@ -1,6 +1,6 @@
 /// Whose initial contents a leaf is: those of an input array, which both programs share, or those of a local array of
 /// the left or of the right program, which are its own. The number is the array's.
-#[derive(Clone, Copy, Debug, PartialEq, Eq, Hash)]
+#[derive(Clone, Copy, PartialEq, Eq, Hash)]
 pub enum Leaf {
     Input(usize),
     LeftLocal(usize),
@@ -8,13 +8,13 @@ pub enum Leaf {
 }
 
 /// The place of a term in the table that gave it. Terms of one table agree exactly where their ids are equal.
-#[derive(Clone, Copy, Debug, PartialEq, Eq, Hash)]
+#[derive(Clone, Copy, PartialEq, Eq, Hash)]
 pub struct TermId {
     pub(crate) index: u32,
 }
 
 /// What a place of a table holds.
-#[derive(Debug, PartialEq, Eq, Hash, Drop)]
+#[derive(PartialEq, Eq, Hash, Drop)]
 pub enum Node {
     Number(i128),
     Initial {

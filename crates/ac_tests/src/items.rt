@@ -2,7 +2,7 @@ use ac_items::Items;
 use std::test::Fail;
 
 /// A type that holds itself through `Items`.
-#[derive(Debug, Drop, PartialEq, Eq)]
+#[derive(Drop, PartialEq, Eq)]
 enum Tree {
     Leaf(u8),
     Branch(Items<Tree>),

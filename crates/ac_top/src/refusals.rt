@@ -9,7 +9,7 @@ use ac_syntax::tree::Place;
 use std::alloc::{AllocError, Global};
 
 /// What is wrong with a text, and where.
-#[derive(Clone, Copy, Debug)]
+#[derive(Clone, Copy)]
 pub struct Complaint {
     pub words: &'static [u8],
     pub place: Place,

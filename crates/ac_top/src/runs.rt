@@ -21,14 +21,14 @@ use ac_syntax::tree::Pair;
 use std::alloc::{AllocError, Global};
 
 /// A source file: its name and its bytes.
-#[derive(Clone, Copy, Debug)]
+#[derive(Clone, Copy)]
 pub struct Named<'a> {
     pub name: &'a [u8],
     pub bytes: &'a [u8],
 }
 
 /// What is to be done with a pair.
-#[derive(Clone, Copy, Debug)]
+#[derive(Clone, Copy)]
 pub enum Task<'a> {
     /// Compare its outputs at each valuation of the context, with questions of at most this cost, and write what proves them equal to
     /// a file.

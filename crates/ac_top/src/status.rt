@@ -6,7 +6,7 @@ ghost use Rattle.ac_top.specs.Statuses.{is_different, is_unknown, status_of};
 use ac_report::Verdict;
 
 /// How a run ended.
-#[derive(Clone, Copy, Debug, PartialEq, Eq)]
+#[derive(Clone, Copy, PartialEq, Eq)]
 pub enum Status {
     /// All outputs are equal.
     Done,

@@ -11,7 +11,7 @@ use ac_items::Items;
 use std::alloc::{AllocError, Global};
 
 /// A step that is kept, or the gap of a row that nothing behind it uses.
-#[derive(Debug, Drop)]
+#[derive(Drop)]
 pub(crate) enum Mark {
     /// The step.
     Kept(Step),

@@ -26,7 +26,7 @@ const MOST_ENDS: usize = 20_000;
 
 /// The broken paths found so far, and the paths to ends that were reached, each through other positions than those before it.
 /// Contracts see both.
-#[derive(Debug, Drop)]
+#[derive(Drop)]
 pub(crate) struct Finds {
     paths: Items<Items<Entry>>,
     ended: Items<Items<Entry>>,

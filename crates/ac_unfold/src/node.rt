@@ -15,7 +15,7 @@ use std::alloc::{AllocError, Global};
 
 /// A question with its pair of positions, where it stands on the path of its plan, the pairs from the start on, the last one
 /// its own, and a point of a question before it, over its first columns: without numbers where none is known.
-#[derive(Debug, Drop)]
+#[derive(Drop)]
 pub(crate) struct Node {
     pub question: Path,
     pub placing: Placing,

@@ -33,7 +33,7 @@ pub enum Planned {
 }
 
 /// Why an unfolding has no answer.
-#[derive(Debug, Drop)]
+#[derive(Drop)]
 pub enum UnfoldStop {
     /// The economical walk does not decide a question that is asked, and on the full one a number leaves `i128`, or its greatest numbers
     /// are too large for a certificate; or a row that comes next at the question is not formed in `i128`.

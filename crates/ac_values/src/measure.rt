@@ -11,14 +11,14 @@ use std::alloc::{AllocError, Global};
 
 /// An expression of a value as it is checked: a number by what the rules say of it, or the first rule that is broken and how
 /// many nodes the value has, up to 65.
-#[derive(Debug, Drop)]
+#[derive(Drop)]
 pub enum Measured {
     Number(Judged),
     Other { broken: Option<Broken>, nodes: u8 },
 }
 
 /// The first rule that is broken in several values, and how many nodes they have, up to 65.
-#[derive(Clone, Copy, Debug)]
+#[derive(Clone, Copy)]
 pub struct Total {
     pub broken: Option<Broken>,
     pub nodes: u8,

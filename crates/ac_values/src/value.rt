@@ -11,7 +11,7 @@ use ac_syntax::tree::{IndexExpr, Place, Symbol, Value};
 use std::alloc::{AllocError, Global};
 
 /// An expression of a value: a number by what the rules say of it, or a value.
-#[derive(Debug, Drop)]
+#[derive(Drop)]
 pub enum Built {
     Number(Judged),
     Other(Value),

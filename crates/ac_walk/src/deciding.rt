@@ -33,7 +33,7 @@ pub(crate) enum Decision {
 }
 
 /// What moves reach from an output.
-#[derive(Debug, Drop)]
+#[derive(Drop)]
 pub(crate) struct Reach {
     /// All recurrence pairs, those first that it reaches.
     pub recurrent: Items<(Position, Position)>,

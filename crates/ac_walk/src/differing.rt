@@ -18,7 +18,7 @@ const EVENTS: u64 = 1_000_000;
 const VALUATIONS: usize = 16;
 
 /// A valuation, and the least element that differs there.
-#[derive(Debug, Drop)]
+#[derive(Drop)]
 pub(crate) struct Difference {
     pub at: Items<i64>,
     pub element: Items<i64>,

@@ -13,7 +13,7 @@ pub struct Proved {
 }
 
 /// Why there are no verdicts.
-#[derive(Debug, Drop)]
+#[derive(Drop)]
 pub enum ProveStop {
     /// No valuation meets the context.
     EmptyContext,

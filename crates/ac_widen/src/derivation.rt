@@ -2,7 +2,7 @@ use ac_items::Items;
 use ac_syntax::tree::Position;
 
 /// Why an entry of a derivation stands.
-#[derive(Debug, Drop, PartialEq, Eq)]
+#[derive(Drop, PartialEq, Eq)]
 pub enum Reason {
     /// It is an output against itself, at one element.
     Output,
@@ -19,7 +19,7 @@ pub enum Reason {
 
 /// A pair of a derivation: a position in each program, and a point. The point has the valuation of the parameters, then the
 /// coordinates of the left position, then those of the right one.
-#[derive(Debug, Drop, PartialEq, Eq)]
+#[derive(Drop, PartialEq, Eq)]
 pub struct Entry {
     pub left: Position,
     pub right: Position,
@@ -29,7 +29,7 @@ pub struct Entry {
 
 /// A derivation of a mismatch: each entry stands by those before it, and the last one is a mismatch. Entries are numbered
 /// from 0.
-#[derive(Debug, Drop, PartialEq, Eq)]
+#[derive(Drop, PartialEq, Eq)]
 pub struct Derivation {
     pub entries: Items<Entry>,
 }

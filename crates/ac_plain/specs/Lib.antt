@@ -1,4 +1,0 @@
-pub mod Limits
-pub mod Executions
-pub mod TermTrees
-pub mod Listed
