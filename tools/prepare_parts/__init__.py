@@ -1,0 +1,1 @@
+"""The parts of tools/prepare: reading C, walking over the function, and printing it in the language."""
