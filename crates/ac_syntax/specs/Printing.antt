@@ -1,7 +1,9 @@
--- Terms of a sum that stand behind others, and the lines of an else.
-use Rattle.std.specs.Prelude.{ℕ, Bool, true, List, [], ◌∷◌, ◌++◌, codes, if◌then◌else◌}
+-- Terms of a sum that stand behind others, and the lines of a loop and of an else.
+use Rattle.std.specs.Prelude.{ℕ, ℤ, Bool, true, List, [], ◌∷◌, ◌++◌, codes, if◌then◌else◌}
 use Rattle.std.specs.List.{flat_map}
-use Rattle.ac_syntax.specs.Text.{Scope, line, deeper, stmt_text}
+use Rattle.ac_syntax.specs.Text.{Scope, line, deeper, inside, loop_text, stmt_text}
+use Rattle.ac_syntax.specs.declared.tree.IndexExpr.{IndexExpr}
+use Rattle.ac_syntax.specs.declared.tree.Cond.{Cond}
 use Rattle.ac_syntax.specs.declared.tree.Stmt.{Stmt}
 
 abbrev pub plus : Bool → List ℕ
@@ -19,3 +21,7 @@ has_terms any (t ∷ ts) = true
 abbrev pub else_lines : Scope → List ℕ → List Stmt → List ℕ
 else_lines scope indent [] = []
 else_lines scope indent (s ∷ other) = line indent (codes "} else {") ++ flat_map (stmt_text scope (deeper indent)) (s ∷ other)
+
+abbrev pub loop_lines : Scope → List ℕ → List ℕ → IndexExpr → Cond → ℤ → List Stmt → List ℕ
+loop_lines scope indent iter start cond step body =
+    line indent (loop_text scope iter start cond step) ++ flat_map (stmt_text (inside scope iter) (deeper indent)) body ++ line indent (codes "}")

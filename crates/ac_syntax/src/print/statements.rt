@@ -2,7 +2,7 @@
 ghost use Rattle.std.specs.Prelude.{◌≡◌, ◌++◌, ◌∷◌, [], codes, map, slice_get, OnOk, IfOk};
 ghost use Rattle.std.specs.List.{flat_map, join_by};
 ghost use Rattle.ac_syntax.specs.Text as text;
-ghost use Rattle.ac_syntax.specs.Printing.{else_lines};
+ghost use Rattle.ac_syntax.specs.Printing.{else_lines, loop_lines};
 
 use crate::name::Name;
 use crate::print::forms::{Scope, push_cond, push_form};
@@ -86,22 +86,29 @@ fn push_turn(
     Ok(())
 }
 
+/// A loop but for its body.
+#[derive(Drop)]
+struct Head<'a> {
+    iter: &'a Name,
+    start: &'a IndexExpr,
+    cond: &'a Cond,
+    step: i64,
+}
+
 /// Adds the head of a loop, where `inner` are the names in scope inside it.
 fn push_loop(
     bytes: &mut Vec<u8>,
     scope: &Scope<'_>,
     inner: &Scope<'_>,
     indent: &[u8],
-    iter: &[u8],
-    start: &IndexExpr,
-    cond: &Cond,
-    step: i64,
+    head: &Head<'_>,
 ) -> Result<(), AllocError>
-    requires { inner.now ≡ text.inside scope.now iter.now }
-    ensures { OnOk result (bytes.new.items ≡ bytes.old.items ++ text.line indent.now (text.loop_text scope.now iter.now start.now cond.now step)) }
+    requires { inner.now ≡ text.inside scope.now head.now.iter.now }
+    ensures { OnOk result (bytes.new.items ≡ bytes.old.items ++ text.line indent.now (text.loop_text scope.now head.now.iter.now head.now.start.now head.now.cond.now head.now.step)) }
 {
-    push_start(bytes, scope, indent, iter, start)?;
-    push_turn(bytes, inner, iter, cond, step)?;
+    let iter = head.iter.as_bytes();
+    push_start(bytes, scope, indent, iter, head.start)?;
+    push_turn(bytes, inner, iter, head.cond, head.step)?;
     Ok(())
 }
 
@@ -138,6 +145,32 @@ fn push_assignment(
     bytes.extend_from_slice(b";\n")
 }
 
+/// Adds the lines of a loop.
+#[cycle(statement)]
+#[tactic(auto, using(crate::proofs::Sums::joins))]
+fn push_loop_lines(
+    alloc: Global,
+    bytes: &mut Vec<u8>,
+    scope: &Scope<'_>,
+    indent: &[u8],
+    head: &Head<'_>,
+    body: &[Stmt],
+) -> Result<(), AllocError>
+    ensures { OnOk result (bytes.new.items ≡ bytes.old.items ++ loop_lines scope.now indent.now head.now.iter.now head.now.start.now head.now.cond.now head.now.step body.now) }
+{
+    let further = deeper(alloc, indent)?;
+    let iters = inside(alloc, scope.iters, head.iter)?;
+    let inner = Scope {
+        params: scope.params,
+        iters: iters.as_slice(),
+        arrays: scope.arrays,
+    };
+    push_loop(bytes, scope, &inner, indent, head)?;
+    push_body(alloc, bytes, &inner, further.as_slice(), body)?;
+    push_line(bytes, indent, b"}")?;
+    Ok(())
+}
+
 /// Adds the lines of a statement.
 #[cycle(statement)]
 #[tactic(auto, using(crate::proofs::Sums::joins, crate::proofs::PrintedLines::stmt_texts_are))]
@@ -159,26 +192,13 @@ fn push_stmt(
             body,
             ..
         } => {
-            let further = deeper(alloc, indent)?;
-            let iters = inside(alloc, scope.iters, iter)?;
-            let inner = Scope {
-                params: scope.params,
-                iters: iters.as_slice(),
-                arrays: scope.arrays,
-            };
-            push_loop(
-                bytes,
-                scope,
-                &inner,
-                indent,
-                iter.as_bytes(),
+            let head = Head {
+                iter,
                 start,
                 cond,
-                *step,
-            )?;
-            push_body(alloc, bytes, &inner, further.as_slice(), body.as_slice())?;
-            push_line(bytes, indent, b"}")?;
-            Ok(())
+                step: *step,
+            };
+            push_loop_lines(alloc, bytes, scope, indent, &head, body.as_slice())
         }
         Stmt::If {
             cond,
