@@ -62,6 +62,15 @@ fn store(cells: &mut Cells, array: usize, index: Vec<i64>, id: TermId) -> Result
     Ok(())
 }
 
+/// A loop but for its name and its body.
+#[derive(Drop)]
+struct Head<'a> {
+    start: &'a IndexExpr,
+    cond: &'a Cond,
+    step: i64,
+    place: Place,
+}
+
 impl Machine {
     /// Runs a loop: its start, then for each turn the condition, the turn's event, the body and the next value of the
     /// iterator, until the condition fails.
@@ -72,24 +81,21 @@ impl Machine {
         scope: &Scope,
         cells: &mut Cells,
         iters: &[i64],
-        start: &IndexExpr,
-        cond: &Cond,
-        step: i64,
+        head: &Head,
         body: &[Stmt],
-        place: Place,
     ) -> Result<(), Halt>
-        ensures steps { Bounded (length iters.now) step cond.now → ReadyAll (length scope.now.params.now) (length iters.now + 1) body.now → Steps self.old (in_loop scope.now.side (λ q. in_all scope.now.side q body.now) (point scope.now.params.now iters.now) start.now cond.now step place) result self.new }
-        ensures ran { Bounded (length iters.now) step cond.now → ReadyAll (length scope.now.params.now) (length iters.now + 1) body.now → (first : ℕ) (counters : List ℤ) (state : Cell → Term) → Holds self.old.table cells.old (leaf_in scope.now.side scope.now.arrays.now) state → OnOk result (Holds self.new.table cells.new (leaf_in scope.now.side scope.now.arrays.now) (run free (each_turn (trace_all body.now first) (point scope.now.params.now iters.now) start.now cond.now step counters) state)) }
+        ensures steps { Bounded (length iters.now) head.now.step head.now.cond.now → ReadyAll (length scope.now.params.now) (length iters.now + 1) body.now → Steps self.old (in_loop scope.now.side (λ q. in_all scope.now.side q body.now) (point scope.now.params.now iters.now) head.now.start.now head.now.cond.now head.now.step head.now.place) result self.new }
+        ensures ran { Bounded (length iters.now) head.now.step head.now.cond.now → ReadyAll (length scope.now.params.now) (length iters.now + 1) body.now → (first : ℕ) (counters : List ℤ) (state : Cell → Term) → Holds self.old.table cells.old (leaf_in scope.now.side scope.now.arrays.now) state → OnOk result (Holds self.new.table cells.new (leaf_in scope.now.side scope.now.arrays.now) (run free (each_turn (trace_all body.now first) (point scope.now.params.now iters.now) head.now.start.now head.now.cond.now head.now.step counters) state)) }
     {
-        let mut x = index_of(scope, start, iters)?;
+        let mut x = index_of(scope, head.start, iters)?;
         for _turn in 0..u64::MAX {
             let at = inner(alloc, iters, x)?;
-            if !test(scope, cond.parts.as_slice(), &at)? {
+            if !test(scope, head.cond.parts.as_slice(), &at)? {
                 return Ok(());
             }
             self.count()?;
             self.run_all(alloc, scope, cells, &at, body)?;
-            x = stepped(scope, place, x, step)?;
+            x = stepped(scope, head.place, x, head.step)?;
         }
         Err(Halt::TooLarge(self.limit))
     }
@@ -115,17 +121,15 @@ impl Machine {
                 body,
                 place,
                 ..
-            } => self.repeat(
-                alloc,
-                scope,
-                cells,
-                iters,
-                start,
-                cond,
-                *step,
-                body.as_slice(),
-                *place,
-            ),
+            } => {
+                let head = Head {
+                    start,
+                    cond,
+                    step: *step,
+                    place: *place,
+                };
+                self.repeat(alloc, scope, cells, iters, &head, body.as_slice())
+            }
             Stmt::If {
                 cond,
                 taken,

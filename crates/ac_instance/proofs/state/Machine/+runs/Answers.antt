@@ -30,8 +30,8 @@ repeat-returns-in_err-x-clause-steps t c = λ b r.
     let body : Point → List Event = λ q. in_all side q c.args.body.now in
     let h = c.in_err-x.field-0.0 in
     halts a a _ c.from_residual.result h c.from_residual.ensures.1
-    (due_in_whole a a _ _ (index side p c.args.start.now ∷ []) (turns_left side body p c.args.start.now c.args.cond.now c.args.step c.args.place 0) h (begins a _)
-    (all_left side body p c.args.start.now c.args.cond.now c.args.step c.args.place) (c.in_err-x.ensures.steps a))
+    (due_in_whole a a _ _ (index side p c.args.head.now.start.now ∷ []) (turns_left side body p c.args.head.now.start.now c.args.head.now.cond.now c.args.head.now.step c.args.head.now.place 0) h (begins a _)
+    (all_left side body p c.args.head.now.start.now c.args.head.now.cond.now c.args.head.now.step c.args.head.now.place) (c.in_err-x.ensures.steps a))
 
 pub repeat-loop-turn-init : goal.repeat-loop-turn-init
 repeat-loop-turn-init t c =
@@ -39,14 +39,13 @@ repeat-loop-turn-init t c =
     let p = point c.args.scope.now.params.now c.args.iters.now in
     let side = c.args.scope.now.side in
     let body : Point → List Event = λ q. in_all side q c.args.body.now in
-    let s : FitsSigned w64 c.args.step = c.ranges.step in
     let f : FitsSigned w64 c.in_ok-x.x = search rules in
     simp to_z-of_z (record {
-      walking = walk_first p c.args.start.now c.args.cond.now c.args.step c.in_ok-x.x c.in_ok-x.ensures.value;
+      walking = walk_first p c.args.head.now.start.now c.args.head.now.cond.now c.args.head.now.step c.in_ok-x.x c.in_ok-x.ensures.value;
       grows = λ b r. omega arith;
       within = λ b. omega arith;
-      steps = λ b r. goes_on a a a _ _ (index side p c.args.start.now ∷ []) (turns_left side body p c.args.start.now c.args.cond.now c.args.step c.args.place 0) (begins a _)
-          (all_left side body p c.args.start.now c.args.cond.now c.args.step c.args.place) (c.in_ok-x.ensures.steps a);
+      steps = λ b r. goes_on a a a _ _ (index side p c.args.head.now.start.now ∷ []) (turns_left side body p c.args.head.now.start.now c.args.head.now.cond.now c.args.head.now.step c.args.head.now.place 0) (begins a _)
+          (all_left side body p c.args.head.now.start.now c.args.head.now.cond.now c.args.head.now.step c.args.head.now.place) (c.in_ok-x.ensures.steps a);
       ran = λ b r first counters state h. h;
     })
 
@@ -115,14 +114,13 @@ repeat-returns-in_err-test-clause-steps t c = λ b r.
     let p = point c.args.scope.now.params.now c.args.iters.now in
     let side = c.args.scope.now.side in
     let body : Point → List Event = λ q. in_all side q c.args.body.now in
-    let start = c.args.start.now in
-    let cond = c.args.cond.now in
-    let step = c.args.step in
-    let place = c.args.place in
+    let start = c.args.head.now.start.now in
+    let cond = c.args.head.now.cond.now in
+    let step = c.args.head.now.step in
+    let place = c.args.head.now.place in
     let k = c.loop-turn._turn in
     let x = to_z w64 c.loop-turn.x-bits in
-    let fits : FitsSigned w64 c.args.step = c.ranges.step in
-    let inv = simp to_z-of_z at c.loop-turn.invariant in
+    let inv = c.loop-turn.invariant in
     let it = iterator_at (index_value p start) step k in
     let its = c.deref.ensures.value ∙ c.in_ok-at.ensures in
     let test = in_test side (inside p it) cond.parts in
@@ -139,14 +137,13 @@ repeat-returns-then-not-branch-clause-steps t c = λ b r.
     let p = point c.args.scope.now.params.now c.args.iters.now in
     let side = c.args.scope.now.side in
     let body : Point → List Event = λ q. in_all side q c.args.body.now in
-    let start = c.args.start.now in
-    let cond = c.args.cond.now in
-    let step = c.args.step in
-    let place = c.args.place in
+    let start = c.args.head.now.start.now in
+    let cond = c.args.head.now.cond.now in
+    let step = c.args.head.now.step in
+    let place = c.args.head.now.place in
     let k = c.loop-turn._turn in
     let x = to_z w64 c.loop-turn.x-bits in
-    let fits : FitsSigned w64 c.args.step = c.ranges.step in
-    let inv = simp to_z-of_z at c.loop-turn.invariant in
+    let inv = c.loop-turn.invariant in
     let it = iterator_at (index_value p start) step k in
     let its = c.deref.ensures.value ∙ c.in_ok-at.ensures in
     let test = in_test side (inside p it) cond.parts in
@@ -163,14 +160,13 @@ repeat-returns-then-not-branch-clause-ran t c = λ b r first counters state h.
     let p = point c.args.scope.now.params.now c.args.iters.now in
     let side = c.args.scope.now.side in
     let body : Point → List Event = λ q. in_all side q c.args.body.now in
-    let start = c.args.start.now in
-    let cond = c.args.cond.now in
-    let step = c.args.step in
-    let place = c.args.place in
+    let start = c.args.head.now.start.now in
+    let cond = c.args.head.now.cond.now in
+    let step = c.args.head.now.step in
+    let place = c.args.head.now.place in
     let k = c.loop-turn._turn in
     let x = to_z w64 c.loop-turn.x-bits in
-    let fits : FitsSigned w64 c.args.step = c.ranges.step in
-    let inv = simp to_z-of_z at c.loop-turn.invariant in
+    let inv = c.loop-turn.invariant in
     let it = iterator_at (index_value p start) step k in
     let its = c.deref.ensures.value ∙ c.in_ok-at.ensures in
     let test = in_test side (inside p it) cond.parts in
@@ -187,14 +183,13 @@ repeat-returns-in_err-count-clause-steps t c = λ b r.
     let p = point c.args.scope.now.params.now c.args.iters.now in
     let side = c.args.scope.now.side in
     let body : Point → List Event = λ q. in_all side q c.args.body.now in
-    let start = c.args.start.now in
-    let cond = c.args.cond.now in
-    let step = c.args.step in
-    let place = c.args.place in
+    let start = c.args.head.now.start.now in
+    let cond = c.args.head.now.cond.now in
+    let step = c.args.head.now.step in
+    let place = c.args.head.now.place in
     let k = c.loop-turn._turn in
     let x = to_z w64 c.loop-turn.x-bits in
-    let fits : FitsSigned w64 c.args.step = c.ranges.step in
-    let inv = simp to_z-of_z at c.loop-turn.invariant in
+    let inv = c.loop-turn.invariant in
     let it = iterator_at (index_value p start) step k in
     let its = c.deref.ensures.value ∙ c.in_ok-at.ensures in
     let test = in_test side (inside p it) cond.parts in
@@ -215,14 +210,13 @@ repeat-returns-in_err-run_all-clause-steps t c = λ b r.
     let p = point c.args.scope.now.params.now c.args.iters.now in
     let side = c.args.scope.now.side in
     let body : Point → List Event = λ q. in_all side q c.args.body.now in
-    let start = c.args.start.now in
-    let cond = c.args.cond.now in
-    let step = c.args.step in
-    let place = c.args.place in
+    let start = c.args.head.now.start.now in
+    let cond = c.args.head.now.cond.now in
+    let step = c.args.head.now.step in
+    let place = c.args.head.now.place in
     let k = c.loop-turn._turn in
     let x = to_z w64 c.loop-turn.x-bits in
-    let fits : FitsSigned w64 c.args.step = c.ranges.step in
-    let inv = simp to_z-of_z at c.loop-turn.invariant in
+    let inv = c.loop-turn.invariant in
     let it = iterator_at (index_value p start) step k in
     let its = c.deref.ensures.value ∙ c.in_ok-at.ensures in
     let test = in_test side (inside p it) cond.parts in
@@ -248,14 +242,14 @@ repeat-returns-in_err-x-2-clause-steps t c = λ b r.
     let p = point c.args.scope.now.params.now c.args.iters.now in
     let side = c.args.scope.now.side in
     let body : Point → List Event = λ q. in_all side q c.args.body.now in
-    let start = c.args.start.now in
-    let cond = c.args.cond.now in
-    let step = c.args.step in
-    let place = c.args.place in
+    let start = c.args.head.now.start.now in
+    let cond = c.args.head.now.cond.now in
+    let step = c.args.head.now.step in
+    let place = c.args.head.now.place in
     let k = c.loop-turn._turn in
     let x = to_z w64 c.loop-turn.x-bits in
-    let fits : FitsSigned w64 c.args.step = c.ranges.step in
-    let inv = simp to_z-of_z at c.loop-turn.invariant in
+    let fits : FitsSigned w64 c.args.head.now.step = search rules in
+    let inv = c.loop-turn.invariant in
     let it = iterator_at (index_value p start) step k in
     let its = c.deref.ensures.value ∙ c.in_ok-at.ensures in
     let test = in_test side (inside p it) cond.parts in
@@ -280,16 +274,16 @@ repeat-returns-in_err-x-2-clause-steps t c = λ b r.
 pub repeat-loop-turn-preserved : goal.repeat-loop-turn-preserved
 repeat-loop-turn-preserved t c =
     let p0 = point c.args.scope.now.params.now c.args.iters.now in
-    let fits0 : FitsSigned w64 c.args.step = c.ranges.step in
+    let fits0 : FitsSigned w64 c.args.head.now.step = search rules in
     let next_fits : FitsSigned w64 c.in_ok-x-2.x = search rules in
     let k0 = c.loop-turn._turn in
     let x0 = to_z w64 c.loop-turn.x-bits in
-    let inv0 = simp to_z-of_z at c.loop-turn.invariant in
+    let inv0 = c.loop-turn.invariant in
     let its0 = c.deref.ensures.value ∙ c.in_ok-at.ensures in
-    let yes0 : holds (inside p0 x0) c.args.cond.now ≡ true = sym (c.in_ok-test.ensures.value ∙ holds_at p0 c.args.cond.now c.as_slice.result.now c.deref.result.now x0 c.as_slice.ensures its0) ∙ c.if-not-branch.false in
+    let yes0 : holds (inside p0 x0) c.args.head.now.cond.now ≡ true = sym (c.in_ok-test.ensures.value ∙ holds_at p0 c.args.head.now.cond.now c.as_slice.result.now c.deref.result.now x0 c.as_slice.ensures its0) ∙ c.if-not-branch.false in
     let moved = simp to_z-of_z at c.in_ok-x-2.ensures.value in
     simp to_z-of_z (record {
-      walking = walk_next p0 c.args.start.now c.args.cond.now c.args.step x0 k0 c.in_ok-x-2.x inv0.walking yes0 moved;
+      walking = walk_next p0 c.args.head.now.start.now c.args.head.now.cond.now c.args.head.now.step x0 k0 c.in_ok-x-2.x inv0.walking yes0 moved;
       grows = λ b r.
           let inner = c.deref-in-loop-turn.ensures.value ∙ c.in_ok-at.ensures in
           let ready = ready_inside (length p0.params) p0.iters c.deref-in-loop-turn.result.now x0 c.args.body.now inner r in
@@ -297,21 +291,21 @@ repeat-loop-turn-preserved t c =
           let more = never_falls c.count.new.self.limit c.count.new.self.events c.run_all.new.self.events (in_all c.args.scope.now.side (point c.args.scope.now.params.now c.deref-in-loop-turn.result.now) c.args.body.now) (c.in_ok-run_all.ensures.steps ready).events in
           let before = inv0.grows b r in
           omega (arith, one, more, before);
-      within = λ b. let lt = one_more p0 c.args.start.now c.args.cond.now c.args.step x0 k0 b inv0.walking yes0 in omega (arith, lt);
+      within = λ b. let lt = one_more p0 c.args.head.now.start.now c.args.head.now.cond.now c.args.head.now.step x0 k0 b inv0.walking yes0 in omega (arith, lt);
       steps = λ b r.
           let a = c.args.self.now in
           let here = c.loop-turn.self in
           let p = point c.args.scope.now.params.now c.args.iters.now in
           let side = c.args.scope.now.side in
           let body : Point → List Event = λ q. in_all side q c.args.body.now in
-          let start = c.args.start.now in
-          let cond = c.args.cond.now in
-          let step = c.args.step in
-          let place = c.args.place in
+          let start = c.args.head.now.start.now in
+          let cond = c.args.head.now.cond.now in
+          let step = c.args.head.now.step in
+          let place = c.args.head.now.place in
           let k = c.loop-turn._turn in
           let x = to_z w64 c.loop-turn.x-bits in
-          let fits : FitsSigned w64 c.args.step = c.ranges.step in
-          let inv = simp to_z-of_z at c.loop-turn.invariant in
+          let fits : FitsSigned w64 c.args.head.now.step = search rules in
+          let inv = c.loop-turn.invariant in
           let it = iterator_at (index_value p start) step k in
           let its = c.deref.ensures.value ∙ c.in_ok-at.ensures in
           let test = in_test side (inside p it) cond.parts in
@@ -334,10 +328,10 @@ repeat-loop-turn-preserved t c =
           let leaf = leaf_in c.args.scope.now.side c.args.scope.now.arrays.now in
           let inner = c.deref-in-loop-turn.ensures.value ∙ c.in_ok-at.ensures in
           let ready = ready_inside (length p0.params) p0.iters c.deref-in-loop-turn.result.now x0 c.args.body.now inner r in
-          let now = run free (flat_map (in_turn_of c.args.body.now first p0 c.args.start.now c.args.step counters) (range_with_len 0 k0)) state in
+          let now = run free (flat_map (in_turn_of c.args.body.now first p0 c.args.head.now.start.now c.args.head.now.step counters) (range_with_len 0 k0)) state in
           let held = Holds-kept c.loop-turn.self.table c.count.new.self.table c.in_ok-count.ensures.kept c.loop-turn.cells leaf now (inv0.ran b r first counters state h) in
           subst (λ (z : Cell → Term). Holds c.run_all.new.self.table c.run_all.new.cells leaf z)
-          (ran_more c.args.body.now first p0 c.args.start.now c.args.step counters k0 c.deref-in-loop-turn.result.now x0 state inner inv0.walking.place)
+          (ran_more c.args.body.now first p0 c.args.head.now.start.now c.args.head.now.step counters k0 c.deref-in-loop-turn.result.now x0 state inner inv0.walking.place)
           (c.in_ok-run_all.ensures.ran ready first (counters ++ pos k0 ∷ []) now held);
     })
 

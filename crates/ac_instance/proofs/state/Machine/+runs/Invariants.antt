@@ -16,15 +16,15 @@ use Rattle.ac_instance.proofs.state.Machine.+runs.Given as goal
 
 abbrev pub invariant-repeat-loop-turn : goal.invariant-repeat-loop-turn
 invariant-repeat-loop-turn l = record {
-  walking : Walking (point l.scope.params.now l.iters) l.start l.cond l.fn.step l.x l._turn;
-  grows : Bounded (length l.iters) l.fn.step l.cond → ReadyAll (length l.scope.params.now) (length l.iters + 1) l.body → l.fn.self.events + l._turn ≤ l.self.events;
-  within : Bounded (length l.iters) l.fn.step l.cond → l._turn ≤ turns (point l.scope.params.now l.iters) l.start l.cond l.fn.step;
-  steps : Bounded (length l.iters) l.fn.step l.cond → ReadyAll (length l.scope.params.now) (length l.iters + 1) l.body
-      → Continues l.fn.self (in_loop l.scope.side (λ q. in_all l.scope.side q l.body) (point l.scope.params.now l.iters) l.start l.cond l.fn.step l.fn.place)
-      l.self (turns_left l.scope.side (λ q. in_all l.scope.side q l.body) (point l.scope.params.now l.iters) l.start l.cond l.fn.step l.fn.place l._turn);
-  ran : Bounded (length l.iters) l.fn.step l.cond → ReadyAll (length l.scope.params.now) (length l.iters + 1) l.body
+  walking : Walking (point l.scope.params.now l.iters) l.head.start.now l.head.cond.now l.head.step l.x l._turn;
+  grows : Bounded (length l.iters) l.head.step l.head.cond.now → ReadyAll (length l.scope.params.now) (length l.iters + 1) l.body → l.fn.self.events + l._turn ≤ l.self.events;
+  within : Bounded (length l.iters) l.head.step l.head.cond.now → l._turn ≤ turns (point l.scope.params.now l.iters) l.head.start.now l.head.cond.now l.head.step;
+  steps : Bounded (length l.iters) l.head.step l.head.cond.now → ReadyAll (length l.scope.params.now) (length l.iters + 1) l.body
+      → Continues l.fn.self (in_loop l.scope.side (λ q. in_all l.scope.side q l.body) (point l.scope.params.now l.iters) l.head.start.now l.head.cond.now l.head.step l.head.place)
+      l.self (turns_left l.scope.side (λ q. in_all l.scope.side q l.body) (point l.scope.params.now l.iters) l.head.start.now l.head.cond.now l.head.step l.head.place l._turn);
+  ran : Bounded (length l.iters) l.head.step l.head.cond.now → ReadyAll (length l.scope.params.now) (length l.iters + 1) l.body
       → (first : ℕ) (counters : List ℤ) (state : Cell → Term) → Holds l.fn.self.table l.fn.cells (leaf_in l.scope.side l.scope.arrays.now) state
-      → Holds l.self.table l.cells (leaf_in l.scope.side l.scope.arrays.now) (run free (flat_map (in_turn_of l.body first (point l.scope.params.now l.iters) l.start l.fn.step counters) (range_with_len 0 l._turn)) state);
+      → Holds l.self.table l.cells (leaf_in l.scope.side l.scope.arrays.now) (run free (flat_map (in_turn_of l.body first (point l.scope.params.now l.iters) l.head.start.now l.head.step counters) (range_with_len 0 l._turn)) state);
 }
 
 abbrev pub invariant-run_all-loop-stmt : goal.invariant-run_all-loop-stmt
