@@ -1,10 +1,13 @@
 -- The steps of the walk that lowers a tree.
-use Rattle.std.proofs.Common.{◌≡◌, ◌⊎◌, inl, inr, ℕ, suc, ◌+◌, ◌*◌, ◌<◌, ◌≤◌, List, [], ◌∷◌, ◌++◌, length, refl, rules, sym, ap, ◌∙◌, arith, Result, Ok, Err, sum_by, ℤ, subst, append_assoc, append-nil, map, drop, get_or, add_assoc, add-zero, length-append, false}
+use Rattle.std.proofs.Common.{◌≡◌, ◌⊎◌, inl, inr, ℕ, suc, ◌+◌, ◌*◌, ◌<◌, ◌≤◌, List, [], ◌∷◌, ◌++◌, length, refl, rules, sym, ap, ◌∙◌, arith, Result, Ok, Err, sum_by, ℤ, subst, IfOk, append_assoc, append-nil, map, drop, get_or, add_assoc, add-zero, length-append, false}
 use Rattle.std.specs.Prelude.{nat_lt}
 use Rattle.std.proofs.lemmas.Bool.Decides.{nat_tests}
 use Rattle.std.proofs.lemmas.List.{length-map, drop_more, drop_all}
 use Rattle.std.proofs.lemmas.List.Sums.{sum_by-cons}
 use Rattle.std.specs.Result.{IsErrAnd}
+use Rattle.ac_forms.specs.Stops.{MadeIff}
+use Rattle.ac_forms.specs.declared.stop.FormStop.{FormStop}
+use Rattle.ac_forms.specs.declared.stop.FormStop.TheVariants as stops
 use Rattle.ac_syntax.specs.Loops.{loop_count, loop_count_in}
 use Rattle.ac_syntax.specs.Ready.{ReadyAll}
 use Rattle.ac_syntax.specs.declared.tree.Place.{Place}
@@ -17,7 +20,7 @@ use Rattle.ac_poly.specs.Forms.{lowered, stepping, rows_of}
 use Rattle.ac_poly.specs.Lower.{columns, loop_rows, in_loop, where_holds, where_fails, assigned, lower, lower_in, lower_all}
 use Rattle.ac_poly.specs.Numbers.{CanHold, CanFail, CanEnter, CanAssign}
 use Rattle.ac_poly.specs.Faults.{IsLowerable, IsLowerableIn, IsFirst, IsFirstIn, AreLowerable, IsFirstAll}
-use Rattle.ac_poly.specs.Steps.{ways, pieces_by, Lowers, LowersAll, SeeksAll}
+use Rattle.ac_poly.specs.Steps.{ways, pieces_by, Lowers, LowersAll, LowersWithin, SeeksAll}
 use Rattle.ac_poly.specs.declared.scope.Scope.{Scope}
 use Rattle.ac_poly.specs.declared.types.StmtModel.{StmtModel}
 use Rattle.ac_poly.specs.declared.types.LowerFault.{LowerFault}
@@ -51,15 +54,10 @@ lower_if : (cond : Cond) (taken other : List Stmt) (place : Place) (number : ℕ
     → lower (If cond taken other place) number sc ≡ lower_all taken number (where_holds sc cond) ++ lower_all other (number + sum_by loop_count taken) (where_fails sc cond)
 lower_if cond taken other place number sc = search (rules, the_lemmas, lower_if_row)
 
--- what is ready in a scope is ready in the scope that the code made
-pub ready_in_loop : (sc inner : Scope) (number : ℕ) (start : IndexExpr) (cond : Cond) (step : ℤ) (body body2 : List Stmt) → inner ≡ in_loop sc number start cond step → body2 ≡ body → ReadyAll sc.params (length sc.iters + 1) body → ReadyAll inner.params (length inner.iters) body2
-ready_in_loop sc inner number start cond step body body2 e b h = rw (e, b, length-append sc.iters (stepping (lowered sc.iters start) step (columns sc) ∷ [])) h
-
-pub ready_taken : (sc inner : Scope) (cond : Cond) (body body2 : List Stmt) → inner ≡ where_holds sc cond → body2 ≡ body → ReadyAll sc.params (length sc.iters) body → ReadyAll inner.params (length inner.iters) body2
-ready_taken sc inner cond body body2 e b h = rw (e, b) h
-
-pub ready_other : (sc inner : Scope) (cond : Cond) (body body2 : List Stmt) → inner ≡ where_fails sc cond → body2 ≡ body → ReadyAll sc.params (length sc.iters) body → ReadyAll inner.params (length inner.iters) body2
-ready_other sc inner cond body body2 e b h = rw (e, b) h
+-- what is ready around the body of a loop is ready in its scope
+pub ready_in_loop : (sc : Scope) (number : ℕ) (start : IndexExpr) (cond : Cond) (step : ℤ) (body : List Stmt) → ReadyAll sc.params (length sc.iters + 1) body
+    → ReadyAll sc.params (length (in_loop sc number start cond step).iters) body
+ready_in_loop sc number start cond step body h = rw (length-append sc.iters (stepping (lowered sc.iters start) step (columns sc) ∷ [])) h
 
 fine_row : (m : _) (k : Row_of-Stmt m) (loop : ℕ) (sc : Scope) (ok : Type 0) → IsLowerableIn k loop sc ok ≡ AreLowerable (items-the_row-Stmt m k) loop sc ok
 unfolding IsLowerable
@@ -133,6 +131,24 @@ unknown r ps xs ss number sc can n old ready l e h =
     (λ next x. (x.0, subst (λ o. Tells o (AreLowerable ss number sc can) (IsFirstAll ss number sc can)) x.1 t, sym (ap (λ o. old ++ o) (nothing_all ss n number sc x.1) ∙ append-nil old)))
     (λ f x. subst (λ o. Tells o (AreLowerable ss number sc can) (IsFirstAll ss number sc can)) x t) h
 
+-- the answer within a scope, made or not
+pub within : (inner : Result Scope FormStop) (r : Result ℕ LowerFault) (ps xs : ℕ) (ss : List Stmt) (number pieces : ℕ) (sc : Scope) (can : Type 0) (old new : List StmtModel)
+    → MadeIff inner can sc → ReadyAll ps xs ss → pieces ≡ length sc.pieces → LowersWithin inner r ss number pieces old new → LowersAll r ss number sc can old new
+within (Ok made) r ps xs ss number pieces sc can old new m ready e h = known r ss number made sc can old new m h
+within (Err stops.Wide) r ps xs ss number pieces sc can old new m ready e h =
+    subst (λ o. LowersAll r ss number sc can old o) (sym h.1) (unknown r ps xs ss number sc can pieces old ready (inl m) e h.0)
+within (Err (stops.Memory want)) r ps xs ss number pieces sc can old new m ready e h = subst (λ r. LowersAll r ss number sc can old new) (sym h) tt
+
+-- what is ready in the scope is ready in the one that was made
+pub ready_within : (inner : Result Scope FormStop) (sc : Scope) (can : Type 0) (ss : List Stmt)
+    → MadeIff inner can sc → ReadyAll sc.params (length sc.iters) ss → IfOk inner (λ made. ReadyAll made.params (length made.iters) ss)
+ready_within (Ok made) sc can ss m h = rw m.1 h
+ready_within (Err stop) sc can ss m h = tt
+
+pub few_within : (inner : Result Scope FormStop) (sc : Scope) (can : Type 0) → MadeIff inner can sc → length sc.pieces ≤ 16 → IfOk inner (λ made. length made.pieces ≤ 16)
+few_within (Ok made) sc can m h = rw m.1 h
+few_within (Err stop) sc can m h = tt
+
 pub walk_for : (r : Result ℕ LowerFault) (s : Stmt) (iter : List ℕ) (start : IndexExpr) (cond : Cond) (step : ℤ) (body : List Stmt) (place : Place) (number : ℕ) (sc : Scope) (old new : List StmtModel)
     → s ≡ For iter start cond step body place → LowersAll r body (suc number) (in_loop sc number start cond step) (CanEnter sc start cond step) old new → Lowers r s number sc (Unit {0}) old new
 walk_for r s iter start cond step body place number sc old new is h =
@@ -182,21 +198,12 @@ pub walk_assign_wide : (s : Stmt) (array : ℕ) (subs subs2 : List IndexExpr) (v
 unfolding IsFirst
 walk_assign_wide s array subs subs2 value place number sc old new is b few m = rw is (refl, few, λ h. m (subst (λ x. CanAssign sc.iters x value) (sym b) h.1))
 
-pub few_in_loop : (sc inner : Scope) (number : ℕ) (start : IndexExpr) (cond : Cond) (step : ℤ) → inner ≡ in_loop sc number start cond step → length sc.pieces ≤ 16 → length inner.pieces ≤ 16
-few_in_loop sc inner number start cond step e h = rw e (let l = length-map sc.pieces (λ q. q ++ loop_rows sc start cond step) in omega arith)
-
-pub few_taken : (sc inner : Scope) (cond : Cond) → inner ≡ where_holds sc cond → length sc.pieces ≤ 16 → length inner.pieces ≤ 16
-few_taken sc inner cond e h = rw e (let l = length-map sc.pieces (λ q. q ++ rows_of sc.iters cond.parts) in omega arith)
-
 few_by : (m w : ℕ) → m ≤ 16 → pieces_by m w ≡ m * w
 few_by m w h = let e : nat_lt 16 m ≡ false = grind (arith, nat_tests) in ap (λ b. Rattle.std.proofs.Common.cond b m (m * w)) e
 
 -- the pieces of the other side, where those around are few
 pub count_other : (sc : Scope) (cond : Cond) (n : ℕ) → n ≡ pieces_by (length sc.pieces) (ways cond.parts) → length sc.pieces ≤ 16 → n ≡ length (where_fails sc cond).pieces
 count_other sc cond n e h = e ∙ few_by (length sc.pieces) (ways cond.parts) h ∙ sym (length-fails sc.iters cond.parts sc.pieces)
-
-pub few_other : (sc inner : Scope) (cond : Cond) (n : ℕ) → inner ≡ where_fails sc cond → n ≡ pieces_by (length sc.pieces) (ways cond.parts) → length sc.pieces ≤ 16 → n ≤ 16 → length inner.pieces ≤ 16
-few_other sc inner cond n e i f h = rw e (let l = count_other sc cond n i f in omega arith)
 
 pub count_in_loop : (sc : Scope) (number : ℕ) (start : IndexExpr) (cond : Cond) (step : ℤ) → length sc.pieces ≡ length (in_loop sc number start cond step).pieces
 count_in_loop sc number start cond step = sym (length-map sc.pieces _)

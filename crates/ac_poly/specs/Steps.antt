@@ -1,7 +1,9 @@
 -- What the steps of lowering answer, at lists.
-use Rattle.std.specs.Prelude.{ℕ, ◌+◌, ◌*◌, ◌≡◌, List, [], ◌∷◌, ◌++◌, Option, Some, None, Result, nat_lt, if◌then◌else◌, sum_by}
+use Rattle.std.specs.Prelude.{ℕ, ◌+◌, ◌*◌, ◌≡◌, List, [], ◌∷◌, ◌++◌, Option, Some, None, Result, Ok, Err, nat_lt, if◌then◌else◌, sum_by}
 use Rattle.ac_forms.specs.Affine.{Affine}
 use Rattle.ac_forms.specs.declared.row.Row.{Row}
+use Rattle.ac_forms.specs.declared.stop.FormStop.{FormStop}
+use Rattle.ac_forms.specs.declared.stop.FormStop.TheVariants as stops
 use Rattle.ac_syntax.specs.Loops.{loop_count}
 use Rattle.ac_syntax.specs.Nodes.{size}
 use Rattle.ac_syntax.specs.declared.tree.Rel.{Rel}
@@ -18,7 +20,7 @@ use Rattle.ac_poly.specs.Pieces.{negations, with_each}
 use Rattle.ac_poly.specs.declared.pieces.Way.{Way}
 use Rattle.ac_poly.specs.declared.scope.Scope.{Scope}
 use Rattle.ac_poly.specs.declared.types.LowerFault.{LowerFault}
-use Rattle.ac_poly.specs.declared.types.LowerFault.TheVariants.{Pieces, Wide}
+use Rattle.ac_poly.specs.declared.types.LowerFault.TheVariants.{Pieces, Wide, Memory}
 use Rattle.ac_poly.specs.declared.types.NodeModel.{NodeModel}
 use Rattle.ac_poly.specs.declared.types.StmtModel.{StmtModel}
 
@@ -88,3 +90,9 @@ Lowers r s number sc fit old new =
 abbrev pub LowersAll : Result ℕ LowerFault → List Stmt → ℕ → Scope → Type 0 → List StmtModel → List StmtModel → Type 0
 LowersAll r ss number sc fit old new =
     Answers r (λ next. (next ≡ number + sum_by loop_count ss) × AreLowerable ss number sc fit × (new ≡ old ++ lower_all ss number sc)) (IsFirstAll ss number sc fit)
+
+-- the same within a scope that was made; where it was not, what looking for the fault answers, with so many pieces
+abbrev pub LowersWithin : Result Scope FormStop → Result ℕ LowerFault → List Stmt → ℕ → ℕ → List StmtModel → List StmtModel → Type 0
+LowersWithin (Ok made) r ss number pieces old new = LowersAll r ss number made (Unit {0}) old new
+LowersWithin (Err stops.Wide) r ss number pieces old new = SeeksAll r ss number pieces × (new ≡ old)
+LowersWithin (Err (stops.Memory want)) r ss number pieces old new = r ≡ Err (Memory want)

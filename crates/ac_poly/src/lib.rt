@@ -19,5 +19,6 @@ mod walk;
 
 pub use cells::element_rows;
 pub use embed::coordinate_forms;
+pub use nodes::roots_of;
 pub use order::{before, before_at, same_cell, width};
 pub use program::lower;

@@ -28,7 +28,7 @@ fn size(value: &Value) -> Result<usize, AllocError>
 
 /// The numbers of values that stand one after another from `first` on.
 #[tactic(auto, using(crate::proofs::NodeSteps::root_steps))]
-fn roots_of(alloc: Global, values: &[Value], first: usize) -> Result<Items<usize>, AllocError>
+pub fn roots_of(alloc: Global, values: &[Value], first: usize) -> Result<Items<usize>, AllocError>
     ensures { IfOk result (λ made. made ≡ roots_of values.now first) }
 {
     let mut made = Items::new(alloc);

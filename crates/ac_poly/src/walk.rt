@@ -1,9 +1,9 @@
 //! From statements to the models of their assignments.
-ghost use Rattle.std.specs.Prelude.{◌≤◌, ◌+◌, suc, length};
+ghost use Rattle.std.specs.Prelude.{◌≤◌, length, IfOk};
 ghost use Rattle.ac_syntax.specs.Ready.{Ready, ReadyAll};
-ghost use Rattle.ac_poly.specs.Lower.{in_loop, where_holds, where_fails};
-ghost use Rattle.ac_poly.specs.Numbers.{CanEnter, CanHold, CanFail};
-ghost use Rattle.ac_poly.specs.Steps.{Lowers, LowersAll};
+ghost use Rattle.ac_poly.specs.Lower.{where_holds, where_fails};
+ghost use Rattle.ac_poly.specs.Numbers.{CanHold, CanFail};
+ghost use Rattle.ac_poly.specs.Steps.{Lowers, LowersAll, LowersWithin};
 
 use crate::enter::{assigned, in_loop, other, other_pieces, taken};
 use crate::first_fault::seek_all;
@@ -11,7 +11,7 @@ use crate::scope::Scope;
 use crate::types::{LowerFault, StmtModel};
 use ac_forms::FormStop;
 use ac_items::Items;
-use ac_syntax::tree::{Cond, IndexExpr, Stmt};
+use ac_syntax::tree::{Cond, Stmt};
 use std::alloc::{AllocError, Global};
 
 /// Adds the assignments of a statement, whose loops are numbered from `number` on, and gives the number after them.
@@ -34,16 +34,11 @@ pub(crate) fn lower_one(
             step,
             body,
             ..
-        } => lower_loop(
-            alloc,
-            start,
-            cond,
-            *step,
-            body.as_slice(),
-            number,
-            scope,
-            out,
-        ),
+        } => {
+            let next = number.checked_add(1).ok_or(AllocError)?;
+            let inner = in_loop(alloc, scope, number, start, cond, *step);
+            lower_within(alloc, inner, body.as_slice(), next, scope.pieces.len(), out)
+        }
         Stmt::If {
             cond,
             taken,
@@ -69,26 +64,24 @@ pub(crate) fn lower_one(
     }
 }
 
-/// Adds the assignments of the body of a loop.
+/// Adds the assignments of statements within a scope. Where a number of the scope leaves `i128`, the first of them is the
+/// fault, with so many pieces around them.
 #[cycle(lowering)]
-fn lower_loop(
+fn lower_within(
     alloc: Global,
-    start: &IndexExpr,
-    cond: &Cond,
-    step: i64,
+    inner: Result<Scope, FormStop>,
     body: &[Stmt],
     number: usize,
-    scope: &Scope,
+    pieces: usize,
     out: &mut Items<StmtModel>,
 ) -> Result<usize, LowerFault>
-    requires body { ReadyAll scope.now.params (length scope.now.iters + 1) body.now }
-    requires few { length scope.now.pieces ≤ 16 }
-    ensures { LowersAll result body.now (suc number) (in_loop scope.now number start.now cond.now step) (CanEnter scope.now start.now cond.now step) out.old out.new }
+    requires ready { IfOk inner (λ made. ReadyAll made.params (length made.iters) body.now) }
+    requires few { IfOk inner (λ made. length made.pieces ≤ 16) }
+    ensures { LowersWithin inner result body.now number pieces out.old out.new }
 {
-    let next = number.checked_add(1).ok_or(AllocError)?;
-    match in_loop(alloc, scope, number, start, cond, step) {
-        Ok(inner) => lower_all(alloc, body, next, &inner, out),
-        Err(FormStop::Wide) => seek_all(body, next, scope.pieces.len()),
+    match inner {
+        Ok(made) => lower_all(alloc, body, number, &made, out),
+        Err(FormStop::Wide) => seek_all(body, number, pieces),
         Err(FormStop::Memory(want)) => Err(LowerFault::Memory(want)),
     }
 }
@@ -107,11 +100,8 @@ fn lower_taken(
     requires few { length scope.now.pieces ≤ 16 }
     ensures { LowersAll result body.now number (where_holds scope.now cond.now) (CanHold scope.now.iters cond.now.parts) out.old out.new }
 {
-    match taken(alloc, scope, cond) {
-        Ok(inner) => lower_all(alloc, body, number, &inner, out),
-        Err(FormStop::Wide) => seek_all(body, number, scope.pieces.len()),
-        Err(FormStop::Memory(want)) => Err(LowerFault::Memory(want)),
-    }
+    let inner = taken(alloc, scope, cond);
+    lower_within(alloc, inner, body, number, scope.pieces.len(), out)
 }
 
 /// Adds the assignments of the other side of a branch.
@@ -132,11 +122,8 @@ fn lower_other(
     if pieces > 16 {
         return seek_all(body, number, pieces);
     }
-    match other(alloc, scope, cond) {
-        Ok(inner) => lower_all(alloc, body, number, &inner, out),
-        Err(FormStop::Wide) => seek_all(body, number, pieces),
-        Err(FormStop::Memory(want)) => Err(LowerFault::Memory(want)),
-    }
+    let inner = other(alloc, scope, cond);
+    lower_within(alloc, inner, body, number, pieces, out)
 }
 
 /// Adds the assignments of statements, one after another.
