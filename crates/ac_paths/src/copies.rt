@@ -12,7 +12,7 @@ ghost use Rattle.ac_paths.specs.Killing.{assignment_at, after_rows, copy_rows, s
 ghost use Rattle.ac_paths.specs.Made.{IsMadeIf};
 ghost use Rattle.ac_paths.specs.Places.{levels_to};
 
-use crate::going::{appended, case_rows, moved_at_both, root};
+use crate::going::{Case, appended, case_rows, moved_at_both, root};
 use crate::killing::case_width;
 use crate::path::{Assumed, CopyNumbers, Programs, Seat, Side};
 use crate::places::{CellForms, cell_read, levels_to};
@@ -80,53 +80,57 @@ fn level_rows(
     }
 }
 
+/// A copy of an assignment that writes the cell of an assumed reader again, with all that its rows are made of.
+#[derive(Clone, Copy)]
+struct CopyCase<'a> {
+    programs: Programs<'a>,
+    /// The model of the side of the reader.
+    model: &'a Model,
+    assumed: Assumed,
+    /// The cell that is read.
+    cell: &'a CellForms,
+    numbers: CopyNumbers,
+    /// The root of the copy.
+    seat: Seat,
+    stmt: &'a StmtModel,
+}
+
 /// The rows by which a copy stands after an assumed source by a level.
 fn level_after(
     alloc: Global,
-    params: usize,
-    m: &Model,
+    copy: &CopyCase,
     source: &Seat,
     level: usize,
-    u: usize,
-    copy: &Seat,
-    stmt: &StmtModel,
 ) -> Result<Option<Items<Row>>, AllocError>
-    requires { slice_get m.now.stmts u ≡ Some stmt.now }
-    ensures { IfOk result (λ made. made ≡ option_and_then (λ (from : StmtModel). option_and_then (λ rows. rows_renaming (base params ++ (columns_of source.now ++ columns_of copy.now)) rows) (slice_get (levels_before params (assignment_at source.now) from u stmt.now) level)) (slice_get m.now.stmts (assignment_at source.now))) }
+    requires { slice_get copy.now.model.now.stmts copy.now.numbers.stmt ≡ Some copy.now.stmt.now }
+    ensures { IfOk result (λ made. made ≡ option_and_then (λ (from : StmtModel). option_and_then (λ rows. rows_renaming (base copy.now.programs.left.now.params ++ (columns_of source.now ++ columns_of copy.now.seat)) rows) (slice_get (levels_before copy.now.programs.left.now.params (assignment_at source.now) from copy.now.numbers.stmt copy.now.stmt.now) level)) (slice_get copy.now.model.now.stmts (assignment_at source.now))) }
 {
+    let params = copy.programs.left.params;
     let s = assignment_at(source);
-    match m.stmts.as_slice().get(s) {
+    match copy.model.stmts.as_slice().get(s) {
         Some(from) => {
-            let levels = levels_between(alloc, params, m, s, from, u, stmt)?;
-            level_rows(alloc, params, source, copy, levels.as_slice(), level)
+            let u = copy.numbers.stmt;
+            let levels = levels_between(alloc, params, copy.model, s, from, u, copy.stmt)?;
+            level_rows(alloc, params, source, &copy.seat, levels.as_slice(), level)
         }
         None => Ok(None),
     }
 }
 
-/// The rows by which a copy of the assignment `u` stands after the assumed source: by the level with a number; no rows, and
-/// no level, where the initial contents are assumed. None where there is no such level, or a number leaves `i128`.
-pub fn after_rows(
-    alloc: Global,
-    programs: &Programs,
-    m: &Model,
-    source: &Option<Seat>,
-    after: &Option<usize>,
-    u: usize,
-    copy: &Seat,
-    stmt: &StmtModel,
-) -> Result<Option<Items<Row>>, AllocError>
-    requires { slice_get m.now.stmts u ≡ Some stmt.now }
-    ensures { IfOk result (λ made. made ≡ after_rows (pairing programs.now) m.now source.now after.now u copy.now stmt.now) }
+/// The rows by which a copy stands after the assumed source: by the level with its number; no rows, and no level, where the
+/// initial contents are assumed. None where there is no such level, or a number leaves `i128`.
+fn after_rows(alloc: Global, copy: &CopyCase) -> Result<Option<Items<Row>>, AllocError>
+    requires { slice_get copy.now.model.now.stmts copy.now.numbers.stmt ≡ Some copy.now.stmt.now }
+    ensures { IfOk result (λ made. made ≡ after_rows (pairing copy.now.programs) copy.now.model.now copy.now.assumed.source copy.now.numbers.after copy.now.numbers.stmt copy.now.seat copy.now.stmt.now) }
 {
-    match source {
-        None => match after {
+    match &copy.assumed.source {
+        None => match copy.numbers.after {
             None => Ok(Some(Items::new(alloc))),
             Some(_) => Ok(None),
         },
-        Some(seat) => match after {
+        Some(source) => match copy.numbers.after {
             None => Ok(None),
-            Some(level) => level_after(alloc, programs.left.params, m, seat, *level, u, copy, stmt),
+            Some(level) => level_after(alloc, copy, source, level),
         },
     }
 }
@@ -134,106 +138,53 @@ pub fn after_rows(
 /// The rows of a copy in a piece of its assignment, before its reader by a level and after the assumed source.
 fn rows_at_level(
     alloc: Global,
-    programs: &Programs,
-    m: &Model,
-    assumed: &Assumed,
-    cell: &CellForms,
-    copy: &Seat,
-    numbers: &CopyNumbers,
-    stmt: &StmtModel,
+    copy: &CopyCase,
     piece: &[Row],
     level: &[Row],
 ) -> Result<Option<Items<Row>>, AllocError>
-    requires { slice_get m.now.stmts numbers.now.stmt ≡ Some stmt.now }
-    ensures { IfOk result (λ made. made ≡ appended (case_rows programs.now.left.now.params assumed.now.reader cell.now copy.now stmt.now piece.now level.now) (after_rows (pairing programs.now) m.now assumed.now.source numbers.now.after numbers.now.stmt copy.now stmt.now)) }
+    requires { slice_get copy.now.model.now.stmts copy.now.numbers.stmt ≡ Some copy.now.stmt.now }
+    ensures { IfOk result (λ made. made ≡ appended (case_rows copy.now.programs.left.now.params copy.now.assumed.reader copy.now.cell.now copy.now.seat copy.now.stmt.now piece.now level.now) (after_rows (pairing copy.now.programs) copy.now.model.now copy.now.assumed.source copy.now.numbers.after copy.now.numbers.stmt copy.now.seat copy.now.stmt.now)) }
 {
-    let params = programs.left.params;
-    let case = case_rows(
-        alloc,
-        params,
-        &assumed.reader,
-        cell,
-        copy,
-        stmt,
-        piece,
-        level,
-    )?;
-    let later = after_rows(
-        alloc,
-        programs,
-        m,
-        &assumed.source,
-        &numbers.after,
-        numbers.stmt,
-        copy,
-        stmt,
-    )?;
-    appended(case, later)
+    let case = Case {
+        params: copy.programs.left.params,
+        reader: copy.assumed.reader,
+        cell: copy.cell,
+        writer: copy.seat,
+        stmt: copy.stmt,
+    };
+    let before = case_rows(alloc, &case, piece, level)?;
+    let later = after_rows(alloc, copy)?;
+    appended(before, later)
 }
 
 /// The rows of a copy in a piece of its assignment.
 #[tactic(auto, using(std::proofs::lemmas::Option::slice_get_within))]
 fn rows_in_piece(
     alloc: Global,
-    programs: &Programs,
-    m: &Model,
-    assumed: &Assumed,
-    cell: &CellForms,
-    copy: &Seat,
-    numbers: &CopyNumbers,
-    stmt: &StmtModel,
+    copy: &CopyCase,
     piece: &[Row],
 ) -> Result<Option<Items<Row>>, AllocError>
-    requires { slice_get m.now.stmts numbers.now.stmt ≡ Some stmt.now }
-    ensures { IfOk result (λ made. made ≡ option_and_then (λ level. appended (case_rows programs.now.left.now.params assumed.now.reader cell.now copy.now stmt.now piece.now level) (after_rows (pairing programs.now) m.now assumed.now.source numbers.now.after numbers.now.stmt copy.now stmt.now)) (slice_get (levels_to m.now numbers.now.stmt stmt.now assumed.now.reader.position) numbers.now.before)) }
+    requires { slice_get copy.now.model.now.stmts copy.now.numbers.stmt ≡ Some copy.now.stmt.now }
+    ensures { IfOk result (λ made. made ≡ option_and_then (λ level. appended (case_rows copy.now.programs.left.now.params copy.now.assumed.reader copy.now.cell.now copy.now.seat copy.now.stmt.now piece.now level) (after_rows (pairing copy.now.programs) copy.now.model.now copy.now.assumed.source copy.now.numbers.after copy.now.numbers.stmt copy.now.seat copy.now.stmt.now)) (slice_get (levels_to copy.now.model.now copy.now.numbers.stmt copy.now.stmt.now copy.now.assumed.reader.position) copy.now.numbers.before)) }
 {
-    let levels = levels_to(alloc, m, numbers.stmt, &assumed.reader.position)?;
-    match levels.get(numbers.before) {
-        Some(level) => rows_at_level(
-            alloc,
-            programs,
-            m,
-            assumed,
-            cell,
-            copy,
-            numbers,
-            stmt,
-            piece,
-            level.as_slice(),
-        ),
+    let reader = &copy.assumed.reader.position;
+    let levels = levels_to(alloc, copy.model, copy.numbers.stmt, reader)?;
+    match levels.get(copy.numbers.before) {
+        Some(level) => rows_at_level(alloc, copy, piece, level.as_slice()),
         None => Ok(None),
     }
 }
 
-/// The rows of a copy of an assignment that writes the cell.
-fn rows_of_writer(
-    alloc: Global,
-    programs: &Programs,
-    m: &Model,
-    assumed: &Assumed,
-    cell: &CellForms,
-    copy: &Seat,
-    numbers: &CopyNumbers,
-    stmt: &StmtModel,
-) -> Result<Option<Items<Row>>, AllocError>
-    requires { slice_get m.now.stmts numbers.now.stmt ≡ Some stmt.now }
-    ensures { IfOk result (λ made. made ≡ cond (nat_eq stmt.now.array cell.now.array) (option_and_then (λ piece. option_and_then (λ level. appended (case_rows programs.now.left.now.params assumed.now.reader cell.now copy.now stmt.now piece level) (after_rows (pairing programs.now) m.now assumed.now.source numbers.now.after numbers.now.stmt copy.now stmt.now)) (slice_get (levels_to m.now numbers.now.stmt stmt.now assumed.now.reader.position) numbers.now.before)) (slice_get stmt.now.pieces numbers.now.piece)) None) }
+/// The rows of a copy whose assignment writes the cell.
+fn rows_of_writer(alloc: Global, copy: &CopyCase) -> Result<Option<Items<Row>>, AllocError>
+    requires { slice_get copy.now.model.now.stmts copy.now.numbers.stmt ≡ Some copy.now.stmt.now }
+    ensures { IfOk result (λ made. made ≡ cond (nat_eq copy.now.stmt.now.array copy.now.cell.now.array) (option_and_then (λ piece. option_and_then (λ level. appended (case_rows copy.now.programs.left.now.params copy.now.assumed.reader copy.now.cell.now copy.now.seat copy.now.stmt.now piece level) (after_rows (pairing copy.now.programs) copy.now.model.now copy.now.assumed.source copy.now.numbers.after copy.now.numbers.stmt copy.now.seat copy.now.stmt.now)) (slice_get (levels_to copy.now.model.now copy.now.numbers.stmt copy.now.stmt.now copy.now.assumed.reader.position) copy.now.numbers.before)) (slice_get copy.now.stmt.now.pieces copy.now.numbers.piece)) None) }
 {
-    if stmt.array != cell.array {
+    if copy.stmt.array != copy.cell.array {
         return Ok(None);
     }
-    match stmt.pieces.get(numbers.piece) {
-        Some(piece) => rows_in_piece(
-            alloc,
-            programs,
-            m,
-            assumed,
-            cell,
-            copy,
-            numbers,
-            stmt,
-            piece.as_slice(),
-        ),
+    match copy.stmt.pieces.get(copy.numbers.piece) {
+        Some(piece) => rows_in_piece(alloc, copy, piece.as_slice()),
         None => Ok(None),
     }
 }
@@ -252,10 +203,21 @@ pub fn copy_rows(
     requires { slice_get (model_of (pairing programs.now) assumed.now.side).stmts numbers.now.stmt ≡ Some stmt.now }
     ensures { IfOk result (λ made. made ≡ copy_rows (pairing programs.now) assumed.now columns numbers.now.stmt numbers.now.piece numbers.now.after numbers.now.before stmt.now) }
 {
-    let m = model_of(programs, assumed.side);
-    let copy = root(columns, numbers.stmt, stmt);
-    match cell_read(alloc, m, &assumed.reader.position)? {
-        Some(cell) => rows_of_writer(alloc, programs, m, assumed, &cell, &copy, numbers, stmt),
+    let model = model_of(programs, assumed.side);
+    let seat = root(columns, numbers.stmt, stmt);
+    match cell_read(alloc, model, &assumed.reader.position)? {
+        Some(cell) => {
+            let copy = CopyCase {
+                programs: *programs,
+                model,
+                assumed: *assumed,
+                cell: &cell,
+                numbers: *numbers,
+                seat,
+                stmt,
+            };
+            rows_of_writer(alloc, &copy)
+        }
         None => Ok(None),
     }
 }

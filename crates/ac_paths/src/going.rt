@@ -86,30 +86,37 @@ pub(crate) fn moved_at_both(
     rows_moved(alloc, columns.as_slice(), rows)
 }
 
-/// The rows of a case: the source lies in a piece of its assignment, writes the cell, and stands before the reader by a
+/// A reader of a cell beside an assignment that writes it, each with the columns of its coordinates: a case of a step, or a copy.
+#[derive(Clone, Copy)]
+pub(crate) struct Case<'a> {
+    pub params: usize,
+    pub reader: Seat,
+    pub cell: &'a CellForms,
+    /// The root of the assignment.
+    pub writer: Seat,
+    pub stmt: &'a StmtModel,
+}
+
+/// The rows of a case: the writer lies in a piece of its assignment, writes the cell, and stands before the reader by a
 /// level.
 pub(crate) fn case_rows(
     alloc: Global,
-    params: usize,
-    reader: &Seat,
-    cell: &CellForms,
-    source: &Seat,
-    stmt: &StmtModel,
+    case: &Case,
     piece: &[Row],
     level: &[Row],
 ) -> Result<Option<Items<Row>>, AllocError>
-    ensures { IfOk result (λ rows. rows ≡ case_rows params reader.now cell.now source.now stmt.now piece.now level.now) }
+    ensures { IfOk result (λ rows. rows ≡ case_rows case.now.params case.now.reader case.now.cell.now case.now.writer case.now.stmt.now piece.now level.now) }
 {
-    let pieces = moved_at(alloc, params, source, piece)?;
+    let pieces = moved_at(alloc, case.params, &case.writer, piece)?;
     let cells = forms_equal(
         alloc,
-        params,
-        reader,
-        cell.subs.as_slice(),
-        source,
-        stmt.subs.as_slice(),
+        case.params,
+        &case.reader,
+        case.cell.subs.as_slice(),
+        &case.writer,
+        case.stmt.subs.as_slice(),
     )?;
-    let levels = moved_at_both(alloc, params, source, reader, level)?;
+    let levels = moved_at_both(alloc, case.params, &case.writer, &case.reader, level)?;
     appended(pieces, appended(cells, levels)?)
 }
 
@@ -153,61 +160,64 @@ fn gone_to(
     }
 }
 
-/// What is added by a case.
+/// The step of a read or an output of a path, which is the same for all of its cases.
+#[derive(Clone, Copy)]
+struct ReadStep<'a> {
+    params: usize,
+    /// The model of the side.
+    model: &'a Model,
+    path: &'a Path,
+    side: Side,
+    /// The cell that is read.
+    cell: &'a CellForms,
+}
+
+/// What is added by a case whose source is an instance of the assignment `u`.
 fn case_branch(
     alloc: Global,
-    params: usize,
-    path: &Path,
-    side: Side,
-    cell: &CellForms,
+    step: &ReadStep,
     u: usize,
     stmt: &StmtModel,
     piece: &[Row],
     level: &[Row],
 ) -> Result<Option<Branch>, AllocError>
-    ensures { IfOk result (λ made. option_map (onto path.now) made ≡ case_path params path.now side cell.now u stmt.now piece.now level.now) }
+    ensures { IfOk result (λ made. option_map (onto step.now.path.now) made ≡ case_path step.now.params step.now.path.now step.now.side step.now.cell.now u stmt.now piece.now level.now) }
 {
-    let source = root(path.conj.columns, u, stmt);
-    let reader = seat_of(path, side);
-    let Some(rows) = case_rows(alloc, params, &reader, cell, &source, stmt, piece, level)? else {
+    let source = root(step.path.conj.columns, u, stmt);
+    let reader = seat_of(step.path, step.side);
+    let case = Case {
+        params: step.params,
+        reader,
+        cell: step.cell,
+        writer: source,
+        stmt,
+    };
+    let Some(rows) = case_rows(alloc, &case, piece, level)? else {
         return Ok(None);
     };
     let last = Assumed {
-        side,
+        side: step.side,
         reader,
         source: Some(source),
     };
-    Ok(Some(gone_to(path, side, source.width, rows, source, Some(last))))
+    Ok(Some(gone_to(step.path, step.side, source.width, rows, source, Some(last))))
 }
 
 /// Adds the cases of a piece, one for each level.
 #[tactic(auto, using(crate::proofs::AddSteps::level_steps))]
 fn add_levels(
     alloc: Global,
-    params: usize,
-    path: &Path,
-    side: Side,
-    cell: &CellForms,
+    step: &ReadStep,
     u: usize,
     stmt: &StmtModel,
     piece: &[Row],
     levels: &[Items<Row>],
     out: &mut Items<Branch>,
 ) -> Result<bool, AllocError>
-    ensures { Adds (map (case_path params path.now side cell.now u stmt.now piece.now) levels.now) (map (onto path.now) out.old) (map (onto path.now) out.new) result }
+    ensures { Adds (map (case_path step.now.params step.now.path.now step.now.side step.now.cell.now u stmt.now piece.now) levels.now) (map (onto step.now.path.now) out.old) (map (onto step.now.path.now) out.new) result }
 {
     for level in levels {
-        match case_branch(
-            alloc,
-            params,
-            path,
-            side,
-            cell,
-            u,
-            stmt,
-            piece,
-            level.as_slice(),
-        )? {
+        match case_branch(alloc, step, u, stmt, piece, level.as_slice())? {
             Some(branch) => out.push(branch)?,
             None => return Ok(false),
         }
@@ -219,30 +229,16 @@ fn add_levels(
 #[tactic(auto, using(crate::proofs::AddSteps::piece_steps))]
 fn add_pieces(
     alloc: Global,
-    params: usize,
-    path: &Path,
-    side: Side,
-    cell: &CellForms,
+    step: &ReadStep,
     u: usize,
     stmt: &StmtModel,
     levels: &[Items<Row>],
     out: &mut Items<Branch>,
 ) -> Result<bool, AllocError>
-    ensures { Adds (flat_map (λ piece. map (case_path params path.now side cell.now u stmt.now piece) levels.now) stmt.now.pieces) (map (onto path.now) out.old) (map (onto path.now) out.new) result }
+    ensures { Adds (flat_map (λ piece. map (case_path step.now.params step.now.path.now step.now.side step.now.cell.now u stmt.now piece) levels.now) stmt.now.pieces) (map (onto step.now.path.now) out.old) (map (onto step.now.path.now) out.new) result }
 {
     for piece in stmt.pieces.as_slice() {
-        if !add_levels(
-            alloc,
-            params,
-            path,
-            side,
-            cell,
-            u,
-            stmt,
-            piece.as_slice(),
-            levels,
-            out,
-        )? {
+        if !add_levels(alloc, step, u, stmt, piece.as_slice(), levels, out)? {
             return Ok(false);
         }
     }
@@ -253,52 +249,30 @@ fn add_pieces(
 #[tactic(auto, using(crate::proofs::StmtSteps::one_steps))]
 fn add_stmt(
     alloc: Global,
-    params: usize,
-    m: &Model,
-    path: &Path,
-    side: Side,
-    cell: &CellForms,
+    step: &ReadStep,
     u: usize,
     stmt: &StmtModel,
     out: &mut Items<Branch>,
 ) -> Result<bool, AllocError>
-    requires place { u < length m.now.stmts }
-    requires stmt { slice_get m.now.stmts u ≡ Some stmt.now }
-    ensures { Adds (cases_at params m.now path.now side cell.now u stmt.now) (map (onto path.now) out.old) (map (onto path.now) out.new) result }
+    requires place { u < length step.now.model.now.stmts }
+    requires stmt { slice_get step.now.model.now.stmts u ≡ Some stmt.now }
+    ensures { Adds (cases_at step.now.params step.now.model.now step.now.path.now step.now.side step.now.cell.now u stmt.now) (map (onto step.now.path.now) out.old) (map (onto step.now.path.now) out.new) result }
 {
-    if stmt.array != cell.array {
+    if stmt.array != step.cell.array {
         return Ok(true);
     }
-    let reader = seat_of(path, side);
-    let levels = levels_to(alloc, m, u, &reader.position)?;
-    add_pieces(
-        alloc,
-        params,
-        path,
-        side,
-        cell,
-        u,
-        stmt,
-        levels.as_slice(),
-        out,
-    )
+    let reader = seat_of(step.path, step.side);
+    let levels = levels_to(alloc, step.model, u, &reader.position)?;
+    add_pieces(alloc, step, u, stmt, levels.as_slice(), out)
 }
 
 /// The cases of all assignments.
-fn add_cases(
-    alloc: Global,
-    params: usize,
-    m: &Model,
-    path: &Path,
-    side: Side,
-    cell: &CellForms,
-    out: &mut Items<Branch>,
-) -> Result<bool, AllocError>
-    ensures { Adds (cases_from params m.now path.now side cell.now 0 m.now.stmts) (map (onto path.now) out.old) (map (onto path.now) out.new) result }
+fn add_cases(alloc: Global, step: &ReadStep, out: &mut Items<Branch>) -> Result<bool, AllocError>
+    ensures { Adds (cases_from step.now.params step.now.model.now step.now.path.now step.now.side step.now.cell.now 0 step.now.model.now.stmts) (map (onto step.now.path.now) out.old) (map (onto step.now.path.now) out.new) result }
 {
-    let stmts = m.stmts.as_slice();
+    let stmts = step.model.stmts.as_slice();
     for u in 0..stmts.len() {
-        if !add_stmt(alloc, params, m, path, side, cell, u, &stmts[u], out)? {
+        if !add_stmt(alloc, step, u, &stmts[u], out)? {
             return Ok(false);
         }
     }
@@ -344,38 +318,23 @@ fn initial_of(position: &Position) -> Position
 
 /// The cases of a read or an output: one for each source, then the initial contents.
 #[tactic(auto, using(crate::proofs::StmtSteps::branch_steps))]
-fn read_steps(
-    alloc: Global,
-    params: usize,
-    m: &Model,
-    path: &Path,
-    side: Side,
-    cell: &CellForms,
-) -> Result<Option<Items<Branch>>, AllocError>
-    ensures { IfOk result (λ made. all_onto path.now made ≡ read_branches params m.now path.now side cell.now) }
+fn read_steps(alloc: Global, step: &ReadStep) -> Result<Option<Items<Branch>>, AllocError>
+    ensures { IfOk result (λ made. all_onto step.now.path.now made ≡ read_branches step.now.params step.now.model.now step.now.path.now step.now.side step.now.cell.now) }
 {
     let mut out = Items::new(alloc);
-    if !add_cases(alloc, params, m, path, side, cell, &mut out)? {
+    if !add_cases(alloc, step, &mut out)? {
         return Ok(None);
     }
-    out.push(initial_branch(alloc, path, side))?;
+    out.push(initial_branch(alloc, step.path, step.side))?;
     Ok(Some(out))
 }
 
 /// The cases of a read or an output, which go by `Keep` alone.
-fn reads(
-    alloc: Global,
-    params: usize,
-    m: &Model,
-    order: Order,
-    path: &Path,
-    side: Side,
-    cell: &CellForms,
-) -> Result<Option<Items<Branch>>, AllocError>
-    ensures { IfOk result (λ made. all_onto path.now made ≡ by_keep order (read_branches params m.now path.now side cell.now)) }
+fn reads(alloc: Global, order: Order, step: &ReadStep) -> Result<Option<Items<Branch>>, AllocError>
+    ensures { IfOk result (λ made. all_onto step.now.path.now made ≡ by_keep order (read_branches step.now.params step.now.model.now step.now.path.now step.now.side step.now.cell.now)) }
 {
     match order {
-        Order::Keep => read_steps(alloc, params, m, path, side, cell),
+        Order::Keep => read_steps(alloc, step),
         Order::Swap => Ok(None),
     }
 }
@@ -391,17 +350,27 @@ fn branches_by(
 {
     let params = programs.left.params;
     match cell_read(alloc, programs.left, &path.left.position)? {
-        Some(cell) => reads(alloc, params, programs.left, order, path, Side::Left, &cell),
-        None => match cell_read(alloc, programs.right, &path.right.position)? {
-            Some(cell) => reads(
-                alloc,
+        Some(cell) => {
+            let step = ReadStep {
                 params,
-                programs.right,
-                order,
+                model: programs.left,
                 path,
-                Side::Right,
-                &cell,
-            ),
+                side: Side::Left,
+                cell: &cell,
+            };
+            reads(alloc, order, &step)
+        }
+        None => match cell_read(alloc, programs.right, &path.right.position)? {
+            Some(cell) => {
+                let step = ReadStep {
+                    params,
+                    model: programs.right,
+                    path,
+                    side: Side::Right,
+                    cell: &cell,
+                };
+                reads(alloc, order, &step)
+            }
             None => steps_of_calls(alloc, programs, order, path),
         },
     }
