@@ -10,12 +10,12 @@ ghost use Rattle.ac_forms.specs.Tests.{normal_fits};
 ghost use Rattle.ac_choices.specs.Bounds.{without, is_low, is_high, low_bound, high_bound, rows_without};
 ghost use Rattle.ac_choices.specs.ChoiceFits.{shadow_fits};
 ghost use Rattle.ac_choices.specs.Choices.{shadow_form};
-ghost use Rattle.ac_choices.specs.Combination.{combination};
 ghost use Rattle.ac_exact.specs.Exact.{real_form};
 ghost use Rattle.ac_exact.specs.Reasons.{IsImpliedBy, IsLeftFor, IsReason};
 ghost use Rattle.ac_exact.specs.Tests.{is_same_left, is_implied, is_exact, pair_fits};
 
 use crate::implied::{implying_row, implying_rows};
+use ac_choices::combination;
 use ac_forms::{Form, FormStop, NormalRow, Row};
 use std::alloc::{AllocError, Global};
 
@@ -50,24 +50,6 @@ fn without(alloc: Global, z: usize, form: &Form) -> Result<Form, AllocError>
     ensures { IfOk result (λ made. made ≡ without z form.now) }
 {
     form.with_numbers(alloc, z, &0, &form.konst())
-}
-
-/// `left` times a form plus `right` times another, where the numbers stay in `i128`.
-#[tactic(auto, using(ac_choices::proofs::Fitting::combination_some, ac_choices::proofs::Fitting::combination_none, ac_integers::proofs::Bits::again_128))]
-fn combination(
-    alloc: Global,
-    left: i128,
-    form: &Form,
-    right: i128,
-    other: &Form,
-) -> Result<Option<Form>, AllocError>
-    ensures { IfOk result (λ made. made ≡ combination left form.now right other.now) }
-{
-    match form.combine(alloc, left, other, right) {
-        Ok(form) => Ok(Some(form)),
-        Err(FormStop::Wide) => Ok(None),
-        Err(FormStop::Memory(want)) => Err(want),
-    }
 }
 
 /// The opposite of a column's coefficient, if it is a number of `i128`.

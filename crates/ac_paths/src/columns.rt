@@ -1,34 +1,16 @@
 //! Forms and rows of a model among the columns of a path.
 ghost use Rattle.std.specs.Prelude.{◌≡◌, ℕ, pos, negsuc, map, IfOk, [], ◌∷◌, ◌+◌, Option, Some, option_map, option_and_then, ◌++◌, OnOk};
 ghost use Rattle.std.specs.List.{range_with_len};
-ghost use Rattle.ac_choices.specs.Combination.{combination};
 ghost use Rattle.ac_forms.specs.Rows.{HaveModuli};
 ghost use Rattle.ac_paths.specs.Made.{HaveIf};
 ghost use Rattle.ac_forms.specs.Renaming.{renaming, rows_renaming};
 ghost use Rattle.ac_paths.specs.Columns.{difference, equal_forms, base, columns_of};
 
 use crate::path::Seat;
+use ac_choices::combination;
 use ac_forms::{Form, FormStop, Row, push_range, renamed_rows};
 use ac_items::Items;
 use std::alloc::{AllocError, Global};
-
-/// `left` times a form plus `right` times another, where the numbers stay in `i128`.
-#[tactic(auto, using(ac_choices::proofs::Fitting::combination_some, ac_choices::proofs::Fitting::combination_none, ac_integers::proofs::Bits::again_128))]
-fn combination(
-    alloc: Global,
-    left: i128,
-    form: &Form,
-    right: i128,
-    other: &Form,
-) -> Result<Option<Form>, AllocError>
-    ensures { IfOk result (λ made. made ≡ combination left form.now right other.now) }
-{
-    match form.combine(alloc, left, other, right) {
-        Ok(form) => Ok(Some(form)),
-        Err(FormStop::Wide) => Ok(None),
-        Err(FormStop::Memory(want)) => Err(want),
-    }
-}
 
 /// The form whose column `i` is the `i`-th of these columns, where the numbers stay in `i128`.
 #[tactic(auto, using(crate::proofs::Moduli::form_steps))]
