@@ -64,7 +64,7 @@ plans_formed : (params : ℕ) (hs : List Path) → AllFormed params hs → AreDu
 plans_formed params [] a = tt
 plans_formed params (h ∷ hs) a = (a.0, plans_formed params hs a.1)
 
-side_moduli : (g : Pairing) (side : Side) → HasModuli g.left → HasModuli g.right → HasModuli (model_of g side)
+pub side_moduli : (g : Pairing) (side : Side) → HasModuli g.left → HasModuli g.right → HasModuli (model_of g side)
 side_moduli g Left l r = l
 side_moduli g Right l r = r
 

@@ -1,21 +1,20 @@
 //! The branches of a step of the pair, one by one.
-ghost use Rattle.std.specs.Prelude.{◌≡◌, ◌≢◌, ◌∷◌, ◌++◌, [], List, map, reverse, IfOk, OnOk};
+ghost use Rattle.std.specs.Prelude.{◌≡◌, ◌≢◌, ◌∷◌, ◌++◌, [], map, reverse, IfOk, OnOk};
 ghost use Rattle.ac_paths.specs.Branching.{onto};
 ghost use Rattle.ac_paths.specs.Calls.{pairing};
 ghost use Rattle.ac_claims.specs.Entries.{AreEntries, Settles, branches_of, dues};
 ghost use Rattle.ac_claims.specs.Machine.{Onto, PlanAt, take_at};
 ghost use Rattle.ac_claims.specs.declared.item.Item.TheVariants as item;
-ghost use Rattle.ac_claims.specs.declared.types.Claim.{Claim};
 
-use crate::entry::{Awaited, Entry, Refusal, TakeStop};
+use crate::entry::{Awaited, Entry, Line, Refusal, TakeStop};
 use crate::parts::{awaits, push_at};
 use ac_cert::Rule;
 use ac_forms::Row;
 use ac_items::Items;
 use ac_paths::going::{branches, onto};
-use ac_paths::path::{Branch, Path, Programs};
+use ac_paths::path::{Branch, Path};
 use ac_syntax::tree::Order;
-use std::alloc::{AllocError, Global};
+use std::alloc::AllocError;
 
 /// The branches, the last one first.
 fn reversed(branches: Items<Branch>) -> Items<Branch>
@@ -88,22 +87,20 @@ fn put_further(due: &mut Items<Entry>, path: &Path, left: Items<Branch>) -> Resu
 
 /// A step of the pair.
 pub(crate) fn take_go(
-    alloc: Global,
-    programs: &Programs,
+    line: &Line,
     order: Order,
     cases: usize,
-    line: u64,
     path: Path,
     due: &mut Items<Entry>,
 ) -> Result<Items<Row>, TakeStop>
     requires { AreEntries path.conj.rows due.old }
-    ensures { (claims : List Claim) → Settles (take_at (pairing programs.now) claims (item.Go order cases) line path (dues path.conj.rows due.old)) due.new result }
+    ensures { Settles (take_at (pairing line.now.programs.now) line.now.claims.now (item.Go order cases) line.now.number path (dues path.conj.rows due.old)) due.new result }
 {
     let refusal = Refusal {
-        line,
+        line: line.number,
         rule: Rule::Go,
     };
-    match branches(alloc, programs, order, &path)? {
+    match branches(line.alloc, line.programs, order, &path)? {
         None => Err(TakeStop::Refused(refusal)),
         Some(found) => {
             if found.len() != cases {

@@ -1,15 +1,15 @@
 //! The classes of a residue branch, one by one.
-ghost use Rattle.std.specs.Prelude.{◌≡◌, ◌≢◌, ◌∷◌, ◌++◌, ◌+ℤ◌, ◌-ℤ◌, ◌<ℤ◌, pos, List, IfOk, MatchOption, OnOk, true};
+ghost use Rattle.std.specs.Prelude.{◌≡◌, ◌≢◌, ◌∷◌, ◌++◌, ◌+ℤ◌, ◌-ℤ◌, ◌<ℤ◌, pos, IfOk, MatchOption, OnOk, true};
 ghost use Rattle.ac_cert.specs.Rules.{class_row, has_class, with_row};
 ghost use Rattle.ac_forms.specs.Fits.{fits};
 ghost use Rattle.ac_forms.specs.Rows.{IsRowOver, IsWellMade};
-ghost use Rattle.ac_paths.specs.Going.{Pairing, at_rows};
+ghost use Rattle.ac_paths.specs.Calls.{pairing};
+ghost use Rattle.ac_paths.specs.Going.{at_rows};
 ghost use Rattle.ac_claims.specs.Entries.{AreClasses, AreEntries, Settles, classes_of, dues};
 ghost use Rattle.ac_claims.specs.Machine.{PlanAt, take_at};
 ghost use Rattle.ac_claims.specs.declared.item.Item.TheVariants as item;
-ghost use Rattle.ac_claims.specs.declared.types.Claim.{Claim};
 
-use crate::entry::{Awaited, Classes, Entry, Refusal, TakeStop};
+use crate::entry::{Awaited, Classes, Entry, Line, Refusal, TakeStop};
 use crate::parts::{awaits, longer, push_at};
 use ac_cert::{EndStop, Rule, row_of_class};
 use ac_forms::{Form, Row};
@@ -51,23 +51,22 @@ fn all_classes(modulus: &i128, form: Form) -> Classes
 
 /// A branch by the residue of a form.
 pub(crate) fn take_residue(
-    alloc: Global,
+    line: &Line,
     modulus: &i128,
     form: &Form,
-    line: u64,
     path: Path,
     due: &mut Items<Entry>,
 ) -> Result<Items<Row>, TakeStop>
     requires { AreEntries path.conj.rows due.old }
-    ensures { (g : Pairing) (claims : List Claim) → Settles (take_at g claims (item.Residue modulus.now form.now) line path (dues path.conj.rows due.old)) due.new result }
+    ensures { Settles (take_at (pairing line.now.programs.now) line.now.claims.now (item.Residue modulus.now form.now) line.now.number path (dues path.conj.rows due.old)) due.new result }
 {
-    if !has_residues(alloc, modulus, form, path.conj.columns)? {
+    if !has_residues(line.alloc, modulus, form, path.conj.columns)? {
         return Err(TakeStop::Refused(Refusal {
-            line,
+            line: line.number,
             rule: Rule::Residue,
         }));
     }
-    let form = form.copy(alloc)?;
+    let form = form.copy(line.alloc)?;
     let classes = all_classes(modulus, form);
     awaits(due, path, Awaited::Classes(classes))
 }

@@ -7,7 +7,7 @@ ghost use Rattle.ac_paths.specs.Columns.{base, columns_of, equal_forms};
 ghost use Rattle.ac_paths.specs.Made.{HaveIf};
 ghost use Rattle.ac_paths.specs.Places.{number_at, initial_cell};
 ghost use Rattle.ac_claims.specs.Dues.{RowsHaveModuli};
-ghost use Rattle.ac_claims.specs.Ending.{same_position, hits, is_hit, equal_numbers, is_number, equal_cells, is_initial};
+ghost use Rattle.ac_claims.specs.Ending.{same_position, hits, is_hit, equal_numbers, equal_cells};
 
 use crate::types::Claim;
 use ac_forms::{Form, Row};
@@ -84,7 +84,7 @@ pub(crate) fn is_hit(
 }
 
 /// The equality of the numbers at both positions of a path, if there are two.
-fn equal_numbers(
+pub(crate) fn equal_numbers(
     alloc: Global,
     programs: &Programs,
     path: &Path,
@@ -106,20 +106,6 @@ fn equal_numbers(
             ),
         },
     }
-}
-
-/// Whether a path ends at two numbers whose equality stands.
-pub(crate) fn is_number(
-    alloc: Global,
-    programs: &Programs,
-    path: &Path,
-    forms: &mut NormalForms,
-) -> Result<bool, AllocError>
-    requires { HaveModuli path.now.conj.rows }
-    ensures { IfOk result (λ answer. answer ≡ is_number (pairing programs.now) path.now) }
-{
-    let rows = equal_numbers(alloc, programs, path)?;
-    made_and_stand(alloc, path.conj.rows.as_slice(), &rows, forms)
 }
 
 /// Whether an array of a model is an input.
@@ -158,7 +144,7 @@ fn cells_equal(
 }
 
 /// The equality of the initial cells at both positions of a path, if there are two.
-fn equal_cells(
+pub(crate) fn equal_cells(
     alloc: Global,
     programs: &Programs,
     path: &Path,
@@ -173,18 +159,4 @@ fn equal_cells(
             Some(other) => cells_equal(alloc, programs, path, &cell, &other),
         },
     }
-}
-
-/// Whether a path ends at one initial cell of an input: the equality of each subscript stands.
-pub(crate) fn is_initial(
-    alloc: Global,
-    programs: &Programs,
-    path: &Path,
-    forms: &mut NormalForms,
-) -> Result<bool, AllocError>
-    requires { HaveModuli path.now.conj.rows }
-    ensures { IfOk result (λ answer. answer ≡ is_initial (pairing programs.now) path.now) }
-{
-    let rows = equal_cells(alloc, programs, path)?;
-    made_and_stand(alloc, path.conj.rows.as_slice(), &rows, forms)
 }

@@ -1,8 +1,10 @@
+use crate::item::Item;
+use crate::types::Claim;
 use ac_cert::{EndStop, Rule};
 use ac_forms::{Conj, Form, Row};
 use ac_items::Items;
-use ac_paths::path::{Assumed, Branch, Seat};
-use std::alloc::AllocError;
+use ac_paths::path::{Assumed, Branch, Programs, Seat};
+use std::alloc::{AllocError, Global};
 
 /// The first line that fails, and its rule.
 #[derive(Clone, Copy, PartialEq, Eq, Drop)]
@@ -31,6 +33,17 @@ impl From<AllocError> for TakeStop {
     fn from(want: AllocError) -> TakeStop {
         TakeStop::Memory(want)
     }
+}
+
+/// A line of a plan, with what it is judged by: the models of the pair and the claims of the proof.
+#[derive(Clone, Copy)]
+pub(crate) struct Line<'a> {
+    pub alloc: Global,
+    pub programs: &'a Programs<'a>,
+    pub claims: &'a [Claim],
+    /// What the line says.
+    pub item: &'a Item,
+    pub number: u64,
 }
 
 /// A path without its rows: how many columns and rows it has, and what else belongs to it. The rows are the first of the

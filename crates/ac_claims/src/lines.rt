@@ -1,7 +1,7 @@
 //! What the lines of a proof come to, but for those of plans.
 ghost use Rattle.std.specs.Prelude.{◌≡◌, ℕ, ◌<◌, ◌∷◌, IfOk, OnOk, List, length, slice_get, nat_le};
 ghost use Rattle.std.specs.List.{AllByRecursion};
-ghost use Rattle.ac_forms.specs.Rows.{HasModulus, form_of};
+ghost use Rattle.ac_forms.specs.Rows.{AreRowsOver, HasModulus, form_of};
 ghost use Rattle.ac_cert.specs.declared.types.Rule.TheVariants as rule;
 ghost use Rattle.ac_paths.specs.Calls.{pairing};
 ghost use Rattle.ac_paths.specs.Going.{Pairing};
@@ -9,7 +9,7 @@ ghost use Rattle.ac_claims.specs.Checking.{known_of, refusal_unless, Comes, colu
 ghost use Rattle.ac_claims.specs.Starting.{is_it, IsStartOf, StartsNext};
 ghost use Rattle.ac_claims.specs.Dues.{AreDueFormed};
 ghost use Rattle.ac_claims.specs.Machine.{Due};
-ghost use Rattle.ac_claims.specs.ProofFaults.{domain, output_stands};
+ghost use Rattle.ac_claims.specs.ProofFaults.{domain, have_shapes, is_point, output_stands};
 ghost use Rattle.ac_claims.specs.ProofMachine.{yes_if, with_claims, with_last, with_output, open_claim, open_tree, closed};
 ghost use Rattle.ac_claims.specs.Ready.{AreReady};
 ghost use Rattle.ac_claims.specs.Remaining.{remaining};
@@ -17,6 +17,7 @@ ghost use Rattle.ac_claims.specs.Remaining.{remaining};
 use crate::domains::size_at;
 use crate::entry::Refusal;
 use crate::front::Front;
+use crate::head::{have_shapes, is_point};
 use crate::outputs::output_stands;
 use crate::stack::Stack;
 use crate::starts::{start_at, start_columns};
@@ -25,11 +26,12 @@ use crate::upcoming::{Upcoming, settled};
 use ac_cert::Rule;
 use ac_forms::{Row, column_after};
 use ac_paths::path::{Path, Programs};
+use ac_poly::types::Model;
 use ac_syntax::tree::Position;
 use std::alloc::{AllocError, Global};
 
 /// The refusal of a line by a rule, unless a test holds.
-pub(crate) fn refusal_unless(holds: bool, line: u64, rule: Rule) -> Option<Refusal>
+fn refusal_unless(holds: bool, line: u64, rule: Rule) -> Option<Refusal>
     ensures { result ≡ refusal_unless holds line rule }
 {
     if holds {
@@ -37,6 +39,22 @@ pub(crate) fn refusal_unless(holds: bool, line: u64, rule: Rule) -> Option<Refus
     } else {
         Some(Refusal { line, rule })
     }
+}
+
+/// A valuation of the parameters.
+pub(crate) fn take_point(model: &Model, point: &[i128], line: u64) -> Option<Refusal>
+    requires { AreRowsOver model.now.params model.now.context }
+    ensures { result ≡ refusal_unless (is_point model.now point.now) line rule.Point }
+{
+    refusal_unless(is_point(model, point), line, Rule::Point)
+}
+
+/// The numbers of counters and quotients of a program's assignments.
+pub(crate) fn take_shapes(model: &Model, shapes: &[(u64, u64)], line: u64) -> Option<Refusal>
+    ensures { result ≡ refusal_unless (have_shapes shapes.now model.now.stmts) line rule.Coords }
+{
+    let holds = have_shapes(shapes, model.stmts.as_slice());
+    refusal_unless(holds, line, Rule::Coords)
 }
 
 /// How many columns the rows of a claim of two positions have, if these are there.

@@ -6,18 +6,18 @@ ghost use Rattle.ac_cert.specs.Rules.{with_row};
 ghost use Rattle.ac_paths.specs.Calls.{pairing};
 ghost use Rattle.ac_paths.specs.Formed.{HasModuli, IsFormed};
 ghost use Rattle.ac_paths.specs.Going.{at_rows};
-ghost use Rattle.ac_claims.specs.Dues.{AreDueFormed, RowsHaveModuli, Answers};
+ghost use Rattle.ac_claims.specs.Dues.{AreDueFormed, LineHasModuli, RowsHaveModuli, Answers};
 ghost use Rattle.ac_claims.specs.Entries.{AreClasses, AreEntries, HasDues, IsOngoing, Settles, SettlesAll, all_dues, branches_of, classes_of, due_at, dues};
 ghost use Rattle.ac_claims.specs.Machine.{PlanAt, take_item};
 
 use crate::cases::first_branch;
 use crate::classes::first_class;
 pub use crate::entry::Refusal;
-use crate::entry::{Awaited, Classes, Entry, Ongoing, TakeStop};
+use crate::entry::{Awaited, Classes, Entry, Line, Ongoing, TakeStop};
 use crate::item::Item;
 use crate::kills::choose;
 use crate::parts::{longer, path_at, push_at};
-use crate::taking::taken;
+use crate::taking::take_at;
 use crate::types::Claim;
 use ac_forms::Row;
 use ac_items::Items;
@@ -99,15 +99,14 @@ impl Stack {
         ensures exact { Answers (take_item (pairing programs.now) claims.now item.now line self.old) self.new result }
         ensures formed { AreDueFormed programs.now.left.now.params self.new }
     {
-        match take_last(
+        let line = Line {
             alloc,
             programs,
             claims,
             item,
-            line,
-            &mut self.forms,
-            &mut self.ongoing,
-        ) {
+            number: line,
+        };
+        match take_last(&line, &mut self.forms, &mut self.ongoing) {
             Ok(()) => Ok(None),
             Err(TakeStop::Refused(refusal)) => {
                 self.ongoing = Items::new(alloc);
@@ -136,20 +135,14 @@ fn opened(alloc: Global, path: Path) -> Result<Ongoing, AllocError>
 
 /// Takes an item in the last of some plans under way.
 fn take_last(
-    alloc: Global,
-    programs: &Programs,
-    claims: &[Claim],
-    item: &Item,
-    line: u64,
+    line: &Line,
     forms: &mut NormalForms,
     ongoing: &mut Items<Ongoing>,
 ) -> Result<(), TakeStop>
-    requires left { HasModuli programs.now.left.now }
-    requires right { HasModuli programs.now.right.now }
-    requires claims { RowsHaveModuli claims.now }
-    requires formed { AreDueFormed programs.now.left.now.params (all_dues ongoing.old) }
+    requires line { LineHasModuli line.now }
+    requires formed { AreDueFormed line.now.programs.now.left.now.params (all_dues ongoing.old) }
     requires ongoing { AllByRecursion IsOngoing ongoing.old }
-    ensures settles { SettlesAll (take_item (pairing programs.now) claims.now item.now line (all_dues ongoing.old)) ongoing.new result }
+    ensures settles { SettlesAll (take_item (pairing line.now.programs.now) line.now.claims.now line.now.item.now line.now.number (all_dues ongoing.old)) ongoing.new result }
     ensures ongoing { OnOk result (AllByRecursion IsOngoing ongoing.new) }
 {
     let Some(plan) = ongoing.pop() else {
@@ -157,16 +150,7 @@ fn take_last(
     };
     let Ongoing { rows, entries } = plan;
     let mut entries = entries;
-    match advance(
-        alloc,
-        programs,
-        claims,
-        item,
-        line,
-        rows,
-        forms,
-        &mut entries,
-    ) {
+    match advance(line, rows, forms, &mut entries) {
         Ok(rows) => {
             keep(ongoing, rows, entries)?;
             Ok(())
@@ -195,36 +179,20 @@ fn keep(
 
 /// Takes an item where the next plan or copy is due. Gives the rows of the path that is under way then.
 fn advance(
-    alloc: Global,
-    programs: &Programs,
-    claims: &[Claim],
-    item: &Item,
-    line: u64,
+    line: &Line,
     rows: Items<Row>,
     forms: &mut NormalForms,
     due: &mut Items<Entry>,
 ) -> Result<Items<Row>, TakeStop>
-    requires left { HasModuli programs.now.left.now }
-    requires right { HasModuli programs.now.right.now }
-    requires claims { RowsHaveModuli claims.now }
-    requires formed { AreDueFormed programs.now.left.now.params (dues rows due.old) }
+    requires line { LineHasModuli line.now }
+    requires formed { AreDueFormed line.now.programs.now.left.now.params (dues rows due.old) }
     requires entries { AreEntries rows due.old }
-    ensures { Settles (take_item (pairing programs.now) claims.now item.now line (dues rows due.old)) due.new result }
+    ensures { Settles (take_item (pairing line.now.programs.now) line.now.claims.now line.now.item.now line.now.number (dues rows due.old)) due.new result }
 {
     match due.pop() {
         Some(entry) => {
             let path = path_at(rows, &entry.prefix);
-            take_entry(
-                alloc,
-                programs,
-                claims,
-                item,
-                line,
-                path,
-                entry.awaited,
-                forms,
-                due,
-            )
+            take_entry(line, path, entry.awaited, forms, due)
         }
         None => Ok(rows),
     }
@@ -232,117 +200,76 @@ fn advance(
 
 /// Takes an item where something is due at a path.
 fn take_entry(
-    alloc: Global,
-    programs: &Programs,
-    claims: &[Claim],
-    item: &Item,
-    line: u64,
+    line: &Line,
     path: Path,
     awaited: Awaited,
     forms: &mut NormalForms,
     due: &mut Items<Entry>,
 ) -> Result<Items<Row>, TakeStop>
-    requires left { HasModuli programs.now.left.now }
-    requires right { HasModuli programs.now.right.now }
-    requires claims { RowsHaveModuli claims.now }
-    requires formed { AreDueFormed programs.now.left.now.params (due_at path awaited) }
+    requires line { LineHasModuli line.now }
+    requires formed { AreDueFormed line.now.programs.now.left.now.params (due_at path awaited) }
     requires some { HasDues path.conj.columns awaited }
     requires entries { AreEntries path.conj.rows due.old }
-    ensures { Settles (take_item (pairing programs.now) claims.now item.now line (due_at path awaited ++ dues path.conj.rows due.old)) due.new result }
+    ensures { Settles (take_item (pairing line.now.programs.now) line.now.claims.now line.now.item.now line.now.number (due_at path awaited ++ dues path.conj.rows due.old)) due.new result }
 {
     match awaited {
-        Awaited::Plan => taken(alloc, programs, claims, item, line, path, forms, due),
-        Awaited::Side(row) => take_side(alloc, programs, claims, item, line, path, row, forms, due),
-        Awaited::Classes(classes) => {
-            take_class(
-                alloc, programs, claims, item, line, path, classes, forms, due,
-            )
-        }
-        Awaited::Branches(left) => {
-            take_branch(alloc, programs, claims, item, line, path, left, forms, due)
-        }
-        Awaited::Choosing(choosing) => {
-            choose(
-                alloc,
-                programs.left.params,
-                item,
-                line,
-                path,
-                choosing,
-                forms,
-                due,
-            )
-        }
+        Awaited::Plan => take_at(line, path, forms, due),
+        Awaited::Side(row) => take_side(line, path, row, forms, due),
+        Awaited::Classes(classes) => take_class(line, path, classes, forms, due),
+        Awaited::Branches(left) => take_branch(line, path, left, forms, due),
+        Awaited::Choosing(choosing) => choose(line, path, choosing, forms, due),
     }
 }
 
 /// Takes an item where the path has one row more.
 fn take_side(
-    alloc: Global,
-    programs: &Programs,
-    claims: &[Claim],
-    item: &Item,
-    line: u64,
+    line: &Line,
     path: Path,
     row: Row,
     forms: &mut NormalForms,
     due: &mut Items<Entry>,
 ) -> Result<Items<Row>, TakeStop>
-    requires left { HasModuli programs.now.left.now }
-    requires right { HasModuli programs.now.right.now }
-    requires claims { RowsHaveModuli claims.now }
+    requires line { LineHasModuli line.now }
     requires made { IsWellMade (with_row path.conj row) }
     requires entries { AreEntries path.conj.rows due.old }
-    ensures { Settles (take_item (pairing programs.now) claims.now item.now line (PlanAt (at_rows path (with_row path.conj row)) ∷ dues path.conj.rows due.old)) due.new result }
+    ensures { Settles (take_item (pairing line.now.programs.now) line.now.claims.now line.now.item.now line.now.number (PlanAt (at_rows path (with_row path.conj row)) ∷ dues path.conj.rows due.old)) due.new result }
 {
     let path = longer(path, row)?;
-    taken(alloc, programs, claims, item, line, path, forms, due)
+    take_at(line, path, forms, due)
 }
 
 /// Takes an item at the first of some classes.
 fn take_class(
-    alloc: Global,
-    programs: &Programs,
-    claims: &[Claim],
-    item: &Item,
-    line: u64,
+    line: &Line,
     path: Path,
     classes: Classes,
     forms: &mut NormalForms,
     due: &mut Items<Entry>,
 ) -> Result<Items<Row>, TakeStop>
-    requires left { HasModuli programs.now.left.now }
-    requires right { HasModuli programs.now.right.now }
-    requires claims { RowsHaveModuli claims.now }
-    requires path { IsFormed programs.now.left.now.params path }
+    requires line { LineHasModuli line.now }
+    requires path { IsFormed line.now.programs.now.left.now.params path }
     requires classes { AreClasses path.conj.columns classes }
     requires entries { AreEntries path.conj.rows due.old }
-    ensures { Settles (take_item (pairing programs.now) claims.now item.now line (classes_of path classes ++ dues path.conj.rows due.old)) due.new result }
+    ensures { Settles (take_item (pairing line.now.programs.now) line.now.claims.now line.now.item.now line.now.number (classes_of path classes ++ dues path.conj.rows due.old)) due.new result }
 {
-    let next = first_class(alloc, path, classes, due)?;
-    taken(alloc, programs, claims, item, line, next, forms, due)
+    let next = first_class(line.alloc, path, classes, due)?;
+    take_at(line, next, forms, due)
 }
 
 /// Takes an item at the first of some branches.
 fn take_branch(
-    alloc: Global,
-    programs: &Programs,
-    claims: &[Claim],
-    item: &Item,
-    line: u64,
+    line: &Line,
     path: Path,
     left: Items<Branch>,
     forms: &mut NormalForms,
     due: &mut Items<Entry>,
 ) -> Result<Items<Row>, TakeStop>
-    requires left { HasModuli programs.now.left.now }
-    requires right { HasModuli programs.now.right.now }
-    requires claims { RowsHaveModuli claims.now }
-    requires formed { AreDueFormed programs.now.left.now.params (branches_of path left) }
+    requires line { LineHasModuli line.now }
+    requires formed { AreDueFormed line.now.programs.now.left.now.params (branches_of path left) }
     requires some { left ≢ [] }
     requires entries { AreEntries path.conj.rows due.old }
-    ensures { Settles (take_item (pairing programs.now) claims.now item.now line (branches_of path left ++ dues path.conj.rows due.old)) due.new result }
+    ensures { Settles (take_item (pairing line.now.programs.now) line.now.claims.now line.now.item.now line.now.number (branches_of path left ++ dues path.conj.rows due.old)) due.new result }
 {
     let next = first_branch(path, left, due)?;
-    taken(alloc, programs, claims, item, line, next, forms, due)
+    take_at(line, next, forms, due)
 }

@@ -15,13 +15,13 @@ ghost use Rattle.ac_claims.specs.Judging.{came_of, state_of, IsSteady, SamePair}
 
 use crate::entry::Refusal;
 use crate::front::Front;
-use crate::head::{have_shapes, is_point};
 use crate::item::Item;
-use crate::lines::{refusal_unless, take_claim, take_end, take_output, take_row, take_tree};
+use crate::lines::{
+    take_claim, take_end, take_output, take_point, take_row, take_shapes, take_tree,
+};
 use crate::stack::Stack;
 use crate::types::ProofFault;
 use crate::upcoming::Upcoming;
-use ac_cert::Rule;
 use ac_paths::path::Programs;
 use ac_poly::types::Model;
 use ac_syntax::tree::Pair;
@@ -47,18 +47,9 @@ fn come(
     ensures formed { AreDueFormed programs.now.left.now.params due.new }
 {
     match item {
-        Item::Point(point) => {
-            let holds = is_point(programs.left, point.as_slice());
-            Ok(refusal_unless(holds, line, Rule::Point))
-        }
-        Item::Left(shapes) => {
-            let holds = have_shapes(shapes.as_slice(), programs.left.stmts.as_slice());
-            Ok(refusal_unless(holds, line, Rule::Coords))
-        }
-        Item::Right(shapes) => {
-            let holds = have_shapes(shapes.as_slice(), programs.right.stmts.as_slice());
-            Ok(refusal_unless(holds, line, Rule::Coords))
-        }
+        Item::Point(point) => Ok(take_point(programs.left, point.as_slice(), line)),
+        Item::Left(shapes) => Ok(take_shapes(programs.left, shapes.as_slice(), line)),
+        Item::Right(shapes) => Ok(take_shapes(programs.right, shapes.as_slice(), line)),
         Item::Claims(_) => Ok(None),
         Item::Claim { left, right, .. } => {
             take_claim(alloc, programs, front, *left, *right, line)

@@ -2,42 +2,39 @@
 ghost use Rattle.std.specs.Prelude.{List};
 ghost use Rattle.ac_forms.specs.Rows.{IsWellMade};
 ghost use Rattle.ac_paths.specs.Calls.{pairing};
-ghost use Rattle.ac_paths.specs.Formed.{HasModuli};
-ghost use Rattle.ac_paths.specs.Going.{Pairing};
-ghost use Rattle.ac_claims.specs.Dues.{RowsHaveModuli};
+ghost use Rattle.ac_paths.specs.Made.{HaveIf};
+ghost use Rattle.ac_paths.specs.Standing.{made_and_stand};
+ghost use Rattle.ac_claims.specs.Dues.{LineHasModuli};
 ghost use Rattle.ac_claims.specs.Entries.{AreEntries, Settles, dues};
-ghost use Rattle.ac_claims.specs.Machine.{take_at};
+ghost use Rattle.ac_claims.specs.Machine.{onto_if, take_at};
 ghost use Rattle.ac_claims.specs.declared.entry.Entry.{Entry};
 ghost use Rattle.ac_claims.specs.declared.item.Item.TheVariants as item;
-ghost use Rattle.ac_claims.specs.declared.types.Claim.{Claim};
 
 use crate::cases::take_go;
 use crate::classes::take_residue;
-use crate::ending::{is_hit, is_initial, is_number};
-use crate::entry::{Awaited, Entry, TakeStop};
+use crate::ending::{equal_cells, equal_numbers, is_hit};
+use crate::entry::{Awaited, Entry, Line, TakeStop};
 use crate::item::Item;
 use crate::kills::take_killed;
 use crate::parts::{at_line, awaits, ends_if, longer, push_at};
-use crate::types::Claim;
 use ac_cert::types::Step;
 use ac_cert::{Absurd, End, Rule, apply_onto, rows_of_sides};
 use ac_forms::{Form, Row};
 use ac_items::Items;
-use ac_paths::path::{CopyNumbers, Path, Programs};
+use ac_paths::path::{CopyNumbers, Path};
+use ac_paths::standing::made_and_stand;
 use ac_standing::NormalForms;
-use std::alloc::Global;
 
 /// A step.
 fn take_step(
-    alloc: Global,
+    line: &Line,
     step: &Step,
-    line: u64,
     path: Path,
     due: &mut Items<Entry>,
 ) -> Result<Items<Row>, TakeStop>
     requires made { IsWellMade path.conj }
     requires entries { AreEntries path.conj.rows due.old }
-    ensures { (g : Pairing) (claims : List Claim) → Settles (take_at g claims (item.Step step.now) line path (dues path.conj.rows due.old)) due.new result }
+    ensures { Settles (take_at (pairing line.now.programs.now) line.now.claims.now (item.Step step.now) line.now.number path (dues path.conj.rows due.old)) due.new result }
 {
     let Path {
         conj,
@@ -46,7 +43,7 @@ fn take_step(
         gone,
         last,
     } = path;
-    match apply_onto(alloc, conj, step) {
+    match apply_onto(line.alloc, conj, step) {
         Ok(conj) => {
             let next = Path {
                 conj,
@@ -57,120 +54,114 @@ fn take_step(
             };
             awaits(due, next, Awaited::Plan)
         }
-        Err(stop) => Err(at_line(stop, line)),
+        Err(stop) => Err(at_line(stop, line.number)),
     }
 }
 
 /// A branch by the sign of a form. The second side is due behind the first one.
 fn take_split(
-    alloc: Global,
+    line: &Line,
     form: &Form,
-    line: u64,
     path: Path,
     due: &mut Items<Entry>,
 ) -> Result<Items<Row>, TakeStop>
     requires made { IsWellMade path.conj }
     requires entries { AreEntries path.conj.rows due.old }
-    ensures { (g : Pairing) (claims : List Claim) → Settles (take_at g claims (item.Split form.now) line path (dues path.conj.rows due.old)) due.new result }
+    ensures { Settles (take_at (pairing line.now.programs.now) line.now.claims.now (item.Split form.now) line.now.number path (dues path.conj.rows due.old)) due.new result }
 {
-    match rows_of_sides(alloc, form, path.conj.columns) {
+    match rows_of_sides(line.alloc, form, path.conj.columns) {
         Ok((low, high)) => {
             push_at(due, &path, Awaited::Side(high))?;
             let first = longer(path, low)?;
             awaits(due, first, Awaited::Plan)
         }
-        Err(stop) => Err(at_line(stop, line)),
+        Err(stop) => Err(at_line(stop, line.number)),
     }
 }
 
 /// An end at a row that no point meets.
-fn take_absurd(alloc: Global, row: usize, line: u64, path: Path) -> Result<Items<Row>, TakeStop>
+fn take_absurd(line: &Line, row: usize, path: Path) -> Result<Items<Row>, TakeStop>
     requires { IsWellMade path.conj }
-    ensures { (g : Pairing) (claims : List Claim) (due : List Entry) → AreEntries path.conj.rows due → Settles (take_at g claims (item.Absurd row) line path (dues path.conj.rows due)) due result }
+    ensures { (due : List Entry) → AreEntries path.conj.rows due → Settles (take_at (pairing line.now.programs.now) line.now.claims.now (item.Absurd row) line.now.number path (dues path.conj.rows due)) due result }
 {
     let end = Absurd { row };
-    match end.check(alloc, &(), &path.conj) {
+    match end.check(line.alloc, &(), &path.conj) {
         Ok(()) => Ok(path.conj.rows),
-        Err(stop) => Err(at_line(stop, line)),
+        Err(stop) => Err(at_line(stop, line.number)),
     }
 }
 
 /// An end at a claim.
 fn take_hit(
-    alloc: Global,
-    programs: &Programs,
-    claims: &[Claim],
+    line: &Line,
     claim: usize,
-    line: u64,
     path: Path,
     forms: &mut NormalForms,
 ) -> Result<Items<Row>, TakeStop>
     requires path { IsWellMade path.conj }
-    requires claims { RowsHaveModuli claims.now }
-    ensures { (due : List Entry) → AreEntries path.conj.rows due → Settles (take_at (pairing programs.now) claims.now (item.Hit claim) line path (dues path.conj.rows due)) due result }
+    requires line { LineHasModuli line.now }
+    ensures { (due : List Entry) → AreEntries path.conj.rows due → Settles (take_at (pairing line.now.programs.now) line.now.claims.now (item.Hit claim) line.now.number path (dues path.conj.rows due)) due result }
 {
-    let holds = is_hit(alloc, programs, claims, claim, &path, forms)?;
-    ends_if(holds, line, Rule::Hit, path)
+    let holds = is_hit(line.alloc, line.programs, line.claims, claim, &path, forms)?;
+    ends_if(holds, line.number, Rule::Hit, path)
+}
+
+/// An end where some rows stand on the path, if they were made.
+fn ends_where(
+    line: &Line,
+    rule: Rule,
+    rows: &Option<Items<Row>>,
+    path: Path,
+    forms: &mut NormalForms,
+) -> Result<Items<Row>, TakeStop>
+    requires path { IsWellMade path.conj }
+    requires rows { HaveIf rows.now }
+    ensures { (due : List Entry) → AreEntries path.conj.rows due → Settles (onto_if (made_and_stand path.conj.rows rows.now) line.now.number rule (dues path.conj.rows due)) due result }
+{
+    let holds = made_and_stand(line.alloc, path.conj.rows.as_slice(), rows, forms)?;
+    ends_if(holds, line.number, rule, path)
 }
 
 /// An end at two equal numbers.
-fn take_number(
-    alloc: Global,
-    programs: &Programs,
-    line: u64,
-    path: Path,
-    forms: &mut NormalForms,
-) -> Result<Items<Row>, TakeStop>
+fn take_number(line: &Line, path: Path, forms: &mut NormalForms) -> Result<Items<Row>, TakeStop>
     requires { IsWellMade path.conj }
-    ensures { (claims : List Claim) (due : List Entry) → AreEntries path.conj.rows due → Settles (take_at (pairing programs.now) claims item.Number line path (dues path.conj.rows due)) due result }
+    ensures { (due : List Entry) → AreEntries path.conj.rows due → Settles (take_at (pairing line.now.programs.now) line.now.claims.now item.Number line.now.number path (dues path.conj.rows due)) due result }
 {
-    let holds = is_number(alloc, programs, &path, forms)?;
-    ends_if(holds, line, Rule::Number, path)
+    let rows = equal_numbers(line.alloc, line.programs, &path)?;
+    ends_where(line, Rule::Number, &rows, path, forms)
 }
 
 /// An end at one initial cell of an input.
-fn take_initial(
-    alloc: Global,
-    programs: &Programs,
-    line: u64,
-    path: Path,
-    forms: &mut NormalForms,
-) -> Result<Items<Row>, TakeStop>
+fn take_initial(line: &Line, path: Path, forms: &mut NormalForms) -> Result<Items<Row>, TakeStop>
     requires { IsWellMade path.conj }
-    ensures { (claims : List Claim) (due : List Entry) → AreEntries path.conj.rows due → Settles (take_at (pairing programs.now) claims item.Initial line path (dues path.conj.rows due)) due result }
+    ensures { (due : List Entry) → AreEntries path.conj.rows due → Settles (take_at (pairing line.now.programs.now) line.now.claims.now item.Initial line.now.number path (dues path.conj.rows due)) due result }
 {
-    let holds = is_initial(alloc, programs, &path, forms)?;
-    ends_if(holds, line, Rule::Initial, path)
+    let rows = equal_cells(line.alloc, line.programs, &path)?;
+    ends_where(line, Rule::Initial, &rows, path, forms)
 }
 
 /// An item at a path where a plan is due; one that is none of a plan leaves what is due. Gives the rows of the path that is
 /// under way then.
-pub(crate) fn taken(
-    alloc: Global,
-    programs: &Programs,
-    claims: &[Claim],
-    item: &Item,
-    line: u64,
+pub(crate) fn take_at(
+    line: &Line,
     path: Path,
     forms: &mut NormalForms,
     due: &mut Items<Entry>,
 ) -> Result<Items<Row>, TakeStop>
-    requires left { HasModuli programs.now.left.now }
-    requires right { HasModuli programs.now.right.now }
-    requires claims { RowsHaveModuli claims.now }
+    requires line { LineHasModuli line.now }
     requires made { IsWellMade path.conj }
     requires entries { AreEntries path.conj.rows due.old }
-    ensures { Settles (take_at (pairing programs.now) claims.now item.now line path (dues path.conj.rows due.old)) due.new result }
+    ensures { Settles (take_at (pairing line.now.programs.now) line.now.claims.now line.now.item.now line.now.number path (dues path.conj.rows due.old)) due.new result }
 {
-    match item {
-        Item::Step(step) => take_step(alloc, step, line, path, due),
-        Item::Split(form) => take_split(alloc, form, line, path, due),
-        Item::Residue(modulus, form) => take_residue(alloc, modulus, form, line, path, due),
-        Item::Go { order, cases } => take_go(alloc, programs, *order, *cases, line, path, due),
-        Item::Absurd(row) => take_absurd(alloc, *row, line, path),
-        Item::Hit(claim) => take_hit(alloc, programs, claims, *claim, line, path, forms),
-        Item::Number => take_number(alloc, programs, line, path, forms),
-        Item::Initial => take_initial(alloc, programs, line, path, forms),
+    match line.item {
+        Item::Step(step) => take_step(line, step, path, due),
+        Item::Split(form) => take_split(line, form, path, due),
+        Item::Residue(modulus, form) => take_residue(line, modulus, form, path, due),
+        Item::Go { order, cases } => take_go(line, *order, *cases, path, due),
+        Item::Absurd(row) => take_absurd(line, *row, path),
+        Item::Hit(claim) => take_hit(line, *claim, path, forms),
+        Item::Number => take_number(line, path, forms),
+        Item::Initial => take_initial(line, path, forms),
         Item::Killed {
             stmt,
             piece,
@@ -184,7 +175,7 @@ pub(crate) fn taken(
                 after: *after,
                 before: *before,
             };
-            take_killed(alloc, programs, &numbers, *choices, line, path, forms, due)
+            take_killed(line, &numbers, *choices, path, forms, due)
         }
         _ => awaits(due, path, Awaited::Plan),
     }

@@ -1,4 +1,5 @@
 use Rattle.std.proofs.Common.{◌≡◌, ◌++◌, pos, ap, ◌∙◌, refl, sym, subst}
+use Rattle.ac_paths.specs.Calls.{pairing}
 use Rattle.ac_claims.specs.Entries.{AreClasses, classes_of, dues}
 use Rattle.ac_claims.specs.Machine.{Onto}
 use Rattle.ac_claims.specs.declared.entry.Classes.{Classes}
@@ -13,9 +14,9 @@ awaits-requires-clause-due c =
     subst (AreClasses c.args.path.conj.columns) (sym e) (are_classes c.args.path.conj.columns d (sym c.in_ok-has_residues.ensures ∙ c.if-not-branch.false) refl)
 
 pub returns : goal.returns
-returns c = λ g cs.
+returns c =
     let d : Classes = record { modulus = c.args.modulus.now; form = c.args.form.now; next = pos 0 } in
     let e : c.all_classes-classes.result ≡ d = c.all_classes-classes.ensures ∙ (λ i. record { modulus = c.args.modulus.now; form = c.in_ok-form.ensures i; next = pos 0 }) in
     settles_as _ _ c.awaits.new.due c.awaits.result
-    (residue_taken g cs c.args.path d c.args.line (dues c.args.path.conj.rows c.args.due.now) (sym c.in_ok-has_residues.ensures ∙ c.if-not-branch.false) refl ∙ ap (λ (x : Classes). Onto (classes_of c.args.path x ++ dues c.args.path.conj.rows c.args.due.now)) (sym e))
+    (residue_taken (pairing c.args.line.now.programs.now) c.args.line.now.claims.now c.args.path d c.args.line.now.number (dues c.args.path.conj.rows c.args.due.now) (sym c.in_ok-has_residues.ensures ∙ c.if-not-branch.false) refl ∙ ap (λ (x : Classes). Onto (classes_of c.args.path x ++ dues c.args.path.conj.rows c.args.due.now)) (sym e))
     c.awaits.ensures

@@ -7,6 +7,6 @@ use Rattle.ac_claims.proofs.stack.take_entry.Goals as goal
 
 pub take_class-requires-clause-path : goal.take_class-requires-clause-path
 take_class-requires-clause-path c =
-    of_classes c.args.programs.now.left.now.params c.args.path c.in-Classes.classes
+    of_classes c.args.line.now.programs.now.left.now.params c.args.path c.in-Classes.classes
     (subst (HasDues c.args.path.conj.columns) c.in-Classes.is c.requires.some)
-    (subst (λ (a : Awaited). AreDueFormed c.args.programs.now.left.now.params (due_at c.args.path a)) c.in-Classes.is c.requires.formed)
+    (subst (λ (a : Awaited). AreDueFormed c.args.line.now.programs.now.left.now.params (due_at c.args.path a)) c.in-Classes.is c.requires.formed)

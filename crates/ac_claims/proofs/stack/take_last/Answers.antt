@@ -3,7 +3,7 @@ use Rattle.ac_claims.proofs.Entering.{formed_last, ongoing_last, ongoing_front, 
 use Rattle.ac_claims.proofs.stack.take_last.Goals as goal
 
 pub advance-requires-clause-formed : goal.advance-requires-clause-formed
-advance-requires-clause-formed c = formed_last c.args.programs.now.left.now.params c.args.ongoing.now c.pop.new.self c.in-Some.plan c.in-Some.ensures c.requires.formed
+advance-requires-clause-formed c = formed_last c.args.line.now.programs.now.left.now.params c.args.ongoing.now c.pop.new.self c.in-Some.plan c.in-Some.ensures c.requires.formed
 
 pub advance-requires-clause-entries : goal.advance-requires-clause-entries
 advance-requires-clause-entries c = (ongoing_last c.args.ongoing.now c.pop.new.self c.in-Some.plan c.in-Some.ensures c.requires.ongoing).entries
@@ -16,9 +16,9 @@ keep-requires-clause-ongoing c = ongoing_front c.args.ongoing.now c.pop.new.self
 
 pub returns-in_ok-keep-in-Ok-clause-settles : goal.returns-in_ok-keep-in-Ok-clause-settles
 returns-in_ok-keep-in-Ok-clause-settles c =
-    last_goes_on (pairing c.args.programs.now) c.args.claims.now c.args.item.now c.args.line c.args.ongoing.now c.pop.new.self c.keep.new.ongoing c.in-Some.plan c.in-Ok.rows c.advance.new.due
+    last_goes_on (pairing c.args.line.now.programs.now) c.args.line.now.claims.now c.args.line.now.item.now c.args.line.now.number c.args.ongoing.now c.pop.new.self c.keep.new.ongoing c.in-Some.plan c.in-Ok.rows c.advance.new.due
     c.in-Some.ensures c.requires.ongoing c.in-Ok.ensures.0 c.in_ok-keep-in-Ok.ensures.dues
 
 pub returns-in-Err-clause-settles : goal.returns-in-Err-clause-settles
 returns-in-Err-clause-settles c =
-    last_stops (pairing c.args.programs.now) c.args.claims.now c.args.item.now c.args.line c.args.ongoing.now c.pop.new.self c.pop.new.self c.in-Some.plan c.advance.new.due c.in-Err.stop c.in-Some.ensures c.requires.ongoing c.in-Err.ensures
+    last_stops (pairing c.args.line.now.programs.now) c.args.line.now.claims.now c.args.line.now.item.now c.args.line.now.number c.args.ongoing.now c.pop.new.self c.pop.new.self c.in-Some.plan c.advance.new.due c.in-Err.stop c.in-Some.ensures c.requires.ongoing c.in-Err.ensures

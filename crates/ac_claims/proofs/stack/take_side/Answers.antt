@@ -13,12 +13,12 @@ longer-requires-clause-made c = (made_front c.args.path.conj c.args.row c.requir
 pub longer-requires-clause-over : goal.longer-requires-clause-over
 longer-requires-clause-over c = (made_front c.args.path.conj c.args.row c.requires.made).1
 
-pub taken-requires-clause-made : goal.taken-requires-clause-made
-taken-requires-clause-made c = subst (λ (p : Path). IsWellMade p.conj) (sym c.in_ok-path.ensures) c.requires.made
+pub take_at-requires-clause-made : goal.take_at-requires-clause-made
+take_at-requires-clause-made c = subst (λ (p : Path). IsWellMade p.conj) (sym c.in_ok-path.ensures) c.requires.made
 
-pub taken-requires-clause-entries : goal.taken-requires-clause-entries
-taken-requires-clause-entries c = row_entries c.args.path c.in_ok-path.path c.args.row c.args.due.now c.in_ok-path.ensures c.requires.entries
+pub take_at-requires-clause-entries : goal.take_at-requires-clause-entries
+take_at-requires-clause-entries c = row_entries c.args.path c.in_ok-path.path c.args.row c.args.due.now c.in_ok-path.ensures c.requires.entries
 
 pub returns : goal.returns
 returns c =
-    side_settles (pairing c.args.programs.now) c.args.claims.now c.args.item.now c.args.line c.args.path c.in_ok-path.path c.args.row c.args.due.now c.taken.new.due c.taken.result c.in_ok-path.ensures c.requires.entries c.taken.ensures
+    side_settles (pairing c.args.line.now.programs.now) c.args.line.now.claims.now c.args.line.now.item.now c.args.line.now.number c.args.path c.in_ok-path.path c.args.row c.args.due.now c.take_at.new.due c.take_at.result c.in_ok-path.ensures c.requires.entries c.take_at.ensures

@@ -8,5 +8,8 @@ use Rattle.ac_claims.proofs.taking.take_hit.Goals as goal
 pub is_hit-requires-clause-path : goal.is_hit-requires-clause-path
 is_hit-requires-clause-path c = conj_moduli c.args.path.conj c.requires.path
 
+pub is_hit-requires-clause-claims : goal.is_hit-requires-clause-claims
+is_hit-requires-clause-claims c = c.requires.line.claims
+
 pub returns : goal.returns
-returns c = λ due a. subst (λ (b : Bool). Settles (onto_if b c.args.line rule.Hit (dues c.args.path.conj.rows due)) due c.ends_if.result) c.in_ok-holds.ensures (c.ends_if.ensures due a)
+returns c = λ due a. subst (λ (b : Bool). Settles (onto_if b c.args.line.now.number rule.Hit (dues c.args.path.conj.rows due)) due c.ends_if.result) c.in_ok-holds.ensures (c.ends_if.ensures due a)

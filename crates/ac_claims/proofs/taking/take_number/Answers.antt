@@ -1,12 +1,12 @@
-use Rattle.std.proofs.Common.{Bool, subst}
+use Rattle.std.proofs.Common.{List, Option, subst}
 use Rattle.ac_cert.specs.declared.types.Rule.TheVariants as rule
-use Rattle.ac_paths.proofs.Moduli.{conj_moduli}
+use Rattle.ac_forms.specs.declared.row.Row.{Row}
+use Rattle.ac_paths.specs.Standing.{made_and_stand}
 use Rattle.ac_claims.specs.Entries.{Settles, dues}
 use Rattle.ac_claims.specs.Machine.{onto_if}
 use Rattle.ac_claims.proofs.taking.take_number.Goals as goal
 
-pub is_number-requires : goal.is_number-requires
-is_number-requires c = conj_moduli c.args.path.conj c.requires
-
 pub returns : goal.returns
-returns c = λ claims due a. subst (λ (b : Bool). Settles (onto_if b c.args.line rule.Number (dues c.args.path.conj.rows due)) due c.ends_if.result) c.in_ok-holds.ensures (c.ends_if.ensures due a)
+returns c = λ due a.
+    subst (λ (o : Option (List Row)). Settles (onto_if (made_and_stand c.args.path.conj.rows o) c.args.line.now.number rule.Number (dues c.args.path.conj.rows due)) due c.ends_where.result) c.in_ok-rows.ensures.value
+    (c.ends_where.ensures due a)

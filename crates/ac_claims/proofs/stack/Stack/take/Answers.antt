@@ -5,6 +5,9 @@ use Rattle.ac_claims.specs.Entries.{all_dues}
 use Rattle.ac_claims.proofs.DueForms.{taken_formed}
 use Rattle.ac_claims.proofs.stack.Stack.take.Goals as goal
 
+pub take_last-requires-clause-line : goal.take_last-requires-clause-line
+take_last-requires-clause-line c = record { left = c.requires.left; right = c.requires.right; claims = c.requires.claims }
+
 pub take_last-requires-clause-formed : goal.take_last-requires-clause-formed
 take_last-requires-clause-formed c = subst (AreDueFormed c.args.programs.now.left.now.params) (sym c.self.view_is) c.requires.formed
 
