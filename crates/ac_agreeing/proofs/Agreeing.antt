@@ -21,7 +21,7 @@ use Rattle.ac_paths.specs.Executions.{Execution, At, Describes, execution}
 use Rattle.ac_paths.specs.OnPaths.{Compared}
 use Rattle.ac_forms.specs.Members.{IsAmong}
 use Rattle.ac_paths.specs.Pairs.{Placed, IsReader, IsResolved, ResolvesTo, IsMatch, ArgumentsMeet, StepsTo}
-use Rattle.ac_paths.proofs.Stepping.{at_once}
+use Rattle.ac_paths.proofs.ReaderSteps.{at_once}
 use Rattle.ac_claims.specs.Soundness.{TermsAgree}
 use Rattle.ac_claims.proofs.Central.{reads_value}
 use Rattle.ac_graph.specs.Steps.{IsCompared, comparison, LeftPlaced, RightPlaced}

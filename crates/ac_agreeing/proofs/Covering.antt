@@ -40,7 +40,7 @@ use Rattle.ac_graph.proofs.Standing.{call_there, call_of_place}
 use Rattle.ac_widen.specs.Obligations.{Obligation, HasMismatch, step}
 use Rattle.ac_graph.proofs.SiteSteps.{symbol_self}
 use Rattle.ac_setting.specs.Programs.{IsPlaced, is_site_key, may_swap, order_at, setting}
-use Rattle.ac_agreeing.specs.Statements.{HaveArities}
+use Rattle.ac_syntax.specs.ExecutedCalls.{HaveArities}
 use Rattle.ac_agreeing.proofs.Reading.{reader_kind, resolve, left_reads, right_reads}
 use Rattle.ac_agreeing.proofs.Shapes.{Shape, is_number, is_call, is_start, left_state, right_state, shape, head_of_match, heads, one_leaf}
 use Rattle.ac_agreeing.proofs.Terms.{SameHead}

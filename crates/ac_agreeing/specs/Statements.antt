@@ -1,22 +1,15 @@
 -- What the obligations of outputs say of their terms, and agreeing terms of obligations.
-use Rattle.std.specs.Prelude.{ℕ, ◌≡◌, ℤ, List, [], length, Bool, true, false, Some, nat_eq}
+use Rattle.std.specs.Prelude.{ℕ, ◌≡◌, List, [], Bool, true, false, nat_eq}
 use Rattle.std.specs.List.{list_any}
 use Rattle.ac_forms.specs.declared.row.Row.{Row}
-use Rattle.ac_syntax.specs.Nodes.{node_of}
-use Rattle.ac_syntax.specs.Source.{Writer, Stands}
-use Rattle.ac_syntax.specs.Trace.{trace_of}
 use Rattle.ac_syntax.specs.declared.tree.Order.{Order}
 use Rattle.ac_syntax.specs.declared.tree.Pair.{Pair}
-use Rattle.ac_syntax.specs.declared.tree.Place.{Place}
 use Rattle.ac_syntax.specs.declared.tree.Position.{Position}
-use Rattle.ac_syntax.specs.declared.tree.Stmt.{Stmt}
-use Rattle.ac_syntax.specs.declared.tree.Symbol.{Symbol}
-use Rattle.ac_syntax.specs.declared.tree.Value.{Value}
-use Rattle.ac_syntax.specs.declared.tree.Value.TheVariants.{Call}
 use Rattle.ac_forms.specs.Members.{IsAmong}
 use Rattle.ac_claims.specs.Soundness.{ArePaired, TermsAgree}
 use Rattle.ac_graph.specs.Steps.{HaveOutputs}
 use Rattle.ac_setting.specs.Programs.{setting}
+use Rattle.ac_syntax.specs.ExecutedCalls.{HaveArities}
 use Rattle.ac_widen.specs.Obligations.{HasMismatch}
 
 -- where the terms of each output agree, no obligation is a mismatch, if no pair is widened and no function is declared commutative
@@ -24,11 +17,6 @@ abbrev pub AgreeingTermsHaveNoMismatch : Type 0
 AgreeingTermsHaveNoMismatch =
     (pair : Pair) (outputs : List ℕ) (recurrent : Position × Position → Bool) (template : Position × Position → List Row) → ((key : Position × Position) → recurrent key ≡ false) → pair.commutative ≡ [] → ((o : ℕ) → IsAmong o outputs → TermsAgree pair o)
     → (order : Position × Position → Order) → ¬ (HasMismatch (setting pair outputs recurrent template) order)
-
--- each call of an assignment that is executed has as many arguments as its symbol says
-abbrev pub HaveArities : List Stmt → Type 0
-HaveArities body =
-    (params : List ℤ) (w : Writer) → Stands (trace_of body params) w → (k : ℕ) (f : Symbol) (args : List Value) (place : Place) → node_of w.entry.value k ≡ Some (Call f args place) → length args ≡ f.arity
 
 -- outputs of the pair, which are inputs with at least one dimension in both programs
 pub record AreOutputs (pair : Pair) (outputs : List ℕ) : Type 0 where

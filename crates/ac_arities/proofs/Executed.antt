@@ -12,8 +12,8 @@ use Rattle.ac_syntax.specs.declared.tree.Value.TheVariants.{Number, Access, Call
 use Rattle.ac_syntax.specs.declared.tree.Stmt.{Stmt, Row_of-Stmt, end_of-Stmt, more_of-Stmt}
 use Rattle.ac_syntax.specs.declared.tree.Stmt.TheVariants.{For', If', Assign}
 use Rattle.ac_syntax.proofs.Texts.{entry_text}
-use Rattle.ac_choices.proofs.Keeping.{some-is}
-use Rattle.ac_agreeing.specs.Statements.{HaveArities}
+use Rattle.ac_items.proofs.Options.{some-is}
+use Rattle.ac_syntax.specs.ExecutedCalls.{HaveArities}
 use Rattle.ac_arities.specs.Arities.{count, HasArities, EachHasArities, AssignsArities, EachAssignsArities, AllHaveArities}
 use Rattle.ac_arities.proofs.Built.{count_row}
 

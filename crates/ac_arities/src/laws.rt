@@ -5,7 +5,7 @@ ghost use Rattle.ac_syntax.specs.declared.tree.Stmt.{Stmt};
 ghost use Rattle.ac_grammar.specs.declared.tree.File.{File};
 ghost use Rattle.ac_rules.specs.Files.{file_broken, program_of};
 ghost use Rattle.ac_parse.specs.Program.{IsProgramOf};
-ghost use Rattle.ac_agreeing.specs.Statements.{HaveArities};
+ghost use Rattle.ac_syntax.specs.ExecutedCalls.{HaveArities};
 ghost use Rattle.ac_arities.specs.Arities.{AllHaveArities};
 
 /// In the program of a file that breaks no rule each call has as many arguments as its symbol says.

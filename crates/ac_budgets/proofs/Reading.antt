@@ -10,7 +10,7 @@ use Rattle.ac_syntax.specs.declared.tree.Position.TheVariants.{Output, Node}
 use Rattle.ac_poly.specs.Model.{IsCellIn, ReadsCellIn, CellsHaveDimensions}
 use Rattle.ac_poly.specs.declared.types.Model.{Model}
 use Rattle.ac_poly.specs.declared.types.NodeModel.TheVariants.{Read}
-use Rattle.ac_choices.proofs.Keeping.{some-is}
+use Rattle.ac_items.proofs.Options.{some-is}
 use Rattle.ac_paths.specs.Coordinates.{width}
 use Rattle.ac_forms.specs.Members.{IsAmong}
 use Rattle.ac_paths.specs.Places.{element_forms, extent_rows}

@@ -9,7 +9,7 @@ use Rattle.ac_forms.specs.declared.row.Row.{Row}
 use Rattle.ac_poly.specs.Columns.{CanBound}
 use Rattle.ac_poly.specs.Model.{CellsHaveDimensions}
 use Rattle.ac_poly.specs.declared.types.Model.{Model}
-use Rattle.ac_choices.proofs.Keeping.{some-is}
+use Rattle.ac_items.proofs.Options.{some-is}
 use Rattle.ac_refutations.specs.declared.strategy.Strategy.{Strategy}
 use Rattle.ac_refutations.specs.declared.strategy.Strategy.TheVariants.{Full as Fully, Economical}
 use Rattle.ac_kills.specs.Causes.{IsKillRow, IsFurther, Itself, OfNegation, AreFurther, IsCutCase, CutStops}

@@ -9,3 +9,4 @@ pub mod Assignments
 pub mod Listed
 pub mod Statements
 pub mod Programs
+pub mod RoundTrip

@@ -1,3 +1,4 @@
+ghost use Rattle.ac_canonical_readable.specs.RoundTrip.{CanonicalTextsAreReadBack};
 ghost use Rattle.ac_canonical_readable.specs.Laws.{ConditionsAreReadable, FormsAreReadable, ProgramsAreReadable};
 
 /// Where no rule is broken in an index expression, each coefficient other than 0 of its form belongs to a name that stands for
@@ -17,4 +18,10 @@ pub fn conditions_are_readable()
 /// step other than 0 and a comparison that ends it.
 pub fn programs_are_readable()
     ensures { ProgramsAreReadable }
+{}
+
+/// The canonical text of the program of a text, as `print_program` of ac_syntax prints it, is a text of the same program but for
+/// places, if it keeps the limits on bytes and nesting: no more than 65,536 bytes, and constructs that nest at most 128 deep.
+pub fn canonical_texts_are_read_back()
+    ensures { CanonicalTextsAreReadBack }
 {}

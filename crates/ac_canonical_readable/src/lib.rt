@@ -6,4 +6,4 @@
 
 mod laws;
 
-pub use laws::{conditions_are_readable, forms_are_readable, programs_are_readable};
+pub use laws::{canonical_texts_are_read_back, conditions_are_readable, forms_are_readable, programs_are_readable};

@@ -9,8 +9,9 @@ use Rattle.ac_forms.specs.Rows.{Holds, IsRowOver, IsWellMade}
 use Rattle.ac_forms.specs.declared.conj.Conj.{Conj}
 use Rattle.ac_forms.specs.declared.row.Row.{Row}
 use Rattle.ac_forms.specs.declared.row.Row.TheVariants.{Div, Ge}
-use Rattle.ac_choices.proofs.Keeping.{bind-some, map-some, if-some, some-is, made-push}
-use Rattle.ac_choices.proofs.Truths.{and-true, le-true}
+use Rattle.ac_choices.proofs.Keeping.{made-push}
+use Rattle.ac_items.proofs.Options.{bind-some, map-some, if-some, some-is}
+use Rattle.ac_items.proofs.Truths.{and-true, le-true}
 use Rattle.ac_cert.specs.Accepted.{Accepts, AcceptsEach, IsSplit, after_steps}
 use Rattle.ac_cert.specs.Apart.{AcceptsNext, IsOnto}
 use Rattle.ac_cert.specs.Faults.{Refusal, later, step_fault, path_fault, split_fault, fault_of, tree_fault, kids_fault, size_of}

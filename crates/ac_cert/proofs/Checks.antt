@@ -5,7 +5,7 @@ use Rattle.ac_forms.specs.Fits.{fits}
 use Rattle.ac_forms.specs.Rows.{IsWellMade}
 use Rattle.ac_forms.specs.declared.conj.Conj.{Conj}
 use Rattle.ac_forms.specs.declared.row.Row.{Row}
-use Rattle.ac_choices.proofs.Truths.{and-true}
+use Rattle.ac_items.proofs.Truths.{and-true}
 use Rattle.ac_cert.specs.declared.types.Step.{Step}
 use Rattle.ac_cert.specs.declared.types.TreeFault.{TreeFault}
 use Rattle.ac_cert.specs.declared.types.TreeFault.TheVariants as fault

@@ -6,7 +6,7 @@ use Rattle.ac_forms.specs.Affine.{Affine}
 use Rattle.ac_forms.specs.Rows.{IsWellMade}
 use Rattle.ac_forms.specs.declared.conj.Conj.{Conj}
 use Rattle.ac_choices.specs.Points.{IsPoint}
-use Rattle.ac_choices.proofs.Keeping.{bind-some, some-is}
+use Rattle.ac_items.proofs.Options.{bind-some, some-is}
 use Rattle.ac_cert.specs.declared.types.Step.{Step}
 use Rattle.ac_cert.specs.declared.types.Next.{Next, Split, Residue}
 use Rattle.ac_cert.specs.declared.types.Tree.{Tree, roll-Tree}

@@ -24,8 +24,9 @@ use Rattle.ac_forms.specs.declared.row.Row.{Row}
 use Rattle.ac_forms.specs.declared.row.Row.TheVariants.{Eq, Div, Ge}
 use Rattle.ac_forms.proofs.Values.{value_at-scaled}
 use Rattle.ac_choices.specs.Combination.{combination}
-use Rattle.ac_choices.proofs.Truths.{and-true, le-true}
-use Rattle.ac_choices.proofs.Keeping.{bind-some, map-some, if-some, unless-some, some-is, Meets-push, made-push, row-holds, row-made, combination-within, combination-value}
+use Rattle.ac_items.proofs.Truths.{and-true, le-true}
+use Rattle.ac_choices.proofs.Keeping.{Meets-push, made-push, row-holds, row-made, combination-within, combination-value}
+use Rattle.ac_items.proofs.Options.{bind-some, map-some, if-some, unless-some, some-is}
 use Rattle.ac_cert.specs.AbsurdLaw.{no_terms}
 use Rattle.ac_cert.specs.Points.{Keeps}
 use Rattle.ac_cert.specs.Rules.{multiple_of, with_row, term_form, sum_from, is_equality, are_equalities, zero_form, sum_row, divides_each, quotient_form, cut_row, greater_modulus, div_scale_row, div_add_row, div_mod_stands, divides_form, reduced_row, div_mod_row, div_eq_row, all_zero, is_zero, eq_cut_row}

@@ -19,8 +19,9 @@ use Rattle.ac_forms.specs.declared.row.Row.TheVariants.{Eq, Div, Ge}
 use Rattle.ac_forms.proofs.Negations.{length-with_column, value-with_column}
 use Rattle.ac_forms.proofs.Values.{value_at-scaled}
 use Rattle.ac_choices.specs.Points.{IsPoint}
-use Rattle.ac_choices.proofs.Truths.{and-true, le-true}
-use Rattle.ac_choices.proofs.Keeping.{bind-some, map-some, if-some, some-is, Meets-append, Meets-push, made-push, made-more, row-holds, row-made}
+use Rattle.ac_items.proofs.Truths.{and-true, le-true}
+use Rattle.ac_choices.proofs.Keeping.{Meets-append, Meets-push, made-push, made-more, row-holds, row-made}
+use Rattle.ac_items.proofs.Options.{bind-some, map-some, if-some, some-is}
 use Rattle.ac_cert.specs.Points.{Extends, Keeps}
 use Rattle.std.specs.Prelude.{Result, Ok, Err, IfOk}
 use Rattle.ac_forms.specs.Stops.{GivenOf}

@@ -11,7 +11,7 @@ use Rattle.ac_forms.specs.declared.row.Row.TheVariants.{Eq, Div, Ge}
 use Rattle.ac_choices.specs.declared.column.Bound.{Bound}
 use Rattle.ac_choices.specs.Bounds.{without, is_low, is_high, low_bound, high_bound, lows, highs, rows_without, only_bounds}
 use Rattle.ac_forms.specs.Columns.{has_column}
-use Rattle.ac_choices.proofs.Truths.{and-true}
+use Rattle.ac_items.proofs.Truths.{and-true}
 use Rattle.ac_choices.proofs.OneColumn.{AreFree, value-split, value-free, holds-free, has-not, coef-without}
 
 -- v meets each lower bound at the point

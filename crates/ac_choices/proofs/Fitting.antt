@@ -5,7 +5,7 @@ use Rattle.ac_forms.specs.Fits.{Fits, fits, all_fit}
 use Rattle.ac_forms.specs.Tests.{can_combine, can_evaluate}
 use Rattle.ac_forms.proofs.Twins.{fits-is, and-is, all_fit-is, can_evaluate-is}
 use Rattle.ac_choices.specs.Combination.{combination}
-use Rattle.ac_choices.proofs.Truths.{test-false}
+use Rattle.ac_items.proofs.Truths.{test-false}
 
 and-three : {P Q R : Type 0} (a b c : Bool) → (a ≡ true) ↔ P → (b ≡ true) ↔ Q → (c ≡ true) ↔ R → ((a && (b && c)) ≡ true) ↔ (P × Q × R)
 and-three true true c h k l = ((λ e. (h.0 refl, k.0 refl, l.0 e)), (λ t. l.1 t.2))

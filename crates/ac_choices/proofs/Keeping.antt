@@ -1,6 +1,7 @@
--- Results that may be missing, rows that stay well made and hold, and combinations of two forms.
+-- Rows that stay well made and hold, and combinations of two forms.
 use Rattle.std.proofs.Common.{◌≡◌, ℕ, zero, suc, ◌+◌, ◌≤◌, ℤ, ◌+ℤ◌, ◌*ℤ◌, List, [], ◌∷◌, ◌++◌, length, Option, Some, None, Bool, true, false, cond, slice_get, refl, sym, ap, ◌∙◌, subst, arith}
 use Rattle.std.specs.Prelude.{option_and_then, option_map}
+use Rattle.ac_items.proofs.Options.{if-some, some-is}
 use Rattle.ac_integers.specs.Dot.{mix}
 use Rattle.ac_forms.specs.Affine.{Affine, value_at, combined}
 use Rattle.ac_forms.specs.Rows.{form_of, Holds, Meets, IsRowOver, AreRowsOver}
@@ -9,25 +10,6 @@ use Rattle.ac_forms.specs.declared.row.Row.{Row}
 use Rattle.ac_forms.specs.declared.row.Row.TheVariants.{Eq, Div, Ge}
 use Rattle.ac_forms.proofs.Values.{value_at-combined, value_at-append}
 use Rattle.ac_choices.specs.Combination.{combination}
-
-pub bind-some : {A B : Type 0} (o : Option A) (f : A → Option B) (z : B) → option_and_then f o ≡ Some z → (x : A) × (o ≡ Some x) × (f x ≡ Some z)
-bind-some None f z e = absurd cc
-bind-some (Some x) f z e = (x, refl, e)
-
-pub map-some : {A B : Type 0} (o : Option A) (f : A → B) (z : B) → option_map f o ≡ Some z → (x : A) × (o ≡ Some x) × (z ≡ f x)
-map-some None f z e = absurd cc
-map-some (Some x) f z e = (x, refl, cc)
-
-pub if-some : {A : Type 0} (b : Bool) (o : Option A) (z : A) → cond b o None ≡ Some z → (b ≡ true) × (o ≡ Some z)
-if-some true o z e = (refl, e)
-if-some false o z e = absurd cc
-
-pub unless-some : {A : Type 0} (b : Bool) (o : Option A) (z : A) → cond b None o ≡ Some z → (b ≡ false) × (o ≡ Some z)
-unless-some true o z e = absurd cc
-unless-some false o z e = (refl, e)
-
-pub some-is : {A : Type 0} (x y : A) → Some x ≡ Some y → x ≡ y
-some-is x y e = cc
 
 -- further columns and rows
 Holds-append : (r : Row) (p more : List ℤ) → length (form_of r).coefs ≤ length p → Holds r p → Holds r (p ++ more)

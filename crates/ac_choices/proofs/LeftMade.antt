@@ -33,7 +33,7 @@ use Rattle.ac_choices.specs.Choices.{column_of, are_absurd, is_equality_of, allo
 use Rattle.ac_choices.specs.ChoiceFits.{raw, choice_fits}
 use Rattle.ac_choices.specs.LeftRows.{AreBoundsOver}
 use Rattle.ac_choices.proofs.Keeping.{row-made, made-push}
-use Rattle.ac_choices.proofs.Truths.{and-true, test-false}
+use Rattle.ac_items.proofs.Truths.{and-true, test-false}
 
 -- lengths
 trim_onto-length : (c : ℤ) (ds : List ℤ) → length (trim_onto c ds) ≤ suc (length ds)

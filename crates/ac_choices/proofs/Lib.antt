@@ -1,4 +1,3 @@
-pub mod Truths
 pub mod Fitting
 pub mod Keeping
 pub mod OneColumn

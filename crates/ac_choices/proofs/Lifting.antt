@@ -17,8 +17,8 @@ use Rattle.ac_choices.specs.Points.{IsPoint}
 use Rattle.ac_choices.specs.Bounds.{lows, highs, rows_without, only_bounds, is_one_sided}
 use Rattle.ac_choices.specs.Choices.{column_of, removes, are_absurd, allows, is_legal, left_by, lifted, shadow_form, shadows_with, shadows, splinter, low_values, high_values, between, solved}
 use Rattle.ac_choices.specs.ChoiceFits.{choice_fits, raw, after_choice}
-use Rattle.ac_choices.proofs.Keeping.{if-some, some-is}
-use Rattle.ac_choices.proofs.Truths.{and-true}
+use Rattle.ac_items.proofs.Options.{if-some, some-is}
+use Rattle.ac_items.proofs.Truths.{and-true}
 use Rattle.ac_choices.proofs.OneColumn.{AreFree, meets-free, meets-first, meets-second, free-append, coef-combined}
 use Rattle.ac_choices.proofs.ColumnParts.{AreApart, rows_without-free, lows-apart, highs-apart}
 use Rattle.ac_choices.proofs.DarkShadows.{between-lifts, one-sided}

@@ -17,7 +17,7 @@ use Rattle.ac_choices.specs.Choices.{rest_at, low_values, high_values, greatest,
 use Rattle.ac_choices.specs.ChoiceFits.{low_values_fit, high_values_fit, between_fits}
 use Rattle.ac_choices.specs.Extremes.{greater, lesser, greatest_from, least_from}
 use Rattle.ac_choices.proofs.Parts.{drop-at}
-use Rattle.ac_choices.proofs.Truths.{and-true}
+use Rattle.ac_items.proofs.Truths.{and-true}
 
 -- divisors are positive
 pub low_divisor : (z : ℕ) (f : Affine) → is_low z f ≡ true → pos 1 ≤ℤ coef z f

@@ -8,7 +8,7 @@ use Rattle.ac_forms.specs.declared.conj.Conj.{Conj}
 use Rattle.ac_forms.specs.declared.row.Row.{Row}
 use Rattle.ac_cert.proofs.Behind.{step-onto}
 use Rattle.ac_cert.specs.Ends.{absurd_refusal}
-use Rattle.ac_choices.proofs.Keeping.{map-some}
+use Rattle.ac_items.proofs.Options.{map-some}
 use Rattle.ac_cert.proofs.StepRules.{step-keeps, sides-keep, class-over}
 use Rattle.ac_cert.specs.Rules.{after_step, both_sides, class, has_class, rule_of, side_rows, with_row}
 use Rattle.ac_cert.specs.declared.types.Rule.{Rule}

@@ -23,7 +23,8 @@ use Rattle.ac_poly.proofs.Whole.{has_context}
 use Rattle.ac_poly.specs.declared.types.Model.{Model}
 use Rattle.ac_cert.specs.Faults.{first_fault_of}
 use Rattle.ac_cert.specs.declared.types.Rule.TheVariants as rule
-use Rattle.ac_choices.proofs.Keeping.{map-some, Meets-append}
+use Rattle.ac_choices.proofs.Keeping.{Meets-append}
+use Rattle.ac_items.proofs.Options.{map-some}
 use Rattle.ac_cert.proofs.Soundness.{first-none}
 use Rattle.ac_forms.specs.Renaming.{picked}
 use Rattle.ac_paths.specs.Columns.{columns_of, equal_forms}

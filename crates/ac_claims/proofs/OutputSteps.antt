@@ -10,7 +10,7 @@ use Rattle.ac_forms.proofs.Passes.{moduli_of}
 use Rattle.ac_syntax.specs.declared.tree.Position.{Position}
 use Rattle.ac_syntax.specs.declared.tree.Position.TheVariants.{Output}
 use Rattle.ac_poly.specs.declared.types.Model.{Model}
-use Rattle.ac_choices.proofs.Keeping.{map-some, bind-some}
+use Rattle.ac_items.proofs.Options.{map-some, bind-some}
 use Rattle.ac_paths.specs.Calls.{pairing}
 use Rattle.ac_paths.specs.Columns.{columns_of, equal_forms}
 use Rattle.ac_paths.specs.Formed.{HasModuli}

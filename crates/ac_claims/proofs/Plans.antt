@@ -22,7 +22,7 @@ use Rattle.ac_cert.specs.AbsurdLaw.{absurd_sound}
 use Rattle.ac_cert.specs.Ends.{absurd_refusal}
 use Rattle.ac_cert.specs.Faults.{Fault, split_fault, step_fault}
 use Rattle.ac_choices.specs.Points.{IsPoint}
-use Rattle.ac_choices.proofs.Keeping.{map-some}
+use Rattle.ac_items.proofs.Options.{map-some}
 use Rattle.ac_cert.specs.Rules.{side_rows, with_row, after_step, rule_of, both_sides, class, is_partition, has_class}
 use Rattle.ac_cert.specs.declared.types.Rule.{Rule}
 use Rattle.ac_cert.specs.declared.types.Rule.TheVariants as rule
@@ -30,7 +30,7 @@ use Rattle.ac_cert.specs.declared.types.Step.{Step}
 use Rattle.ac_cert.proofs.Behind.{step-onto}
 use Rattle.ac_cert.proofs.Soundness.{first-none, no-refusal}
 use Rattle.ac_cert.proofs.StepRules.{step-keeps, sides-keep, class-over, class-some}
-use Rattle.ac_choices.proofs.Truths.{and-true, le-true}
+use Rattle.ac_items.proofs.Truths.{and-true, le-true}
 use Rattle.ac_poly.specs.Model.{is_input}
 use Rattle.ac_forms.specs.Renaming.{picked, rows_renaming}
 use Rattle.ac_paths.specs.Columns.{base, columns_of, equal_forms}

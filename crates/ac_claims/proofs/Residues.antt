@@ -8,7 +8,7 @@ use Rattle.std.specs.Int.Signed.{lt_z}
 use Rattle.ac_forms.specs.Affine.{Affine}
 use Rattle.ac_forms.specs.Fits.{fits}
 use Rattle.ac_cert.proofs.Checks.{class-stands}
-use Rattle.ac_choices.proofs.Truths.{and-true, le-true}
+use Rattle.ac_items.proofs.Truths.{and-true, le-true}
 use Rattle.ac_cert.specs.Rules.{class, class_row, has_class, is_partition}
 use Rattle.ac_cert.specs.declared.types.Rule.TheVariants as rule
 use Rattle.ac_paths.specs.Going.{Pairing, at_rows}

@@ -8,7 +8,7 @@ use Rattle.ac_forms.specs.declared.row.Row.{Row}
 use Rattle.ac_syntax.specs.declared.tree.Position.{Position}
 use Rattle.ac_poly.specs.declared.types.Model.{Model}
 use Rattle.ac_cert.specs.declared.types.Rule.TheVariants as rule
-use Rattle.ac_choices.proofs.Keeping.{bind-some, map-some, some-is}
+use Rattle.ac_items.proofs.Options.{bind-some, map-some, some-is}
 use Rattle.ac_paths.specs.Calls.{pairing}
 use Rattle.ac_paths.specs.Formed.{IsFormed}
 use Rattle.ac_paths.specs.Going.{Pairing}

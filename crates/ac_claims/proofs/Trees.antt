@@ -13,7 +13,8 @@ use Rattle.ac_poly.specs.declared.types.StmtModel.{StmtModel}
 use Rattle.ac_cert.specs.Faults.{first_fault_of}
 use Rattle.ac_cert.specs.declared.types.Rule.{Rule}
 use Rattle.ac_cert.specs.declared.types.Rule.TheVariants as rule
-use Rattle.ac_choices.proofs.Keeping.{bind-some, map-some, some-is, if-some, Meets-append}
+use Rattle.ac_choices.proofs.Keeping.{Meets-append}
+use Rattle.ac_items.proofs.Options.{bind-some, map-some, some-is, if-some}
 use Rattle.ac_cert.proofs.Soundness.{first-none}
 use Rattle.ac_forms.specs.Renaming.{picked, rows_renaming}
 use Rattle.ac_paths.specs.Columns.{base, columns_of}

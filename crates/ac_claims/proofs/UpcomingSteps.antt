@@ -7,7 +7,7 @@ use Rattle.std.proofs.lemmas.Bool.Decides.{Decides-eqb}
 use Rattle.std.proofs.lemmas.List.{drop_all}
 use Rattle.std.proofs.lemmas.Option.{slice_get_past, slice_get_cases, slice_get-get_or}
 use Rattle.ac_forms.specs.declared.row.Row.{Row}
-use Rattle.ac_choices.proofs.Truths.{true-nat_le}
+use Rattle.ac_items.proofs.Truths.{true-nat_le}
 use Rattle.ac_paths.specs.Going.{Pairing}
 use Rattle.ac_claims.specs.ProofFaults.{Domain, domain, DuePlan, numbered, due_at, due_from}
 use Rattle.ac_claims.specs.Remaining.{plan_for, plans_beside, plans_from, start_beside, start_at, remaining_by, remaining, count_by, IsThereBy, IsThere, Settled, next_in, AtClaim}

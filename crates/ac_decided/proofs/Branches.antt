@@ -7,7 +7,7 @@ use Rattle.ac_syntax.specs.declared.tree.Position.{Position}
 use Rattle.ac_forms.specs.declared.conj.Conj.{Conj}
 use Rattle.ac_forms.proofs.Joining.{both_of}
 use Rattle.ac_poly.specs.Model.{model_of}
-use Rattle.ac_choices.proofs.Keeping.{map-some, some-is, if-some}
+use Rattle.ac_items.proofs.Options.{map-some, some-is, if-some}
 use Rattle.ac_paths.specs.Coordinates.{width}
 use Rattle.ac_paths.specs.Executions.{execution}
 use Rattle.ac_paths.specs.Going.{Pairing, branches, branches_by, branches_of_calls, by_keep, call_branches, case_rows, cases_from, extended, gone_to, initial_path, argument_path, kept, model_of as model_at, read_branches, root, same_symbol, seat_of, swapped}

@@ -18,7 +18,7 @@ use Rattle.ac_paths.specs.Executions.{Execution, At, execution}
 use Rattle.ac_paths.specs.OnPaths.{OnPath}
 use Rattle.ac_paths.specs.Pairs.{Placed, IsReader, IsCallOf, CallPlace, IsMatch, IsMismatch, StepsTo, StandsOn}
 use Rattle.ac_paths.specs.declared.path.Path.{Path}
-use Rattle.ac_paths.proofs.Stepping.{at_once}
+use Rattle.ac_paths.proofs.ReaderSteps.{at_once}
 use Rattle.ac_graph.specs.Steps.{IsCompared, comparison, LeftPlaced, RightPlaced}
 use Rattle.ac_setting.specs.Programs.{PairAt, IsPlaced, IsMismatchPair, IsStepPair, coordinate_count, order_at}
 use Rattle.ac_setting.proofs.Calls.{at_width}

@@ -14,7 +14,8 @@ use Rattle.ac_syntax.specs.declared.tree.Position.{Position}
 use Rattle.ac_syntax.specs.declared.tree.Position.TheVariants.{Output}
 use Rattle.ac_poly.specs.Laws.{values_at}
 use Rattle.ac_cert.specs.declared.types.Rule.TheVariants as rule
-use Rattle.ac_choices.proofs.Keeping.{map-some, Meets-append}
+use Rattle.ac_choices.proofs.Keeping.{Meets-append}
+use Rattle.ac_items.proofs.Options.{map-some}
 use Rattle.ac_cert.proofs.Soundness.{first-none}
 use Rattle.ac_paths.specs.Columns.{columns_of, equal_forms}
 use Rattle.ac_paths.specs.Executions.{At}

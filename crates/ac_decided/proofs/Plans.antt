@@ -32,10 +32,10 @@ use Rattle.ac_cert.specs.declared.types.Rule.{Rule}
 use Rattle.ac_cert.specs.declared.types.Rule.TheVariants as rule
 use Rattle.ac_cert.specs.declared.types.Step.{Step}
 use Rattle.ac_cert.proofs.Behind.{step-onto}
-use Rattle.ac_choices.proofs.Keeping.{map-some}
+use Rattle.ac_items.proofs.Options.{map-some}
 use Rattle.ac_cert.proofs.Soundness.{first-none, no-refusal}
 use Rattle.ac_cert.proofs.StepRules.{step-keeps, sides-keep, class-over, class-some}
-use Rattle.ac_choices.proofs.Truths.{and-true, le-true}
+use Rattle.ac_items.proofs.Truths.{and-true, le-true}
 use Rattle.ac_paths.specs.Columns.{base, columns_of, equal_forms}
 use Rattle.ac_paths.specs.Going.{at_rows, branches}
 use Rattle.ac_paths.specs.Killing.{copy_of, case_width, chosen, all_chosen, is_killed}

@@ -15,7 +15,7 @@ use Rattle.ac_poly.specs.declared.types.Model.{Model}
 use Rattle.ac_poly.specs.declared.types.NodeModel.{NodeModel}
 use Rattle.ac_poly.specs.declared.types.NodeModel.TheVariants as node
 use Rattle.ac_poly.proofs.Whole.{has_context}
-use Rattle.ac_choices.proofs.Keeping.{bind-some, map-some}
+use Rattle.ac_items.proofs.Options.{bind-some, map-some}
 use Rattle.ac_claims.specs.Soundness.{ArePaired, AreModels}
 use Rattle.ac_paths.specs.Executions.{Execution, execution}
 use Rattle.ac_paths.specs.Going.{Pairing}

@@ -5,7 +5,7 @@ use Rattle.ac_forms.specs.Standing.{stands, all_stand}
 use Rattle.ac_forms.specs.declared.conj.Conj.{Conj}
 use Rattle.ac_forms.specs.declared.row.Row.{Row}
 use Rattle.ac_forms.proofs.Twins.{normal_fits-is}
-use Rattle.ac_choices.proofs.Keeping.{some-is}
+use Rattle.ac_items.proofs.Options.{some-is}
 use Rattle.ac_paths.specs.Standing.{made_and_stand}
 use Rattle.ac_paths.specs.declared.path.Path.{Path}
 use Rattle.ac_graft.proofs.Forms.{listed-renames}

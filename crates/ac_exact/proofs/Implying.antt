@@ -21,7 +21,7 @@ use Rattle.ac_forms.proofs.Values.{value_at-added}
 use Rattle.ac_choices.specs.declared.column.Bound.{Bound}
 use Rattle.ac_choices.specs.Bounds.{is_none, low_bound, highs, rows_without, greatest_size}
 use Rattle.ac_choices.specs.Choices.{shadow_form}
-use Rattle.ac_choices.proofs.Truths.{and-true}
+use Rattle.ac_items.proofs.Truths.{and-true}
 use Rattle.std.specs.Int.{int_max}
 use Rattle.ac_choices.proofs.ColumnParts.{HaveSizes, high-sizes}
 use Rattle.ac_exact.specs.Exact.{real_form, LosesNothing, SufficesFor, Suffices}

@@ -13,7 +13,7 @@ use Rattle.ac_forms.specs.declared.row.Row.TheVariants.{Eq, Div, Ge}
 use Rattle.ac_choices.specs.declared.column.Bound.{Bound}
 use Rattle.ac_choices.specs.Bounds.{is_high, high_bound, highs}
 use Rattle.ac_choices.proofs.Parts.{drop-at}
-use Rattle.ac_choices.proofs.Truths.{and-true}
+use Rattle.ac_items.proofs.Truths.{and-true}
 use Rattle.ac_exact.specs.Tests.{greatest_failing, pair_fits, pairs_fit}
 use Rattle.ac_exact.proofs.Implying.{failing-some}
 

@@ -21,10 +21,6 @@ LosesNothing rows low high = (p : List ℤ) → Meets rows p → pos 0 ≤ℤ va
 abbrev pub Needs : Type 0
 Needs = Affine → ℤ
 
--- the same number of each lower row
-abbrev pub always : ℤ → Needs
-always a f = a
-
 -- the number is at least the size of each of the upper bounds whose pair with the lower one may lose a point
 abbrev pub SufficesFor : List Row → Bound → ℤ → List Bound → Type 0
 SufficesFor rows low a [] = Unit {0}

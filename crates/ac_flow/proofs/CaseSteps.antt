@@ -17,7 +17,7 @@ use Rattle.ac_kills.specs.declared.cut.CutStop.{CutStop}
 use Rattle.ac_kills.specs.declared.cut.CutStop.TheVariants.{Overflow, Spent, Full, Memory}
 use Rattle.ac_kills.proofs.Remains.{found-over}
 use Rattle.ac_paths.specs.Columns.{all_of}
-use Rattle.ac_choices.proofs.Keeping.{bind-some, map-some, some-is}
+use Rattle.ac_items.proofs.Options.{bind-some, map-some, some-is}
 use Rattle.ac_paths.specs.Coordinates.{width}
 use Rattle.ac_paths.specs.Going.{root}
 use Rattle.ac_paths.specs.Killing.{case_width, with_own_columns}

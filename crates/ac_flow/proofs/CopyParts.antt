@@ -15,7 +15,7 @@ use Rattle.ac_syntax.proofs.Cells.{same_cell_refl, same_cell_is}
 use Rattle.ac_poly.specs.Laws.{values_at, cell_of}
 use Rattle.ac_poly.specs.declared.types.Model.{Model}
 use Rattle.ac_poly.specs.declared.types.StmtModel.{StmtModel}
-use Rattle.ac_choices.proofs.Keeping.{bind-some, some-is, if-some}
+use Rattle.ac_items.proofs.Options.{bind-some, some-is, if-some}
 use Rattle.ac_paths.specs.Columns.{base, columns_of, appended}
 use Rattle.ac_paths.specs.Coordinates.{width, levels_before}
 use Rattle.ac_paths.specs.Executions.{Execution, InstanceAt, Describes}

@@ -11,7 +11,8 @@ use Rattle.ac_syntax.specs.Source.{Writer, source}
 use Rattle.ac_syntax.specs.Trace.{Entry}
 use Rattle.ac_poly.specs.declared.types.Model.{Model}
 use Rattle.ac_poly.specs.declared.types.StmtModel.{StmtModel}
-use Rattle.ac_choices.proofs.Keeping.{bind-some, map-some, some-is, Meets-append}
+use Rattle.ac_choices.proofs.Keeping.{Meets-append}
+use Rattle.ac_items.proofs.Options.{bind-some, map-some, some-is}
 use Rattle.ac_paths.specs.Columns.{all_of}
 use Rattle.ac_paths.specs.Coordinates.{width}
 use Rattle.ac_paths.specs.Executions.{Execution, Describes}

@@ -1,3 +1,4 @@
+pub mod SourceCases
 pub mod CopyParts
 pub mod Sourcing
 pub mod WritingSteps

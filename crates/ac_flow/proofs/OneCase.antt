@@ -13,7 +13,7 @@ use Rattle.ac_forms.specs.Pieces.{IsInOneAtMost}
 use Rattle.ac_poly.specs.declared.types.Model.{Model}
 use Rattle.ac_poly.specs.declared.types.StmtModel.{StmtModel}
 use Rattle.ac_poly.proofs.LevelRows.{levels_are_apart}
-use Rattle.ac_choices.proofs.Keeping.{some-is}
+use Rattle.ac_items.proofs.Options.{some-is}
 use Rattle.ac_paths.specs.Coordinates.{width}
 use Rattle.ac_paths.specs.Executions.{Execution, Describes}
 use Rattle.ac_paths.specs.Going.{root}

@@ -11,7 +11,8 @@ use Rattle.ac_kills.specs.declared.cut.CutStop.{CutStop}
 use Rattle.ac_kills.specs.declared.cut.CutStop.TheVariants as cut
 use Rattle.ac_forms.specs.Members.{IsAmong}
 use Rattle.ac_paths.specs.declared.path.CopyNumbers.{CopyNumbers}
-use Rattle.ac_flow.specs.Cases.{Reads, IsSourceCase, IsInitialCase, AreCases, AreSourceCases, conj_of_remainder, conjs_of}
+use Rattle.ac_flow.specs.Cases.{Reads, IsSourceCase, IsInitialCase, AreCases, conj_of_remainder, conjs_of}
+use Rattle.ac_flow.proofs.SourceCases.{AreSourceCases}
 use Rattle.ac_flow.specs.Keeping.{AreCutCasesOf, AreOfWriting, AreOfCases, AreTooMany}
 use Rattle.ac_flow.specs.Stopping.{UnlessMemory, SourceStops, CaseStops, ReadStops}
 use Rattle.ac_flow.specs.Stops.{plain, IfFilled}

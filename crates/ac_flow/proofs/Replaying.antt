@@ -13,7 +13,7 @@ use Rattle.ac_choices.specs.Choices.{is_legal, column_of}
 use Rattle.ac_choices.specs.ChoiceFits.{after_choice}
 use Rattle.ac_choices.specs.declared.choose.Choice.{Choice}
 use Rattle.ac_choices.specs.declared.choose.Choice.TheVariants as choice
-use Rattle.ac_choices.proofs.Keeping.{bind-some, map-some, if-some}
+use Rattle.ac_items.proofs.Options.{bind-some, map-some, if-some}
 use Rattle.ac_kills.specs.Kills.{columns_from}
 use Rattle.ac_kills.specs.Remaining.{AllKills}
 use Rattle.ac_omega.specs.Projection.{is_among}

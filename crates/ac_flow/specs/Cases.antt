@@ -128,10 +128,3 @@ AreCases m r [] (c ∷ []) = IsInitialCase m r c
 AreCases m r [] (c ∷ d ∷ cs) = ⊥
 AreCases m r (w ∷ ws) [] = ⊥
 AreCases m r (w ∷ ws) (c ∷ cs) = IsSourceCase m r w c × AreCases m r ws cs
-
--- the cases of the first writings
-abbrev pub AreSourceCases : Model → Reads → List CopyNumbers → List Case → Type 0
-AreSourceCases m r [] [] = Unit {0}
-AreSourceCases m r [] (c ∷ cs) = ⊥
-AreSourceCases m r (w ∷ ws) [] = ⊥
-AreSourceCases m r (w ∷ ws) (c ∷ cs) = IsSourceCase m r w c × AreSourceCases m r ws cs

@@ -9,7 +9,7 @@ use Rattle.ac_forms.proofs.Twins.{rows_fit-is}
 use Rattle.ac_cert.specs.Faults.{step_fault}
 use Rattle.ac_choices.specs.declared.choose.Choice.{Choice}
 use Rattle.ac_cert.specs.declared.types.Rule.TheVariants as rule
-use Rattle.ac_choices.proofs.Keeping.{bind-some, some-is}
+use Rattle.ac_items.proofs.Options.{bind-some, some-is}
 use Rattle.ac_claims.specs.PlanFaults.{fault_unless, choices_fault}
 use Rattle.ac_claims.specs.declared.types.Kill.{Kill}
 use Rattle.ac_poly.specs.declared.types.Model.{Model}

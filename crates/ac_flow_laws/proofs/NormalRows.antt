@@ -16,7 +16,7 @@ use Rattle.ac_forms.proofs.Twins.{rows_fit-is}
 use Rattle.ac_choices.specs.ChoiceFits.{choice_fits, raw, after_choice}
 use Rattle.ac_choices.specs.Choices.{column_of, is_legal, left_by}
 use Rattle.ac_choices.specs.declared.choose.Choice.{Choice}
-use Rattle.ac_choices.proofs.Keeping.{bind-some, if-some, some-is}
+use Rattle.ac_items.proofs.Options.{bind-some, if-some, some-is}
 use Rattle.ac_poly.specs.declared.types.StmtModel.{StmtModel}
 use Rattle.ac_paths.specs.Coordinates.{width}
 use Rattle.ac_paths.specs.Going.{Pairing, model_of}

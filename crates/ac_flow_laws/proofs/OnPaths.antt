@@ -6,7 +6,7 @@ use Rattle.ac_forms.specs.declared.row.Row.{Row}
 use Rattle.ac_choices.specs.Choices.{column_of}
 use Rattle.ac_choices.specs.declared.choose.Choice.{Choice}
 use Rattle.ac_choices.specs.declared.choose.Choice.TheVariants as choice
-use Rattle.ac_choices.proofs.Keeping.{bind-some, if-some}
+use Rattle.ac_items.proofs.Options.{bind-some, if-some}
 use Rattle.ac_syntax.specs.Outputs.{swaps_of}
 use Rattle.ac_poly.specs.declared.types.Model.{Model}
 use Rattle.ac_poly.specs.declared.types.StmtModel.{StmtModel}

@@ -13,7 +13,7 @@ use Rattle.ac_syntax.specs.declared.tree.Program.{Program}
 use Rattle.ac_poly.specs.Model.{model_of, PiecesAreApart}
 use Rattle.ac_poly.specs.declared.types.Model.{Model}
 use Rattle.ac_poly.proofs.PiecesApart.{pieces_are_apart}
-use Rattle.ac_choices.proofs.Keeping.{some-is}
+use Rattle.ac_items.proofs.Options.{some-is}
 use Rattle.ac_paths.specs.Columns.{all_of}
 use Rattle.ac_paths.specs.Coordinates.{width}
 use Rattle.ac_paths.specs.Executions.{Execution, Describes, execution}

@@ -8,7 +8,7 @@ use Rattle.ac_integers.proofs.Floor.{positive_is}
 use Rattle.ac_forms.specs.Affine.{Affine}
 use Rattle.ac_forms.specs.Fits.{Fits}
 use Rattle.ac_cert.specs.Rules.{class_row}
-use Rattle.ac_choices.proofs.Truths.{le-true}
+use Rattle.ac_items.proofs.Truths.{le-true}
 use Rattle.ac_graft.specs.Sides.{has_few, one_row, ClassesFit}
 use Rattle.ac_graft.specs.declared.branching.Part.{Part}
 

@@ -19,7 +19,7 @@ use Rattle.ac_cert.specs.declared.types.Step.{Step}
 use Rattle.ac_cert.specs.declared.types.Tree.{Tree}
 use Rattle.ac_cert.proofs.Soundness.{first-none, no-refusal, if-none}
 use Rattle.ac_cert.proofs.StepRules.{step-keeps, sides-keep, class-over}
-use Rattle.ac_choices.proofs.Truths.{and-true, le-true}
+use Rattle.ac_items.proofs.Truths.{and-true, le-true}
 use Rattle.ac_paths.specs.Going.{Pairing, at_rows}
 use Rattle.ac_paths.specs.declared.path.Path.{Path}
 use Rattle.ac_claims.specs.PlanFaults.{steps_fault, absurd_fault, count_of, line_count, next_fault, classes_fault}

@@ -12,7 +12,7 @@ use Rattle.ac_forms.specs.Affine.{mix_numbers, MixFits}
 use Rattle.ac_forms.specs.Fits.{Fits, AllFit}
 use Rattle.ac_forms.specs.NormalRows.{trim, trim_onto}
 use Rattle.ac_cert.specs.Rules.{divides_each, all_zero}
-use Rattle.ac_choices.proofs.Truths.{and-true}
+use Rattle.ac_items.proofs.Truths.{and-true}
 use Rattle.ac_forms.proofs.Again.{zero_test}
 use Rattle.ac_forms.proofs.Trims.{test_zero}
 

@@ -9,7 +9,7 @@ use Rattle.ac_cert.specs.Faults.{Fault, first_fault_of, split_fault}
 use Rattle.ac_cert.specs.Rules.{after_step, both_sides, class, is_partition}
 use Rattle.ac_cert.specs.declared.types.Rule.TheVariants as rule
 use Rattle.ac_cert.specs.declared.types.Step.{Step}
-use Rattle.ac_choices.proofs.Keeping.{bind-some, some-is}
+use Rattle.ac_items.proofs.Options.{bind-some, some-is}
 use Rattle.ac_paths.specs.Going.{Pairing, at_rows}
 use Rattle.ac_paths.specs.declared.path.Path.{Path}
 use Rattle.ac_claims.specs.PlanFaults.{steps_fault, count_of, line_count, next_fault, classes_fault, plan_fault, plan_lines}

@@ -14,8 +14,9 @@ use Rattle.ac_choices.specs.Combination.{combination}
 use Rattle.ac_cert.specs.Rules.{rest_of, multiple_of, quotient_form, divides_each, divides_form, all_zero, is_zero, zero_form}
 use Rattle.ac_choices.proofs.Fitting.{combination_some, true_fits}
 use Rattle.ac_cert.proofs.Fitting.{multiple_some, rest_some}
-use Rattle.ac_choices.proofs.Keeping.{if-some, some-is, combination-is}
-use Rattle.ac_choices.proofs.Truths.{and-true}
+use Rattle.ac_choices.proofs.Keeping.{combination-is}
+use Rattle.ac_items.proofs.Options.{if-some, some-is}
+use Rattle.ac_items.proofs.Truths.{and-true}
 use Rattle.ac_graft.proofs.Named.{coef_of, Renames}
 use Rattle.ac_graft.proofs.Numbers.{fits-zero, times_zero, none_fits, all-each, each-all, all-mixed, mixed-all, divides-zero, each-divides, divides-each, each-zero, zero-each, get-scaled, zero_over, get-floored, get-column, get-others}
 

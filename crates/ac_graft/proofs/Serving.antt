@@ -19,7 +19,7 @@ use Rattle.ac_cert.specs.Rules.{with_row, class, class_row, has_class, is_partit
 use Rattle.ac_choices.proofs.Fitting.{fits_true}
 use Rattle.ac_choices.proofs.Keeping.{made-push, made-more}
 use Rattle.ac_cert.proofs.StepRules.{class-over}
-use Rattle.ac_choices.proofs.Truths.{true-le, true-nat_le}
+use Rattle.ac_items.proofs.Truths.{true-le, true-nat_le}
 use Rattle.ac_paths.specs.Going.{Pairing, at_rows}
 use Rattle.ac_paths.specs.declared.path.Path.{Path}
 use Rattle.ac_claims.specs.declared.types.Claim.{Claim}

@@ -15,8 +15,9 @@ use Rattle.ac_cert.specs.declared.types.Step.{Step}
 use Rattle.ac_cert.specs.declared.types.Step.TheVariants.{Add, Cut, DivScale, DivAdd, DivMod, DivEq, Quot, Floor, EqCut}
 use Rattle.ac_choices.specs.Combination.{combination}
 use Rattle.ac_cert.specs.Rules.{multiple_of, rest_of, with_row, with_column_row, sum_from, sum_row, zero_form, are_equalities, divides_each, cut_row, quotient_form, greater_modulus, div_scale_row, div_add_row, div_mod_stands, reduced_row, divides_form, div_mod_row, div_eq_row, less_column, quotient, floor_of, is_zero, eq_cut_row, after_step, side_rows, both_sides, has_class, class_row, class, is_partition}
-use Rattle.ac_choices.proofs.Keeping.{bind-some, map-some, if-some, unless-some, some-is, row-made}
-use Rattle.ac_choices.proofs.Truths.{and-true, le-true, true-nat_le}
+use Rattle.ac_choices.proofs.Keeping.{row-made}
+use Rattle.ac_items.proofs.Options.{bind-some, map-some, if-some, unless-some, some-is}
+use Rattle.ac_items.proofs.Truths.{and-true, le-true, true-nat_le}
 use Rattle.ac_graft.specs.declared.placing.Placing.{Placing}
 use Rattle.ac_forms.specs.Renaming.{with_form}
 use Rattle.ac_graft.proofs.Named.{named, Renames, Stands, IsShifted}

@@ -7,7 +7,7 @@ use Rattle.ac_forms.specs.declared.row.Row.{Row}
 use Rattle.ac_forms.specs.declared.row.Row.TheVariants.{Eq, Div, Ge}
 use Rattle.ac_choices.specs.Combination.{combination}
 use Rattle.ac_cert.specs.Rules.{term_form, sum_from, is_equality, are_equalities}
-use Rattle.ac_choices.proofs.Keeping.{bind-some, if-some, some-is}
+use Rattle.ac_items.proofs.Options.{bind-some, if-some, some-is}
 use Rattle.ac_graft.specs.declared.placing.Placing.{Placing}
 use Rattle.ac_graft.proofs.Named.{named, Renames, Stands, IsShifted}
 use Rattle.ac_graft.specs.Placings.{row_on, moved_terms}

@@ -26,6 +26,7 @@ pub mod StatementPieces
 pub mod StatementGiven
 pub mod StatementProductions
 pub mod StatementFlags
+pub mod StatementInsides
 pub mod StatementLevels
 pub mod StatementDeclarations
 pub mod StatementLocals

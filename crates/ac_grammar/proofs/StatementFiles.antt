@@ -36,7 +36,8 @@ use Rattle.ac_grammar.proofs.Parts.{true_is, IsPure, nothing, ending_exact, same
 use Rattle.ac_grammar.proofs.StatementLexemes.{a_void, an_open, a_close, an_open_brace, a_close_brace, named_token}
 use Rattle.ac_grammar.proofs.StatementPieces.{Piece, behind, next, apart, image, mapped, marked, expected, a_word, named, renamed, made, opening_some}
 use Rattle.ac_grammar.proofs.StatementProductions.{name_piece}
-use Rattle.ac_grammar.proofs.StatementLevels.{IsBraced, braced, braces, statements_exact, some_braced, braced_begun}
+use Rattle.ac_grammar.proofs.StatementLevels.{statements_exact, braced_begun}
+use Rattle.ac_grammar.proofs.StatementInsides.{IsBraced, braced, braces, some_braced}
 use Rattle.ac_grammar.proofs.StatementLocals.{closed_parameters, IsClosedParameters, closed_parameters_of, parameters_exact, some_closed, declarations_exact, on_declarations}
 use Rattle.ac_grammar.proofs.StatementPragmas.{on_pragmas, pragmas_exact}
 

@@ -1,3 +1,4 @@
+pub mod FoundNodes
 pub mod Members
 pub mod MarkSteps
 pub mod OutlineSteps

@@ -9,7 +9,7 @@ use Rattle.ac_poly.specs.declared.types.NodeModel.{NodeModel}
 use Rattle.ac_poly.specs.declared.types.NodeModel.TheVariants as node
 use Rattle.ac_poly.specs.declared.types.StmtModel.{StmtModel}
 use Rattle.ac_claims.specs.ProofFaults.{is_output_array}
-use Rattle.ac_choices.proofs.Keeping.{bind-some, map-some}
+use Rattle.ac_items.proofs.Options.{bind-some, map-some}
 use Rattle.ac_paths.specs.Coordinates.{width}
 use Rattle.ac_forms.specs.Members.{IsAmong}
 use Rattle.ac_paths.specs.Places.{cell_read, read_of, element_forms, node_at, initial_of}

@@ -27,7 +27,7 @@ use Rattle.ac_poly.specs.declared.types.Model.{Model}
 use Rattle.ac_poly.proofs.Elements.{has_elements}
 use Rattle.ac_poly.proofs.Whole.{has_context, has_nodes}
 use Rattle.ac_omega.specs.declared.piece.Piece.{Piece}
-use Rattle.ac_choices.proofs.Keeping.{some-is}
+use Rattle.ac_items.proofs.Options.{some-is}
 use Rattle.ac_paths.specs.Coordinates.{width}
 use Rattle.ac_paths.specs.Executions.{Execution, At, Describes, execution}
 use Rattle.ac_forms.specs.Members.{IsAmong}

@@ -1,7 +1,7 @@
 -- What marking keeps: which nodes are found, and that their marks are set.
-use Rattle.std.specs.Prelude.{ℕ, ◌≡◌, ◌↔◌, ◌⊎◌, ◌<◌, List, [], ◌∷◌, ◌++◌, length, Option, Some, None, slice_get, Bool, false}
+use Rattle.std.specs.Prelude.{ℕ, ◌≡◌, ◌↔◌, ◌⊎◌, ◌<◌, List, [], ◌∷◌, ◌++◌, Option, Some, None, slice_get, Bool, false}
 use Rattle.ac_forms.specs.Members.{IsAmong}
-use Rattle.ac_graph.specs.Ways.{Leads, Edge, IsMarked}
+use Rattle.ac_graph.specs.Ways.{IsMarked}
 
 abbrev pub mark_of : Option Bool → Bool
 mark_of None = false
@@ -27,11 +27,3 @@ pub record AreAdded (nodes old new : List ℕ) (marks : List Bool) : Type 0 wher
   pub has : (v : ℕ) → IsAmong v new → IsAmong v old ⊎ IsAmong v nodes
   pub keeps : (v : ℕ) → IsAmong v nodes → IsAmong v new
   pub matched : AreMatched marks new
-
--- the nodes that are found from a node, where the edges of the first of them are followed
-pub record IsSpreading (next : List (List ℕ)) (from at : ℕ) (marks : List Bool) (found : List ℕ) : Type 0 where
-  pub wide : length marks ≡ length next
-  pub matched : AreMatched marks found
-  pub sound : (v : ℕ) → IsAmong v found → Leads (Edge next) from v
-  pub first : (v : ℕ) → Edge next from v → IsAmong v found
-  pub closed : (j u v : ℕ) → j < at → slice_get found j ≡ Some u → Edge next u v → IsAmong v found

@@ -13,7 +13,8 @@ use Rattle.ac_forms.specs.Members.{IsAmong}
 use Rattle.ac_widen.specs.Combinations.{times, Each}
 use Rattle.ac_widen.proofs.Combining.{dot_comm, dot-times}
 use Rattle.ac_hull.specs.Elimination.{entry, column_of, pivot_of}
-use Rattle.ac_hull.specs.Equalities.{unit, cleared_by, cleared, coefs_of, IsFree}
+use Rattle.ac_hull.specs.Equalities.{unit, cleared_by, cleared, coefs_of}
+use Rattle.ac_hull.proofs.FreeColumns.{IsFree}
 use Rattle.ac_hull.specs.declared.line.Line.{Line}
 use Rattle.ac_hull.proofs.Entries.{entry_times, product_nonzero}
 use Rattle.ac_hull.proofs.Facts.{Echelon, Kills}

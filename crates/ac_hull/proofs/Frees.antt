@@ -3,7 +3,8 @@ use Rattle.std.proofs.Common.{◌≡◌, ℕ, ◌+◌, ◌<◌, ◌≤◌, ◌==
 use Rattle.std.proofs.lemmas.List.{drop_more, drop_all}
 use Rattle.std.proofs.lemmas.Bool.{eqb-true, eqb-false, eq-eqb}
 use Rattle.ac_hull.specs.Elimination.{column_of}
-use Rattle.ac_hull.specs.Equalities.{is_free, IsFree}
+use Rattle.ac_hull.specs.Equalities.{is_free}
+use Rattle.ac_hull.proofs.FreeColumns.{IsFree}
 use Rattle.ac_hull.specs.declared.line.Line.{Line}
 
 pub record FreeHalfway (ls : List Line) (z : ℕ) (i : ℕ) : Type 0 where

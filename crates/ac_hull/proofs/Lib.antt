@@ -1,3 +1,4 @@
+pub mod FreeColumns
 pub mod Entries
 pub mod Lines
 pub mod Facts

@@ -8,7 +8,8 @@ use Rattle.ac_forms.specs.Affine.{Affine, value_at}
 use Rattle.ac_widen.specs.Combinations.{Each, InHull}
 use Rattle.ac_widen.proofs.Combining.{no_divisor, dot-mix_point, equality_combined, each_among}
 use Rattle.ac_hull.specs.Elimination.{entry, column_of, pivot_of, next_line, minus, IsZero, Eliminates}
-use Rattle.ac_hull.specs.Equalities.{unit, coefs_of, IsFree}
+use Rattle.ac_hull.specs.Equalities.{unit, coefs_of}
+use Rattle.ac_hull.proofs.FreeColumns.{IsFree}
 use Rattle.ac_hull.specs.Hulls.{differences}
 use Rattle.ac_hull.specs.declared.line.Line.{Line}
 use Rattle.ac_hull.proofs.Entries.{entry_past, lead_or, dot_single}

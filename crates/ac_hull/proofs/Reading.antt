@@ -15,7 +15,8 @@ use Rattle.ac_integers.proofs.Residues.{zero_factor}
 use Rattle.ac_forms.specs.Affine.{value_at}
 use Rattle.ac_widen.specs.Combinations.{blend, total, times, Each, IsCombination, InHull}
 use Rattle.ac_hull.specs.Elimination.{entry, next_line, minus, IsZero, Eliminates}
-use Rattle.ac_hull.specs.Equalities.{coefs_of, least_coefs, equality_of, IsFree}
+use Rattle.ac_hull.specs.Equalities.{coefs_of, least_coefs, equality_of}
+use Rattle.ac_hull.proofs.FreeColumns.{IsFree}
 use Rattle.ac_hull.specs.Hulls.{differences, turned, read_m, read_rest, read_weights}
 use Rattle.ac_hull.specs.declared.line.Line.{Line}
 use Rattle.ac_hull.proofs.Entries.{column, entry_times, entry_blend, same_entries}

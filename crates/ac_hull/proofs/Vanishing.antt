@@ -12,7 +12,8 @@ use Rattle.ac_forms.specs.NormalRows.{trim, trim_onto, signed, divided, leads_ne
 use Rattle.ac_forms.proofs.NormalLaws.{eq_row_keeps}
 use Rattle.ac_widen.specs.Combinations.{Each, InHull}
 use Rattle.ac_hull.specs.Elimination.{Eliminates}
-use Rattle.ac_hull.specs.Equalities.{unit, coefs_of, least_coefs, equality_of, normal_equality, equalities_below, is_free, IsFree}
+use Rattle.ac_hull.specs.Equalities.{unit, coefs_of, least_coefs, equality_of, normal_equality, equalities_below, is_free}
+use Rattle.ac_hull.proofs.FreeColumns.{IsFree}
 use Rattle.ac_hull.specs.Hulls.{Vanish, CanVanish, differences, equalities_of}
 use Rattle.ac_hull.specs.Inner.Keeping.{IsHull}
 use Rattle.ac_hull.specs.declared.line.Line.{Line}

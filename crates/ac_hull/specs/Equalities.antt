@@ -1,10 +1,10 @@
 -- The equalities of a hull: for each column that is no pivot, a form that all rows of the elimination make 0.
-use Rattle.std.specs.Prelude.{◌≡◌, ℕ, ◌-◌, zero, suc, ◌==◌, Bool, true, false, if◌then◌else◌, ℤ, pos, ◌-ℤ◌, ◌*ℤ◌, neg_ℤ, List, [], ◌∷◌, ◌++◌, replicate, slice_set}
+use Rattle.std.specs.Prelude.{ℕ, ◌-◌, zero, suc, ◌==◌, Bool, true, false, if◌then◌else◌, ℤ, pos, ◌-ℤ◌, ◌*ℤ◌, neg_ℤ, List, [], ◌∷◌, ◌++◌, replicate, slice_set}
 use Rattle.ac_integers.specs.Dot.{dot, floored}
 use Rattle.ac_integers.specs.Gcd.{content}
 use Rattle.ac_forms.specs.Affine.{Affine}
 use Rattle.ac_forms.specs.NormalRows.{signed, divided}
-use Rattle.ac_widen.specs.Combinations.{Each, times}
+use Rattle.ac_widen.specs.Combinations.{times}
 use Rattle.ac_hull.specs.Elimination.{entry, column_of, pivot_of}
 use Rattle.ac_hull.specs.declared.line.Line.{Line}
 
@@ -36,10 +36,6 @@ through_form v f = record { konst = neg_ℤ (dot v f); coefs = v }
 -- the equality, through a point
 abbrev pub equality_of : ℕ → List Line → List ℤ → ℕ → Affine
 equality_of columns ls f z = through_form (least_coefs columns ls z) f
-
--- the column is no pivot's
-abbrev pub IsFree : List Line → ℕ → Type 0
-IsFree ls z = Each (λ l. ¬ (column_of l ≡ z)) ls
 
 -- the same as a test
 abbrev pub is_free : List Line → ℕ → Bool

@@ -1,3 +1,4 @@
+pub mod CaseRemainders
 pub mod Cutting
 pub mod Points
 pub mod Projections

@@ -16,7 +16,8 @@ use Rattle.ac_kills.specs.Causes.{AreKillRows, AreCutCases, IfFull}
 use Rattle.ac_kills.specs.declared.cut.CutStop.{CutStop}
 use Rattle.ac_kills.proofs.Asked.{if_both}
 use Rattle.ac_kills.proofs.Stops.{itself-case}
-use Rattle.ac_kills.specs.Remaining.{AreKillsOf, AllKillsOf, AllOver, AllKills, IsLeftBy, IsStart, IsCut, IsRemaining}
+use Rattle.ac_kills.specs.Remaining.{AreKillsOf, AllKillsOf, AllOver, AllKills, IsLeftBy, IsStart, IsCut}
+use Rattle.ac_kills.proofs.CaseRemainders.{IsRemaining}
 use Rattle.ac_kills.proofs.Cutting.{take_whole, same-fits}
 use Rattle.ac_sets.proofs.Outsides.{holds-either}
 use Rattle.ac_omega.specs.Projection.{MeetsRest}

@@ -1,7 +1,7 @@
 -- What is left of a case where no copy has a point, and the kills that cover the rest.
 use Rattle.std.specs.Prelude.{◌≡◌, ◌⊎◌, ◌↔◌, ℕ, ℤ, List, [], ◌∷◌, length}
 use Rattle.ac_forms.specs.Negation.{HasExtension}
-use Rattle.ac_forms.specs.Pieces.{IsInSome, IsInNone}
+use Rattle.ac_forms.specs.Pieces.{IsInSome}
 use Rattle.ac_forms.specs.Rows.{Meets}
 use Rattle.ac_forms.specs.declared.conj.Conj.{Conj}
 use Rattle.ac_sets.specs.Unions.{ArePieces}
@@ -78,16 +78,6 @@ pub record IsCut (case : Conj) (kills : List (List Piece)) (pieces : List Conj) 
   pub points : (p : List ℤ) → length p ≡ case.columns → IsInSome HasExtension pieces p ↔ (Meets case.rows p × ¬ IsInSome (IsInSome MeetsRest) kills p)
   pub each : AllHavePoints pieces
   pub apart : NoneMeet case.columns pieces
-  pub cover : (p : List ℤ) → length p ≡ case.columns → Meets case.rows p → IsInSome HasExtension pieces p ⊎ IsInSome (IsInSome MeetsRest) kills p
-
--- of a case outside its copies: the pieces are the points at which no copy has a point, each piece has a point, and each
--- point of the case lies in a piece or meets what a kill leaves
-pub record IsRemaining (case : Conj) (copies pieces : List Conj) (kills : List (List Piece)) : Type 0 where
-  pub made : ArePieces case.columns pieces
-  pub points : (p : List ℤ) → length p ≡ case.columns → IsInSome HasExtension pieces p ↔ (Meets case.rows p × IsInNone HasExtension copies p)
-  pub each : AllHavePoints pieces
-  pub apart : NoneMeet case.columns pieces
-  pub killed : AllKills case.columns copies kills
   pub cover : (p : List ℤ) → length p ≡ case.columns → Meets case.rows p → IsInSome HasExtension pieces p ⊎ IsInSome (IsInSome MeetsRest) kills p
 
 -- the elimination of a copy stops: the economical one, and so does the full one

@@ -13,7 +13,7 @@ use Rattle.ac_syntax.specs.declared.tree.Position.TheVariants.{Output, Node, Ini
 use Rattle.ac_syntax.specs.declared.tree.Value.{Value}
 use Rattle.ac_syntax.specs.declared.tree.Value.TheVariants.{Call}
 use Rattle.ac_poly.specs.declared.types.Model.{Model}
-use Rattle.ac_choices.proofs.Keeping.{map-some, if-some}
+use Rattle.ac_items.proofs.Options.{map-some, if-some}
 use Rattle.ac_paths.specs.Executions.{Execution, At, Describes}
 use Rattle.ac_paths.specs.Going.{Pairing, argument_path, kept, swapped, same_symbol, call_branches}
 use Rattle.ac_paths.specs.Pairs.{Placed, ArgumentsMeet}

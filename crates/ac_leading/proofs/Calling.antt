@@ -7,7 +7,7 @@ use Rattle.ac_syntax.specs.declared.tree.Order.{Order}
 use Rattle.ac_syntax.specs.declared.tree.Order.TheVariants.{Keep, Swap}
 use Rattle.ac_syntax.specs.declared.tree.Pair.{Pair}
 use Rattle.ac_poly.specs.Model.{model_of}
-use Rattle.ac_choices.proofs.Keeping.{if-some}
+use Rattle.ac_items.proofs.Options.{if-some}
 use Rattle.ac_claims.specs.Soundness.{AreModels}
 use Rattle.ac_paths.specs.Columns.{base, columns_of}
 use Rattle.ac_paths.specs.Executions.{execution}

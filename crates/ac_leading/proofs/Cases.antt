@@ -7,7 +7,7 @@ use Rattle.ac_forms.specs.declared.row.Row.{Row}
 use Rattle.ac_syntax.specs.declared.tree.Position.{Position}
 use Rattle.ac_poly.specs.declared.types.Model.{Model}
 use Rattle.ac_poly.specs.declared.types.StmtModel.{StmtModel}
-use Rattle.ac_choices.proofs.Keeping.{map-some, some-is}
+use Rattle.ac_items.proofs.Options.{map-some, some-is}
 use Rattle.ac_paths.specs.Columns.{all_of}
 use Rattle.ac_paths.specs.Coordinates.{width}
 use Rattle.ac_paths.specs.Going.{case_path, case_rows, cases_at, cases_from, cases_of, extended, gone_to, initial_path, read_branches, root, seat_of}

@@ -14,7 +14,7 @@ use Rattle.ac_forms.proofs.Negations.{complement}
 use Rattle.ac_poly.specs.Laws.{values_at}
 use Rattle.ac_poly.specs.Model.{is_input}
 use Rattle.ac_poly.proofs.Columns.{has_kinds}
-use Rattle.ac_choices.proofs.Keeping.{bind-some, map-some, if-some}
+use Rattle.ac_items.proofs.Options.{bind-some, map-some, if-some}
 use Rattle.ac_claims.specs.Ending.{equal_cells}
 use Rattle.ac_paths.specs.Columns.{base, columns_of, equal_forms}
 use Rattle.ac_paths.specs.Executions.{execution}

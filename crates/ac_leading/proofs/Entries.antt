@@ -2,7 +2,7 @@
 use Rattle.std.proofs.Common.{◌≡◌, ℕ, zero, suc, ◌+◌, ℤ, List, [], ◌∷◌, ◌++◌, map, length, take, Some, refl, sym, ap, ◌∙◌, subst, arith, append_assoc, length-append}
 use Rattle.std.specs.Prelude.{slice_get}
 use Rattle.ac_syntax.specs.declared.tree.Position.{Position}
-use Rattle.ac_choices.proofs.Keeping.{some-is}
+use Rattle.ac_items.proofs.Options.{some-is}
 use Rattle.ac_paths.specs.declared.path.Path.{Path}
 use Rattle.ac_paths.specs.declared.path.Seat.{Seat}
 use Rattle.ac_widen.specs.Derivations.{EntryOf, Justified, IsDerivation, StandsAt, entry_of}

@@ -15,7 +15,7 @@ use Rattle.ac_poly.specs.declared.types.Model.{Model}
 use Rattle.ac_poly.specs.declared.types.NodeModel.{NodeModel}
 use Rattle.ac_poly.specs.declared.types.NodeModel.TheVariants as node
 use Rattle.ac_poly.specs.declared.types.StmtModel.{StmtModel}
-use Rattle.ac_choices.proofs.Keeping.{bind-some, map-some, some-is}
+use Rattle.ac_items.proofs.Options.{bind-some, map-some, some-is}
 use Rattle.ac_claims.specs.Domains.{piece_by}
 use Rattle.ac_claims.specs.ProofFaults.{Domain, domain, node_domain, output_domain}
 use Rattle.ac_claims.specs.declared.domains.Piece.{Piece}

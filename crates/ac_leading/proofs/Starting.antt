@@ -5,7 +5,7 @@ use Rattle.ac_forms.specs.Renaming.{picked, rows_renaming}
 use Rattle.ac_forms.specs.Rows.{Meets, AreRowsOver}
 use Rattle.ac_forms.specs.declared.row.Row.{Row}
 use Rattle.ac_poly.proofs.Columns.{has_columns}
-use Rattle.ac_choices.proofs.Keeping.{bind-some, map-some}
+use Rattle.ac_items.proofs.Options.{bind-some, map-some}
 use Rattle.ac_claims.specs.Domains.{of_width, piece_by}
 use Rattle.ac_claims.specs.ProofFaults.{domain, left_seat, piece_rows, right_seat, start_columns}
 use Rattle.ac_claims.specs.Remaining.{start_beside, start_of}

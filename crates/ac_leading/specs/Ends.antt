@@ -7,7 +7,7 @@ use Rattle.ac_forms.specs.Rows.{Holds, Meets, IsRowOver}
 use Rattle.ac_forms.specs.declared.conj.Conj.{Conj}
 use Rattle.ac_forms.specs.declared.row.Row.{Row}
 use Rattle.ac_poly.specs.Model.{is_input}
-use Rattle.ac_agreeing.specs.Statements.{HaveArities}
+use Rattle.ac_syntax.specs.ExecutedCalls.{HaveArities}
 use Rattle.ac_claims.specs.Ending.{equal_cells, equal_numbers}
 use Rattle.ac_paths.specs.Columns.{base, columns_of}
 use Rattle.ac_forms.specs.Members.{IsAmong}

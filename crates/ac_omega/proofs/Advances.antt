@@ -13,7 +13,8 @@ use Rattle.ac_refutations.specs.Alternatives.{Alternatives, first_equality, has_
 use Rattle.ac_exact.specs.Tests.{economical, is_exact, pairs_fit}
 use Rattle.ac_exact.proofs.Implying.{failing-some}
 use Rattle.ac_omega.specs.Columns.{count_for, count_of}
-use Rattle.ac_omega.specs.Cursors.{IsNext, row_splinters}
+use Rattle.ac_omega.specs.Cursors.{IsNext}
+use Rattle.ac_omega.proofs.SplinterRows.{row_splinters}
 use Rattle.ac_omega.proofs.Sides.{greatest-one}
 use Rattle.ac_omega.specs.declared.cursor.Next.{Next}
 use Rattle.ac_omega.proofs.Moduli.{drop-at}

@@ -2,7 +2,8 @@
 use Rattle.std.proofs.Common.{◌≡◌, List, [], ◌∷◌, ◌++◌, append_assoc, Option, Some, None, refl, ap, ◌∙◌}
 use Rattle.std.specs.Prelude.{option_map}
 use Rattle.ac_choices.specs.declared.choose.Choice.{Choice}
-use Rattle.ac_refutations.specs.Alternatives.{Alternatives, all_of, gathered}
+use Rattle.ac_refutations.specs.Alternatives.{Alternatives, all_of}
+use Rattle.ac_refutations.proofs.GatheredChoices.{gathered}
 
 pub gathered-all : (made : List Choice) (hs : Alternatives) → gathered made hs ≡ option_map (λ rest. made ++ rest) (all_of hs)
 gathered-all made [] = rw (append-nil made) refl

@@ -22,7 +22,7 @@ use Rattle.ac_choices.specs.declared.choose.Choice.TheVariants as choice
 use Rattle.ac_choices.specs.Bounds.{is_low, only_bounds, is_one_sided}
 use Rattle.ac_forms.specs.Columns.{has_column}
 use Rattle.ac_choices.specs.Choices.{column_of, are_absurd, is_equality_of, is_lower_row, is_common_multiple, allows, is_legal}
-use Rattle.ac_choices.proofs.Truths.{true-le}
+use Rattle.ac_items.proofs.Truths.{true-le}
 use Rattle.ac_forms.specs.Members.{IsAmong}
 use Rattle.ac_refutations.specs.Alternatives.{Alternatives, first_equality, has_divisibility, lcm, common_modulus, residues_from, residues, splinters_from, count_to, last_splinter, last_splinter_fits, need_of, splinters_by, splinters_of, splinters, by_bounds, alternatives_by, alternatives_for, all_of}
 use Rattle.ac_omega.specs.Walk.{IsTried}

@@ -1,3 +1,5 @@
+pub mod WalkLaws
+pub mod SplinterRows
 pub mod CommonMultiples
 pub mod Complete
 pub mod Gathering

@@ -26,11 +26,13 @@ use Rattle.ac_omega.specs.Columns.{next_column}
 use Rattle.ac_omega.specs.Elimination.{elimination}
 use Rattle.ac_omega.specs.Projection.{is_among, DiffersIn, HoldsFor, HaveNone, MeetsRest}
 use Rattle.ac_forms.specs.Pieces.{IsInSome}
-use Rattle.ac_omega.specs.Sweep.{Projects, Pieces, sweep}
+use Rattle.ac_omega.specs.Sweep.{Pieces, sweep}
+use Rattle.ac_omega.proofs.WalkLaws.{Projects}
 use Rattle.ac_forms.specs.Members.{IsAmong}
 use Rattle.ac_refutations.specs.Alternatives.{Alternatives, alternatives_for, all_of}
 use Rattle.ac_omega.specs.Maxima.{Maxima}
-use Rattle.ac_omega.specs.Walk.{IsTried, IsWhole, Covers, Empty, walk}
+use Rattle.ac_omega.specs.Walk.{IsTried, Empty, walk}
+use Rattle.ac_omega.proofs.WalkLaws.{IsWhole, Covers}
 use Rattle.ac_omega.proofs.Walks.{walk-gone}
 use Rattle.ac_omega.proofs.Complete.{listed-complete}
 use Rattle.ac_omega.proofs.Empties.{IsOpen, look-done, look-absurd, look-open, next-none, none-at}

@@ -18,7 +18,8 @@ use Rattle.ac_omega.specs.declared.halt.Halt.{Halt}
 use Rattle.ac_omega.proofs.Bounding.{risen-on, all-more, moduli-more}
 use Rattle.ac_omega.proofs.Gathering.{gathered_all}
 use Rattle.ac_refutations.specs.Refutations.{Refutes, RefuteEach, AreChoicesOf, AreModuliWithin}
-use Rattle.ac_refutations.specs.Alternatives.{Alternatives, alternatives_for, all_of, gathered}
+use Rattle.ac_refutations.specs.Alternatives.{Alternatives, alternatives_for, all_of}
+use Rattle.ac_refutations.proofs.GatheredChoices.{gathered}
 use Rattle.ac_refutations.specs.declared.refutation.Refutation.{Refutation, Row_of-Refutation, end_of-Refutation, more_of-Refutation, items-the_row-Refutation, the_lemmas}
 use Rattle.ac_refutations.specs.declared.refutation.Refutation.TheVariants.{Absurd, Open, Open'}
 use Rattle.ac_refutations.specs.declared.strategy.Strategy.{Strategy}

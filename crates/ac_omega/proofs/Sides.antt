@@ -13,7 +13,7 @@ use Rattle.ac_choices.specs.Bounds.{is_low, is_high, low_bound, high_bound, lows
 use Rattle.ac_choices.specs.Choices.{is_lower_row}
 use Rattle.ac_choices.specs.ChoiceFits.{sizes_fit}
 use Rattle.ac_choices.proofs.Fitting.{fits_true, fits_false}
-use Rattle.ac_choices.proofs.Truths.{and-true}
+use Rattle.ac_items.proofs.Truths.{and-true}
 use Rattle.ac_integers.proofs.Bits.{again_128}
 use Rattle.ac_omega.proofs.Moduli.{drop-at}
 use Rattle.ac_refutations.specs.Alternatives.{greatest_size}

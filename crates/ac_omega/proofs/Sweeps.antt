@@ -2,8 +2,10 @@
 use Rattle.std.proofs.Common.{◌≡◌, ℕ, zero, suc, ◌+◌, ◌⊎◌, inl, inr, ℤ, List, [], ◌∷◌, ◌++◌, Option, Some, None, nat_lt, Bool, true, false, cond, refl, ap, ◌∙◌}
 use Rattle.ac_forms.specs.Pieces.{IsInSome}
 use Rattle.ac_forms.proofs.InPieces.{some-append}
-use Rattle.ac_omega.specs.Walk.{Node, Done, Absurd, Open, Method, IsTried, IsWhole}
-use Rattle.ac_omega.specs.Sweep.{Projected, Pieces, Spent, Wide, joined, onward, into, sweeps, swept, sweep, Projects}
+use Rattle.ac_omega.specs.Walk.{Node, Done, Absurd, Open, Method, IsTried}
+use Rattle.ac_omega.proofs.WalkLaws.{IsWhole}
+use Rattle.ac_omega.specs.Sweep.{Projected, Pieces, Spent, Wide, joined, onward, into, sweeps, swept, sweep}
+use Rattle.ac_omega.proofs.WalkLaws.{Projects}
 
 -- what the last conjunction of a path has
 abbrev pub AtEnd : {C H : Type 0} → (C → List ℤ → Type 0) → List H × C → List ℤ → Type 0

@@ -1,7 +1,8 @@
 -- The laws of a walk.
 use Rattle.std.proofs.Common.{◌≡◌, ℕ, zero, suc, ◌+◌, ◌<◌, ◌≤◌, ◌⊎◌, inl, inr, ℤ, List, [], ◌∷◌, ◌++◌, Option, Some, None, nat_lt, Bool, true, false, cond, arith, refl, sym, ap, ◌∙◌, subst}
 use borrow.Author.Tests.{ltb-false}
-use Rattle.ac_omega.specs.Walk.{Walked, Empty, Found, Spent, Wide, Node, Done, Absurd, Open, Method, lifted, behind, entered, tries, looked, walk, HasRows, IsTried, IsWhole, Covers, Lifts}
+use Rattle.ac_omega.specs.Walk.{Walked, Empty, Found, Spent, Wide, Node, Done, Absurd, Open, Method, lifted, behind, entered, tries, looked, walk, HasRows, IsTried}
+use Rattle.ac_omega.proofs.WalkLaws.{IsWhole, Covers, Lifts}
 
 -- the cost stays between these
 abbrev pub Between : {S : Type 0} → ℕ → ℕ → Walked S → Type 0

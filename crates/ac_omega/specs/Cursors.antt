@@ -44,8 +44,3 @@ abbrev pub IsNext : Strategy → ℕ → List Row → Next → Alternatives → 
 IsNext s z rows (next.Try h cursor) hs = (hs ≡ Some h ∷ alternatives_left s z rows cursor) × IsSound s z rows cursor
 IsNext s z rows next.Wide hs = (rest : Alternatives) × (hs ≡ None ∷ rest)
 IsNext s z rows next.End hs = hs ≡ []
-
--- that many splinters of row i, or a number that is too wide
-abbrev pub row_splinters : ℕ → ℕ → Option ℕ → Alternatives
-row_splinters z i (Some count) = splinters_from count z i 0
-row_splinters z i None = None ∷ []

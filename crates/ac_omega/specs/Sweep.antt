@@ -1,6 +1,6 @@
 -- The whole walk: the conjunctions that are done, each with the choices that led to it.
-use Rattle.std.specs.Prelude.{◌≡◌, ℕ, zero, suc, ◌+◌, ℤ, List, [], ◌∷◌, ◌++◌, Option, Some, None, nat_lt, if◌then◌else◌}
-use Rattle.ac_omega.specs.Walk.{Node, Done, Absurd, Open, Method, IsTried, IsWhole}
+use Rattle.std.specs.Prelude.{ℕ, zero, suc, ◌+◌, List, [], ◌∷◌, ◌++◌, Option, Some, None, nat_lt, if◌then◌else◌}
+use Rattle.ac_omega.specs.Walk.{Node, Done, Absurd, Open, Method}
 
 -- what a whole walk comes to: pieces, with the running cost; the first cost above the budget; a number that is too wide
 pub data Projected (C H : Type 0) : Type 0 where
@@ -40,11 +40,3 @@ unfoldable pub sweep : {C H S : Type 0} → Method C H S → ℕ → ℕ → Lis
 sweep m zero budget path c k = Spent k
 sweep m (suc n) budget path c k =
     if nat_lt budget (k + m.size c) then Spent (k + m.size c) else swept m (λ q d j. sweep m n budget q d j) path c (k + m.size c) (m.look c)
-
--- Has c p says that integers for the columns that go exist at p
-pub record Projects {C H S : Type 0} (m : Method C H S) (Good : C → Type 0) (At Has : C → List ℤ → Type 0) : Type 0 where
-  pub done : (c : C) (q p : List ℤ) → Good c → m.look c ≡ Done q → (Has c p → At c p) × (At c p → Has c p)
-  pub absurd_row : (c : C) (p : List ℤ) → Good c → m.look c ≡ Absurd → Has c p → ⊥
-  pub choice : (c : C) (hs : List (Option H)) (p : List ℤ) → Good c → m.look c ≡ Open hs → IsWhole hs → Has c p → (h : H) × IsTried h hs × ((d : C) → m.step c h ≡ Some d → Has d p)
-  pub good : (c : C) (hs : List (Option H)) (h : H) (d : C) → Good c → m.look c ≡ Open hs → IsTried h hs → m.step c h ≡ Some d → Good d
-  pub back : (c : C) (hs : List (Option H)) (h : H) (d : C) (p : List ℤ) → Good c → m.look c ≡ Open hs → IsTried h hs → m.step c h ≡ Some d → Has d p → Has c p

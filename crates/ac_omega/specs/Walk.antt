@@ -65,22 +65,3 @@ HasRows (Open hs) n = 1 ≤ n
 abbrev pub IsTried : {H : Type 0} → H → List (Option H) → Type 0
 IsTried h [] = ⊥
 IsTried h (x ∷ xs) = (x ≡ Some h) ⊎ IsTried h xs
-
--- there is a choice in each place
-abbrev pub IsWhole : {H : Type 0} → List (Option H) → Type 0
-IsWhole [] = Unit {0}
-IsWhole (None ∷ hs) = ⊥
-IsWhole (Some h ∷ hs) = IsWhole hs
-
--- each point of a conjunction goes on to what one of its choices leaves
-pub record Covers {C H S : Type 0} (m : Method C H S) (Good : C → Type 0) (At : C → List ℤ → Type 0) : Type 0 where
-  pub absurd_row : (c : C) (p : List ℤ) → Good c → m.look c ≡ Absurd → At c p → ⊥
-  pub choice : (c : C) (hs : List (Option H)) (p : List ℤ) → Good c → m.look c ≡ Open hs → IsWhole hs → At c p
-      → (h : H) × IsTried h hs × ((d : C) → m.step c h ≡ Some d → (q : List ℤ) × At d q)
-  pub good : (c : C) (hs : List (Option H)) (h : H) (d : C) → Good c → m.look c ≡ Open hs → IsTried h hs → m.step c h ≡ Some d → Good d
-
--- each point of what a choice leaves goes back to one of the conjunction
-pub record Lifts {C H S : Type 0} (m : Method C H S) (Good : C → Type 0) (At : C → List ℤ → Type 0) : Type 0 where
-  pub done : (c : C) (p : List ℤ) → Good c → m.look c ≡ Done p → At c p
-  pub good : (c : C) (hs : List (Option H)) (h : H) (d : C) → Good c → m.look c ≡ Open hs → IsTried h hs → m.step c h ≡ Some d → Good d
-  pub back : (c : C) (hs : List (Option H)) (h : H) (d : C) (q p : List ℤ) → Good c → m.look c ≡ Open hs → IsTried h hs → m.step c h ≡ Some d → At d q → m.lift c h q ≡ Some p → At c p

@@ -2,4 +2,3 @@ pub mod Assigning
 pub mod Composing
 pub mod Conditions
 pub mod OneSourceFault
-pub mod ReadBack

@@ -2,15 +2,12 @@
 use Rattle.std.specs.Prelude.{◌≡◌, ℕ, List, false}
 use Rattle.ac_syntax.specs.Ready.{ReadyProgram}
 use Rattle.ac_syntax.specs.Small.{IsSmallProgram}
-use Rattle.ac_syntax.specs.Text.{program_text}
 use Rattle.ac_syntax.specs.declared.tree.Program.{Program}
-use Rattle.ac_grammar.specs.declared.tree.File.{File}
 use Rattle.ac_rules.specs.Files.{names_of}
 use Rattle.ac_rules.specs.LawsOfNames.{UsesDeclared}
 use Rattle.ac_rules.specs.LawsOfPrograms.{DoesAs}
 use Rattle.ac_parse.specs.Answers.{HasSourceFault, is_memory}
-use Rattle.ac_canonical_rules.specs.Places.{IsSameButPlaces}
-use Rattle.ac_parse.specs.Program.{IsProgramOf, IsText}
+use Rattle.ac_parse.specs.Program.{IsProgramOf}
 use Rattle.ac_parse.specs.declared.faults.SourceFault.{SourceFault}
 
 -- a text has one fault at most, of one kind and at one place
@@ -36,10 +33,3 @@ ProgramsAreSmall = (bytes : List ℕ) (program : Program) → IsProgramOf bytes 
 -- it does what the file of the text says, and that file uses no name that it does not declare
 abbrev pub ProgramsDoAsTexts : Type 0
 ProgramsDoAsTexts = (bytes : List ℕ) (program : Program) → (is : IsProgramOf bytes program) → DoesAs is.file program × UsesDeclared (names_of is.file) is.file
-
--- where its canonical text has few enough bytes, and its constructs nest no deeper than those of a text may, it is a text of the same program
--- but for places
-abbrev pub CanonicalTextsAreReadBack : Type 0
-CanonicalTextsAreReadBack =
-    (bytes : List ℕ) (program : Program) → IsProgramOf bytes program → (file : File) → IsText (program_text program) file
-    → (again : Program) × IsProgramOf (program_text program) again × IsSameButPlaces program again

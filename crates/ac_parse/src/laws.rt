@@ -1,4 +1,4 @@
-ghost use Rattle.ac_parse.specs.Laws.{HasOneProgram, HasOneSourceFault, HasNotBoth, ProgramsAreReady, ProgramsAreSmall, ProgramsDoAsTexts, CanonicalTextsAreReadBack};
+ghost use Rattle.ac_parse.specs.Laws.{HasOneProgram, HasOneSourceFault, HasNotBoth, ProgramsAreReady, ProgramsAreSmall, ProgramsDoAsTexts};
 
 /// What the bytes of a text determine: their program, or else their first fault.
 pub fn programs_are_determined()
@@ -19,10 +19,4 @@ pub fn programs_are_ready()
 /// it or is that of a loop that runs there.
 pub fn programs_do_as_texts()
     ensures does { ProgramsDoAsTexts }
-{}
-
-/// The canonical text of the program of a text, as `print_program` of ac_syntax prints it, is a text of the same program but for
-/// places, if it keeps the limits on bytes and nesting: no more than 65,536 bytes, and constructs that nest at most 128 deep.
-pub fn canonical_texts_are_read_back()
-    ensures { CanonicalTextsAreReadBack }
 {}

@@ -15,7 +15,7 @@ mod signature;
 pub use ac_rules::fault::Which;
 pub use faults::{PairFault, SourceFault};
 pub use laws::{
-    canonical_texts_are_read_back, programs_are_determined, programs_are_ready,
+    programs_are_determined, programs_are_ready,
     programs_do_as_texts,
 };
 pub use pairing::pair;

@@ -6,7 +6,7 @@ use Rattle.std.proofs.lemmas.List.{map-append}
 use Rattle.ac_syntax.specs.declared.tree.Order.{Order}
 use Rattle.ac_syntax.specs.declared.tree.Pair.{Pair}
 use Rattle.ac_syntax.specs.declared.tree.Position.{Position}
-use Rattle.ac_choices.proofs.Keeping.{some-is}
+use Rattle.ac_items.proofs.Options.{some-is}
 use Rattle.ac_paths.specs.Going.{Pairing}
 use Rattle.ac_claims.specs.Checking.{IsClaimMade}
 use Rattle.ac_claims.specs.declared.types.Claim.{Claim}

@@ -20,7 +20,7 @@ use Rattle.ac_poly.specs.Laws.{values_at}
 use Rattle.ac_poly.specs.Model.{extents_of, model_of}
 use Rattle.ac_poly.specs.declared.types.Model.{Model}
 use Rattle.ac_poly.specs.declared.types.StmtModel.{StmtModel}
-use Rattle.ac_choices.proofs.Keeping.{bind-some, map-some, some-is}
+use Rattle.ac_items.proofs.Options.{bind-some, map-some, some-is}
 use Rattle.ac_paths.specs.Coordinates.{width}
 use Rattle.ac_paths.specs.Columns.{appended, equal_forms}
 use Rattle.ac_paths.specs.Going.{Pairing}

@@ -9,7 +9,7 @@ use Rattle.ac_forms.proofs.Joining.{both_of}
 use Rattle.ac_syntax.specs.declared.tree.Order.{Order}
 use Rattle.ac_syntax.specs.declared.tree.Pair.{Pair}
 use Rattle.ac_syntax.specs.declared.tree.Position.{Position}
-use Rattle.ac_choices.proofs.Keeping.{bind-some, map-some}
+use Rattle.ac_items.proofs.Options.{bind-some, map-some}
 use Rattle.ac_cert.specs.Faults.{first_fault_of}
 use Rattle.ac_cert.specs.declared.types.Rule.TheVariants as rule
 use Rattle.ac_cert.proofs.Soundness.{first-none}

@@ -25,7 +25,7 @@ use Rattle.ac_poly.specs.Steps.{roots_of}
 use Rattle.ac_poly.specs.declared.types.Model.{Model}
 use Rattle.ac_poly.specs.declared.types.NodeModel.{NodeModel}
 use Rattle.ac_poly.specs.declared.types.NodeModel.TheVariants.{Number as Constant, Read, Call as Applied}
-use Rattle.ac_choices.proofs.Keeping.{bind-some, some-is, if-some, map-some}
+use Rattle.ac_items.proofs.Options.{bind-some, some-is, if-some, map-some}
 use Rattle.ac_forms.proofs.Joining.{both_of}
 use Rattle.ac_forms.specs.Renaming.{picked}
 use Rattle.ac_paths.specs.Columns.{columns_of}

@@ -9,7 +9,7 @@ use Rattle.ac_forms.specs.declared.conj.Conj.{Conj}
 use Rattle.ac_forms.specs.declared.row.Row.{Row}
 use Rattle.ac_forms.proofs.Twins.{rows_fit-is}
 use Rattle.ac_poly.specs.declared.types.StmtModel.{StmtModel}
-use Rattle.ac_choices.proofs.Keeping.{bind-some, some-is, if-some}
+use Rattle.ac_items.proofs.Options.{bind-some, some-is, if-some}
 use Rattle.ac_choices.proofs.LeftMade.{conj_made}
 use Rattle.ac_choices.specs.declared.choose.Choice.{Choice}
 use Rattle.ac_paths.specs.Coordinates.{width}

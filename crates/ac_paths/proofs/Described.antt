@@ -22,7 +22,7 @@ use Rattle.ac_poly.specs.Model.{model_of}
 use Rattle.ac_poly.proofs.Columns.{has_columns}
 use Rattle.ac_poly.proofs.Models.{has_models}
 use Rattle.ac_poly.proofs.Whole.{has_instances, has_cells, has_nodes, has_order, has_extents}
-use Rattle.ac_choices.proofs.Keeping.{some-is}
+use Rattle.ac_items.proofs.Options.{some-is}
 use Rattle.ac_paths.specs.Coordinates.{width, coordinates, levels_before}
 use Rattle.ac_paths.specs.StepLaws.{ModelsHaveModuli}
 use Rattle.ac_paths.specs.Executions.{ModelsDescribe}

@@ -21,7 +21,7 @@ use Rattle.ac_poly.specs.declared.types.Model.{Model}
 use Rattle.ac_poly.specs.declared.types.NodeModel.{NodeModel}
 use Rattle.ac_poly.specs.declared.types.NodeModel.TheVariants.{Number as Constant, Read, Call as Applied}
 use Rattle.ac_poly.specs.declared.types.StmtModel.{StmtModel}
-use Rattle.ac_choices.proofs.Keeping.{bind-some, map-some, some-is}
+use Rattle.ac_items.proofs.Options.{bind-some, map-some, some-is}
 use Rattle.ac_paths.specs.Executions.{Execution, InstanceAt, At, Describes}
 use Rattle.ac_paths.specs.Places.{CellForms, cell_read, initial_cell, output_cell, node_at, read_of, element_forms, initial_of, number_of, number_at}
 use Rattle.ac_poly.proofs.Differences.{column-value}

@@ -24,7 +24,8 @@ use Rattle.ac_choices.specs.ChoiceFits.{after_choice, choice_fits, raw}
 use Rattle.ac_choices.specs.Choices.{column_of, is_legal, left_by, lifted}
 use Rattle.ac_choices.specs.declared.choose.Choice.{Choice}
 use Rattle.ac_choices.specs.declared.choose.Choice.TheVariants as choice
-use Rattle.ac_choices.proofs.Keeping.{bind-some, some-is, if-some, Meets-append}
+use Rattle.ac_choices.proofs.Keeping.{Meets-append}
+use Rattle.ac_items.proofs.Options.{bind-some, some-is, if-some}
 use Rattle.ac_choices.proofs.LeftMade.{conj_made, raw_made}
 use Rattle.ac_choices.proofs.Lifting.{after-columns, lifts-after, lifted_at}
 use Rattle.ac_forms.specs.Renaming.{picked, rows_renaming}

@@ -5,6 +5,7 @@ pub mod Branches
 pub mod ReadSteps
 pub mod InBranches
 pub mod CallSteps
+pub mod ReaderSteps
 pub mod Stepping
 pub mod Kills
 pub mod LevelModuli

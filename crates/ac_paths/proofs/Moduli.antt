@@ -8,7 +8,7 @@ use Rattle.ac_forms.specs.declared.conj.Conj.{Conj}
 use Rattle.ac_forms.specs.declared.row.Row.{Row}
 use Rattle.ac_forms.specs.declared.row.Row.TheVariants.{Eq, Div, Ge}
 use Rattle.ac_forms.proofs.Passes.{moduli_of}
-use Rattle.ac_choices.proofs.Keeping.{bind-some, map-some}
+use Rattle.ac_items.proofs.Options.{bind-some, map-some}
 use Rattle.ac_forms.specs.Renaming.{with_form, renamed, renamed_row, renaming, row_renaming, rows_renaming, sums_fit, CanRename, CanRenameAll}
 use Rattle.ac_forms.proofs.Distinct.{sums_fit-is}
 use Rattle.ac_paths.specs.Made.{HaveIf}

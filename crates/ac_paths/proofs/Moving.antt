@@ -10,7 +10,8 @@ use Rattle.ac_forms.specs.declared.row.Row.{Row}
 use Rattle.ac_forms.specs.declared.row.Row.TheVariants.{Eq}
 use Rattle.ac_poly.specs.Laws.{values_at}
 use Rattle.ac_choices.specs.Combination.{combination}
-use Rattle.ac_choices.proofs.Keeping.{bind-some, map-some, some-is, if-some, combination-value, combination-within}
+use Rattle.ac_choices.proofs.Keeping.{combination-value, combination-within}
+use Rattle.ac_items.proofs.Options.{bind-some, map-some, some-is, if-some}
 use Rattle.ac_forms.specs.Renaming.{picked, renamed, sums_fit, renaming, rows_renaming, AreColumns}
 use Rattle.ac_forms.proofs.Renamings.{form-within}
 use Rattle.ac_forms.proofs.Distinct.{renaming-value, rows_renaming-points, rows_renaming-over}

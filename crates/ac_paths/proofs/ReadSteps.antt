@@ -13,7 +13,8 @@ use Rattle.ac_syntax.proofs.Sources.{source_stands}
 use Rattle.ac_poly.specs.Laws.{values_at, cell_of}
 use Rattle.ac_poly.specs.declared.types.StmtModel.{StmtModel}
 use Rattle.ac_choices.specs.Points.{IsPoint}
-use Rattle.ac_choices.proofs.Keeping.{map-some, Meets-append}
+use Rattle.ac_choices.proofs.Keeping.{Meets-append}
+use Rattle.ac_items.proofs.Options.{map-some}
 use Rattle.ac_forms.specs.Renaming.{picked, rows_renaming}
 use Rattle.ac_paths.specs.Columns.{base, columns_of, equal_forms, appended}
 use Rattle.ac_paths.specs.Coordinates.{width}

@@ -15,7 +15,7 @@ use Rattle.ac_forms.proofs.Joining.{both_of}
 use Rattle.ac_cert.specs.Apart.{IsOnto}
 use Rattle.ac_cert.specs.declared.ends.Absurd.{Absurd}
 use Rattle.ac_cert.specs.declared.types.Next as tree
-use Rattle.ac_choices.proofs.Keeping.{bind-some, map-some, some-is}
+use Rattle.ac_items.proofs.Options.{bind-some, map-some, some-is}
 use Rattle.ac_paths.specs.Columns.{base, columns_of}
 use Rattle.ac_paths.specs.Formed.{AllFormed, IsFormed}
 use Rattle.ac_paths.specs.Going.{Pairing, at_rows, extended}

@@ -10,7 +10,7 @@ use Rattle.ac_forms.specs.Rows.{form_of}
 use Rattle.ac_forms.specs.declared.row.Row.{Row}
 use Rattle.ac_forms.specs.declared.row.Row.TheVariants.{Eq, Div, Ge}
 use Rattle.ac_choices.specs.Combination.{combination}
-use Rattle.ac_choices.proofs.Keeping.{bind-some, map-some, if-some, some-is}
+use Rattle.ac_items.proofs.Options.{bind-some, map-some, if-some, some-is}
 use Rattle.ac_paths.specs.Columns.{appended, difference, equal_forms}
 use Rattle.ac_graft.proofs.Forms.{get-added, get-beside}
 use Rattle.ac_graft.proofs.Named.{place_of, AreNames, coef_of, Renames}

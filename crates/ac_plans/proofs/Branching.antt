@@ -9,7 +9,7 @@ use Rattle.ac_forms.specs.declared.row.Row.{Row}
 use Rattle.ac_syntax.specs.declared.tree.Position.{Position}
 use Rattle.ac_poly.specs.declared.types.Model.{Model}
 use Rattle.ac_poly.specs.declared.types.StmtModel.{StmtModel}
-use Rattle.ac_choices.proofs.Keeping.{map-some, some-is}
+use Rattle.ac_items.proofs.Options.{map-some, some-is}
 use Rattle.ac_graft.specs.Placings.{grown}
 use Rattle.ac_graft.specs.Standing.{StandsOn}
 use Rattle.ac_graft.specs.declared.placing.Placing.{Placing}

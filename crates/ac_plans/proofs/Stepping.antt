@@ -5,7 +5,7 @@ use Rattle.ac_forms.specs.Rows.{IsWellMade}
 use Rattle.ac_syntax.specs.declared.tree.Order.{Order}
 use Rattle.ac_syntax.specs.declared.tree.Order.TheVariants.{Keep, Swap}
 use Rattle.ac_syntax.specs.declared.tree.Position.{Position}
-use Rattle.ac_choices.proofs.Keeping.{map-some, some-is, if-some}
+use Rattle.ac_items.proofs.Options.{map-some, some-is, if-some}
 use Rattle.ac_graft.specs.Plans.{AcceptsPlan}
 use Rattle.ac_graft.specs.declared.placing.Placing.{Placing}
 use Rattle.ac_paths.specs.Formed.{IsFormed, AllFormed, HasModuli}

@@ -1,3 +1,4 @@
+pub mod LineProgress
 mod Counts
 mod Following
 mod Growing

@@ -1,4 +1,4 @@
--- The items of a complete proof are the lines of a proof.
+-- The items of a complete proof are the lines of a proof. The file is long since its one induction runs over every kind of place in a proof.
 use Rattle.std.proofs.Common.{◌≡◌, ℕ, zero, suc, ◌+◌, ◌-◌, ◌<◌, ◌≤◌, ◌^◌, ℤ, pos, negsuc, List, [], ◌∷◌, ◌++◌, length, Bool, true, false, cond, Option, Some, None, refl, sym, ap, ◌∙◌, subst, arith, append_assoc, append-nil, length-append}
 use Rattle.std.specs.Prelude.{Vec, Box, nat_le, is_some}
 use Rattle.std.specs.List.{flat_map, AllByRecursion}

@@ -20,7 +20,8 @@ use Rattle.ac_claims.specs.declared.types.Proof.{Proof}
 use Rattle.ac_claims.proofs.FeedSteps.{at_split, proof_flat, plan_flat}
 use Rattle.ac_proofitems.specs.Spelling.{spelled}
 use Rattle.ac_prooftext.specs.Texts.{ended, format_line, items_text, proof_text}
-use Rattle.ac_prooftext.specs.Writing.{Leads, Adds}
+use Rattle.ac_prooftext.specs.Writing.{Adds}
+use Rattle.ac_prooftext.proofs.LineProgress.{Leads}
 
 -- the lines of items behind those of others
 text_append : (xs ys : List Item) → items_text (xs ++ ys) ≡ items_text xs ++ items_text ys

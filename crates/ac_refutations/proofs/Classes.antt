@@ -7,7 +7,7 @@ use Rattle.ac_forms.specs.Fits.{Fits}
 use Rattle.ac_forms.specs.declared.conj.Conj.{Conj}
 use Rattle.ac_forms.specs.declared.row.Row.TheVariants.{Div}
 use Rattle.ac_cert.specs.Rules.{has_class, is_partition, class, class_row}
-use Rattle.ac_choices.proofs.Truths.{true-le, true-nat_le}
+use Rattle.ac_items.proofs.Truths.{true-le, true-nat_le}
 use Rattle.ac_choices.proofs.Fitting.{fits_true}
 use Rattle.ac_refutations.specs.Descents.{column_less}
 use Rattle.ac_refutations.specs.Standing.{coef_of, place_of, Renames, StandsAt}

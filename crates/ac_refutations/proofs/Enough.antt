@@ -12,7 +12,7 @@ use Rattle.ac_choices.specs.Bounds.{is_low, is_none, low_bound, highs, greatest_
 use Rattle.ac_choices.specs.ChoiceFits.{ArePositive, sizes_fit}
 use Rattle.ac_choices.proofs.DarkShadows.{less_one}
 use Rattle.ac_choices.proofs.Parts.{highs_positive}
-use Rattle.ac_choices.proofs.Truths.{true-le}
+use Rattle.ac_items.proofs.Truths.{true-le}
 use Rattle.ac_exact.specs.Tests.{is_exact, greatest_failing, economical, pairs_fit}
 use Rattle.ac_exact.proofs.Counts.{splinters-within}
 use Rattle.ac_exact.proofs.Implying.{failing-some}

@@ -1,3 +1,4 @@
+pub mod GatheredChoices
 pub mod Renaming
 pub mod Terms
 pub mod Paths

@@ -8,7 +8,7 @@ use Rattle.ac_cert.specs.declared.types.Step.{Step}
 use Rattle.ac_cert.specs.declared.types.Step.TheVariants.{Add}
 use Rattle.ac_cert.specs.Accepted.{after_steps}
 use Rattle.ac_cert.specs.Rules.{after_step, with_row}
-use Rattle.ac_choices.proofs.Keeping.{bind-some, some-is}
+use Rattle.ac_items.proofs.Options.{bind-some, some-is}
 use Rattle.ac_refutations.specs.declared.path.Trail.{Trail}
 use Rattle.ac_forms.specs.Renaming.{with_form}
 use Rattle.ac_refutations.specs.Standing.{Renames, Blends, StandsAt, Stand, CanAdd, sum_of, IsOnto, Reaches, Leads, Grows}

@@ -12,7 +12,7 @@ use Rattle.ac_cert.specs.declared.ends.Absurd.{Absurd as End}
 use Rattle.ac_cert.specs.declared.types.Tree.{Tree}
 use Rattle.ac_choices.specs.ChoiceFits.{choice_fits, raw, after_choice}
 use Rattle.ac_choices.specs.Choices.{are_absurd, left_by}
-use Rattle.ac_choices.proofs.Truths.{and-true}
+use Rattle.ac_items.proofs.Truths.{and-true}
 use Rattle.ac_refutations.specs.Branches.{Stage, IsRefutedBy, AreRefutedBy, IsTry, AreAlternatives, RefuteAll, EachIsWithin2To120}
 use Rattle.ac_refutations.specs.Refutations.{conj_of, AreChoicesOf, Refutes, RefuteEach, AreModuliWithin, AreWithin2To120, IsWithin2To120, AreAllWithin2To120}
 use Rattle.ac_refutations.specs.declared.refutation.Refutation.{Refutation, Row_of-Refutation, end_of-Refutation, more_of-Refutation, items-the_row-Refutation, the_lemmas}

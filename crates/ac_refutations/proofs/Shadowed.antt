@@ -12,7 +12,7 @@ use Rattle.ac_forms.specs.declared.conj.Conj.{Conj}
 use Rattle.ac_forms.specs.declared.row.Row.TheVariants.{Ge}
 use Rattle.ac_choices.specs.Bounds.{is_high, low_bound, high_bound}
 use Rattle.ac_choices.specs.Choices.{shadow_form}
-use Rattle.ac_choices.proofs.Truths.{le-true}
+use Rattle.ac_items.proofs.Truths.{le-true}
 use Rattle.ac_refutations.specs.Refutations.{AreWithin2To120}
 use Rattle.ac_refutations.specs.Shadowing.{dark_gap}
 use Rattle.ac_refutations.specs.Standing.{raised, Leads}

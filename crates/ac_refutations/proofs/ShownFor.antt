@@ -18,7 +18,7 @@ use Rattle.ac_choices.specs.declared.column.Bound.{Bound}
 use Rattle.ac_choices.specs.declared.choose.Choice.TheVariants as choice
 use Rattle.ac_choices.specs.Bounds.{is_low, is_high, low_bound, high_bound, lows, highs, rows_without}
 use Rattle.ac_choices.specs.Choices.{shadow_form, shadows_with, shadows, left_by}
-use Rattle.ac_choices.proofs.Truths.{and-true}
+use Rattle.ac_items.proofs.Truths.{and-true}
 use Rattle.ac_exact.specs.Exact.{real_form}
 use Rattle.ac_exact.specs.Tests.{is_same_left}
 use Rattle.ac_exact.proofs.Again.{again-ge}

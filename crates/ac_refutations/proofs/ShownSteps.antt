@@ -12,7 +12,7 @@ use Rattle.ac_forms.specs.Ties.{int_tied, then_tied}
 use Rattle.ac_forms.specs.declared.conj.Conj.{Conj}
 use Rattle.ac_forms.specs.declared.row.Row.TheVariants.{Ge}
 use Rattle.ac_choices.specs.Bounds.{is_high, low_bound, high_bound}
-use Rattle.ac_choices.proofs.Truths.{and-true, le-true}
+use Rattle.ac_items.proofs.Truths.{and-true, le-true}
 use Rattle.ac_exact.specs.Exact.{real_form}
 use Rattle.ac_exact.specs.Tests.{is_at_most}
 use Rattle.ac_exact.proofs.Summing.{get_or-plus}

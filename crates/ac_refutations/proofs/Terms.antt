@@ -12,7 +12,7 @@ use Rattle.ac_cert.specs.declared.types.Step.TheVariants.{Add}
 use Rattle.ac_cert.specs.Rules.{term_form, sum_from, zero_form, is_equality, after_step, with_row}
 use Rattle.ac_cert.proofs.Equations.{add-row}
 use Rattle.ac_choices.proofs.Fitting.{combination_some}
-use Rattle.ac_choices.proofs.Truths.{true-le}
+use Rattle.ac_items.proofs.Truths.{true-le}
 use Rattle.ac_forms.specs.Renaming.{with_form}
 use Rattle.ac_refutations.specs.Standing.{Renames, Alike, Blends, StandsAt, CanAdd, sum_of}
 use Rattle.ac_refutations.proofs.Renaming.{fits-zero, blends-can, renames-combined, renames-blends, alike-renames}

@@ -21,7 +21,7 @@ use Rattle.ac_forms.specs.Columns.{has_column}
 use Rattle.ac_choices.specs.Choices.{column_of, are_absurd, is_equality_of, allows, substitute_residue_row, left_by}
 use Rattle.ac_choices.proofs.LeftMade.{raw_made}
 use Rattle.ac_choices.proofs.Fitting.{true_fits}
-use Rattle.ac_choices.proofs.Truths.{true-le}
+use Rattle.ac_items.proofs.Truths.{true-le}
 use Rattle.ac_refutations.specs.Branches.{count_of, counts_from, IsTry, AreAlternatives, residue_choices, splinter_choices, leaf_choices, AreResidues, AreAll}
 use Rattle.ac_refutations.specs.Refutations.{AreChoicesOf}
 use Rattle.ac_refutations.specs.Sufficing.{SufficesAt, Suffice}

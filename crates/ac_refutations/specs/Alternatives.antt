@@ -1,4 +1,6 @@
 -- The choices for a column (W. Pugh, The Omega test, 1991), in order; none in the place of choices for which a number leaves `i128`.
+pub use Rattle.ac_choices.specs.Bounds.{greatest_size, last_splinter}
+pub use Rattle.ac_exact.specs.Exact.{count_to}
 use Rattle.std.specs.Prelude.{ℕ, zero, suc, ◌*◌, ◌/◌, Bool, false, ◌&&◌, ◌||◌, cond, ℤ, pos, ◌-ℤ◌, ◌*ℤ◌, unsigned_abs, List, [], ◌∷◌, ◌++◌, Option, Some, None, option_map}
 use Rattle.ac_integers.specs.Gcd.{gcd}
 use Rattle.ac_forms.specs.Affine.{Affine, coef}
@@ -9,9 +11,7 @@ use Rattle.ac_choices.specs.declared.choose.Choice.{Choice}
 use Rattle.ac_choices.specs.declared.choose.Choice.TheVariants as choice
 use Rattle.ac_choices.specs.Bounds.{is_low, low_bound, highs, is_one_sided}
 use Rattle.ac_forms.specs.Columns.{has_column}
-pub use Rattle.ac_choices.specs.Bounds.{greatest_size, last_splinter}
 use Rattle.ac_choices.specs.ChoiceFits.{sizes_fit}
-pub use Rattle.ac_exact.specs.Exact.{count_to}
 use Rattle.ac_exact.specs.Tests.{economical, pairs_fit}
 use Rattle.ac_refutations.specs.declared.strategy.Strategy.{Strategy}
 use Rattle.ac_refutations.specs.declared.strategy.Strategy.TheVariants.{Full, Economical}
@@ -101,9 +101,3 @@ abbrev pub all_of : Alternatives → Option (List Choice)
 all_of [] = Some []
 all_of (None ∷ hs) = None
 all_of (Some h ∷ hs) = option_map (λ rest. h ∷ rest) (all_of hs)
-
--- the list that a list becomes by adding these in order, where there is one in each place
-abbrev pub gathered : List Choice → Alternatives → Option (List Choice)
-gathered made [] = Some made
-gathered made (None ∷ hs) = None
-gathered made (Some h ∷ hs) = gathered (made ++ h ∷ []) hs

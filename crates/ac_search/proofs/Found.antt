@@ -37,7 +37,8 @@ use Rattle.ac_parts.specs.Parts.{in_part}
 use Rattle.ac_parts.specs.Plans.{ArePlanned, IsTreeAccepted}
 use Rattle.ac_parts.specs.Stopping.{TreeStops}
 use Rattle.ac_parts.specs.declared.types.Part.{Part}
-use Rattle.ac_search.specs.Planning.{AreApart, HaveClaims, IsBegun, IsPartly, IsPlanned, IsPlannedTo}
+use Rattle.ac_search.specs.Planning.{HaveClaims, IsBegun, IsPartly, IsPlanned, IsPlannedTo}
+use Rattle.ac_search.proofs.ApartClaims.{AreApart}
 use Rattle.ac_search.specs.Ranks.{AreClaimsAt, AreRanks}
 use Rattle.ac_search.specs.Searches.{IsFound, IsKnownUnder, IsSearch, rows_at}
 use Rattle.ac_search.specs.declared.planning.Planning.{Planning}

@@ -1,3 +1,4 @@
+pub mod ApartClaims
 pub mod Lists
 pub mod Programs
 pub mod Unfolded

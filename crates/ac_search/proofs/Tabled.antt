@@ -31,7 +31,8 @@ use Rattle.ac_tables.specs.Tables.{all_trees, new_table, Grows, TableOf}
 use Rattle.ac_tables.specs.Trees.{AreTreesOf}
 use Rattle.ac_tables.proofs.Later.{trees_more}
 use Rattle.ac_unfold.specs.declared.types.Setting.{Setting}
-use Rattle.ac_search.specs.Planning.{AreApart, HaveClaims, IsBegun, IsBrokenBy}
+use Rattle.ac_search.specs.Planning.{HaveClaims, IsBegun, IsBrokenBy}
+use Rattle.ac_search.proofs.ApartClaims.{AreApart}
 use Rattle.ac_search.specs.Searches.{IsSearch}
 use Rattle.ac_search.specs.Stops.{EndsEarlyBy}
 use Rattle.ac_search.specs.Tabling.{IsTable}

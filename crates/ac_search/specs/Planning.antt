@@ -33,10 +33,6 @@ use Rattle.ac_search.specs.declared.types.Search.{Search}
 abbrev pub HaveClaims : List (Position × Position) → List Claim → Type 0
 HaveClaims keys claims = (key : Position × Position) → IsAmong key keys → (c : Claim) × IsAmong c claims × (key_of c ≡ key)
 
--- none of the claims is of a pair up to which the search goes
-abbrev pub AreApart : Search → List Claim → Type 0
-AreApart s tabled = (c : Claim) → IsAmong c tabled → (key : Position × Position) → IsAmong key s.stops.now → ¬ (key_of c ≡ key)
-
 -- a part with the first of some claims, behind others: each has its plans, which end at claims of these, and stop at the recurrence pairs
 pub record IsPartly (s : Search) (order : List (Site × Order)) (all : List Claim) (part : Part) : Type 0 where
   pub claims : part.claims.items ≡ take (length part.claims.items) all

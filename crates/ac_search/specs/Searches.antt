@@ -13,7 +13,7 @@ use Rattle.ac_graph.specs.Steps.{HaveFlows}
 use Rattle.ac_hull.specs.Templates.{template_rows}
 use Rattle.ac_leading.specs.Leading.{Unfolding}
 use Rattle.ac_setting.specs.Programs.{point_width}
-use Rattle.ac_agreeing.specs.Statements.{HaveArities}
+use Rattle.ac_syntax.specs.ExecutedCalls.{HaveArities}
 use Rattle.ac_searched.specs.Searched.{Widening, IsWideningOf, searched}
 use Rattle.ac_searched.specs.Statements.{AreNumbersOf}
 use Rattle.ac_decided.specs.Stopping.{programs_of}

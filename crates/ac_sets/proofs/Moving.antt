@@ -5,7 +5,7 @@ use Rattle.ac_forms.specs.Renaming.{renamed_row, IsApartFrom, AreDistinct}
 use Rattle.ac_forms.specs.declared.conj.Conj.{Conj}
 use Rattle.ac_forms.specs.declared.row.Row.{Row}
 use Rattle.ac_forms.specs.Standing.{is_among}
-use Rattle.ac_choices.proofs.Truths.{true-nat_le}
+use Rattle.ac_items.proofs.Truths.{true-nat_le}
 use Rattle.ac_sets.specs.Ends.{stands}
 use Rattle.ac_sets.specs.Moves.{quotients_from, common}
 

@@ -19,7 +19,7 @@ use Rattle.ac_forms.proofs.Joining.{both_of, either_of}
 use Rattle.ac_cert.specs.Rules.{with_row, with_column_row}
 use Rattle.ac_cert.specs.declared.types.Rule.{Rule}
 use Rattle.ac_choices.proofs.Keeping.{made-push}
-use Rattle.ac_choices.proofs.Truths.{true-nat_le}
+use Rattle.ac_items.proofs.Truths.{true-nat_le}
 use Rattle.ac_sets.specs.Differences.{further, outside}
 use Rattle.ac_sets.specs.Ends.{stands, is_standing, conj_of, part_refusal}
 use Rattle.ac_forms.specs.Standing.{is_among}

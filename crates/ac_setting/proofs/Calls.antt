@@ -12,7 +12,7 @@ use Rattle.ac_poly.specs.Nodes.{roots}
 use Rattle.ac_poly.specs.declared.types.Model.{Model}
 use Rattle.ac_poly.specs.declared.types.NodeModel.{NodeModel}
 use Rattle.ac_poly.specs.declared.types.NodeModel.TheVariants.{Number as Constant, Read, Call as Applied}
-use Rattle.ac_choices.proofs.Keeping.{bind-some, some-is}
+use Rattle.ac_items.proofs.Options.{bind-some, some-is}
 use Rattle.ac_paths.specs.Executions.{Execution, At, Describes}
 use Rattle.ac_paths.specs.Pairs.{Placed, IsReader as Reads, CallPlace}
 use Rattle.ac_paths.specs.Places.{CallAt, call_at, call_of, node_at}

@@ -17,7 +17,7 @@ use Rattle.ac_syntax.specs.declared.tree.Position.{Position}
 use Rattle.ac_syntax.specs.declared.tree.Position.TheVariants.{Output}
 use Rattle.ac_syntax.specs.declared.tree.Symbol.{Symbol}
 use Rattle.ac_forms.proofs.Joining.{both_of}
-use Rattle.ac_choices.proofs.Keeping.{some-is}
+use Rattle.ac_items.proofs.Options.{some-is}
 use Rattle.ac_poly.specs.Model.{model_of}
 use Rattle.ac_paths.specs.Executions.{execution}
 use Rattle.ac_paths.specs.Going.{same_symbol}

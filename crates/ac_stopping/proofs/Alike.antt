@@ -10,7 +10,7 @@ use Rattle.ac_syntax.specs.declared.tree.Position.{Position}
 use Rattle.ac_syntax.specs.declared.tree.Position.TheVariants.{Node}
 use Rattle.ac_poly.specs.declared.types.Model.{Model}
 use Rattle.ac_poly.specs.declared.types.StmtModel.{StmtModel}
-use Rattle.ac_choices.proofs.Keeping.{map-some, if-some}
+use Rattle.ac_items.proofs.Options.{map-some, if-some}
 use Rattle.ac_paths.specs.Columns.{all_of}
 use Rattle.ac_paths.specs.Coordinates.{width}
 use Rattle.ac_paths.specs.Going.{Pairing, branches, branches_by, branches_of_calls, call_branches, case_path, case_rows, cases_at, cases_from, cases_of, extended, gone_to, initial_path, argument_path, kept, read_branches, root, same_symbol, seat_of, swapped}

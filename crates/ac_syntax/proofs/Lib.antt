@@ -1,3 +1,5 @@
+pub mod NodeLists
+pub mod OrderLevels
 pub mod Runs
 pub mod Turns
 pub mod Bound

@@ -12,15 +12,6 @@ Before (suc c) i j [] y = ⊥
 Before (suc c) i j (k ∷ x) [] = ⊥
 Before (suc c) i j (k ∷ x) (l ∷ y) = (k <ℤ l) ⊎ ((k ≡ l) × Before c i j x y)
 
--- one level of this order: the first l common counters agree and the next rises, or all agree and the text decides
-abbrev pub AtLevel : ℕ → ℕ → ℕ → ℕ → List ℤ → List ℤ → Type 0
-AtLevel zero zero i j x y = i < j
-AtLevel zero (suc l) i j x y = ⊥
-AtLevel (suc c) l i j [] y = ⊥
-AtLevel (suc c) l i j (k ∷ x) [] = ⊥
-AtLevel (suc c) zero i j (k ∷ x) (m ∷ y) = k <ℤ m
-AtLevel (suc c) (suc l) i j (k ∷ x) (m ∷ y) = (k ≡ m) × AtLevel c l i j x y
-
 -- how many loops of a program's body stand around two of its assignments
 abbrev pub common_loops : List Stmt → ℕ → ℕ → ℕ
 common_loops body i j = common (loops_around body i) (loops_around body j)

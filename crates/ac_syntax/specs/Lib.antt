@@ -27,3 +27,4 @@ pub mod Counts
 pub mod Text
 pub mod Printing
 pub mod Small
+pub mod ExecutedCalls

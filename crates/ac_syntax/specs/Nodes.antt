@@ -1,5 +1,5 @@
 -- The nodes of a value in preorder, the root 0; subscripts are no nodes.
-use Rattle.std.specs.Prelude.{ℕ, zero, suc, ◌+◌, ◌-◌, Option, Some, None, nat_lt, if◌then◌else◌, List, [], ◌∷◌}
+use Rattle.std.specs.Prelude.{ℕ, zero, suc, ◌+◌, ◌-◌, Option, Some, None, nat_lt, if◌then◌else◌}
 use Rattle.ac_syntax.specs.declared.tree.Value.{Value, Row_of-Value, end_of-Value, more_of-Value}
 use Rattle.ac_syntax.specs.declared.tree.Value.TheVariants.{Number, Access, Call'}
 
@@ -27,8 +27,3 @@ unfoldable mutual
   pub node_in : {m : _} → Row_of-Value m → ℕ → Option Value
   node_in end_of-Value k = None
   node_in (more_of-Value v rest) k = if nat_lt k (size v) then node_of v k else node_in rest (k - size v)
-
--- the same, at values one after another
-abbrev pub node_among : List Value → ℕ → Option Value
-node_among [] k = None
-node_among (v ∷ vs) k = if nat_lt k (size v) then node_of v k else node_among vs (k - size v)

@@ -15,7 +15,7 @@ use Rattle.ac_syntax.specs.declared.tree.Stmt.TheVariants.{For, For', Assign}
 use Rattle.ac_parse.specs.Program.{IsProgramOf}
 use Rattle.ac_gen.specs.Loops.{nowhere, function_symbol, Loop, statement}
 use Rattle.ac_gen.specs.Pipelines.{program}
-use Rattle.ac_agreeing.specs.Statements.{HaveArities}
+use Rattle.ac_syntax.specs.ExecutedCalls.{HaveArities}
 use Rattle.ac_arities.specs.Arities.{HasArities, EachHasArities, AssignsArities, EachAssignsArities, AllHaveArities}
 use Rattle.ac_arities.proofs.Assigned.{files_have_arities}
 use Rattle.ac_arities.proofs.Built.{count_row}

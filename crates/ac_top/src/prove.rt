@@ -1,7 +1,7 @@
 // The work of `prove`: the verdicts on the outputs of a pair, and the file for the proof of those that are equal.
 ghost use Rattle.std.specs.Prelude.{◌≡◌, Some, option_map, IfOk};
 ghost use Rattle.ac_claims.specs.Soundness as judge;
-ghost use Rattle.ac_agreeing.specs.Statements.{HaveArities};
+ghost use Rattle.ac_syntax.specs.ExecutedCalls.{HaveArities};
 ghost use Rattle.ac_walk.specs.Causes.{IsAnswered};
 ghost use Rattle.ac_walk.specs.Verdicts.{AreVerdicts};
 ghost use Rattle.ac_top.specs.Proving.{ProveReports, IsProofOf, IsFileOf};

@@ -1,6 +1,6 @@
 ghost use Rattle.std.specs.Prelude.{◌≡◌, ◌∷◌, replicate, IfOk};
 ghost use Rattle.ac_port.specs.Counts.{Rose};
-ghost use Rattle.ac_agreeing.specs.Statements.{HaveArities};
+ghost use Rattle.ac_syntax.specs.ExecutedCalls.{HaveArities};
 ghost use Rattle.ac_top.specs.Answers.{ArePaired, SourceReports, FileReports};
 ghost use Rattle.ac_top.specs.Reads.{Fails};
 ghost use Rattle.ac_top.specs.Reports.{report as a_report};

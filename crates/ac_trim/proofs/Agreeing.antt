@@ -15,7 +15,7 @@ use Rattle.ac_cert.specs.declared.types.Step.{Step}
 use Rattle.ac_cert.specs.declared.types.Step.TheVariants.{Add, Cut, DivScale, DivAdd, DivMod, DivEq, Quot, Floor, EqCut}
 use Rattle.ac_choices.specs.Combination.{combination}
 use Rattle.ac_cert.specs.Rules.{after_step, with_row, with_column_row, sum_row, sum_from, zero_form, are_equalities, is_equality, term_form, cut_row, div_scale_row, div_add_row, div_mod_row, div_eq_row, eq_cut_row, quotient, floor_of, less_column, rest_of}
-use Rattle.ac_choices.proofs.Keeping.{map-some, bind-some}
+use Rattle.ac_items.proofs.Options.{map-some, bind-some}
 use Rattle.ac_trim.specs.Nodes.{once, term_uses, step_uses, rows_of}
 use Rattle.ac_trim.specs.Relations.{AgreeOn, further, place, moved, moved_terms}
 

@@ -10,7 +10,7 @@ use Rattle.ac_cert.specs.declared.types.Step.TheVariants.{Add, Cut, DivScale, Di
 use Rattle.ac_cert.specs.declared.types.Tree.{Tree}
 use Rattle.ac_cert.specs.declared.ends.Absurd.{Absurd}
 use Rattle.ac_cert.specs.Rules.{after_step, both_sides, side_rows, class, class_row, with_row, is_partition, sum_row}
-use Rattle.ac_choices.proofs.Keeping.{map-some}
+use Rattle.ac_items.proofs.Options.{map-some}
 use Rattle.ac_trim.specs.Nodes.{Nodes, uses, step_uses, rows_of, makes_column, IsNeeded, nodes_of, list_kids}
 use Rattle.ac_trim.specs.Nodes.Nodes.{absurdity, split, residue, none, child, step, gap}
 use Rattle.ac_trim.specs.Drafts.{node_size, Stands, KidsStand}

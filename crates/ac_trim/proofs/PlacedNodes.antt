@@ -9,7 +9,7 @@ use Rattle.ac_cert.specs.declared.types.Step.TheVariants.{Add, Cut, DivScale, Di
 use Rattle.ac_cert.specs.Ends.{is_absurd}
 use Rattle.ac_cert.specs.declared.types.Rule.TheVariants as rule
 use Rattle.ac_cert.specs.Rules.{both_sides, side_rows, class_row, with_row, is_partition}
-use Rattle.ac_choices.proofs.Keeping.{map-some}
+use Rattle.ac_items.proofs.Options.{map-some}
 use Rattle.ac_trim.specs.Nodes.{Nodes, once, term_uses, step_uses, uses, rows_of, makes_column, IsNeeded}
 use Rattle.ac_trim.specs.Nodes.Nodes.{absurdity, split, residue, none, child, step, gap}
 use Rattle.ac_trim.specs.Drafts.{kid_count, Stands}

@@ -16,7 +16,7 @@ use Rattle.ac_syntax.specs.declared.tree.Value.{Value}
 use Rattle.ac_syntax.specs.declared.tree.Value.TheVariants.{Access, Number}
 use Rattle.ac_poly.specs.Laws.{values_at}
 use Rattle.ac_poly.specs.Model.{is_input}
-use Rattle.ac_choices.proofs.Keeping.{if-some}
+use Rattle.ac_items.proofs.Options.{if-some}
 use Rattle.ac_claims.specs.Ending.{equal_cells, equal_numbers}
 use Rattle.ac_claims.specs.declared.types.Claim.{Claim}
 use Rattle.ac_paths.specs.Columns.{base, columns_of, equal_forms}

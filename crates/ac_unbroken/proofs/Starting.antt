@@ -8,7 +8,8 @@ use Rattle.ac_syntax.specs.declared.tree.Position.{Position}
 use Rattle.ac_poly.specs.declared.types.Model.{Model}
 use Rattle.ac_poly.proofs.Columns.{has_columns}
 use Rattle.ac_poly.proofs.Whole.{has_context}
-use Rattle.ac_choices.proofs.Keeping.{map-some, Meets-append}
+use Rattle.ac_choices.proofs.Keeping.{Meets-append}
+use Rattle.ac_items.proofs.Options.{map-some}
 use Rattle.ac_claims.specs.Domains.{of_width, piece_by}
 use Rattle.ac_claims.specs.ProofFaults.{Domain, domain, left_seat, piece_rows, right_seat, start_columns}
 use Rattle.ac_claims.specs.Remaining.{start_at, start_beside, start_of}

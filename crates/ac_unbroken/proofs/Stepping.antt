@@ -8,7 +8,7 @@ use Rattle.ac_forms.specs.declared.conj.Conj.{Conj}
 use Rattle.ac_syntax.specs.declared.tree.Order.{Order}
 use Rattle.ac_syntax.specs.declared.tree.Order.TheVariants.{Keep}
 use Rattle.ac_poly.specs.declared.types.Model.{Model}
-use Rattle.ac_choices.proofs.Keeping.{some-is}
+use Rattle.ac_items.proofs.Options.{some-is}
 use Rattle.ac_claims.specs.declared.types.Claim.{Claim}
 use Rattle.ac_flow.specs.declared.types.Case.{Case}
 use Rattle.ac_flow.specs.declared.types.Flow.{Flow}

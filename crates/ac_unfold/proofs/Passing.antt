@@ -10,7 +10,7 @@ use Rattle.ac_forms.specs.declared.conj.Conj.{Conj}
 use Rattle.ac_forms.specs.declared.row.Row.{Row}
 use Rattle.ac_forms.proofs.Distinct.{rows_renaming-points}
 use Rattle.ac_syntax.specs.declared.tree.Position.TheVariants.{Output}
-use Rattle.ac_choices.proofs.Keeping.{some-is}
+use Rattle.ac_items.proofs.Options.{some-is}
 use Rattle.ac_paths.specs.Formed.{AllFormed, IsFormed}
 use Rattle.ac_paths.specs.Going.{at_rows, extended}
 use Rattle.ac_paths.specs.Killing.{case_columns}

@@ -1,7 +1,7 @@
 -- The positions of a claim are there, where their pieces are counted.
 use Rattle.std.proofs.Common.{◌≡◌, Option, Some, sym, ◌∙◌}
 use Rattle.std.specs.Prelude.{option_map}
-use Rattle.ac_choices.proofs.Keeping.{map-some}
+use Rattle.ac_items.proofs.Options.{map-some}
 use Rattle.ac_paths.specs.Going.{Pairing}
 use Rattle.ac_claims.specs.Domains.{size_of}
 use Rattle.ac_claims.specs.ProofFaults.{domain}

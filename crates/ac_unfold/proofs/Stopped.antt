@@ -15,7 +15,7 @@ use Rattle.ac_forms.specs.declared.conj.Conj.{Conj}
 use Rattle.ac_forms.specs.declared.row.Row.{Row}
 use Rattle.ac_syntax.specs.declared.tree.Position.TheVariants.{Node}
 use Rattle.ac_poly.specs.Model.{is_input}
-use Rattle.ac_choices.proofs.Keeping.{some-is}
+use Rattle.ac_items.proofs.Options.{some-is}
 use Rattle.ac_paths.specs.Calls.{called}
 use Rattle.ac_paths.specs.Columns.{base, columns_of, equal_forms}
 use Rattle.ac_paths.specs.Going.{Pairing, at_rows, extended, same_symbol}

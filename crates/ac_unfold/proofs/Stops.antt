@@ -12,7 +12,7 @@ use Rattle.ac_poly.specs.declared.types.Model.{Model}
 use Rattle.ac_poly.specs.declared.types.NodeModel.{NodeModel}
 use Rattle.ac_poly.specs.declared.types.NodeModel.TheVariants as node
 use Rattle.ac_choices.specs.declared.choose.Choice.{Choice}
-use Rattle.ac_choices.proofs.Keeping.{bind-some}
+use Rattle.ac_items.proofs.Options.{bind-some}
 use Rattle.ac_paths.specs.Branching.{onto}
 use Rattle.ac_paths.specs.Going.{Pairing, branches}
 use Rattle.ac_paths.specs.Killing.{case_width}

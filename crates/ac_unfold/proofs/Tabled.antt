@@ -10,7 +10,7 @@ use Rattle.ac_forms.specs.Standing.{all_stand, stands}
 use Rattle.ac_forms.specs.declared.conj.Conj.{Conj}
 use Rattle.ac_forms.specs.declared.row.Row.{Row}
 use Rattle.ac_forms.proofs.Distinct.{rows_renaming-over}
-use Rattle.ac_choices.proofs.Keeping.{some-is}
+use Rattle.ac_items.proofs.Options.{some-is}
 use Rattle.ac_paths.specs.Standing.{made_and_stand}
 use Rattle.ac_paths.specs.declared.path.Path.{Path}
 use Rattle.ac_claims.specs.Ending.{is_hit, same_position}

@@ -20,7 +20,8 @@ use Rattle.ac_forms.proofs.Distinct.{rows_renaming-points}
 use Rattle.ac_forms.proofs.Negations.{complement, value-above, value-below}
 use Rattle.ac_forms.proofs.Values.{value_at-shifted}
 use Rattle.ac_choices.specs.Points.{IsPoint}
-use Rattle.ac_choices.proofs.Keeping.{some-is, Meets-append}
+use Rattle.ac_choices.proofs.Keeping.{Meets-append}
+use Rattle.ac_items.proofs.Options.{some-is}
 use Rattle.ac_cert.specs.Rules.{class_row}
 use Rattle.ac_syntax.specs.declared.tree.Order.{Order}
 use Rattle.ac_syntax.specs.declared.tree.Order.TheVariants.{Keep}

@@ -1,7 +1,7 @@
 -- How verdicts and their proof are gathered, output by output.
 use Rattle.std.specs.Prelude.{◌≡◌, ◌≢◌, ℕ, List, [], ◌++◌}
 use Rattle.ac_syntax.specs.declared.tree.Pair.{Pair}
-use Rattle.ac_agreeing.specs.Statements.{HaveArities}
+use Rattle.ac_syntax.specs.ExecutedCalls.{HaveArities}
 use Rattle.ac_claims.specs.ProofMachine.{AreSpelledTrees}
 use Rattle.ac_claims.specs.Soundness.{ClaimsHaveModuli}
 use Rattle.ac_claims.specs.declared.types.Proof.{Proof}

@@ -3,7 +3,8 @@ use Rattle.std.specs.Prelude.{◌≡◌, ℕ, [], ◌∷◌, false}
 use Rattle.ac_syntax.specs.declared.tree.Pair.{Pair}
 use Rattle.ac_syntax.specs.declared.tree.Position.{Position}
 use Rattle.ac_claims.specs.Soundness.{ArePaired, TermsAgree}
-use Rattle.ac_agreeing.specs.Statements.{HaveArities, AreOutputs}
+use Rattle.ac_agreeing.specs.Statements.{AreOutputs}
+use Rattle.ac_syntax.specs.ExecutedCalls.{HaveArities}
 use Rattle.ac_report.specs.declared.types.Cause.{Cause}
 use Rattle.ac_report.specs.declared.types.Cause.TheVariants.{Unmatched}
 use Rattle.ac_report.specs.declared.types.Verdict.{Verdict}

@@ -1,6 +1,6 @@
 ghost use Rattle.std.specs.Prelude.{◌≡◌, ◌≢◌, [], ◌∷◌, true, IfOk, IfErr};
 ghost use Rattle.ac_poly.specs.Model.{model_of};
-ghost use Rattle.ac_agreeing.specs.Statements.{HaveArities};
+ghost use Rattle.ac_syntax.specs.ExecutedCalls.{HaveArities};
 ghost use Rattle.ac_claims.specs.ProofFaults.{is_point};
 ghost use Rattle.ac_claims.specs.ProofMachine.{AreSpelledTrees};
 ghost use Rattle.ac_claims.specs.Soundness.{ArePaired, ClaimsHaveModuli};

@@ -1,4 +1,4 @@
-use Rattle.ac_graph.specs.Marking.{IsSpreading}
+use Rattle.ac_graph.proofs.FoundNodes.{IsSpreading}
 use Rattle.ac_graph.proofs.marks.marked.Given as goal
 
 abbrev pub invariant-loop-at : goal.invariant-loop-at

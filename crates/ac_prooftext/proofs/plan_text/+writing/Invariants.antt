@@ -1,7 +1,7 @@
 use Rattle.std.proofs.Common.{drop}
 use Rattle.std.specs.List.{flat_map}
 use Rattle.ac_claims.specs.ProofMachine.{items_of}
-use Rattle.ac_prooftext.specs.Writing.{Leads}
+use Rattle.ac_prooftext.proofs.LineProgress.{Leads}
 use Rattle.ac_prooftext.proofs.plan_text.+writing.Given as goal
 
 abbrev pub invariant-write_plans-loop-plan : goal.invariant-write_plans-loop-plan

@@ -1,7 +1,7 @@
 use Rattle.std.proofs.Common.{drop}
 use Rattle.std.specs.List.{flat_map}
 use Rattle.ac_claims.specs.Feeding.{of_claim}
-use Rattle.ac_prooftext.specs.Writing.{Leads}
+use Rattle.ac_prooftext.proofs.LineProgress.{Leads}
 use Rattle.ac_prooftext.proofs.write.write_claims.Given as goal
 
 abbrev pub invariant-loop-claim : goal.invariant-loop-claim

@@ -14,7 +14,7 @@ use Rattle.ac_canonical_rules.specs.Programs.{IsReadableProgram}
 use Rattle.ac_canonical_rules.proofs.Programs.{programs_are_read_back}
 use Rattle.ac_canonical_names.proofs.Programs.{programs_have_names}
 use Rattle.ac_canonical_readable.proofs.Programs.{programs_are_readable}
-use Rattle.ac_parse.specs.Laws.{CanonicalTextsAreReadBack}
+use Rattle.ac_canonical_readable.specs.RoundTrip.{CanonicalTextsAreReadBack}
 
 pub read_back : CanonicalTextsAreReadBack
 read_back bytes program h file text =
