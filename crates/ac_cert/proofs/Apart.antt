@@ -9,15 +9,15 @@ use Rattle.ac_forms.specs.Rows.{Holds, IsRowOver, IsWellMade}
 use Rattle.ac_forms.specs.declared.conj.Conj.{Conj}
 use Rattle.ac_forms.specs.declared.row.Row.{Row}
 use Rattle.ac_forms.specs.declared.row.Row.TheVariants.{Div, Ge}
-use Rattle.ac_choices.proofs.Keeping.{made-push}
-use Rattle.ac_items.proofs.Options.{bind-some, map-some, if-some, some-is}
-use Rattle.ac_items.proofs.Truths.{and-true, le-true}
-use Rattle.ac_cert.specs.Accepted.{Accepts, AcceptsEach, IsSplit, after_steps}
+use Rattle.ac_omega_steps.proofs.Keeping.{made-push}
+use Rattle.ac_base.proofs.Options.{bind-some, map-some, if-some, some-is}
+use Rattle.ac_base.proofs.Truths.{and-true, le-true}
+use Rattle.ac_cert.specs.AcceptedTrees.{Accepts, AcceptsEach, IsSplit, after_steps}
 use Rattle.ac_cert.specs.Apart.{AcceptsNext, IsOnto}
-use Rattle.ac_cert.specs.Faults.{Refusal, later, step_fault, path_fault, split_fault, fault_of, tree_fault, kids_fault, size_of}
+use Rattle.ac_cert.specs.CertificateFaults.{Refusal, later, step_fault, path_fault, split_fault, fault_of, tree_fault, kids_fault, size_of}
 use Rattle.ac_cert.specs.Rules.{after_step, rule_of, both_sides, side_rows, rest_of, class, class_row, has_class, is_partition, first_of, with_row}
-use Rattle.ac_forms.specs.Stops.{GivenOf}
-use Rattle.ac_cert.specs.Stops.{Refuses}
+use Rattle.ac_forms.specs.FormStops.{GivenOf}
+use Rattle.ac_cert.specs.CheckStops.{Refuses}
 use Rattle.ac_cert.specs.declared.types.EndStop.{EndStop}
 use Rattle.ac_cert.specs.declared.types.Next.{Next, End, Split, Residue}
 use Rattle.ac_cert.specs.declared.types.Rule.{Rule}

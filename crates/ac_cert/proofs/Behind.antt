@@ -7,13 +7,13 @@ use Rattle.ac_forms.specs.Rows.{IsWellMade}
 use Rattle.ac_forms.specs.declared.conj.Conj.{Conj}
 use Rattle.ac_forms.specs.declared.row.Row.{Row}
 use Rattle.ac_forms.specs.declared.row.Row.TheVariants.{Eq, Div, Ge}
-use Rattle.ac_items.proofs.Options.{bind-some, map-some, some-is}
+use Rattle.ac_base.proofs.Options.{bind-some, map-some, some-is}
 use Rattle.ac_cert.specs.declared.types.Rule.{Rule}
 use Rattle.ac_cert.specs.declared.types.Step.{Step}
 use Rattle.ac_cert.specs.declared.types.Step.TheVariants.{Add, Cut, DivScale, DivAdd, DivMod, DivEq, Quot, Floor, EqCut}
-use Rattle.ac_cert.specs.Accepted.{after_steps}
-use Rattle.ac_cert.specs.Faults.{Fault, Onward, later, step_fault, path_fault}
-use Rattle.ac_cert.specs.Points.{Keeps}
+use Rattle.ac_cert.specs.AcceptedTrees.{after_steps}
+use Rattle.ac_cert.specs.CertificateFaults.{Fault, Onward, later, step_fault, path_fault}
+use Rattle.ac_cert.specs.PointExtension.{Keeps}
 use Rattle.ac_cert.specs.Rules.{with_row, with_column_row, less_column, rest_of, quotient, floor_of, after_step, rule_of}
 use Rattle.ac_cert.proofs.StepRules.{step-keeps}
 use Rattle.ac_cert.proofs.Soundness.{Extends-again}

@@ -5,7 +5,7 @@ use Rattle.ac_forms.specs.Fits.{fits}
 use Rattle.ac_forms.specs.Rows.{IsWellMade}
 use Rattle.ac_forms.specs.declared.conj.Conj.{Conj}
 use Rattle.ac_forms.specs.declared.row.Row.{Row}
-use Rattle.ac_items.proofs.Truths.{and-true}
+use Rattle.ac_base.proofs.Truths.{and-true}
 use Rattle.ac_cert.specs.declared.types.Step.{Step}
 use Rattle.ac_cert.specs.declared.types.TreeFault.{TreeFault}
 use Rattle.ac_cert.specs.declared.types.TreeFault.TheVariants as fault
@@ -19,10 +19,10 @@ use Rattle.std.proofs.lemmas.Int.{ints}
 use borrow.Author.Tests.{ltb-true, lt-ltb}
 use Rattle.ac_cert.proofs.StepRules.{class-made, class-fits}
 use Rattle.ac_cert.proofs.Behind.{Onto, steps-onto}
-use Rattle.ac_cert.specs.Accepted.{after_steps}
+use Rattle.ac_cert.specs.AcceptedTrees.{after_steps}
 use Rattle.ac_cert.specs.Rules.{with_row, first_of, side_rows, both_sides, class_row, class, has_class, is_partition}
-use Rattle.ac_cert.specs.Stops.{Fails, Checked}
-use Rattle.ac_cert.specs.Faults.{Fault, Refusal, Onward, later, first_fault_of, split_fault, path_fault, fault_of, node_count, tree_fault, size_of, kids_fault, kids_size}
+use Rattle.ac_cert.specs.CheckStops.{Fails, Checked}
+use Rattle.ac_cert.specs.CertificateFaults.{Fault, Refusal, Onward, later, first_fault_of, split_fault, path_fault, fault_of, node_count, tree_fault, size_of, kids_fault, kids_size}
 
 then-err : (a b : Fault) (c d : Conj) (m n : ℕ) (e : TreeFault) → Checked a c m (Err e) → Checked (first_fault_of a b) d n (Err e)
 then-err (Some x) b c d m n e h = h

@@ -3,14 +3,14 @@ use Rattle.std.proofs.Common.{◌≡◌, ℕ, ◌<◌, ◌≤◌, ℤ, pos, negs
 use Rattle.std.specs.Prelude.{◌≢◌, unsigned_abs}
 use Rattle.std.specs.Ordering.{int_eq}
 use Rattle.std.proofs.lemmas.Bool.Decides.{Decides-int_eq}
-use Rattle.ac_integers.specs.Multiple.{divides}
+use Rattle.ac_base.specs.Multiple.{divides}
 use Rattle.ac_forms.specs.Affine.{Affine, combined, scaled, shifted, CanCombine, FormFits}
 use Rattle.ac_forms.specs.Fits.{Fits}
 use Rattle.ac_forms.specs.Negation.{opposite, below, with_column}
 use Rattle.ac_forms.specs.declared.conj.Conj.{Conj}
 use Rattle.ac_forms.specs.declared.row.Row.TheVariants.{Eq, Div, Ge}
-use Rattle.ac_items.proofs.Truths.{test-false, true-le, true-nat_le}
-use Rattle.ac_choices.proofs.Fitting.{combination_some, fits_true}
+use Rattle.ac_base.proofs.Truths.{test-false, true-le, true-nat_le}
+use Rattle.ac_omega_steps.proofs.Fitting.{combination_some, fits_true}
 use Rattle.ac_cert.specs.declared.types.Step.TheVariants.{Add, Cut, DivScale, DivAdd, DivMod, DivEq, Quot, Floor, EqCut}
 use Rattle.ac_cert.specs.Rules.{with_row, with_column_row, sum_from, sum_row, zero_form, are_equalities, divides_each, divides_form, quotient_form, is_zero, div_mod_stands, less_column, floor_of, after_step, side_rows, both_sides, has_class, class, class_of}
 use Rattle.ac_cert.specs.StepRows.{StepRows}

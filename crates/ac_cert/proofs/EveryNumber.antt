@@ -7,8 +7,8 @@ use Rattle.ac_cert.specs.declared.types.Rule.TheVariants as rule
 use Rattle.ac_cert.specs.declared.types.Step.{Step}
 use Rattle.ac_cert.specs.declared.types.Next.{Next, End, Split', Residue', Row_of-Tree, end_of-Tree, more_of-Tree}
 use Rattle.ac_cert.specs.declared.types.Tree.{Tree}
-use Rattle.ac_cert.specs.Accepted.{Accepts}
-use Rattle.ac_cert.specs.Faults.{Fault, Refusal, Onward, later, first_fault_of, step_fault, path_fault, split_fault, child_count, node_count, fault_of, row_fault, tree_fault}
+use Rattle.ac_cert.specs.AcceptedTrees.{Accepts}
+use Rattle.ac_cert.specs.CertificateFaults.{Fault, Refusal, Onward, later, first_fault_of, step_fault, path_fault, split_fault, child_count, node_count, fault_of, row_fault, tree_fault}
 use Rattle.ac_cert.specs.Rules.{after_step, rule_of, both_sides, class, is_partition}
 use Rattle.ac_cert.proofs.Soundness.{first-none, no-refusal, if-none}
 

@@ -4,10 +4,10 @@ use Rattle.std.specs.Prelude.{unsigned_abs}
 use Rattle.ac_forms.specs.Affine.{Affine, scaled, shifted, FormFits}
 use Rattle.ac_forms.specs.Fits.{Fits, fits}
 use Rattle.ac_forms.specs.Negation.{opposite}
-use Rattle.ac_forms.specs.Tests.{form_fits}
+use Rattle.ac_forms.specs.RangeTests.{form_fits}
 use Rattle.ac_forms.proofs.Twins.{fits-is, form_fits-is}
-use Rattle.ac_choices.proofs.Fitting.{combination_some, combination_none, fits_true, fits_false}
-use Rattle.ac_items.proofs.Truths.{test-false}
+use Rattle.ac_omega_steps.proofs.Fitting.{combination_some, combination_none, fits_true, fits_false}
+use Rattle.ac_base.proofs.Truths.{test-false}
 use Rattle.ac_cert.specs.Rules.{rest_of, multiple_of, greater_modulus}
 
 pub multiple_some : (k : ℤ) (f : Affine) → FormFits (scaled k f) → multiple_of k f ≡ Some (scaled k f)

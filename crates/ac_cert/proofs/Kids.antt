@@ -9,7 +9,7 @@ use Rattle.ac_cert.specs.declared.types.Next.{Next, Split, Residue, Row_of-Tree,
 use Rattle.ac_cert.specs.declared.types.Next.TheBlock.{hidden-the_row-Tree-0}
 use Rattle.ac_cert.specs.declared.types.Tree.{Tree}
 use Rattle.ac_cert.specs.Rules.{class, both_sides, is_partition}
-use Rattle.ac_cert.specs.Faults.{Fault, Refusal, later, first_fault_of, split_fault, path_fault, child_count, node_count, row_node_count, fault_of, row_fault, tree_fault, kids_fault, kids_size, size_of}
+use Rattle.ac_cert.specs.CertificateFaults.{Fault, Refusal, later, first_fault_of, split_fault, path_fault, child_count, node_count, row_node_count, fault_of, row_fault, tree_fault, kids_fault, kids_size, size_of}
 
 pub fault-kids : {E : Type 0} {w : _} (all : Row_of-Tree E w) (refusal : Refusal E) (m : ℤ) (f : Affine) (i : ℕ) (c : Conj) (k : ℕ) → row_fault all refusal m f i c k ≡ kids_fault (items-the_row-Tree E w all) refusal m f i c k
 fault-kids end_of-Tree refusal m f i c k = refl

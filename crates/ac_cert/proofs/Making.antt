@@ -5,16 +5,16 @@ use Rattle.std.specs.declared.alloc.Global.{Global}
 use Rattle.ac_forms.specs.Affine.{Affine}
 use Rattle.ac_forms.specs.Rows.{IsWellMade}
 use Rattle.ac_forms.specs.declared.conj.Conj.{Conj}
-use Rattle.ac_choices.specs.Points.{IsPoint}
-use Rattle.ac_items.proofs.Options.{bind-some, some-is}
+use Rattle.ac_omega_steps.specs.IntegerPoints.{IsPoint}
+use Rattle.ac_base.proofs.Options.{bind-some, some-is}
 use Rattle.ac_cert.specs.declared.types.Step.{Step}
 use Rattle.ac_cert.specs.declared.types.Next.{Next, Split, Residue}
 use Rattle.ac_cert.specs.declared.types.Tree.{Tree, roll-Tree}
 use Rattle.ac_cert.specs.declared.ends.Absurd.{Absurd}
-use Rattle.ac_cert.specs.Accepted.{Accepts, AcceptsEach, absurd_refusals, after_steps}
+use Rattle.ac_cert.specs.AcceptedTrees.{Accepts, AcceptsEach, absurd_refusals, after_steps}
 use Rattle.ac_cert.specs.AbsurdLaw.{absurd_sound}
 use Rattle.ac_cert.specs.Rules.{after_step, both_sides, is_partition}
-use Rattle.ac_cert.specs.Faults.{Fault, Refusal, Onward, later, split_fault, path_fault, fault_of, tree_fault, kids_fault, size_of}
+use Rattle.ac_cert.specs.CertificateFaults.{Fault, Refusal, Onward, later, split_fault, path_fault, fault_of, tree_fault, kids_fault, size_of}
 use Rattle.ac_cert.proofs.Kids.{fault-at-residue}
 use Rattle.ac_cert.proofs.Soundness.{tree-covered, end-of_cover}
 

@@ -9,12 +9,12 @@ use Rattle.ac_forms.specs.declared.conj.Conj.{Conj}
 use Rattle.ac_forms.specs.declared.row.Row.{Row}
 use Rattle.ac_forms.specs.declared.row.Row.TheVariants.{Eq, Div, Ge}
 use Rattle.ac_forms.proofs.Negations.{length-with_column}
-use Rattle.ac_cert.specs.Accepted.{after_steps}
+use Rattle.ac_cert.specs.AcceptedTrees.{after_steps}
 use Rattle.ac_cert.specs.Rules.{with_row, after_step, both_sides, is_zero, divides_form}
 use Rattle.ac_cert.specs.declared.types.Step.{Step}
 use Rattle.ac_cert.specs.declared.types.Step.TheVariants.{EqCut, DivEq, DivMod, Floor}
 use Rattle.ac_cert.proofs.Equations.{split-rows, eq_cut-row, div_eq-row, div_mod-row, floor-rows}
-use Rattle.ac_cert.specs.Branches.{with_floor, behind}
+use Rattle.ac_cert.specs.RowBranches.{with_floor, behind}
 use Rattle.ac_cert.proofs.Divided.{column-divided, column-combines, itself-divided, once}
 use Rattle.ac_cert.proofs.Opposites.{opposite-twice, below-opposite, can_cancel, cancelled, opposite-lower, column-fits, neg-fits}
 

@@ -7,28 +7,28 @@ use Rattle.std.proofs.lemmas.Bool.Decides.{Decides-int_eq}
 use borrow.Author.Tests.{leb-true}
 use Rattle.std.proofs.lemmas.Int.{ints}
 use Rattle.std.proofs.lemmas.List.{length-map}
-use Rattle.ac_integers.specs.Dot.{dot, floored}
-use Rattle.ac_integers.specs.Gcd.{DividesEach}
-use Rattle.ac_integers.specs.Multiple.{IsMultiple, divides}
-use Rattle.ac_integers.proofs.Divisors.{divides-true}
-use Rattle.ac_integers.proofs.Floor.{positive_is, floor_exact, cut_both, dot-floored}
-use Rattle.ac_integers.proofs.Ring.{ring_steps, same_diff, by_diff_3, by_diff_4}
-use Rattle.ac_integers.proofs.Multiples.{multiple_from, multiple_add}
-use Rattle.ac_integers.proofs.Products.{mul-add_ℤ, mul_assoc_ℤ, nonneg-mul_ℤ, neg-mul_ℤ, le_of_mul-le_ℤ}
+use Rattle.ac_base.specs.Dot.{dot, floored}
+use Rattle.ac_base.specs.Gcd.{DividesEach}
+use Rattle.ac_base.specs.Multiple.{IsMultiple, divides}
+use Rattle.ac_base.proofs.Divisors.{divides-true}
+use Rattle.ac_base.proofs.Floor.{positive_is, floor_exact, cut_both, dot-floored}
+use Rattle.ac_base.proofs.Ring.{ring_steps, same_diff, by_diff_3, by_diff_4}
+use Rattle.ac_base.proofs.Multiples.{multiple_from, multiple_add}
+use Rattle.ac_base.proofs.Products.{mul-add_ℤ, mul_assoc_ℤ, nonneg-mul_ℤ, neg-mul_ℤ, le_of_mul-le_ℤ}
 use Rattle.ac_forms.specs.Affine.{Affine, value_at, scaled}
 use Rattle.ac_forms.specs.Fits.{fits}
 use Rattle.ac_forms.specs.Rows.{Holds, Meets, IsRowOver, AreRowsOver, IsWellMade}
-use Rattle.ac_forms.specs.Tests.{form_fits}
+use Rattle.ac_forms.specs.RangeTests.{form_fits}
 use Rattle.ac_forms.specs.declared.conj.Conj.{Conj}
 use Rattle.ac_forms.specs.declared.row.Row.{Row}
 use Rattle.ac_forms.specs.declared.row.Row.TheVariants.{Eq, Div, Ge}
 use Rattle.ac_forms.proofs.Values.{value_at-scaled}
-use Rattle.ac_choices.specs.Combination.{combination}
-use Rattle.ac_items.proofs.Truths.{and-true, le-true}
-use Rattle.ac_choices.proofs.Keeping.{Meets-push, made-push, row-holds, row-made, combination-within, combination-value}
-use Rattle.ac_items.proofs.Options.{bind-some, map-some, if-some, unless-some, some-is}
+use Rattle.ac_omega_steps.specs.Combination.{combination}
+use Rattle.ac_base.proofs.Truths.{and-true, le-true}
+use Rattle.ac_omega_steps.proofs.Keeping.{Meets-push, made-push, row-holds, row-made, combination-within, combination-value}
+use Rattle.ac_base.proofs.Options.{bind-some, map-some, if-some, unless-some, some-is}
 use Rattle.ac_cert.specs.AbsurdLaw.{no_terms}
-use Rattle.ac_cert.specs.Points.{Keeps}
+use Rattle.ac_cert.specs.PointExtension.{Keeps}
 use Rattle.ac_cert.specs.Rules.{multiple_of, with_row, term_form, sum_from, is_equality, are_equalities, zero_form, sum_row, divides_each, quotient_form, cut_row, greater_modulus, div_scale_row, div_add_row, div_mod_stands, divides_form, reduced_row, div_mod_row, div_eq_row, all_zero, is_zero, eq_cut_row}
 use Rattle.ac_cert.proofs.Stands.{product_positive}
 

@@ -8,15 +8,15 @@ use Rattle.ac_forms.specs.Affine.{Affine}
 use Rattle.ac_forms.specs.Fits.{fits}
 use Rattle.ac_forms.specs.Rows.{IsWellMade}
 use Rattle.ac_forms.specs.declared.conj.Conj.{Conj}
-use Rattle.ac_choices.specs.Points.{IsPoint}
-use Rattle.ac_items.proofs.Truths.{and-true, le-true}
+use Rattle.ac_omega_steps.specs.IntegerPoints.{IsPoint}
+use Rattle.ac_base.proofs.Truths.{and-true, le-true}
 use Rattle.ac_cert.specs.declared.types.Rule.{Rule}
 use Rattle.ac_cert.specs.declared.types.Step.{Step}
 use Rattle.ac_cert.specs.declared.types.Next.{Next, End, Split', Residue', Row_of-Tree, end_of-Tree, more_of-Tree}
 use Rattle.ac_cert.specs.declared.types.Tree.{Tree}
-use Rattle.ac_cert.specs.Points.{Extends, Keeps}
+use Rattle.ac_cert.specs.PointExtension.{Extends, Keeps}
 use Rattle.ac_cert.specs.Rules.{after_step, rule_of, both_sides, class, is_partition, has_class}
-use Rattle.ac_cert.specs.Faults.{Fault, Refusal, Onward, later, first_fault_of, step_fault, path_fault, split_fault, child_count, fault_of, row_fault, tree_fault}
+use Rattle.ac_cert.specs.CertificateFaults.{Fault, Refusal, Onward, later, first_fault_of, step_fault, path_fault, split_fault, child_count, fault_of, row_fault, tree_fault}
 use Rattle.ac_cert.specs.Cover.{Fact, AtStep, Along, AtSides, Covers, SomeCovers, IsCovered, AtSomeEnd}
 use Rattle.ac_cert.proofs.StepRules.{step-keeps, sides-keep, class-over, class-some}
 

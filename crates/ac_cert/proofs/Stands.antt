@@ -1,12 +1,12 @@
 -- What a `DivMod` step's tests say of its numbers.
 use Rattle.std.proofs.Common.{◌≡◌, ℕ, ℤ, pos, ◌*ℤ◌, ◌≤ℤ◌, int_le, nat_le, length, true, arith}
 use Rattle.std.proofs.lemmas.Int.{ints}
-use Rattle.ac_integers.proofs.Floor.{positive_is}
-use Rattle.ac_integers.proofs.Products.{mul-le-mul_ℤ}
+use Rattle.ac_base.proofs.Floor.{positive_is}
+use Rattle.ac_base.proofs.Products.{mul-le-mul_ℤ}
 use Rattle.ac_forms.specs.Affine.{Affine}
 use Rattle.ac_forms.specs.Fits.{Fits, fits}
 use Rattle.ac_forms.proofs.Twins.{fits-is}
-use Rattle.ac_items.proofs.Truths.{and-true, le-true}
+use Rattle.ac_base.proofs.Truths.{and-true, le-true}
 use Rattle.ac_cert.specs.Rules.{div_mod_stands}
 
 pub product_positive : (g n : ℤ) → pos 1 ≤ℤ g → pos 1 ≤ℤ n → pos 1 ≤ℤ (g *ℤ n)

@@ -5,27 +5,27 @@ use Rattle.std.specs.Int.{int_div_euclid}
 use borrow.Author.Tests.{leb-true}
 use Rattle.std.proofs.lemmas.Int.{ints, by_lt_z}
 use Rattle.std.proofs.lemmas.List.{length-append, length-map}
-use Rattle.ac_integers.proofs.Floor.{floor_low, floor_high}
-use Rattle.ac_integers.proofs.Multiples.{multiple_from}
-use Rattle.ac_integers.proofs.Products.{neg-mul_ℤ}
+use Rattle.ac_base.proofs.Floor.{floor_low, floor_high}
+use Rattle.ac_base.proofs.Multiples.{multiple_from}
+use Rattle.ac_base.proofs.Products.{neg-mul_ℤ}
 use Rattle.ac_forms.specs.Affine.{Affine, value_at, shifted}
 use Rattle.ac_forms.specs.Fits.{fits}
 use Rattle.ac_forms.specs.Negation.{opposite, with_column}
 use Rattle.ac_forms.specs.Rows.{Holds, IsRowOver, IsWellMade}
-use Rattle.ac_forms.specs.Tests.{form_fits}
+use Rattle.ac_forms.specs.RangeTests.{form_fits}
 use Rattle.ac_forms.specs.declared.conj.Conj.{Conj}
 use Rattle.ac_forms.specs.declared.row.Row.{Row}
 use Rattle.ac_forms.specs.declared.row.Row.TheVariants.{Eq, Div, Ge}
 use Rattle.ac_forms.proofs.Negations.{length-with_column, value-with_column}
 use Rattle.ac_forms.proofs.Values.{value_at-scaled}
-use Rattle.ac_choices.specs.Points.{IsPoint}
-use Rattle.ac_items.proofs.Truths.{and-true, le-true}
-use Rattle.ac_choices.proofs.Keeping.{Meets-append, Meets-push, made-push, made-more, row-holds, row-made}
-use Rattle.ac_items.proofs.Options.{bind-some, map-some, if-some, some-is}
-use Rattle.ac_cert.specs.Points.{Extends, Keeps}
+use Rattle.ac_omega_steps.specs.IntegerPoints.{IsPoint}
+use Rattle.ac_base.proofs.Truths.{and-true, le-true}
+use Rattle.ac_omega_steps.proofs.Keeping.{Meets-append, Meets-push, made-push, made-more, row-holds, row-made}
+use Rattle.ac_base.proofs.Options.{bind-some, map-some, if-some, some-is}
+use Rattle.ac_cert.specs.PointExtension.{Extends, Keeps}
 use Rattle.std.specs.Prelude.{Result, Ok, Err, IfOk}
-use Rattle.ac_forms.specs.Stops.{GivenOf}
-use Rattle.ac_cert.specs.Stops.{Refuses}
+use Rattle.ac_forms.specs.FormStops.{GivenOf}
+use Rattle.ac_cert.specs.CheckStops.{Refuses}
 use Rattle.ac_cert.specs.declared.types.EndStop.{EndStop}
 use Rattle.ac_cert.specs.declared.types.Rule.TheVariants as rule
 use Rattle.ac_cert.specs.declared.types.Step.{Step}

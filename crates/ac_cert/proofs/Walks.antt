@@ -7,10 +7,10 @@ use Rattle.ac_cert.specs.declared.types.Rule.{Rule}
 use Rattle.ac_cert.specs.declared.types.Step.{Step}
 use Rattle.ac_cert.specs.declared.types.EndStop.{EndStop}
 use Rattle.ac_cert.specs.declared.types.EndStop.TheVariants.{Refused, Memory}
-use Rattle.ac_cert.specs.Accepted.{after_steps}
+use Rattle.ac_cert.specs.AcceptedTrees.{after_steps}
 use Rattle.ac_cert.specs.Rules.{after_step, rule_of}
-use Rattle.ac_cert.specs.Faults.{Fault, Onward, later, step_fault, path_fault}
-use Rattle.ac_cert.specs.Stops.{Refuses, at_node, Fails}
+use Rattle.ac_cert.specs.CertificateFaults.{Fault, Onward, later, step_fault, path_fault}
+use Rattle.ac_cert.specs.CheckStops.{Refuses, at_node, Fails}
 
 step-stops : (o : Option Conj) (r : Rule) (stop : EndStop) (k : ℕ) (go : Conj → Fault) → Refuses r stop (o ≡ None) → Fails (step_fault o r k go) (at_node stop k)
 step-stops o r (Refused s) k go b = ap (λ (x : Option Conj). step_fault x r k go) b.0 ∙ ap (λ (x : Rule). Some (k, x)) (sym b.1)

@@ -4,17 +4,17 @@ use Rattle.std.specs.Prelude.{◌<ℤ◌, unsigned_abs}
 use Rattle.std.specs.Ordering.{int_eq}
 use Rattle.std.proofs.lemmas.Bool.Decides.{Decides-int_eq}
 use Rattle.std.proofs.lemmas.Int.{ints}
-use Rattle.ac_integers.specs.Dot.{dot}
-use Rattle.ac_integers.specs.Multiple.{IsMultiple, divides}
-use Rattle.ac_integers.proofs.Divisors.{true-divides}
+use Rattle.ac_base.specs.Dot.{dot}
+use Rattle.ac_base.specs.Multiple.{IsMultiple, divides}
+use Rattle.ac_base.proofs.Divisors.{true-divides}
 use Rattle.ac_forms.specs.Affine.{Affine, value_at}
 use Rattle.ac_forms.specs.Rows.{form_of, Holds, Meets}
 use Rattle.ac_forms.specs.declared.conj.Conj.{Conj}
 use Rattle.ac_forms.specs.declared.row.Row.{Row}
 use Rattle.ac_forms.specs.declared.row.Row.TheVariants.{Eq, Div, Ge}
-use Rattle.ac_choices.specs.Points.{IsPoint}
+use Rattle.ac_omega_steps.specs.IntegerPoints.{IsPoint}
 use Rattle.ac_cert.specs.declared.types.Rule.TheVariants as rule
-use Rattle.ac_cert.specs.Ends.{is_false, is_absurd, absurd_refusal}
+use Rattle.ac_cert.specs.AbsurdEnd.{is_false, is_absurd, absurd_refusal}
 use Rattle.ac_cert.specs.Rules.{all_zero}
 
 both : (a b : Bool) → (a && b) ≡ true → (a ≡ true) × (b ≡ true)

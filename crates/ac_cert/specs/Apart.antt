@@ -2,7 +2,7 @@
 use Rattle.std.specs.Prelude.{◌≡◌, ◌≤◌, ℕ, List, ◌++◌, Some, None}
 use Rattle.ac_forms.specs.declared.conj.Conj.{Conj}
 use Rattle.ac_forms.specs.declared.row.Row.{Row}
-use Rattle.ac_cert.specs.Faults.{Refusal, fault_of}
+use Rattle.ac_cert.specs.CertificateFaults.{Refusal, fault_of}
 use Rattle.ac_cert.specs.declared.types.Next.{Next}
 
 -- no node of a branch or an end fails, at whatever number

@@ -2,11 +2,11 @@
 use Rattle.std.specs.Prelude.{ℕ, ◌+◌, ℤ, pos, List, [], ◌∷◌, Option, Some, None, ◌⊎◌}
 use Rattle.ac_forms.specs.Affine.{Affine}
 use Rattle.ac_forms.specs.declared.conj.Conj.{Conj}
-use Rattle.ac_choices.specs.Points.{IsPoint}
+use Rattle.ac_omega_steps.specs.IntegerPoints.{IsPoint}
 use Rattle.ac_cert.specs.declared.types.Step.{Step}
 use Rattle.ac_cert.specs.declared.types.Next.{Next, End, Split', Residue', Row_of-Tree, end_of-Tree, more_of-Tree}
 use Rattle.ac_cert.specs.declared.types.Tree.{Tree}
-use Rattle.ac_cert.specs.Points.{Extends}
+use Rattle.ac_cert.specs.PointExtension.{Extends}
 use Rattle.ac_cert.specs.Rules.{after_step, both_sides, class}
 
 -- a fact of a conjunction and a point of it

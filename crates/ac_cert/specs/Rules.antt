@@ -2,16 +2,16 @@
 use Rattle.std.specs.Prelude.{ℕ, ◌+◌, Bool, true, false, ◌&&◌, ℤ, pos, negsuc, ◌+ℤ◌, ◌-ℤ◌, ◌*ℤ◌, neg_ℤ, List, [], ◌∷◌, ◌++◌, length, Option, Some, None, option_and_then, option_map, cond, int_le, nat_le, nat_eq, slice_get, take, unsigned_abs}
 use Rattle.std.specs.Int.{int_div_euclid}
 use Rattle.std.specs.Ordering.{int_eq}
-use Rattle.ac_integers.specs.Dot.{floored}
-use Rattle.ac_integers.specs.Multiple.{divides}
+use Rattle.ac_base.specs.Dot.{floored}
+use Rattle.ac_base.specs.Multiple.{divides}
 use Rattle.ac_forms.specs.Affine.{Affine, scaled, shifted}
 use Rattle.ac_forms.specs.Fits.{fits}
 use Rattle.ac_forms.specs.Negation.{opposite, with_column}
-use Rattle.ac_forms.specs.Tests.{form_fits}
+use Rattle.ac_forms.specs.RangeTests.{form_fits}
 use Rattle.ac_forms.specs.declared.conj.Conj.{Conj}
 use Rattle.ac_forms.specs.declared.row.Row.{Row}
 use Rattle.ac_forms.specs.declared.row.Row.TheVariants.{Eq, Div, Ge}
-use Rattle.ac_choices.specs.Combination.{combination}
+use Rattle.ac_omega_steps.specs.Combination.{combination}
 use Rattle.ac_cert.specs.declared.types.Rule.{Rule}
 use Rattle.ac_cert.specs.declared.types.Rule.TheVariants as rule
 use Rattle.ac_cert.specs.declared.types.Step.{Step}

@@ -1,6 +1,6 @@
 -- What each step and branch makes, where it stands: one equation for each rule.
 use Rattle.std.specs.Prelude.{◌≡◌, ◌≢◌, ℕ, ◌<◌, ◌≤◌, ℤ, pos, negsuc, neg_ℤ, ◌+ℤ◌, ◌-ℤ◌, ◌*ℤ◌, ◌≤ℤ◌, List, length, Some, true, cond, slice_get, unsigned_abs}
-use Rattle.ac_integers.specs.Multiple.{divides}
+use Rattle.ac_base.specs.Multiple.{divides}
 use Rattle.ac_forms.specs.Affine.{Affine, combined, scaled, shifted, CanCombine, FormFits}
 use Rattle.ac_forms.specs.Fits.{Fits}
 use Rattle.ac_forms.specs.Negation.{opposite, below, with_column}

@@ -5,14 +5,14 @@ ghost use Rattle.std.specs.declared.alloc.Global.{Global};
 ghost use Rattle.ac_forms.specs.Affine.{Affine, value_at};
 ghost use Rattle.ac_forms.specs.Rows.{IsWellMade};
 ghost use Rattle.ac_forms.specs.declared.conj.Conj.{Conj};
-ghost use Rattle.ac_choices.specs.Points.{IsPoint};
-ghost use Rattle.ac_choices.specs.Combination.{combination};
+ghost use Rattle.ac_omega_steps.specs.IntegerPoints.{IsPoint};
+ghost use Rattle.ac_omega_steps.specs.Combination.{combination};
 ghost use Rattle.ac_cert.specs.declared.types.Rule.{Rule};
 ghost use Rattle.ac_cert.specs.declared.types.Next.{End, Residue};
 ghost use Rattle.ac_cert.specs.declared.types.Tree.{Tree};
-ghost use Rattle.ac_cert.specs.Accepted.{Accepts, AcceptsEach, IsSplit, after_steps};
+ghost use Rattle.ac_cert.specs.AcceptedTrees.{Accepts, AcceptsEach, IsSplit, after_steps};
 ghost use Rattle.ac_cert.specs.Apart.{AcceptsNext, IsOnto};
-ghost use Rattle.ac_cert.specs.Points.{Keeps};
+ghost use Rattle.ac_cert.specs.PointExtension.{Keeps};
 ghost use Rattle.ac_cert.specs.Rules.{after_step, both_sides, class, has_class, is_partition};
 
 use crate::types::{Next, Step, Tree};

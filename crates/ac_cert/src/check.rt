@@ -2,18 +2,18 @@ ghost use Rattle.std.specs.Prelude.{◌≡◌, ℕ, ◌+◌, ℤ, List, pos, ◌
 ghost use Rattle.ac_forms.specs.Fits.{fits};
 ghost use Rattle.ac_forms.specs.Rows.{IsWellMade};
 ghost use Rattle.ac_forms.specs.declared.conj.Conj.{Conj};
-ghost use Rattle.ac_choices.specs.Points.{IsPoint};
+ghost use Rattle.ac_omega_steps.specs.IntegerPoints.{IsPoint};
 ghost use Rattle.ac_cert.specs.declared.types.Rule.{Rule};
 ghost use Rattle.ac_cert.specs.Rules.{class_row, first_of, is_partition, with_row};
-ghost use Rattle.ac_cert.specs.Accepted.{after_steps};
-ghost use Rattle.ac_cert.specs.Stops.{RefusedBy, at_node, Fails, Checked};
-ghost use Rattle.ac_cert.specs.Faults.{Onward, later, path_fault, fault_of, node_count, tree_fault, size_of, kids_fault, kids_size};
+ghost use Rattle.ac_cert.specs.AcceptedTrees.{after_steps};
+ghost use Rattle.ac_cert.specs.CheckStops.{RefusedBy, at_node, Fails, Checked};
+ghost use Rattle.ac_cert.specs.CertificateFaults.{Onward, later, path_fault, fault_of, node_count, tree_fault, size_of, kids_fault, kids_size};
 ghost use Rattle.ac_cert.specs.Cover.{IsCovered, AtSomeEnd};
 
 use crate::steps::{apply_onto, class_row, has_class, push, side_rows};
 use crate::types::{EndStop, Next, Rule, Step, Tree, TreeFault};
+use ac_base::Items;
 use ac_forms::{Conj, Form, Row};
-use ac_items::Items;
 use std::alloc::{AllocError, Global};
 
 /// What stands at the end of a path.
@@ -163,7 +163,7 @@ fn check_next<E: End>(
 }
 
 /// Whether a residue branch with this number of children stands.
-#[tactic(auto, unfolding(crate::specs::Rules::is_partition), using(ac_integers::proofs::Bits::again_128))]
+#[tactic(auto, unfolding(crate::specs::Rules::is_partition), using(ac_base::proofs::Bits::again_128))]
 fn stands(m: &i128, e: &Form, count: usize, columns: usize) -> bool
     ensures { result ≡ is_partition m.now e.now columns count }
 {
@@ -175,7 +175,7 @@ fn stands(m: &i128, e: &Form, count: usize, columns: usize) -> bool
 }
 
 /// Shows that the constant of a form is one of `i128`.
-#[tactic(auto, using(ac_choices::proofs::Fitting::fits_true))]
+#[tactic(auto, using(ac_omega_steps::proofs::Fitting::fits_true))]
 fn see_constant(e: &Form)
     ensures { fits e.now.konst ≡ true }
 {
@@ -183,7 +183,7 @@ fn see_constant(e: &Form)
 }
 
 /// The row of child `r` of a residue branch that stands.
-#[tactic(auto, using(ac_integers::proofs::Bits::again_128))]
+#[tactic(auto, using(ac_base::proofs::Bits::again_128))]
 fn child_row(alloc: Global, m: &i128, e: &Form, r: usize) -> Result<Row, AllocError>
     requires { fits (e.now.konst -ℤ pos r) ≡ true }
     ensures { IfOk result (λ row. row ≡ class_row m.now e.now (pos r)) }

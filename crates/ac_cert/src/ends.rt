@@ -1,6 +1,6 @@
 ghost use Rattle.std.specs.Prelude.{◌≡◌, Some};
 ghost use Rattle.ac_forms.specs.Rows.{HasModulus};
-ghost use Rattle.ac_cert.specs.Ends.{is_absurd, is_false};
+ghost use Rattle.ac_cert.specs.AbsurdEnd.{is_absurd, is_false};
 
 use crate::check::End;
 use crate::numbers::{divides_number, is_all_zero};
@@ -16,7 +16,7 @@ pub struct Absurd {
 }
 
 /// Whether a row does not hold where its form is worth its constant.
-#[tactic(auto, using(ac_integers::proofs::Bits::again_128))]
+#[tactic(auto, using(ac_base::proofs::Bits::again_128))]
 fn is_false(row: &Row) -> bool
     requires { HasModulus row.now }
     ensures { result ≡ is_false row.now }
@@ -41,7 +41,7 @@ impl End for Absurd {
 
     ghost use Rattle.std.specs.Prelude.{◌≡◌, Option, Some, None, cond};
     ghost use Rattle.ac_cert.specs.declared.ends.Absurd.{Absurd};
-    ghost use Rattle.ac_cert.specs.Ends.{absurd_refusal};
+    ghost use Rattle.ac_cert.specs.AbsurdEnd.{absurd_refusal};
     ghost use Rattle.ac_cert.specs.AbsurdLaw.{absurd_sound};
 
     ghost means = { λ e env p. ⊥ };

@@ -4,11 +4,11 @@ ghost use Rattle.std.specs.Prelude.{◌≡◌, ◌≢◌, ◌≤◌, ℕ, List, 
 ghost use Rattle.ac_forms.specs.Rows.{IsWellMade};
 ghost use Rattle.ac_forms.specs.declared.conj.Conj.{Conj};
 ghost use Rattle.ac_forms.specs.declared.row.Row.{Row};
-ghost use Rattle.ac_choices.specs.Points.{IsPoint};
+ghost use Rattle.ac_omega_steps.specs.IntegerPoints.{IsPoint};
 ghost use Rattle.ac_cert.specs.declared.types.Rule.{Rule};
-ghost use Rattle.ac_cert.specs.Accepted.{Accepts, absurd_refusals, after_steps};
-ghost use Rattle.ac_cert.specs.Faults.{Onward, later, path_fault, tree_fault};
-ghost use Rattle.ac_cert.specs.Points.{Keeps};
+ghost use Rattle.ac_cert.specs.AcceptedTrees.{Accepts, absurd_refusals, after_steps};
+ghost use Rattle.ac_cert.specs.CertificateFaults.{Onward, later, path_fault, tree_fault};
+ghost use Rattle.ac_cert.specs.PointExtension.{Keeps};
 ghost use Rattle.ac_cert.specs.StepRows.{StepRows};
 
 use crate::ends::Absurd;

@@ -3,14 +3,14 @@ ghost use Rattle.ac_forms.specs.declared.conj.Conj.{Conj};
 ghost use Rattle.ac_cert.specs.declared.ends.Absurd.{Absurd};
 ghost use Rattle.ac_cert.specs.declared.types.Next.{End, Residue};
 ghost use Rattle.ac_cert.specs.declared.types.Rule.{Rule};
-ghost use Rattle.ac_cert.specs.Accepted.{Accepts, AcceptsEach, IsSplit, absurd_refusals, after_steps};
-ghost use Rattle.ac_cert.specs.Ends.{is_absurd};
+ghost use Rattle.ac_cert.specs.AcceptedTrees.{Accepts, AcceptsEach, IsSplit, absurd_refusals, after_steps};
+ghost use Rattle.ac_cert.specs.AbsurdEnd.{is_absurd};
 ghost use Rattle.ac_cert.specs.Rules.{both_sides, is_partition};
 
 use crate::ends::Absurd;
 use crate::types::{Next, Step, Tree};
+use ac_base::Items;
 use ac_forms::Form;
-use ac_items::Items;
 use std::alloc::{AllocError, Global};
 
 /// The tree of one end, without steps.

@@ -1,5 +1,5 @@
 ghost use Rattle.std.specs.Prelude.{◌≡◌};
-ghost use Rattle.ac_cert.specs.Names.{name_of};
+ghost use Rattle.ac_cert.specs.RuleNames.{name_of};
 
 use crate::types::Rule;
 use std::fmt;

@@ -1,6 +1,6 @@
 ghost use Rattle.std.specs.Prelude.{◌≡◌, pos, negsuc, ◌≤ℤ◌, ◌-ℤ◌, neg_ℤ, IfOk, unsigned_abs};
-ghost use Rattle.ac_integers.specs.Dot.{floored};
-ghost use Rattle.ac_integers.specs.Multiple.{divides};
+ghost use Rattle.ac_base.specs.Dot.{floored};
+ghost use Rattle.ac_base.specs.Multiple.{divides};
 ghost use Rattle.ac_forms.specs.Fits.{fits};
 ghost use Rattle.ac_cert.specs.Rules.{rest_of, multiple_of, greater_modulus, quotient_form, divides_each, all_zero, is_zero};
 
@@ -37,7 +37,7 @@ pub(crate) fn rest(alloc: Global, k: i128, form: &Form) -> Result<Option<Form>, 
 }
 
 /// A modulus times the absolute value of a number, where both are numbers of `i128`.
-#[tactic(auto, using(crate::proofs::Fitting::number_steps, ac_integers::proofs::Bits::again_128))]
+#[tactic(auto, using(crate::proofs::Fitting::number_steps, ac_base::proofs::Bits::again_128))]
 pub(crate) fn greater_modulus(modulus: i128, k: i128) -> Option<i128>
     ensures { result ≡ greater_modulus modulus k }
 {
@@ -52,7 +52,7 @@ pub(crate) fn divides_number(divisor: i128, number: i128) -> bool
     requires { pos 1 ≤ℤ divisor }
     ensures { result ≡ divides (unsigned_abs divisor) number }
 {
-    ac_integers::is_multiple(number, divisor)
+    ac_base::is_multiple(number, divisor)
 }
 
 /// Whether a positive number divides each of the numbers.
@@ -69,7 +69,7 @@ pub(crate) fn divides_each(divisor: i128, numbers: &[i128]) -> bool
 }
 
 /// A form divided by a positive number, the constant and each coefficient rounded down.
-#[tactic(auto, using(ac_integers::proofs::Bits::again_128))]
+#[tactic(auto, using(ac_base::proofs::Bits::again_128))]
 pub(crate) fn quotient_form(alloc: Global, divisor: i128, form: &Form) -> Result<Form, AllocError>
     requires { pos 1 ≤ℤ divisor }
     ensures { IfOk result (λ quotient. quotient ≡ quotient_form divisor form.now) }
@@ -79,7 +79,7 @@ pub(crate) fn quotient_form(alloc: Global, divisor: i128, form: &Form) -> Result
 }
 
 /// The quotients by a positive number, rounded down.
-#[tactic(auto, using(ac_integers::proofs::Bits::again_128))]
+#[tactic(auto, using(ac_base::proofs::Bits::again_128))]
 fn quotients(alloc: Global, coefs: &[i128], divisor: i128) -> Result<Vec<i128>, AllocError>
     requires { pos 1 ≤ℤ divisor }
     ensures { IfOk result (λ made. made.items ≡ floored divisor coefs.now) }

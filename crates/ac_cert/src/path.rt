@@ -3,8 +3,8 @@ ghost use Rattle.std.specs.Prelude.{◌≡◌, ◌⊎◌, ℤ, List, pos, ◌≤
 ghost use Rattle.ac_forms.specs.Rows.{Holds, IsRowOver, IsWellMade};
 ghost use Rattle.ac_forms.specs.declared.conj.Conj.{Conj};
 ghost use Rattle.ac_cert.specs.Rules.{class_row, has_class, side_rows, with_row};
-ghost use Rattle.ac_forms.specs.Stops.{GivenOf};
-ghost use Rattle.ac_cert.specs.Stops.{Refuses};
+ghost use Rattle.ac_forms.specs.FormStops.{GivenOf};
+ghost use Rattle.ac_cert.specs.CheckStops.{Refuses};
 
 use crate::steps::{class_row, has_class, push, side_rows};
 use crate::types::{EndStop, Rule};

@@ -5,15 +5,15 @@ ghost use Rattle.ac_forms.specs.Fits.{Fits};
 ghost use Rattle.ac_forms.specs.Negation.{NegationFits, opposite, with_column};
 ghost use Rattle.ac_forms.specs.declared.conj.Conj.{Conj};
 ghost use Rattle.ac_forms.specs.declared.row.Row.TheVariants.{Eq, Div, Ge};
-ghost use Rattle.ac_cert.specs.Accepted.{Accepts};
-ghost use Rattle.ac_cert.specs.Branches.{behind, under, over_zero, with_rest};
+ghost use Rattle.ac_cert.specs.AcceptedTrees.{Accepts};
+ghost use Rattle.ac_cert.specs.RowBranches.{behind, under, over_zero, with_rest};
 ghost use Rattle.ac_cert.specs.declared.types.Rule.{Rule};
 ghost use Rattle.ac_cert.specs.declared.types.Step.TheVariants.{EqCut, DivEq, DivMod, Floor};
 
 use crate::make::{behind_steps, split_tree};
 use crate::types::{Step, Tree};
+use ac_base::Items;
 use ac_forms::{Form, FormStop};
-use ac_items::Items;
 use std::alloc::{AllocError, Global};
 
 /// The sum of two counts; one that is too great is want of memory.

@@ -2,18 +2,18 @@ ghost use Rattle.std.specs.Prelude.{◌≡◌, ℕ, Option, Some, true, option_m
 ghost use Rattle.std.specs.Ordering.{int_eq};
 ghost use Rattle.ac_forms.specs.Fits.{Fits};
 ghost use Rattle.ac_forms.specs.declared.row.Row.TheVariants.{Eq, Div, Ge};
-ghost use Rattle.ac_choices.specs.Combination.{combination};
+ghost use Rattle.ac_omega_steps.specs.Combination.{combination};
 ghost use Rattle.ac_cert.specs.Rules.{term_form, sum_from, are_equalities, is_equality, sum_row, cut_row, div_scale_row, div_add_row, div_mod_stands, divides_form, div_mod_row, reduced_row, div_eq_row, eq_cut_row, zero_form};
 
 use crate::numbers::{
     divides_each, divides_number, greater_modulus, is_zero, multiple, quotient_form,
 };
-use ac_choices::combination;
 use ac_forms::{Conj, Form, Row};
+use ac_omega_steps::combination;
 use std::alloc::{AllocError, Global};
 
 /// The form of a row that may stand in a sum with this factor.
-#[tactic(auto, using(ac_integers::proofs::Bits::again_128))]
+#[tactic(auto, using(ac_base::proofs::Bits::again_128))]
 fn term_form<'a>(rows: &'a [Row], row: usize, factor: i128) -> Option<&'a Form>
     ensures { option_copied result ≡ term_form factor (slice_get rows.now row) }
 {
@@ -25,7 +25,7 @@ fn term_form<'a>(rows: &'a [Row], row: usize, factor: i128) -> Option<&'a Form>
 }
 
 /// The sum of multiples of rows.
-#[tactic(auto, using(ac_integers::proofs::Bits::again_128))]
+#[tactic(auto, using(ac_base::proofs::Bits::again_128))]
 fn sum_of(alloc: Global, rows: &[Row], terms: &[(usize, i128)]) -> Result<Option<Form>, AllocError>
     ensures { IfOk result (λ sum. sum ≡ sum_from zero_form terms.now rows.now) }
 {
@@ -43,7 +43,7 @@ fn sum_of(alloc: Global, rows: &[Row], terms: &[(usize, i128)]) -> Result<Option
 }
 
 /// Whether a row is there and is `Eq`.
-#[tactic(auto, using(ac_integers::proofs::Bits::again_128))]
+#[tactic(auto, using(ac_base::proofs::Bits::again_128))]
 fn is_equality(rows: &[Row], row: usize) -> bool
     ensures { result ≡ is_equality (slice_get rows.now row) }
 {
@@ -54,7 +54,7 @@ fn is_equality(rows: &[Row], row: usize) -> bool
 }
 
 /// Whether all terms are of `Eq` rows.
-#[tactic(auto, using(ac_integers::proofs::Bits::again_128))]
+#[tactic(auto, using(ac_base::proofs::Bits::again_128))]
 fn are_equalities(rows: &[Row], terms: &[(usize, i128)]) -> bool
     ensures { result ≡ are_equalities terms.now rows.now }
 {
@@ -89,7 +89,7 @@ pub(crate) fn sum_row(
 }
 
 /// The row of a cut.
-#[tactic(auto, using(ac_integers::proofs::Bits::again_128))]
+#[tactic(auto, using(ac_base::proofs::Bits::again_128))]
 pub(crate) fn cut_row(
     alloc: Global,
     rows: &[Row],
@@ -105,7 +105,7 @@ pub(crate) fn cut_row(
 }
 
 /// The cut of `form >= 0`.
-#[tactic(auto, using(ac_integers::proofs::Bits::again_128))]
+#[tactic(auto, using(ac_base::proofs::Bits::again_128))]
 fn cut_by(alloc: Global, form: &Form, divisor: &i128) -> Result<Option<Row>, AllocError>
     ensures { IfOk result (λ made. made ≡ cut_row divisor.now (Some (Ge form.now))) }
 {
@@ -134,7 +134,7 @@ pub(crate) fn div_scale_row(
 }
 
 /// A multiple of a divisibility.
-#[tactic(auto, using(ac_integers::proofs::Bits::again_128))]
+#[tactic(auto, using(ac_base::proofs::Bits::again_128))]
 fn div_scaled(
     alloc: Global,
     modulus: &i128,
@@ -176,7 +176,7 @@ pub(crate) fn div_add_row(
 }
 
 /// A combination of two divisibilities.
-#[tactic(auto, using(ac_integers::proofs::Bits::again_128))]
+#[tactic(auto, using(ac_base::proofs::Bits::again_128))]
 fn div_summed(
     alloc: Global,
     modulus: &i128,
@@ -196,7 +196,7 @@ fn div_summed(
 }
 
 /// Whether two numbers are equal.
-#[tactic(auto, using(ac_integers::proofs::Bits::again_128))]
+#[tactic(auto, using(ac_base::proofs::Bits::again_128))]
 fn same_number(number: &i128, other: &i128) -> bool
     ensures { result ≡ int_eq number.now other.now }
 {
@@ -204,7 +204,7 @@ fn same_number(number: &i128, other: &i128) -> bool
 }
 
 /// The divisibility of a form that may be there.
-#[tactic(auto, using(ac_integers::proofs::Bits::again_128))]
+#[tactic(auto, using(ac_base::proofs::Bits::again_128))]
 fn div_added(modulus: &i128, sum: Option<Form>) -> Option<Row>
     ensures { result ≡ option_map (λ h. Div modulus.now h) sum }
 {
@@ -215,7 +215,7 @@ fn div_added(modulus: &i128, sum: Option<Form>) -> Option<Row>
 }
 
 /// Whether the numbers of a `DivMod` step are positive, its form is over the columns, and the product divides the modulus.
-#[tactic(auto, unfolding(crate::specs::Rules::div_mod_stands), using(crate::proofs::Fitting::number_steps, crate::proofs::Stands::stands_steps, ac_integers::proofs::Bits::again_128))]
+#[tactic(auto, unfolding(crate::specs::Rules::div_mod_stands), using(crate::proofs::Fitting::number_steps, crate::proofs::Stands::stands_steps, ac_base::proofs::Bits::again_128))]
 fn div_mod_stands(columns: usize, g: &i128, n: &i128, modulus: &i128, form: &Form) -> bool
     ensures stands { result ≡ div_mod_stands columns g.now n.now modulus.now form.now }
     ensures numbers { result ≡ true → (pos 1 ≤ℤ g.now) × (pos 1 ≤ℤ (g.now *ℤ n.now)) × Fits (g.now *ℤ n.now) }
@@ -230,7 +230,7 @@ fn div_mod_stands(columns: usize, g: &i128, n: &i128, modulus: &i128, form: &For
 }
 
 /// Whether a positive number divides each number of a form.
-#[tactic(auto, using(ac_integers::proofs::Bits::again_128))]
+#[tactic(auto, using(ac_base::proofs::Bits::again_128))]
 fn divides_form(divisor: i128, form: &Form) -> bool
     requires { pos 1 ≤ℤ divisor }
     ensures { result ≡ divides_form divisor form.now }
@@ -262,7 +262,7 @@ pub(crate) fn div_mod_row(
 }
 
 /// The divisibility by n of a form, where `g n` divides each number of another form less g times this one.
-#[tactic(auto, using(ac_integers::proofs::Bits::again_128))]
+#[tactic(auto, using(ac_base::proofs::Bits::again_128))]
 fn div_reduced(
     alloc: Global,
     dividend: &Form,
@@ -286,7 +286,7 @@ fn div_reduced(
 }
 
 /// The divisibility of a form that is 0.
-#[tactic(auto, using(ac_integers::proofs::Bits::again_128))]
+#[tactic(auto, using(ac_base::proofs::Bits::again_128))]
 pub(crate) fn div_eq_row(
     alloc: Global,
     rows: &[Row],
@@ -302,7 +302,7 @@ pub(crate) fn div_eq_row(
 }
 
 /// The divisibility of a form that is 0 by a number.
-#[tactic(auto, using(ac_integers::proofs::Bits::again_128))]
+#[tactic(auto, using(ac_base::proofs::Bits::again_128))]
 fn div_from_zero(alloc: Global, form: &Form, n: &i128) -> Result<Option<Row>, AllocError>
     ensures { IfOk result (λ made. made ≡ div_eq_row n.now (Some (Eq form.now))) }
 {
@@ -313,7 +313,7 @@ fn div_from_zero(alloc: Global, form: &Form, n: &i128) -> Result<Option<Row>, Al
 }
 
 /// The equality of two opposite rows.
-#[tactic(auto, using(ac_integers::proofs::Bits::again_128))]
+#[tactic(auto, using(ac_base::proofs::Bits::again_128))]
 pub(crate) fn eq_cut_row(
     alloc: Global,
     rows: &[Row],

@@ -3,12 +3,12 @@ ghost use Rattle.ac_forms.specs.Affine.{shifted};
 ghost use Rattle.ac_forms.specs.Fits.{fits};
 ghost use Rattle.ac_forms.specs.Negation.{with_column};
 ghost use Rattle.ac_forms.specs.Rows.{IsWellMade};
-ghost use Rattle.ac_choices.specs.Points.{IsPoint};
+ghost use Rattle.ac_omega_steps.specs.IntegerPoints.{IsPoint};
 ghost use Rattle.ac_cert.specs.declared.types.Rule.{Rule};
-ghost use Rattle.ac_cert.specs.Points.{Keeps};
+ghost use Rattle.ac_cert.specs.PointExtension.{Keeps};
 ghost use Rattle.ac_cert.specs.Rules.{after_step, rule_of, with_row, less_column, with_column_row, quotient, floor_of, rest_of, side_rows, both_sides, has_class, class, class_row, class_of};
-ghost use Rattle.ac_forms.specs.Stops.{GivenOf};
-ghost use Rattle.ac_cert.specs.Stops.{Refuses};
+ghost use Rattle.ac_forms.specs.FormStops.{GivenOf};
+ghost use Rattle.ac_cert.specs.CheckStops.{Refuses};
 
 use crate::numbers::{can_lose, rest};
 use crate::rows::{
@@ -70,7 +70,7 @@ fn made_by(alloc: Global, conj: Conj, s: &Step) -> Result<Conj, EndStop>
 }
 
 /// The rows after a step, if it is an instance of its rule.
-#[tactic(auto, unfolding(crate::specs::Rules::after_step), using(ac_integers::proofs::Bits::again_128))]
+#[tactic(auto, unfolding(crate::specs::Rules::after_step), using(ac_base::proofs::Bits::again_128))]
 fn after(alloc: Global, conj: Conj, s: &Step) -> Result<Option<Conj>, AllocError>
     ensures { IfOk result (λ made. made ≡ after_step s.now conj) }
 {
@@ -145,7 +145,7 @@ fn with_quotient(alloc: Global, conj: Conj, row: usize) -> Result<Option<Conj>, 
 }
 
 /// The form less `modulus` times a further column.
-#[tactic(auto, unfolding(crate::specs::Rules::less_column), using(ac_integers::proofs::Bits::again_128, ac_forms::proofs::Negations::negation_steps))]
+#[tactic(auto, unfolding(crate::specs::Rules::less_column), using(ac_base::proofs::Bits::again_128, ac_forms::proofs::Negations::negation_steps))]
 fn less_column(
     alloc: Global,
     columns: usize,
@@ -185,7 +185,7 @@ fn with_floor(
 }
 
 /// `modulus` times a further column, plus `modulus - 1`, less the form.
-#[tactic(auto, using(ac_integers::proofs::Bits::again_128, crate::proofs::StepRules::rest_within))]
+#[tactic(auto, using(ac_base::proofs::Bits::again_128, crate::proofs::StepRules::rest_within))]
 fn high_column(
     alloc: Global,
     columns: usize,
@@ -288,7 +288,7 @@ fn residue_by(alloc: Global, conj: &Conj, m: &i128, e: &Form, r: &i128) -> Resul
 }
 
 /// A child of a residue branch, if it stands.
-#[tactic(auto, using(ac_integers::proofs::Bits::again_128))]
+#[tactic(auto, using(ac_base::proofs::Bits::again_128))]
 fn class(
     alloc: Global,
     conj: &Conj,
@@ -307,7 +307,7 @@ fn class(
 }
 
 /// Whether a child of a residue branch stands.
-#[tactic(auto, unfolding(crate::specs::Rules::has_class), using(ac_integers::proofs::Bits::again_128))]
+#[tactic(auto, unfolding(crate::specs::Rules::has_class), using(ac_base::proofs::Bits::again_128))]
 pub(crate) fn has_class(m: &i128, e: &Form, r: &i128, columns: usize) -> bool
     ensures stands { result ≡ has_class m.now e.now r.now columns }
     ensures fits { result ≡ true → fits (e.now.konst -ℤ r.now) ≡ true }
@@ -316,7 +316,7 @@ pub(crate) fn has_class(m: &i128, e: &Form, r: &i128, columns: usize) -> bool
 }
 
 /// The row of child `r` of a residue branch: the number divides the form less `r`.
-#[tactic(auto, using(ac_integers::proofs::Bits::again_128, ac_choices::proofs::Fitting::true_fits))]
+#[tactic(auto, using(ac_base::proofs::Bits::again_128, ac_omega_steps::proofs::Fitting::true_fits))]
 pub(crate) fn class_row(alloc: Global, m: &i128, e: &Form, r: &i128) -> Result<Row, AllocError>
     requires low { pos 0 ≤ℤ r.now }
     requires fits { fits (e.now.konst -ℤ r.now) ≡ true }
@@ -327,7 +327,7 @@ pub(crate) fn class_row(alloc: Global, m: &i128, e: &Form, r: &i128) -> Result<R
 }
 
 /// A form less a number.
-#[tactic(auto, using(ac_integers::proofs::Bits::again_128, ac_choices::proofs::Fitting::true_fits))]
+#[tactic(auto, using(ac_base::proofs::Bits::again_128, ac_omega_steps::proofs::Fitting::true_fits))]
 fn less_number(alloc: Global, e: &Form, r: &i128) -> Result<Form, AllocError>
     requires low { pos 0 ≤ℤ r.now }
     requires fits { fits (e.now.konst -ℤ r.now) ≡ true }

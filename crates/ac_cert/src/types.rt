@@ -1,5 +1,5 @@
+use ac_base::Items;
 use ac_forms::Form;
-use ac_items::Items;
 use std::alloc::{AllocError, Global};
 
 /// The rules of proofs, by which a proof is refused. Each is printed as its variant's name in lower case.

@@ -2,7 +2,7 @@
 use Rattle.std.proofs.Common.{◌≡◌, ◌+◌, ℤ, List, [], ◌∷◌, ◌&&◌, length, true, nat_eq, subst}
 use Rattle.std.proofs.lemmas.Bool.Decides.{Decides-eqb}
 use Rattle.ac_forms.specs.Rows.{Meets, form_of}
-use Rattle.ac_forms.specs.Tests.{can_evaluate}
+use Rattle.ac_forms.specs.RangeTests.{can_evaluate}
 use Rattle.ac_forms.specs.declared.row.Row.{Row}
 use Rattle.ac_forms.proofs.Joining.{both_of}
 use Rattle.ac_syntax.specs.Outputs.{IsValuation}
@@ -10,11 +10,11 @@ use Rattle.ac_syntax.specs.declared.tree.Pair.{Pair}
 use Rattle.ac_poly.specs.Model.{model_of}
 use Rattle.ac_poly.specs.declared.types.Model.{Model}
 use Rattle.ac_poly.proofs.Whole.{has_context}
-use Rattle.ac_cert.specs.Faults.{first_fault_of}
+use Rattle.ac_cert.specs.CertificateFaults.{first_fault_of}
 use Rattle.ac_cert.specs.declared.types.Rule.TheVariants as rule
 use Rattle.ac_cert.proofs.Soundness.{first-none}
 use Rattle.ac_claims.specs.PlanFaults.{fault_unless}
-use Rattle.ac_claims.specs.Points.{PointsAreValuations}
+use Rattle.ac_claims.specs.ProofPoint.{PointsAreValuations}
 use Rattle.ac_claims.specs.ProofFaults.{row_holds, rows_hold, is_point, head_lines, heads_fault, claims_fault, claim_lines, outputs_fault, due_from, trees_fault}
 use Rattle.ac_claims.specs.Soundness.{ArePaired, pairing_of}
 use Rattle.ac_claims.proofs.HeadSteps.{row_holds-is}

@@ -3,10 +3,10 @@ use Rattle.std.proofs.Common.{◌≡◌, ◌≢◌, ◌<◌, List, [], ◌∷◌
 use Rattle.std.specs.Prelude.{Result, Ok, Err, IfOk}
 use Rattle.std.specs.declared.alloc.AllocError.{AllocError}
 use Rattle.std.proofs.lemmas.List.{reverse-append, reverse-reverse, length-map, length-reverse}
-use Rattle.ac_paths.specs.Branching.{onto}
-use Rattle.ac_paths.specs.declared.path.Branch.{Branch}
-use Rattle.ac_paths.specs.declared.path.Path.{Path}
-use Rattle.ac_claims.specs.Entries.{branches_of, dues}
+use Rattle.ac_claims_paths.specs.BranchPaths.{onto}
+use Rattle.ac_claims_paths.specs.declared.path.Branch.{Branch}
+use Rattle.ac_claims_paths.specs.declared.path.Path.{Path}
+use Rattle.ac_claims.specs.StackEntries.{branches_of, dues}
 use Rattle.ac_claims.specs.Machine.{Due, PlanAt}
 use Rattle.ac_claims.specs.declared.entry.Entry.{Entry}
 

@@ -5,7 +5,7 @@ use Rattle.ac_syntax.specs.Trace.{Entry}
 use Rattle.ac_syntax.specs.Algebra.{Algebra, Cell, run, value_of, same_cell, target}
 use Rattle.ac_syntax.specs.Term.{Term, Input, free, Num, Initial, terms, Agree, AgreeAll, same, through, under, swap, nothing, both}
 use Rattle.ac_syntax.specs.Source.{Writer, source, after}
-use Rattle.ac_syntax.specs.Nodes.{size}
+use Rattle.ac_syntax.specs.ValueNodes.{size}
 use Rattle.ac_syntax.specs.Sameness.{left_leaf, right_leaf}
 use Rattle.ac_syntax.specs.declared.tree.Value.{Value}
 use Rattle.ac_syntax.specs.declared.tree.Value.TheVariants.{Number, Call}

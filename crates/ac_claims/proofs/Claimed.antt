@@ -10,17 +10,17 @@ use Rattle.ac_syntax.specs.declared.tree.Place.{Place}
 use Rattle.ac_syntax.specs.declared.tree.Symbol.{Symbol}
 use Rattle.ac_syntax.specs.declared.tree.Value.{Value}
 use Rattle.ac_syntax.specs.declared.tree.Value.TheVariants.{Call}
-use Rattle.ac_paths.specs.Executions.{At}
-use Rattle.ac_paths.specs.Going.{read_branches, call_branches}
-use Rattle.ac_paths.specs.OnPaths.{Compared, OnPath}
-use Rattle.ac_paths.specs.Places.{CallAt, cell_read, call_at}
-use Rattle.ac_paths.specs.declared.places.CellForms.{CellForms}
-use Rattle.ac_paths.specs.declared.path.Path.{Path}
-use Rattle.ac_paths.specs.declared.path.Side.TheVariants.{Left, Right}
-use Rattle.ac_paths.proofs.OnPaths.{InPath}
-use Rattle.ac_forms.specs.Members.{IsAmong}
-use Rattle.ac_paths.proofs.ReadSteps.{Behind, left_read, right_read}
-use Rattle.ac_paths.proofs.CallSteps.{EachBehind, BothBehind, ArgumentsBehind, calls_step}
+use Rattle.ac_claims_paths.specs.Executions.{At}
+use Rattle.ac_claims_paths.specs.PathSteps.{read_branches, call_branches}
+use Rattle.ac_claims_paths.specs.OnPaths.{Compared, OnPath}
+use Rattle.ac_claims_paths.specs.ModelPositions.{CallAt, cell_read, call_at}
+use Rattle.ac_claims_paths.specs.declared.places.CellForms.{CellForms}
+use Rattle.ac_claims_paths.specs.declared.path.Path.{Path}
+use Rattle.ac_claims_paths.specs.declared.path.Side.TheVariants.{Left, Right}
+use Rattle.ac_claims_paths.proofs.OnPaths.{InPath}
+use Rattle.ac_forms.specs.ListMembers.{IsAmong}
+use Rattle.ac_claims_paths.proofs.ReadSteps.{Behind, left_read, right_read}
+use Rattle.ac_claims_paths.proofs.CallSteps.{EachBehind, BothBehind, ArgumentsBehind, calls_step}
 use Rattle.ac_claims.specs.declared.types.Claim.{Claim}
 use Rattle.ac_claims.proofs.Covered.{Runs, Covered, AllCovered, go_left, go_right, go_keep, go_swap, no_more, one_more}
 

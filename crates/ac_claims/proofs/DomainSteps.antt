@@ -2,12 +2,12 @@
 use Rattle.std.proofs.Common.{◌≡◌, ◌↔◌, ℕ, ◌+◌, pos, negsuc, List, [], ◌∷◌, Bool, true, false, ◌&&◌, cond, Some, None, refl, sym, ap, ◌∙◌}
 use Rattle.ac_forms.specs.Affine.{Affine, column_form, combined}
 use Rattle.ac_forms.specs.Fits.{fits}
-use Rattle.ac_forms.specs.Tests.{form_fits}
+use Rattle.ac_forms.specs.RangeTests.{form_fits}
 use Rattle.ac_forms.specs.declared.row.Row.{Row}
 use Rattle.ac_forms.specs.declared.row.Row.TheVariants.{Ge}
 use Rattle.ac_forms.proofs.Twins.{and-is, fits-is, form_fits-is}
-use Rattle.ac_poly.specs.Columns.{room, element_rows, CanBound}
-use Rattle.ac_paths.specs.Places.{extent_rows}
+use Rattle.ac_poly.specs.CoordinateColumns.{room, element_rows, CanBound}
+use Rattle.ac_claims_paths.specs.ModelPositions.{extent_rows}
 use Rattle.ac_claims.specs.ProofFaults.{can_bound, bounded_rows}
 
 same_rows : (k : ℕ) (es : List Affine) → extent_rows k es ≡ element_rows k es

@@ -2,23 +2,23 @@
 use Rattle.std.proofs.Common.{◌≡◌, ℕ, zero, suc, ◌+◌, ◌-◌, ℤ, pos, List, [], ◌∷◌, ◌++◌, map, length, Bool, true, false, cond, nat_le, Option, Some, None, Ok, nat_eq, slice_get, refl, sym, ap, ◌∙◌, arith, append_assoc, append-nil}
 use Rattle.ac_forms.specs.Affine.{Affine}
 use Rattle.ac_forms.specs.declared.conj.Conj.{Conj}
-use Rattle.ac_cert.specs.Faults.{Fault, later, first_fault_of}
-use Rattle.ac_cert.specs.Ends.{absurd_refusal}
+use Rattle.ac_cert.specs.CertificateFaults.{Fault, later, first_fault_of}
+use Rattle.ac_cert.specs.AbsurdEnd.{absurd_refusal}
 use Rattle.ac_cert.specs.Rules.{after_step, rule_of, both_sides, class, has_class}
 use Rattle.ac_cert.specs.declared.types.Rule.{Rule}
 use Rattle.ac_cert.specs.declared.types.Rule.TheVariants as rule
-use Rattle.ac_claims.specs.Driving.{ItemsDriveThePlan, LinesDriveTheProof}
-use Rattle.ac_claims.specs.Ending.{is_hit, is_number, is_initial}
-use Rattle.ac_paths.specs.Going.{Pairing, at_rows, branches}
-use Rattle.ac_paths.specs.Killing.{case_width, copy_of, chosen, is_killed}
+use Rattle.ac_claims.specs.MachineRuns.{ItemsDriveThePlan, LinesDriveTheProof}
+use Rattle.ac_claims.specs.ProofEnds.{is_hit, is_number, is_initial}
+use Rattle.ac_claims_paths.specs.PathSteps.{Pairing, at_rows, branches}
+use Rattle.ac_claims_paths.specs.CopyKills.{case_width, copy_of, chosen, is_killed}
 use Rattle.ac_claims.specs.Machine.{Due, PlanAt, Choices, Taken, Refused, Onto, onto_if, onto_some, onto_unless, classes, settled, copied, take_at, choose, take_item}
 use Rattle.ac_claims.specs.PlanFaults.{plan_fault}
 use Rattle.ac_claims.specs.ProofMachine.{Known, Came, No, Yes, yes_if, with_output, open_claim, open_path, open_tree, closed, come_within, come, unknown, items_of, head_items, row_lines, claims_lines, output_lines, tree_lines, lines_of, AreSpelledTrees}
 use Rattle.ac_claims.specs.Steppers.{capped, come_by, after, after_all, beginning, answer_of, verdict_by}
 use Rattle.ac_claims.specs.declared.item.Item.{Item}
 use Rattle.ac_claims.specs.declared.item.Item.TheVariants as item
-use Rattle.ac_paths.specs.declared.path.Assumed.{Assumed}
-use Rattle.ac_paths.specs.declared.path.Path.{Path}
+use Rattle.ac_claims_paths.specs.declared.path.Assumed.{Assumed}
+use Rattle.ac_claims_paths.specs.declared.path.Path.{Path}
 use Rattle.ac_forms.specs.Rows.{form_of}
 use Rattle.ac_forms.specs.declared.row.Row.{Row}
 use Rattle.ac_syntax.specs.declared.tree.Position.{Position}

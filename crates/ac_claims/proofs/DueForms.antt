@@ -7,25 +7,25 @@ use Rattle.ac_forms.specs.Rows.{AreRowsOver, IsRowOver, IsWellMade}
 use Rattle.ac_forms.specs.declared.conj.Conj.{Conj}
 use Rattle.ac_forms.specs.declared.row.Row.{Row}
 use Rattle.ac_cert.proofs.Behind.{step-onto}
-use Rattle.ac_cert.specs.Ends.{absurd_refusal}
-use Rattle.ac_items.proofs.Options.{map-some}
+use Rattle.ac_cert.specs.AbsurdEnd.{absurd_refusal}
+use Rattle.ac_base.proofs.Options.{map-some}
 use Rattle.ac_cert.proofs.StepRules.{step-keeps, sides-keep, class-over}
 use Rattle.ac_cert.specs.Rules.{after_step, both_sides, class, has_class, rule_of, side_rows, with_row}
 use Rattle.ac_cert.specs.declared.types.Rule.{Rule}
 use Rattle.ac_cert.specs.declared.types.Rule.TheVariants as rule
 use Rattle.ac_cert.specs.declared.types.Step.{Step}
-use Rattle.ac_paths.specs.Formed.{AllFormed, HasModuli, IsFormed}
-use Rattle.ac_paths.specs.Going.{Pairing, at_rows, branches, model_of}
-use Rattle.ac_paths.specs.Killing.{case_width, chosen, copy_of, is_killed}
-use Rattle.ac_paths.specs.declared.path.Assumed.{Assumed}
-use Rattle.ac_paths.specs.declared.path.Path.{Path}
-use Rattle.ac_paths.specs.declared.path.Side.{Side}
-use Rattle.ac_paths.specs.declared.path.Side.TheVariants.{Left, Right}
-use Rattle.ac_paths.proofs.CopySteps.{copy_made, chosen_result}
-use Rattle.ac_paths.proofs.Forming.{branches_formed}
-use Rattle.ac_paths.proofs.OnPaths.{formed_more}
+use Rattle.ac_claims_paths.specs.WellFormedPaths.{AllFormed, HasModuli, IsFormed}
+use Rattle.ac_claims_paths.specs.PathSteps.{Pairing, at_rows, branches, model_of}
+use Rattle.ac_claims_paths.specs.CopyKills.{case_width, chosen, copy_of, is_killed}
+use Rattle.ac_claims_paths.specs.declared.path.Assumed.{Assumed}
+use Rattle.ac_claims_paths.specs.declared.path.Path.{Path}
+use Rattle.ac_claims_paths.specs.declared.path.Side.{Side}
+use Rattle.ac_claims_paths.specs.declared.path.Side.TheVariants.{Left, Right}
+use Rattle.ac_claims_paths.proofs.CopySteps.{copy_made, chosen_result}
+use Rattle.ac_claims_paths.proofs.Forming.{branches_formed}
+use Rattle.ac_claims_paths.proofs.OnPaths.{formed_more}
 use Rattle.ac_claims.specs.Dues.{IsDueFormed, AreDueFormed}
-use Rattle.ac_claims.specs.Ending.{is_hit, is_number, is_initial}
+use Rattle.ac_claims.specs.ProofEnds.{is_hit, is_number, is_initial}
 use Rattle.ac_claims.specs.Machine.{Due, PlanAt, Choices, Taken, Refused, Onto, onto_if, onto_some, onto_unless, classes, settled, copied, choose, take_at, take_item}
 use Rattle.ac_claims.specs.declared.item.Item.{Item}
 use Rattle.ac_claims.specs.declared.item.Item.TheVariants as item

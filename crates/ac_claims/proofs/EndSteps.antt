@@ -3,9 +3,9 @@ use Rattle.std.proofs.Common.{◌≡◌, ℕ, zero, suc, ◌<◌, ◌≤◌, Lis
 use Rattle.std.specs.Prelude.{slice_get}
 use Rattle.std.proofs.lemmas.Option.{slice_get_past, slice_get_read}
 use Rattle.ac_forms.specs.Rows.{HaveModuli}
-use Rattle.ac_paths.specs.declared.path.Path.{Path}
+use Rattle.ac_claims_paths.specs.declared.path.Path.{Path}
 use Rattle.ac_claims.specs.Dues.{RowsHaveModuli}
-use Rattle.ac_claims.specs.Ending.{hits}
+use Rattle.ac_claims.specs.ProofEnds.{hits}
 use Rattle.ac_claims.specs.declared.types.Claim.{Claim}
 
 pub claim_moduli : (cs : List Claim) (i : ℕ) (c : Claim) → RowsHaveModuli cs → i < length cs → c ≡ get_or cs i c → HaveModuli c.rows

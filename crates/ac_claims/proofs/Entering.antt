@@ -4,12 +4,12 @@ use Rattle.std.specs.Prelude.{Result, Ok, Err, ◌↔◌, unsigned_abs}
 use Rattle.std.specs.List.{AllByRecursion}
 use Rattle.ac_forms.specs.declared.row.Row.{Row}
 use Rattle.ac_cert.specs.Rules.{class, with_row}
-use Rattle.ac_paths.specs.Formed.{IsFormed}
-use Rattle.ac_paths.specs.Going.{Pairing, at_rows}
-use Rattle.ac_paths.specs.declared.path.Branch.{Branch}
-use Rattle.ac_paths.specs.declared.path.Path.{Path}
+use Rattle.ac_claims_paths.specs.WellFormedPaths.{IsFormed}
+use Rattle.ac_claims_paths.specs.PathSteps.{Pairing, at_rows}
+use Rattle.ac_claims_paths.specs.declared.path.Branch.{Branch}
+use Rattle.ac_claims_paths.specs.declared.path.Path.{Path}
 use Rattle.ac_claims.specs.Dues.{IsDueFormed, AreDueFormed}
-use Rattle.ac_claims.specs.Entries.{AreClasses, AreEntries, HasDues, IsOngoing, Settles, SettlesAll, all_dues, branches_of, classes_of, due_at, due_of, dues, path_at}
+use Rattle.ac_claims.specs.StackEntries.{AreClasses, AreEntries, HasDues, IsOngoing, Settles, SettlesAll, all_dues, branches_of, classes_of, due_at, due_of, dues, path_at}
 use Rattle.ac_claims.specs.Machine.{Due, PlanAt, Choices, Taken, Onto, classes, take_item}
 use Rattle.ac_claims.specs.declared.entry.Awaited.{Awaited}
 use Rattle.ac_claims.specs.declared.entry.Awaited.TheVariants as awaited
@@ -25,7 +25,7 @@ use Rattle.ac_claims.proofs.DueForms.{all_parts, classes_formed, formed_back}
 use Rattle.ac_claims.proofs.Framing.{beside, item_beside}
 use Rattle.ac_claims.proofs.Residues.{class_parts, classes_split}
 use Rattle.ac_claims.proofs.StackSteps.{all_front, all_last, popped, popped_due, popped_entries, row_dues}
-use Rattle.ac_standing.proofs.Notes.{all_push}
+use Rattle.ac_claims_paths.proofs.Notes.{all_push}
 
 -- something is due by each entry
 some_due : (h : Path) (a : Awaited) → HasDues h.conj.columns a → (d : Due) × (ds : List Due) × (due_at h a ≡ d ∷ ds)

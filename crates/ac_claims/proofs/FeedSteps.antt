@@ -10,15 +10,15 @@ use Rattle.ac_syntax.specs.Outputs.{SameOutput}
 use Rattle.ac_syntax.specs.declared.tree.Order.{Order}
 use Rattle.ac_syntax.specs.declared.tree.Pair.{Pair}
 use Rattle.ac_poly.specs.declared.types.Model.{Model}
-use Rattle.ac_cert.specs.Faults.{Fault}
-use Rattle.ac_choices.specs.declared.choose.Choice.{Choice}
+use Rattle.ac_cert.specs.CertificateFaults.{Fault}
+use Rattle.ac_omega_steps.specs.declared.choose.Choice.{Choice}
 use Rattle.ac_cert.specs.declared.types.Rule.{Rule}
 use Rattle.ac_cert.specs.declared.types.Step.{Step}
-use Rattle.ac_choices.proofs.Parts.{drop-at}
-use Rattle.ac_paths.specs.Calls.{pairing}
-use Rattle.ac_paths.specs.Going.{Pairing}
-use Rattle.ac_claims.specs.Feeding.{fed_by, Reaches, Feeds, of_step, of_choice, of_row, of_claim, of_output, of_tree, of_heads, HasAnswer, HasRefusal, IsBehind, IsVerdict, IsFirstFault}
-use Rattle.ac_claims.specs.Judging.{state_of, IsSteady, SamePair}
+use Rattle.ac_omega_steps.proofs.Parts.{drop-at}
+use Rattle.ac_claims_paths.specs.ModelCalls.{pairing}
+use Rattle.ac_claims_paths.specs.PathSteps.{Pairing}
+use Rattle.ac_claims.specs.CheckFeed.{fed_by, Reaches, Feeds, of_step, of_choice, of_row, of_claim, of_output, of_tree, of_heads, HasAnswer, HasRefusal, IsBehind, IsVerdict, IsFirstFault}
+use Rattle.ac_claims.specs.CheckState.{state_of, IsSteady, SamePair}
 use Rattle.ac_claims.specs.Machine.{step_items, choice_items, next_items, row_items}
 use Rattle.ac_claims.specs.PlanFaults.{count_of}
 use Rattle.ac_claims.specs.ProofMachine.{items_of, head_items, row_lines, claims_lines, output_lines, tree_lines, lines_of, AreSpelledTrees}

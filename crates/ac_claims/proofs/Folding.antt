@@ -4,21 +4,21 @@ use Rattle.std.specs.Ordering.{int_eq}
 use Rattle.std.proofs.lemmas.Bool.Decides.{Decides-int_eq, Decides-eqb}
 use Rattle.ac_forms.specs.Affine.{Affine}
 use Rattle.ac_forms.specs.declared.conj.Conj.{Conj}
-use Rattle.ac_cert.specs.Ends.{absurd_refusal}
-use Rattle.ac_cert.specs.Faults.{Fault, Onward, first_fault_of, split_fault, step_fault}
+use Rattle.ac_cert.specs.AbsurdEnd.{absurd_refusal}
+use Rattle.ac_cert.specs.CertificateFaults.{Fault, Onward, first_fault_of, split_fault, step_fault}
 use Rattle.ac_cert.specs.Rules.{after_step, rule_of, both_sides, class, has_class, is_partition}
-use Rattle.ac_choices.specs.declared.choose.Choice.{Choice}
+use Rattle.ac_omega_steps.specs.declared.choose.Choice.{Choice}
 use Rattle.ac_cert.specs.declared.types.Rule.{Rule}
 use Rattle.ac_cert.specs.declared.types.Rule.TheVariants as rule
 use Rattle.ac_cert.specs.declared.types.Step.{Step}
-use Rattle.ac_claims.specs.Ending.{is_hit, is_number, is_initial}
-use Rattle.ac_paths.specs.Going.{Pairing, at_rows, branches}
-use Rattle.ac_paths.specs.Killing.{case_width, copy_of, chosen, is_killed}
+use Rattle.ac_claims.specs.ProofEnds.{is_hit, is_number, is_initial}
+use Rattle.ac_claims_paths.specs.PathSteps.{Pairing, at_rows, branches}
+use Rattle.ac_claims_paths.specs.CopyKills.{case_width, copy_of, chosen, is_killed}
 use Rattle.ac_claims.specs.Machine.{Due, PlanAt, Onto, onto_if, onto_some, onto_unless, classes, settled, copied, goes_on, run, step_items, choice_items, next_items, row_items, IsSpelled, AreSpelled}
 use Rattle.ac_claims.specs.PlanFaults.{steps_fault, fault_unless, absurd_fault, choices_fault, kill_fault, go_fault, count_of, line_count, line_counts, next_fault, classes_fault, cases_fault}
 use Rattle.ac_claims.specs.declared.item.Item.{Item}
-use Rattle.ac_paths.specs.declared.path.Assumed.{Assumed}
-use Rattle.ac_paths.specs.declared.path.Path.{Path}
+use Rattle.ac_claims_paths.specs.declared.path.Assumed.{Assumed}
+use Rattle.ac_claims_paths.specs.declared.path.Path.{Path}
 use Rattle.ac_claims.specs.declared.types.Kill.{Kill}
 use Rattle.ac_claims.specs.declared.types.Claim.{Claim}
 use Rattle.ac_claims.specs.declared.types.PlanNext.{PlanNext, Split', Residue', Go', Row_of-Plan, end_of-Plan, more_of-Plan}

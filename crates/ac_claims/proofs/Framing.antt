@@ -2,15 +2,15 @@
 use Rattle.std.proofs.Common.{◌≡◌, ℕ, zero, suc, ◌-◌, ◌-ℤ◌, pos, List, ◌∷◌, ◌++◌, map, length, Bool, true, false, nat_eq, slice_get, Option, Some, None, refl, sym, ap, ◌∙◌, append_assoc}
 use Rattle.std.specs.Prelude.{unsigned_abs}
 use Rattle.ac_forms.specs.declared.conj.Conj.{Conj}
-use Rattle.ac_cert.specs.Ends.{absurd_refusal}
+use Rattle.ac_cert.specs.AbsurdEnd.{absurd_refusal}
 use Rattle.ac_cert.specs.Rules.{after_step, both_sides, has_class, rule_of}
 use Rattle.ac_cert.specs.declared.types.Rule.{Rule}
 use Rattle.ac_cert.specs.declared.types.Rule.TheVariants as rule
-use Rattle.ac_paths.specs.Going.{Pairing, at_rows, branches}
-use Rattle.ac_paths.specs.Killing.{case_width, chosen, copy_of, is_killed}
-use Rattle.ac_paths.specs.declared.path.Assumed.{Assumed}
-use Rattle.ac_paths.specs.declared.path.Path.{Path}
-use Rattle.ac_claims.specs.Ending.{is_hit, is_number, is_initial}
+use Rattle.ac_claims_paths.specs.PathSteps.{Pairing, at_rows, branches}
+use Rattle.ac_claims_paths.specs.CopyKills.{case_width, chosen, copy_of, is_killed}
+use Rattle.ac_claims_paths.specs.declared.path.Assumed.{Assumed}
+use Rattle.ac_claims_paths.specs.declared.path.Path.{Path}
+use Rattle.ac_claims.specs.ProofEnds.{is_hit, is_number, is_initial}
 use Rattle.ac_claims.specs.Machine.{Due, PlanAt, Choices, Taken, Refused, Onto, onto_if, onto_some, onto_unless, classes, settled, copied, choose, take_at, take_item}
 use Rattle.ac_claims.specs.declared.item.Item.{Item}
 use Rattle.ac_claims.specs.declared.item.Item.TheVariants as item

@@ -2,11 +2,11 @@
 use Rattle.std.proofs.Common.{◌≡◌, ◌≢◌, ◌↔◌, ℕ, ℤ, pos, List, [], ◌∷◌, length, Bool, true, false, ◌&&◌, refl, sym, arith}
 use Rattle.std.specs.Prelude.{unsigned_abs, IsTrue}
 use Rattle.std.proofs.lemmas.Bool.Decides.{Decides-int_eq}
-use Rattle.ac_items.proofs.Truths.{le-true, true-le}
-use Rattle.ac_integers.proofs.Divisors.{multiple_by_rest}
+use Rattle.ac_base.proofs.Truths.{le-true, true-le}
+use Rattle.ac_base.proofs.Divisors.{multiple_by_rest}
 use Rattle.ac_forms.specs.Affine.{value_at, CanEvaluate}
 use Rattle.ac_forms.specs.Rows.{form_of, Holds}
-use Rattle.ac_forms.specs.Tests.{can_evaluate}
+use Rattle.ac_forms.specs.RangeTests.{can_evaluate}
 use Rattle.ac_forms.specs.declared.row.Row.{Row}
 use Rattle.ac_forms.specs.declared.row.Row.TheVariants.{Eq, Div, Ge}
 use Rattle.ac_forms.proofs.Twins.{can_evaluate-is}

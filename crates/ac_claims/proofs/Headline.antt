@@ -7,7 +7,7 @@ use Rattle.ac_forms.specs.declared.row.Row.{Row}
 use Rattle.ac_forms.proofs.Joining.{both_of}
 use Rattle.ac_forms.proofs.Passes.{moduli_of}
 use Rattle.ac_syntax.specs.Index.{point, index_value}
-use Rattle.ac_syntax.specs.Ready.{FitParts}
+use Rattle.ac_syntax.specs.ReadyPrograms.{FitParts}
 use Rattle.ac_syntax.specs.declared.tree.IndexExpr.{IndexExpr}
 use Rattle.ac_syntax.specs.Outputs.{SameOutput, IsValuation, InExtents, extents_at, input_at, swaps_of}
 use Rattle.ac_syntax.specs.Spot.{AtEnd}
@@ -16,22 +16,22 @@ use Rattle.ac_syntax.specs.declared.tree.Pair.{Pair}
 use Rattle.ac_syntax.specs.declared.tree.Position.{Position}
 use Rattle.ac_syntax.specs.declared.tree.Position.TheVariants.{Output}
 use Rattle.ac_syntax.proofs.Agreeing.{same_from_terms}
-use Rattle.ac_poly.specs.Laws.{values_at}
+use Rattle.ac_poly.specs.ModelMeaning.{values_at}
 use Rattle.ac_poly.specs.Model.{model_of}
 use Rattle.ac_poly.proofs.Columns.{has_columns, has_kinds}
 use Rattle.ac_poly.proofs.Whole.{has_context}
 use Rattle.ac_poly.specs.declared.types.Model.{Model}
-use Rattle.ac_cert.specs.Faults.{first_fault_of}
+use Rattle.ac_cert.specs.CertificateFaults.{first_fault_of}
 use Rattle.ac_cert.specs.declared.types.Rule.TheVariants as rule
-use Rattle.ac_choices.proofs.Keeping.{Meets-append}
-use Rattle.ac_items.proofs.Options.{map-some}
+use Rattle.ac_omega_steps.proofs.Keeping.{Meets-append}
+use Rattle.ac_base.proofs.Options.{map-some}
 use Rattle.ac_cert.proofs.Soundness.{first-none}
 use Rattle.ac_forms.specs.Renaming.{picked}
-use Rattle.ac_paths.specs.Columns.{columns_of, equal_forms}
-use Rattle.ac_claims.specs.Ending.{same_position}
-use Rattle.ac_paths.specs.Executions.{Execution, At, elements, execution}
-use Rattle.ac_paths.specs.Going.{Pairing}
-use Rattle.ac_paths.specs.Places.{element_forms}
+use Rattle.ac_claims_paths.specs.PathColumns.{columns_of, equal_forms}
+use Rattle.ac_claims.specs.ProofEnds.{same_position}
+use Rattle.ac_claims_paths.specs.Executions.{Execution, At, elements, execution}
+use Rattle.ac_claims_paths.specs.PathSteps.{Pairing}
+use Rattle.ac_claims_paths.specs.ModelPositions.{element_forms}
 use Rattle.ac_claims.specs.PlanFaults.{fault_unless}
 use Rattle.ac_claims.specs.ProofFaults.{Domain, domain, is_point, head_lines, heads_fault, claims_fault, claim_lines, left_seat, right_seat, start_columns, piece_rows, output_rows, all_stand_among, asks_by, asks_no_more, output_stands, outputs_fault, due_from, trees_fault, IsValidProof}
 use Rattle.ac_claims.specs.Soundness.{ArePaired, pairing_of, ClaimsHaveModuli, TermsAgree, ValidProofsHaveAgreeingTerms, ValidProofsNameSameOutputs}
@@ -39,16 +39,16 @@ use Rattle.ac_forms.specs.Standing.{all_stand}
 use Rattle.ac_claims.specs.declared.types.Claim.{Claim}
 use Rattle.ac_claims.specs.declared.types.Proof.{Proof}
 use Rattle.ac_claims.proofs.Central.{Valid, claims_hold}
-use Rattle.ac_paths.proofs.Moving.{equal-values, equal-within, appended-parts, meets-both, made-both}
+use Rattle.ac_claims_paths.proofs.Moving.{equal-values, equal-within, appended-parts, meets-both, made-both}
 use Rattle.ac_forms.proofs.Standings.{all-hold}
 use Rattle.ac_claims.proofs.Claimed.{Setting, runs_of, Claimed}
-use Rattle.ac_paths.proofs.OnPaths.{seat_columns}
-use Rattle.ac_paths.proofs.Heres.{element_values}
-use Rattle.ac_forms.specs.Members.{IsAmong}
-use Rattle.ac_paths.proofs.InBranches.{made-wide}
+use Rattle.ac_claims_paths.proofs.OnPaths.{seat_columns}
+use Rattle.ac_claims_paths.proofs.Heres.{element_values}
+use Rattle.ac_forms.specs.ListMembers.{IsAmong}
+use Rattle.ac_claims_paths.proofs.InBranches.{made-wide}
 use Rattle.ac_claims.proofs.Plans.{position_is, unless_none}
 use Rattle.ac_claims.proofs.Trees.{InDomain, output_parts, domain_point, domain_moduli, start_point, pieces_meet, pieces_made, all_valid}
-use Rattle.ac_paths.proofs.Described.{models_describe}
+use Rattle.ac_claims_paths.proofs.Described.{models_describe}
 
 pub moduli_at : (cs : List Claim) → AllByRecursion (λ (c : Claim). HaveModuli c.rows) cs → (i : ℕ) (c : Claim) → slice_get cs i ≡ Some c → HaveModuli c.rows
 moduli_at [] h i c e = absurd cc

@@ -3,13 +3,13 @@ use Rattle.std.proofs.Common.{◌≡◌, ℕ, zero, suc, ◌<◌, ◌≤◌, Lis
 use Rattle.ac_forms.specs.Rows.{HaveModuli, IsWellMade}
 use Rattle.ac_forms.specs.declared.conj.Conj.{Conj}
 use Rattle.ac_forms.specs.declared.row.Row.{Row}
-use Rattle.ac_choices.specs.declared.choose.Choice.{Choice}
+use Rattle.ac_omega_steps.specs.declared.choose.Choice.{Choice}
 use Rattle.ac_cert.specs.declared.types.Rule.TheVariants as rule
-use Rattle.ac_paths.specs.Killing.{is_killed}
-use Rattle.ac_paths.specs.declared.path.Assumed.{Assumed}
-use Rattle.ac_paths.specs.declared.path.Path.{Path}
-use Rattle.ac_paths.proofs.Moduli.{conj_moduli}
-use Rattle.ac_claims.specs.Entries.{due_at}
+use Rattle.ac_claims_paths.specs.CopyKills.{is_killed}
+use Rattle.ac_claims_paths.specs.declared.path.Assumed.{Assumed}
+use Rattle.ac_claims_paths.specs.declared.path.Path.{Path}
+use Rattle.ac_claims_paths.proofs.Moduli.{conj_moduli}
+use Rattle.ac_claims.specs.StackEntries.{due_at}
 use Rattle.ac_claims.specs.Machine.{Due, Choices, Onto, onto_if, settled, choose}
 use Rattle.ac_claims.specs.declared.entry.Awaited.TheVariants as awaited
 use Rattle.ac_claims.specs.declared.entry.Choosing.{Choosing}

@@ -7,18 +7,18 @@ use Rattle.ac_forms.specs.declared.row.Row.{Row}
 use Rattle.ac_syntax.specs.declared.tree.Position.{Position}
 use Rattle.ac_cert.specs.declared.types.Rule.{Rule}
 use Rattle.ac_cert.specs.declared.types.Rule.TheVariants as rule
-use Rattle.ac_items.proofs.Options.{bind-some, map-some, some-is}
+use Rattle.ac_base.proofs.Options.{bind-some, map-some, some-is}
 use Rattle.ac_forms.proofs.Passes.{moduli_of}
 use Rattle.std.proofs.lemmas.Bool.{leb-true}
 use Rattle.std.proofs.lemmas.Option.{slice_get_past}
-use Rattle.ac_paths.specs.Going.{Pairing}
-use Rattle.ac_paths.proofs.Moving.{made-both}
-use Rattle.ac_claims.specs.Checking.{known_of, columns_by, IsClaimMade, last_of, ColumnsAre, IsFrontMade}
+use Rattle.ac_claims_paths.specs.PathSteps.{Pairing}
+use Rattle.ac_claims_paths.proofs.Moving.{made-both}
+use Rattle.ac_claims.specs.CheckKnowledge.{known_of, columns_by, IsClaimMade, last_of, ColumnsAre, IsFrontMade}
 use Rattle.ac_claims.specs.Domains.{size_of, of_width}
 use Rattle.ac_claims.specs.Machine.{Due}
 use Rattle.ac_claims.specs.ProofFaults.{Domain, domain, start_columns, DuePlan, due_from}
 use Rattle.ac_claims.specs.ProofMachine.{Known, No, Yes, yes_if, with_claims, with_output, with_last, open_claim, closed}
-use Rattle.ac_claims.specs.Remaining.{remaining_by, Settled}
+use Rattle.ac_claims.specs.RemainingPlans.{remaining_by, Settled}
 use Rattle.ac_claims.specs.Dues.{RowsHaveModuli}
 use Rattle.ac_claims.specs.declared.upcoming.Upcoming.{Upcoming}
 use Rattle.ac_claims.specs.declared.domains.Size.{Size}

@@ -10,23 +10,23 @@ use Rattle.ac_forms.proofs.Passes.{moduli_of}
 use Rattle.ac_syntax.specs.declared.tree.Position.{Position}
 use Rattle.ac_syntax.specs.declared.tree.Position.TheVariants.{Output}
 use Rattle.ac_poly.specs.declared.types.Model.{Model}
-use Rattle.ac_items.proofs.Options.{map-some, bind-some}
-use Rattle.ac_paths.specs.Calls.{pairing}
-use Rattle.ac_paths.specs.Columns.{columns_of, equal_forms}
-use Rattle.ac_paths.specs.Formed.{HasModuli}
-use Rattle.ac_paths.specs.Going.{Pairing}
-use Rattle.ac_paths.specs.Made.{HaveIf}
-use Rattle.ac_paths.specs.Places.{element_forms}
-use Rattle.ac_paths.specs.declared.path.Programs.{Programs}
-use Rattle.ac_forms.specs.Members.{IsAmong}
-use Rattle.ac_paths.proofs.InBranches.{made-wide}
-use Rattle.ac_paths.proofs.Moving.{appended-parts, made-both, equal-within}
-use Rattle.ac_paths.proofs.OnPaths.{seat_columns}
+use Rattle.ac_base.proofs.Options.{map-some, bind-some}
+use Rattle.ac_claims_paths.specs.ModelCalls.{pairing}
+use Rattle.ac_claims_paths.specs.PathColumns.{columns_of, equal_forms}
+use Rattle.ac_claims_paths.specs.WellFormedPaths.{HasModuli}
+use Rattle.ac_claims_paths.specs.PathSteps.{Pairing}
+use Rattle.ac_claims_paths.specs.OptionalRows.{HaveIf}
+use Rattle.ac_claims_paths.specs.ModelPositions.{element_forms}
+use Rattle.ac_claims_paths.specs.declared.path.Programs.{Programs}
+use Rattle.ac_forms.specs.ListMembers.{IsAmong}
+use Rattle.ac_claims_paths.proofs.InBranches.{made-wide}
+use Rattle.ac_claims_paths.proofs.Moving.{appended-parts, made-both, equal-within}
+use Rattle.ac_claims_paths.proofs.OnPaths.{seat_columns}
 use Rattle.ac_claims.specs.Domains.{size_of, piece_by, single_of, single, of_width, asks_of}
 use Rattle.ac_claims.specs.Dues.{RowsHaveModuli}
-use Rattle.ac_claims.specs.Ending.{same_position}
+use Rattle.ac_claims.specs.ProofEnds.{same_position}
 use Rattle.ac_claims.specs.ProofFaults.{Domain, domain, left_seat, right_seat, start_columns, piece_rows, output_rows, all_stand_among, asks_by, asks_no_more, output_stands}
-use Rattle.ac_claims.specs.Ready.{AreReady}
+use Rattle.ac_claims.specs.ReadyModels.{AreReady}
 use Rattle.ac_claims.specs.declared.domains.Piece.{Piece}
 use Rattle.ac_claims.specs.declared.domains.Size.{Size}
 use Rattle.ac_claims.specs.declared.types.Claim.{Claim}

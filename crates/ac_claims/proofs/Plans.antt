@@ -17,12 +17,12 @@ use Rattle.ac_syntax.specs.declared.tree.Order.{Order}
 use Rattle.ac_syntax.specs.declared.tree.Order.TheVariants.{Keep, Swap}
 use Rattle.ac_syntax.specs.declared.tree.Position.{Position}
 use Rattle.ac_syntax.specs.declared.tree.Position.TheVariants.{Output, Node, InitialOutput, InitialNode}
-use Rattle.ac_poly.specs.Laws.{values_at}
+use Rattle.ac_poly.specs.ModelMeaning.{values_at}
 use Rattle.ac_cert.specs.AbsurdLaw.{absurd_sound}
-use Rattle.ac_cert.specs.Ends.{absurd_refusal}
-use Rattle.ac_cert.specs.Faults.{Fault, split_fault, step_fault}
-use Rattle.ac_choices.specs.Points.{IsPoint}
-use Rattle.ac_items.proofs.Options.{map-some}
+use Rattle.ac_cert.specs.AbsurdEnd.{absurd_refusal}
+use Rattle.ac_cert.specs.CertificateFaults.{Fault, split_fault, step_fault}
+use Rattle.ac_omega_steps.specs.IntegerPoints.{IsPoint}
+use Rattle.ac_base.proofs.Options.{map-some}
 use Rattle.ac_cert.specs.Rules.{side_rows, with_row, after_step, rule_of, both_sides, class, is_partition, has_class}
 use Rattle.ac_cert.specs.declared.types.Rule.{Rule}
 use Rattle.ac_cert.specs.declared.types.Rule.TheVariants as rule
@@ -30,22 +30,22 @@ use Rattle.ac_cert.specs.declared.types.Step.{Step}
 use Rattle.ac_cert.proofs.Behind.{step-onto}
 use Rattle.ac_cert.proofs.Soundness.{first-none, no-refusal}
 use Rattle.ac_cert.proofs.StepRules.{step-keeps, sides-keep, class-over, class-some}
-use Rattle.ac_items.proofs.Truths.{and-true, le-true}
+use Rattle.ac_base.proofs.Truths.{and-true, le-true}
 use Rattle.ac_poly.specs.Model.{is_input}
 use Rattle.ac_forms.specs.Renaming.{picked, rows_renaming}
-use Rattle.ac_paths.specs.Columns.{base, columns_of, equal_forms}
-use Rattle.ac_claims.specs.Ending.{same_position, is_hit, equal_numbers, is_number, equal_cells, is_initial}
-use Rattle.ac_paths.specs.Executions.{At}
-use Rattle.ac_paths.specs.Going.{at_rows, branches, branches_by, branches_of_calls, read_branches, by_keep}
-use Rattle.ac_paths.specs.Killing.{copy_of, case_width, chosen, all_chosen, is_killed}
-use Rattle.ac_paths.specs.Places.{CallAt, cell_read, call_at, number_at, initial_cell}
-use Rattle.ac_paths.specs.declared.places.CellForms.{CellForms}
+use Rattle.ac_claims_paths.specs.PathColumns.{base, columns_of, equal_forms}
+use Rattle.ac_claims.specs.ProofEnds.{same_position, is_hit, equal_numbers, is_number, equal_cells, is_initial}
+use Rattle.ac_claims_paths.specs.Executions.{At}
+use Rattle.ac_claims_paths.specs.PathSteps.{at_rows, branches, branches_by, branches_of_calls, read_branches, by_keep}
+use Rattle.ac_claims_paths.specs.CopyKills.{copy_of, case_width, chosen, all_chosen, is_killed}
+use Rattle.ac_claims_paths.specs.ModelPositions.{CallAt, cell_read, call_at, number_at, initial_cell}
+use Rattle.ac_claims_paths.specs.declared.places.CellForms.{CellForms}
 use Rattle.ac_claims.specs.PlanFaults.{steps_fault, fault_unless, choices_fault, kill_fault, go_fault, count_of, line_count, next_fault, classes_fault, cases_fault, plan_fault}
-use Rattle.ac_paths.specs.Standing.{made_and_stand}
-use Rattle.ac_choices.specs.declared.choose.Choice.{Choice}
-use Rattle.ac_paths.specs.declared.path.Assumed.{Assumed}
-use Rattle.ac_paths.specs.declared.path.Path.{Path}
-use Rattle.ac_paths.specs.declared.path.Side.TheVariants.{Left, Right}
+use Rattle.ac_claims_paths.specs.PathRows.{made_and_stand}
+use Rattle.ac_omega_steps.specs.declared.choose.Choice.{Choice}
+use Rattle.ac_claims_paths.specs.declared.path.Assumed.{Assumed}
+use Rattle.ac_claims_paths.specs.declared.path.Path.{Path}
+use Rattle.ac_claims_paths.specs.declared.path.Side.TheVariants.{Left, Right}
 use Rattle.ac_claims.specs.declared.types.Claim.{Claim}
 use Rattle.ac_claims.specs.declared.types.Kill.{Kill}
 use Rattle.ac_claims.specs.declared.types.Plan.{Plan}
@@ -53,15 +53,15 @@ use Rattle.ac_claims.specs.declared.types.PlanNext.{PlanNext, Split', Residue', 
 use Rattle.ac_claims.specs.declared.types.PlanNext.TheVariants.{Absurd, Killed, Hit, SameNumber, SameInitial}
 use Rattle.ac_claims.proofs.Claimed.{Setting, runs_of, Claimed, Good, EachGood, left_good, right_good, calls_good, at_spots}
 use Rattle.ac_claims.proofs.Covered.{Covered, hit, numbers, one_input}
-use Rattle.ac_paths.proofs.Moving.{InColumns, rows-value, rows-within, equal-values, equal-within}
+use Rattle.ac_claims_paths.proofs.Moving.{InColumns, rows-value, rows-within, equal-values, equal-within}
 use Rattle.ac_forms.proofs.Standings.{all-hold}
-use Rattle.ac_paths.proofs.OnPaths.{moduli_in, InPath, OnPath, in_more, on_more, on_rows, in-append, seat_columns, base_columns}
-use Rattle.ac_paths.proofs.Heres.{cell_with, number_at_spot, initial_here}
-use Rattle.ac_forms.specs.Members.{IsAmong}
-use Rattle.ac_paths.proofs.ReadSteps.{picks_one, picks_two}
-use Rattle.ac_paths.proofs.InBranches.{in_branches}
-use Rattle.ac_paths.proofs.CallSteps.{calls_in}
-use Rattle.ac_paths.proofs.Kills.{killed_empty}
+use Rattle.ac_claims_paths.proofs.OnPaths.{moduli_in, InPath, OnPath, in_more, on_more, on_rows, in-append, seat_columns, base_columns}
+use Rattle.ac_claims_paths.proofs.Heres.{cell_with, number_at_spot, initial_here}
+use Rattle.ac_forms.specs.ListMembers.{IsAmong}
+use Rattle.ac_claims_paths.proofs.ReadSteps.{picks_one, picks_two}
+use Rattle.ac_claims_paths.proofs.InBranches.{in_branches}
+use Rattle.ac_claims_paths.proofs.CallSteps.{calls_in}
+use Rattle.ac_claims_paths.proofs.Kills.{killed_empty}
 
 pub unless_none : (b : Bool) (k : ℕ) (r : Rule) → fault_unless b k r ≡ None → b ≡ true
 unless_none true k r e = refl

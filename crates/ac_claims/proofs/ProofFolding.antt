@@ -2,19 +2,19 @@
 use Rattle.std.proofs.Common.{◌≡◌, ℕ, suc, ◌+◌, List, [], ◌∷◌, ◌++◌, map, length, Bool, true, false, nat_le, cond, Option, Some, None, slice_get, refl, sym, ap, ◌∙◌, arith, append_assoc, append-nil}
 use Rattle.ac_forms.specs.Rows.{form_of}
 use Rattle.ac_forms.specs.declared.row.Row.{Row}
-use Rattle.ac_cert.specs.Faults.{Fault, first_fault_of}
-use Rattle.ac_choices.specs.declared.choose.Choice.{Choice}
+use Rattle.ac_cert.specs.CertificateFaults.{Fault, first_fault_of}
+use Rattle.ac_omega_steps.specs.declared.choose.Choice.{Choice}
 use Rattle.ac_cert.specs.declared.types.Rule.{Rule}
 use Rattle.ac_cert.specs.declared.types.Rule.TheVariants as rule
 use Rattle.ac_cert.specs.declared.types.Step.{Step}
-use Rattle.ac_paths.specs.Going.{Pairing}
+use Rattle.ac_claims_paths.specs.PathSteps.{Pairing}
 use Rattle.ac_claims.specs.Machine.{Due, PlanAt, Taken, Refused, Onto, take_item, goes_on, run, step_items, choice_items, next_items, row_items}
 use Rattle.ac_claims.specs.PlanFaults.{fault_unless, plan_fault, plan_lines}
 use Rattle.ac_claims.specs.ProofFaults.{Domain, domain, is_point, have_shapes, head_lines, heads_fault, claim_rows_fault, claim_fault_at, claim_fault, claims_fault, claim_lines, output_stands, outputs_fault, DuePlan, due_from, is_due, tree_fault_at, trees_fault, proof_fault}
 use Rattle.ac_claims.specs.ProofMachine.{Known, Came, No, Yes, yes_if, with_last, open_claim, open_path, come_within, come, unknown, items_of, head_items, row_lines, claims_lines, output_lines, tree_lines, lines_of, AreSpelledTrees}
 use Rattle.ac_claims.specs.declared.item.Item.{Item}
 use Rattle.ac_claims.specs.declared.item.Item.TheVariants as item
-use Rattle.ac_paths.specs.declared.path.Path.{Path}
+use Rattle.ac_claims_paths.specs.declared.path.Path.{Path}
 use Rattle.ac_claims.specs.declared.types.Claim.{Claim}
 use Rattle.ac_claims.specs.declared.types.ClaimTree.{ClaimTree}
 use Rattle.ac_claims.specs.declared.types.Heads.{Heads}

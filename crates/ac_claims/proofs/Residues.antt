@@ -8,12 +8,12 @@ use Rattle.std.specs.Int.Signed.{lt_z}
 use Rattle.ac_forms.specs.Affine.{Affine}
 use Rattle.ac_forms.specs.Fits.{fits}
 use Rattle.ac_cert.proofs.Checks.{class-stands}
-use Rattle.ac_items.proofs.Truths.{and-true, le-true}
+use Rattle.ac_base.proofs.Truths.{and-true, le-true}
 use Rattle.ac_cert.specs.Rules.{class, class_row, has_class, is_partition}
 use Rattle.ac_cert.specs.declared.types.Rule.TheVariants as rule
-use Rattle.ac_paths.specs.Going.{Pairing, at_rows}
-use Rattle.ac_paths.specs.declared.path.Path.{Path}
-use Rattle.ac_claims.specs.Entries.{AreClasses, classes_of}
+use Rattle.ac_claims_paths.specs.PathSteps.{Pairing, at_rows}
+use Rattle.ac_claims_paths.specs.declared.path.Path.{Path}
+use Rattle.ac_claims.specs.StackEntries.{AreClasses, classes_of}
 use Rattle.ac_claims.specs.Machine.{Due, PlanAt, Onto, Refused, onto_if, classes, take_at}
 use Rattle.ac_claims.specs.declared.entry.Classes.{Classes}
 use Rattle.ac_claims.specs.declared.item.Item.TheVariants as item

@@ -1,14 +1,14 @@
 -- Not vacuous: the machine accepts a small proof, and refuses it where it is wrong.
 use Rattle.std.proofs.Common.{◌≡◌, ℤ, pos, negsuc, List, [], ◌∷◌, false, Some, None, refl}
-use Rattle.ac_integers.specs.Gcd as gcds
+use Rattle.ac_base.specs.Gcd as gcds
 use Rattle.ac_forms.specs.declared.row.Row.TheVariants.{Eq}
 use Rattle.ac_syntax.specs.declared.tree.Kind.TheVariants.{Input}
 use Rattle.ac_syntax.specs.declared.tree.Order.TheVariants.{Keep}
 use Rattle.ac_syntax.specs.declared.tree.Position.TheVariants.{Output}
 use Rattle.ac_poly.specs.declared.types.Model.{Model}
-use Rattle.ac_choices.specs.Combination.{combination}
+use Rattle.ac_omega_steps.specs.Combination.{combination}
 use Rattle.ac_cert.specs.declared.types.Rule.TheVariants as rule
-use Rattle.ac_paths.specs.Going.{Pairing}
+use Rattle.ac_claims_paths.specs.PathSteps.{Pairing}
 use Rattle.ac_claims.specs.ProofMachine.{unknown}
 use Rattle.ac_claims.proofs.ProofFolding.{judged}
 use Rattle.ac_claims.specs.declared.item.Item.{Item}

@@ -12,11 +12,11 @@ use Rattle.ac_cert.specs.Rules.{after_step, rule_of, both_sides, side_rows, with
 use Rattle.ac_cert.specs.declared.types.Rule.TheVariants as rule
 use Rattle.ac_cert.specs.declared.types.Step.{Step}
 use Rattle.ac_syntax.specs.declared.tree.Order.{Order}
-use Rattle.ac_paths.specs.Branching.{onto}
-use Rattle.ac_paths.specs.Going.{Pairing, at_rows}
-use Rattle.ac_paths.specs.declared.path.Branch.{Branch}
-use Rattle.ac_paths.specs.declared.path.Path.{Path}
-use Rattle.ac_claims.specs.Entries.{AreEntries, Climb, HasDues, Settles, due_at, due_of, dues, path_at, prefix_of}
+use Rattle.ac_claims_paths.specs.BranchPaths.{onto}
+use Rattle.ac_claims_paths.specs.PathSteps.{Pairing, at_rows}
+use Rattle.ac_claims_paths.specs.declared.path.Branch.{Branch}
+use Rattle.ac_claims_paths.specs.declared.path.Path.{Path}
+use Rattle.ac_claims.specs.StackEntries.{AreEntries, Climb, HasDues, Settles, due_at, due_of, dues, path_at, prefix_of}
 use Rattle.ac_claims.specs.Machine.{Due, PlanAt, Taken, Onto, onto_some, take_at}
 use Rattle.ac_claims.specs.declared.entry.Awaited.{Awaited}
 use Rattle.ac_claims.specs.declared.entry.Entry.{Entry}
@@ -25,7 +25,7 @@ use Rattle.ac_claims.specs.declared.entry.TakeStop.{TakeStop}
 use Rattle.ac_claims.specs.declared.item.Item.{Item}
 use Rattle.ac_claims.specs.declared.item.Item.TheVariants as item
 use Rattle.ac_claims.specs.declared.types.Claim.{Claim}
-use Rattle.ac_standing.proofs.Notes.{all_push}
+use Rattle.ac_claims_paths.proofs.Notes.{all_push}
 
 pub all_front : {X : Type 0} (P : X → Type 0) (xs : List X) (x : X) → AllByRecursion P (xs ++ x ∷ []) → AllByRecursion P xs
 all_front P [] x a = tt

@@ -4,7 +4,7 @@ use Rattle.std.proofs.lemmas.List.{length-replicate}
 use Rattle.std.specs.Prelude.{pos, replicate}
 use Rattle.std.specs.declared.alloc.AllocError.{AllocError}
 use Rattle.ac_forms.specs.Rows.{AreRowsOver}
-use Rattle.ac_syntax.specs.Ready.{ReadyProgram, FitParts}
+use Rattle.ac_syntax.specs.ReadyPrograms.{ReadyProgram, FitParts}
 use Rattle.ac_syntax.specs.declared.tree.Cond.{Cond}
 use Rattle.ac_syntax.specs.declared.tree.Pair.{Pair}
 use Rattle.ac_syntax.specs.declared.tree.Program.{Program}
@@ -12,18 +12,18 @@ use Rattle.ac_poly.specs.Model.{model_of}
 use Rattle.ac_poly.specs.declared.types.Model.{Model}
 use Rattle.ac_poly.proofs.Columns.{has_columns}
 use Rattle.ac_cert.specs.declared.types.Rule.{Rule}
-use Rattle.ac_paths.specs.Formed.{HasModuli}
-use Rattle.ac_paths.specs.Going.{Pairing}
-use Rattle.ac_paths.specs.declared.path.Programs.{Programs}
-use Rattle.ac_paths.proofs.Described.{models_describe}
-use Rattle.ac_claims.specs.Checking.{known_of, refusal_unless, Comes}
+use Rattle.ac_claims_paths.specs.WellFormedPaths.{HasModuli}
+use Rattle.ac_claims_paths.specs.PathSteps.{Pairing}
+use Rattle.ac_claims_paths.specs.declared.path.Programs.{Programs}
+use Rattle.ac_claims_paths.proofs.Described.{models_describe}
+use Rattle.ac_claims.specs.CheckKnowledge.{known_of, refusal_unless, Comes}
 use Rattle.ac_claims.specs.Dues.{Answers}
 use Rattle.ac_claims.specs.Machine.{Due, Taken, take_item}
 use Rattle.ac_claims.specs.ProofMachine.{Known, Came, yes_if, come_within, come}
-use Rattle.ac_claims.specs.Ready.{AreReady}
+use Rattle.ac_claims.specs.ReadyModels.{AreReady}
 use Rattle.ac_claims.specs.Soundness.{ArePaired, AreModels}
 use Rattle.ac_claims.specs.Steppers.{come_by}
-use Rattle.ac_claims.specs.Judging.{came_by}
+use Rattle.ac_claims.specs.CheckState.{came_by}
 use Rattle.ac_claims.specs.declared.entry.Refusal.{Refusal}
 use Rattle.ac_claims.specs.declared.front.Front.{Front}
 use Rattle.ac_claims.specs.declared.item.Item.{Item}

@@ -8,24 +8,24 @@ use Rattle.ac_forms.specs.declared.row.Row.{Row}
 use Rattle.ac_syntax.specs.declared.tree.Position.{Position}
 use Rattle.ac_poly.specs.declared.types.Model.{Model}
 use Rattle.ac_cert.specs.declared.types.Rule.TheVariants as rule
-use Rattle.ac_items.proofs.Options.{bind-some, map-some, some-is}
-use Rattle.ac_paths.specs.Calls.{pairing}
-use Rattle.ac_paths.specs.Formed.{IsFormed}
-use Rattle.ac_paths.specs.Going.{Pairing}
-use Rattle.ac_paths.specs.declared.path.Path.{Path}
-use Rattle.ac_paths.specs.declared.path.Programs.{Programs}
-use Rattle.ac_forms.specs.Members.{IsAmong}
-use Rattle.ac_paths.proofs.InBranches.{made-wide}
-use Rattle.ac_paths.proofs.Moving.{made-both}
-use Rattle.ac_claims.specs.Checking.{known_of, IsClaimMade, IsFrontMade}
+use Rattle.ac_base.proofs.Options.{bind-some, map-some, some-is}
+use Rattle.ac_claims_paths.specs.ModelCalls.{pairing}
+use Rattle.ac_claims_paths.specs.WellFormedPaths.{IsFormed}
+use Rattle.ac_claims_paths.specs.PathSteps.{Pairing}
+use Rattle.ac_claims_paths.specs.declared.path.Path.{Path}
+use Rattle.ac_claims_paths.specs.declared.path.Programs.{Programs}
+use Rattle.ac_forms.specs.ListMembers.{IsAmong}
+use Rattle.ac_claims_paths.proofs.InBranches.{made-wide}
+use Rattle.ac_claims_paths.proofs.Moving.{made-both}
+use Rattle.ac_claims.specs.CheckKnowledge.{known_of, IsClaimMade, IsFrontMade}
 use Rattle.ac_claims.specs.Domains.{of_width, piece_by}
 use Rattle.ac_claims.specs.Dues.{AreDueFormed}
 use Rattle.ac_claims.specs.Machine.{Due, PlanAt}
 use Rattle.ac_claims.specs.ProofFaults.{Domain, domain, left_seat, right_seat, start_columns, piece_rows, DuePlan, is_due_at}
 use Rattle.ac_claims.specs.ProofMachine.{Known, No, Yes, with_due, open_path, open_tree}
-use Rattle.ac_claims.specs.Ready.{AreReady}
-use Rattle.ac_claims.specs.Remaining.{start_of, start_beside, start_at, remaining_by, remaining, Settled}
-use Rattle.ac_claims.specs.Starting.{is_it, after_one, start_in, IsStartOf, path_due, StartsNext}
+use Rattle.ac_claims.specs.ReadyModels.{AreReady}
+use Rattle.ac_claims.specs.RemainingPlans.{start_of, start_beside, start_at, remaining_by, remaining, Settled}
+use Rattle.ac_claims.specs.PlanStarts.{is_it, after_one, start_in, IsStartOf, path_due, StartsNext}
 use Rattle.ac_claims.specs.declared.domains.Piece.{Piece}
 use Rattle.ac_claims.specs.declared.front.Front.{Front}
 use Rattle.ac_claims.specs.declared.lines.Start.{Start}

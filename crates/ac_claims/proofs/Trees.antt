@@ -10,32 +10,32 @@ use Rattle.ac_syntax.specs.declared.tree.Position.{Position}
 use Rattle.ac_syntax.specs.declared.tree.Position.TheVariants.{Output, Node, InitialOutput, InitialNode}
 use Rattle.ac_poly.specs.declared.types.Model.{Model}
 use Rattle.ac_poly.specs.declared.types.StmtModel.{StmtModel}
-use Rattle.ac_cert.specs.Faults.{first_fault_of}
+use Rattle.ac_cert.specs.CertificateFaults.{first_fault_of}
 use Rattle.ac_cert.specs.declared.types.Rule.{Rule}
 use Rattle.ac_cert.specs.declared.types.Rule.TheVariants as rule
-use Rattle.ac_choices.proofs.Keeping.{Meets-append}
-use Rattle.ac_items.proofs.Options.{bind-some, map-some, some-is, if-some}
+use Rattle.ac_omega_steps.proofs.Keeping.{Meets-append}
+use Rattle.ac_base.proofs.Options.{bind-some, map-some, some-is, if-some}
 use Rattle.ac_cert.proofs.Soundness.{first-none}
 use Rattle.ac_forms.specs.Renaming.{picked, rows_renaming}
-use Rattle.ac_paths.specs.Columns.{base, columns_of}
-use Rattle.ac_paths.specs.Coordinates.{width}
-use Rattle.ac_paths.specs.Executions.{Execution, InstanceAt, At, Describes}
-use Rattle.ac_paths.specs.Going.{Pairing}
-use Rattle.ac_paths.specs.Places.{extent_rows, initial_cell}
+use Rattle.ac_claims_paths.specs.PathColumns.{base, columns_of}
+use Rattle.ac_claims_paths.specs.InstanceCoordinates.{width}
+use Rattle.ac_claims_paths.specs.Executions.{Execution, InstanceAt, At, Describes}
+use Rattle.ac_claims_paths.specs.PathSteps.{Pairing}
+use Rattle.ac_claims_paths.specs.ModelPositions.{extent_rows, initial_cell}
 use Rattle.ac_claims.specs.PlanFaults.{fault_unless, plan_fault, plan_lines}
 use Rattle.ac_claims.specs.ProofFaults.{Domain, domain, is_output_array, can_bound, bounded_rows, with_extents, some_output, output_domain, node_domain, claim_rows_fault, claim_fault, claim_fault_at, claims_fault, left_seat, right_seat, start_columns, piece_rows, start, DuePlan, numbered, due_at, due_from, is_due, tree_fault_at, trees_fault}
-use Rattle.ac_paths.specs.declared.path.Path.{Path}
+use Rattle.ac_claims_paths.specs.declared.path.Path.{Path}
 use Rattle.ac_claims.specs.declared.types.Claim.{Claim}
 use Rattle.ac_claims.specs.declared.types.ClaimTree.{ClaimTree}
 use Rattle.ac_claims.specs.declared.types.Plan.{Plan}
 use Rattle.ac_claims.proofs.Central.{Valid}
-use Rattle.ac_paths.proofs.Moving.{InColumns, rows-value, rows-within, appended-parts, meets-both, made-both}
+use Rattle.ac_claims_paths.proofs.Moving.{InColumns, rows-value, rows-within, appended-parts, meets-both, made-both}
 use Rattle.ac_claims.proofs.Claimed.{Setting, runs_of, Claimed, Good}
-use Rattle.ac_paths.proofs.OnPaths.{InPath, OnPath, in-append, seat_columns, base_columns, pick_more, pick_new, range_in}
-use Rattle.ac_forms.specs.Members.{IsAmong}
-use Rattle.ac_paths.proofs.Branches.{in_left, in_right, in_map, in_flat_map, somewhere_in}
-use Rattle.ac_paths.proofs.ReadSteps.{picks_one}
-use Rattle.ac_paths.proofs.InBranches.{in_get, made-wide}
+use Rattle.ac_claims_paths.proofs.OnPaths.{InPath, OnPath, in-append, seat_columns, base_columns, pick_more, pick_new, range_in}
+use Rattle.ac_forms.specs.ListMembers.{IsAmong}
+use Rattle.ac_claims_paths.proofs.Branches.{in_left, in_right, in_map, in_flat_map, somewhere_in}
+use Rattle.ac_claims_paths.proofs.ReadSteps.{picks_one}
+use Rattle.ac_claims_paths.proofs.InBranches.{in_get, made-wide}
 use Rattle.ac_claims.proofs.Plans.{plan_good, none_if}
 
 unless_none : (b : Bool) (k : ℕ) (r : Rule) → fault_unless b k r ≡ None → b ≡ true

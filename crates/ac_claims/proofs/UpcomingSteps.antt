@@ -7,12 +7,12 @@ use Rattle.std.proofs.lemmas.Bool.Decides.{Decides-eqb}
 use Rattle.std.proofs.lemmas.List.{drop_all}
 use Rattle.std.proofs.lemmas.Option.{slice_get_past, slice_get_cases, slice_get-get_or}
 use Rattle.ac_forms.specs.declared.row.Row.{Row}
-use Rattle.ac_items.proofs.Truths.{true-nat_le}
-use Rattle.ac_paths.specs.Going.{Pairing}
+use Rattle.ac_base.proofs.Truths.{true-nat_le}
+use Rattle.ac_claims_paths.specs.PathSteps.{Pairing}
 use Rattle.ac_claims.specs.ProofFaults.{Domain, domain, DuePlan, numbered, due_at, due_from}
-use Rattle.ac_claims.specs.Remaining.{plan_for, plans_beside, plans_from, start_beside, start_at, remaining_by, remaining, count_by, IsThereBy, IsThere, Settled, next_in, AtClaim}
+use Rattle.ac_claims.specs.RemainingPlans.{plan_for, plans_beside, plans_from, start_beside, start_at, remaining_by, remaining, count_by, IsThereBy, IsThere, Settled, next_in, AtClaim}
 use Rattle.ac_claims.specs.Domains.{piece_by}
-use Rattle.ac_claims.specs.Starting.{after_one}
+use Rattle.ac_claims.specs.PlanStarts.{after_one}
 use Rattle.ac_claims.specs.declared.domains.Piece.{Piece}
 use Rattle.ac_claims.specs.declared.types.Claim.{Claim}
 use Rattle.ac_claims.specs.declared.upcoming.Upcoming.{Upcoming}

@@ -1,7 +1,7 @@
 -- The positions of a model by the number of their coordinates and that of their pieces.
 use Rattle.std.specs.Prelude.{ℕ, Bool, false, [], ◌∷◌, List, length, Option, Some, None, option_and_then, option_map, slice_get}
 use Rattle.ac_forms.specs.declared.row.Row.{Row}
-use Rattle.ac_paths.specs.Going.{Pairing}
+use Rattle.ac_claims_paths.specs.PathSteps.{Pairing}
 use Rattle.ac_poly.specs.declared.types.Model.{Model}
 use Rattle.ac_poly.specs.declared.types.StmtModel.{StmtModel}
 use Rattle.ac_claims.specs.ProofFaults.{Domain, output_rows, all_stand_among}

@@ -3,7 +3,7 @@ use Rattle.std.specs.Prelude.{◌≡◌, ℕ, List, [], Option, Some, None, Resu
 use Rattle.std.specs.List.{AllByRecursion}
 use Rattle.std.specs.declared.alloc.AllocError.{AllocError}
 use Rattle.ac_forms.specs.Rows.{HaveModuli, IsWellMade}
-use Rattle.ac_paths.specs.Formed.{HasModuli, IsFormed}
+use Rattle.ac_claims_paths.specs.WellFormedPaths.{HasModuli, IsFormed}
 use Rattle.ac_claims.specs.Machine.{Due, PlanAt, Choices, Taken, Refused, Onto}
 use Rattle.ac_claims.specs.declared.entry.Line.{Line}
 use Rattle.ac_claims.specs.declared.entry.Refusal.{Refusal}

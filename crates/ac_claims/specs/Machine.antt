@@ -3,21 +3,21 @@
 use Rattle.std.specs.Prelude.{◌≡◌, ℕ, zero, suc, ◌+◌, ◌-◌, ℤ, pos, ◌-ℤ◌, unsigned_abs, List, [], ◌∷◌, ◌++◌, map, length, Bool, Option, Some, None, cond, nat_eq, slice_get}
 use Rattle.ac_forms.specs.Affine.{Affine}
 use Rattle.ac_forms.specs.declared.conj.Conj.{Conj}
-use Rattle.ac_cert.specs.Ends.{absurd_refusal}
-use Rattle.ac_cert.specs.Faults.{Fault}
+use Rattle.ac_cert.specs.AbsurdEnd.{absurd_refusal}
+use Rattle.ac_cert.specs.CertificateFaults.{Fault}
 use Rattle.ac_cert.specs.Rules.{after_step, rule_of, both_sides, class, has_class}
-use Rattle.ac_choices.specs.declared.choose.Choice.{Choice}
+use Rattle.ac_omega_steps.specs.declared.choose.Choice.{Choice}
 use Rattle.ac_cert.specs.declared.types.Rule.{Rule}
 use Rattle.ac_cert.specs.declared.types.Rule.TheVariants as rule
 use Rattle.ac_cert.specs.declared.types.Step.{Step}
-use Rattle.ac_claims.specs.Ending.{is_hit, is_number, is_initial}
-use Rattle.ac_paths.specs.Going.{Pairing, at_rows, branches}
-use Rattle.ac_paths.specs.Killing.{case_width, copy_of, chosen, is_killed}
+use Rattle.ac_claims.specs.ProofEnds.{is_hit, is_number, is_initial}
+use Rattle.ac_claims_paths.specs.PathSteps.{Pairing, at_rows, branches}
+use Rattle.ac_claims_paths.specs.CopyKills.{case_width, copy_of, chosen, is_killed}
 use Rattle.ac_claims.specs.PlanFaults.{count_of}
 use Rattle.ac_claims.specs.declared.item.Item.{Item}
 use Rattle.ac_claims.specs.declared.item.Item.TheVariants as item
-use Rattle.ac_paths.specs.declared.path.Assumed.{Assumed}
-use Rattle.ac_paths.specs.declared.path.Path.{Path}
+use Rattle.ac_claims_paths.specs.declared.path.Assumed.{Assumed}
+use Rattle.ac_claims_paths.specs.declared.path.Path.{Path}
 use Rattle.ac_claims.specs.declared.types.Claim.{Claim}
 use Rattle.ac_claims.specs.declared.types.PlanNext.{PlanNext, Split', Residue', Go', Row_of-Plan, end_of-Plan, more_of-Plan}
 use Rattle.ac_claims.specs.declared.types.PlanNext.TheVariants.{Absurd, Killed, Hit, SameNumber, SameInitial}

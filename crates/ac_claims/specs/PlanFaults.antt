@@ -2,18 +2,18 @@
 use Rattle.std.specs.Prelude.{ℕ, suc, ◌+◌, ℤ, pos, List, [], ◌∷◌, length, Bool, Option, Some, None, cond, nat_eq, slice_get, option_map}
 use Rattle.ac_forms.specs.Affine.{Affine}
 use Rattle.ac_forms.specs.declared.conj.Conj.{Conj}
-use Rattle.ac_cert.specs.Ends.{absurd_refusal}
-use Rattle.ac_cert.specs.Faults.{Fault, first_fault_of, split_fault, step_fault}
+use Rattle.ac_cert.specs.AbsurdEnd.{absurd_refusal}
+use Rattle.ac_cert.specs.CertificateFaults.{Fault, first_fault_of, split_fault, step_fault}
 use Rattle.ac_cert.specs.Rules.{after_step, rule_of, both_sides, class, is_partition}
-use Rattle.ac_choices.specs.declared.choose.Choice.{Choice}
+use Rattle.ac_omega_steps.specs.declared.choose.Choice.{Choice}
 use Rattle.ac_cert.specs.declared.types.Rule.{Rule}
 use Rattle.ac_cert.specs.declared.types.Rule.TheVariants as rule
 use Rattle.ac_cert.specs.declared.types.Step.{Step}
-use Rattle.ac_claims.specs.Ending.{is_hit, is_number, is_initial}
-use Rattle.ac_paths.specs.Going.{Pairing, at_rows, branches}
-use Rattle.ac_paths.specs.Killing.{case_width, copy_of, chosen, is_killed}
-use Rattle.ac_paths.specs.declared.path.Assumed.{Assumed}
-use Rattle.ac_paths.specs.declared.path.Path.{Path}
+use Rattle.ac_claims.specs.ProofEnds.{is_hit, is_number, is_initial}
+use Rattle.ac_claims_paths.specs.PathSteps.{Pairing, at_rows, branches}
+use Rattle.ac_claims_paths.specs.CopyKills.{case_width, copy_of, chosen, is_killed}
+use Rattle.ac_claims_paths.specs.declared.path.Assumed.{Assumed}
+use Rattle.ac_claims_paths.specs.declared.path.Path.{Path}
 use Rattle.ac_claims.specs.declared.types.Claim.{Claim}
 use Rattle.ac_claims.specs.declared.types.Kill.{Kill}
 use Rattle.ac_claims.specs.declared.types.Plan.{Plan}

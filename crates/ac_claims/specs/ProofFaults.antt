@@ -5,28 +5,28 @@ use Rattle.std.specs.Ordering.{int_eq}
 use Rattle.ac_forms.specs.Affine.{Affine, value_at, combined, column_form}
 use Rattle.ac_forms.specs.Fits.{fits}
 use Rattle.ac_forms.specs.Rows.{form_of}
-use Rattle.ac_forms.specs.Tests.{form_fits, can_evaluate}
+use Rattle.ac_forms.specs.RangeTests.{form_fits, can_evaluate}
 use Rattle.ac_forms.specs.declared.row.Row.{Row}
 use Rattle.ac_forms.specs.declared.row.Row.TheVariants.{Eq, Div, Ge}
-use Rattle.ac_integers.specs.Multiple.{divides}
+use Rattle.ac_base.specs.Multiple.{divides}
 use Rattle.ac_syntax.specs.declared.tree.Position.{Position}
 use Rattle.ac_syntax.specs.declared.tree.Position.TheVariants.{Output, Node, InitialOutput, InitialNode}
-use Rattle.ac_poly.specs.Columns.{room}
+use Rattle.ac_poly.specs.CoordinateColumns.{room}
 use Rattle.ac_poly.specs.Model.{is_input}
 use Rattle.ac_poly.specs.declared.types.Model.{Model}
 use Rattle.ac_poly.specs.declared.types.StmtModel.{StmtModel}
-use Rattle.ac_cert.specs.Faults.{Fault, first_fault_of}
+use Rattle.ac_cert.specs.CertificateFaults.{Fault, first_fault_of}
 use Rattle.ac_cert.specs.declared.types.Rule.TheVariants as rule
 use Rattle.ac_forms.specs.Renaming.{rows_renaming}
-use Rattle.ac_paths.specs.Columns.{base, columns_of, appended, equal_forms}
-use Rattle.ac_paths.specs.Coordinates.{width}
-use Rattle.ac_claims.specs.Ending.{same_position}
-use Rattle.ac_paths.specs.Going.{Pairing}
-use Rattle.ac_paths.specs.Places.{extent_rows, initial_cell, element_forms}
+use Rattle.ac_claims_paths.specs.PathColumns.{base, columns_of, appended, equal_forms}
+use Rattle.ac_claims_paths.specs.InstanceCoordinates.{width}
+use Rattle.ac_claims.specs.ProofEnds.{same_position}
+use Rattle.ac_claims_paths.specs.PathSteps.{Pairing}
+use Rattle.ac_claims_paths.specs.ModelPositions.{extent_rows, initial_cell, element_forms}
 use Rattle.ac_claims.specs.PlanFaults.{fault_unless, plan_fault, plan_lines}
 use Rattle.ac_forms.specs.Standing.{all_stand}
-use Rattle.ac_paths.specs.declared.path.Path.{Path}
-use Rattle.ac_paths.specs.declared.path.Seat.{Seat}
+use Rattle.ac_claims_paths.specs.declared.path.Path.{Path}
+use Rattle.ac_claims_paths.specs.declared.path.Seat.{Seat}
 use Rattle.ac_claims.specs.declared.types.Claim.{Claim}
 use Rattle.ac_claims.specs.declared.types.ClaimTree.{ClaimTree}
 use Rattle.ac_claims.specs.declared.types.Heads.{Heads}

@@ -4,11 +4,11 @@ use Rattle.std.specs.List.{AllByRecursion, list_any}
 use Rattle.ac_forms.specs.Rows.{HaveModuli}
 use Rattle.ac_syntax.specs.Index.{point, index_value}
 use Rattle.ac_syntax.specs.Outputs.{IsElement, IsValuation, SameOutput, SameTermsAt, extents_at, swaps_of}
-use Rattle.ac_syntax.specs.Ready.{ReadyProgram, FitParts}
+use Rattle.ac_syntax.specs.ReadyPrograms.{ReadyProgram, FitParts}
 use Rattle.ac_syntax.specs.declared.tree.Pair.{Pair}
 use Rattle.ac_poly.specs.Model.{model_of}
 use Rattle.ac_poly.specs.declared.types.Model.{Model}
-use Rattle.ac_paths.specs.Going.{Pairing}
+use Rattle.ac_claims_paths.specs.PathSteps.{Pairing}
 use Rattle.ac_claims.specs.ProofFaults.{IsValidProof}
 use Rattle.ac_claims.specs.declared.types.Claim.{Claim}
 use Rattle.ac_claims.specs.declared.types.Proof.{Proof}

@@ -1,8 +1,8 @@
 -- The machine for a whole proof with the line where it stands, and its answer.
 use Rattle.std.specs.Prelude.{ℕ, ◌-◌, ◌^◌, min, List, [], ◌∷◌, map, Some, None, Result, Ok, Err}
-use Rattle.ac_cert.specs.Faults.{Fault, later}
+use Rattle.ac_cert.specs.CertificateFaults.{Fault, later}
 use Rattle.ac_cert.specs.declared.types.Rule.{Rule}
-use Rattle.ac_paths.specs.Going.{Pairing}
+use Rattle.ac_claims_paths.specs.PathSteps.{Pairing}
 use Rattle.ac_claims.specs.ProofFaults.{proof_fault}
 use Rattle.ac_claims.specs.ProofMachine.{Known, Came, No, Yes, unknown, come}
 use Rattle.ac_claims.specs.declared.item.Item.{Item}

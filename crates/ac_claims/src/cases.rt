@@ -1,18 +1,18 @@
 //! The branches of a step of the pair, one by one.
 ghost use Rattle.std.specs.Prelude.{◌≡◌, ◌≢◌, ◌∷◌, ◌++◌, [], map, reverse, IfOk, OnOk};
-ghost use Rattle.ac_paths.specs.Branching.{onto};
-ghost use Rattle.ac_paths.specs.Calls.{pairing};
-ghost use Rattle.ac_claims.specs.Entries.{AreEntries, Settles, branches_of, dues};
+ghost use Rattle.ac_claims_paths.specs.BranchPaths.{onto};
+ghost use Rattle.ac_claims_paths.specs.ModelCalls.{pairing};
+ghost use Rattle.ac_claims.specs.StackEntries.{AreEntries, Settles, branches_of, dues};
 ghost use Rattle.ac_claims.specs.Machine.{Onto, PlanAt, take_at};
 ghost use Rattle.ac_claims.specs.declared.item.Item.TheVariants as item;
 
 use crate::entry::{Awaited, Entry, Line, Refusal, TakeStop};
 use crate::parts::{awaits, push_at};
+use ac_base::Items;
 use ac_cert::Rule;
+use ac_claims_paths::going::{branches, onto};
+use ac_claims_paths::path::{Branch, Path};
 use ac_forms::Row;
-use ac_items::Items;
-use ac_paths::going::{branches, onto};
-use ac_paths::path::{Branch, Path};
 use ac_syntax::tree::Order;
 use std::alloc::AllocError;
 

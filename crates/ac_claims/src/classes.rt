@@ -3,18 +3,18 @@ ghost use Rattle.std.specs.Prelude.{◌≡◌, ◌≢◌, ◌∷◌, ◌++◌, �
 ghost use Rattle.ac_cert.specs.Rules.{class_row, has_class, with_row};
 ghost use Rattle.ac_forms.specs.Fits.{fits};
 ghost use Rattle.ac_forms.specs.Rows.{IsRowOver, IsWellMade};
-ghost use Rattle.ac_paths.specs.Calls.{pairing};
-ghost use Rattle.ac_paths.specs.Going.{at_rows};
-ghost use Rattle.ac_claims.specs.Entries.{AreClasses, AreEntries, Settles, classes_of, dues};
+ghost use Rattle.ac_claims_paths.specs.ModelCalls.{pairing};
+ghost use Rattle.ac_claims_paths.specs.PathSteps.{at_rows};
+ghost use Rattle.ac_claims.specs.StackEntries.{AreClasses, AreEntries, Settles, classes_of, dues};
 ghost use Rattle.ac_claims.specs.Machine.{PlanAt, take_at};
 ghost use Rattle.ac_claims.specs.declared.item.Item.TheVariants as item;
 
 use crate::entry::{Awaited, Classes, Entry, Line, Refusal, TakeStop};
 use crate::parts::{awaits, longer, push_at};
+use ac_base::Items;
 use ac_cert::{EndStop, Rule, row_of_class};
+use ac_claims_paths::path::Path;
 use ac_forms::{Form, Row};
-use ac_items::Items;
-use ac_paths::path::Path;
 use std::alloc::{AllocError, Global};
 
 /// Whether a branch by the residue of a form stands: its last class does.
@@ -38,7 +38,7 @@ fn has_residues(
 }
 
 /// All classes of a residue branch.
-#[tactic(auto, using(ac_integers::proofs::Bits::again_128))]
+#[tactic(auto, using(ac_base::proofs::Bits::again_128))]
 fn all_classes(modulus: &i128, form: Form) -> Classes
     ensures { result ≡ record { modulus = modulus.now; form = form; next = pos 0 } }
 {
@@ -72,7 +72,7 @@ pub(crate) fn take_residue(
 }
 
 /// The number of the class behind the first of some, if there is one.
-#[tactic(auto, using(ac_integers::proofs::Bits::again_128))]
+#[tactic(auto, using(ac_base::proofs::Bits::again_128))]
 fn next_of(classes: &Classes) -> Option<i128>
     requires { classes.now.next <ℤ classes.now.modulus }
     ensures { MatchOption result (classes.now.next +ℤ pos 1 ≡ classes.now.modulus) (λ next. (next ≡ classes.now.next +ℤ pos 1) × (classes.now.next +ℤ pos 1 ≢ classes.now.modulus)) }
@@ -84,7 +84,7 @@ fn next_of(classes: &Classes) -> Option<i128>
 }
 
 /// The classes from another one on.
-#[tactic(auto, using(ac_integers::proofs::Bits::again_128))]
+#[tactic(auto, using(ac_base::proofs::Bits::again_128))]
 fn from_next(classes: Classes, next: &i128) -> Classes
     ensures { result ≡ record classes { next = next.now } }
 {
@@ -94,7 +94,7 @@ fn from_next(classes: Classes, next: &i128) -> Classes
 }
 
 /// Shows that the constant of a form is one of `i128`.
-#[tactic(auto, using(ac_choices::proofs::Fitting::fits_true, ac_integers::proofs::Bits::again_128))]
+#[tactic(auto, using(ac_omega_steps::proofs::Fitting::fits_true, ac_base::proofs::Bits::again_128))]
 fn see_constant(form: &Form)
     ensures { fits form.now.konst ≡ true }
 {

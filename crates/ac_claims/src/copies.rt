@@ -3,9 +3,9 @@ ghost use Rattle.std.specs.Prelude.{◌≡◌, IfOk};
 ghost use Rattle.ac_claims.specs.declared.item.Item.TheVariants as item;
 
 use crate::item::Item;
+use ac_base::Items;
 use ac_cert::types::Step;
 use ac_forms::{Form, Row};
-use ac_items::Items;
 use std::alloc::{AllocError, Global};
 
 /// The same step again.

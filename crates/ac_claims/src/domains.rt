@@ -4,9 +4,9 @@ ghost use Rattle.ac_poly.specs.Model.{is_input};
 ghost use Rattle.ac_claims.specs.ProofFaults.{is_output_array, bounded_rows, some_output, output_domain, node_domain, domain};
 ghost use Rattle.ac_claims.specs.Domains.{size_of, stmt_at, piece_by};
 
+use ac_base::Items;
+use ac_claims_paths::places::initial_cell;
 use ac_forms::{Form, FormStop, Row};
-use ac_items::Items;
-use ac_paths::places::initial_cell;
 use ac_poly::types::{Model, StmtModel};
 use ac_poly::{element_rows, width};
 use ac_syntax::tree::{Kind, Position};

@@ -2,22 +2,22 @@
 ghost use Rattle.std.specs.Prelude.{true, ◌≡◌, ◌+◌, ◌++◌, IfOk, Option, Some, None, slice_get, cond, nat_eq, ◌&&◌, [], ◌∷◌};
 ghost use Rattle.ac_forms.specs.Rows.{HaveModuli};
 ghost use Rattle.ac_poly.specs.Model.{is_input};
-ghost use Rattle.ac_paths.specs.Calls.{pairing};
-ghost use Rattle.ac_paths.specs.Columns.{base, columns_of, equal_forms};
-ghost use Rattle.ac_paths.specs.Made.{HaveIf};
-ghost use Rattle.ac_paths.specs.Places.{number_at, initial_cell};
+ghost use Rattle.ac_claims_paths.specs.ModelCalls.{pairing};
+ghost use Rattle.ac_claims_paths.specs.PathColumns.{base, columns_of, equal_forms};
+ghost use Rattle.ac_claims_paths.specs.OptionalRows.{HaveIf};
+ghost use Rattle.ac_claims_paths.specs.ModelPositions.{number_at, initial_cell};
 ghost use Rattle.ac_claims.specs.Dues.{RowsHaveModuli};
-ghost use Rattle.ac_claims.specs.Ending.{same_position, hits, is_hit, equal_numbers, equal_cells};
+ghost use Rattle.ac_claims.specs.ProofEnds.{same_position, hits, is_hit, equal_numbers, equal_cells};
 
 use crate::types::Claim;
+use ac_base::Items;
+use ac_claims_paths::NormalForms;
+use ac_claims_paths::columns::{columns_of_both, equal_at, equal_form_at, moved_rows};
+use ac_claims_paths::path::{Path, Programs};
+use ac_claims_paths::places::{CellForms, initial_cell, number_at};
+use ac_claims_paths::standing::made_and_stand;
 use ac_forms::{Form, Row};
-use ac_items::Items;
-use ac_paths::columns::{columns_of_both, equal_at, equal_form_at, moved_rows};
-use ac_paths::path::{Path, Programs};
-use ac_paths::places::{CellForms, initial_cell, number_at};
-use ac_paths::standing::made_and_stand;
 use ac_poly::types::Model;
-use ac_standing::NormalForms;
 use ac_syntax::tree::{Kind, Position};
 use std::alloc::{AllocError, Global};
 
@@ -40,7 +40,7 @@ pub fn same_position(first: &Position, second: &Position) -> bool
 }
 
 /// Whether a path ends at a claim: a step of the pair was taken, the positions are the claim's, and its rows stand.
-#[tactic(auto, using(ac_paths::proofs::Moduli::moduli_steps))]
+#[tactic(auto, using(ac_claims_paths::proofs::Moduli::moduli_steps))]
 fn hits(
     alloc: Global,
     params: usize,

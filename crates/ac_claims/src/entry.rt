@@ -1,9 +1,9 @@
 use crate::item::Item;
 use crate::types::Claim;
+use ac_base::Items;
 use ac_cert::{EndStop, Rule};
+use ac_claims_paths::path::{Assumed, Branch, Programs, Seat};
 use ac_forms::{Conj, Form, Row};
-use ac_items::Items;
-use ac_paths::path::{Assumed, Branch, Programs, Seat};
 use std::alloc::{AllocError, Global};
 
 /// The first line that fails, and its rule.

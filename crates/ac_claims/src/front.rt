@@ -4,8 +4,8 @@ ghost use Rattle.ac_claims.specs.ProofMachine.{with_last};
 
 use crate::types::Claim;
 use crate::upcoming::Upcoming;
+use ac_base::Items;
 use ac_forms::Row;
-use ac_items::Items;
 use ac_syntax::tree::Position;
 use std::alloc::{AllocError, Global};
 

@@ -1,7 +1,7 @@
 //! The head of a proof: its point, and the shapes of the programs.
 ghost use Rattle.std.specs.Prelude.{◌≡◌, ◌&&◌, length};
 ghost use Rattle.ac_forms.specs.Rows.{form_of, IsRowOver, AreRowsOver};
-ghost use Rattle.ac_forms.specs.Tests.{can_evaluate};
+ghost use Rattle.ac_forms.specs.RangeTests.{can_evaluate};
 ghost use Rattle.ac_claims.specs.ProofFaults.{row_holds, rows_hold, is_point, has_shape, have_shapes};
 
 use ac_forms::Row;

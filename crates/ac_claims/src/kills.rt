@@ -1,22 +1,22 @@
 //! Places that copies are to kill.
 ghost use Rattle.ac_forms.specs.Rows.{IsWellMade};
-ghost use Rattle.ac_paths.specs.Calls.{pairing};
+ghost use Rattle.ac_claims_paths.specs.ModelCalls.{pairing};
 ghost use Rattle.ac_claims.specs.Dues.{LineHasModuli};
-ghost use Rattle.ac_claims.specs.Entries.{AreEntries, Settles, dues};
+ghost use Rattle.ac_claims.specs.StackEntries.{AreEntries, Settles, dues};
 ghost use Rattle.ac_claims.specs.Machine.{choose, settled, take_at};
 ghost use Rattle.ac_claims.specs.declared.item.Item.TheVariants as item;
 
 use crate::entry::{Awaited, Choosing, Entry, Line, Refusal, TakeStop};
 use crate::item::Item;
 use crate::parts::{awaits, ends_if};
+use ac_base::Items;
 use ac_cert::Rule;
-use ac_choices::Choice;
+use ac_claims_paths::NormalForms;
+use ac_claims_paths::copies::copy_of;
+use ac_claims_paths::killing::{case_width, chosen, is_killed};
+use ac_claims_paths::path::{CopyNumbers, Path};
 use ac_forms::Row;
-use ac_items::Items;
-use ac_paths::copies::copy_of;
-use ac_paths::killing::{case_width, chosen, is_killed};
-use ac_paths::path::{CopyNumbers, Path};
-use ac_standing::NormalForms;
+use ac_omega_steps::Choice;
 
 /// A copy with some choices to come; without any it is to kill what was assumed.
 fn settle(

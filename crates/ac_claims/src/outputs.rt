@@ -3,20 +3,20 @@ ghost use Rattle.std.specs.Prelude.{◌≡◌, ◌&&◌, IfOk, nat_eq, slice_get
 ghost use Rattle.std.specs.List.{list_any};
 ghost use Rattle.ac_forms.specs.Rows.{HaveModuli};
 ghost use Rattle.ac_syntax.specs.declared.tree.Position.TheVariants.{Output};
-ghost use Rattle.ac_paths.specs.Calls.{pairing};
-ghost use Rattle.ac_paths.specs.Made.{HaveIf};
+ghost use Rattle.ac_claims_paths.specs.ModelCalls.{pairing};
+ghost use Rattle.ac_claims_paths.specs.OptionalRows.{HaveIf};
 ghost use Rattle.ac_claims.specs.Domains.{single, of_width, asks_of};
 ghost use Rattle.ac_claims.specs.Dues.{RowsHaveModuli};
-ghost use Rattle.ac_claims.specs.Ending.{same_position};
+ghost use Rattle.ac_claims.specs.ProofEnds.{same_position};
 ghost use Rattle.ac_claims.specs.ProofFaults.{domain, output_rows, all_stand_among, asks_no_more, output_stands};
-ghost use Rattle.ac_claims.specs.Ready.{AreReady};
+ghost use Rattle.ac_claims.specs.ReadyModels.{AreReady};
 
 use crate::domains::{Piece, piece_at, size_at};
 use crate::starts::output_rows;
 use crate::types::Claim;
+use ac_base::Items;
+use ac_claims_paths::path::Programs;
 use ac_forms::{Row, all_stand};
-use ac_items::Items;
-use ac_paths::path::Programs;
 use ac_poly::types::Model;
 use ac_syntax::tree::Position;
 use std::alloc::{AllocError, Global};

@@ -2,16 +2,16 @@
 ghost use Rattle.std.specs.Prelude.{◌≡◌, ◌++◌, List, IfOk, OnOk, take};
 ghost use Rattle.ac_cert.specs.Rules.{with_row};
 ghost use Rattle.ac_forms.specs.Rows.{IsRowOver, IsWellMade};
-ghost use Rattle.ac_paths.specs.Going.{at_rows};
-ghost use Rattle.ac_claims.specs.Entries.{AreEntries, HasDues, Settles, at_line, due_at, dues, path_at, prefix_of};
+ghost use Rattle.ac_claims_paths.specs.PathSteps.{at_rows};
+ghost use Rattle.ac_claims.specs.StackEntries.{AreEntries, HasDues, Settles, at_line, due_at, dues, path_at, prefix_of};
 ghost use Rattle.ac_claims.specs.Machine.{Onto, onto_if};
 ghost use Rattle.ac_claims.specs.declared.entry.Entry.{Entry};
 
 use crate::entry::{Awaited, Entry, Prefix, Refusal, TakeStop};
+use ac_base::Items;
 use ac_cert::{EndStop, Rule, with_row};
+use ac_claims_paths::path::Path;
 use ac_forms::{Conj, Row};
-use ac_items::Items;
-use ac_paths::path::Path;
 use std::alloc::AllocError;
 
 /// The stop of a step, a branch or an end, at a line.

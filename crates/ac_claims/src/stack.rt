@@ -3,11 +3,11 @@ ghost use Rattle.std.specs.Prelude.{◌≡◌, ◌≢◌, ◌↔◌, ◌∷◌, 
 ghost use Rattle.std.specs.List.{AllByRecursion};
 ghost use Rattle.ac_forms.specs.Rows.{IsWellMade};
 ghost use Rattle.ac_cert.specs.Rules.{with_row};
-ghost use Rattle.ac_paths.specs.Calls.{pairing};
-ghost use Rattle.ac_paths.specs.Formed.{HasModuli, IsFormed};
-ghost use Rattle.ac_paths.specs.Going.{at_rows};
+ghost use Rattle.ac_claims_paths.specs.ModelCalls.{pairing};
+ghost use Rattle.ac_claims_paths.specs.WellFormedPaths.{HasModuli, IsFormed};
+ghost use Rattle.ac_claims_paths.specs.PathSteps.{at_rows};
 ghost use Rattle.ac_claims.specs.Dues.{AreDueFormed, LineHasModuli, RowsHaveModuli, Answers};
-ghost use Rattle.ac_claims.specs.Entries.{AreClasses, AreEntries, HasDues, IsOngoing, Settles, SettlesAll, all_dues, branches_of, classes_of, due_at, dues};
+ghost use Rattle.ac_claims.specs.StackEntries.{AreClasses, AreEntries, HasDues, IsOngoing, Settles, SettlesAll, all_dues, branches_of, classes_of, due_at, dues};
 ghost use Rattle.ac_claims.specs.Machine.{PlanAt, take_item};
 
 use crate::cases::first_branch;
@@ -19,10 +19,10 @@ use crate::kills::choose;
 use crate::parts::{longer, path_at, push_at};
 use crate::taking::take_at;
 use crate::types::Claim;
+use ac_base::Items;
+use ac_claims_paths::NormalForms;
+use ac_claims_paths::path::{Branch, Path, Programs};
 use ac_forms::Row;
-use ac_items::Items;
-use ac_paths::path::{Branch, Path, Programs};
-use ac_standing::NormalForms;
 use std::alloc::{AllocError, Global};
 use std::marker::Model;
 
@@ -42,7 +42,7 @@ pub struct Stack {
 impl Model for Stack {
     ghost use Rattle.std.specs.Prelude.{List};
     ghost use Rattle.std.specs.List.{AllByRecursion};
-    ghost use Rattle.ac_claims.specs.Entries.{IsOngoing, all_dues};
+    ghost use Rattle.ac_claims.specs.StackEntries.{IsOngoing, all_dues};
     ghost use Rattle.ac_claims.specs.Machine.{Due};
 
     ghost Value = { List Due };

@@ -1,20 +1,20 @@
 //! Where the plan of a claim starts, and what the claim of an output asks.
 ghost use Rattle.std.specs.Prelude.{◌≡◌, ◌+◌, ◌++◌, IfOk, option_map, List};
 ghost use Rattle.ac_forms.specs.declared.row.Row.{Row};
-ghost use Rattle.ac_paths.specs.Calls.{pairing};
-ghost use Rattle.ac_paths.specs.Columns.{columns_of, equal_forms};
-ghost use Rattle.ac_paths.specs.Places.{element_forms};
+ghost use Rattle.ac_claims_paths.specs.ModelCalls.{pairing};
+ghost use Rattle.ac_claims_paths.specs.PathColumns.{columns_of, equal_forms};
+ghost use Rattle.ac_claims_paths.specs.ModelPositions.{element_forms};
 ghost use Rattle.ac_claims.specs.Domains.{of_width, piece_by};
 ghost use Rattle.ac_claims.specs.ProofFaults.{domain, left_seat, right_seat, start_columns, piece_rows, start, output_rows};
-ghost use Rattle.ac_claims.specs.Remaining.{start_beside, start_at};
+ghost use Rattle.ac_claims.specs.RemainingPlans.{start_beside, start_at};
 
 use crate::domains::{Piece, copy_rows, piece_at};
 use crate::types::Claim;
+use ac_base::Items;
+use ac_claims_paths::columns::{columns_at, equal_forms};
+use ac_claims_paths::going::{appended, join, moved_at};
+use ac_claims_paths::path::{Path, Programs, Seat};
 use ac_forms::{Conj, Row, column_after};
-use ac_items::Items;
-use ac_paths::columns::{columns_at, equal_forms};
-use ac_paths::going::{appended, join, moved_at};
-use ac_paths::path::{Path, Programs, Seat};
 use ac_poly::coordinate_forms;
 use std::alloc::{AllocError, Global};
 

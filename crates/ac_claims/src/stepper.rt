@@ -1,17 +1,17 @@
 //! The check of a proof, line by line.
 ghost use Rattle.std.specs.Prelude.{◌≡◌, true, Some, None, OnOk, OnErr, IfOk, IfErr, IsSome, MatchResult, option_map};
-ghost use Rattle.ac_cert.specs.Faults.{later};
-ghost use Rattle.ac_paths.specs.Calls.{pairing};
-ghost use Rattle.ac_claims.specs.Checking.{known_of, Comes, IsFrontMade, IsLine};
+ghost use Rattle.ac_cert.specs.CertificateFaults.{later};
+ghost use Rattle.ac_claims_paths.specs.ModelCalls.{pairing};
+ghost use Rattle.ac_claims.specs.CheckKnowledge.{known_of, Comes, IsFrontMade, IsLine};
 ghost use Rattle.ac_claims.specs.Dues.{AreDueFormed};
 ghost use Rattle.ac_claims.specs.ProofFaults.{proof_fault};
 ghost use Rattle.ac_claims.specs.ProofMachine.{come, AreSpelledTrees};
-ghost use Rattle.ac_claims.specs.Ready.{AreReady};
+ghost use Rattle.ac_claims.specs.ReadyModels.{AreReady};
 ghost use Rattle.ac_claims.specs.Soundness.{ArePaired, AreModels, pairing_of};
 ghost use Rattle.ac_claims.specs.Steppers.{come_by, after, beginning};
-ghost use Rattle.ac_claims.specs.Feeding.{HasAnswer, HasRefusal, IsBehind, IsVerdict, IsFirstFault};
+ghost use Rattle.ac_claims.specs.CheckFeed.{HasAnswer, HasRefusal, IsBehind, IsVerdict, IsFirstFault};
 ghost use Rattle.ac_claims.specs.declared.types.Proof.{Proof};
-ghost use Rattle.ac_claims.specs.Judging.{came_of, state_of, IsSteady, SamePair};
+ghost use Rattle.ac_claims.specs.CheckState.{came_of, state_of, IsSteady, SamePair};
 
 use crate::entry::Refusal;
 use crate::front::Front;
@@ -22,7 +22,7 @@ use crate::lines::{
 use crate::stack::Stack;
 use crate::types::ProofFault;
 use crate::upcoming::Upcoming;
-use ac_paths::path::Programs;
+use ac_claims_paths::path::Programs;
 use ac_poly::types::Model;
 use ac_syntax::tree::Pair;
 use std::alloc::{AllocError, Global};

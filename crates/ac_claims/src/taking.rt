@@ -1,11 +1,11 @@
 //! What an item comes to where a plan is due at a path.
 ghost use Rattle.std.specs.Prelude.{List};
 ghost use Rattle.ac_forms.specs.Rows.{IsWellMade};
-ghost use Rattle.ac_paths.specs.Calls.{pairing};
-ghost use Rattle.ac_paths.specs.Made.{HaveIf};
-ghost use Rattle.ac_paths.specs.Standing.{made_and_stand};
+ghost use Rattle.ac_claims_paths.specs.ModelCalls.{pairing};
+ghost use Rattle.ac_claims_paths.specs.OptionalRows.{HaveIf};
+ghost use Rattle.ac_claims_paths.specs.PathRows.{made_and_stand};
 ghost use Rattle.ac_claims.specs.Dues.{LineHasModuli};
-ghost use Rattle.ac_claims.specs.Entries.{AreEntries, Settles, dues};
+ghost use Rattle.ac_claims.specs.StackEntries.{AreEntries, Settles, dues};
 ghost use Rattle.ac_claims.specs.Machine.{onto_if, take_at};
 ghost use Rattle.ac_claims.specs.declared.entry.Entry.{Entry};
 ghost use Rattle.ac_claims.specs.declared.item.Item.TheVariants as item;
@@ -17,13 +17,13 @@ use crate::entry::{Awaited, Entry, Line, TakeStop};
 use crate::item::Item;
 use crate::kills::take_killed;
 use crate::parts::{at_line, awaits, ends_if, longer, push_at};
+use ac_base::Items;
 use ac_cert::types::Step;
 use ac_cert::{Absurd, End, Rule, apply_onto, rows_of_sides};
+use ac_claims_paths::NormalForms;
+use ac_claims_paths::path::{CopyNumbers, Path};
+use ac_claims_paths::standing::made_and_stand;
 use ac_forms::{Form, Row};
-use ac_items::Items;
-use ac_paths::path::{CopyNumbers, Path};
-use ac_paths::standing::made_and_stand;
-use ac_standing::NormalForms;
 
 /// A step.
 fn take_step(

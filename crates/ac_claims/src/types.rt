@@ -1,8 +1,8 @@
+use ac_base::Items;
 use ac_cert::Rule;
 use ac_cert::types::Step;
-use ac_choices::Choice;
 use ac_forms::{Form, Row};
-use ac_items::Items;
+use ac_omega_steps::Choice;
 use ac_syntax::tree::{Order, Position};
 use std::alloc::AllocError;
 

@@ -1,13 +1,13 @@
 //! Which plan comes next: the plans of a proof stand in the order of the claims, and for each claim in that of the pieces of
 //! its left and then of its right position.
 ghost use Rattle.std.specs.Prelude.{◌≡◌, ℕ, ◌+◌, ◌<◌, ◌≤◌, IfOk, drop, length, slice_get};
-ghost use Rattle.ac_paths.specs.Calls.{pairing};
+ghost use Rattle.ac_claims_paths.specs.ModelCalls.{pairing};
 ghost use Rattle.ac_claims.specs.ProofFaults.{domain, due_from};
-ghost use Rattle.ac_claims.specs.Remaining.{remaining, count_by, next_in, AtClaim, Settled};
+ghost use Rattle.ac_claims.specs.RemainingPlans.{remaining, count_by, next_in, AtClaim, Settled};
 
 use crate::domains::size_at;
 use crate::types::Claim;
-use ac_paths::path::Programs;
+use ac_claims_paths::path::Programs;
 use ac_poly::types::Model;
 use ac_syntax::tree::Position;
 use std::alloc::{AllocError, Global};

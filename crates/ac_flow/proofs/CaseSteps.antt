@@ -10,26 +10,26 @@ use Rattle.ac_omega.specs.declared.piece.Piece.{Piece}
 use Rattle.ac_poly.specs.declared.types.Model.{Model}
 use Rattle.ac_poly.specs.declared.types.StmtModel.{StmtModel}
 use Rattle.ac_claims.specs.declared.types.Kill.{Kill}
-use Rattle.ac_kills.specs.Causes.{AreKillRows, IfFull}
-use Rattle.ac_kills.specs.Cuts.{AllHavePoints}
-use Rattle.ac_kills.specs.Remaining.{AllKills, AllOver, AreKillsOf, AllKillsOf}
-use Rattle.ac_kills.specs.declared.cut.CutStop.{CutStop}
-use Rattle.ac_kills.specs.declared.cut.CutStop.TheVariants.{Overflow, Spent, Full, Memory}
-use Rattle.ac_kills.proofs.Remains.{found-over}
-use Rattle.ac_paths.specs.Columns.{all_of}
-use Rattle.ac_items.proofs.Options.{bind-some, map-some, some-is}
-use Rattle.ac_paths.specs.Coordinates.{width}
-use Rattle.ac_paths.specs.Going.{root}
-use Rattle.ac_paths.specs.Killing.{case_width, with_own_columns}
-use Rattle.ac_forms.specs.Members.{IsAmong}
-use Rattle.ac_paths.specs.declared.path.Assumed.{Assumed}
-use Rattle.ac_paths.specs.declared.path.CopyNumbers.{CopyNumbers}
-use Rattle.ac_paths.specs.declared.path.Seat.{Seat}
-use Rattle.ac_paths.proofs.InBranches.{made-wide}
-use Rattle.ac_flow.specs.Cases.{Reads, CanRead, ArePiecesOver, AreParts, IsFoundFor, AllFound, IsCaseOf, IsSourceCase, IsInitialCase, kills_of}
-use Rattle.ac_flow.specs.Stopping.{UnformedStops, CopyOfStops, KillsStop, AreKillPieces, PieceStops, CutCaseStops, UnlessMemory, CaseStops, SourceStops}
-use Rattle.ac_flow.specs.Keeping.{AreGroups, AreCutCasesOf, AreOfWriting}
-use Rattle.ac_flow.specs.Stops.{plain, IfFilled}
+use Rattle.ac_flow.specs.CutStops.{AreKillRows, IfFull}
+use Rattle.ac_flow.specs.Cuts.{AllHavePoints}
+use Rattle.ac_flow.specs.CaseRemainder.{AllKills, AllOver, AreKillsOf, AllKillsOf}
+use Rattle.ac_flow.specs.declared.cut.CutStop.{CutStop}
+use Rattle.ac_flow.specs.declared.cut.CutStop.TheVariants.{Overflow, Spent, Full, Memory}
+use Rattle.ac_flow.proofs.Remains.{found-over}
+use Rattle.ac_claims_paths.specs.PathColumns.{all_of}
+use Rattle.ac_base.proofs.Options.{bind-some, map-some, some-is}
+use Rattle.ac_claims_paths.specs.InstanceCoordinates.{width}
+use Rattle.ac_claims_paths.specs.PathSteps.{root}
+use Rattle.ac_claims_paths.specs.CopyKills.{case_width, with_own_columns}
+use Rattle.ac_forms.specs.ListMembers.{IsAmong}
+use Rattle.ac_claims_paths.specs.declared.path.Assumed.{Assumed}
+use Rattle.ac_claims_paths.specs.declared.path.CopyNumbers.{CopyNumbers}
+use Rattle.ac_claims_paths.specs.declared.path.Seat.{Seat}
+use Rattle.ac_claims_paths.proofs.InBranches.{made-wide}
+use Rattle.ac_flow.specs.FlowCases.{Reads, CanRead, ArePiecesOver, AreParts, IsFoundFor, AllFound, IsCaseOf, IsSourceCase, IsInitialCase, kills_of}
+use Rattle.ac_flow.specs.FlowStops.{UnformedStops, CopyOfStops, KillsStop, AreKillPieces, PieceStops, CutCaseStops, UnlessMemory, CaseStops, SourceStops}
+use Rattle.ac_flow.specs.CaseOverflow.{AreGroups, AreCutCasesOf, AreOfWriting}
+use Rattle.ac_flow.specs.CaseStops.{plain, IfFilled}
 use Rattle.ac_flow.specs.declared.stop.CaseStop.{CaseStop}
 use Rattle.ac_flow.specs.declared.stop.CaseStop.TheVariants as case
 use Rattle.ac_flow.specs.Writings.{reading, rows_of, over, conj_of, writings}

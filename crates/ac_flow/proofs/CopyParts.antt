@@ -12,31 +12,31 @@ use Rattle.ac_syntax.specs.Source.{Writer, Stands, source}
 use Rattle.ac_syntax.specs.Trace.{Entry}
 use Rattle.ac_syntax.specs.declared.tree.Position.{Position}
 use Rattle.ac_syntax.proofs.Cells.{same_cell_refl, same_cell_is}
-use Rattle.ac_poly.specs.Laws.{values_at, cell_of}
+use Rattle.ac_poly.specs.ModelMeaning.{values_at, cell_of}
 use Rattle.ac_poly.specs.declared.types.Model.{Model}
 use Rattle.ac_poly.specs.declared.types.StmtModel.{StmtModel}
-use Rattle.ac_items.proofs.Options.{bind-some, some-is, if-some}
-use Rattle.ac_paths.specs.Columns.{base, columns_of, appended}
-use Rattle.ac_paths.specs.Coordinates.{width, levels_before}
-use Rattle.ac_paths.specs.Executions.{Execution, InstanceAt, Describes}
-use Rattle.ac_paths.specs.Going.{root, case_rows}
-use Rattle.ac_paths.specs.Killing.{assignment_at, after_rows}
-use Rattle.ac_forms.specs.Members.{IsAmong}
-use Rattle.ac_paths.specs.Places.{cell_read, levels_to}
-use Rattle.ac_paths.specs.declared.places.CellForms.{CellForms}
-use Rattle.ac_paths.specs.declared.path.Seat.{Seat}
-use Rattle.ac_paths.proofs.Moving.{rows-value, equal-values, appended-parts, meets-parts, meets-both}
-use Rattle.ac_paths.proofs.OnPaths.{pick_more, pick_new, range_in}
-use Rattle.ac_paths.proofs.Heres.{cell_with, read_cell}
-use Rattle.ac_paths.proofs.Branches.{in_left, in_right, in_map, in_flat_map, stands_of_level, stands_all, level_in}
-use Rattle.ac_paths.proofs.InBranches.{in_get}
-use Rattle.ac_paths.proofs.ReadSteps.{CaseParts, case_parts, case_meets, picks_one, picks_two}
+use Rattle.ac_base.proofs.Options.{bind-some, some-is, if-some}
+use Rattle.ac_claims_paths.specs.PathColumns.{base, columns_of, appended}
+use Rattle.ac_claims_paths.specs.InstanceCoordinates.{width, levels_before}
+use Rattle.ac_claims_paths.specs.Executions.{Execution, InstanceAt, Describes}
+use Rattle.ac_claims_paths.specs.PathSteps.{root, case_rows}
+use Rattle.ac_claims_paths.specs.CopyKills.{assignment_at, after_rows}
+use Rattle.ac_forms.specs.ListMembers.{IsAmong}
+use Rattle.ac_claims_paths.specs.ModelPositions.{cell_read, levels_to}
+use Rattle.ac_claims_paths.specs.declared.places.CellForms.{CellForms}
+use Rattle.ac_claims_paths.specs.declared.path.Seat.{Seat}
+use Rattle.ac_claims_paths.proofs.Moving.{rows-value, equal-values, appended-parts, meets-parts, meets-both}
+use Rattle.ac_claims_paths.proofs.OnPaths.{pick_more, pick_new, range_in}
+use Rattle.ac_claims_paths.proofs.Heres.{cell_with, read_cell}
+use Rattle.ac_claims_paths.proofs.Branches.{in_left, in_right, in_map, in_flat_map, stands_of_level, stands_all, level_in}
+use Rattle.ac_claims_paths.proofs.InBranches.{in_get}
+use Rattle.ac_claims_paths.proofs.ReadSteps.{CaseParts, case_parts, case_meets, picks_one, picks_two}
 use Rattle.ac_flow.specs.Writings.{alone, reading, levels_after, levels_after_of, numbers_to, afters, writing, writings_of, writings_from, writings, rows_of}
 use Rattle.ac_flow.specs.Sources.{IsReading}
-use Rattle.ac_paths.specs.declared.path.CopyNumbers.{CopyNumbers}
-use Rattle.ac_forms.specs.Pieces.{IsInSome}
+use Rattle.ac_claims_paths.specs.declared.path.CopyNumbers.{CopyNumbers}
+use Rattle.ac_forms.specs.PieceMembership.{IsInSome}
 use Rattle.ac_forms.proofs.InPieces.{some-at}
-use Rattle.ac_paths.proofs.Kills.{case_says}
+use Rattle.ac_claims_paths.proofs.Kills.{case_says}
 
 -- ---- blocks of numbers
 

@@ -3,26 +3,26 @@ use Rattle.std.proofs.Common.{◌≡◌, ℕ, ◌+◌, ◌≤◌, ◌⊎◌, inr
 use Rattle.std.specs.Prelude.{Result, Ok, Err, IfErr, slice_get, option_and_then, option_map, unwrap_or}
 use Rattle.ac_forms.specs.Renaming.{rows_renaming}
 use Rattle.ac_forms.specs.Rows.{HaveModuli, IsWellMade}
-use Rattle.ac_kills.specs.Remaining.{AreFound, IsWalkOf, CopyStops}
-use Rattle.ac_kills.specs.declared.cut.CutStop.{CutStop}
+use Rattle.ac_flow.specs.CaseRemainder.{AreFound, IsWalkOf, CopyStops}
+use Rattle.ac_flow.specs.declared.cut.CutStop.{CutStop}
 use Rattle.ac_omega.specs.declared.piece.Piece.{Piece}
 use Rattle.ac_forms.specs.declared.conj.Conj.{Conj}
 use Rattle.ac_forms.specs.declared.row.Row.{Row}
 use Rattle.ac_poly.specs.declared.types.Model.{Model}
 use Rattle.ac_poly.specs.declared.types.StmtModel.{StmtModel}
-use Rattle.ac_items.proofs.Options.{bind-some, map-some}
-use Rattle.ac_paths.specs.Coordinates.{width}
-use Rattle.ac_paths.specs.Formed.{HasModuli}
-use Rattle.ac_paths.specs.Columns.{base, columns_of}
-use Rattle.ac_paths.specs.Going.{Pairing, model_of, root}
-use Rattle.ac_paths.specs.Killing.{case_width, copy_rows, with_own_columns}
-use Rattle.ac_paths.specs.declared.path.Assumed.{Assumed}
-use Rattle.ac_paths.specs.declared.path.CopyNumbers.{CopyNumbers}
-use Rattle.ac_paths.specs.declared.path.Side.{Side}
-use Rattle.ac_paths.specs.declared.path.Side.TheVariants.{Left, Right}
-use Rattle.ac_paths.proofs.CopySteps.{rows_made}
-use Rattle.ac_flow.specs.Cases.{IsFoundFor}
-use Rattle.ac_flow.specs.Stopping.{piece_rows, front_by, front, UnformedStops, CopyOfStops}
+use Rattle.ac_base.proofs.Options.{bind-some, map-some}
+use Rattle.ac_claims_paths.specs.InstanceCoordinates.{width}
+use Rattle.ac_claims_paths.specs.WellFormedPaths.{HasModuli}
+use Rattle.ac_claims_paths.specs.PathColumns.{base, columns_of}
+use Rattle.ac_claims_paths.specs.PathSteps.{Pairing, model_of, root}
+use Rattle.ac_claims_paths.specs.CopyKills.{case_width, copy_rows, with_own_columns}
+use Rattle.ac_claims_paths.specs.declared.path.Assumed.{Assumed}
+use Rattle.ac_claims_paths.specs.declared.path.CopyNumbers.{CopyNumbers}
+use Rattle.ac_claims_paths.specs.declared.path.Side.{Side}
+use Rattle.ac_claims_paths.specs.declared.path.Side.TheVariants.{Left, Right}
+use Rattle.ac_claims_paths.proofs.CopySteps.{rows_made}
+use Rattle.ac_flow.specs.FlowCases.{IsFoundFor}
+use Rattle.ac_flow.specs.FlowStops.{piece_rows, front_by, front, UnformedStops, CopyOfStops}
 use Rattle.ac_flow.specs.Writings.{alone, rows_of, over, conj_of}
 
 pub conj_made : (m : Model) (a : Assumed) (w : CopyNumbers) (stmt : StmtModel) (first wide columns : ℕ) (g : Pairing) (made : Option (List Row)) (rows : List Row) → slice_get m.stmts w.stmt ≡ Some stmt → first ≡ case_width m.params a → wide ≡ width stmt → columns ≡ first + wide

@@ -6,22 +6,22 @@ use Rattle.ac_forms.specs.declared.conj.Conj.{Conj}
 use Rattle.ac_forms.specs.declared.row.Row.{Row}
 use Rattle.ac_omega.specs.declared.piece.Piece.{Piece}
 use Rattle.ac_poly.specs.declared.types.Model.{Model}
-use Rattle.ac_kills.specs.Causes.{AreCutCases, CutStops, IfFull}
-use Rattle.ac_kills.specs.Cuts.{AllHavePoints, NoneMeet}
+use Rattle.ac_flow.specs.CutStops.{AreCutCases, CutStops, IfFull}
+use Rattle.ac_flow.specs.Cuts.{AllHavePoints, NoneMeet}
 use Rattle.ac_sets.specs.Unions.{ArePieces}
-use Rattle.ac_kills.specs.Remaining.{AllKillsOf, IsCut}
-use Rattle.ac_kills.specs.declared.cut.CutStop.{CutStop}
-use Rattle.ac_kills.specs.declared.cut.CutStop.TheVariants.{Overflow, Spent, Full, Memory}
-use Rattle.ac_paths.proofs.Moving.{made-both}
-use Rattle.ac_flow.specs.Cases.{AreParts, ArePiecesOver, case_conj, remainder, conj_of_remainder}
-use Rattle.ac_flow.specs.Keeping.{AreGroups}
-use Rattle.ac_flow.specs.Stopping.{PieceStops}
-use Rattle.ac_flow.specs.Stops.{plain, IfFilled, IsStopOf}
+use Rattle.ac_flow.specs.CaseRemainder.{AllKillsOf, IsCut}
+use Rattle.ac_flow.specs.declared.cut.CutStop.{CutStop}
+use Rattle.ac_flow.specs.declared.cut.CutStop.TheVariants.{Overflow, Spent, Full, Memory}
+use Rattle.ac_claims_paths.proofs.Moving.{made-both}
+use Rattle.ac_flow.specs.FlowCases.{AreParts, ArePiecesOver, case_conj, remainder, conj_of_remainder}
+use Rattle.ac_flow.specs.CaseOverflow.{AreGroups}
+use Rattle.ac_flow.specs.FlowStops.{PieceStops}
+use Rattle.ac_flow.specs.CaseStops.{plain, IfFilled, IsStopOf}
 use Rattle.ac_flow.specs.declared.stop.CaseStop.{CaseStop}
 use Rattle.ac_flow.specs.declared.stop.CaseStop.TheVariants as case
 use Rattle.ac_flow.specs.declared.types.Remainder.{Remainder}
 use Rattle.ac_flow.proofs.KillSteps.{in_at}
-use Rattle.ac_kills.proofs.Asked.{have-append}
+use Rattle.ac_flow.proofs.Asked.{have-append}
 
 pub case_made : (m : Model) (columns : ℕ) (rows piece : List Row) (c : Conj) → AreRowsOver columns m.context → AreRowsOver columns piece → AreRowsOver columns rows → c ≡ case_conj m columns rows piece → IsWellMade c
 case_made m columns rows piece c a b d e = subst (λ (x : Conj). IsWellMade x) (sym e) (made-both columns m.context (piece ++ rows) a (made-both columns piece rows b d))

@@ -2,7 +2,7 @@
 use Rattle.std.proofs.Common.{◌≡◌, ◌↔◌, inl, inr, ℕ, ◌+◌, ℤ, List, [], ◌∷◌, ◌++◌, map, length, Option, Some, None, refl, sym, ap, ◌∙◌, subst, arith, append_assoc, append-nil, length-append}
 use Rattle.std.specs.Prelude.{slice_get, option_map}
 use Rattle.ac_forms.specs.Negation.{HasExtension}
-use Rattle.ac_forms.specs.Pieces.{IsInSome, IsInNone}
+use Rattle.ac_forms.specs.PieceMembership.{IsInSome, IsInNone}
 use Rattle.ac_forms.specs.Rows.{Meets, AreRowsOver}
 use Rattle.ac_forms.specs.declared.conj.Conj.{Conj}
 use Rattle.ac_forms.specs.declared.row.Row.{Row}
@@ -11,19 +11,19 @@ use Rattle.ac_syntax.specs.Source.{Writer, source}
 use Rattle.ac_syntax.specs.Trace.{Entry}
 use Rattle.ac_poly.specs.declared.types.Model.{Model}
 use Rattle.ac_poly.specs.declared.types.StmtModel.{StmtModel}
-use Rattle.ac_choices.proofs.Keeping.{Meets-append}
-use Rattle.ac_items.proofs.Options.{bind-some, map-some, some-is}
-use Rattle.ac_paths.specs.Columns.{all_of}
-use Rattle.ac_paths.specs.Coordinates.{width}
-use Rattle.ac_paths.specs.Executions.{Execution, Describes}
-use Rattle.ac_paths.specs.Going.{root}
-use Rattle.ac_paths.specs.Killing.{case_width, after_rows}
-use Rattle.ac_forms.specs.Members.{IsAmong}
-use Rattle.ac_paths.specs.Places.{cell_read}
-use Rattle.ac_paths.specs.declared.path.CopyNumbers.{CopyNumbers}
-use Rattle.ac_paths.specs.declared.places.CellForms.{CellForms}
-use Rattle.ac_paths.proofs.InBranches.{made-wide}
-use Rattle.ac_flow.specs.Cases.{Reads, CanRead, IsSourceCase, IsInitialCase, AreCases, conj_of_remainder}
+use Rattle.ac_omega_steps.proofs.Keeping.{Meets-append}
+use Rattle.ac_base.proofs.Options.{bind-some, map-some, some-is}
+use Rattle.ac_claims_paths.specs.PathColumns.{all_of}
+use Rattle.ac_claims_paths.specs.InstanceCoordinates.{width}
+use Rattle.ac_claims_paths.specs.Executions.{Execution, Describes}
+use Rattle.ac_claims_paths.specs.PathSteps.{root}
+use Rattle.ac_claims_paths.specs.CopyKills.{case_width, after_rows}
+use Rattle.ac_forms.specs.ListMembers.{IsAmong}
+use Rattle.ac_claims_paths.specs.ModelPositions.{cell_read}
+use Rattle.ac_claims_paths.specs.declared.path.CopyNumbers.{CopyNumbers}
+use Rattle.ac_claims_paths.specs.declared.places.CellForms.{CellForms}
+use Rattle.ac_claims_paths.proofs.InBranches.{made-wide}
+use Rattle.ac_flow.specs.FlowCases.{Reads, CanRead, IsSourceCase, IsInitialCase, AreCases, conj_of_remainder}
 use Rattle.ac_flow.specs.Flows.{IsLeft, CaseIsTheSource, HasCase}
 use Rattle.ac_flow.specs.Sources.{IsReading, IsSource}
 use Rattle.ac_flow.specs.Writings.{alone, reading, writing, rows_of, over, conj_of, writings, copies}

@@ -7,10 +7,10 @@ use Rattle.ac_syntax.specs.declared.tree.Position.{Position}
 use Rattle.ac_poly.specs.Model.{PiecesAreApart}
 use Rattle.ac_poly.proofs.PiecesApart.{pieces_are_apart}
 use Rattle.ac_poly.specs.declared.types.Model.{Model}
-use Rattle.ac_paths.specs.Executions.{Execution, Describes, execution}
-use Rattle.ac_forms.specs.Members.{IsAmong}
-use Rattle.ac_paths.proofs.Described.{models_describe}
-use Rattle.ac_flow.specs.Cases.{Reads, CanRead}
+use Rattle.ac_claims_paths.specs.Executions.{Execution, Describes, execution}
+use Rattle.ac_forms.specs.ListMembers.{IsAmong}
+use Rattle.ac_claims_paths.proofs.Described.{models_describe}
+use Rattle.ac_flow.specs.FlowCases.{Reads, CanRead}
 use Rattle.ac_flow.specs.Flows.{CaseIsTheSource, HasCase, HasOneCase, CasesAreSources}
 use Rattle.ac_flow.specs.Readers.{readers, IsFlowOf, AreFlows, IsOver}
 use Rattle.ac_flow.specs.Sources.{IsReading}

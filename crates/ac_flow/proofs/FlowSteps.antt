@@ -5,9 +5,9 @@ use Rattle.ac_forms.specs.Affine.{Affine}
 use Rattle.ac_poly.specs.declared.types.Model.{Model}
 use Rattle.ac_poly.specs.declared.types.NodeModel.{NodeModel}
 use Rattle.ac_poly.specs.declared.types.StmtModel.{StmtModel}
-use Rattle.ac_forms.specs.Members.{IsAmong}
-use Rattle.ac_paths.proofs.Branches.{in_left, in_right}
-use Rattle.ac_flow.specs.Cases.{Reads}
+use Rattle.ac_forms.specs.ListMembers.{IsAmong}
+use Rattle.ac_claims_paths.proofs.Branches.{in_left, in_right}
+use Rattle.ac_flow.specs.FlowCases.{Reads}
 use Rattle.ac_flow.specs.Readers.{read_at, reads_from, reads_of_all, output_at, outputs_from, AreFlows, Grows, StopsAmong}
 use Rattle.ac_flow.specs.declared.types.FlowStop.{FlowStop}
 use Rattle.ac_flow.specs.declared.types.ReadFlow.{ReadFlow}

@@ -6,13 +6,13 @@ use Rattle.ac_forms.specs.declared.conj.Conj.{Conj}
 use Rattle.ac_omega.specs.declared.piece.Piece.{Piece}
 use Rattle.ac_poly.specs.declared.types.Model.{Model}
 use Rattle.ac_claims.specs.declared.types.Kill.{Kill}
-use Rattle.ac_kills.specs.declared.cut.CutStop.{CutStop}
-use Rattle.ac_kills.specs.declared.cut.CutStop.TheVariants.{Memory}
-use Rattle.ac_forms.specs.Members.{IsAmong}
-use Rattle.ac_paths.specs.declared.path.Assumed.{Assumed}
-use Rattle.ac_paths.specs.declared.path.CopyNumbers.{CopyNumbers}
-use Rattle.ac_flow.specs.Cases.{IsFoundFor, AllFound, kill_of, kills_of}
-use Rattle.ac_flow.specs.Stopping.{UnformedStops, CopyOfStops, KillsStop}
+use Rattle.ac_flow.specs.declared.cut.CutStop.{CutStop}
+use Rattle.ac_flow.specs.declared.cut.CutStop.TheVariants.{Memory}
+use Rattle.ac_forms.specs.ListMembers.{IsAmong}
+use Rattle.ac_claims_paths.specs.declared.path.Assumed.{Assumed}
+use Rattle.ac_claims_paths.specs.declared.path.CopyNumbers.{CopyNumbers}
+use Rattle.ac_flow.specs.FlowCases.{IsFoundFor, AllFound, kill_of, kills_of}
+use Rattle.ac_flow.specs.FlowStops.{UnformedStops, CopyOfStops, KillsStop}
 
 pub in_at : {A : Type 0} (xs : List A) (i : ℕ) (x : A) → i < length xs → x ≡ get_or xs i x → IsAmong x xs
 in_at [] i x l e = absurd (omega (arith, l))

@@ -1,17 +1,17 @@
 -- What is left of a case is where no copy has a point, so where what is assumed is the source.
 use Rattle.std.proofs.Common.{◌≡◌, ◌↔◌, ◌⊎◌, inl, inr, ℕ, suc, ℤ, List, [], ◌∷◌, ◌++◌, map, length, refl, sym, ap, ◌∙◌, subst, arith}
 use Rattle.ac_forms.specs.Negation.{HasExtension}
-use Rattle.ac_forms.specs.Pieces.{IsInSome, IsInNone}
+use Rattle.ac_forms.specs.PieceMembership.{IsInSome, IsInNone}
 use Rattle.ac_forms.specs.Rows.{Meets, AreRowsOver}
 use Rattle.ac_forms.specs.declared.conj.Conj.{Conj}
 use Rattle.ac_forms.specs.declared.row.Row.{Row}
 use Rattle.ac_omega.specs.declared.piece.Piece.{Piece}
 use Rattle.ac_poly.specs.declared.types.Model.{Model}
-use Rattle.ac_choices.proofs.Keeping.{Meets-append}
-use Rattle.ac_kills.specs.Remaining.{AllKills}
-use Rattle.ac_kills.proofs.Remains.{remains}
-use Rattle.ac_paths.proofs.Moving.{meets-parts, meets-both}
-use Rattle.ac_flow.specs.Cases.{AreParts, ArePiecesOver, case_conj, remainder, conj_of_remainder}
+use Rattle.ac_omega_steps.proofs.Keeping.{Meets-append}
+use Rattle.ac_flow.specs.CaseRemainder.{AllKills}
+use Rattle.ac_flow.proofs.Remains.{remains}
+use Rattle.ac_claims_paths.proofs.Moving.{meets-parts, meets-both}
+use Rattle.ac_flow.specs.FlowCases.{AreParts, ArePiecesOver, case_conj, remainder, conj_of_remainder}
 use Rattle.ac_flow.specs.declared.types.Remainder.{Remainder}
 use Rattle.ac_forms.proofs.InPieces.{some-append}
 

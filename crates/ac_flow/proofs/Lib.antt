@@ -1,3 +1,11 @@
+pub mod CaseRemainders
+pub mod CutLoops
+pub mod Points
+pub mod Projections
+pub mod Remains
+pub mod Asked
+pub mod Stops
+pub mod Aparts
 pub mod SourceCases
 pub mod CopyParts
 pub mod Sourcing
@@ -15,3 +23,13 @@ pub mod Overs
 pub mod OneCase
 pub mod FlowSources
 pub mod Replaying
+pub mod OwnColumns
+pub mod NormalRows
+pub mod RowsThere
+pub mod KillParts
+pub mod OnPaths
+pub mod Acceptance
+pub mod KillPoints
+pub mod Readings
+pub mod Stepping
+pub mod InPieces

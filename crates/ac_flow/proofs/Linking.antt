@@ -13,17 +13,17 @@ use Rattle.ac_poly.specs.declared.types.NodeModel.{NodeModel}
 use Rattle.ac_poly.specs.declared.types.NodeModel.TheVariants.{Number, Read, Call}
 use Rattle.ac_poly.specs.declared.types.StmtModel.{StmtModel}
 use Rattle.ac_claims.specs.ProofFaults.{is_output_array}
-use Rattle.ac_items.proofs.Options.{some-is}
-use Rattle.ac_paths.specs.Coordinates.{width}
-use Rattle.ac_paths.specs.Executions.{Execution, Describes}
-use Rattle.ac_forms.specs.Members.{IsAmong}
-use Rattle.ac_paths.specs.Places.{cell_read, extent_rows, element_forms}
-use Rattle.ac_paths.proofs.InBranches.{in_either}
-use Rattle.ac_flow.specs.Cases.{Reads}
+use Rattle.ac_base.proofs.Options.{some-is}
+use Rattle.ac_claims_paths.specs.InstanceCoordinates.{width}
+use Rattle.ac_claims_paths.specs.Executions.{Execution, Describes}
+use Rattle.ac_forms.specs.ListMembers.{IsAmong}
+use Rattle.ac_claims_paths.specs.ModelPositions.{cell_read, extent_rows, element_forms}
+use Rattle.ac_claims_paths.proofs.InBranches.{in_either}
+use Rattle.ac_flow.specs.FlowCases.{Reads}
 use Rattle.ac_flow.specs.Readers.{read_at, reads_from, reads_of_all, output_at, outputs_from, readers}
 use Rattle.ac_flow.specs.Sources.{IsReading}
 use Rattle.ac_flow.proofs.Exact.{ReadHere}
-use Rattle.ac_forms.specs.Pieces.{IsInSome}
+use Rattle.ac_forms.specs.PieceMembership.{IsInSome}
 
 -- a reader is a read of an assignment, or an output
 pub data IsReader (m : Model) : Reads → Type 0 where
@@ -95,7 +95,7 @@ at_reader m params x d c r (OfNode s k stmt array subs is e) at cell before h =
     record {
       describes = d;
       forms = record { array = array; subs = subs };
-      read = (λ i. option_and_then Rattle.ac_paths.specs.Places.read_of (option_and_then (λ (y : StmtModel). slice_get y.nodes k) (is i))) ∙ ap (λ o. option_and_then Rattle.ac_paths.specs.Places.read_of o) e;
+      read = (λ i. option_and_then Rattle.ac_claims_paths.specs.ModelPositions.read_of (option_and_then (λ (y : StmtModel). slice_get y.nodes k) (is i))) ∙ ap (λ o. option_and_then Rattle.ac_claims_paths.specs.ModelPositions.read_of o) e;
       array = refl;
       here = h;
       count = n.0;

@@ -9,24 +9,24 @@ use Rattle.ac_syntax.specs.Trace.{Entry}
 use Rattle.ac_syntax.specs.declared.tree.Position.{Position}
 use Rattle.ac_syntax.specs.declared.tree.Position.TheVariants.{Output, Node, InitialOutput, InitialNode}
 use Rattle.ac_poly.specs.Model.{PiecesAreApart}
-use Rattle.ac_forms.specs.Pieces.{IsInOneAtMost}
+use Rattle.ac_forms.specs.PieceMembership.{IsInOneAtMost}
 use Rattle.ac_poly.specs.declared.types.Model.{Model}
 use Rattle.ac_poly.specs.declared.types.StmtModel.{StmtModel}
 use Rattle.ac_poly.proofs.LevelRows.{levels_are_apart}
-use Rattle.ac_items.proofs.Options.{some-is}
-use Rattle.ac_paths.specs.Coordinates.{width}
-use Rattle.ac_paths.specs.Executions.{Execution, Describes}
-use Rattle.ac_paths.specs.Going.{root}
-use Rattle.ac_paths.specs.Places.{levels_to, levels_at}
-use Rattle.ac_paths.proofs.Moving.{meets-parts}
-use Rattle.ac_paths.proofs.ReadSteps.{case_parts}
-use Rattle.ac_flow.specs.Cases.{Reads}
+use Rattle.ac_base.proofs.Options.{some-is}
+use Rattle.ac_claims_paths.specs.InstanceCoordinates.{width}
+use Rattle.ac_claims_paths.specs.Executions.{Execution, Describes}
+use Rattle.ac_claims_paths.specs.PathSteps.{root}
+use Rattle.ac_claims_paths.specs.ModelPositions.{levels_to, levels_at}
+use Rattle.ac_claims_paths.proofs.Moving.{meets-parts}
+use Rattle.ac_claims_paths.proofs.ReadSteps.{case_parts}
+use Rattle.ac_flow.specs.FlowCases.{Reads}
 use Rattle.ac_flow.specs.Flows.{MeetsCase, IsOneCase}
 use Rattle.ac_flow.specs.Sources.{IsSource}
 use Rattle.ac_flow.specs.Writings.{reading, writing}
 use Rattle.ac_flow.specs.declared.types.Case.{Case}
 use Rattle.ac_flow.proofs.CopyParts.{parts_of, block}
-use Rattle.ac_paths.proofs.Kills.{case_says}
+use Rattle.ac_claims_paths.proofs.Kills.{case_says}
 use Rattle.ac_flow.proofs.Exact.{formed}
 use Rattle.ac_forms.proofs.InPieces.{some-at, none-or}
 

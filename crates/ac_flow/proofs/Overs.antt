@@ -6,18 +6,18 @@ use Rattle.std.proofs.lemmas.List.{length-replicate}
 use Rattle.ac_forms.specs.Affine.{Affine, column_form}
 use Rattle.ac_forms.specs.Rows.{AreRowsOver}
 use Rattle.ac_forms.specs.declared.row.Row.{Row}
-use Rattle.ac_poly.specs.Columns.{AreOver}
+use Rattle.ac_poly.specs.CoordinateColumns.{AreOver}
 use Rattle.ac_poly.specs.Model.{model_of}
 use Rattle.ac_poly.specs.declared.types.Model.{Model}
 use Rattle.ac_poly.specs.declared.types.StmtModel.{StmtModel}
 use Rattle.ac_poly.proofs.Columns.{has_columns}
 use Rattle.ac_poly.proofs.Values.{length-mix}
-use Rattle.ac_paths.specs.Coordinates.{width}
-use Rattle.ac_paths.specs.Places.{extent_rows}
-use Rattle.ac_paths.proofs.Described.{models_describe}
-use Rattle.ac_flow.specs.Cases.{Reads, CanRead, ArePiecesOver}
+use Rattle.ac_claims_paths.specs.InstanceCoordinates.{width}
+use Rattle.ac_claims_paths.specs.ModelPositions.{extent_rows}
+use Rattle.ac_claims_paths.proofs.Described.{models_describe}
+use Rattle.ac_flow.specs.FlowCases.{Reads, CanRead, ArePiecesOver}
 use Rattle.ac_flow.specs.Readers.{IsLowered, IsOver}
-use Rattle.ac_paths.proofs.Kills.{zeros}
+use Rattle.ac_claims_paths.proofs.Kills.{zeros}
 
 pub is_over : (m : Model) → IsLowered m → IsOver m
 is_over m l = subst IsOver (sym l.is) made

@@ -6,23 +6,23 @@ use Rattle.std.proofs.lemmas.List.{take_more, drop_more, take_all, length-map, t
 use Rattle.std.proofs.lemmas.List.Concat.{flat_map-cons}
 use Rattle.ac_forms.specs.declared.conj.Conj.{Conj}
 use Rattle.ac_poly.specs.declared.types.Model.{Model}
-use Rattle.ac_kills.specs.Cuts.{AllHavePoints}
-use Rattle.ac_kills.specs.declared.cut.CutStop.{CutStop}
-use Rattle.ac_kills.specs.declared.cut.CutStop.TheVariants as cut
-use Rattle.ac_forms.specs.Members.{IsAmong}
-use Rattle.ac_paths.specs.declared.path.CopyNumbers.{CopyNumbers}
-use Rattle.ac_flow.specs.Cases.{Reads, IsSourceCase, IsInitialCase, AreCases, conj_of_remainder, conjs_of}
+use Rattle.ac_flow.specs.Cuts.{AllHavePoints}
+use Rattle.ac_flow.specs.declared.cut.CutStop.{CutStop}
+use Rattle.ac_flow.specs.declared.cut.CutStop.TheVariants as cut
+use Rattle.ac_forms.specs.ListMembers.{IsAmong}
+use Rattle.ac_claims_paths.specs.declared.path.CopyNumbers.{CopyNumbers}
+use Rattle.ac_flow.specs.FlowCases.{Reads, IsSourceCase, IsInitialCase, AreCases, conj_of_remainder, conjs_of}
 use Rattle.ac_flow.proofs.SourceCases.{AreSourceCases}
-use Rattle.ac_flow.specs.Keeping.{AreCutCasesOf, AreOfWriting, AreOfCases, AreTooMany}
-use Rattle.ac_flow.specs.Stopping.{UnlessMemory, SourceStops, CaseStops, ReadStops}
-use Rattle.ac_flow.specs.Stops.{plain, IfFilled}
+use Rattle.ac_flow.specs.CaseOverflow.{AreCutCasesOf, AreOfWriting, AreOfCases, AreTooMany}
+use Rattle.ac_flow.specs.FlowStops.{UnlessMemory, SourceStops, CaseStops, ReadStops}
+use Rattle.ac_flow.specs.CaseStops.{plain, IfFilled}
 use Rattle.ac_flow.specs.Writings.{writings}
 use Rattle.ac_flow.specs.declared.stop.CaseStop.{CaseStop}
 use Rattle.ac_flow.specs.declared.stop.CaseStop.TheVariants as case
 use Rattle.ac_flow.specs.declared.types.Case.{Case}
 use Rattle.ac_flow.proofs.CaseSteps.{filled_map}
 use Rattle.ac_flow.proofs.CutSteps.{parts_have, no_groups}
-use Rattle.ac_kills.proofs.Asked.{have-append}
+use Rattle.ac_flow.proofs.Asked.{have-append}
 use Rattle.ac_flow.proofs.KillSteps.{in_get_or}
 
 -- ---- the cases of the first writings

@@ -4,32 +4,32 @@ use Rattle.std.specs.Prelude.{slice_get, option_and_then, option_map}
 use Rattle.std.specs.List.{range_with_len}
 use Rattle.ac_forms.specs.NormalForm.{normal_conj}
 use Rattle.ac_forms.specs.Rows.{form_of, AreRowsOver}
-use Rattle.ac_forms.specs.Tests.{rows_fit}
+use Rattle.ac_forms.specs.RangeTests.{rows_fit}
 use Rattle.ac_forms.specs.declared.conj.Conj.{Conj}
 use Rattle.ac_forms.specs.declared.row.Row.{Row}
 use Rattle.ac_forms.proofs.Joining.{both_of}
 use Rattle.ac_claims.specs.declared.types.Kill.{Kill}
-use Rattle.ac_choices.specs.Choices.{is_legal, column_of}
-use Rattle.ac_choices.specs.ChoiceFits.{after_choice}
-use Rattle.ac_choices.specs.declared.choose.Choice.{Choice}
-use Rattle.ac_choices.specs.declared.choose.Choice.TheVariants as choice
-use Rattle.ac_items.proofs.Options.{bind-some, map-some, if-some}
-use Rattle.ac_kills.specs.Kills.{columns_from}
-use Rattle.ac_kills.specs.Remaining.{AllKills}
+use Rattle.ac_omega_steps.specs.Choices.{is_legal, column_of}
+use Rattle.ac_omega_steps.specs.ChoiceFits.{after_choice}
+use Rattle.ac_omega_steps.specs.declared.choose.Choice.{Choice}
+use Rattle.ac_omega_steps.specs.declared.choose.Choice.TheVariants as choice
+use Rattle.ac_base.proofs.Options.{bind-some, map-some, if-some}
+use Rattle.ac_flow.specs.CopyProjection.{columns_from}
+use Rattle.ac_flow.specs.CaseRemainder.{AllKills}
 use Rattle.ac_omega.specs.Projection.{is_among}
 use Rattle.ac_omega.specs.Replays.{replayed, AreReached, AreOver}
 use Rattle.ac_omega.specs.declared.piece.Piece.{Piece}
 use Rattle.ac_poly.specs.declared.types.Model.{Model}
 use Rattle.ac_poly.specs.declared.types.StmtModel.{StmtModel}
-use Rattle.ac_paths.specs.Columns.{all_of}
-use Rattle.ac_paths.specs.Coordinates.{width}
-use Rattle.ac_paths.specs.Killing.{case_width, with_own_columns, normal_of, copy_by, copy_rows, by_column, taken_legally, chosen, all_chosen, ends_before}
-use Rattle.ac_paths.specs.declared.path.Assumed.{Assumed}
-use Rattle.ac_paths.specs.declared.path.CopyNumbers.{CopyNumbers}
-use Rattle.ac_paths.specs.declared.path.Seat.{Seat}
-use Rattle.ac_paths.proofs.Moving.{all-cons}
-use Rattle.ac_flow.specs.Cases.{Reads, kill_of, kills_of}
-use Rattle.ac_flow.specs.Replaying.{AllReplayed, KillsAreReplayed}
+use Rattle.ac_claims_paths.specs.PathColumns.{all_of}
+use Rattle.ac_claims_paths.specs.InstanceCoordinates.{width}
+use Rattle.ac_claims_paths.specs.CopyKills.{case_width, with_own_columns, normal_of, copy_by, copy_rows, by_column, taken_legally, chosen, all_chosen, ends_before}
+use Rattle.ac_claims_paths.specs.declared.path.Assumed.{Assumed}
+use Rattle.ac_claims_paths.specs.declared.path.CopyNumbers.{CopyNumbers}
+use Rattle.ac_claims_paths.specs.declared.path.Seat.{Seat}
+use Rattle.ac_claims_paths.proofs.Moving.{all-cons}
+use Rattle.ac_flow.specs.FlowCases.{Reads, kill_of, kills_of}
+use Rattle.ac_flow.specs.KillReplay.{AllReplayed, KillsAreReplayed}
 use Rattle.ac_flow.specs.Writings.{alone, reading, rows_of, over, conj_of, writings}
 
 -- ---- choices by their own columns

@@ -1,9 +1,9 @@
 -- The cases of the first writings of a read.
 use Rattle.std.specs.Prelude.{List, [], ◌∷◌}
 use Rattle.ac_poly.specs.declared.types.Model.{Model}
-use Rattle.ac_paths.specs.declared.path.CopyNumbers.{CopyNumbers}
+use Rattle.ac_claims_paths.specs.declared.path.CopyNumbers.{CopyNumbers}
 use Rattle.ac_flow.specs.declared.types.Case.{Case}
-use Rattle.ac_flow.specs.Cases.{Reads, IsSourceCase}
+use Rattle.ac_flow.specs.FlowCases.{Reads, IsSourceCase}
 
 -- the cases of the first writings
 abbrev pub AreSourceCases : Model → Reads → List CopyNumbers → List Case → Type 0

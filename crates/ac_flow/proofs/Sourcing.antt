@@ -3,7 +3,7 @@ use Rattle.std.proofs.Common.{◌≡◌, ◌↔◌, ℕ, ◌+◌, ◌<◌, ◌�
 use Rattle.std.specs.Prelude.{slice_get, option_map}
 use Rattle.std.specs.List.{range_with_len}
 use Rattle.ac_forms.specs.Negation.{HasExtension}
-use Rattle.ac_forms.specs.Pieces.{IsInNone}
+use Rattle.ac_forms.specs.PieceMembership.{IsInNone}
 use Rattle.ac_forms.specs.Renaming.{picked}
 use Rattle.ac_forms.specs.Rows.{Meets}
 use Rattle.ac_forms.specs.declared.conj.Conj.{Conj}
@@ -15,23 +15,23 @@ use Rattle.ac_syntax.specs.declared.tree.Position.{Position}
 use Rattle.ac_syntax.proofs.Sources.{source_stands, source_last, source_none, one_place}
 use Rattle.ac_poly.specs.declared.types.Model.{Model}
 use Rattle.ac_poly.specs.declared.types.StmtModel.{StmtModel}
-use Rattle.ac_items.proofs.Options.{bind-some, map-some, some-is}
-use Rattle.ac_paths.specs.Columns.{base, columns_of, all_of}
-use Rattle.ac_paths.specs.Coordinates.{width}
-use Rattle.ac_paths.specs.Executions.{Execution, InstanceAt, Describes}
-use Rattle.ac_paths.specs.Going.{root}
-use Rattle.ac_paths.specs.Killing.{case_width}
-use Rattle.ac_forms.specs.Members.{IsAmong}
-use Rattle.ac_paths.specs.Places.{cell_read}
-use Rattle.ac_paths.specs.declared.places.CellForms.{CellForms}
-use Rattle.ac_paths.specs.declared.path.Seat.{Seat}
-use Rattle.ac_paths.proofs.Moving.{meets-parts}
-use Rattle.ac_paths.proofs.Branches.{in_map, in_all, stands_all}
-use Rattle.ac_paths.proofs.InBranches.{all_among}
-use Rattle.ac_paths.proofs.OnPaths.{pick_new}
+use Rattle.ac_base.proofs.Options.{bind-some, map-some, some-is}
+use Rattle.ac_claims_paths.specs.PathColumns.{base, columns_of, all_of}
+use Rattle.ac_claims_paths.specs.InstanceCoordinates.{width}
+use Rattle.ac_claims_paths.specs.Executions.{Execution, InstanceAt, Describes}
+use Rattle.ac_claims_paths.specs.PathSteps.{root}
+use Rattle.ac_claims_paths.specs.CopyKills.{case_width}
+use Rattle.ac_forms.specs.ListMembers.{IsAmong}
+use Rattle.ac_claims_paths.specs.ModelPositions.{cell_read}
+use Rattle.ac_claims_paths.specs.declared.places.CellForms.{CellForms}
+use Rattle.ac_claims_paths.specs.declared.path.Seat.{Seat}
+use Rattle.ac_claims_paths.proofs.Moving.{meets-parts}
+use Rattle.ac_claims_paths.proofs.Branches.{in_map, in_all, stands_all}
+use Rattle.ac_claims_paths.proofs.InBranches.{all_among}
+use Rattle.ac_claims_paths.proofs.OnPaths.{pick_new}
 use Rattle.ac_flow.specs.Writings.{reading, writings, rows_of, over, conj_of, copies}
 use Rattle.ac_flow.specs.Sources.{IsReading, IsSource, NoCopy, NoCopyIsTheSource, HasRows, TheSourceHasRows}
-use Rattle.ac_paths.specs.declared.path.CopyNumbers.{CopyNumbers}
+use Rattle.ac_claims_paths.specs.declared.path.CopyNumbers.{CopyNumbers}
 use Rattle.ac_flow.proofs.CopyParts.{block, Parts, parts_of, Shown, Written, written, later_than, later_none, later_some, There, there}
 
 -- ---- members of lists of copies

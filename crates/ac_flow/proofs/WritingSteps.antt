@@ -10,9 +10,9 @@ use Rattle.ac_poly.specs.declared.types.Model.{Model}
 use Rattle.ac_poly.specs.declared.types.StmtModel.{StmtModel}
 use Rattle.ac_forms.specs.declared.row.Row.{Row}
 use Rattle.ac_syntax.specs.declared.tree.Position.{Position}
-use Rattle.ac_paths.specs.Places.{levels_to}
-use Rattle.ac_paths.specs.declared.path.CopyNumbers.{CopyNumbers}
-use Rattle.ac_paths.specs.declared.path.Seat.{Seat}
+use Rattle.ac_claims_paths.specs.ModelPositions.{levels_to}
+use Rattle.ac_claims_paths.specs.declared.path.CopyNumbers.{CopyNumbers}
+use Rattle.ac_claims_paths.specs.declared.path.Seat.{Seat}
 use Rattle.ac_forms.proofs.Ranges.{range_more}
 use Rattle.ac_flow.specs.Writings.{numbers_to, afters, writing, writings_of, writings_at, writings_from}
 

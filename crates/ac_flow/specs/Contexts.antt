@@ -1,7 +1,7 @@
 -- Why there is no valuation of a context.
 use Rattle.std.specs.Prelude.{ℕ, ◌≡◌, ◌⊎◌, List, ℤ, length}
 use Rattle.ac_forms.specs.Rows.{Meets}
-use Rattle.ac_refutations.specs.declared.strategy.Strategy.TheVariants.{Full as Fully}
+use Rattle.ac_omega_certify.specs.declared.strategy.Strategy.TheVariants.{Full as Fully}
 use Rattle.ac_omega.specs.Decisions.{walk_of, IsWide, IsSpent, IsSmall, IsLarge}
 use Rattle.ac_poly.specs.declared.types.Model.{Model}
 use Rattle.ac_flow.specs.Writings.{over}

@@ -3,7 +3,7 @@ use Rattle.std.specs.Prelude.{ℕ, ◌≡◌, ◌↔◌, ◌++◌, List, map, le
 use Rattle.ac_forms.specs.Rows.{Meets}
 use Rattle.ac_forms.specs.declared.conj.Conj.{Conj}
 use Rattle.ac_syntax.specs.Algebra.{Cell}
-use Rattle.ac_syntax.specs.Ready.{ReadyProgram, FitParts}
+use Rattle.ac_syntax.specs.ReadyPrograms.{ReadyProgram, FitParts}
 use Rattle.ac_syntax.specs.Source.{source}
 use Rattle.ac_syntax.specs.Trace.{Entry}
 use Rattle.ac_syntax.specs.declared.tree.Cond.{Cond}
@@ -12,10 +12,10 @@ use Rattle.ac_syntax.specs.declared.tree.Program.{Program}
 use Rattle.ac_poly.specs.Model.{model_of}
 use Rattle.ac_poly.specs.declared.types.Model.{Model}
 use Rattle.ac_poly.specs.declared.types.StmtModel.{StmtModel}
-use Rattle.ac_paths.specs.Coordinates.{width}
-use Rattle.ac_paths.specs.Executions.{Execution, execution}
-use Rattle.ac_forms.specs.Members.{IsAmong}
-use Rattle.ac_flow.specs.Cases.{conj_of_remainder}
+use Rattle.ac_claims_paths.specs.InstanceCoordinates.{width}
+use Rattle.ac_claims_paths.specs.Executions.{Execution, execution}
+use Rattle.ac_forms.specs.ListMembers.{IsAmong}
+use Rattle.ac_flow.specs.FlowCases.{conj_of_remainder}
 use Rattle.ac_flow.specs.Sources.{IsReading, IsSource}
 use Rattle.ac_flow.specs.Writings.{reading, writing, conj_of}
 use Rattle.ac_flow.specs.declared.types.Case.{Case}
@@ -23,7 +23,7 @@ use Rattle.ac_flow.specs.declared.types.Flow.{Flow}
 use Rattle.ac_flow.specs.declared.types.ReadFlow.{ReadFlow}
 use Rattle.ac_flow.specs.declared.types.Remainder.{Remainder}
 use Rattle.ac_forms.specs.Negation.{HasExtension}
-use Rattle.ac_forms.specs.Pieces.{IsInSome}
+use Rattle.ac_forms.specs.PieceMembership.{IsInSome}
 
 -- the point is in one of the pieces of a case
 abbrev pub IsLeft : List Remainder → List ℤ → Type 0

@@ -3,26 +3,26 @@ use Rattle.std.specs.Prelude.{ℕ, suc, ◌+◌, ◌≡◌, ◌⊎◌, ◌≤◌
 use Rattle.std.specs.List.{AllByRecursion, flat_map}
 use Rattle.ac_forms.specs.Affine.{Affine}
 use Rattle.ac_forms.specs.Rows.{AreRowsOver}
-use Rattle.ac_syntax.specs.Ready.{ReadyProgram, FitParts}
+use Rattle.ac_syntax.specs.ReadyPrograms.{ReadyProgram, FitParts}
 use Rattle.ac_syntax.specs.declared.tree.Cond.{Cond}
 use Rattle.ac_syntax.specs.declared.tree.Position.{Position}
 use Rattle.ac_syntax.specs.declared.tree.Position.TheVariants.{Output, Node}
 use Rattle.ac_syntax.specs.declared.tree.Program.{Program}
-use Rattle.ac_poly.specs.Columns.{CanBound, AreOver}
+use Rattle.ac_poly.specs.CoordinateColumns.{CanBound, AreOver}
 use Rattle.ac_poly.specs.Model.{model_of}
 use Rattle.ac_poly.specs.declared.types.Model.{Model}
 use Rattle.ac_poly.specs.declared.types.NodeModel.{NodeModel}
 use Rattle.ac_poly.specs.declared.types.NodeModel.TheVariants.{Number, Read, Call}
 use Rattle.ac_poly.specs.declared.types.StmtModel.{StmtModel}
-use Rattle.ac_kills.specs.declared.cut.CutStop.TheVariants as cut
+use Rattle.ac_flow.specs.declared.cut.CutStop.TheVariants as cut
 use Rattle.ac_claims.specs.ProofFaults.{is_output_array}
-use Rattle.ac_paths.specs.Coordinates.{width}
-use Rattle.ac_paths.specs.Formed.{HasModuli}
-use Rattle.ac_forms.specs.Members.{IsAmong}
-use Rattle.ac_paths.specs.Places.{extent_rows}
-use Rattle.ac_flow.specs.Cases.{Reads, AreCases, conjs_of}
-use Rattle.ac_flow.specs.Keeping.{AreTooMany}
-use Rattle.ac_flow.specs.Stopping.{ReadStops}
+use Rattle.ac_claims_paths.specs.InstanceCoordinates.{width}
+use Rattle.ac_claims_paths.specs.WellFormedPaths.{HasModuli}
+use Rattle.ac_forms.specs.ListMembers.{IsAmong}
+use Rattle.ac_claims_paths.specs.ModelPositions.{extent_rows}
+use Rattle.ac_flow.specs.FlowCases.{Reads, AreCases, conjs_of}
+use Rattle.ac_flow.specs.CaseOverflow.{AreTooMany}
+use Rattle.ac_flow.specs.FlowStops.{ReadStops}
 use Rattle.ac_flow.specs.Writings.{over, writings}
 use Rattle.ac_flow.specs.declared.stop.CaseStop.{CaseStop}
 use Rattle.ac_flow.specs.declared.stop.CaseStop.TheVariants as case

@@ -11,17 +11,17 @@ use Rattle.ac_syntax.specs.declared.tree.Position.{Position}
 use Rattle.ac_syntax.specs.declared.tree.Program.{Program}
 use Rattle.ac_poly.specs.declared.types.Model.{Model}
 use Rattle.ac_poly.specs.declared.types.StmtModel.{StmtModel}
-use Rattle.ac_paths.specs.Columns.{all_of}
-use Rattle.ac_paths.specs.Coordinates.{width}
-use Rattle.ac_paths.specs.Executions.{Execution, InstanceAt, At, Describes, execution}
-use Rattle.ac_paths.specs.Going.{root}
-use Rattle.ac_forms.specs.Members.{IsAmong}
-use Rattle.ac_paths.specs.Places.{cell_read}
-use Rattle.ac_paths.specs.declared.places.CellForms.{CellForms}
+use Rattle.ac_claims_paths.specs.PathColumns.{all_of}
+use Rattle.ac_claims_paths.specs.InstanceCoordinates.{width}
+use Rattle.ac_claims_paths.specs.Executions.{Execution, InstanceAt, At, Describes, execution}
+use Rattle.ac_claims_paths.specs.PathSteps.{root}
+use Rattle.ac_forms.specs.ListMembers.{IsAmong}
+use Rattle.ac_claims_paths.specs.ModelPositions.{cell_read}
+use Rattle.ac_claims_paths.specs.declared.places.CellForms.{CellForms}
 use Rattle.ac_flow.specs.Writings.{reading, rows_of, writings, copies}
-use Rattle.ac_paths.specs.declared.path.CopyNumbers.{CopyNumbers}
+use Rattle.ac_claims_paths.specs.declared.path.CopyNumbers.{CopyNumbers}
 use Rattle.ac_forms.specs.Negation.{HasExtension}
-use Rattle.ac_forms.specs.Pieces.{IsInNone}
+use Rattle.ac_forms.specs.PieceMembership.{IsInNone}
 
 -- the position reads, at these coordinates, a cell behind these entries
 pub record IsReading (x : Execution) (reader : Position) (at : List ℤ) (cell : Cell) (before : List Entry) : Type 0 where

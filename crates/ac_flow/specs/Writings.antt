@@ -7,14 +7,14 @@ use Rattle.ac_syntax.specs.Outputs.{swaps_of}
 use Rattle.ac_syntax.specs.declared.tree.Position.{Position}
 use Rattle.ac_poly.specs.declared.types.Model.{Model}
 use Rattle.ac_poly.specs.declared.types.StmtModel.{StmtModel}
-use Rattle.ac_paths.specs.Coordinates.{width, levels_before}
-use Rattle.ac_paths.specs.Going.{Pairing}
-use Rattle.ac_paths.specs.Killing.{assignment_at, copy_rows, case_width}
-use Rattle.ac_paths.specs.Places.{levels_to}
-use Rattle.ac_paths.specs.declared.path.Assumed.{Assumed}
-use Rattle.ac_paths.specs.declared.path.Seat.{Seat}
-use Rattle.ac_paths.specs.declared.path.Side.TheVariants.{Left}
-use Rattle.ac_paths.specs.declared.path.CopyNumbers.{CopyNumbers}
+use Rattle.ac_claims_paths.specs.InstanceCoordinates.{width, levels_before}
+use Rattle.ac_claims_paths.specs.PathSteps.{Pairing}
+use Rattle.ac_claims_paths.specs.CopyKills.{assignment_at, copy_rows, case_width}
+use Rattle.ac_claims_paths.specs.ModelPositions.{levels_to}
+use Rattle.ac_claims_paths.specs.declared.path.Assumed.{Assumed}
+use Rattle.ac_claims_paths.specs.declared.path.Seat.{Seat}
+use Rattle.ac_claims_paths.specs.declared.path.Side.TheVariants.{Left}
+use Rattle.ac_claims_paths.specs.declared.path.CopyNumbers.{CopyNumbers}
 
 -- one program against itself
 abbrev pub alone : Model → Pairing

@@ -1,6 +1,6 @@
 //! The cases of a read or an output.
+use ac_base::Items;
 use ac_forms::Row;
-use ac_items::Items;
 use ac_syntax::tree::Position;
 
 /// A read or an output: its position, the array that it reads, the number of its coordinates, and its pieces, over the

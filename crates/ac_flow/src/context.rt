@@ -2,7 +2,7 @@
 ghost use Rattle.std.specs.Prelude.{◌≡◌, length, IfOk, IfErr};
 ghost use Rattle.ac_forms.specs.Rows.{AreRowsOver, Meets};
 ghost use Rattle.ac_omega.specs.Decisions.{walk_of, EndsAt};
-ghost use Rattle.ac_refutations.specs.declared.strategy.Strategy.TheVariants.{Full};
+ghost use Rattle.ac_omega_certify.specs.declared.strategy.Strategy.TheVariants.{Full};
 ghost use Rattle.ac_flow.specs.Contexts.{ContextStops};
 ghost use Rattle.ac_flow.specs.Readers.{IsLowered};
 ghost use Rattle.ac_flow.specs.Writings.{over};

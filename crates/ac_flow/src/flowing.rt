@@ -1,8 +1,8 @@
 //! The flow of a program: its reads in the order of the text, and then its outputs.
 ghost use Rattle.std.specs.Prelude.{◌≡◌, ◌++◌, IfErr, OnOk, IfOk, Some, slice_get, [], ◌∷◌};
 ghost use Rattle.ac_claims.specs.ProofFaults.{is_output_array};
-ghost use Rattle.ac_paths.specs.Places.{extent_rows};
-ghost use Rattle.ac_flow.specs.Cases.{seen, CanRead};
+ghost use Rattle.ac_claims_paths.specs.ModelPositions.{extent_rows};
+ghost use Rattle.ac_flow.specs.FlowCases.{seen, CanRead};
 ghost use Rattle.ac_flow.specs.Writings.{over};
 ghost use Rattle.ac_flow.specs.Flows.{CasesAreSources};
 ghost use Rattle.ac_flow.specs.Readers.{IsLowered, read_at, reads_from, reads_of_all, elements_of, output_at, outputs_from, Grows, StopsAt, StopsAmong, IsContextOverflow, IsUnbounded, IsOver, AreFlows, readers};
@@ -11,8 +11,8 @@ use crate::cases::Reader;
 use crate::cutting::push_rows;
 use crate::reading::read_flow;
 use crate::types::{Flow, FlowStop, Limits, ReadFlow};
+use ac_base::Items;
 use ac_forms::{Conj, Form, FormStop, Row};
-use ac_items::Items;
 use ac_poly::element_rows;
 use ac_poly::types::{Model, NodeModel, StmtModel};
 use ac_syntax::tree::{Kind, Position};

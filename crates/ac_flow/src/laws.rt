@@ -1,5 +1,5 @@
 //! What the rows of writings say, in words: each function here does nothing, and its contract is a fact about all programs.
-ghost use Rattle.ac_flow.specs.Replaying.{KillsAreReplayed};
+ghost use Rattle.ac_flow.specs.KillReplay.{KillsAreReplayed};
 ghost use Rattle.ac_flow.specs.Sources.{NoCopyIsTheSource, TheSourceHasRows};
 
 /// Where the rows of a writing hold, its instance is the source of the read or output exactly where no copy of the cell has a

@@ -1,11 +1,11 @@
 //! The cases of one read or output.
 ghost use Rattle.std.specs.Prelude.{◌≡◌, ◌≤◌, ◌++◌, ◌-◌, length, None, OnOk, IfOk, IfErr};
 ghost use Rattle.std.specs.List.{flat_map};
-ghost use Rattle.ac_flow.specs.Cases.{seen, CanRead, AreCases, conjs_of};
-ghost use Rattle.ac_flow.specs.Keeping.{AreTooMany};
+ghost use Rattle.ac_flow.specs.FlowCases.{seen, CanRead, AreCases, conjs_of};
+ghost use Rattle.ac_flow.specs.CaseOverflow.{AreTooMany};
 ghost use Rattle.ac_flow.specs.Readers.{flow_stop_of, IsFlowOf, StopsAt};
-ghost use Rattle.ac_flow.specs.Stopping.{UnlessMemory, ReadStops};
-ghost use Rattle.ac_flow.specs.Stops.{plain, IfFilled};
+ghost use Rattle.ac_flow.specs.FlowStops.{UnlessMemory, ReadStops};
+ghost use Rattle.ac_flow.specs.CaseStops.{plain, IfFilled};
 ghost use Rattle.ac_flow.specs.Writings.{writings};
 
 use crate::cases::Reader;
@@ -14,8 +14,8 @@ use crate::cutting::{push_conjs, push_group};
 use crate::stop::CaseStop;
 use crate::types::{Case, FlowStop, ReadFlow};
 use crate::writings::writings;
+use ac_base::Items;
 use ac_forms::Conj;
-use ac_items::Items;
 use ac_poly::types::Model;
 use ac_syntax::tree::Position;
 use std::alloc::{AllocError, Global};

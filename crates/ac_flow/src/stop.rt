@@ -1,5 +1,5 @@
+use ac_base::Items;
 use ac_forms::Conj;
-use ac_items::Items;
 use std::alloc::AllocError;
 
 /// Why the cases of a read or an output stop.

@@ -1,6 +1,6 @@
+use ac_base::Items;
 use ac_claims::types::Kill;
 use ac_forms::Conj;
-use ac_items::Items;
 use ac_syntax::tree::Position;
 use std::alloc::AllocError;
 

@@ -1,13 +1,13 @@
 //! The assignments that write the cell of a read or an output before it.
 ghost use Rattle.std.specs.Prelude.{◌≡◌, ◌++◌, ◌<◌, map, length, OnOk, IfOk, Some, slice_get};
 ghost use Rattle.std.specs.List.{flat_map};
-ghost use Rattle.ac_paths.specs.Killing.{assignment_at};
+ghost use Rattle.ac_claims_paths.specs.CopyKills.{assignment_at};
 ghost use Rattle.ac_flow.specs.Writings.{afters, levels_after, numbers_to, writing, writings_at, writings};
 
+use ac_base::Items;
+use ac_claims_paths::path::{CopyNumbers, Seat};
+use ac_claims_paths::places::levels_to;
 use ac_forms::Row;
-use ac_items::Items;
-use ac_paths::path::{CopyNumbers, Seat};
-use ac_paths::places::levels_to;
 use ac_poly::types::{Model, StmtModel};
 use ac_syntax::tree::Position;
 use std::alloc::{AllocError, Global};

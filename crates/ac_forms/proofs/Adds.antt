@@ -1,7 +1,7 @@
 -- The sum of two forms as a combination with factors 1.
 use Rattle.std.proofs.Common.{◌≡◌, ◌↔◌, ℕ, zero, suc, ◌<◌, ℤ, pos, ◌*ℤ◌, List, [], ◌∷◌, length, get_or, take, ◌+◌, add-one, arith, refl}
 use Rattle.std.proofs.lemmas.Int.{ints}
-use Rattle.ac_integers.specs.Dot.{mix}
+use Rattle.ac_base.specs.Dot.{mix}
 use Rattle.ac_forms.specs.Fits.{Fits, AllFit}
 use Rattle.ac_forms.specs.Affine.{Affine, mix_numbers, combined, CanCombine, plus, added, FormFits}
 

@@ -6,20 +6,20 @@ use Rattle.std.proofs.lemmas.Int.{ints, unsigned_abs-mul}
 use Rattle.std.proofs.lemmas.Nat.Gcd.{IsGcd-from_zero, le_of_dvd}
 use Rattle.std.proofs.Math.Nat.{mul-div_cancel', pos_of_dvd_of_pos, dvd_of_mul-dvd-mul_left, mul-dvd-mul_left, mod-eq_of_lt, div-lt_iff_lt-mul}
 use borrow.Author.Tests.{eqb-false}
-use Rattle.ac_integers.specs.Dot.{floored, residues}
-use Rattle.ac_integers.specs.Gcd.{gcd, gcd_all, content, DividesEach}
-use Rattle.ac_integers.specs.Multiple.{divides}
-use Rattle.ac_integers.proofs.Divisors.{gcd_is, gcd_all_divides, divides_gcd_all, true-divides}
-use Rattle.ac_integers.proofs.Floor.{floor_exact, positive_is}
-use Rattle.ac_integers.proofs.Multiples.{multiple_from}
-use Rattle.ac_integers.proofs.Residues.{class_of}
+use Rattle.ac_base.specs.Dot.{floored, residues}
+use Rattle.ac_base.specs.Gcd.{gcd, gcd_all, content, DividesEach}
+use Rattle.ac_base.specs.Multiple.{divides}
+use Rattle.ac_base.proofs.Divisors.{gcd_is, gcd_all_divides, divides_gcd_all, true-divides}
+use Rattle.ac_base.proofs.Floor.{floor_exact, positive_is}
+use Rattle.ac_base.proofs.Multiples.{multiple_from}
+use Rattle.ac_base.proofs.Residues.{class_of}
 use Rattle.ac_forms.specs.Affine.{Affine, scaled}
 use Rattle.ac_forms.specs.Fits.{Fits, AllFit}
-use Rattle.ac_forms.specs.Columns.{IsTrimmed}
+use Rattle.ac_forms.specs.RowColumns.{IsTrimmed}
 use Rattle.ac_forms.specs.NormalRows.{trim, trim_onto, divided, reduced, leads_negative, signed, normal_eq, normal_div, normal_ge, normal_row, modular_content, absolutes, sign_numbers, eq_numbers, NormalFits}
 use Rattle.ac_forms.specs.NormalForm.{normal_form}
 use Rattle.ac_forms.specs.Rows.{HasModulus, HaveModuli}
-use Rattle.ac_forms.specs.Members.{IsAmong}
+use Rattle.ac_forms.specs.ListMembers.{IsAmong}
 use Rattle.ac_forms.specs.Traces.{IsLeftOf, HasAbsurd, HasClash}
 use Rattle.ac_forms.specs.declared.normal.NormalRow.TheVariants.{Kept, Dropped, Absurd}
 use Rattle.ac_forms.specs.declared.row.Row.{Row}

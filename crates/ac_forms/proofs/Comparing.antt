@@ -4,7 +4,7 @@ use Rattle.std.proofs.lemmas.List.{length-drop, get_or-drop, drop-drop, drop_all
 use Rattle.std.specs.declared.cmp.Ordering.{Ordering}
 use Rattle.std.specs.declared.cmp.Ordering.TheVariants.{Less, Equal, Greater}
 use Rattle.std.specs.Ordering.{ordering_then, ordering_index}
-use Rattle.ac_forms.specs.Orders.{columns_cmp}
+use Rattle.ac_forms.specs.FormOrder.{columns_cmp}
 
 compare_head : (a b : List ℤ) → 0 < max (length a) (length b) → columns_cmp a b ≡ ordering_then (int_cmp (get_or a 0 (pos 0)) (get_or b 0 (pos 0))) (columns_cmp (drop 1 a) (drop 1 b))
 compare_head [] [] h = absurd (omega arith)

@@ -1,11 +1,11 @@
 -- What a division by 0 or 1 gives.
 use Rattle.std.proofs.Common.{◌≡◌, ℕ, ℤ, pos, negsuc, List, [], ◌∷◌, refl, ap, sym, ◌∙◌, to_z, of_z}
 use Rattle.std.specs.Int.{int_div_euclid, w128}
-use Rattle.ac_integers.proofs.Bits.{again_128}
+use Rattle.ac_base.proofs.Bits.{again_128}
 use Rattle.ac_forms.specs.Fits.{Fits}
-use Rattle.ac_integers.specs.Dot.{floored}
-use Rattle.ac_integers.specs.Gcd.{gcd}
-use Rattle.ac_integers.proofs.Divisors.{gcd_is}
+use Rattle.ac_base.specs.Dot.{floored}
+use Rattle.ac_base.specs.Gcd.{gcd}
+use Rattle.ac_base.proofs.Divisors.{gcd_is}
 use Rattle.std.proofs.lemmas.Nat.Gcd.{IsGcd-from_zero, dvd-zero, dvd_refl}
 use Rattle.std.proofs.Math.Nat.{one-dvd, div-one}
 use Rattle.ac_forms.specs.Affine.{Affine}

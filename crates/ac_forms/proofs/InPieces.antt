@@ -1,6 +1,6 @@
 -- Points in one of some pieces.
 use Rattle.std.proofs.Common.{◌≡◌, ◌↔◌, ◌⊎◌, inl, inr, ℕ, zero, suc, ℤ, List, [], ◌∷◌, ◌++◌, Some, slice_get, subst}
-use Rattle.ac_forms.specs.Pieces.{IsInSome, IsInNone}
+use Rattle.ac_forms.specs.PieceMembership.{IsInSome, IsInNone}
 
 pub some-append : {A : Type 0} (Has : A → List ℤ → Type 0) (xs ys : List A) (p : List ℤ) → IsInSome Has (xs ++ ys) p ↔ (IsInSome Has xs p ⊎ IsInSome Has ys p)
 some-append Has [] ys p = ((λ h. inr h), (λ h. elim h [ inl a ↦ absurd a | inr b ↦ b ]))

@@ -8,13 +8,13 @@ use Rattle.std.specs.declared.cmp.Ordering.TheVariants.{Less, Equal, Greater}
 use Rattle.std.specs.Ordering.{is_gt, ordering_then, nat_cmp}
 use Rattle.std.specs.Cmp.Lexicographic.{pointwise, pointwise_decides}
 use Rattle.std.proofs.lemmas.Cmp.{tied_itself, lists_equiv, int_eq_equiv}
-use Rattle.ac_integers.specs.Dot.{dot}
+use Rattle.ac_base.specs.Dot.{dot}
 use Rattle.ac_forms.specs.Affine.{Affine, value_at}
 use Rattle.ac_forms.specs.NormalForm.{absurd_rows, left_onto, left_rows, is_absurd, has_absurd, in_order, same_coefs, alike, clash, clash_after, has_clash, joined, normal_form}
 use Rattle.ac_forms.specs.NormalRows.{normal_row, LeftHolds}
-use Rattle.ac_forms.specs.Orders.{columns_cmp, form_cmp, form_eq, row_cmp}
+use Rattle.ac_forms.specs.FormOrder.{columns_cmp, form_cmp, form_eq, row_cmp}
 use Rattle.ac_forms.specs.Rows.{Holds, Meets, HasModulus, AreRowsOver, IsRowOver}
-use Rattle.ac_forms.specs.Stops.{MadeIff}
+use Rattle.ac_forms.specs.FormStops.{MadeIff}
 use Rattle.ac_forms.specs.Ties.{columns_total}
 use Rattle.ac_forms.specs.declared.stop.FormStop.{FormStop}
 use Rattle.ac_forms.specs.declared.conj.Conj.{Conj}

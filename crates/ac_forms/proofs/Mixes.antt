@@ -2,11 +2,11 @@
 use Rattle.std.proofs.Common.{lit<, ◌≡◌, ℕ, ◌+◌, ◌<◌, ◌≤◌, max, ℤ, pos, ◌+ℤ◌, ◌*ℤ◌, List, [], ◌∷◌, ◌++◌, length, drop, get_or, arith, ◌∙◌, sym, ap, refl, to_z, of_z, append_assoc, add-zero, append-nil}
 use Rattle.std.proofs.lemmas.List.{length-drop, get_or-drop, drop-drop, drop_all}
 use Rattle.std.proofs.lemmas.Int.{ints}
-use Rattle.ac_integers.specs.Dot.{mix}
+use Rattle.ac_base.specs.Dot.{mix}
 use Rattle.ac_forms.specs.Fits.{Fits, AllFit}
 use Rattle.ac_forms.specs.Affine.{mix_numbers, MixFits}
 use Rattle.std.specs.Int.{w128}
-use Rattle.ac_integers.proofs.Bits.{again_128}
+use Rattle.ac_base.proofs.Bits.{again_128}
 
 Fits_0 : Fits (pos 0)
 Fits_0 = record { sfits = lit< tt }

@@ -6,18 +6,18 @@ use Rattle.std.specs.Int.{int_div_euclid, int_rem_euclid}
 use Rattle.std.proofs.lemmas.Int.{ints, by_lt_z}
 use Rattle.std.proofs.lemmas.List.{length-append, length-replicate, length-map}
 use Rattle.std.proofs.Math.Logic.{∥∥₁_elim}
-use Rattle.ac_integers.specs.Dot.{dot}
-use Rattle.ac_integers.specs.Multiple.{IsMultiple}
-use Rattle.ac_integers.proofs.Dot.{dot-append, dot-append_both, dot-nil}
-use Rattle.ac_integers.proofs.Floor.{positive_is}
-use Rattle.ac_integers.proofs.Multiples.{multiple_from, multiple_is}
-use Rattle.ac_integers.proofs.Products.{mul-le-mul_ℤ, mul-add_ℤ, neg-mul_ℤ}
-use Rattle.ac_integers.proofs.Residues.{split_mod, class_of}
+use Rattle.ac_base.specs.Dot.{dot}
+use Rattle.ac_base.specs.Multiple.{IsMultiple}
+use Rattle.ac_base.proofs.Dot.{dot-append, dot-append_both, dot-nil}
+use Rattle.ac_base.proofs.Floor.{positive_is}
+use Rattle.ac_base.proofs.Multiples.{multiple_from, multiple_is}
+use Rattle.ac_base.proofs.Products.{mul-le-mul_ℤ, mul-add_ℤ, neg-mul_ℤ}
+use Rattle.ac_base.proofs.Residues.{split_mod, class_of}
 use Rattle.ac_forms.specs.Affine.{Affine, value_at, shifted, scaled}
 use Rattle.ac_forms.specs.Negation.{opposite, above, below, with_column, piece, negation, NegationFits, HasExtension}
-use Rattle.ac_forms.specs.Pieces.{IsInSome, IsInNone, IsInOneAtMost}
+use Rattle.ac_forms.specs.PieceMembership.{IsInSome, IsInNone, IsInOneAtMost}
 use Rattle.ac_forms.specs.Rows.{Holds, IsRowOver, Meets}
-use Rattle.ac_forms.specs.Stops.{MadeWhere}
+use Rattle.ac_forms.specs.FormStops.{MadeWhere}
 use Rattle.ac_forms.specs.declared.conj.Conj.{Conj}
 use Rattle.ac_forms.specs.declared.stop.FormStop.{FormStop}
 use Rattle.ac_forms.specs.declared.row.Row.{Row}

@@ -5,18 +5,18 @@ use Rattle.std.specs.Int.{◌∣◌, int_div_euclid, int_rem_euclid}
 use Rattle.std.proofs.lemmas.Int.{ints}
 use Rattle.std.proofs.Math.Nat.{eq-zero_of_zero-dvd, mul-div_cancel', pos_of_dvd_of_pos}
 use borrow.Author.Tests.{eqb-true, eqb-false}
-use Rattle.ac_integers.specs.Dot.{dot, floored, residues}
-use Rattle.ac_integers.specs.Gcd.{gcd_all, content, DividesEach}
-use Rattle.ac_integers.specs.Multiple.{IsMultiple, divides}
-use Rattle.ac_integers.proofs.Divisors.{gcd_all_divides, divides-true, divides-false, true-divides, false-divides}
-use Rattle.ac_integers.proofs.Multiples.{multiple_from}
-use Rattle.ac_integers.proofs.Floor.{cut_keeps, cut_back, positive_is}
-use Rattle.ac_integers.proofs.Residues.{eq_keeps, eq_absurd, div_keeps, div_absurd, mod_keeps, zero_factor}
+use Rattle.ac_base.specs.Dot.{dot, floored, residues}
+use Rattle.ac_base.specs.Gcd.{gcd_all, content, DividesEach}
+use Rattle.ac_base.specs.Multiple.{IsMultiple, divides}
+use Rattle.ac_base.proofs.Divisors.{gcd_all_divides, divides-true, divides-false, true-divides, false-divides}
+use Rattle.ac_base.proofs.Multiples.{multiple_from}
+use Rattle.ac_base.proofs.Floor.{cut_keeps, cut_back, positive_is}
+use Rattle.ac_base.proofs.Residues.{eq_keeps, eq_absurd, div_keeps, div_absurd, mod_keeps, zero_factor}
 use Rattle.ac_forms.specs.Fits.{AllFit, Fits}
 use Rattle.ac_forms.specs.Affine.{Affine, value_at, scaled, FormFits}
 use Rattle.ac_forms.specs.NormalRows.{trim, divided, reduced, leads_negative, signed, normal_eq, normal_div, normal_ge, normal_row, modular_content, absolutes, sign_numbers, eq_numbers, LeftHolds, NormalFits}
 use Rattle.ac_forms.specs.Rows.{Holds, HasModulus}
-use Rattle.ac_forms.specs.Stops.{MadeIff}
+use Rattle.ac_forms.specs.FormStops.{MadeIff}
 use Rattle.ac_forms.specs.declared.stop.FormStop.{FormStop}
 use Rattle.ac_forms.specs.declared.stop.FormStop.TheVariants.{Wide, Memory}
 use Rattle.ac_forms.specs.declared.row.Row.{Row}

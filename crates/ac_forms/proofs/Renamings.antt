@@ -3,15 +3,15 @@ use Rattle.std.proofs.Common.{◌≡◌, ◌↔◌, ℕ, zero, suc, ◌+◌, ◌
 use Rattle.std.specs.Prelude.{IfOk}
 use Rattle.std.proofs.lemmas.Int.{ints}
 use Rattle.std.proofs.lemmas.List.{drop_more, drop_all}
-use Rattle.ac_integers.specs.Dot.{dot}
-use Rattle.ac_integers.specs.Multiple.{IsMultiple}
-use Rattle.ac_integers.proofs.Dot.{dot-nil}
-use Rattle.ac_integers.proofs.Products.{add-mul_ℤ}
+use Rattle.ac_base.specs.Dot.{dot}
+use Rattle.ac_base.specs.Multiple.{IsMultiple}
+use Rattle.ac_base.proofs.Dot.{dot-nil}
+use Rattle.ac_base.proofs.Products.{add-mul_ℤ}
 use Rattle.ac_forms.specs.Affine.{Affine, value_at}
 use Rattle.ac_forms.specs.Fits.{Fits}
 use Rattle.ac_forms.specs.Rows.{form_of, Holds, Meets, HasModulus, HaveModuli, IsRowOver, AreRowsOver}
 use Rattle.ac_forms.specs.Renaming.{add_at, renamed_coefs, renamed, renamed_row, picked, AreColumns, SumsFit, CanRename, CanRenameAll}
-use Rattle.ac_forms.specs.Stops.{MadeIff}
+use Rattle.ac_forms.specs.FormStops.{MadeIff}
 use Rattle.ac_forms.specs.declared.stop.FormStop.{FormStop}
 use Rattle.ac_forms.specs.declared.row.Row.{Row}
 use Rattle.ac_forms.specs.declared.row.Row.TheVariants.{Eq, Div, Ge}

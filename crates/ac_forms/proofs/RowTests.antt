@@ -2,7 +2,7 @@ use Rattle.std.proofs.Common.{◌≡◌, ℕ, zero, suc, ◌+◌, ◌<◌, ◌�
 use Rattle.std.proofs.lemmas.List.{drop_more, drop_all}
 use Rattle.std.specs.Int.{◌∣◌, w128}
 use Rattle.std.specs.Prelude.{unsigned_abs, IsTrue, ◌↔◌}
-use Rattle.ac_integers.proofs.Bits.{again_128}
+use Rattle.ac_base.proofs.Bits.{again_128}
 use Rattle.ac_forms.specs.declared.row.Row.TheVariants.{Div}
 use Rattle.ac_forms.specs.Affine.{CanEvaluate, Affine, value_at}
 use Rattle.ac_forms.specs.Fits.{Fits}

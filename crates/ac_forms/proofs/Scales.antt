@@ -1,10 +1,10 @@
 -- A multiple of a form as a combination with the zero form.
 use Rattle.std.proofs.Common.{◌≡◌, ◌↔◌, ℤ, pos, ◌+ℤ◌, ◌*ℤ◌, List, [], ◌∷◌, map, arith, refl, ap, Result, Ok, Err, lit<, ◌∙◌}
 use Rattle.std.proofs.lemmas.Int.{ints}
-use Rattle.ac_integers.specs.Dot.{mix}
+use Rattle.ac_base.specs.Dot.{mix}
 use Rattle.ac_forms.specs.Fits.{AllFit}
 use Rattle.ac_forms.specs.Affine.{Affine, mix_numbers, combined, CanCombine, scaled, FormFits}
-use Rattle.ac_forms.specs.Stops.{MadeIff}
+use Rattle.ac_forms.specs.FormStops.{MadeIff}
 use Rattle.ac_forms.specs.declared.stop.FormStop.{FormStop}
 use Rattle.ac_forms.specs.declared.stop.FormStop.TheVariants.{Wide, Memory}
 

@@ -2,10 +2,10 @@
 use Rattle.std.proofs.Common.{◌≡◌, ◌↔◌, ℕ, ◌==◌, ◌<◌, Bool, true, false, cond, ℤ, pos, negsuc, ◌*ℤ◌, ◌≤ℤ◌, List, [], ◌∷◌, ◌++◌, map, arith, refl, sym, ap, ◌∙◌, unsigned_abs, int_eq, IsTrue, to_z, of_z}
 use Rattle.std.proofs.lemmas.Int.{ints}
 use Rattle.std.specs.Int.{int_div_euclid, int_rem_euclid, ◌∣◌, w128}
-use Rattle.ac_integers.specs.Gcd.{content, gcd_all}
-use Rattle.ac_integers.specs.Multiple.{IsMultiple, divides}
-use Rattle.ac_integers.proofs.Bits.{again_128}
-use Rattle.ac_integers.proofs.Divisors.{divides-true, true-divides}
+use Rattle.ac_base.specs.Gcd.{content, gcd_all}
+use Rattle.ac_base.specs.Multiple.{IsMultiple, divides}
+use Rattle.ac_base.proofs.Bits.{again_128}
+use Rattle.ac_base.proofs.Divisors.{divides-true, true-divides}
 use Rattle.ac_forms.specs.Fits.{AllFit, Fits}
 use Rattle.ac_forms.specs.Affine.{Affine, scaled, FormFits}
 use Rattle.ac_forms.specs.NormalRows.{divided, reduced, leads_negative, signed, normal_div, modular_content, sign_numbers}

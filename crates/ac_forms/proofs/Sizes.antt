@@ -5,10 +5,10 @@ use Rattle.std.proofs.lemmas.Nat.Gcd.{le_of_dvd}
 use Rattle.std.proofs.Math.Nat.{pos_of_dvd_of_pos}
 use Rattle.std.proofs.lemmas.List.{drop_more, drop_all}
 use Rattle.std.specs.Int.{w128}
-use Rattle.ac_integers.proofs.Bits.{again_128}
-use Rattle.ac_integers.proofs.Contents.{gcd_lt}
-use Rattle.ac_integers.proofs.Divisors.{gcd_all_divides}
-use Rattle.ac_integers.specs.Gcd.{gcd, gcd_all}
+use Rattle.ac_base.proofs.Bits.{again_128}
+use Rattle.ac_base.proofs.Contents.{gcd_lt}
+use Rattle.ac_base.proofs.Divisors.{gcd_all_divides}
+use Rattle.ac_base.specs.Gcd.{gcd, gcd_all}
 use Rattle.ac_forms.specs.Fits.{Fits, AllFit}
 use Rattle.ac_forms.specs.NormalRows.{absolutes}
 

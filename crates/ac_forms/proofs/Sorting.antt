@@ -10,7 +10,7 @@ use Rattle.std.specs.Ordering.{is_gt, is_lt, is_eq, ordering_then, ordering_reve
 use Rattle.std.proofs.lemmas.Cmp.{upto as gt_along, tied_itself, alike_right}
 use Rattle.ac_forms.specs.Affine.{Affine}
 use Rattle.ac_forms.specs.NormalForm.{insert_row, in_order}
-use Rattle.ac_forms.specs.Orders.{columns_cmp, form_cmp, row_cmp, kind_of, modulus_of}
+use Rattle.ac_forms.specs.FormOrder.{columns_cmp, form_cmp, row_cmp, kind_of, modulus_of}
 use Rattle.ac_forms.specs.Rows.{form_of, Holds, Meets}
 use Rattle.ac_forms.specs.Ties.{row_total, int_tied, then_tied}
 use Rattle.ac_forms.specs.declared.row.Row.{Row}

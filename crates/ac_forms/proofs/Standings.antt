@@ -9,10 +9,10 @@ use Rattle.std.proofs.lemmas.Bool.Decides.{Decides-int_eq, Decides-eqb}
 use Rattle.ac_forms.specs.Affine.{Affine}
 use Rattle.ac_forms.specs.NormalForm.{is_absurd}
 use Rattle.ac_forms.specs.NormalRows.{normal_row, NormalFits, LeftHolds}
-use Rattle.ac_forms.specs.Orders.{row_eq, form_eq, kind_of, modulus_of}
+use Rattle.ac_forms.specs.FormOrder.{row_eq, form_eq, kind_of, modulus_of}
 use Rattle.ac_forms.specs.Rows.{form_of, Holds, Meets, HasModulus, HaveModuli}
 use Rattle.ac_forms.specs.Standing.{is_among, normal_of, kept_onto, kept_rows, is_left_among, stands_among, stands, all_stand_among, all_stand}
-use Rattle.ac_forms.specs.Tests.{normal_fits}
+use Rattle.ac_forms.specs.RangeTests.{normal_fits}
 use Rattle.ac_forms.specs.Ties.{row_equiv}
 use Rattle.ac_forms.specs.declared.normal.NormalRow.{NormalRow}
 use Rattle.ac_forms.specs.declared.normal.NormalRow.TheVariants.{Kept, Dropped, Absurd}

@@ -1,5 +1,5 @@
 -- Stops of calls inside calls.
-use Rattle.ac_forms.specs.Stops.{IfWide}
+use Rattle.ac_forms.specs.FormStops.{IfWide}
 use Rattle.ac_forms.specs.declared.stop.FormStop.{FormStop}
 use Rattle.ac_forms.specs.declared.stop.FormStop.TheVariants.{Wide, Memory}
 

@@ -4,8 +4,8 @@ use Rattle.std.specs.List.{dedup, dedup_from}
 use Rattle.std.specs.Ordering.{is_gt}
 use Rattle.ac_forms.specs.NormalForm.{absurd_rows, left_onto, left_rows, is_absurd, has_absurd, insert_row, in_order, alike, clash, clash_after, has_clash, joined, normal_form}
 use Rattle.ac_forms.specs.NormalRows.{normal_row}
-use Rattle.ac_forms.specs.Orders.{row_cmp}
-use Rattle.ac_forms.specs.Members.{IsAmong}
+use Rattle.ac_forms.specs.FormOrder.{row_cmp}
+use Rattle.ac_forms.specs.ListMembers.{IsAmong}
 use Rattle.ac_forms.specs.Traces.{IsLeftOf, HasAbsurd, HasClash}
 use Rattle.ac_forms.specs.declared.row.Row.{Row}
 use Rattle.ac_forms.specs.declared.normal.NormalRow.{NormalRow}

@@ -5,14 +5,14 @@ use Rattle.std.specs.List.{dedup, dedup_from}
 use Rattle.std.specs.Ordering.{int_eq, is_gt}
 use Rattle.std.specs.Int.{int_div_euclid, int_rem_euclid}
 use Rattle.std.proofs.lemmas.Int.{ints}
-use Rattle.ac_integers.specs.Dot.{floored}
-use Rattle.ac_integers.specs.Gcd.{content}
-use Rattle.ac_integers.specs.Multiple.{divides}
+use Rattle.ac_base.specs.Dot.{floored}
+use Rattle.ac_base.specs.Gcd.{content}
+use Rattle.ac_base.specs.Multiple.{divides}
 use Rattle.ac_forms.specs.Affine.{Affine, scaled}
-use Rattle.ac_forms.specs.Columns.{has_column, is_present, IsTrimmed, AreTrimmed}
+use Rattle.ac_forms.specs.RowColumns.{has_column, is_present, IsTrimmed, AreTrimmed}
 use Rattle.ac_forms.specs.NormalForm.{absurd_rows, left_onto, left_rows, has_absurd, insert_row, in_order, alike, has_clash, joined, normal_form}
 use Rattle.ac_forms.specs.NormalRows.{trim, trim_onto, divided, reduced, leads_negative, signed, normal_row, modular_content}
-use Rattle.ac_forms.specs.Orders.{row_cmp}
+use Rattle.ac_forms.specs.FormOrder.{row_cmp}
 use Rattle.ac_forms.specs.Rows.{form_of, IsRowOver, AreRowsOver}
 use Rattle.ac_forms.specs.declared.normal.NormalRow.{NormalRow}
 use Rattle.ac_forms.specs.declared.normal.NormalRow.TheVariants.{Kept, Dropped, Absurd}

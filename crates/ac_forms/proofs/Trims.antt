@@ -1,8 +1,8 @@
 -- A list without the zeros at its end.
 use Rattle.std.proofs.Common.{◌≡◌, ℕ, zero, suc, ◌+◌, ◌<◌, ◌≤◌, ℤ, pos, ◌+ℤ◌, ◌*ℤ◌, List, [], ◌∷◌, ◌++◌, length, take, get_or, arith, refl, ap, sym, ◌∙◌, Bool, true, false, cond, int_eq, add-one}
 use Rattle.std.proofs.lemmas.Int.{ints}
-use Rattle.ac_integers.specs.Dot.{dot}
-use Rattle.ac_integers.proofs.Dot.{dot-nil}
+use Rattle.ac_base.specs.Dot.{dot}
+use Rattle.ac_base.proofs.Dot.{dot-nil}
 use Rattle.ac_forms.specs.NormalRows.{trim, trim_onto}
 
 zero_test : (c : ℤ) → int_eq c (pos 0) ≡ true → c ≡ pos 0

@@ -6,7 +6,7 @@ use Rattle.ac_forms.specs.Affine.{Affine, value_at, partial_sums, mix_numbers, F
 use Rattle.ac_forms.specs.Fits.{Fits, AllFit, fits, all_fit}
 use Rattle.ac_forms.specs.NormalForm.{RowsFit}
 use Rattle.ac_forms.specs.NormalRows.{absolutes, eq_numbers, NormalFits}
-use Rattle.ac_forms.specs.Tests.{form_fits, can_evaluate, can_combine, normal_fits, rows_fit}
+use Rattle.ac_forms.specs.RangeTests.{form_fits, can_evaluate, can_combine, normal_fits, rows_fit}
 use Rattle.ac_forms.specs.declared.row.Row.{Row}
 use Rattle.ac_forms.specs.declared.row.Row.TheVariants.{Eq, Div, Ge}
 

@@ -1,9 +1,9 @@
 -- The value of sums and multiples of forms.
 use Rattle.std.proofs.Common.{◌≡◌, ◌≤◌, ℕ, ℤ, pos, ◌+ℤ◌, ◌*ℤ◌, List, [], ◌∷◌, ◌++◌, map, length, replicate, refl, ap, sym, ◌∙◌, arith, zero, suc, ◌+◌, ◌-◌, ◌<◌, get_or}
 use Rattle.std.proofs.lemmas.Int.{ints}
-use Rattle.ac_integers.specs.Dot.{dot, mix}
-use Rattle.ac_integers.proofs.Products.{mul-add_ℤ, mul_assoc_ℤ, add-mul_ℤ}
-use Rattle.ac_integers.proofs.Dot.{gather, dot-mix, dot-append, dot-nil}
+use Rattle.ac_base.specs.Dot.{dot, mix}
+use Rattle.ac_base.proofs.Products.{mul-add_ℤ, mul_assoc_ℤ, add-mul_ℤ}
+use Rattle.ac_base.proofs.Dot.{gather, dot-mix, dot-append, dot-nil}
 use Rattle.ac_forms.specs.Affine.{Affine, value_at, scaled, added, combined, plus, shifted, constant_form, column_form}
 
 -- the numbers of a list, each k times

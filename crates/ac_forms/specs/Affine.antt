@@ -1,6 +1,6 @@
 -- Affine forms over integer columns: what a form is worth at a point, sums and multiples, and the numbers that a computation forms.
 use Rattle.std.specs.Prelude.{ℤ, pos, negsuc, ◌+ℤ◌, ◌*ℤ◌, ℕ, ◌+◌, ◌-◌, List, [], ◌∷◌, ◌++◌, map, replicate, slice_index_or}
-use Rattle.ac_integers.specs.Dot.{dot, mix}
+use Rattle.ac_base.specs.Dot.{dot, mix}
 use Rattle.ac_forms.specs.Fits.{Fits, AllFit}
 
 -- a constant plus a sum of columns, each times its coefficient; a missing coefficient is 0

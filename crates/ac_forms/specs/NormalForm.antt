@@ -5,7 +5,7 @@ use Rattle.std.specs.Ordering.{int_eq, is_gt}
 use Rattle.std.specs.Cmp.Lexicographic.{pointwise}
 use Rattle.ac_forms.specs.Affine.{Affine}
 use Rattle.ac_forms.specs.NormalRows.{normal_row, NormalFits}
-use Rattle.ac_forms.specs.Orders.{form_eq, row_cmp}
+use Rattle.ac_forms.specs.FormOrder.{form_eq, row_cmp}
 use Rattle.ac_forms.specs.Rows.{Holds, Meets}
 use Rattle.ac_forms.specs.declared.conj.Conj.{Conj}
 use Rattle.ac_forms.specs.declared.row.Row.{Row}

@@ -3,9 +3,9 @@ use Rattle.std.specs.Prelude.{ℕ, ◌==◌, ℤ, pos, negsuc, List, [], ◌∷�
 use Rattle.std.specs.Ordering.{int_eq}
 use Rattle.std.specs.Int.Signed.{lt_z}
 use Rattle.std.specs.Int.{int_div_euclid, int_rem_euclid}
-use Rattle.ac_integers.specs.Dot.{floored, residues}
-use Rattle.ac_integers.specs.Gcd.{gcd_all, content}
-use Rattle.ac_integers.specs.Multiple.{divides}
+use Rattle.ac_base.specs.Dot.{floored, residues}
+use Rattle.ac_base.specs.Gcd.{gcd_all, content}
+use Rattle.ac_base.specs.Multiple.{divides}
 use Rattle.ac_forms.specs.Fits.{AllFit}
 use Rattle.ac_forms.specs.Affine.{Affine, scaled}
 use Rattle.ac_forms.specs.Rows.{Holds}

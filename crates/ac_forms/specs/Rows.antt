@@ -1,6 +1,6 @@
 -- Rows and conjunctions of rows: which points meet them.
 use Rattle.std.specs.Prelude.{◌≡◌, ℕ, ◌≤◌, ℤ, pos, ◌≤ℤ◌, List, [], ◌∷◌, length}
-use Rattle.ac_integers.specs.Multiple.{IsMultiple}
+use Rattle.ac_base.specs.Multiple.{IsMultiple}
 use Rattle.ac_forms.specs.Affine.{Affine, value_at, CanEvaluate}
 use Rattle.ac_forms.specs.declared.row.Row.{Row}
 use Rattle.ac_forms.specs.declared.row.Row.TheVariants.{Eq, Div, Ge}

@@ -1,8 +1,8 @@
 -- When a row stands among rows: where its normal form says nothing, or is that of one of them.
 use Rattle.std.specs.Prelude.{Bool, true, false, ◌&&◌, ◌||◌, List, [], ◌∷◌, Option, Some, None, cond}
 use Rattle.ac_forms.specs.NormalRows.{normal_row}
-use Rattle.ac_forms.specs.Orders.{row_eq}
-use Rattle.ac_forms.specs.Tests.{normal_fits}
+use Rattle.ac_forms.specs.FormOrder.{row_eq}
+use Rattle.ac_forms.specs.RangeTests.{normal_fits}
 use Rattle.ac_forms.specs.declared.normal.NormalRow.{NormalRow}
 use Rattle.ac_forms.specs.declared.normal.NormalRow.TheVariants.{Kept, Dropped, Absurd}
 use Rattle.ac_forms.specs.declared.row.Row.{Row}

@@ -8,7 +8,7 @@ use Rattle.std.specs.Ordering.{eq_by_cmp, then_cmp, on, eq_of_both, ordering_the
 use Rattle.std.proofs.lemmas.Int.{ints}
 use Rattle.std.proofs.lemmas.Cmp.{int_cmp_total, nat_cmp_total, on_total, then_total, on_equiv, and_equiv, lists_equiv, int_eq_equiv, nat_eq_equiv, tied_itself, int_ranked}
 use Rattle.ac_forms.specs.Affine.{Affine}
-use Rattle.ac_forms.specs.Orders.{columns_cmp, form_cmp, form_eq, kind_of, modulus_of, row_cmp, row_eq}
+use Rattle.ac_forms.specs.FormOrder.{columns_cmp, form_cmp, form_eq, kind_of, modulus_of, row_cmp, row_eq}
 use Rattle.ac_forms.specs.Rows.{form_of}
 use Rattle.ac_forms.specs.declared.row.Row.{Row}
 

@@ -1,12 +1,12 @@
 ghost use Rattle.std.specs.Prelude.{◌≡◌, ◌↔◌, MatchResult, IsTrue, IfOk, length, ℤ, List};
 ghost use Rattle.ac_forms.specs.NormalForm.{RowsFit, normal_conj};
-ghost use Rattle.ac_forms.specs.Stops.{MadeIff};
+ghost use Rattle.ac_forms.specs.FormStops.{MadeIff};
 ghost use Rattle.ac_forms.specs.Rows.{Meets, CanTest, IsWellMade};
 
 use crate::join::normal_rows;
 use crate::row::Row;
 use crate::stop::{FormStop, Wide};
-use ac_items::Items;
+use ac_base::Items;
 use std::alloc::{AllocError, Global};
 
 /// A conjunction: rows over that many columns that all hold.

@@ -2,7 +2,7 @@ ghost use Rattle.std.specs.Prelude.{◌≡◌, ◌<◌, ◌≤◌, ◌+◌, ◌-
 ghost use Rattle.ac_forms.specs.Affine.{Affine, value_at, coef, constant_form, column_form, added, scaled, combined, shifted, FormFits, CanEvaluate, CanCombine, CanAddTimes, MixFits};
 ghost use Rattle.ac_forms.specs.Fits.{Fits, AllFit};
 ghost use Rattle.ac_forms.specs.Negation.{opposite, with_column};
-ghost use Rattle.ac_forms.specs.Stops.{MadeIff};
+ghost use Rattle.ac_forms.specs.FormStops.{MadeIff};
 
 use crate::stop::{FormStop, Wide};
 use smallvec::SmallVec;
@@ -193,7 +193,7 @@ impl Form {
     }
 
     /// The form with another constant.
-    #[tactic(auto, using(ac_integers::proofs::Bits::again_128))]
+    #[tactic(auto, using(ac_base::proofs::Bits::again_128))]
     pub fn with_konst(self, konst: i128) -> Form
         ensures { result ≡ record { konst = konst; coefs = self.coefs } }
     {
@@ -204,7 +204,7 @@ impl Form {
     }
 
     /// The form with other numbers as its constant and as the coefficient of a column, where it keeps one.
-    #[tactic(auto, using(ac_integers::proofs::Bits::again_128))]
+    #[tactic(auto, using(ac_base::proofs::Bits::again_128))]
     pub fn with_numbers(
         &self,
         alloc: Global,
@@ -223,7 +223,7 @@ impl Form {
     }
 
     /// The form plus a number; `Wide` exactly where the constant leaves `i128`.
-    #[tactic(auto, using(ac_integers::proofs::Bits::again_128))]
+    #[tactic(auto, using(ac_base::proofs::Bits::again_128))]
     pub fn shift(&self, alloc: Global, c: i128) -> Result<Form, FormStop>
         ensures { MadeIff result (Fits (self.now.konst +ℤ c)) (shifted self.now c) }
     {
@@ -234,7 +234,7 @@ impl Form {
     }
 
     /// The form plus `k` times a further column, behind that many.
-    #[tactic(auto, using(ac_integers::proofs::Bits::again_128))]
+    #[tactic(auto, using(ac_base::proofs::Bits::again_128))]
     pub fn with_column(&self, alloc: Global, columns: usize, k: i128) -> Result<Form, AllocError>
         requires { length self.now.coefs ≤ columns }
         ensures { IfOk result (λ form. form ≡ with_column columns k self.now) }
@@ -259,7 +259,7 @@ impl Form {
 }
 
 /// Writes a number at a place, where the list has it.
-#[tactic(auto, using(ac_integers::proofs::Bits::again_128, crate::proofs::Settings::set_beyond))]
+#[tactic(auto, using(ac_base::proofs::Bits::again_128, crate::proofs::Settings::set_beyond))]
 pub fn set_number(numbers: &mut [i128], at: usize, number: &i128)
     ensures { numbers.new ≡ set numbers.old at number.now }
 {
@@ -280,7 +280,7 @@ pub fn coefficient(coefs: &[i128], column: usize) -> i128
 }
 
 /// `left * x + right * y`.
-#[tactic(auto, using(ac_integers::proofs::Bits::again_128))]
+#[tactic(auto, using(ac_base::proofs::Bits::again_128))]
 fn mixed(left: i128, x: i128, right: i128, y: i128) -> Result<i128, Wide>
     ensures { OkIff result (MixFits left x right y) (left *ℤ x +ℤ right *ℤ y) }
 {
@@ -293,7 +293,7 @@ fn mixed(left: i128, x: i128, right: i128, y: i128) -> Result<i128, Wide>
 }
 
 /// `x * y`, by a product in 64 bits where that serves.
-#[tactic(auto, using(ac_integers::proofs::Bits::again_128))]
+#[tactic(auto, using(ac_base::proofs::Bits::again_128))]
 fn product(x: i128, y: i128) -> Result<i128, Wide>
     ensures { OkIff result (Fits (x *ℤ y)) (x *ℤ y) }
 {
@@ -304,7 +304,7 @@ fn product(x: i128, y: i128) -> Result<i128, Wide>
 }
 
 /// `x * y`, where both numbers and the product have 64 bits.
-#[tactic(auto, using(ac_integers::proofs::Bits::again_128))]
+#[tactic(auto, using(ac_base::proofs::Bits::again_128))]
 fn short_product(x: i128, y: i128) -> Option<i128>
     ensures { IfSome result (λ short. short ≡ x *ℤ y) }
 {

@@ -3,7 +3,7 @@ ghost use Rattle.std.specs.List.{dedup};
 ghost use Rattle.ac_forms.specs.Fits.{AllFit};
 ghost use Rattle.ac_forms.specs.NormalForm.{RowsFit, absurd_rows, left_rows, has_absurd, in_order, joined, alike, clash, has_clash, normal_form};
 ghost use Rattle.ac_forms.specs.Rows.{HaveModuli};
-ghost use Rattle.ac_forms.specs.Stops.{MadeIff, MadeWhere};
+ghost use Rattle.ac_forms.specs.FormStops.{MadeIff, MadeWhere};
 ghost use Rattle.ac_forms.specs.declared.row.Row.{Row};
 
 use crate::form::Form;

@@ -2,14 +2,14 @@
 //! forms, rows or points.
 ghost use Rattle.std.specs.Prelude.{◌≡◌, ◌↔◌, ◌≤◌, ◌<◌, ℕ, ℤ, List, ◌++◌, ◌⊎◌, Option, Some, None, true, false, slice_get};
 ghost use Rattle.ac_forms.specs.Affine.{Affine, value_at};
-ghost use Rattle.ac_forms.specs.Columns.{is_present, IsTrimmed, AreTrimmed};
+ghost use Rattle.ac_forms.specs.RowColumns.{is_present, IsTrimmed, AreTrimmed};
 ghost use Rattle.ac_forms.specs.NormalForm.{normal_form, is_absurd};
 ghost use Rattle.ac_forms.specs.NormalRows.{normal_row, NormalFits};
-ghost use Rattle.ac_forms.specs.Pieces.{IsInSome, IsInNone};
+ghost use Rattle.ac_forms.specs.PieceMembership.{IsInSome, IsInNone};
 ghost use Rattle.ac_forms.specs.Renaming.{AreColumns, AreDistinct, CanRename, picked, renaming, row_renaming, rows_renaming, sums_fit};
 ghost use Rattle.ac_forms.specs.Rows.{Holds, Meets, HasModulus, HaveModuli, IsRowOver, AreRowsOver, form_of};
 ghost use Rattle.ac_forms.specs.Standing.{stands, all_stand};
-ghost use Rattle.ac_forms.specs.Members.{IsAmong};
+ghost use Rattle.ac_forms.specs.ListMembers.{IsAmong};
 ghost use Rattle.ac_forms.specs.Traces.{HasAbsurd, HasClash};
 ghost use Rattle.ac_forms.specs.declared.row.Row.{Row};
 ghost use Rattle.ac_forms.specs.declared.normal.NormalRow.TheVariants.{Kept};

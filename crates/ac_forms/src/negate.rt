@@ -2,16 +2,16 @@ ghost use Rattle.std.specs.Prelude.{◌≡◌, ◌↔◌, ◌≤◌, ◌+◌, If
 ghost use Rattle.ac_forms.specs.Affine.{FormFits, shifted};
 ghost use Rattle.ac_forms.specs.Fits.{Fits};
 ghost use Rattle.ac_forms.specs.Negation.{opposite, above, below, with_column, piece, negation, NegationFits, HasExtension};
-ghost use Rattle.ac_forms.specs.Pieces.{IsInSome, IsInOneAtMost};
+ghost use Rattle.ac_forms.specs.PieceMembership.{IsInSome, IsInOneAtMost};
 ghost use Rattle.ac_forms.specs.Rows.{Holds, IsRowOver};
-ghost use Rattle.ac_forms.specs.Stops.{MadeIff, MadeWhere};
+ghost use Rattle.ac_forms.specs.FormStops.{MadeIff, MadeWhere};
 ghost use Rattle.ac_forms.specs.declared.row.Row.TheVariants.{Eq, Div, Ge};
 
 use crate::conj::Conj;
 use crate::form::Form;
 use crate::row::Row;
 use crate::stop::FormStop;
-use ac_items::Items;
+use ac_base::Items;
 use std::alloc::{AllocError, Global};
 
 impl Row {
@@ -75,7 +75,7 @@ fn not_multiple(
 }
 
 /// The form less the modulus times a further column, less 1.
-#[tactic(auto, using(ac_integers::proofs::Bits::again_128))]
+#[tactic(auto, using(ac_base::proofs::Bits::again_128))]
 pub(crate) fn at_least_one(
     alloc: Global,
     modulus: i128,
@@ -90,7 +90,7 @@ pub(crate) fn at_least_one(
 }
 
 /// The modulus times a further column, plus the modulus less 1, less the form.
-#[tactic(auto, using(ac_integers::proofs::Bits::again_128))]
+#[tactic(auto, using(ac_base::proofs::Bits::again_128))]
 pub(crate) fn below_modulus(
     alloc: Global,
     modulus: i128,
@@ -105,7 +105,7 @@ pub(crate) fn below_modulus(
 }
 
 /// The number less the form.
-#[tactic(auto, using(ac_integers::proofs::Bits::again_128))]
+#[tactic(auto, using(ac_base::proofs::Bits::again_128))]
 pub(crate) fn less_form(alloc: Global, number: i128, form: &Form) -> Result<Form, FormStop>
     ensures { MadeIff result (FormFits (opposite form.now) × Fits ((opposite form.now).konst +ℤ number)) (shifted (opposite form.now) number) }
 {

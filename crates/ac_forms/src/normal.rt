@@ -1,13 +1,13 @@
 ghost use Rattle.std.specs.Prelude.{◌≡◌, ◌≤◌, ◌↔◌, ℤ, List, pos, ◌≤ℤ◌, ◌+◌, ◌<◌, ◌^◌, OkIff, IfOk, IsTrue, take, unsigned_abs};
-ghost use Rattle.ac_integers.specs.Dot.{floored, residues};
-ghost use Rattle.ac_integers.specs.Gcd.{content, gcd, gcd_all};
-ghost use Rattle.ac_integers.specs.Multiple.{divides};
+ghost use Rattle.ac_base.specs.Dot.{floored, residues};
+ghost use Rattle.ac_base.specs.Gcd.{content, gcd, gcd_all};
+ghost use Rattle.ac_base.specs.Multiple.{divides};
 ghost use Rattle.ac_forms.specs.Fits.{AllFit};
 ghost use Rattle.ac_forms.specs.declared.row.Row.TheVariants.{Eq};
 ghost use Rattle.ac_forms.specs.declared.normal.NormalRow.TheVariants.{Kept};
 ghost use Rattle.ac_forms.specs.NormalRows.{trim, divided, reduced, leads_negative, signed, normal_eq, normal_div, normal_ge, normal_row, modular_content, absolutes, sign_numbers, eq_numbers, NormalFits, LeftHolds};
 ghost use Rattle.ac_forms.specs.Rows.{Holds, HasModulus};
-ghost use Rattle.ac_forms.specs.Stops.{MadeIff};
+ghost use Rattle.ac_forms.specs.FormStops.{MadeIff};
 
 use crate::form::Form;
 use crate::row::Row;
@@ -88,7 +88,7 @@ fn normal_divisibility(alloc: Global, modulus: i128, form: &Form) -> Result<Norm
     if !divides_out(divisor, rest.konst()) {
         return Ok(NormalRow::Absurd);
     }
-    let quotient = ac_integers::floor_quotient(modulus, divisor);
+    let quotient = ac_base::floor_quotient(modulus, divisor);
     if quotient == 1 {
         return Ok(NormalRow::Dropped);
     }
@@ -153,7 +153,7 @@ fn common_divisor(a: u128, b: u128) -> u128
     } else if b == 1 {
         b
     } else {
-        ac_integers::greatest_common_divisor(a, b)
+        ac_base::greatest_common_divisor(a, b)
     }
 }
 
@@ -165,7 +165,7 @@ fn divides_out(divisor: i128, number: i128) -> bool
     if divisor == 1 {
         true
     } else {
-        ac_integers::is_multiple(number, divisor)
+        ac_base::is_multiple(number, divisor)
     }
 }
 
@@ -215,7 +215,7 @@ fn has_negative_lead(coefs: &[i128]) -> bool
 }
 
 /// The quotients by a positive number, rounded down.
-#[tactic(auto, using(ac_integers::proofs::Bits::again_128))]
+#[tactic(auto, using(ac_base::proofs::Bits::again_128))]
 fn quotients(alloc: Global, coefs: &[i128], divisor: i128) -> Result<SmallVec<i128, 8>, AllocError>
     requires { pos 1 ≤ℤ divisor }
     ensures { IfOk result (λ made. made.items ≡ floored divisor coefs.now) }
@@ -228,7 +228,7 @@ fn quotients(alloc: Global, coefs: &[i128], divisor: i128) -> Result<SmallVec<i1
 }
 
 /// The remainders by a positive number, none of them negative.
-#[tactic(auto, using(ac_integers::proofs::Bits::again_128))]
+#[tactic(auto, using(ac_base::proofs::Bits::again_128))]
 fn remainders(alloc: Global, coefs: &[i128], modulus: i128) -> Result<SmallVec<i128, 8>, AllocError>
     requires { pos 1 ≤ℤ modulus }
     ensures { IfOk result (λ made. made.items ≡ residues modulus coefs.now) }

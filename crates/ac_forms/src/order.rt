@@ -1,7 +1,7 @@
 ghost use Rattle.std.specs.Prelude.{◌==◌, ◌≡◌, refl};
 ghost use Rattle.std.specs.Cmp.{partial_order_from_own_ties, partial_order_from_total, partial_equiv_from_equiv};
 ghost use Rattle.std.specs.Ordering.{as_partial_cmp};
-ghost use Rattle.ac_forms.specs.Orders.{form_cmp, form_eq, columns_cmp};
+ghost use Rattle.ac_forms.specs.FormOrder.{form_cmp, form_eq, columns_cmp};
 ghost use Rattle.ac_forms.specs.Ties.{form_ties, form_total, form_equiv};
 
 use crate::form::{Form, coefficient};

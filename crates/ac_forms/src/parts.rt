@@ -3,7 +3,7 @@ ghost use Rattle.ac_forms.specs.Affine.{FormFits, shifted};
 ghost use Rattle.ac_forms.specs.Fits.{Fits};
 ghost use Rattle.ac_forms.specs.Negation.{opposite, above, below, with_column};
 ghost use Rattle.ac_forms.specs.Rows.{IsRowOver};
-ghost use Rattle.ac_forms.specs.Stops.{MadeIff};
+ghost use Rattle.ac_forms.specs.FormStops.{MadeIff};
 ghost use Rattle.ac_forms.specs.declared.row.Row.TheVariants.{Div};
 
 use crate::form::Form;
@@ -30,7 +30,7 @@ impl Form {
 
     /// The form that is not negative exactly where this one, less the modulus times a further column behind that many, is
     /// at least 1. `Wide` exactly where its constant leaves `i128`.
-    #[tactic(auto, using(ac_integers::proofs::Bits::again_128))]
+    #[tactic(auto, using(ac_base::proofs::Bits::again_128))]
     pub fn remainder_from_one(
         &self,
         alloc: Global,
@@ -45,7 +45,7 @@ impl Form {
 
     /// The form that is not negative exactly where this one, less the modulus times a further column behind that many, is
     /// less than the modulus. `Wide` exactly where a change of sign, or what is added to the constant, leaves `i128`.
-    #[tactic(auto, using(ac_integers::proofs::Bits::again_128))]
+    #[tactic(auto, using(ac_base::proofs::Bits::again_128))]
     pub fn remainder_to_last(
         &self,
         alloc: Global,

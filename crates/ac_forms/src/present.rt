@@ -1,10 +1,10 @@
 ghost use Rattle.std.specs.Prelude.{◌≡◌};
-ghost use Rattle.ac_forms.specs.Columns.{has_column, is_present};
+ghost use Rattle.ac_forms.specs.RowColumns.{has_column, is_present};
 
 use crate::row::Row;
 
 /// Whether a row has a column: its coefficient isn't 0.
-#[tactic(auto, using(ac_integers::proofs::Bits::again_128))]
+#[tactic(auto, using(ac_base::proofs::Bits::again_128))]
 pub fn has_column(column: usize, row: &Row) -> bool
     ensures { result ≡ has_column column row.now }
 {

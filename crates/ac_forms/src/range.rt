@@ -1,7 +1,7 @@
 ghost use Rattle.std.specs.Prelude.{◌≡◌, ◌+◌, ◌++◌, IfOk, OnOk};
 ghost use Rattle.std.specs.List.{range_with_len};
 
-use ac_items::Items;
+use ac_base::Items;
 use std::alloc::AllocError;
 
 /// The column so many behind another.

@@ -3,12 +3,12 @@ ghost use Rattle.ac_forms.specs.Affine.{value_at};
 ghost use Rattle.ac_forms.specs.Fits.{Fits};
 ghost use Rattle.ac_forms.specs.Renaming.{add_at, renamed_coefs, renamed, renamed_row, picked, AreColumns, SumsFit, CanRename, CanRenameAll};
 ghost use Rattle.ac_forms.specs.Rows.{Holds, Meets, HasModulus, HaveModuli, IsRowOver, AreRowsOver, form_of};
-ghost use Rattle.ac_forms.specs.Stops.{MadeIff, MadeWhere};
+ghost use Rattle.ac_forms.specs.FormStops.{MadeIff, MadeWhere};
 
 use crate::form::Form;
 use crate::row::Row;
 use crate::stop::FormStop;
-use ac_items::Items;
+use ac_base::Items;
 use std::alloc::{AllocError, Global};
 
 impl Form {
@@ -77,7 +77,7 @@ fn renamed_form(alloc: Global, form: &Form, columns: &[usize]) -> Result<Form, F
 }
 
 /// The sum of the coefficients, each at its column.
-#[tactic(auto, using(crate::proofs::Renamings::sum_steps, ac_integers::proofs::Bits::again_128))]
+#[tactic(auto, using(crate::proofs::Renamings::sum_steps, ac_base::proofs::Bits::again_128))]
 fn sums(alloc: Global, columns: &[usize], coefs: &[i128]) -> Result<Vec<i128>, FormStop>
     ensures { MadeWhere result (SumsFit columns.now coefs.now) (λ made. made.items ≡ renamed_coefs columns.now coefs.now) }
 {
@@ -109,7 +109,7 @@ fn added_at(
 }
 
 /// The list with a number more at a place that it has.
-#[tactic(auto, using(crate::proofs::Renamings::add_steps, ac_integers::proofs::Bits::again_128))]
+#[tactic(auto, using(crate::proofs::Renamings::add_steps, ac_base::proofs::Bits::again_128))]
 fn added_inside(coefs: Vec<i128>, at: usize, number: &i128) -> Result<Vec<i128>, FormStop>
     requires { at < length coefs.items }
     ensures { MadeWhere result (Fits (slice_index_or coefs.items at (pos 0) +ℤ number.now)) (λ made. made.items ≡ add_at at number.now coefs.items) }
@@ -123,7 +123,7 @@ fn added_inside(coefs: Vec<i128>, at: usize, number: &i128) -> Result<Vec<i128>,
 }
 
 /// The list with zeros up to a place, and the number there.
-#[tactic(auto, using(crate::proofs::Renamings::add_steps, ac_integers::proofs::Bits::again_128))]
+#[tactic(auto, using(crate::proofs::Renamings::add_steps, ac_base::proofs::Bits::again_128))]
 fn added_behind(
     alloc: Global,
     coefs: Vec<i128>,

@@ -2,7 +2,7 @@ ghost use Rattle.std.specs.Prelude.{◌≡◌, ◌↔◌, ◌==◌, MatchResult,
 ghost use Rattle.std.specs.Cmp.{partial_order_from_own_ties, partial_order_from_total, partial_equiv_from_equiv};
 ghost use Rattle.std.specs.Ordering.{as_partial_cmp};
 ghost use Rattle.ac_forms.specs.Affine.{CanEvaluate};
-ghost use Rattle.ac_forms.specs.Orders.{kind_of, modulus_of, row_cmp, row_eq};
+ghost use Rattle.ac_forms.specs.FormOrder.{kind_of, modulus_of, row_cmp, row_eq};
 ghost use Rattle.ac_forms.specs.Rows.{Holds, IsRowOver, HasModulus, form_of};
 ghost use Rattle.ac_forms.specs.Ties.{row_ties, row_total, row_equiv};
 
@@ -90,7 +90,7 @@ impl Row {
     {
         match self {
             Row::Eq(form) => Ok(form.eval(point)? == 0),
-            Row::Div(modulus, form) => Ok(ac_integers::is_multiple(form.eval(point)?, *modulus)),
+            Row::Div(modulus, form) => Ok(ac_base::is_multiple(form.eval(point)?, *modulus)),
             Row::Ge(form) => Ok(form.eval(point)? >= 0),
         }
     }

@@ -5,7 +5,7 @@ ghost use Rattle.ac_forms.specs.Standing.{is_among, normal_of, kept_rows, is_lef
 use crate::normal::NormalRow;
 use crate::row::Row;
 use crate::stop::FormStop;
-use ac_items::Items;
+use ac_base::Items;
 use std::alloc::{AllocError, Global};
 
 /// Whether a row is one of the rows.

@@ -1,13 +1,13 @@
 ghost use Rattle.std.specs.Prelude.{◌≡◌, ℤ, List};
 ghost use Rattle.ac_forms.specs.Affine.{value_at};
-ghost use Rattle.ac_forms.specs.Columns.{trimmed};
+ghost use Rattle.ac_forms.specs.RowColumns.{trimmed};
 
 use crate::form::Form;
 use crate::normal::trimmed;
 
 impl Form {
     /// The form without the zeros at its end, which has the same values.
-    #[tactic(auto, using(ac_integers::proofs::Bits::again_128))]
+    #[tactic(auto, using(ac_base::proofs::Bits::again_128))]
     pub fn trimmed(self) -> Form
         ensures exact { result ≡ trimmed self }
         ensures value { (p : List ℤ) → value_at result p ≡ value_at self p }
@@ -17,7 +17,7 @@ impl Form {
 }
 
 /// The form without the zeros at its end.
-#[tactic(auto, using(ac_integers::proofs::Bits::again_128))]
+#[tactic(auto, using(ac_base::proofs::Bits::again_128))]
 fn without_last_zeros(form: Form) -> Form
     ensures { result ≡ trimmed form }
 {

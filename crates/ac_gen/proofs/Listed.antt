@@ -4,7 +4,7 @@ use Rattle.std.proofs.Math.Seq.{drop-length}
 use Rattle.std.proofs.lemmas.List.{append_assoc, append-nil, drop_more}
 use Rattle.std.proofs.lemmas.List.Sums.{sum_by-drop_more}
 use Rattle.ac_syntax.specs.declared.tree.Stmt.{Stmt}
-use Rattle.ac_gen.specs.Loops.{copying, shifted, statement}
+use Rattle.ac_gen.specs.PipelineLoops.{copying, shifted, statement}
 use Rattle.ac_gen.specs.Pipelines.{local, locals, target, margin, loops, pipeline, shifted_each}
 use Rattle.ac_gen.specs.declared.draws.Stage.{Stage}
 

@@ -4,7 +4,7 @@ use Rattle.std.specs.List.{AllByRecursion}
 use Rattle.std.proofs.lemmas.Int.{ints}
 use Rattle.std.proofs.lemmas.List.Sums.{sum_by-cons}
 use Rattle.ac_syntax.specs.Dimensions.{IsCellOf, UsesCells}
-use Rattle.ac_syntax.specs.Ready.{Fits, AllFit, Ready}
+use Rattle.ac_syntax.specs.ReadyPrograms.{Fits, AllFit, Ready}
 use Rattle.ac_syntax.specs.Small.{IsSmall, IsSmallForm, AreSmallForms, IsSmallStmt}
 use Rattle.ac_syntax.specs.declared.tree.Cond.{Cond}
 use Rattle.ac_syntax.specs.declared.tree.Stmt.TheVariants as stmt
@@ -15,7 +15,7 @@ use Rattle.ac_syntax.specs.declared.tree.IndexExpr.{IndexExpr}
 use Rattle.ac_syntax.specs.declared.tree.Rel.TheVariants.{NonNegative}
 use Rattle.ac_syntax.specs.declared.tree.Stmt.{Stmt}
 use Rattle.ac_gen.specs.Draws.{stages, state_after}
-use Rattle.ac_gen.specs.Loops.{form, nowhere, function_symbol, Loop, copying, shifted, statement}
+use Rattle.ac_gen.specs.PipelineLoops.{form, nowhere, function_symbol, Loop, copying, shifted, statement}
 use Rattle.ac_gen.specs.Pipelines.{input, local, locals, margin, loops, pipeline, shifted_each, program}
 use Rattle.ac_gen.specs.WellMade.{IsWellMade}
 use Rattle.ac_gen.specs.declared.draws.Stage.{Stage}

@@ -8,7 +8,7 @@ use Rattle.ac_syntax.specs.declared.tree.Stmt.TheVariants as stmt
 use Rattle.ac_syntax.specs.declared.tree.Value.TheVariants as value
 use Rattle.ac_syntax.specs.Turns.{innermost}
 use Rattle.ac_syntax.specs.declared.tree.IndexExpr.{IndexExpr}
-use Rattle.ac_gen.specs.Loops.{form, nowhere, Loop, copying, behind, later, shifted, statement, function_symbol}
+use Rattle.ac_gen.specs.PipelineLoops.{form, nowhere, Loop, copying, behind, later, shifted, statement, function_symbol}
 use Rattle.ac_gen.specs.Pipelines.{target, margin, loops, pipeline, shifted_each}
 use Rattle.ac_gen.specs.Plain.{unshifted}
 use Rattle.ac_gen.specs.declared.draws.Stage.{Stage}

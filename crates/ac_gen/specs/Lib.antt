@@ -1,5 +1,7 @@
 pub mod Draws
-pub mod Loops
+pub mod PipelineLoops
 pub mod Pipelines
 pub mod Plain
 pub mod WellMade
+pub mod GeneratedPair
+pub mod PairValidity

@@ -5,7 +5,7 @@ use Rattle.ac_syntax.specs.declared.tree.Kind.TheVariants.{Input, Local}
 use Rattle.ac_syntax.specs.declared.tree.Slot.TheVariants as slot
 use Rattle.ac_syntax.specs.declared.tree.Program.{Program}
 use Rattle.ac_gen.specs.Draws.{stages}
-use Rattle.ac_gen.specs.Loops.{form, Loop, copying, shifted, statement}
+use Rattle.ac_gen.specs.PipelineLoops.{form, Loop, copying, shifted, statement}
 use Rattle.ac_gen.specs.declared.draws.Stage.{Stage}
 
 -- ---- arrays: B is 0, C is 1, and the locals T0, T1, .. come after them

@@ -1,6 +1,6 @@
 -- Programs as the language has them.
 use Rattle.ac_syntax.specs.Dimensions.{HasDimensions}
-use Rattle.ac_syntax.specs.Ready.{ReadyProgram}
+use Rattle.ac_syntax.specs.ReadyPrograms.{ReadyProgram}
 use Rattle.ac_syntax.specs.Small.{IsSmallProgram}
 use Rattle.ac_syntax.specs.declared.tree.Program.{Program}
 

@@ -1,8 +1,8 @@
 //! Index expressions over the parameter N and at most one iterator.
 ghost use Rattle.std.specs.Prelude.{◌≡◌, [], ◌∷◌, pos, negsuc, IfOk};
-ghost use Rattle.ac_gen.specs.Loops as spec;
+ghost use Rattle.ac_gen.specs.PipelineLoops as spec;
 
-use ac_items::Items;
+use ac_base::Items;
 use ac_syntax::tree::{IndexExpr, Place};
 use std::alloc::{AllocError, Global};
 

@@ -3,12 +3,12 @@ ghost use Rattle.std.specs.Prelude.{◌≡◌, ◌-ℤ◌, [], ◌∷◌, pos, n
 ghost use Rattle.ac_syntax.specs.declared.tree.Rel.TheVariants.{NonNegative};
 ghost use Rattle.ac_syntax.specs.declared.tree.Stmt.TheVariants as stmt;
 ghost use Rattle.ac_syntax.specs.declared.tree.Value.TheVariants as value;
-ghost use Rattle.ac_gen.specs.Loops as spec;
+ghost use Rattle.ac_gen.specs.PipelineLoops as spec;
 
 use crate::draws::Stage;
 use crate::forms::{NOWHERE, constant, iterator, rest};
 use crate::names::{name, numbered};
-use ac_items::Items;
+use ac_base::Items;
 use ac_syntax::tree::{Comparison, Cond, IndexExpr, Rel, Stmt, Symbol, Value};
 use std::alloc::{AllocError, Global};
 

@@ -1,7 +1,7 @@
 //! The programs of a pair.
 ghost use Rattle.std.specs.Prelude.{◌≡◌, ◌<◌, ◌≤◌, ◌-◌, [], ◌∷◌, codes, length, map, IfOk};
 ghost use Rattle.ac_syntax.specs.declared.tree.Slot.TheVariants as slot;
-ghost use Rattle.ac_gen.specs.Loops.{statement};
+ghost use Rattle.ac_gen.specs.PipelineLoops.{statement};
 ghost use Rattle.ac_gen.specs.Pipelines as spec;
 ghost use Rattle.ac_gen.specs.WellMade.{IsWellMade};
 
@@ -9,7 +9,7 @@ use crate::draws::{Stage, draw_stages, without_shifts};
 use crate::forms::size;
 use crate::loops::{only, stage_loop};
 use crate::names::{name, numbered};
-use ac_items::Items;
+use ac_base::Items;
 use ac_syntax::tree::{Array, Cond, Kind, Program, Slot, Stmt};
 use std::alloc::{AllocError, Global};
 

@@ -6,9 +6,9 @@ use Rattle.std.proofs.lemmas.List.{take_all}
 use Rattle.std.proofs.lemmas.List.Sums.{sum_by-cons}
 use Rattle.std.proofs.lemmas.Option.{slice_get_within}
 use borrow.Author.Count.{below_more}
-use Rattle.ac_forms.specs.Members.{IsAmong}
+use Rattle.ac_forms.specs.ListMembers.{IsAmong}
 use Rattle.ac_graph.specs.Ways.{Leads, one, more, Edge, IsMarked, AreMarks, AreCyclic, IsWithin, IsOutside, AreFalling}
-use Rattle.ac_graph.specs.Marking.{is_marked, mark_of}
+use Rattle.ac_graph.specs.NodeMarks.{is_marked, mark_of}
 use Rattle.ac_graph.proofs.Members.{in_left, in_right, in_last, in_split, in_more, in_grown, get_left, get_before, get_last, get_split}
 
 mark_some : (x : Option Bool) → mark_of x ≡ true → x ≡ Some true

@@ -3,12 +3,12 @@ use Rattle.std.proofs.Common.{◌≡◌, ◌↔◌, ◌⊎◌, inl, inr, ℕ, ze
 use Rattle.std.specs.List.{slice_get}
 use Rattle.std.proofs.lemmas.Option.{slice_get_within, slice_get-map}
 use Rattle.ac_syntax.specs.declared.tree.Position.{Position}
-use Rattle.ac_forms.specs.Members.{IsAmong}
-use Rattle.ac_graph.specs.Marking.{is_marked}
-use Rattle.ac_graph.specs.Moves.{Dependences, Moves, AreDistinct, AreReached, HasReader, ReadingMove, IsRecurrent, AreRecurrent, AreRanks}
-use Rattle.ac_graph.specs.Outlines.{AreOutlinesOf, reads_at}
-use Rattle.ac_graph.specs.Recurring.{has_reader, readers, ReadingEdge, AreRecurring, PlainEdge, AreFallingOutside, HasMark}
-use Rattle.ac_graph.specs.Spreading.{AreAllReached}
+use Rattle.ac_forms.specs.ListMembers.{IsAmong}
+use Rattle.ac_graph.specs.NodeMarks.{is_marked}
+use Rattle.ac_graph.specs.PairMoves.{Dependences, Moves, AreDistinct, AreReached, HasReader, ReadingMove, IsRecurrent, AreRecurrent, AreRanks}
+use Rattle.ac_graph.specs.ProgramOutlines.{AreOutlinesOf, reads_at}
+use Rattle.ac_graph.specs.Recurrence.{has_reader, readers, ReadingEdge, AreRecurring, PlainEdge, AreFallingOutside, HasMark}
+use Rattle.ac_graph.specs.Reachability.{AreAllReached}
 use Rattle.ac_graph.specs.Ways.{Leads, one, more, Edge, IsGraph, IsMarked}
 use Rattle.ac_graph.specs.declared.programs.Both.{Both}
 use Rattle.ac_graph.proofs.CycleSteps.{marked_is}

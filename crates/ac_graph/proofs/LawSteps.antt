@@ -3,8 +3,8 @@ use Rattle.std.proofs.Common.{◌≡◌, ◌↔◌, ◌⊎◌, inl, inr, ℕ, ze
 use Rattle.std.specs.List.{slice_get}
 use Rattle.std.proofs.lemmas.Option.{slice_get-map}
 use Rattle.ac_forms.specs.Affine.{Affine}
-use Rattle.ac_syntax.specs.Loops.{loop_count, loop_count_in}
-use Rattle.ac_syntax.specs.Nodes.{size}
+use Rattle.ac_syntax.specs.LoopNests.{loop_count, loop_count_in}
+use Rattle.ac_syntax.specs.ValueNodes.{size}
 use Rattle.ac_syntax.specs.declared.tree.Cond.{Cond}
 use Rattle.ac_syntax.specs.declared.tree.Position.{Position}
 use Rattle.ac_syntax.specs.declared.tree.Position.TheVariants.{Output, Node, InitialOutput, InitialNode}
@@ -17,16 +17,16 @@ use Rattle.ac_syntax.specs.declared.tree.Value.TheVariants.{Number, Access, Call
 use Rattle.ac_poly.proofs.NodeForms.{length-nodes}
 use Rattle.ac_poly.specs.Lower.{lower, lower_in, lower_all, outermost, in_loop, where_holds, where_fails}
 use Rattle.ac_poly.specs.Model.{model_of}
-use Rattle.ac_poly.specs.Nodes.{nodes, nodes_in, roots}
+use Rattle.ac_poly.specs.ModelNodes.{nodes, nodes_in, roots}
 use Rattle.ac_poly.specs.declared.scope.Scope.{Scope}
 use Rattle.ac_poly.specs.declared.types.Model.{Model}
 use Rattle.ac_poly.specs.declared.types.NodeModel.{NodeModel}
 use Rattle.ac_poly.specs.declared.types.NodeModel.TheVariants as node
 use Rattle.ac_poly.specs.declared.types.StmtModel.{StmtModel}
 use Rattle.ac_flow.specs.declared.types.Flow.{Flow}
-use Rattle.ac_forms.specs.Members.{IsAmong}
-use Rattle.ac_paths.specs.Places.{CallAt, cell_read, call_at, call_of, node_at, initial_of}
-use Rattle.ac_graph.specs.Moves.{Dependences, IsReader, IsEdge, target, ArgumentMove, Moves, HasReader, ReadingMove, IsRoot, IsRecurrent}
+use Rattle.ac_forms.specs.ListMembers.{IsAmong}
+use Rattle.ac_claims_paths.specs.ModelPositions.{CallAt, cell_read, call_at, call_of, node_at, initial_of}
+use Rattle.ac_graph.specs.PairMoves.{Dependences, IsReader, IsEdge, target, ArgumentMove, Moves, HasReader, ReadingMove, IsRoot, IsRecurrent}
 use Rattle.ac_graph.specs.Ways.{Leads, one, more}
 use Rattle.ac_graph.proofs.Members.{in_split, in_at}
 use Rattle.ac_graph.proofs.MoveSteps.{not_both}

@@ -5,8 +5,8 @@ use Rattle.std.proofs.lemmas.Option.{slice_get-map, slice_get_cases, slice_get-g
 use Rattle.std.proofs.lemmas.List.{map-append, length-map}
 use Rattle.std.proofs.lemmas.Bool.{ltb-true, lt-ltb}
 use Rattle.ac_forms.specs.Affine.{Affine}
-use Rattle.ac_syntax.specs.Loops.{loop_count, loop_count_in}
-use Rattle.ac_syntax.specs.Nodes.{size}
+use Rattle.ac_syntax.specs.LoopNests.{loop_count, loop_count_in}
+use Rattle.ac_syntax.specs.ValueNodes.{size}
 use Rattle.ac_syntax.specs.Outputs.{swaps_of}
 use Rattle.ac_syntax.specs.declared.tree.Cond.{Cond}
 use Rattle.ac_syntax.specs.declared.tree.Pair.{Pair}
@@ -19,16 +19,16 @@ use Rattle.ac_syntax.specs.declared.tree.Value.{Value, Row_of-Value, end_of-Valu
 use Rattle.ac_syntax.specs.declared.tree.Value.TheVariants.{Number, Access, Call'}
 use Rattle.ac_poly.specs.Lower.{lower, lower_in, lower_all, outermost, in_loop, where_holds, where_fails}
 use Rattle.ac_poly.specs.Model.{model_of, extents_of}
-use Rattle.ac_poly.specs.Nodes.{nodes, nodes_in, roots}
+use Rattle.ac_poly.specs.ModelNodes.{nodes, nodes_in, roots}
 use Rattle.ac_poly.specs.declared.scope.Scope.{Scope}
 use Rattle.ac_poly.specs.declared.types.Model.{Model}
 use Rattle.ac_poly.specs.declared.types.NodeModel.{NodeModel}
 use Rattle.ac_poly.specs.declared.types.NodeModel.TheVariants as node
 use Rattle.ac_poly.specs.declared.types.StmtModel.{StmtModel}
-use Rattle.ac_paths.specs.declared.places.CellForms.{CellForms}
-use Rattle.ac_paths.specs.Places.{CallAt, call_at, node_at, read_of, output_cell, call_of, element_forms}
-use Rattle.ac_graph.specs.Moves.{IsReader, pairing_of}
-use Rattle.ac_graph.specs.Outlines.{outline_of, outline_of_stmt, outlined, outlined_in, outlines, outlines_in, outline_at, reads_at, is_some_read, called_by, called_at, IsOutlineOf, AreOutlinesOf}
+use Rattle.ac_claims_paths.specs.declared.places.CellForms.{CellForms}
+use Rattle.ac_claims_paths.specs.ModelPositions.{CallAt, call_at, node_at, read_of, output_cell, call_of, element_forms}
+use Rattle.ac_graph.specs.PairMoves.{IsReader, pairing_of}
+use Rattle.ac_graph.specs.ProgramOutlines.{outline_of, outline_of_stmt, outlined, outlined_in, outlines, outlines_in, outline_at, reads_at, is_some_read, called_by, called_at, IsOutlineOf, AreOutlinesOf}
 use Rattle.ac_graph.specs.declared.outline.Outline.{Outline}
 use Rattle.ac_graph.specs.declared.outline.Outline.TheVariants as outline
 use Rattle.ac_graph.specs.declared.programs.Both.{Both}

@@ -3,9 +3,9 @@ use Rattle.std.proofs.Common.{◌≡◌, ◌⊎◌, inl, inr, ℕ, zero, suc, �
 use Rattle.std.specs.List.{slice_get}
 use Rattle.std.proofs.lemmas.Option.{slice_get-get_or, slice_get_within, slice_get_read}
 use Rattle.std.proofs.lemmas.List.{take_all, take_at, length-replicate}
-use Rattle.ac_forms.specs.Members.{IsAmong}
+use Rattle.ac_forms.specs.ListMembers.{IsAmong}
 use Rattle.ac_graph.specs.Ways.{Leads, one, more, Edge, IsGraph, IsMarked, AreMarks}
-use Rattle.ac_graph.specs.Marking.{AreBelow, AreMatched, AreAdded}
+use Rattle.ac_graph.specs.NodeMarks.{AreBelow, AreMatched, AreAdded}
 use Rattle.ac_graph.proofs.FoundNodes.{IsSpreading}
 use Rattle.ac_graph.proofs.Members.{in_left, in_right, in_last, in_at, at_in, get_before, in_more, in_grown}
 use borrow.Author.Count.{below_more}

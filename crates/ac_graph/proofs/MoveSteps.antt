@@ -4,7 +4,7 @@ use Rattle.std.specs.Prelude.{nat_eq}
 use Rattle.std.proofs.lemmas.Bool.{eqb-true, eq-eqb}
 use Rattle.ac_syntax.specs.declared.tree.Position.{Position}
 use Rattle.ac_syntax.specs.declared.tree.Position.TheVariants.{Output, Node, InitialOutput, InitialNode}
-use Rattle.ac_forms.specs.Members.{IsAmong}
+use Rattle.ac_forms.specs.ListMembers.{IsAmong}
 use Rattle.std.specs.List.{slice_get}
 use Rattle.std.proofs.lemmas.List.{take_all}
 use Rattle.std.proofs.lemmas.Option.{slice_get_within, slice_get-map}
@@ -15,12 +15,12 @@ use Rattle.ac_syntax.specs.declared.tree.Symbol.{Symbol}
 use Rattle.ac_poly.specs.declared.types.Model.{Model}
 use Rattle.ac_poly.specs.declared.types.NodeModel.{NodeModel}
 use Rattle.ac_poly.specs.declared.types.NodeModel.TheVariants as node
-use Rattle.ac_paths.specs.Places.{CallAt, call_at, call_of, read_of, node_at}
-use Rattle.ac_paths.specs.declared.places.CellForms.{CellForms}
-use Rattle.ac_paths.specs.Pairs.{ArgumentsMeet}
-use Rattle.ac_graph.specs.Moves.{Dependences, IsReader, ArgumentMove, Moves}
-use Rattle.ac_claims.specs.Ending.{same_position, same_pair}
-use Rattle.ac_graph.specs.Spreading.{IsMore, IsLeftOf, IsRightOf, IsArgumentOf, IsKeptOf, IsMetOf, IsArgumentMoveOf}
+use Rattle.ac_claims_paths.specs.ModelPositions.{CallAt, call_at, call_of, read_of, node_at}
+use Rattle.ac_claims_paths.specs.declared.places.CellForms.{CellForms}
+use Rattle.ac_claims_paths.specs.Pairs.{ArgumentsMeet}
+use Rattle.ac_graph.specs.PairMoves.{Dependences, IsReader, ArgumentMove, Moves}
+use Rattle.ac_claims.specs.ProofEnds.{same_position, same_pair}
+use Rattle.ac_graph.specs.Reachability.{IsMore, IsLeftOf, IsRightOf, IsArgumentOf, IsKeptOf, IsMetOf, IsArgumentMoveOf}
 use Rattle.ac_graph.proofs.Members.{in_left, in_right, in_last, in_more, in_grown}
 use Rattle.ac_claims.proofs.Plans.{position_is}
 

@@ -9,17 +9,17 @@ use Rattle.ac_poly.specs.declared.types.NodeModel.{NodeModel}
 use Rattle.ac_poly.specs.declared.types.NodeModel.TheVariants as node
 use Rattle.ac_poly.specs.declared.types.StmtModel.{StmtModel}
 use Rattle.ac_claims.specs.ProofFaults.{is_output_array}
-use Rattle.ac_items.proofs.Options.{bind-some, map-some}
-use Rattle.ac_paths.specs.Coordinates.{width}
-use Rattle.ac_forms.specs.Members.{IsAmong}
-use Rattle.ac_paths.specs.Places.{cell_read, read_of, element_forms, node_at, initial_of}
-use Rattle.ac_paths.specs.declared.places.CellForms.{CellForms}
-use Rattle.ac_flow.specs.Cases.{Reads, CanRead}
+use Rattle.ac_base.proofs.Options.{bind-some, map-some}
+use Rattle.ac_claims_paths.specs.InstanceCoordinates.{width}
+use Rattle.ac_forms.specs.ListMembers.{IsAmong}
+use Rattle.ac_claims_paths.specs.ModelPositions.{cell_read, read_of, element_forms, node_at, initial_of}
+use Rattle.ac_claims_paths.specs.declared.places.CellForms.{CellForms}
+use Rattle.ac_flow.specs.FlowCases.{Reads, CanRead}
 use Rattle.ac_flow.specs.Readers.{read_at, reads_from, reads_of_all, elements_of, output_at, outputs_from, readers, IsFlowOf, AreFlows, IsOver}
 use Rattle.ac_flow.specs.declared.types.ReadFlow.{ReadFlow}
 use Rattle.ac_flow.proofs.Linking.{IsReader, OfNode, OfOutput}
 use Rattle.ac_flow.proofs.Overs.{can_read, can_read_elements}
-use Rattle.ac_graph.specs.Steps.{IsNamed}
+use Rattle.ac_graph.specs.GraphMeaning.{IsNamed}
 use Rattle.ac_graph.proofs.Members.{in_left, in_right, in_split}
 use Rattle.ac_flow.proofs.FlowSources.{reader_can}
 

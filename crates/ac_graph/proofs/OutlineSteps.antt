@@ -2,7 +2,7 @@
 use Rattle.std.proofs.Common.{◌≡◌, ℕ, ◌+◌, ◌<◌, ◌≤◌, ℤ, List, [], ◌∷◌, ◌++◌, length, map, drop, get_or, refl, sym, ap, ◌∙◌, append_assoc, append-nil, length-append, rules, arith}
 use Rattle.std.specs.List.{flat_map}
 use Rattle.std.proofs.lemmas.List.{drop_more, drop_all, length-map}
-use Rattle.ac_syntax.specs.Nodes.{size, size_in}
+use Rattle.ac_syntax.specs.ValueNodes.{size, size_in}
 use Rattle.ac_syntax.specs.declared.tree.Cond.{Cond}
 use Rattle.ac_syntax.specs.declared.tree.IndexExpr.{IndexExpr}
 use Rattle.ac_syntax.specs.declared.tree.Place.{Place}
@@ -12,9 +12,9 @@ use Rattle.ac_syntax.specs.declared.tree.Stmt as stmt
 use Rattle.ac_syntax.specs.declared.tree.Stmt.TheVariants.{For, If, Assign}
 use Rattle.ac_syntax.specs.declared.tree.Value.{Value, Row_of-Value, end_of-Value, more_of-Value, items-the_row-Value, the_lemmas}
 use Rattle.ac_syntax.specs.declared.tree.Value.TheVariants.{Number, Access, Call, Call'}
-use Rattle.ac_poly.specs.Nodes.{roots}
-use Rattle.ac_poly.specs.Steps.{roots_of}
-use Rattle.ac_graph.specs.Outlines.{outlined, outlined_in, outlined_all, outlines, outlines_in}
+use Rattle.ac_poly.specs.ModelNodes.{roots}
+use Rattle.ac_poly.specs.LoweringSteps.{roots_of}
+use Rattle.ac_graph.specs.ProgramOutlines.{outlined, outlined_in, outlined_all, outlines, outlines_in}
 use Rattle.ac_graph.specs.declared.outline.Outline.{Outline}
 use Rattle.ac_graph.specs.declared.outline.Outline.TheVariants as outline
 use Rattle.ac_poly.proofs.Failing.{more}

@@ -8,10 +8,10 @@ use Rattle.ac_syntax.specs.declared.tree.Position.{Position}
 use Rattle.ac_flow.specs.declared.types.Case.{Case}
 use Rattle.ac_flow.specs.declared.types.Flow.{Flow}
 use Rattle.ac_flow.specs.declared.types.ReadFlow.{ReadFlow}
-use Rattle.ac_forms.specs.Members.{IsAmong}
-use Rattle.ac_graph.specs.Moves.{IsEdge, target, AreDistinct}
-use Rattle.ac_claims.specs.Ending.{same_pair}
-use Rattle.ac_graph.specs.Spreading.{IsMore, IsEdgeOf, IsEdgeOfOne, IsEdgeAmong, Extends, ArePlaces}
+use Rattle.ac_forms.specs.ListMembers.{IsAmong}
+use Rattle.ac_graph.specs.PairMoves.{IsEdge, target, AreDistinct}
+use Rattle.ac_claims.specs.ProofEnds.{same_pair}
+use Rattle.ac_graph.specs.Reachability.{IsMore, IsEdgeOf, IsEdgeOfOne, IsEdgeAmong, Extends, ArePlaces}
 use Rattle.ac_graph.proofs.Members.{in_left, in_right, in_last, in_at, at_in, in_more, in_grown, get_left, get_last, get_split}
 use Rattle.ac_graph.proofs.MoveSteps.{pair_not, more_known, more_push, more_then, more_same}
 

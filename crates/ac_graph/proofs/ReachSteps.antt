@@ -3,9 +3,9 @@ use Rattle.std.proofs.Common.{◌≡◌, ◌↔◌, inl, inr, ℕ, ◌+◌, ◌<
 use Rattle.std.specs.List.{slice_get}
 use Rattle.std.proofs.lemmas.Option.{slice_get_within, slice_get-get_or, slice_get_read}
 use Rattle.ac_syntax.specs.declared.tree.Position.{Position}
-use Rattle.ac_forms.specs.Members.{IsAmong}
-use Rattle.ac_graph.specs.Moves.{Dependences, Moves, Reaches, start, move, AreDistinct}
-use Rattle.ac_graph.specs.Spreading.{IsMore, Extends, ArePlaces, IsReaching, AreAllReached}
+use Rattle.ac_forms.specs.ListMembers.{IsAmong}
+use Rattle.ac_graph.specs.PairMoves.{Dependences, Moves, Reaches, start, move, AreDistinct}
+use Rattle.ac_graph.specs.Reachability.{IsMore, Extends, ArePlaces, IsReaching, AreAllReached}
 use Rattle.ac_graph.proofs.Members.{in_left, in_at, at_in, get_left, get_before, get_split}
 
 none_got : (next : List (List ℕ)) (i : ℕ) (nodes : List ℕ) → next ≡ [] → slice_get next i ≡ Some nodes → ⊥

@@ -8,10 +8,10 @@ use Rattle.std.proofs.lemmas.Option.{slice_get_within, slice_get-get_or}
 use borrow.Author.Count.{below_more}
 use Rattle.ac_syntax.specs.declared.tree.Position.{Position}
 use Rattle.ac_syntax.specs.declared.tree.Position.TheVariants.{Output, Node, InitialOutput, InitialNode}
-use Rattle.ac_forms.specs.Members.{IsAmong}
-use Rattle.ac_graph.specs.Marking.{is_marked, mark_of}
-use Rattle.ac_graph.specs.Moves.{IsRoot}
-use Rattle.ac_graph.specs.Recurring.{has_reader, readers, is_root, recurs, ReadingEdge, AreRecurring, PlainEdge, AreFallingOutside, HasMark, AreMarkedBy}
+use Rattle.ac_forms.specs.ListMembers.{IsAmong}
+use Rattle.ac_graph.specs.NodeMarks.{is_marked, mark_of}
+use Rattle.ac_graph.specs.PairMoves.{IsRoot}
+use Rattle.ac_graph.specs.Recurrence.{has_reader, readers, is_root, recurs, ReadingEdge, AreRecurring, PlainEdge, AreFallingOutside, HasMark, AreMarkedBy}
 use Rattle.ac_graph.specs.Ways.{Leads, one, more, Edge, IsGraph, IsMarked, AreCyclic, IsWithin, IsOutside, AreFalling}
 use Rattle.ac_graph.specs.declared.programs.Both.{Both}
 use Rattle.ac_graph.proofs.CycleSteps.{marked_is}

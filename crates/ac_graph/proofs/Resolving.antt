@@ -3,7 +3,7 @@ use Rattle.std.proofs.Common.{◌≡◌, ◌⊎◌, inl, inr, ℕ, suc, ◌+◌,
 use Rattle.std.specs.Prelude.{slice_get, option_map}
 use Rattle.std.proofs.lemmas.List.{take-append-drop, length-take-le, length-drop}
 use Rattle.std.proofs.lemmas.Option.{slice_get_within}
-use Rattle.ac_integers.specs.Multiple.{IsMultiple}
+use Rattle.ac_base.specs.Multiple.{IsMultiple}
 use Rattle.ac_forms.specs.Affine.{Affine, column_form, combined, shifted}
 use Rattle.ac_forms.specs.Rows.{form_of, Holds, Meets, AreRowsOver}
 use Rattle.ac_forms.specs.declared.row.Row.{Row}
@@ -11,7 +11,7 @@ use Rattle.ac_forms.specs.declared.row.Row.TheVariants.{Eq, Div, Ge}
 use Rattle.ac_forms.proofs.Values.{value_at-append}
 use Rattle.ac_syntax.specs.Algebra.{Cell}
 use Rattle.ac_syntax.specs.Index.{point, holds}
-use Rattle.ac_syntax.specs.Ready.{ReadyProgram, FitParts}
+use Rattle.ac_syntax.specs.ReadyPrograms.{ReadyProgram, FitParts}
 use Rattle.ac_syntax.specs.Source.{Writer, source}
 use Rattle.ac_syntax.specs.Spot.{Spot, AtEnd, AtNode, AtStart, Reads as IsRead}
 use Rattle.ac_syntax.specs.Trace.{Entry}
@@ -21,24 +21,24 @@ use Rattle.ac_syntax.specs.declared.tree.Position.{Position}
 use Rattle.ac_syntax.specs.declared.tree.Position.TheVariants.{Node}
 use Rattle.ac_syntax.specs.declared.tree.Program.{Program}
 use Rattle.ac_syntax.proofs.LastWriters.{stands_contains}
-use Rattle.ac_poly.specs.Columns.{element_rows}
+use Rattle.ac_poly.specs.CoordinateColumns.{element_rows}
 use Rattle.ac_poly.specs.Model.{model_of}
 use Rattle.ac_poly.specs.declared.types.Model.{Model}
 use Rattle.ac_poly.proofs.Elements.{has_elements}
 use Rattle.ac_poly.proofs.Whole.{has_context, has_nodes}
 use Rattle.ac_omega.specs.declared.piece.Piece.{Piece}
-use Rattle.ac_items.proofs.Options.{some-is}
-use Rattle.ac_paths.specs.Coordinates.{width}
-use Rattle.ac_paths.specs.Executions.{Execution, At, Describes, execution}
-use Rattle.ac_forms.specs.Members.{IsAmong}
-use Rattle.ac_paths.specs.Pairs.{Placed, IsResolved, ResolvesTo}
-use Rattle.ac_paths.specs.Places.{initial_of, extent_rows}
-use Rattle.ac_paths.specs.declared.path.CopyNumbers.{CopyNumbers}
-use Rattle.ac_paths.proofs.Described.{models_describe}
-use Rattle.ac_paths.proofs.Heres.{reading}
-use Rattle.ac_paths.proofs.Moving.{meets-parts}
-use Rattle.ac_paths.proofs.ReadSteps.{at_root}
-use Rattle.ac_flow.specs.Cases.{Reads, CanRead, AreParts, ArePiecesOver, IsSourceCase, IsInitialCase, AreCases}
+use Rattle.ac_base.proofs.Options.{some-is}
+use Rattle.ac_claims_paths.specs.InstanceCoordinates.{width}
+use Rattle.ac_claims_paths.specs.Executions.{Execution, At, Describes, execution}
+use Rattle.ac_forms.specs.ListMembers.{IsAmong}
+use Rattle.ac_claims_paths.specs.Pairs.{Placed, IsResolved, ResolvesTo}
+use Rattle.ac_claims_paths.specs.ModelPositions.{initial_of, extent_rows}
+use Rattle.ac_claims_paths.specs.declared.path.CopyNumbers.{CopyNumbers}
+use Rattle.ac_claims_paths.proofs.Described.{models_describe}
+use Rattle.ac_claims_paths.proofs.Heres.{reading}
+use Rattle.ac_claims_paths.proofs.Moving.{meets-parts}
+use Rattle.ac_claims_paths.proofs.ReadSteps.{at_root}
+use Rattle.ac_flow.specs.FlowCases.{Reads, CanRead, AreParts, ArePiecesOver, IsSourceCase, IsInitialCase, AreCases}
 use Rattle.ac_flow.specs.Flows.{IsLeft}
 use Rattle.ac_flow.specs.Readers.{readers, AreFlows, IsOver}
 use Rattle.ac_flow.specs.Sources.{IsReading, IsSource}
@@ -50,13 +50,13 @@ use Rattle.ac_flow.proofs.Exact.{ReadHere, formed, cases_exact, last_case, case_
 use Rattle.ac_flow.proofs.Linking.{IsReader, OfNode, OfOutput, is_reader, at_reader}
 use Rattle.ac_flow.proofs.Overs.{is_over}
 use Rattle.ac_flow.proofs.Sourcing.{the_source_has_rows}
-use Rattle.ac_graph.specs.Moves.{IsEdge, target}
-use Rattle.ac_graph.specs.Steps.{HasFlow, IsNamed, Resolves, EdgesAreSources}
+use Rattle.ac_graph.specs.PairMoves.{IsEdge, target}
+use Rattle.ac_graph.specs.GraphMeaning.{HasFlow, IsNamed, Resolves, EdgesAreSources}
 use Rattle.ac_graph.proofs.Named.{named_reader, reader_named, flow_of_reader, reader_of_flow, reader_cell}
 use Rattle.ac_flow.proofs.FlowSources.{reader_can}
 use Rattle.ac_graph.proofs.Standing.{node_there, reader_there}
 use Rattle.ac_forms.specs.Negation.{HasExtension}
-use Rattle.ac_forms.specs.Pieces.{IsInSome}
+use Rattle.ac_forms.specs.PieceMembership.{IsInSome}
 
 -- ---- from a source to an edge
 

@@ -10,11 +10,11 @@ use Rattle.std.proofs.lemmas.Slice.Eq.{slice_eq-Decides}
 use Rattle.ac_syntax.specs.declared.tree.Position.{Position}
 use Rattle.ac_syntax.specs.declared.tree.Site.{Site}
 use Rattle.ac_syntax.specs.declared.tree.Symbol.{Symbol}
-use Rattle.ac_paths.specs.Going.{Pairing, same_symbol}
-use Rattle.ac_forms.specs.Members.{IsAmong}
-use Rattle.ac_paths.specs.Places.{CallAt, call_at}
-use Rattle.ac_graph.specs.Moves.{Dependences, IsSite, AreSites, AreDistinct, Reaches, start, move, start_of, starts_of}
-use Rattle.ac_graph.specs.Spreading.{Extends}
+use Rattle.ac_claims_paths.specs.PathSteps.{Pairing, same_symbol}
+use Rattle.ac_forms.specs.ListMembers.{IsAmong}
+use Rattle.ac_claims_paths.specs.ModelPositions.{CallAt, call_at}
+use Rattle.ac_graph.specs.PairMoves.{Dependences, IsSite, AreSites, AreDistinct, Reaches, start, move, start_of, starts_of}
+use Rattle.ac_graph.specs.Reachability.{Extends}
 use Rattle.ac_graph.proofs.Members.{in_left, in_right, in_last, in_more, in_grown}
 
 same_some : {A : Type 0} (x y : A) → Some x ≡ Some y → x ≡ y

@@ -4,7 +4,7 @@ use Rattle.std.specs.Prelude.{nat_lt, slice_get, option_map, option_and_then}
 use Rattle.ac_forms.specs.Affine.{Affine}
 use Rattle.ac_syntax.specs.Algebra.{Cell}
 use Rattle.ac_syntax.specs.Index.{Point}
-use Rattle.ac_syntax.specs.Nodes.{node_of, node_in, size, size_in}
+use Rattle.ac_syntax.specs.ValueNodes.{node_of, node_in, size, size_in}
 use Rattle.ac_syntax.specs.Source.{Writer}
 use Rattle.ac_syntax.specs.Spot.{Spot, AtNode, AtStart, Reads, an_output, an_access, cell_at}
 use Rattle.ac_syntax.specs.Trace.{Entry}
@@ -15,15 +15,15 @@ use Rattle.ac_syntax.specs.declared.tree.Symbol.{Symbol}
 use Rattle.ac_syntax.specs.declared.tree.Value.{Value, Row_of-Value, end_of-Value, more_of-Value}
 use Rattle.ac_syntax.specs.declared.tree.Value.TheVariants.{Number, Access, Call'}
 use Rattle.ac_syntax.proofs.NodeLemmas.{in_first}
-use Rattle.ac_poly.specs.Laws.{Shows}
+use Rattle.ac_poly.specs.ModelMeaning.{Shows}
 use Rattle.ac_poly.specs.declared.types.Model.{Model}
 use Rattle.ac_poly.specs.declared.types.NodeModel.{NodeModel}
 use Rattle.ac_poly.specs.declared.types.NodeModel.TheVariants as node
 use Rattle.ac_poly.specs.declared.types.StmtModel.{StmtModel}
-use Rattle.ac_paths.specs.Executions.{Execution, At, Describes}
-use Rattle.ac_paths.specs.Pairs.{Placed, IsCallOf, CallPlace}
-use Rattle.ac_paths.specs.Places.{CallAt, call_at, call_of, cell_read, read_of, element_forms}
-use Rattle.ac_paths.specs.declared.places.CellForms.{CellForms}
+use Rattle.ac_claims_paths.specs.Executions.{Execution, At, Describes}
+use Rattle.ac_claims_paths.specs.Pairs.{Placed, IsCallOf, CallPlace}
+use Rattle.ac_claims_paths.specs.ModelPositions.{CallAt, call_at, call_of, cell_read, read_of, element_forms}
+use Rattle.ac_claims_paths.specs.declared.places.CellForms.{CellForms}
 
 -- a value has as many nodes as its size says
 node_by : (b : Bool) (v : Value) (k m : ℕ) (rest : Option Value) → nat_lt k (size v) ≡ b → k < size v + m → (k < size v → (u : Value) × (node_of v k ≡ Some u)) → (k - size v < m → (u : Value) × (rest ≡ Some u)) → (u : Value) × (cond b (node_of v k) rest ≡ Some u)

@@ -3,7 +3,7 @@ use Rattle.std.proofs.Common.{◌≡◌, ◌↔◌, inl, inr, ℕ, zero, suc, �
 use Rattle.std.specs.Prelude.{slice_get}
 use Rattle.ac_syntax.specs.Algebra.{Cell}
 use Rattle.ac_syntax.specs.Index.{point, holds}
-use Rattle.ac_syntax.specs.Ready.{FitParts}
+use Rattle.ac_syntax.specs.ReadyPrograms.{FitParts}
 use Rattle.ac_syntax.specs.Source.{Writer, source}
 use Rattle.ac_syntax.specs.declared.tree.Cond.{Cond}
 use Rattle.ac_syntax.specs.declared.tree.Order.{Order}
@@ -16,19 +16,19 @@ use Rattle.ac_poly.specs.declared.types.Model.{Model}
 use Rattle.ac_poly.proofs.Columns.{has_kinds}
 use Rattle.ac_poly.proofs.Whole.{has_context}
 use Rattle.ac_claims.specs.Soundness.{ArePaired}
-use Rattle.ac_paths.specs.Executions.{Execution, Describes, execution}
-use Rattle.ac_forms.specs.Members.{IsAmong}
-use Rattle.ac_paths.specs.Pairs.{Placed, IsAt, IsReader as Reads, IsResolved, ResolvesTo, StepsTo}
-use Rattle.ac_paths.proofs.Described.{models_describe}
-use Rattle.ac_paths.proofs.Heres.{reading}
+use Rattle.ac_claims_paths.specs.Executions.{Execution, Describes, execution}
+use Rattle.ac_forms.specs.ListMembers.{IsAmong}
+use Rattle.ac_claims_paths.specs.Pairs.{Placed, IsAt, IsReader as Reads, IsResolved, ResolvesTo, StepsTo}
+use Rattle.ac_claims_paths.proofs.Described.{models_describe}
+use Rattle.ac_claims_paths.proofs.Heres.{reading}
 use Rattle.ac_flow.specs.declared.types.Flow.{Flow}
 use Rattle.ac_flow.proofs.Overs.{is_over}
-use Rattle.ac_graph.specs.Moves.{IsReader, IsEdge, Reaches, start, move, AreReached, AreRanks, dependences, start_of, starts_of}
-use Rattle.ac_graph.specs.Steps.{HasFlow, IsNamed, HaveFlows, HaveEdges, AreSources, HoldMet, IsCompared, comparison, LeftPlaced, RightPlaced, ValuationsAreCompared, HaveOutputs, StepsAreMoves, IsMet, start as met_start, step as met_step, MetAreReached, Avoids, none, more, ChainsRecur}
+use Rattle.ac_graph.specs.PairMoves.{IsReader, IsEdge, Reaches, start, move, AreReached, AreRanks, dependences, start_of, starts_of}
+use Rattle.ac_graph.specs.GraphMeaning.{HasFlow, IsNamed, HaveFlows, HaveEdges, AreSources, HoldMet, IsCompared, comparison, LeftPlaced, RightPlaced, ValuationsAreCompared, HaveOutputs, StepsAreMoves, IsMet, start as met_start, step as met_step, MetAreReached, Avoids, none, more, ChainsRecur}
 use Rattle.ac_graph.proofs.Named.{initial_named}
 use Rattle.ac_graph.proofs.Resolving.{edge_there, edges_are_sources}
 use Rattle.ac_graph.proofs.Standing.{reader_there, call_there, call_of_place}
-use Rattle.ac_paths.proofs.Stepping.{get_map}
+use Rattle.ac_claims_paths.proofs.Stepping.{get_map}
 
 -- ---- both programs
 

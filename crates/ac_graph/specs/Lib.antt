@@ -1,7 +1,7 @@
 pub mod Ways
-pub mod Marking
-pub mod Moves
-pub mod Outlines
-pub mod Spreading
-pub mod Recurring
-pub mod Steps
+pub mod NodeMarks
+pub mod PairMoves
+pub mod ProgramOutlines
+pub mod Reachability
+pub mod Recurrence
+pub mod GraphMeaning

@@ -1,6 +1,6 @@
 -- Ways along a relation, and graphs whose nodes are numbers.
 use Rattle.std.specs.Prelude.{ℕ, ◌≡◌, ◌↔◌, ◌<◌, List, length, Some, slice_get, Bool, true}
-use Rattle.ac_forms.specs.Members.{IsAmong}
+use Rattle.ac_forms.specs.ListMembers.{IsAmong}
 
 -- one step at least leads from the first to the second
 pub data Leads {A : Type 0} (R : A → A → Type 0) : A → A → Type 0 where

@@ -1,14 +1,14 @@
 //! Which of the reached pairs recur, and their ranks.
 ghost use Rattle.std.specs.Prelude.{◌≡◌, ◌↔◌, ◌++◌, ◌∷◌, [], cond, length, IfOk, OnOk};
 ghost use Rattle.ac_syntax.specs.declared.tree.Position.{Position};
-ghost use Rattle.ac_forms.specs.Members.{IsAmong};
-ghost use Rattle.ac_graph.specs.Recurring.{AreFallingOutside, AreMarkedBy, AreRecurring, HasMark, is_root, readers, recurs};
+ghost use Rattle.ac_forms.specs.ListMembers.{IsAmong};
+ghost use Rattle.ac_graph.specs.Recurrence.{AreFallingOutside, AreMarkedBy, AreRecurring, HasMark, is_root, readers, recurs};
 ghost use Rattle.ac_graph.specs.Ways.{IsGraph};
 
 use crate::marks::{cyclic, followers, is_marked, outside, within};
 use crate::moves::has_reader;
 use crate::programs::Both;
-use ac_items::Items;
+use ac_base::Items;
 use ac_syntax::tree::Position;
 use std::alloc::{AllocError, Global};
 

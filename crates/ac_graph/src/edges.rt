@@ -1,15 +1,15 @@
 //! The edges of a program, from its flow.
 ghost use Rattle.std.specs.Prelude.{◌≡◌, ◌↔◌, IfOk, OnOk, Option, Some, MatchOption, slice_get};
 ghost use Rattle.ac_syntax.specs.declared.tree.Position.{Position};
-ghost use Rattle.ac_forms.specs.Members.{IsAmong};
-ghost use Rattle.ac_paths.specs.Places.{initial_of};
-ghost use Rattle.ac_graph.specs.Moves.{IsEdge, target};
-ghost use Rattle.ac_claims.specs.Ending.{same_pair};
-ghost use Rattle.ac_graph.specs.Spreading.{IsMore, IsEdgeOf, IsEdgeOfOne, IsEdgeAmong};
+ghost use Rattle.ac_forms.specs.ListMembers.{IsAmong};
+ghost use Rattle.ac_claims_paths.specs.ModelPositions.{initial_of};
+ghost use Rattle.ac_graph.specs.PairMoves.{IsEdge, target};
+ghost use Rattle.ac_claims.specs.ProofEnds.{same_pair};
+ghost use Rattle.ac_graph.specs.Reachability.{IsMore, IsEdgeOf, IsEdgeOfOne, IsEdgeAmong};
 
+use ac_base::Items;
 use ac_claims::ending::same_position;
 use ac_flow::types::{Case, Flow};
-use ac_items::Items;
 use ac_syntax::tree::Position;
 use std::alloc::{AllocError, Global};
 

@@ -1,6 +1,6 @@
 //! What edges and moves say of executions, in words: each function here does nothing, and its contract is a fact about all
 //! programs.
-ghost use Rattle.ac_graph.specs.Steps.{EdgesAreSources, StepsAreMoves, MetAreReached, ChainsRecur, ValuationsAreCompared};
+ghost use Rattle.ac_graph.specs.GraphMeaning.{EdgesAreSources, StepsAreMoves, MetAreReached, ChainsRecur, ValuationsAreCompared};
 
 /// An edge leads from a read or an output to the root of an assignment exactly where, at some valuation of the context, an
 /// instance of that assignment is the source of some instance or element; and to its initial position exactly where at some

@@ -2,11 +2,11 @@
 ghost use Rattle.std.specs.Prelude.{◌≡◌, ◌↔◌, ◌⊎◌, ◌∷◌, [], IfOk, OnOk, IsTrue, Some, slice_get};
 ghost use Rattle.ac_syntax.specs.declared.tree.Position.{Position};
 ghost use Rattle.ac_syntax.specs.declared.tree.Site.{Site};
-ghost use Rattle.ac_paths.specs.Going.{Pairing};
-ghost use Rattle.ac_forms.specs.Members.{IsAmong};
-ghost use Rattle.ac_graph.specs.Moves.{IsEdge, IsSite, dependences, pairing_of, start_of, starts_of, AreDistinct, AreTargets, AreRanks, AreReached, AreRecurrent, AreSites};
-ghost use Rattle.ac_graph.specs.Outlines.{AreOutlinesOf};
-ghost use Rattle.ac_graph.specs.Steps.{AreSources, BoundChains, HaveFlows, HaveOutputs, HoldMet};
+ghost use Rattle.ac_claims_paths.specs.PathSteps.{Pairing};
+ghost use Rattle.ac_forms.specs.ListMembers.{IsAmong};
+ghost use Rattle.ac_graph.specs.PairMoves.{IsEdge, IsSite, dependences, pairing_of, start_of, starts_of, AreDistinct, AreTargets, AreRanks, AreReached, AreRecurrent, AreSites};
+ghost use Rattle.ac_graph.specs.ProgramOutlines.{AreOutlinesOf};
+ghost use Rattle.ac_graph.specs.GraphMeaning.{AreSources, BoundChains, HaveFlows, HaveOutputs, HoldMet};
 
 use crate::analysis::{chosen, ranks, recurring};
 use crate::edges::edges;
@@ -14,9 +14,9 @@ use crate::moves::Edges;
 use crate::programs::{Both, both_of};
 use crate::spread::{Reached, all_reached, placed};
 use crate::types::Graph;
+use ac_base::Items;
+use ac_claims_paths::symbols::{may_swap, same_symbol};
 use ac_flow::types::Flow;
-use ac_items::Items;
-use ac_paths::symbols::{may_swap, same_symbol};
 use ac_syntax::tree::{Pair, Position, Site};
 use std::alloc::{AllocError, Global};
 

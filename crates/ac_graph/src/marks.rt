@@ -1,10 +1,10 @@
 //! Which nodes of a graph lie on cycles. A graph is a list: for each node the nodes to which an edge leads.
 ghost use Rattle.std.specs.Prelude.{◌≡◌, ◌↔◌, ◌<◌, ◌++◌, ◌∷◌, [], ℕ, Some, false, cond, count_by, length, replicate, slice_get, OnOk, IfOk};
-ghost use Rattle.ac_forms.specs.Members.{IsAmong};
+ghost use Rattle.ac_forms.specs.ListMembers.{IsAmong};
 ghost use Rattle.ac_graph.specs.Ways.{IsGraph, IsMarked, AreMarks, AreCyclic, AreFalling, IsWithin, IsOutside};
-ghost use Rattle.ac_graph.specs.Marking.{AreBelow, AreMatched, AreAdded, is_marked};
+ghost use Rattle.ac_graph.specs.NodeMarks.{AreBelow, AreMatched, AreAdded, is_marked};
 
-use ac_items::Items;
+use ac_base::Items;
 use std::alloc::{AllocError, Global};
 
 /// As many marks as asked, none of them set.

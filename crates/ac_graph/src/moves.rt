@@ -1,14 +1,14 @@
 //! The moves of a pair of positions.
 ghost use Rattle.std.specs.Prelude.{◌≡◌, ◌||◌, [], IfOk, OnOk, length};
 ghost use Rattle.ac_syntax.specs.Outputs.{swaps_of};
-ghost use Rattle.ac_graph.specs.Moves.{Dependences, Moves, ArgumentMove};
-ghost use Rattle.ac_graph.specs.Outlines.{called, reads_at, AreOutlinesOf, AreEdgesOf};
-ghost use Rattle.ac_graph.specs.Spreading.{IsMore, IsLeftOf, IsRightOf, IsArgumentOf, IsKeptOf, IsMetOf, IsArgumentMoveOf};
+ghost use Rattle.ac_graph.specs.PairMoves.{Dependences, Moves, ArgumentMove};
+ghost use Rattle.ac_graph.specs.ProgramOutlines.{called, reads_at, AreOutlinesOf, AreEdgesOf};
+ghost use Rattle.ac_graph.specs.Reachability.{IsMore, IsLeftOf, IsRightOf, IsArgumentOf, IsKeptOf, IsMetOf, IsArgumentMoveOf};
 
 use crate::programs::{Both, CallNode};
+use ac_base::Items;
 use ac_claims::ending::same_position;
-use ac_items::Items;
-use ac_paths::symbols::{may_swap, same_symbol};
+use ac_claims_paths::symbols::{may_swap, same_symbol};
 use ac_syntax::tree::Position;
 use std::alloc::{AllocError, Global};
 

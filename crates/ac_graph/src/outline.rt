@@ -1,11 +1,11 @@
 //! The nodes of the values that a program assigns, as far as pairs move by them.
 ghost use Rattle.std.specs.Prelude.{◌≡◌, ◌++◌, [], length, IfOk, OnOk};
 ghost use Rattle.std.specs.List.{flat_map};
-ghost use Rattle.ac_syntax.specs.Nodes.{size};
-ghost use Rattle.ac_poly.specs.Steps.{roots_of};
-ghost use Rattle.ac_graph.specs.Outlines.{outlined, outlined_all, outlines};
+ghost use Rattle.ac_syntax.specs.ValueNodes.{size};
+ghost use Rattle.ac_poly.specs.LoweringSteps.{roots_of};
+ghost use Rattle.ac_graph.specs.ProgramOutlines.{outlined, outlined_all, outlines};
 
-use ac_items::Items;
+use ac_base::Items;
 use ac_syntax::copy::copy_symbol;
 use ac_syntax::count;
 use ac_syntax::tree::{Stmt, Symbol, Value};

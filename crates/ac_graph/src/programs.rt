@@ -1,11 +1,11 @@
 //! What stands at a position of a program.
 ghost use Rattle.std.specs.Prelude.{◌≡◌, List, map, length, IfOk, option_copied, option_map};
 ghost use Rattle.std.specs.List.{flat_map};
-ghost use Rattle.ac_graph.specs.Moves.{pairing_of};
-ghost use Rattle.ac_graph.specs.Outlines.{outlines, outline_at, reads_at, called_by, called_at, called, is_read, AreOutlinesOf};
+ghost use Rattle.ac_graph.specs.PairMoves.{pairing_of};
+ghost use Rattle.ac_graph.specs.ProgramOutlines.{outlines, outline_at, reads_at, called_by, called_at, called, is_read, AreOutlinesOf};
 
 use crate::outline::{Outline, with_statements};
-use ac_items::Items;
+use ac_base::Items;
 use ac_syntax::name::Name;
 use ac_syntax::tree::{Pair, Position, Program, Symbol};
 use std::alloc::{AllocError, Global};

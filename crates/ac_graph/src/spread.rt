@@ -1,13 +1,13 @@
 //! The pairs that moves reach from some pairs.
 ghost use Rattle.std.specs.Prelude.{◌≡◌, ◌∷◌, [], IfOk, OnOk, Some, slice_get};
-ghost use Rattle.ac_forms.specs.Members.{IsAmong};
-ghost use Rattle.ac_graph.specs.Moves.{Dependences, AreDistinct};
-ghost use Rattle.ac_graph.specs.Outlines.{AreEdgesOf};
-ghost use Rattle.ac_graph.specs.Spreading.{Extends, ArePlaces, AreAllReached};
+ghost use Rattle.ac_forms.specs.ListMembers.{IsAmong};
+ghost use Rattle.ac_graph.specs.PairMoves.{Dependences, AreDistinct};
+ghost use Rattle.ac_graph.specs.ProgramOutlines.{AreEdgesOf};
+ghost use Rattle.ac_graph.specs.Reachability.{Extends, ArePlaces, AreAllReached};
 
 use crate::edges::place;
 use crate::moves::{Edges, moves};
-use ac_items::Items;
+use ac_base::Items;
 use ac_syntax::tree::Position;
 use std::alloc::{AllocError, Global};
 

@@ -1,6 +1,6 @@
 -- What is among the items of joined lists.
 use Rattle.std.proofs.Common.{◌⊎◌, inl, inr, List, [], ◌∷◌, ◌++◌}
-use Rattle.ac_forms.specs.Members.{IsAmong}
+use Rattle.ac_forms.specs.ListMembers.{IsAmong}
 
 pub among_front : {A : Type 0} (r : A) (xs ys : List A) → IsAmong r xs → IsAmong r (xs ++ ys)
 among_front r [] ys a = absurd a

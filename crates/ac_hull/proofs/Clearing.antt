@@ -4,15 +4,15 @@ use Rattle.std.proofs.lemmas.Int.{ints}
 use Rattle.std.proofs.lemmas.List.{length-map, length-replicate, length-set, get_or-set_other}
 use Rattle.std.proofs.Math.Seq.{get_or-append_seam}
 use Rattle.std.proofs.lemmas.Bool.{eqb-true, eqb-false}
-use Rattle.ac_integers.specs.Dot.{dot}
-use Rattle.ac_integers.specs.Gcd.{content}
+use Rattle.ac_base.specs.Dot.{dot}
+use Rattle.ac_base.specs.Gcd.{content}
 use Rattle.ac_hull.proofs.Lines.{content_positive}
-use Rattle.ac_integers.proofs.Columns.{dot-set_coef}
-use Rattle.ac_integers.proofs.Products.{mul_comm_ℤ, neg-mul_ℤ}
-use Rattle.ac_forms.specs.Members.{IsAmong}
+use Rattle.ac_base.proofs.Columns.{dot-set_coef}
+use Rattle.ac_base.proofs.Products.{mul_comm_ℤ, neg-mul_ℤ}
+use Rattle.ac_forms.specs.ListMembers.{IsAmong}
 use Rattle.ac_widen.specs.Combinations.{times, Each}
 use Rattle.ac_widen.proofs.Combining.{dot_comm, dot-times}
-use Rattle.ac_hull.specs.Elimination.{entry, column_of, pivot_of}
+use Rattle.ac_hull.specs.FractionFreeElimination.{entry, column_of, pivot_of}
 use Rattle.ac_hull.specs.Equalities.{unit, cleared_by, cleared, coefs_of}
 use Rattle.ac_hull.proofs.FreeColumns.{IsFree}
 use Rattle.ac_hull.specs.declared.line.Line.{Line}

@@ -3,7 +3,7 @@ use Rattle.std.proofs.Common.{◌≡◌, ℕ, zero, suc, ◌+◌, ◌-◌, ◌<�
 use Rattle.std.proofs.lemmas.List.{drop_more, drop_all}
 use Rattle.ac_widen.specs.Combinations.{Each}
 use Rattle.ac_hull.specs.Equalities.{cleared_by, cleared}
-use Rattle.ac_hull.specs.Fitting.{CanClearBy, CanClear}
+use Rattle.ac_hull.specs.EliminationRange.{CanClearBy, CanClear}
 use Rattle.ac_hull.specs.declared.line.Line.{Line}
 use Rattle.ac_hull.proofs.Clearing.{length_cleared}
 

@@ -12,11 +12,11 @@ use Rattle.ac_syntax.specs.declared.tree.Value.{Value, Row_of-Value, end_of-Valu
 use Rattle.ac_syntax.specs.declared.tree.Value as value
 use Rattle.ac_syntax.specs.declared.tree.Value.TheVariants.{Number, Access, Call}
 use Rattle.ac_hull.specs.declared.collected.Collected.TheVariants.{Step}
-use Rattle.ac_integers.proofs.Bits.{again_128}
+use Rattle.ac_base.proofs.Bits.{again_128}
 use Rattle.ac_syntax.specs.declared.tree.Pair.{Pair}
 use Rattle.ac_hull.specs.Thresholds.{near, thresholds_at, threshold_candidates}
 use Rattle.ac_hull.specs.declared.collected.Collected.{Collected}
-use Rattle.ac_hull.specs.Collected.{numbers_of_pair, numbers_of_form, numbers_of_forms, numbers_of_condition, numbers_of_value, numbers_of_arguments, numbers_of_statement, numbers_of_body}
+use Rattle.ac_hull.specs.ProgramConstants.{numbers_of_pair, numbers_of_form, numbers_of_forms, numbers_of_condition, numbers_of_value, numbers_of_arguments, numbers_of_statement, numbers_of_body}
 
 value_row : (m : _) (k : Row_of-Value m) → numbers_of_arguments k ≡ flat_map numbers_of_value (items-the_row-Value m k)
 unfolding numbers_of_value

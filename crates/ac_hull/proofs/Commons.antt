@@ -2,9 +2,9 @@
 use Rattle.std.proofs.Common.{◌≡◌, ℕ, ◌+◌, ◌<◌, ◌≤◌, ℤ, pos, ◌≤ℤ◌, List, [], ◌∷◌, ◌++◌, length, drop, get_or, refl, arith, unsigned_abs}
 use Rattle.std.proofs.lemmas.Int.{ints}
 use Rattle.std.proofs.lemmas.List.{drop_more, drop_all}
-use Rattle.ac_integers.proofs.Bits.{again_128}
-use Rattle.ac_integers.specs.Gcd.{content}
-use Rattle.ac_integers.specs.Gcd.{gcd, gcd_all}
+use Rattle.ac_base.proofs.Bits.{again_128}
+use Rattle.ac_base.specs.Gcd.{content}
+use Rattle.ac_base.specs.Gcd.{gcd, gcd_all}
 
 pub record CommonHalfway (n : ℕ) (cs : List ℤ) (d : ℕ) (i : ℕ) : Type 0 where
   pub room : i ≤ length cs

@@ -3,10 +3,10 @@ use Rattle.std.proofs.Common.{◌≡◌, ◌↔◌, inl, inr, ℕ, zero, suc, �
 use Rattle.std.specs.Prelude.{slice_get, IsTrue, is_some}
 use Rattle.std.proofs.lemmas.Int.{ints}
 use Rattle.std.proofs.lemmas.List.{take_more, take_all}
-use Rattle.ac_forms.specs.Members.{IsAmong}
+use Rattle.ac_forms.specs.ListMembers.{IsAmong}
 use Rattle.ac_widen.specs.Combinations.{Each}
 use Rattle.ac_widen.proofs.Combining.{each_among}
-use Rattle.ac_hull.specs.Differences.{IsConstant, IsWeaker, gap_of}
+use Rattle.ac_hull.specs.ColumnDifferences.{IsConstant, IsWeaker, gap_of}
 use Rattle.ac_hull.specs.declared.difference.Difference.{Difference}
 use Rattle.ac_hull.proofs.Facts.{each_snoc}
 

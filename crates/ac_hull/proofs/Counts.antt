@@ -3,11 +3,11 @@ use Rattle.std.proofs.Common.{◌≡◌, ◌==◌, inl, inr, ℕ, zero, suc, ◌
 use Rattle.std.proofs.lemmas.Bool.{eqb-true, eqb-false, eq-eqb}
 use Rattle.ac_forms.specs.Affine.{Affine}
 use Rattle.ac_widen.specs.Combinations.{Each, InHull}
-use Rattle.ac_hull.specs.Elimination.{entry, lead, column_of, minus, next_line}
+use Rattle.ac_hull.specs.FractionFreeElimination.{entry, lead, column_of, minus, next_line}
 use Rattle.ac_hull.specs.Equalities.{equality_of, normal_equality, equalities_below, is_free}
 use Rattle.ac_hull.proofs.FreeColumns.{IsFree}
 use Rattle.ac_hull.specs.Hulls.{HullOf, IsGrown, Falls, equalities_of}
-use Rattle.ac_hull.specs.Inner.Keeping.{IsHull}
+use Rattle.ac_hull.specs.HullInternals.Keeping.{IsHull}
 use Rattle.ac_hull.specs.declared.line.Line.{Line}
 use Rattle.ac_hull.proofs.Entries.{lead_or}
 use Rattle.ac_hull.proofs.Frees.{free_true}

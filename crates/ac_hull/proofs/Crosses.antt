@@ -2,12 +2,12 @@
 use Rattle.std.proofs.Common.{◌≡◌, ℕ, ◌+◌, ◌<◌, ◌≤◌, max, ℤ, pos, ◌+ℤ◌, ◌-ℤ◌, ◌*ℤ◌, neg_ℤ, List, [], ◌∷◌, ◌++◌, length, drop, get_or, arith, ◌∙◌, sym, ap, refl, to_z, of_z, append_assoc, add-zero, append-nil}
 use Rattle.std.proofs.lemmas.List.{length-drop, get_or-drop, drop-drop, drop_all}
 use Rattle.std.proofs.lemmas.Int.{ints}
-use Rattle.ac_integers.specs.Dot.{mix}
-use Rattle.ac_integers.proofs.Products.{neg-mul_ℤ}
+use Rattle.ac_base.specs.Dot.{mix}
+use Rattle.ac_base.proofs.Products.{neg-mul_ℤ}
 use Rattle.ac_forms.specs.Fits.{Fits}
-use Rattle.ac_hull.specs.Fitting.{CrossFits, AllCross}
+use Rattle.ac_hull.specs.EliminationRange.{CrossFits, AllCross}
 use Rattle.std.specs.Int.{w128}
-use Rattle.ac_integers.proofs.Bits.{again_128}
+use Rattle.ac_base.proofs.Bits.{again_128}
 
 -- where there is a column: the two numbers there, and the rest
 pub record Heads (p : ℤ) (a : List ℤ) (r : ℤ) (b : List ℤ) (x y : ℤ) (ra rb : List ℤ) : Type 0 where

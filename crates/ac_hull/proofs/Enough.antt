@@ -3,20 +3,20 @@ use Rattle.std.proofs.Common.{◌≡◌, ◌⊎◌, ◌↔◌, inl, inr, ℕ, ze
 use Rattle.std.specs.Prelude.{slice_set}
 use Rattle.std.proofs.lemmas.Int.{ints}
 use Rattle.std.proofs.lemmas.List.{length-map}
-use Rattle.ac_integers.specs.Dot.{dot, mix}
+use Rattle.ac_base.specs.Dot.{dot, mix}
 use Rattle.ac_forms.specs.Affine.{value_at}
 use Rattle.ac_forms.specs.Rows.{Holds, Meets}
 use Rattle.ac_forms.specs.declared.row.Row.{Row}
-use Rattle.ac_forms.specs.Members.{IsAmong}
+use Rattle.ac_forms.specs.ListMembers.{IsAmong}
 use Rattle.ac_widen.specs.Combinations.{Each, InHull, IsCombination, blend, times}
 use Rattle.ac_widen.specs.Narrowing.{narrowed}
-use Rattle.ac_widen.specs.Statements.{AreEnough}
+use Rattle.ac_widen.specs.WideningLaws.{AreEnough}
 use Rattle.ac_widen.specs.Walks.{narrowed_by}
 use Rattle.ac_widen.proofs.Combining.{each_among, first_of_some}
 use Rattle.ac_widen.proofs.Narrowings.{narrowed_among, among_narrowed}
-use Rattle.ac_hull.specs.Elimination.{entry}
+use Rattle.ac_hull.specs.FractionFreeElimination.{entry}
 use Rattle.ac_hull.specs.Templates.{difference, template_rows}
-use Rattle.ac_hull.specs.Differences.{gap, gap_of, HoldsWith, AllMeetRow, IsMetRow, IsOfPair, IsThin, bound, class_of, row_of, row_with}
+use Rattle.ac_hull.specs.ColumnDifferences.{gap, gap_of, HoldsWith, AllMeetRow, IsMetRow, IsOfPair, IsThin, bound, class_of, row_of, row_with}
 use Rattle.ac_hull.specs.declared.difference.Difference.{Difference}
 use Rattle.ac_hull.proofs.Comparing.{each_from}
 use Rattle.ac_hull.proofs.Resting.{rests_hold}

@@ -3,13 +3,13 @@ use Rattle.std.proofs.Common.{◌≡◌, ◌⊎◌, inl, inr, ℕ, zero, suc, �
 use Rattle.std.specs.Ordering.{int_eq}
 use Rattle.std.proofs.lemmas.Int.{ints}
 use Rattle.std.proofs.lemmas.Bool.Decides.{Decides-int_eq}
-use Rattle.ac_integers.specs.Dot.{dot, floored}
-use Rattle.ac_integers.specs.Gcd.{DividesEach}
-use Rattle.ac_integers.proofs.Columns.{get_or-mix}
-use Rattle.ac_integers.proofs.Floor.{floor_exact}
+use Rattle.ac_base.specs.Dot.{dot, floored}
+use Rattle.ac_base.specs.Gcd.{DividesEach}
+use Rattle.ac_base.proofs.Columns.{get_or-mix}
+use Rattle.ac_base.proofs.Floor.{floor_exact}
 use Rattle.ac_widen.specs.Combinations.{blend, times}
 use Rattle.ac_widen.proofs.Combining.{no_divisor}
-use Rattle.ac_hull.specs.Elimination.{entry, lead, IsZero}
+use Rattle.ac_hull.specs.FractionFreeElimination.{entry, lead, IsZero}
 
 -- the entries of the points in a column
 abbrev pub column : ℕ → List (List ℤ) → List ℤ

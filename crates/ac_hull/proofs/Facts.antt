@@ -2,12 +2,12 @@
 use Rattle.std.proofs.Common.{◌≡◌, inl, inr, ℕ, suc, ◌<◌, ◌≤◌, ℤ, pos, ◌+ℤ◌, ◌*ℤ◌, neg_ℤ, List, [], ◌∷◌, ◌++◌, length, map, replicate, refl, ap, sym, ◌∙◌, arith, length-append}
 use Rattle.std.proofs.lemmas.Int.{ints}
 use Rattle.std.proofs.lemmas.List.{length-map, length-replicate, map-append}
-use Rattle.ac_integers.specs.Dot.{dot}
-use Rattle.ac_integers.specs.Gcd.{content}
-use Rattle.ac_integers.proofs.Dot.{dot-nil}
+use Rattle.ac_base.specs.Dot.{dot}
+use Rattle.ac_base.specs.Gcd.{content}
+use Rattle.ac_base.proofs.Dot.{dot-nil}
 use Rattle.ac_widen.specs.Combinations.{blend, Each}
 use Rattle.ac_widen.proofs.Combining.{no_divisor, dot-mix_point, each_map}
-use Rattle.ac_hull.specs.Elimination.{entry, column_of, pivot_of, reduced_by, reduced_all, lowered, fresh, next_line, next_content, IsZero, Eliminates, none, more}
+use Rattle.ac_hull.specs.FractionFreeElimination.{entry, column_of, pivot_of, reduced_by, reduced_all, lowered, fresh, next_line, next_content, IsZero, Eliminates, none, more}
 use Rattle.ac_hull.specs.declared.line.Line.{Line}
 use Rattle.ac_hull.proofs.Entries.{entry_blend, lead_or}
 use Rattle.ac_hull.proofs.Lines.{length_mix, content_positive, Spans, spans_all, spans_lowered, spans_grow, spans_fresh, zero_stays, zero_at_pivot, zero_lowered, Own, own_fresh, own_reduced, own_lowered}

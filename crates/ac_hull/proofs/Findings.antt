@@ -2,9 +2,9 @@
 use Rattle.std.proofs.Common.{◌≡◌, ◌⊎◌, ◌↔◌, inl, inr, ℕ, ◌+◌, ◌<◌, ◌≤◌, ℤ, pos, List, [], ◌∷◌, ◌++◌, length, take, get_or, refl, ap, ◌∙◌, arith, unsigned_abs, Bool, true, false, ◌==◌}
 use Rattle.std.proofs.lemmas.Bool.{cases_lt, eqb-true, eqb-false}
 use Rattle.std.proofs.lemmas.List.{take_more, take_all}
-use Rattle.ac_forms.specs.Members.{IsAmong}
-use Rattle.ac_hull.specs.Differences.{AllMeetRow, IsOfPair, bound, class_of}
-use Rattle.ac_hull.specs.Inner.Finding.{AddsBounds, AddsClasses, AddsModuli, AddsRow}
+use Rattle.ac_forms.specs.ListMembers.{IsAmong}
+use Rattle.ac_hull.specs.ColumnDifferences.{AllMeetRow, IsOfPair, bound, class_of}
+use Rattle.ac_hull.specs.HullInternals.Finding.{AddsBounds, AddsClasses, AddsModuli, AddsRow}
 use Rattle.ac_hull.specs.declared.difference.Difference.{Difference}
 use Rattle.ac_hull.proofs.Among.{among_front, among_back, among_parts}
 

@@ -5,13 +5,13 @@ use Rattle.std.specs.Int.{◌∣◌}
 use Rattle.std.proofs.lemmas.Int.{ints}
 use Rattle.std.proofs.lemmas.List.{length-map, map-append}
 use Rattle.std.proofs.lemmas.Nat.Gcd.{dvd-zero}
-use Rattle.ac_integers.specs.Dot.{floored}
-use Rattle.ac_integers.specs.Gcd.{DividesEach}
+use Rattle.ac_base.specs.Dot.{floored}
+use Rattle.ac_base.specs.Gcd.{DividesEach}
 use Rattle.ac_forms.specs.Affine.{Affine}
-use Rattle.ac_hull.specs.Elimination.{entry, minus, next_line, next_content, reduced_all, fresh, IsZero}
+use Rattle.ac_hull.specs.FractionFreeElimination.{entry, minus, next_line, next_content, reduced_all, fresh, IsZero}
 use Rattle.ac_hull.specs.Hulls.{differences, turned, read_m, read_weights, lines_of, IsFound}
-use Rattle.ac_hull.specs.Inner.Keeping.{IsHull}
-use Rattle.ac_hull.specs.Fitting.{AllCross, CanNext, CanRead, CanCombine}
+use Rattle.ac_hull.specs.HullInternals.Keeping.{IsHull}
+use Rattle.ac_hull.specs.EliminationRange.{AllCross, CanNext, CanRead, CanCombine}
 use Rattle.ac_hull.specs.declared.line.Line.{Line}
 use Rattle.ac_hull.specs.declared.combination.Combination.{Combination}
 use Rattle.ac_hull.proofs.Facts.{facts_of, next_positive}

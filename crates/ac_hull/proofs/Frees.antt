@@ -2,7 +2,7 @@
 use Rattle.std.proofs.Common.{◌≡◌, ℕ, ◌+◌, ◌<◌, ◌≤◌, ◌==◌, List, [], ◌∷◌, length, drop, get_or, Bool, true, false, cond, refl, arith, ◌∙◌, ap}
 use Rattle.std.proofs.lemmas.List.{drop_more, drop_all}
 use Rattle.std.proofs.lemmas.Bool.{eqb-true, eqb-false, eq-eqb}
-use Rattle.ac_hull.specs.Elimination.{column_of}
+use Rattle.ac_hull.specs.FractionFreeElimination.{column_of}
 use Rattle.ac_hull.specs.Equalities.{is_free}
 use Rattle.ac_hull.proofs.FreeColumns.{IsFree}
 use Rattle.ac_hull.specs.declared.line.Line.{Line}

@@ -3,10 +3,10 @@ use Rattle.std.proofs.Common.{◌≡◌, ◌↔◌, inl, inr, ℕ, ◌+◌, ℤ,
 use Rattle.std.specs.Prelude.{Result, Ok, Err, IfOk}
 use Rattle.std.specs.declared.alloc.AllocError.{AllocError}
 use Rattle.std.proofs.lemmas.Bool.{cases_lt}
-use Rattle.ac_forms.specs.Members.{IsAmong}
+use Rattle.ac_forms.specs.ListMembers.{IsAmong}
 use Rattle.ac_widen.specs.Combinations.{Each}
-use Rattle.ac_hull.specs.Differences.{AllMeetRow, IsMetRow, IsThin, RestsOn, own}
-use Rattle.ac_hull.specs.Inner.Gathering.{Gathers, OfPair, OfFirst, OfFirsts}
+use Rattle.ac_hull.specs.ColumnDifferences.{AllMeetRow, IsMetRow, IsThin, RestsOn, own}
+use Rattle.ac_hull.specs.HullInternals.Gathering.{Gathers, OfPair, OfFirst, OfFirsts}
 use Rattle.ac_hull.specs.declared.difference.Difference.{Difference}
 use Rattle.ac_hull.proofs.Among.{among_front, among_back, among_parts}
 use Rattle.ac_hull.proofs.Comparing.{each_from}

@@ -2,15 +2,15 @@
 use Rattle.std.proofs.Common.{◌≡◌, ℕ, ◌<◌, ◌↔◌, Some, ℤ, pos, neg_ℤ, List, [], ◌∷◌, ◌++◌, length, true, refl, ap, sym, ◌∙◌, arith}
 use Rattle.std.specs.Prelude.{slice_get}
 use Rattle.std.proofs.lemmas.List.{map-append}
-use Rattle.ac_integers.specs.Gcd.{content}
+use Rattle.ac_base.specs.Gcd.{content}
 use Rattle.ac_forms.specs.Affine.{Affine}
 use Rattle.ac_widen.specs.Combinations.{Each, InHull}
 use Rattle.ac_widen.proofs.Combining.{first_of_some}
-use Rattle.ac_hull.specs.Elimination.{pivot_of, minus, next_line, next_content, IsZero, Eliminates, none, more}
+use Rattle.ac_hull.specs.FractionFreeElimination.{pivot_of, minus, next_line, next_content, IsZero, Eliminates, none, more}
 use Rattle.ac_hull.specs.Equalities.{is_free, coefs_of, equalities_below}
 use Rattle.ac_hull.specs.Hulls.{differences, lines_from, lines_of}
-use Rattle.ac_hull.specs.Inner.Keeping.{IsHull, IsGrowth, IsExtension, equalities_behind}
-use Rattle.ac_hull.specs.Fitting.{AllCross, CanNext, CanAdd, CanGrow}
+use Rattle.ac_hull.specs.HullInternals.Keeping.{IsHull, IsGrowth, IsExtension, equalities_behind}
+use Rattle.ac_hull.specs.EliminationRange.{AllCross, CanNext, CanAdd, CanGrow}
 use Rattle.ac_hull.specs.declared.line.Line.{Line}
 use Rattle.ac_hull.proofs.Facts.{LineOver, facts_of, next_positive, each_snoc}
 use Rattle.ac_widen.proofs.Combining.{each_map}

@@ -4,7 +4,7 @@ use Rattle.std.specs.Ordering.{int_eq}
 use Rattle.std.proofs.lemmas.Bool.Decides.{Decides-int_eq}
 use Rattle.std.proofs.lemmas.List.{drop_more, drop_all}
 use Rattle.std.proofs.lemmas.Bool.{eqb-true, eqb-false}
-use Rattle.ac_hull.specs.Elimination.{lead, IsZero}
+use Rattle.ac_hull.specs.FractionFreeElimination.{lead, IsZero}
 use Rattle.ac_hull.proofs.Entries.{lead_or}
 
 -- before number i: those before it are 0

@@ -4,16 +4,16 @@ use Rattle.std.proofs.lemmas.Int.{ints}
 use Rattle.std.proofs.lemmas.List.{length-map, length-replicate, map-append}
 use Rattle.std.proofs.Math.Nat.{eq-zero_of_zero-dvd}
 use Rattle.std.proofs.Math.Seq.{get_or-append_seam}
-use Rattle.ac_integers.specs.Dot.{dot, mix, floored}
-use Rattle.ac_integers.specs.Gcd.{content, DividesEach}
-use Rattle.ac_integers.proofs.Columns.{get_or-mix}
-use Rattle.ac_integers.proofs.Divisors.{gcd_all_divides}
-use Rattle.ac_integers.proofs.Dot.{dot-mix, dot-append, dot-append_both}
-use Rattle.ac_integers.proofs.Floor.{dot-floored}
-use Rattle.ac_integers.proofs.Products.{mul_comm_ℤ, neg-mul_ℤ, mul-add_ℤ, mul-neg_ℤ}
-use Rattle.ac_integers.proofs.Residues.{zero_factor}
+use Rattle.ac_base.specs.Dot.{dot, mix, floored}
+use Rattle.ac_base.specs.Gcd.{content, DividesEach}
+use Rattle.ac_base.proofs.Columns.{get_or-mix}
+use Rattle.ac_base.proofs.Divisors.{gcd_all_divides}
+use Rattle.ac_base.proofs.Dot.{dot-mix, dot-append, dot-append_both}
+use Rattle.ac_base.proofs.Floor.{dot-floored}
+use Rattle.ac_base.proofs.Products.{mul_comm_ℤ, neg-mul_ℤ, mul-add_ℤ, mul-neg_ℤ}
+use Rattle.ac_base.proofs.Residues.{zero_factor}
 use Rattle.ac_widen.specs.Combinations.{Each}
-use Rattle.ac_hull.specs.Elimination.{entry, column_of, pivot_of, reduced_by, reduced_all, lowered, fresh}
+use Rattle.ac_hull.specs.FractionFreeElimination.{entry, column_of, pivot_of, reduced_by, reduced_all, lowered, fresh}
 use Rattle.ac_hull.specs.declared.line.Line.{Line}
 use Rattle.ac_hull.proofs.Entries.{column, entry_floored, entry_past, product_nonzero}
 

@@ -3,12 +3,12 @@ use Rattle.std.proofs.Common.{◌≡◌, ◌↔◌, ℕ, ◌<◌, ℤ, pos, neg_
 use Rattle.std.specs.Prelude.{IsTrue}
 use Rattle.std.specs.Int.{int_div_euclid, int_rem_euclid}
 use Rattle.std.proofs.lemmas.Int.{ints}
-use Rattle.ac_integers.specs.Multiple.{IsMultiple}
-use Rattle.ac_integers.proofs.Bits.{again_128}
-use Rattle.ac_integers.proofs.Floor.{positive_is}
-use Rattle.ac_integers.proofs.Multiples.{multiple_from, multiple_add}
-use Rattle.ac_integers.proofs.Products.{mul-add_ℤ, mul-neg_ℤ}
-use Rattle.ac_integers.proofs.Residues.{split_mod}
+use Rattle.ac_base.specs.Multiple.{IsMultiple}
+use Rattle.ac_base.proofs.Bits.{again_128}
+use Rattle.ac_base.proofs.Floor.{positive_is}
+use Rattle.ac_base.proofs.Multiples.{multiple_from, multiple_add}
+use Rattle.ac_base.proofs.Products.{mul-add_ℤ, mul-neg_ℤ}
+use Rattle.ac_base.proofs.Residues.{split_mod}
 
 parts : (g n m q r s t : ℤ) → g ≡ m *ℤ q +ℤ r → n ≡ m *ℤ s +ℤ t → r -ℤ t ≡ pos 1 *ℤ (g -ℤ n) +ℤ pos 1 *ℤ (m *ℤ (s -ℤ q))
 parts g n m q r s t e f =

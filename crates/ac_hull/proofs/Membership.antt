@@ -3,11 +3,11 @@ use Rattle.std.proofs.Common.{◌≡◌, inl, inr, ℕ, ◌<◌, ℤ, pos, ◌+�
 use Rattle.std.proofs.lemmas.Int.{ints}
 use Rattle.std.proofs.lemmas.Bool.{cases_lt}
 use Rattle.std.proofs.lemmas.List.{map-append}
-use Rattle.ac_integers.specs.Dot.{dot}
+use Rattle.ac_base.specs.Dot.{dot}
 use Rattle.ac_forms.specs.Affine.{Affine, value_at}
 use Rattle.ac_widen.specs.Combinations.{Each, InHull}
 use Rattle.ac_widen.proofs.Combining.{no_divisor, dot-mix_point, equality_combined, each_among}
-use Rattle.ac_hull.specs.Elimination.{entry, column_of, pivot_of, next_line, minus, IsZero, Eliminates}
+use Rattle.ac_hull.specs.FractionFreeElimination.{entry, column_of, pivot_of, next_line, minus, IsZero, Eliminates}
 use Rattle.ac_hull.specs.Equalities.{unit, coefs_of}
 use Rattle.ac_hull.proofs.FreeColumns.{IsFree}
 use Rattle.ac_hull.specs.Hulls.{differences}

@@ -3,24 +3,24 @@ use Rattle.std.proofs.Common.{◌≡◌, ◌==◌, ℕ, zero, suc, ◌+◌, ◌<
 use Rattle.std.specs.Ordering.{int_eq}
 use Rattle.std.proofs.lemmas.Bool.{eqb-true, eqb-false}
 use Rattle.std.proofs.lemmas.List.{length-map}
-use Rattle.ac_integers.specs.Dot.{floored}
-use Rattle.ac_integers.proofs.Divisors.{gcd_all_divides}
+use Rattle.ac_base.specs.Dot.{floored}
+use Rattle.ac_base.proofs.Divisors.{gcd_all_divides}
 use Rattle.ac_widen.specs.Combinations.{Each}
 use Rattle.ac_hull.specs.Equalities.{unit, coefs_of, least_coefs, equality_of, equalities_below, is_free}
-use Rattle.ac_hull.specs.Fitting.{CanEquality, CanEqualities}
+use Rattle.ac_hull.specs.EliminationRange.{CanEquality, CanEqualities}
 use Rattle.ac_hull.specs.declared.line.Line.{Line}
 use Rattle.ac_hull.proofs.Clearing.{length_unit, length_cleared}
 use Rattle.ac_hull.proofs.Reading.{floored_least}
-use Rattle.ac_integers.proofs.Divisors.{true-divides}
+use Rattle.ac_base.proofs.Divisors.{true-divides}
 use Rattle.std.proofs.Math.Nat.{one-dvd}
-use Rattle.ac_integers.specs.Gcd.{content}
-use Rattle.ac_integers.specs.Multiple.{divides}
+use Rattle.ac_base.specs.Gcd.{content}
+use Rattle.ac_base.specs.Multiple.{divides}
 use Rattle.ac_forms.specs.Affine.{Affine}
 use Rattle.ac_forms.specs.NormalRows.{normal_eq}
 use Rattle.ac_forms.specs.declared.row.Row.TheVariants.{Eq}
 use Rattle.ac_forms.specs.declared.normal.NormalRow.TheVariants.{Kept, Dropped, Absurd}
 use Rattle.ac_hull.specs.Equalities.{normal_equality}
-use Rattle.ac_integers.proofs.Bits.{again_128}
+use Rattle.ac_base.proofs.Bits.{again_128}
 use Rattle.ac_hull.proofs.Sums.{plus_none}
 
 two_tests : {A : Type 0} (x y z : A) (a b : Bool) → a ≡ false → b ≡ true → cond a x (cond b y z) ≡ y

@@ -7,11 +7,11 @@ use Rattle.std.proofs.lemmas.Bool.{cases_lt, ltb-true, lt-ltb}
 use Rattle.std.proofs.lemmas.Bool.Decides.{Decides-int_eq}
 use Rattle.std.proofs.lemmas.List.{take_more, take-append-le, drop-append-le, take_all, length-take}
 use Rattle.std.proofs.Math.Seq.{take-append_seam}
-use Rattle.ac_forms.specs.Members.{IsAmong}
+use Rattle.ac_forms.specs.ListMembers.{IsAmong}
 use Rattle.ac_widen.specs.Combinations.{Each}
 use Rattle.ac_widen.proofs.Combining.{each_among}
-use Rattle.ac_hull.specs.First.{rank, IsRising, AreFirst}
-use Rattle.ac_hull.specs.Inner.Placing.{placed, inserted}
+use Rattle.ac_hull.specs.SmallestIntegers.{rank, IsRising, AreFirst}
+use Rattle.ac_hull.specs.HullInternals.Placing.{placed, inserted}
 use Rattle.ac_hull.proofs.Among.{among_back, among_front, among_parts}
 use Rattle.ac_widen.proofs.Combining.{each_map}
 

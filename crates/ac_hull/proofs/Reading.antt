@@ -5,16 +5,16 @@ use Rattle.std.proofs.lemmas.Int.{ints, unsigned_abs-mul}
 use Rattle.std.proofs.lemmas.Nat.Gcd.{dvd-zero, le_of_dvd}
 use Rattle.std.proofs.Math.Nat.{eq-zero_of_zero-dvd, mul-dvd-mul_left, mul-zero}
 use Rattle.std.proofs.lemmas.List.{length-map, map-append}
-use Rattle.ac_integers.specs.Dot.{dot, floored}
-use Rattle.ac_integers.specs.Gcd.{content, DividesEach}
-use Rattle.ac_integers.proofs.Columns.{get_or-mix}
-use Rattle.ac_integers.proofs.Divisors.{gcd_all_divides, divides_gcd_all}
-use Rattle.ac_integers.proofs.Floor.{dot-floored, floor_exact}
-use Rattle.ac_integers.proofs.Products.{neg-mul_ℤ, mul-add_ℤ, mul-neg_ℤ, add-mul_ℤ}
-use Rattle.ac_integers.proofs.Residues.{zero_factor}
+use Rattle.ac_base.specs.Dot.{dot, floored}
+use Rattle.ac_base.specs.Gcd.{content, DividesEach}
+use Rattle.ac_base.proofs.Columns.{get_or-mix}
+use Rattle.ac_base.proofs.Divisors.{gcd_all_divides, divides_gcd_all}
+use Rattle.ac_base.proofs.Floor.{dot-floored, floor_exact}
+use Rattle.ac_base.proofs.Products.{neg-mul_ℤ, mul-add_ℤ, mul-neg_ℤ, add-mul_ℤ}
+use Rattle.ac_base.proofs.Residues.{zero_factor}
 use Rattle.ac_forms.specs.Affine.{value_at}
 use Rattle.ac_widen.specs.Combinations.{blend, total, times, Each, IsCombination, InHull}
-use Rattle.ac_hull.specs.Elimination.{entry, next_line, minus, IsZero, Eliminates}
+use Rattle.ac_hull.specs.FractionFreeElimination.{entry, next_line, minus, IsZero, Eliminates}
 use Rattle.ac_hull.specs.Equalities.{coefs_of, least_coefs, equality_of}
 use Rattle.ac_hull.proofs.FreeColumns.{IsFree}
 use Rattle.ac_hull.specs.Hulls.{differences, turned, read_m, read_rest, read_weights}

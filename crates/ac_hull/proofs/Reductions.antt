@@ -1,8 +1,8 @@
 -- A row reduced by others, one after the other.
 use Rattle.std.proofs.Common.{◌≡◌, ℕ, ◌+◌, ◌<◌, ◌≤◌, ℤ, List, ◌∷◌, length, drop, get_or, refl, arith, sym, ◌∙◌, ap}
 use Rattle.std.proofs.lemmas.List.{drop_more, drop_all}
-use Rattle.ac_hull.specs.Elimination.{entry, column_of, pivot_of, crossed, reduced_by, reduced_all}
-use Rattle.ac_hull.specs.Fitting.{AllCross, CanReduce, CanReduceAll}
+use Rattle.ac_hull.specs.FractionFreeElimination.{entry, column_of, pivot_of, crossed, reduced_by, reduced_all}
+use Rattle.ac_hull.specs.EliminationRange.{AllCross, CanReduce, CanReduceAll}
 use Rattle.ac_hull.specs.declared.line.Line.{Line}
 
 -- before row i

@@ -2,17 +2,17 @@
 use Rattle.std.proofs.Common.{◌≡◌, inl, inr, ℕ, zero, suc, ◌+◌, ◌<◌, ◌≤◌, ℤ, pos, neg_ℤ, ◌+ℤ◌, ◌-ℤ◌, ◌*ℤ◌, ◌≤ℤ◌, List, [], ◌∷◌, length, Option, Some, None, refl, ap, sym, ◌∙◌, arith}
 use Rattle.std.proofs.lemmas.Int.{ints}
 use Rattle.std.proofs.lemmas.Bool.{cases_lt}
-use Rattle.ac_integers.specs.Dot.{dot, mix}
-use Rattle.ac_integers.specs.Multiple.{IsMultiple}
-use Rattle.ac_integers.proofs.Dot.{dot-mix}
-use Rattle.ac_integers.proofs.Multiples.{multiple_add}
+use Rattle.ac_base.specs.Dot.{dot, mix}
+use Rattle.ac_base.specs.Multiple.{IsMultiple}
+use Rattle.ac_base.proofs.Dot.{dot-mix}
+use Rattle.ac_base.proofs.Multiples.{multiple_add}
 use Rattle.ac_forms.specs.Affine.{Affine, value_at}
 use Rattle.ac_forms.specs.Fits.{Fits}
-use Rattle.ac_forms.specs.Members.{IsAmong}
+use Rattle.ac_forms.specs.ListMembers.{IsAmong}
 use Rattle.ac_widen.specs.Combinations.{Each, IsCombination}
 use Rattle.ac_widen.proofs.Combining.{equality_combined, each_among}
-use Rattle.ac_hull.specs.Elimination.{entry}
-use Rattle.ac_hull.specs.Differences.{gap, gap_of, GapsFit, HoldsWith, AllMeetRow, IsConstant, IsWeaker, IsSum, RestsOn, own, constant, weaker, sum}
+use Rattle.ac_hull.specs.FractionFreeElimination.{entry}
+use Rattle.ac_hull.specs.ColumnDifferences.{gap, gap_of, GapsFit, HoldsWith, AllMeetRow, IsConstant, IsWeaker, IsSum, RestsOn, own, constant, weaker, sum}
 use Rattle.ac_hull.specs.declared.difference.Difference.{Difference}
 use Rattle.ac_hull.proofs.Comparing.{each_from}
 use Rattle.ac_hull.proofs.Entries.{entry_past}

@@ -1,9 +1,9 @@
 -- Sums of products as values of forms, and multiples as lists crossed with none.
 use Rattle.std.proofs.Common.{◌≡◌, ℤ, pos, ◌+ℤ◌, ◌*ℤ◌, List, [], ◌∷◌, refl, ap, arith}
 use Rattle.std.proofs.lemmas.Int.{ints}
-use Rattle.ac_integers.specs.Dot.{mix}
+use Rattle.ac_base.specs.Dot.{mix}
 use Rattle.ac_widen.specs.Combinations.{times}
-use Rattle.ac_integers.proofs.Bits.{again_128}
+use Rattle.ac_base.proofs.Bits.{again_128}
 
 pub plus_none : (x : ℤ) → x +ℤ pos 0 ≡ x
 plus_none x = omega (arith, ints)

@@ -3,11 +3,11 @@ use Rattle.std.proofs.Common.{◌≡◌, ◌≢◌, ◌⊎◌, inl, inr, ◌==�
 use Rattle.std.proofs.lemmas.Bool.{eqb-true, eqb-false, ltb-true, lt-ltb, cases_lt}
 use Rattle.std.specs.Int.{w128}
 use Rattle.std.proofs.lemmas.List.{take_more}
-use Rattle.ac_integers.proofs.Bits.{again_128}
+use Rattle.ac_base.proofs.Bits.{again_128}
 use Rattle.ac_forms.specs.Fits.{Fits}
 use Rattle.ac_forms.specs.declared.row.Row.{Row}
 use Rattle.ac_forms.specs.declared.row.Row.TheVariants.{Div, Ge}
-use Rattle.ac_forms.specs.Members.{IsAmong}
+use Rattle.ac_forms.specs.ListMembers.{IsAmong}
 use Rattle.ac_hull.proofs.Among.{among_front, among_back, among_parts}
 use Rattle.ac_hull.specs.Templates.{difference, IsBound, IsClass, bounds_of, classes_below, classes_of, pair_rows, row_rows, all_rows, template_rows, IsTemplate}
 

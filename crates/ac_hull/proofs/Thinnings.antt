@@ -1,9 +1,9 @@
 -- Rows thinned out one after another.
 use Rattle.std.proofs.Common.{◌≡◌, ◌⊎◌, inl, inr, ℕ, zero, suc, ◌+◌, ◌-◌, ◌<◌, ◌≤◌, ℤ, List, [], ◌∷◌, ◌++◌, length, take, drop, get_or, refl, ap, sym, ◌∙◌, arith, append_assoc, length-drop}
 use Rattle.std.proofs.lemmas.List.{take_more, take_all, drop_more, drop_all}
-use Rattle.ac_forms.specs.Members.{IsAmong}
-use Rattle.ac_hull.specs.Differences.{IsConstant, IsSum, IsWeaker, RestsOn, own, constant, weaker, sum, IsThin, AllMeetRow}
-use Rattle.ac_hull.specs.Inner.Thinning.{IsRedundant}
+use Rattle.ac_forms.specs.ListMembers.{IsAmong}
+use Rattle.ac_hull.specs.ColumnDifferences.{IsConstant, IsSum, IsWeaker, RestsOn, own, constant, weaker, sum, IsThin, AllMeetRow}
+use Rattle.ac_hull.specs.HullInternals.Thinning.{IsRedundant}
 use Rattle.ac_hull.specs.declared.difference.Difference.{Difference}
 use Rattle.ac_hull.proofs.Among.{among_front, among_back, among_parts}
 

@@ -3,16 +3,16 @@ use Rattle.std.proofs.Common.{◌≡◌, add-one, ℕ, zero, suc, ◌+◌, ◌<�
 use Rattle.std.proofs.lemmas.Int.{ints}
 use Rattle.std.proofs.lemmas.List.{drop_more, drop_all}
 use Rattle.std.specs.Int.{w128}
-use Rattle.ac_integers.proofs.Bits.{again_128}
+use Rattle.ac_base.proofs.Bits.{again_128}
 use Rattle.std.specs.Prelude.{Result, Ok, Err, IsErrAnd}
 use Rattle.ac_forms.specs.Fits.{Fits, AllFit}
-use Rattle.ac_forms.specs.Stops.{MadeWhere}
+use Rattle.ac_forms.specs.FormStops.{MadeWhere}
 use Rattle.ac_forms.specs.declared.stop.FormStop.{FormStop}
 use Rattle.ac_forms.specs.declared.stop.FormStop.TheVariants.{Wide}
 use Rattle.ac_forms.proofs.Signs.{AllFit-append}
 use Rattle.ac_widen.specs.Combinations.{total}
 use Rattle.ac_hull.specs.Hulls.{turned}
-use Rattle.ac_hull.specs.Fitting.{differences_from}
+use Rattle.ac_hull.specs.EliminationRange.{differences_from}
 
 pub turned_low : (t w : ℤ) → t <ℤ pos 0 → turned t w ≡ w
 turned_low (pos t) w h = absurd (omega (arith, ints))

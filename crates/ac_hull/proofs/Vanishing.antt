@@ -5,17 +5,17 @@ use Rattle.ac_forms.specs.declared.stop.Wide.{Wide}
 use Rattle.std.specs.Ordering.{int_eq}
 use Rattle.std.proofs.lemmas.List.{drop_more, drop_all, length-map}
 use Rattle.std.proofs.lemmas.Bool.{eqb-true, eqb-false}
-use Rattle.ac_integers.specs.Dot.{floored}
-use Rattle.ac_integers.specs.Gcd.{content}
+use Rattle.ac_base.specs.Dot.{floored}
+use Rattle.ac_base.specs.Gcd.{content}
 use Rattle.ac_forms.specs.Affine.{Affine, value_at, CanEvaluate}
 use Rattle.ac_forms.specs.NormalRows.{trim, trim_onto, signed, divided, leads_negative}
 use Rattle.ac_forms.proofs.NormalLaws.{eq_row_keeps}
 use Rattle.ac_widen.specs.Combinations.{Each, InHull}
-use Rattle.ac_hull.specs.Elimination.{Eliminates}
+use Rattle.ac_hull.specs.FractionFreeElimination.{Eliminates}
 use Rattle.ac_hull.specs.Equalities.{unit, coefs_of, least_coefs, equality_of, normal_equality, equalities_below, is_free}
 use Rattle.ac_hull.proofs.FreeColumns.{IsFree}
 use Rattle.ac_hull.specs.Hulls.{Vanish, CanVanish, differences, equalities_of}
-use Rattle.ac_hull.specs.Inner.Keeping.{IsHull}
+use Rattle.ac_hull.specs.HullInternals.Keeping.{IsHull}
 use Rattle.ac_hull.specs.declared.line.Line.{Line}
 use Rattle.ac_hull.proofs.Clearing.{length_cleared, length_unit}
 use Rattle.ac_hull.proofs.Facts.{each_snoc, each_front, each_last}

@@ -1,11 +1,11 @@
 -- The equalities of a hull: for each column that is no pivot, a form that all rows of the elimination make 0.
 use Rattle.std.specs.Prelude.{ℕ, ◌-◌, zero, suc, ◌==◌, Bool, true, false, if◌then◌else◌, ℤ, pos, ◌-ℤ◌, ◌*ℤ◌, neg_ℤ, List, [], ◌∷◌, ◌++◌, replicate, slice_set}
-use Rattle.ac_integers.specs.Dot.{dot, floored}
-use Rattle.ac_integers.specs.Gcd.{content}
+use Rattle.ac_base.specs.Dot.{dot, floored}
+use Rattle.ac_base.specs.Gcd.{content}
 use Rattle.ac_forms.specs.Affine.{Affine}
 use Rattle.ac_forms.specs.NormalRows.{signed, divided}
 use Rattle.ac_widen.specs.Combinations.{times}
-use Rattle.ac_hull.specs.Elimination.{entry, column_of, pivot_of}
+use Rattle.ac_hull.specs.FractionFreeElimination.{entry, column_of, pivot_of}
 use Rattle.ac_hull.specs.declared.line.Line.{Line}
 
 -- 1 in one of the columns, 0 in the others

@@ -4,10 +4,10 @@ use Rattle.ac_forms.specs.Affine.{Affine, value_at, CanEvaluate}
 use Rattle.ac_forms.specs.Rows.{form_of}
 use Rattle.ac_forms.specs.declared.row.Row.{Row}
 use Rattle.ac_widen.specs.Combinations.{total, Each, InHull, IsCombination}
-use Rattle.ac_hull.specs.Elimination.{entry, minus, next_line}
+use Rattle.ac_hull.specs.FractionFreeElimination.{entry, minus, next_line}
 use Rattle.ac_hull.specs.Equalities.{equalities_below}
 use Rattle.std.specs.Int.{◌∣◌}
-use Rattle.ac_integers.specs.Gcd.{DividesEach}
+use Rattle.ac_base.specs.Gcd.{DividesEach}
 use Rattle.ac_hull.specs.declared.combination.Combination.{Combination}
 use Rattle.ac_hull.specs.declared.line.Line.{Line}
 

@@ -3,7 +3,7 @@ use Rattle.std.specs.Prelude.{◌≡◌, ◌⊎◌, ◌==◌, nat_lt, ℕ, zero,
 use Rattle.ac_forms.specs.Affine.{Affine}
 use Rattle.ac_forms.specs.declared.row.Row.{Row}
 use Rattle.ac_forms.specs.declared.row.Row.TheVariants.{Div, Ge}
-use Rattle.ac_forms.specs.Members.{IsAmong}
+use Rattle.ac_forms.specs.ListMembers.{IsAmong}
 
 -- s - t + c, where a column past the end stands for 0
 abbrev pub difference : ℕ → ℕ → ℕ → ℤ → Affine

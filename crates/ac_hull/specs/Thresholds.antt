@@ -2,7 +2,7 @@
 use Rattle.std.specs.Prelude.{ℤ, pos, neg_ℤ, ◌+ℤ◌, ◌-ℤ◌, List, [], ◌∷◌, ◌++◌, ◌&&◌, nat_le, unsigned_abs, if◌then◌else◌}
 use Rattle.std.specs.List.{flat_map}
 use Rattle.ac_syntax.specs.declared.tree.Pair.{Pair}
-use Rattle.ac_hull.specs.Collected.{numbers_of_pair}
+use Rattle.ac_hull.specs.ProgramConstants.{numbers_of_pair}
 use Rattle.ac_hull.specs.declared.collected.Collected.{Collected}
 use Rattle.ac_hull.specs.declared.collected.Collected.TheVariants.{Constant, Coefficient, Step}
 

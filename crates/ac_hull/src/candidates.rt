@@ -1,12 +1,12 @@
 ghost use Rattle.std.specs.Prelude.{◌≡◌, ◌≤◌, ◌^◌, ◌++◌, ℤ, IfOk, unsigned_abs};
 ghost use Rattle.std.specs.List.{flat_map};
-ghost use Rattle.ac_forms.specs.Members.{IsAmong};
-ghost use Rattle.ac_hull.specs.First.{AreFirst};
+ghost use Rattle.ac_forms.specs.ListMembers.{IsAmong};
+ghost use Rattle.ac_hull.specs.SmallestIntegers.{AreFirst};
 ghost use Rattle.ac_hull.specs.Thresholds.{beside, near, small_size, thresholds_at, threshold_candidates, modulus_at, modulus_candidates};
 
 use crate::collected::{Collected, numbers_of};
 use crate::first::first;
-use ac_items::Items;
+use ac_base::Items;
 use ac_syntax::tree::Pair;
 use std::alloc::{AllocError, Global};
 

@@ -1,21 +1,21 @@
 ghost use Rattle.std.specs.Prelude.{◌≡◌, ◌↔◌, ◌<◌, ◌^◌, ◌+◌, ◌≤ℤ◌, ℤ, pos, List, [], IfOk, IsTrue, length, map, ℕ};
 ghost use Rattle.ac_forms.specs.Fits.{Fits};
-ghost use Rattle.ac_forms.specs.Stops.{MadeWhere};
-ghost use Rattle.ac_forms.specs.Members.{IsAmong};
+ghost use Rattle.ac_forms.specs.FormStops.{MadeWhere};
+ghost use Rattle.ac_forms.specs.ListMembers.{IsAmong};
 ghost use Rattle.ac_widen.specs.Combinations.{Each};
-ghost use Rattle.ac_widen.specs.Statements.{AreEnough};
+ghost use Rattle.ac_widen.specs.WideningLaws.{AreEnough};
 ghost use Rattle.ac_widen.specs.Walks.{narrowed_by};
-ghost use Rattle.ac_hull.specs.Claims.{AreClaimRows};
-ghost use Rattle.ac_hull.specs.Differences.{GapsFit, IsMetRow, IsThin, gap, row_of};
-ghost use Rattle.ac_hull.specs.Inner.Gathering.{Gathers, OfFirst, OfFirsts, OfPair};
+ghost use Rattle.ac_hull.specs.ClaimRows.{AreClaimRows};
+ghost use Rattle.ac_hull.specs.ColumnDifferences.{GapsFit, IsMetRow, IsThin, gap, row_of};
+ghost use Rattle.ac_hull.specs.HullInternals.Gathering.{Gathers, OfFirst, OfFirsts, OfPair};
 ghost use Rattle.ac_hull.specs.Templates.{template_rows};
 
 use crate::difference::{Difference, gap};
 use crate::finding::met_rows;
 use crate::templates::difference;
 use crate::thinning::{joined, thinned};
+use ac_base::Items;
 use ac_forms::{FormStop, Row};
-use ac_items::Items;
 use std::alloc::{AllocError, Global};
 
 /// The template rows that a claim keeps, where found members of a recurrence pair have these points: rows that all of them

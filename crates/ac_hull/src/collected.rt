@@ -2,9 +2,9 @@
 ghost use Rattle.std.specs.Prelude.{◌≡◌, ◌++◌, IfOk, ℤ, map};
 ghost use Rattle.std.specs.List.{flat_map};
 ghost use Rattle.ac_hull.specs.declared.collected.Collected.TheVariants.{Coefficient};
-ghost use Rattle.ac_hull.specs.Collected.{numbers_of_form, numbers_of_forms, numbers_of_condition, numbers_of_value, numbers_of_statement, numbers_of_program, numbers_of_pair};
+ghost use Rattle.ac_hull.specs.ProgramConstants.{numbers_of_form, numbers_of_forms, numbers_of_condition, numbers_of_value, numbers_of_statement, numbers_of_program, numbers_of_pair};
 
-use ac_items::Items;
+use ac_base::Items;
 use ac_syntax::tree::{Cond, IndexExpr, Pair, Program, Stmt, Value};
 use std::alloc::{AllocError, Global};
 

@@ -1,12 +1,12 @@
 ghost use Rattle.std.specs.Prelude.{◌≡◌, ◌↔◌, ◌+ℤ◌, ◌-ℤ◌, ◌≤ℤ◌, ℤ, pos, List, IfSome, IsTrue, OkIff};
-ghost use Rattle.ac_integers.specs.Multiple.{IsMultiple};
+ghost use Rattle.ac_base.specs.Multiple.{IsMultiple};
 ghost use Rattle.ac_forms.specs.Fits.{Fits};
-ghost use Rattle.ac_forms.specs.Members.{IsAmong};
+ghost use Rattle.ac_forms.specs.ListMembers.{IsAmong};
 ghost use Rattle.ac_widen.specs.Combinations.{Each};
-ghost use Rattle.ac_hull.specs.Differences.{AllMeetRow, GapsFit, HoldsWith, IsConstant, IsSum, IsWeaker, gap, gap_of};
+ghost use Rattle.ac_hull.specs.ColumnDifferences.{AllMeetRow, GapsFit, HoldsWith, IsConstant, IsSum, IsWeaker, gap, gap_of};
 
+use ac_base::Items;
 use ac_forms::{Wide, coefficient};
-use ac_items::Items;
 
 /// A row over the difference of two columns, of which one past the end stands for 0.
 #[derive(Clone, Copy, Drop)]
@@ -19,7 +19,7 @@ pub(crate) struct Difference {
 }
 
 /// One column less another at a point; `Wide` exactly where that leaves `i128`.
-#[tactic(auto, using(ac_integers::proofs::Bits::again_128))]
+#[tactic(auto, using(ac_base::proofs::Bits::again_128))]
 pub(crate) fn gap(point: &[i128], first: usize, second: usize) -> Result<i128, Wide>
     ensures { OkIff result (Fits (gap first second point.now)) (gap first second point.now) }
 {
@@ -30,7 +30,7 @@ pub(crate) fn gap(point: &[i128], first: usize, second: usize) -> Result<i128, W
 }
 
 /// Whether `left - right` is at most `other_left - other_right`.
-#[tactic(auto, using(ac_integers::proofs::Bits::again_128))]
+#[tactic(auto, using(ac_base::proofs::Bits::again_128))]
 fn is_at_most(left: &i128, right: &i128, other_left: &i128, other_right: &i128) -> bool
     ensures { IsTrue result ↔ ((left.now -ℤ right.now) ≤ℤ (other_left.now -ℤ other_right.now)) }
 {
@@ -53,12 +53,12 @@ fn has_residue(number: &i128, constant: &i128, modulus: &i128) -> bool
     let rest = number.rem_euclid(*modulus);
     let opposite = -*constant;
     let difference = rest - opposite.rem_euclid(*modulus);
-    ac_integers::is_multiple(difference, *modulus)
+    ac_base::is_multiple(difference, *modulus)
 }
 
 impl Difference {
     /// The difference of the row's columns at a point.
-    #[tactic(auto, using(ac_integers::proofs::Bits::again_128))]
+    #[tactic(auto, using(ac_base::proofs::Bits::again_128))]
     fn gap(&self, point: &[i128]) -> i128
         requires { GapsFit point.now }
         ensures { result ≡ gap_of self.now point.now }
@@ -114,7 +114,7 @@ impl Difference {
     }
 
     /// Whether the forms of two rows differ by the same number at two points.
-    #[tactic(auto, using(ac_integers::proofs::Bits::again_128))]
+    #[tactic(auto, using(ac_base::proofs::Bits::again_128))]
     fn is_parallel_at(&self, other: &Difference, base: &[i128], point: &[i128]) -> bool
         requires base { GapsFit base.now }
         requires point { GapsFit point.now }
@@ -143,7 +143,7 @@ impl Difference {
     }
 
     /// Whether the form of a row is at most that of another at a point.
-    #[tactic(auto, using(ac_integers::proofs::Bits::again_128))]
+    #[tactic(auto, using(ac_base::proofs::Bits::again_128))]
     fn is_below_at(&self, other: &Difference, point: &[i128]) -> bool
         requires { GapsFit point.now }
         ensures { IsTrue result ↔ ((gap_of self.now point.now +ℤ self.now.constant) ≤ℤ (gap_of other.now point.now +ℤ other.now.constant)) }

@@ -1,12 +1,12 @@
 ghost use Rattle.std.specs.Prelude.{◌≡◌, ◌↔◌, ◌⊎◌, ◌<◌, ◌≤◌, ◌^◌, ◌≤ℤ◌, ℕ, ℤ, pos, unsigned_abs, IfOk, IsTrue, length, IfSome};
-ghost use Rattle.ac_forms.specs.Members.{IsAmong};
+ghost use Rattle.ac_forms.specs.ListMembers.{IsAmong};
 ghost use Rattle.ac_widen.specs.Combinations.{Each};
 ghost use Rattle.ac_hull.specs.declared.difference.Difference.{Difference};
-ghost use Rattle.ac_hull.specs.Differences.{AllMeetRow, GapsFit, IsOfPair, bound, class_of};
-ghost use Rattle.ac_hull.specs.Inner.Finding.{AddsBounds, AddsClasses, AddsModuli, AddsRow};
+ghost use Rattle.ac_hull.specs.ColumnDifferences.{AllMeetRow, GapsFit, IsOfPair, bound, class_of};
+ghost use Rattle.ac_hull.specs.HullInternals.Finding.{AddsBounds, AddsClasses, AddsModuli, AddsRow};
 
 use crate::difference::Difference;
-use ac_items::Items;
+use ac_base::Items;
 use std::alloc::{AllocError, Global};
 
 /// The rows with one more, if all points meet it.
@@ -30,7 +30,7 @@ fn with_met(
 }
 
 /// The bound of two columns by a number.
-#[tactic(auto, using(ac_integers::proofs::Bits::again_128))]
+#[tactic(auto, using(ac_base::proofs::Bits::again_128))]
 fn bound(first: usize, second: usize, constant: &i128) -> Difference
     ensures { result ≡ bound first second constant.now }
 {
@@ -43,7 +43,7 @@ fn bound(first: usize, second: usize, constant: &i128) -> Difference
 }
 
 /// The class of two columns with a modulus.
-#[tactic(auto, using(ac_integers::proofs::Bits::again_128))]
+#[tactic(auto, using(ac_base::proofs::Bits::again_128))]
 fn class_row(first: usize, second: usize, modulus: &i128, class: u128) -> Difference
     requires { class < 2 ^ 127 }
     ensures { result ≡ class_of first second modulus.now class }

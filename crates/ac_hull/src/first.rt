@@ -1,11 +1,11 @@
 //! The first of some numbers in the order 0, 1, -1, 2, -2, and so on.
 ghost use Rattle.std.specs.Prelude.{◌≡◌, ◌↔◌, ◌<◌, ◌≤◌, ℤ, IfOk, IfSome, IsTrue, length, slice_get, take};
-ghost use Rattle.ac_forms.specs.Members.{IsAmong};
+ghost use Rattle.ac_forms.specs.ListMembers.{IsAmong};
 ghost use Rattle.ac_widen.specs.Combinations.{Each};
-ghost use Rattle.ac_hull.specs.First.{AreFirst, rank};
-ghost use Rattle.ac_hull.specs.Inner.Placing.{inserted};
+ghost use Rattle.ac_hull.specs.SmallestIntegers.{AreFirst, rank};
+ghost use Rattle.ac_hull.specs.HullInternals.Placing.{inserted};
 
-use ac_items::Items;
+use ac_base::Items;
 use std::alloc::{AllocError, Global};
 
 /// Whether a number comes before another.

@@ -1,10 +1,10 @@
 ghost use Rattle.std.specs.Prelude.{ℤ, List, MatchResult, MatchOption, IsTrue, ◌↔◌, ◌≡◌, [], ◌∷◌, ◌++◌, length, MatchBool, IfOk, OnErr};
-ghost use Rattle.ac_forms.specs.Stops.{GivenWhere, MadeWhere};
+ghost use Rattle.ac_forms.specs.FormStops.{GivenWhere, MadeWhere};
 ghost use Rattle.ac_hull.specs.Hulls.{HullOf, IsGrown, IsWithin, Falls, IsFound, Vanish, CanVanish, equalities_of};
-ghost use Rattle.ac_hull.specs.Inner.Keeping.{IsGrowth, IsExtension, equalities_behind};
+ghost use Rattle.ac_hull.specs.HullInternals.Keeping.{IsGrowth, IsExtension, equalities_behind};
 ghost use Rattle.ac_widen.specs.Combinations.{InHull};
-ghost use Rattle.ac_hull.specs.Stops.{HandsBack};
-ghost use Rattle.ac_hull.specs.Fitting.{CanAdd, CanGrow, CanEqualities, CanCombine};
+ghost use Rattle.ac_hull.specs.HullStops.{HandsBack};
+ghost use Rattle.ac_hull.specs.EliminationRange.{CanAdd, CanGrow, CanEqualities, CanCombine};
 
 use crate::combination::{Combination, read};
 use crate::equality::equalities;
@@ -12,8 +12,8 @@ use crate::line::{Line, line_of};
 use crate::points::stopped;
 use crate::stop::HullStop;
 use crate::vanish::vanish;
+use ac_base::Items;
 use ac_forms::{Form, FormStop, Wide};
-use ac_items::Items;
 use std::alloc::{AllocError, Global};
 use std::marker::Model;
 
@@ -30,7 +30,7 @@ pub struct Hull {
 
 impl Model for Hull {
     ghost use Rattle.ac_hull.specs.Hulls.{HullOf};
-    ghost use Rattle.ac_hull.specs.Inner.Keeping.{IsHull};
+    ghost use Rattle.ac_hull.specs.HullInternals.Keeping.{IsHull};
 
     ghost Value = { HullOf };
 

@@ -1,13 +1,13 @@
 ghost use Rattle.std.specs.Prelude.{◌≡◌, ◌++◌, ℕ, pos, ◌<◌, IfOk, OkIff, IsTrue, ◌↔◌};
-ghost use Rattle.ac_integers.specs.Gcd.{content};
+ghost use Rattle.ac_base.specs.Gcd.{content};
 ghost use Rattle.ac_forms.specs.Fits.{Fits};
-ghost use Rattle.ac_forms.specs.Stops.{MadeIff};
-ghost use Rattle.ac_hull.specs.Elimination.{reduced_by, reduced_all, lowered, fresh, next_line, next_content, minus, IsZero};
-ghost use Rattle.ac_hull.specs.Fitting.{CanReduce, CanReduceAll, CanNext, AllCross};
+ghost use Rattle.ac_forms.specs.FormStops.{MadeIff};
+ghost use Rattle.ac_hull.specs.FractionFreeElimination.{reduced_by, reduced_all, lowered, fresh, next_line, next_content, minus, IsZero};
+ghost use Rattle.ac_hull.specs.EliminationRange.{CanReduce, CanReduceAll, CanNext, AllCross};
 
 use crate::numbers::{common_divisor, crossed, lead, quotients};
+use ac_base::Items;
 use ac_forms::{FormStop, Wide, coefficient};
-use ac_items::Items;
 use std::alloc::{AllocError, Global};
 
 /// A row of the elimination: its coordinates, and its weights over the differences of the members to the first.
@@ -72,7 +72,7 @@ impl Line {
         ensures { OkIff result (Fits (pos (content (self.now.coords ++ self.now.weights)))) (pos (content (self.now.coords ++ self.now.weights))) }
     {
         let divisor = common_divisor(
-            ac_integers::content(self.coords.as_slice()),
+            ac_base::content(self.coords.as_slice()),
             self.weights.as_slice(),
         );
         if divisor <= i128::MAX as u128 {

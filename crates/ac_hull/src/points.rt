@@ -1,9 +1,9 @@
 ghost use Rattle.std.specs.Prelude.{◌≡◌, [], ◌∷◌, ◌++◌, IfOk};
-ghost use Rattle.ac_hull.specs.Inner.Stopping.{IsStopAt};
+ghost use Rattle.ac_hull.specs.HullInternals.Stopping.{IsStopAt};
 
 use crate::stop::HullStop;
+use ac_base::Items;
 use ac_forms::FormStop;
-use ac_items::Items;
 use std::alloc::{AllocError, Global};
 
 /// The members, followed by a point.

@@ -1,4 +1,4 @@
-use ac_items::Items;
+use ac_base::Items;
 use std::alloc::AllocError;
 
 /// Why a call on a hull stopped.

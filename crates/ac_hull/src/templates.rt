@@ -3,8 +3,8 @@ ghost use Rattle.ac_forms.specs.declared.row.Row.TheVariants.{Div};
 ghost use Rattle.ac_hull.specs.Templates.{difference, bounds_of, classes_below, classes_of, pair_rows, row_rows, all_rows, template_rows, IsTemplate};
 
 use crate::equality::with_number;
+use ac_base::Items;
 use ac_forms::{Form, Row};
-use ac_items::Items;
 use std::alloc::{AllocError, Global};
 
 /// The template rows over that many columns.
@@ -127,7 +127,7 @@ fn with_modulus(
 }
 
 /// The rows with one residue class.
-#[tactic(auto, using(ac_integers::proofs::Bits::again_128))]
+#[tactic(auto, using(ac_base::proofs::Bits::again_128))]
 fn with_class(
     alloc: Global,
     rows: Items<Row>,
@@ -149,7 +149,7 @@ fn with_class(
 }
 
 /// The first column less the second plus a number; a column past the end stands for 0.
-#[tactic(auto, using(ac_integers::proofs::Bits::again_128))]
+#[tactic(auto, using(ac_base::proofs::Bits::again_128))]
 pub(crate) fn difference(
     alloc: Global,
     columns: usize,

@@ -1,12 +1,12 @@
 ghost use Rattle.std.specs.Prelude.{◌≡◌, ◌↔◌, ◌++◌, IsTrue, IfOk};
-ghost use Rattle.ac_forms.specs.Members.{IsAmong};
+ghost use Rattle.ac_forms.specs.ListMembers.{IsAmong};
 ghost use Rattle.ac_widen.specs.Combinations.{Each};
 ghost use Rattle.ac_hull.specs.declared.difference.Difference.{Difference};
-ghost use Rattle.ac_hull.specs.Differences.{AllMeetRow, GapsFit, IsSum, IsThin, IsWeaker};
-ghost use Rattle.ac_hull.specs.Inner.Thinning.{IsRedundant};
+ghost use Rattle.ac_hull.specs.ColumnDifferences.{AllMeetRow, GapsFit, IsSum, IsThin, IsWeaker};
+ghost use Rattle.ac_hull.specs.HullInternals.Thinning.{IsRedundant};
 
 use crate::difference::Difference;
-use ac_items::Items;
+use ac_base::Items;
 use std::alloc::{AllocError, Global};
 
 /// Whether a row says no more than one of others.

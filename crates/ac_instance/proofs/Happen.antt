@@ -10,7 +10,7 @@ use Rattle.ac_instance.specs.declared.halt.Halt.{Halt}
 use Rattle.ac_instance.specs.declared.halt.Halt.TheVariants.{OutsideContext, TooLarge, Range, Wide, Memory}
 use Rattle.ac_terms.specs.Table.{Keeps}
 use Rattle.ac_instance.specs.Events.{Event, event, evaluated, reached, fits_64, out_of_range, unless}
-use Rattle.ac_instance.specs.Steps.{IsDue, Advances, Steps}
+use Rattle.ac_instance.specs.MachineSteps.{IsDue, Advances, Steps}
 
 -- what is reached after n events
 abbrev pub and_then : Result ℕ Halt → (ℕ → Result ℕ Halt) → Result ℕ Halt

@@ -10,7 +10,7 @@ use Rattle.ac_syntax.specs.Algebra.{Cell, same_cell}
 use Rattle.ac_syntax.proofs.Cells.{same_cell_is, same_cell_refl}
 use Rattle.ac_terms.specs.declared.node.TermId.{TermId}
 use Rattle.ac_instance.specs.declared.cells.Target.{Target}
-use Rattle.ac_instance.specs.Kept.{cell_of, id_at}
+use Rattle.ac_instance.specs.KeptIds.{cell_of, id_at}
 use Rattle.ac_instance.specs.contracts.cells.TargetPartialEq.TheImpl as derived
 
 abbrev pub cell_eq : Target → Target → Bool

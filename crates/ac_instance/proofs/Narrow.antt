@@ -7,7 +7,7 @@ use Rattle.std.proofs.lemmas.Int.{ints, unsigned_abs-mul}
 use Rattle.std.proofs.lemmas.Nat.{mul-le}
 use Rattle.std.proofs.Math.IntN.{*ℤ-zero}
 use Rattle.std.proofs.lemmas.List.{append_assoc}
-use Rattle.ac_syntax.specs.Checked.{fits_128, checked, summed, checked_value, checked_comparison, checked_holds}
+use Rattle.ac_syntax.specs.CheckedArithmetic.{fits_128, checked, summed, checked_value, checked_comparison, checked_holds}
 use Rattle.ac_syntax.specs.Index.{Point, point, index_value, comparison_holds, holds, rel_holds}
 use Rattle.ac_syntax.specs.Small.{IsSmall, IsSmallForm, AreSmallForms, AreSmallParts, IsSmallValue, AreSmallValues, IsSmallStmt, AreSmallStmts, IsSmallPair}
 use Rattle.ac_syntax.specs.Outputs.{extents_at}
@@ -30,7 +30,7 @@ use Rattle.ac_instance.specs.declared.halt.Halt.TheVariants.{OutsideContext, Too
 use Rattle.ac_instance.specs.declared.halt.Side.{Side}
 use Rattle.ac_instance.specs.declared.halt.Side.TheVariants.{Left, Right}
 use Rattle.ac_instance.specs.Events.{Event, event, evaluated, fits_64, out_of_range, unless, reached, index, in_value, in_values, in_test, in_turn, in_loop, in_stmt, in_body, in_all, natural, in_elements, in_output}
-use Rattle.ac_instance.specs.Answers.{in_outputs, everything, IsRan}
+use Rattle.ac_instance.specs.ComparisonAnswers.{in_outputs, everything, IsRan}
 use Rattle.ac_instance.proofs.Happen.{and_then, reached-append}
 
 -- nothing that happens leaves 128 bits

@@ -12,10 +12,10 @@ use Rattle.ac_instance.specs.declared.state.Machine.{Machine}
 use Rattle.ac_instance.specs.declared.halt.Ran.{Ran}
 use Rattle.ac_instance.specs.declared.halt.Side.TheVariants.{Left, Right}
 use Rattle.ac_instance.specs.Events.{reached}
-use Rattle.ac_instance.specs.Kept.{leaf_in}
-use Rattle.ac_instance.specs.Steps.{IsDue}
+use Rattle.ac_instance.specs.KeptIds.{leaf_in}
+use Rattle.ac_instance.specs.MachineSteps.{IsDue}
 use Rattle.ac_instance.specs.declared.halt.Outcome.{Outcome}
-use Rattle.ac_instance.specs.Answers.{IsOutcome, AreOutcomes, outcome_of, IsRan, everything, compared}
+use Rattle.ac_instance.specs.ComparisonAnswers.{IsOutcome, AreOutcomes, outcome_of, IsRan, everything, compared}
 use Rattle.ac_instance.specs.Least.{Looked, IsLeast, AgreeAt, throughout}
 
 pub as_outcome : (looked : Looked) (found : Option (List ℤ)) → IsLeast looked found → IsOutcome looked (outcome_of found)

@@ -4,7 +4,7 @@ use Rattle.std.specs.List.{flat_map, range_with_len, list_all}
 use Rattle.ac_syntax.specs.Index.{Point, point, index_value, holds, comparison_holds}
 use Rattle.ac_syntax.specs.Algebra.{Algebra, Cell, run, store, target, value_of}
 use Rattle.ac_syntax.specs.Trace.{Entry, trace, trace_all, assignments}
-use Rattle.ac_syntax.specs.Ready.{ReadyAll}
+use Rattle.ac_syntax.specs.ReadyPrograms.{ReadyAll}
 use Rattle.ac_syntax.specs.Term.{Term, free}
 use Rattle.ac_syntax.proofs.TurnEntries.{in_turn_of}
 use Rattle.ac_syntax.specs.declared.tree.Comparison.{Comparison}
@@ -17,7 +17,7 @@ use Rattle.ac_syntax.specs.declared.tree.Stmt.{Stmt, Row_of-Stmt, end_of-Stmt, m
 use Rattle.ac_syntax.specs.declared.tree.Stmt.TheVariants.{For, For', If, If', Assign}
 use Rattle.std.proofs.lemmas.Int.{ints}
 use Rattle.std.proofs.Math.IntN.{*ℤ-one, pos-+ℤ-pos}
-use Rattle.ac_integers.proofs.Products.{mul-add_ℤ}
+use Rattle.ac_base.proofs.Products.{mul-add_ℤ}
 use Rattle.ac_syntax.proofs.Walking.{Walking}
 use Rattle.ac_syntax.proofs.Ends.{turns_end, turns_is}
 use Rattle.ac_instance.specs.declared.halt.Side.{Side}

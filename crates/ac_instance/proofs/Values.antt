@@ -13,7 +13,7 @@ use Rattle.ac_terms.specs.declared.node.TermId.{TermId}
 use Rattle.ac_terms.specs.Table.{Table, StandsFor, StandForAll, Keeps}
 use Rattle.ac_instance.specs.declared.halt.Side.{Side}
 use Rattle.ac_instance.specs.Events.{Event, event, index, in_value, in_values}
-use Rattle.ac_instance.specs.Kept.{cell, id_at, Holds}
+use Rattle.ac_instance.specs.KeptIds.{cell, id_at, Holds}
 use Rattle.ac_instance.proofs.Ids.{turned}
 
 pub term_number : (p : Point) (state : Cell → Term) (e : IndexExpr) → value_of free p state (Number e) ≡ Num (index_value p e)

@@ -2,7 +2,7 @@
 use Rattle.std.specs.Prelude.{ℕ, ◌+◌, ◌^◌, ℤ, pos, negsuc, List, [], ◌∷◌, ◌++◌, Option, Some, None, Bool, Result, Ok, Err, map, nat_lt, if◌then◌else◌}
 use Rattle.std.specs.List.{flat_map, range_with_len}
 use Rattle.ac_syntax.specs.Index.{Point, point, index_value, comparison_holds, holds}
-use Rattle.ac_syntax.specs.Checked.{checked_value}
+use Rattle.ac_syntax.specs.CheckedArithmetic.{checked_value}
 use Rattle.ac_syntax.specs.Turns.{inside, iterator_at, turns}
 use Rattle.ac_syntax.specs.declared.tree.Place.{Place}
 use Rattle.ac_syntax.specs.declared.tree.IndexExpr.{IndexExpr}

@@ -6,7 +6,7 @@ use Rattle.ac_syntax.specs.Index.{Point}
 use Rattle.ac_syntax.specs.Outputs.{InExtents, swaps_of}
 use Rattle.ac_syntax.specs.Term.{Term, Agree}
 use Rattle.ac_syntax.specs.declared.tree.IndexExpr.{IndexExpr}
-use Rattle.ac_instance.specs.Kept.{cell}
+use Rattle.ac_instance.specs.KeptIds.{cell}
 use Rattle.ac_instance.specs.Events.{natural}
 
 -- the lexicographic order: the first coordinates that differ rise

@@ -1,5 +1,5 @@
 pub mod Events
-pub mod Kept
-pub mod Steps
+pub mod KeptIds
+pub mod MachineSteps
 pub mod Least
-pub mod Answers
+pub mod ComparisonAnswers

@@ -1,6 +1,6 @@
 ghost use Rattle.std.specs.Prelude.{◌≡◌, [], Some, OnOk, if◌then◌else◌};
 ghost use Rattle.ac_syntax.specs.Algebra.{Cell, same_cell};
-ghost use Rattle.ac_instance.specs.Kept.{cell_of, id_at};
+ghost use Rattle.ac_instance.specs.KeptIds.{cell_of, id_at};
 
 use ac_terms::TermId;
 use indexmap::IndexMap;
@@ -24,7 +24,7 @@ impl Model for Cells {
     ghost use Rattle.std.specs.Prelude.{List, map};
     ghost use Rattle.ac_syntax.specs.Algebra.{Cell};
     ghost use Rattle.ac_terms.specs.declared.node.TermId.{TermId};
-    ghost use Rattle.ac_instance.specs.Kept.{cell_of};
+    ghost use Rattle.ac_instance.specs.KeptIds.{cell_of};
 
     ghost Value = { List (Cell × TermId) };
 

@@ -4,9 +4,9 @@ ghost use Rattle.ac_syntax.specs.Index.{point};
 ghost use Rattle.ac_syntax.specs.Outputs.{InExtents};
 ghost use Rattle.ac_syntax.specs.Term.{Term};
 ghost use Rattle.ac_instance.specs.Events.{event, natural, in_elements, in_output};
-ghost use Rattle.ac_instance.specs.Kept.{leaf_in, Holds};
+ghost use Rattle.ac_instance.specs.KeptIds.{leaf_in, Holds};
 ghost use Rattle.ac_instance.specs.Least.{AgreeAt, IsLeast, IsFound, beneath, throughout, has_none_of, first_found};
-ghost use Rattle.ac_instance.specs.Steps.{Steps};
+ghost use Rattle.ac_instance.specs.MachineSteps.{Steps};
 ghost use Rattle.ac_instance.specs.declared.halt.Side.TheVariants.{Left, Right};
 
 use crate::cells::{Cells, Target};
@@ -14,7 +14,7 @@ use crate::halt::{Halt, Outcome, Side};
 use crate::machine::indices;
 use crate::run::inner;
 use crate::state::{Machine, Scope};
-use ac_items::Items;
+use ac_base::Items;
 use ac_syntax::tree::{Array, IndexExpr};
 use std::alloc::Global;
 

@@ -5,11 +5,11 @@ ghost use Rattle.ac_syntax.specs.Algebra.{Cell, value_of};
 ghost use Rattle.ac_syntax.specs.Index.{point};
 ghost use Rattle.ac_syntax.specs.Outputs.{input_at};
 ghost use Rattle.ac_syntax.specs.Term.{Term, Terms as TermList, Num, Apply, terms, free};
-ghost use Rattle.ac_terms.specs.Nodes.{leaf_at};
+ghost use Rattle.ac_terms.specs.TableNodes.{leaf_at};
 ghost use Rattle.ac_terms.specs.Table.{StandsFor, StandForAll, Keeps};
 ghost use Rattle.ac_instance.specs.Events.{in_value};
-ghost use Rattle.ac_instance.specs.Kept.{cell, cell_of, leaf_in, Holds};
-ghost use Rattle.ac_instance.specs.Steps.{Steps};
+ghost use Rattle.ac_instance.specs.KeptIds.{cell, cell_of, leaf_in, Holds};
+ghost use Rattle.ac_instance.specs.MachineSteps.{Steps};
 
 use crate::cells::{Cells, Target};
 use crate::halt::{Halt, Side};

@@ -1,7 +1,7 @@
 ghost use Rattle.std.specs.Prelude.{◌≡◌};
 ghost use Rattle.ac_instance.specs.declared.halt.Halt.TheVariants.{Memory};
 
-use ac_items::Items;
+use ac_base::Items;
 use ac_syntax::tree::Place;
 use std::alloc::{AllocError, AllocFailed};
 

@@ -1,7 +1,7 @@
 ghost use Rattle.std.specs.Prelude.{◌≡◌, ◌≤◌, ◌+ℤ◌, [], ◌∷◌, ℤ, Some, IfOk, map};
 ghost use Rattle.ac_syntax.specs.Index.{point, index_value};
 ghost use Rattle.ac_instance.specs.Events.{event, evaluated, index};
-ghost use Rattle.ac_instance.specs.Steps.{Steps};
+ghost use Rattle.ac_instance.specs.MachineSteps.{Steps};
 
 use crate::halt::{Halt, Side};
 use crate::state::{Machine, Scope};

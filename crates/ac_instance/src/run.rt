@@ -2,13 +2,13 @@ ghost use Rattle.std.specs.Prelude.{◌≡◌, ◌+◌, ◌++◌, ◌∷◌, [],
 ghost use Rattle.ac_syntax.specs.Algebra.{Cell, run, same_cell};
 ghost use Rattle.ac_syntax.specs.Index.{point, index_value, holds, comparison_holds};
 ghost use Rattle.std.specs.List.{list_all};
-ghost use Rattle.ac_syntax.specs.Ready.{Ready, ReadyAll};
+ghost use Rattle.ac_syntax.specs.ReadyPrograms.{Ready, ReadyAll};
 ghost use Rattle.ac_syntax.specs.Term.{Term, free};
 ghost use Rattle.ac_syntax.specs.Trace.{each_turn, trace, trace_all};
 ghost use Rattle.ac_syntax.specs.Turns.{Bounded};
 ghost use Rattle.ac_instance.specs.Events.{index, in_test, in_stmt, in_all, in_loop};
-ghost use Rattle.ac_instance.specs.Kept.{cell, id_at, leaf_in, Holds};
-ghost use Rattle.ac_instance.specs.Steps.{Steps};
+ghost use Rattle.ac_instance.specs.KeptIds.{cell, id_at, leaf_in, Holds};
+ghost use Rattle.ac_instance.specs.MachineSteps.{Steps};
 ghost use Rattle.ac_instance.specs.declared.state.Machine.{Machine};
 
 use crate::cells::{Cells, Target};

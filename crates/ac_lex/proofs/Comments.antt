@@ -3,8 +3,8 @@ use Rattle.std.specs.Prelude.{Bool, true, false, cond, ◌&&◌, ◌==◌, Optio
 use Rattle.std.proofs.Common.{◌≡◌, ℕ, suc, ◌+◌, ◌≤◌, List, [], ◌∷◌, ◌++◌, length, refl, sym, ◌∙◌, ap, subst, arith, length-append, append_assoc}
 use Rattle.std.proofs.lemmas.Bool.Decides.{Decides-eqb}
 use Rattle.ac_lex.proofs.Lists.{front_of}
-use Rattle.ac_lex.specs.Pieces.{HasClose}
-use Rattle.ac_lex.specs.Reading.{close_end, plus}
+use Rattle.ac_lex.specs.TextPieces.{HasClose}
+use Rattle.ac_lex.specs.LexerModel.{close_end, plus}
 
 -- where the first one ends, from where one begins
 pub close_first : (before : ℕ) (x bytes after : List ℕ) → bytes ≡ x ++ (codes "*/" ++ after) → (n : ℕ) × (close_end before bytes ≡ Some n) × (n ≤ length x + 2)

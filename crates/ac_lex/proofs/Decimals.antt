@@ -10,7 +10,7 @@ use Rattle.ac_lex.proofs.Lists.{take_drop, prefix_exact, prefix_passes, length_t
 use Rattle.ac_lex.proofs.Classes.{one_of_all}
 use Rattle.ac_lex.specs.Bytes.{is_digit, is_sign, is_exponent_letter, is_suffix_letter}
 use Rattle.ac_lex.specs.Numerals.{IsNumber, nought, digits, IsExponent, unsigned, signed, IsSuffix, absent, letter, IsDecimal, pointed, scaled}
-use Rattle.ac_lex.specs.Reading.{digit_count, after_digits, is_suffix, ends_in_digits, past_sign, ends_in_exponent, ends_in_fraction, is_decimal_after, is_decimal, is_number}
+use Rattle.ac_lex.specs.LexerModel.{digit_count, after_digits, is_suffix, ends_in_digits, past_sign, ends_in_exponent, ends_in_fraction, is_decimal_after, is_decimal, is_number}
 
 both : (x y : Bool) → (x && y) ≡ true → (x ≡ true) × (y ≡ true)
 both true true h = (refl, refl)

@@ -9,7 +9,7 @@ use Rattle.std.proofs.lemmas.Slice.Eq.{bytes_eq-Decides}
 use Rattle.ac_lex.specs.declared.directives.Directive.TheVariants as d
 use Rattle.ac_lex.specs.Bytes.{is_gap, is_word_byte}
 use Rattle.ac_lex.specs.Directives.{directive_word, pragma_gap, pragma_word, include, other_pragma}
-use Rattle.ac_lex.specs.Reading.{word_len, gap_len, word_of, pragma_of, directive_of, IsOfKind}
+use Rattle.ac_lex.specs.LexerModel.{word_len, gap_len, word_of, pragma_of, directive_of, IsOfKind}
 use Rattle.ac_lex.proofs.Lists.{take_drop, length_take_prefix, prefix_fits}
 
 word_is : (line : List ℕ) → word_of (drop 1 line) ≡ directive_word line

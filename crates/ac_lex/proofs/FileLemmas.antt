@@ -8,11 +8,11 @@ use Rattle.ac_lex.specs.declared.tokens.LexFault.{LexFault}
 use Rattle.ac_lex.specs.declared.tokens.LexFault.TheVariants.{BadByte, BadNumber, LongName, OpenComment, Memory}
 use Rattle.ac_lex.specs.Lexemes.{Lexeme}
 use Rattle.ac_lex.specs.Bytes.{is_inside_line}
-use Rattle.ac_lex.specs.Pieces.{Why}
+use Rattle.ac_lex.specs.TextPieces.{Why}
 use Rattle.ac_lex.specs.Directives.{is_line_start, line_of, StartsDirective, IsDirective}
-use Rattle.ac_lex.specs.Answers.{IsFaultBy, HasFault, HasNoTokens, IsOnlyList}
+use Rattle.ac_lex.specs.LexerAnswers.{IsFaultBy, HasFault, HasNoTokens, IsOnlyList}
 use Rattle.ac_lex.specs.Tokens.{Sequence, the_end, next, FirstFault, here, later, FileStep, piece_step, FileFault, piece_fault, AreTokens, IsFault}
-use Rattle.ac_lex.specs.Reading.{ReadsPiece, ReadsDirective, PieceFaultAt, DirectiveFaultAt, next_line_start, starts_directive, line_len}
+use Rattle.ac_lex.specs.LexerModel.{ReadsPiece, ReadsDirective, PieceFaultAt, DirectiveFaultAt, next_line_start, starts_directive, line_len}
 use Rattle.ac_lex.proofs.Sequences.{one_sequence, no_fault}
 use Rattle.ac_lex.proofs.PieceSteps.{piece_determined}
 use Rattle.ac_lex.proofs.FileSteps.{file_determined}

@@ -2,10 +2,10 @@
 use Rattle.std.specs.Prelude.{Bool, true, false, cond, ◌&&◌, ◌||◌, ◌==◌, codes}
 use Rattle.std.proofs.Common.{◌≡◌, ℕ, ◌+◌, ◌<◌, List, [], ◌∷◌, ◌++◌, length, take, refl, sym, ◌∙◌, ap, subst, arith, length-append}
 use Rattle.ac_lex.specs.Lexemes.{Lexeme}
-use Rattle.ac_lex.specs.Pieces.{Piece, IsNextPiece, Why}
+use Rattle.ac_lex.specs.TextPieces.{Piece, IsNextPiece, Why}
 use Rattle.ac_lex.specs.Directives.{line_of, directive_word, pragma_gap, StartsDirective, IsDirective, IsSkipped, include, other_pragma, IsAffinePragma, IsUnknown}
 use Rattle.ac_lex.specs.Tokens.{PieceStep, passes, gives, PieceFault, AreLineTokens, IsLineFault, pragma_tokens, FileStep, piece_step, skipped, affine_pragma, FileFault, piece_fault, unknown, in_pragma}
-use Rattle.ac_lex.specs.Reading.{run_at}
+use Rattle.ac_lex.specs.LexerModel.{run_at}
 use Rattle.ac_lex.proofs.Lists.{same_front}
 use Rattle.ac_lex.proofs.Longest.{piece_len, most, not_empty}
 use Rattle.ac_lex.proofs.Sequences.{IsDetermined, one_sequence, no_fault, one_first_fault}

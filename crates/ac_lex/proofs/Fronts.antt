@@ -7,9 +7,9 @@ use Rattle.std.proofs.Math.Seq.{drop-append_seam}
 use Rattle.std.proofs.lemmas.Bool.Decides.{Decides-eqb, nat_tests}
 use Rattle.ac_lex.specs.declared.tokens.TokenKind.TheVariants.{Word, Number, Decimal, Mark}
 use Rattle.ac_lex.specs.Bytes.{is_one_of, is_white_byte, is_letter, is_word_byte, is_inside_line}
-use Rattle.ac_lex.specs.Pieces.{Piece, white_space, line_comment, block_comment, open_comment, name, numeral, mark, IsPiece, white, to_line_end, closed, unclosed, named, run, single, with_equals, doubled, IsNextPiece, HasNoPiece, IsPassedOver, space, remark, comment, IsToken, a_word, a_number, a_decimal, a_mark, bad_byte, bad_number, long_name, long_word, long_decimal, no_numeral, no_end}
+use Rattle.ac_lex.specs.TextPieces.{Piece, white_space, line_comment, block_comment, open_comment, name, numeral, mark, IsPiece, white, to_line_end, closed, unclosed, named, run, single, with_equals, doubled, IsNextPiece, HasNoPiece, IsPassedOver, space, remark, comment, IsToken, a_word, a_number, a_decimal, a_mark, bad_byte, bad_number, long_name, long_word, long_decimal, no_numeral, no_end}
 use Rattle.ac_lex.specs.Tokens.{PieceFault, no_piece, refused}
-use Rattle.ac_lex.specs.Reading.{run_at, close_end, word_len, line_len, Seen, nothing, over, text, bad, cut, name_at, numeral_of, comment_by, comment_at, is_single_mark, is_double_mark, mark_len, mark_at, other_at, front, is_number, is_decimal}
+use Rattle.ac_lex.specs.LexerModel.{run_at, close_end, word_len, line_len, Seen, nothing, over, text, bad, cut, name_at, numeral_of, comment_by, comment_at, is_single_mark, is_double_mark, mark_len, mark_at, other_at, front, is_number, is_decimal}
 use Rattle.ac_lex.proofs.Lists.{take_drop, prefix_passes, length_take_prefix}
 use Rattle.ac_lex.proofs.Comments.{close_found, close_none}
 use Rattle.ac_lex.proofs.Runs.{run_is, run_fits}

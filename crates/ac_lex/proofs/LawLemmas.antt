@@ -1,5 +1,5 @@
 -- The laws, from what determines a step.
-use Rattle.ac_lex.specs.Laws.{HasOneList, HasOneFault, HasNotBoth}
+use Rattle.ac_lex.specs.UniqueTokens.{HasOneList, HasOneFault, HasNotBoth}
 use Rattle.ac_lex.specs.Tokens.{FileStep, FileFault}
 use Rattle.ac_lex.proofs.Sequences.{one_sequence, one_first_fault, no_fault}
 use Rattle.ac_lex.proofs.FileSteps.{file_determined}

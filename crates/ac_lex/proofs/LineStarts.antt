@@ -11,10 +11,10 @@ use Rattle.ac_lex.specs.declared.tokens.TokenKind.{TokenKind}
 use Rattle.ac_lex.specs.Lexemes.{Lexeme}
 use Rattle.ac_lex.specs.Bytes.{is_one_of, is_newline, is_indent, is_inside_line, is_word_byte, is_letter, is_digit}
 use Rattle.ac_lex.specs.Numerals.{continues, GoesOn, ends, goes, from_digit, from_point}
-use Rattle.ac_lex.specs.Pieces.{Piece, open_comment, IsPiece, white, to_line_end, closed, unclosed, named, run, single, with_equals, doubled, IsPassedOver, space, remark, comment, IsToken, a_word, a_number, a_decimal, a_mark}
+use Rattle.ac_lex.specs.TextPieces.{Piece, open_comment, IsPiece, white, to_line_end, closed, unclosed, named, run, single, with_equals, doubled, IsPassedOver, space, remark, comment, IsToken, a_word, a_number, a_decimal, a_mark}
 use Rattle.ac_lex.specs.Directives.{is_line_start, IsDirective}
 use Rattle.ac_lex.specs.Tokens.{PieceStep, passes, gives}
-use Rattle.ac_lex.specs.Reading.{next_line_start}
+use Rattle.ac_lex.specs.LexerModel.{next_line_start}
 use Rattle.ac_lex.proofs.Lists.{prefix_passes}
 use Rattle.ac_lex.proofs.Classes.{one_of_all, letter_high, digit_high}
 

@@ -6,8 +6,8 @@ use Rattle.std.proofs.lemmas.Bool.{cases_lt}
 use Rattle.std.proofs.lemmas.Bool.Decides.{Decides-eqb, nat_tests}
 use Rattle.ac_lex.specs.Bytes.{is_one_of, is_white_byte, is_letter, is_digit, is_word_byte, is_inside_line}
 use Rattle.ac_lex.specs.Numerals.{IsRun, from_digit, from_point}
-use Rattle.ac_lex.specs.Pieces.{Piece, HasClose, IsPiece, white, to_line_end, closed, unclosed, named, run, single, with_equals, doubled}
-use Rattle.ac_lex.specs.Reading.{run_at, close_end, word_len, line_len, is_single_mark, is_double_mark, mark_len}
+use Rattle.ac_lex.specs.TextPieces.{Piece, HasClose, IsPiece, white, to_line_end, closed, unclosed, named, run, single, with_equals, doubled}
+use Rattle.ac_lex.specs.LexerModel.{run_at, close_end, word_len, line_len, is_single_mark, is_double_mark, mark_len}
 use Rattle.ac_lex.proofs.Lists.{prefix_at_least}
 use Rattle.ac_lex.proofs.Classes.{IsOther, single_other, equals_other, doubled_other, one_of_all, no_white, no_letter, letter_high, digit_high, digit_low}
 use Rattle.ac_lex.proofs.Comments.{close_first, close_inside}

@@ -5,9 +5,9 @@ use Rattle.ac_lex.specs.declared.tokens.TokenKind.{TokenKind}
 use Rattle.ac_lex.specs.Lexemes.{Lexeme}
 use Rattle.ac_lex.specs.Bytes.{is_white_byte, is_letter, is_digit}
 use Rattle.ac_lex.specs.Numerals.{from_digit, from_point}
-use Rattle.ac_lex.specs.Pieces.{Piece, white_space, line_comment, block_comment, open_comment, name, numeral, mark, IsPiece, white, to_line_end, closed, unclosed, named, run, single, with_equals, doubled, IsNextPiece, IsPassedOver, space, remark, comment, IsToken, a_word, a_number, a_decimal, a_mark, Why, IsRefused, long_word, long_decimal, no_numeral, no_end}
+use Rattle.ac_lex.specs.TextPieces.{Piece, white_space, line_comment, block_comment, open_comment, name, numeral, mark, IsPiece, white, to_line_end, closed, unclosed, named, run, single, with_equals, doubled, IsNextPiece, IsPassedOver, space, remark, comment, IsToken, a_word, a_number, a_decimal, a_mark, Why, IsRefused, long_word, long_decimal, no_numeral, no_end}
 use Rattle.ac_lex.specs.Tokens.{PieceStep, passes, gives, PieceFault, no_piece, refused}
-use Rattle.ac_lex.specs.Reading.{close_end}
+use Rattle.ac_lex.specs.LexerModel.{close_end}
 use Rattle.ac_lex.proofs.Lists.{same_front}
 use Rattle.ac_lex.proofs.Classes.{IsOther, single_other, equals_other, doubled_other, one_of_all, no_white, no_letter, letter_high, digit_high, digit_low}
 use Rattle.ac_lex.proofs.Comments.{close_first, close_found}

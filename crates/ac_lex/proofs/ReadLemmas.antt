@@ -9,11 +9,11 @@ use Rattle.ac_lex.specs.declared.front.Refusal.TheVariants as r
 use Rattle.ac_lex.specs.declared.tokens.LexFault.{LexFault}
 use Rattle.ac_lex.specs.declared.tokens.LexFault.TheVariants.{BadByte, BadNumber, LongName, OpenComment, Memory}
 use Rattle.ac_lex.specs.Lexemes.{Lexeme}
-use Rattle.ac_lex.specs.Pieces.{Why, bad_byte, bad_number, long_name, open_comment_begins}
+use Rattle.ac_lex.specs.TextPieces.{Why, bad_byte, bad_number, long_name, open_comment_begins}
 use Rattle.ac_lex.specs.Directives.{IsSkipped, IsAffinePragma, IsUnknown}
-use Rattle.ac_lex.specs.Answers.{IsFaultBy}
+use Rattle.ac_lex.specs.LexerAnswers.{IsFaultBy}
 use Rattle.ac_lex.specs.Tokens.{the_end, next, here, later, PieceStep, passes, gives, PieceFault, AreLineTokens, IsLineFault, FileStep, skipped, affine_pragma, FileFault, unknown, in_pragma}
-use Rattle.ac_lex.specs.Reading.{Seen, nothing, over, text, bad, front, why_of, fault_of, ReadsPiece, ReadsLine, ReadsDirective, PieceFaultAt, LineFaultAt, DirectiveFaultAt}
+use Rattle.ac_lex.specs.LexerModel.{Seen, nothing, over, text, bad, front, why_of, fault_of, ReadsPiece, ReadsLine, ReadsDirective, PieceFaultAt, LineFaultAt, DirectiveFaultAt}
 use Rattle.ac_lex.proofs.Fronts.{FrontIs, front_is}
 use Rattle.ac_lex.proofs.PieceSteps.{piece_determined}
 

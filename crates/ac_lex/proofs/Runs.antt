@@ -4,7 +4,7 @@ use Rattle.std.proofs.Common.{◌≡◌, ℕ, suc, ◌+◌, ◌≤◌, ◌<◌, 
 use Rattle.std.proofs.lemmas.Bool.Decides.{Decides-eqb}
 use Rattle.ac_lex.specs.Bytes.{is_digit}
 use Rattle.ac_lex.specs.Numerals.{continues, GoesOn, ends, goes, IsRun, from_digit, from_point}
-use Rattle.ac_lex.specs.Reading.{run_len, pointed_run, run_at}
+use Rattle.ac_lex.specs.LexerModel.{run_len, pointed_run, run_at}
 
 run_len_most : {before : ℕ} {xs : List ℕ} (ys : List ℕ) → GoesOn before xs → length xs ≤ run_len before (xs ++ ys)
 run_len_most ys ends = omega arith

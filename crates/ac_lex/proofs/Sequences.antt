@@ -1,7 +1,7 @@
 -- Steps that are determined by the bytes make one sequence at most, and one first fault, and never both.
 use Rattle.std.proofs.Common.{◌≡◌, ℕ, ◌<◌, List, [], ◌∷◌, ◌++◌, length, refl, sym, ◌∙◌, ap, subst, arith}
 use Rattle.ac_lex.specs.Lexemes.{Lexeme}
-use Rattle.ac_lex.specs.Pieces.{Why}
+use Rattle.ac_lex.specs.TextPieces.{Why}
 use Rattle.ac_lex.specs.Tokens.{Sequence, the_end, next, FirstFault, here, later}
 
 -- at most one step or one fault stands at a place

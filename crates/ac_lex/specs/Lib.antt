@@ -1,9 +1,9 @@
 pub mod Bytes
 pub mod Numerals
-pub mod Pieces
+pub mod TextPieces
 pub mod Directives
 pub mod Tokens
 pub mod Lexemes
-pub mod Answers
-pub mod Laws
-pub mod Reading
+pub mod LexerAnswers
+pub mod UniqueTokens
+pub mod LexerModel

@@ -4,7 +4,7 @@ use Rattle.std.specs.Prelude.{◌≡◌, ◌<◌, ◌≤◌, ◌+◌, ℕ, List,
 use Rattle.ac_lex.specs.declared.tokens.TokenKind.{TokenKind}
 use Rattle.ac_lex.specs.declared.tokens.TokenKind.TheVariants.{PragmaStart, PragmaEnd}
 use Rattle.ac_lex.specs.Lexemes.{Lexeme}
-use Rattle.ac_lex.specs.Pieces.{Piece, IsNextPiece, HasNoPiece, IsPassedOver, IsToken, Why, bad_byte, IsRefused}
+use Rattle.ac_lex.specs.TextPieces.{Piece, IsNextPiece, HasNoPiece, IsPassedOver, IsToken, Why, bad_byte, IsRefused}
 use Rattle.ac_lex.specs.Directives.{StartsDirective, IsDirective, IsSkipped, IsAffinePragma, IsUnknown}
 
 -- one step after another over all the bytes: before is what was passed already, and each step takes a text from the front

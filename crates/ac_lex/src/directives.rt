@@ -1,6 +1,6 @@
 ghost use Rattle.std.specs.Prelude.{◌≡◌, ◌≤◌, ◌<◌, ◌^◌, length};
 ghost use Rattle.std.specs.Str.{bytes_eq};
-ghost use Rattle.ac_lex.specs.Reading as spec;
+ghost use Rattle.ac_lex.specs.LexerModel as spec;
 
 use crate::bytes::is_gap;
 use crate::front::word_len;
@@ -13,7 +13,7 @@ pub enum Directive {
     Unknown,
 }
 
-#[tactic(auto, unfolding(crate::specs::Reading::gap_len), using(crate::proofs::Turns::count_is, crate::proofs::Turns::count_fits))]
+#[tactic(auto, unfolding(crate::specs::LexerModel::gap_len), using(crate::proofs::Turns::count_is, crate::proofs::Turns::count_fits))]
 fn gap_len(bytes: &[u8]) -> usize
     ensures count { result ≡ spec.gap_len bytes.now }
     ensures fits { result ≤ length bytes.now }
@@ -21,7 +21,7 @@ fn gap_len(bytes: &[u8]) -> usize
     bytes.iter().take_while(|b| is_gap(**b)).count()
 }
 
-#[tactic(auto, unfolding(crate::specs::Reading::word_of))]
+#[tactic(auto, unfolding(crate::specs::LexerModel::word_of))]
 fn word_of(bytes: &[u8]) -> &[u8]
     ensures { result.now ≡ spec.word_of bytes.now }
 {

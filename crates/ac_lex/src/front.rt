@@ -1,5 +1,5 @@
 ghost use Rattle.std.specs.Prelude.{◌≡◌, ◌≤◌, length, IfSome};
-ghost use Rattle.ac_lex.specs.Reading as spec;
+ghost use Rattle.ac_lex.specs.LexerModel as spec;
 
 use crate::bytes::{is_inside_line, is_letter, is_one_of, is_white_byte, is_word_byte};
 use crate::numerals::{is_decimal, is_number, run_at};
@@ -23,7 +23,7 @@ pub enum Front<'a> {
     Bad(Refusal),
 }
 
-#[tactic(auto, unfolding(crate::specs::Reading::word_len), using(crate::proofs::Turns::count_is, crate::proofs::Turns::count_fits))]
+#[tactic(auto, unfolding(crate::specs::LexerModel::word_len), using(crate::proofs::Turns::count_is, crate::proofs::Turns::count_fits))]
 pub fn word_len(bytes: &[u8]) -> usize
     ensures count { result ≡ spec.word_len bytes.now }
     ensures fits { result ≤ length bytes.now }
@@ -31,7 +31,7 @@ pub fn word_len(bytes: &[u8]) -> usize
     bytes.iter().take_while(|b| is_word_byte(**b)).count()
 }
 
-#[tactic(auto, unfolding(crate::specs::Reading::line_len), using(crate::proofs::Turns::count_is, crate::proofs::Turns::count_fits))]
+#[tactic(auto, unfolding(crate::specs::LexerModel::line_len), using(crate::proofs::Turns::count_is, crate::proofs::Turns::count_fits))]
 pub fn line_len(bytes: &[u8]) -> usize
     ensures count { result ≡ spec.line_len bytes.now }
     ensures fits { result ≤ length bytes.now }
@@ -48,7 +48,7 @@ fn cut(kind: TokenKind, n: usize, bytes: &[u8]) -> Front<'_>
     Front::Text(kind, text, rest)
 }
 
-#[tactic(auto, unfolding(crate::specs::Reading::name_at))]
+#[tactic(auto, unfolding(crate::specs::LexerModel::name_at))]
 fn name_at(bytes: &[u8]) -> Front<'_>
     ensures { spec.seen result ≡ spec.name_at bytes.now }
 {
@@ -60,7 +60,7 @@ fn name_at(bytes: &[u8]) -> Front<'_>
     }
 }
 
-#[tactic(auto, unfolding(crate::specs::Reading::numeral_of))]
+#[tactic(auto, unfolding(crate::specs::LexerModel::numeral_of))]
 fn numeral_of(n: usize, bytes: &[u8]) -> Front<'_>
     requires { n ≤ length bytes.now }
     ensures { spec.seen result ≡ spec.numeral_of n bytes.now }
@@ -92,7 +92,7 @@ fn close_end(bytes: &[u8]) -> Option<usize>
     None
 }
 
-#[tactic(auto, unfolding(crate::specs::Reading::comment_at))]
+#[tactic(auto, unfolding(crate::specs::LexerModel::comment_at))]
 fn comment_at(inner: &[u8]) -> Front<'_>
     ensures { spec.seen result ≡ spec.comment_at inner.now }
 {
@@ -125,7 +125,7 @@ fn mark_len(bytes: &[u8]) -> usize
     }
 }
 
-#[tactic(auto, unfolding(crate::specs::Reading::mark_at))]
+#[tactic(auto, unfolding(crate::specs::LexerModel::mark_at))]
 fn mark_at(bytes: &[u8]) -> Front<'_>
     ensures { spec.seen result ≡ spec.mark_at bytes.now }
 {
@@ -137,7 +137,7 @@ fn mark_at(bytes: &[u8]) -> Front<'_>
     }
 }
 
-#[tactic(auto, unfolding(crate::specs::Reading::other_at))]
+#[tactic(auto, unfolding(crate::specs::LexerModel::other_at))]
 fn comment_or_mark(bytes: &[u8]) -> Front<'_>
     ensures { spec.seen result ≡ spec.other_at bytes.now }
 {
@@ -149,7 +149,7 @@ fn comment_or_mark(bytes: &[u8]) -> Front<'_>
 }
 
 /// The longest piece at the front of the bytes.
-#[tactic(auto, unfolding(crate::specs::Reading::front))]
+#[tactic(auto, unfolding(crate::specs::LexerModel::front))]
 pub fn read_front(bytes: &[u8]) -> Front<'_>
     ensures { spec.seen result ≡ spec.front bytes.now }
 {

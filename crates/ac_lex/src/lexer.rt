@@ -2,10 +2,10 @@ ghost use Rattle.std.specs.Prelude.{◌≡◌, ◌+◌, ◌^◌, ◌<◌, ◌≤
 ghost use Rattle.ac_lex.specs.Lexemes.{lexemes, lexeme_of};
 ghost use Rattle.std.specs.Prelude.{[], ◌∷◌, ◌++◌, take, drop};
 ghost use Rattle.ac_lex.specs.Directives.{IsAffinePragma};
-ghost use Rattle.ac_lex.specs.Answers.{IsFaultBy, HasFault, HasNoTokens, IsOnlyList};
+ghost use Rattle.ac_lex.specs.LexerAnswers.{IsFaultBy, HasFault, HasNoTokens, IsOnlyList};
 ghost use Rattle.ac_lex.specs.Tokens.{AreTokens, AreSlices};
-ghost use Rattle.ac_lex.specs.Reading.{ReadsPiece, ReadsLine, ReadsDirective, PieceFaultAt, LineFaultAt, DirectiveFaultAt, IsMemory};
-ghost use Rattle.ac_lex.specs.Reading as spec;
+ghost use Rattle.ac_lex.specs.LexerModel.{ReadsPiece, ReadsLine, ReadsDirective, PieceFaultAt, LineFaultAt, DirectiveFaultAt, IsMemory};
+ghost use Rattle.ac_lex.specs.LexerModel as spec;
 
 use crate::bytes::is_indent;
 use crate::directives::{Directive, directive_of};

@@ -1,7 +1,7 @@
 //! The lexer: the tokens of a source text, as slices of it, or the first place at which it has none.
 //!
 //! `specs/Tokens.antt` says what the tokens of a text are, as a relation between its bytes and a list of tokens; it stands on
-//! the pieces (`specs/Pieces.antt`), the numerals (`specs/Numerals.antt`) and the directives (`specs/Directives.antt`).
+//! the pieces (`specs/TextPieces.antt`), the numerals (`specs/Numerals.antt`) and the directives (`specs/Directives.antt`).
 #![tactic(auto)]
 
 mod bytes;

@@ -1,12 +1,12 @@
 ghost use Rattle.std.specs.Prelude.{◌≡◌, ◌≤◌, ◌+◌, length};
-ghost use Rattle.ac_lex.specs.Reading as spec;
+ghost use Rattle.ac_lex.specs.LexerModel as spec;
 ghost use Rattle.std.specs.List.{list_all};
 ghost use Rattle.ac_lex.specs.Bytes.{is_digit};
 ghost use Rattle.ac_lex.specs.Numerals.{continues};
 
 use crate::bytes::{is_digit, is_exponent_letter, is_sign, is_suffix_letter, is_word_byte};
 
-#[tactic(auto, unfolding(crate::specs::Reading::digit_count), using(crate::proofs::Turns::count_is, crate::proofs::Turns::count_fits))]
+#[tactic(auto, unfolding(crate::specs::LexerModel::digit_count), using(crate::proofs::Turns::count_is, crate::proofs::Turns::count_fits))]
 fn digit_count(bytes: &[u8]) -> usize
     ensures count { result ≡ spec.digit_count bytes.now }
     ensures fits { result ≤ length bytes.now }
@@ -14,7 +14,7 @@ fn digit_count(bytes: &[u8]) -> usize
     bytes.iter().take_while(|b| is_digit(**b)).count()
 }
 
-#[tactic(auto, unfolding(crate::specs::Reading::after_digits))]
+#[tactic(auto, unfolding(crate::specs::LexerModel::after_digits))]
 fn after_digits(bytes: &[u8]) -> &[u8]
     ensures { result.now ≡ spec.after_digits bytes.now }
 {
@@ -31,7 +31,7 @@ fn is_suffix(bytes: &[u8]) -> bool
     }
 }
 
-#[tactic(auto, unfolding(crate::specs::Reading::ends_in_digits))]
+#[tactic(auto, unfolding(crate::specs::LexerModel::ends_in_digits))]
 fn ends_in_digits(bytes: &[u8]) -> bool
     ensures { result ≡ spec.ends_in_digits bytes.now }
 {
@@ -64,7 +64,7 @@ fn ends_in_fraction(whole: usize, bytes: &[u8]) -> bool
 }
 
 /// Whether a text is a decimal: digits with a point or an exponent or both, and an optional suffix.
-#[tactic(auto, unfolding(crate::specs::Reading::is_decimal))]
+#[tactic(auto, unfolding(crate::specs::LexerModel::is_decimal))]
 pub fn is_decimal(text: &[u8]) -> bool
     ensures { result ≡ spec.is_decimal text.now }
 {
@@ -83,7 +83,7 @@ fn all_digits(text: &[u8]) -> bool
 }
 
 /// Whether a text is 0, or digits that don't begin with 0.
-#[tactic(auto, unfolding(crate::specs::Reading::is_number))]
+#[tactic(auto, unfolding(crate::specs::LexerModel::is_number))]
 pub fn is_number(text: &[u8]) -> bool
     ensures { result ≡ spec.is_number text.now }
 {
@@ -125,7 +125,7 @@ fn pointed_run(bytes: &[u8]) -> usize
 }
 
 /// How many bytes the run at the front takes, or 0 where none begins there.
-#[tactic(auto, unfolding(crate::specs::Reading::run_at))]
+#[tactic(auto, unfolding(crate::specs::LexerModel::run_at))]
 pub fn run_at(bytes: &[u8]) -> usize
     ensures count { result ≡ spec.run_at bytes.now }
     ensures fits { result ≤ length bytes.now }

@@ -4,7 +4,7 @@ use Rattle.std.specs.Prelude.{slice_get}
 use Rattle.std.proofs.lemmas.List.{drop_more, drop_all}
 use Rattle.std.proofs.lemmas.Option.{slice_get-get_or, slice_get_within}
 use Rattle.ac_syntax.specs.declared.tree.Order.{Order}
-use Rattle.ac_match.specs.Inner.Search.{Extends, Has, SomeExtended, NoneExtended}
+use Rattle.ac_match.specs.MatchInternals.Search.{Extends, Has, SomeExtended, NoneExtended}
 use Rattle.ac_match.specs.declared.look.Choice.{Choice}
 
 -- before choice i: those before it are met by each order with what is assigned

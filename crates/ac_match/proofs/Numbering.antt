@@ -6,9 +6,9 @@ use Rattle.ac_syntax.specs.declared.tree.Order.{Order}
 use Rattle.ac_syntax.specs.declared.tree.Site.{Site}
 use Rattle.ac_match.specs.declared.look.Choice.{Choice}
 use Rattle.ac_match.specs.declared.orders.Refuted.{Refuted}
-use Rattle.ac_match.specs.Inner.Numbers.{IsPlace, AreNumbered, AllNumbered}
-use Rattle.ac_match.specs.Inner.Search.{SomeExtended, NoneExtended, Extends as ExtendsByNumber}
-use Rattle.ac_match.specs.Orders.{IsOrderOf, HasOrder, Extends, ExtendsRefuted}
+use Rattle.ac_match.specs.MatchInternals.Numbers.{IsPlace, AreNumbered, AllNumbered}
+use Rattle.ac_match.specs.MatchInternals.Search.{SomeExtended, NoneExtended, Extends as ExtendsByNumber}
+use Rattle.ac_match.specs.SiteOrders.{IsOrderOf, HasOrder, Extends, ExtendsRefuted}
 
 -- before place i: the site stands at none of the places before it
 pub record PlaceHalfway (sites : List Site) (s : Site) (i : ℕ) : Type 0 where

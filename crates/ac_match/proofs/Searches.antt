@@ -6,7 +6,7 @@ use Rattle.std.proofs.lemmas.Option.{slice_get_within}
 use Rattle.std.proofs.lemmas.List.{length-set, length-map, length-replicate}
 use Rattle.ac_syntax.specs.declared.tree.Order.{Order}
 use Rattle.ac_syntax.specs.declared.tree.Order.TheVariants.{Keep, Swap}
-use Rattle.ac_match.specs.Inner.Search.{Has, SomeExtended, open_count, filled}
+use Rattle.ac_match.specs.MatchInternals.Search.{Has, SomeExtended, open_count, filled}
 use Rattle.ac_match.specs.declared.look.Choice.{Choice}
 
 -- an open site counts, until it is assigned

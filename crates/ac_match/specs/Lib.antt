@@ -1,2 +1,2 @@
-pub mod Orders
-pub mod Inner
+pub mod SiteOrders
+pub mod MatchInternals

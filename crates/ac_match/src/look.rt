@@ -1,7 +1,7 @@
 ghost use Rattle.std.specs.Prelude.{◌≡◌, [], ◌∷◌, length};
-ghost use Rattle.ac_match.specs.Inner.Search.{IsLooked, IsScanned};
+ghost use Rattle.ac_match.specs.MatchInternals.Search.{IsLooked, IsScanned};
 
-use ac_items::Items;
+use ac_base::Items;
 use ac_syntax::tree::Order;
 
 /// An order at a site, by the site's number. A number past the end is that of no site.

@@ -1,11 +1,11 @@
 ghost use Rattle.std.specs.Prelude.{◌≡◌, ◌↔◌, List, length, zip, IfOk, IsTrue, MatchOption};
 ghost use Rattle.ac_syntax.specs.declared.tree.Order.{Order};
-ghost use Rattle.ac_match.specs.Inner.Numbers.{AreNumbered, IsPlace};
-ghost use Rattle.ac_match.specs.Inner.Search.{SomeExtended, NoneExtended};
+ghost use Rattle.ac_match.specs.MatchInternals.Numbers.{AreNumbered, IsPlace};
+ghost use Rattle.ac_match.specs.MatchInternals.Search.{SomeExtended, NoneExtended};
 
 use crate::look::Choice;
 use crate::search::solved;
-use ac_items::Items;
+use ac_base::Items;
 use ac_syntax::tree::{Order, Site};
 use std::alloc::{AllocError, Global};
 

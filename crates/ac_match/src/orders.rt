@@ -1,12 +1,12 @@
 ghost use Rattle.std.specs.Prelude.{◌≡◌, ◌≤◌, List, [], ◌∷◌, ◌++◌, length, zip, IfOk, OnOk, OnErr, MatchOption};
 ghost use Rattle.ac_syntax.specs.declared.tree.Order.{Order};
 ghost use Rattle.ac_syntax.specs.declared.tree.Site.{Site};
-ghost use Rattle.ac_match.specs.Orders.{ExtendsRefuted, IsNext, IsOrderOf};
-ghost use Rattle.ac_match.specs.Inner.Numbers.{AreNumbered, IsPlace};
+ghost use Rattle.ac_match.specs.SiteOrders.{ExtendsRefuted, IsNext, IsOrderOf};
+ghost use Rattle.ac_match.specs.MatchInternals.Numbers.{AreNumbered, IsPlace};
 
 use crate::look::Choice;
 use crate::numbers::{chosen, numbered};
-use ac_items::Items;
+use ac_base::Items;
 use ac_syntax::tree::{Order, Site};
 use ac_widen::Derivation;
 use std::alloc::{AllocError, Global};
@@ -30,8 +30,8 @@ pub struct Orders {
 }
 
 impl Model for Orders {
-    ghost use Rattle.ac_match.specs.Orders.{OrdersOf};
-    ghost use Rattle.ac_match.specs.Inner.Numbers.{AllNumbered};
+    ghost use Rattle.ac_match.specs.SiteOrders.{OrdersOf};
+    ghost use Rattle.ac_match.specs.MatchInternals.Numbers.{AllNumbered};
 
     ghost Value = { OrdersOf };
 

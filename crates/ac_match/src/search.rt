@@ -1,9 +1,9 @@
 ghost use Rattle.std.specs.Prelude.{◌≡◌, ◌≤◌, List, length, IfOk, MatchBool, MatchOption, replicate, None};
 ghost use Rattle.ac_syntax.specs.declared.tree.Order.{Order};
-ghost use Rattle.ac_match.specs.Inner.Search.{Has, SomeExtended, NoneExtended, open_count, filled};
+ghost use Rattle.ac_match.specs.MatchInternals.Search.{Has, SomeExtended, NoneExtended, open_count, filled};
 
 use crate::look::{Choice, Look, look_at_all};
-use ac_items::Items;
+use ac_base::Items;
 use ac_syntax::tree::Order;
 use std::alloc::{AllocError, Global};
 

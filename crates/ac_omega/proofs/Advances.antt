@@ -4,22 +4,22 @@ use Rattle.std.specs.Prelude.{unsigned_abs, IfSome}
 use Rattle.ac_forms.specs.declared.row.Row.{Row}
 use Rattle.ac_forms.specs.Fits.{Fits, fits}
 use Rattle.ac_forms.proofs.Twins.{fits-is}
-use Rattle.ac_choices.specs.declared.choose.Choice.TheVariants as choice
+use Rattle.ac_omega_steps.specs.declared.choose.Choice.TheVariants as choice
 use Rattle.ac_forms.specs.Affine.{Affine, coef}
 use Rattle.ac_forms.specs.declared.row.Row.TheVariants.{Eq, Div, Ge}
-use Rattle.ac_choices.specs.Bounds.{is_low, low_bound, is_one_sided, highs}
-use Rattle.ac_choices.specs.ChoiceFits.{sizes_fit}
-use Rattle.ac_refutations.specs.Alternatives.{Alternatives, first_equality, has_divisibility, common_modulus, alternatives_for, residues_from, splinters_from, splinters_by, splinters_of, splinters, greatest_size, need_of, last_splinter_fits, last_splinter, count_to}
-use Rattle.ac_exact.specs.Tests.{economical, is_exact, pairs_fit}
-use Rattle.ac_exact.proofs.Implying.{failing-some}
-use Rattle.ac_omega.specs.Columns.{count_for, count_of}
+use Rattle.ac_omega_steps.specs.Bounds.{is_low, low_bound, is_one_sided, highs}
+use Rattle.ac_omega_steps.specs.ChoiceFits.{sizes_fit}
+use Rattle.ac_omega_certify.specs.Alternatives.{Alternatives, first_equality, has_divisibility, common_modulus, alternatives_for, residues_from, splinters_from, splinters_by, splinters_of, splinters, greatest_size, need_of, last_splinter_fits, last_splinter, count_to}
+use Rattle.ac_omega_exact.specs.ExactnessTests.{economical, is_exact, pairs_fit}
+use Rattle.ac_omega_exact.proofs.Implying.{failing-some}
+use Rattle.ac_omega.specs.ColumnChoice.{count_for, count_of}
 use Rattle.ac_omega.specs.Cursors.{IsNext}
 use Rattle.ac_omega.proofs.SplinterRows.{row_splinters}
 use Rattle.ac_omega.proofs.Sides.{greatest-one}
 use Rattle.ac_omega.specs.declared.cursor.Next.{Next}
 use Rattle.ac_omega.proofs.Moduli.{drop-at}
-use Rattle.ac_refutations.specs.declared.strategy.Strategy.{Strategy}
-use Rattle.ac_refutations.specs.declared.strategy.Strategy.TheVariants.{Full, Economical}
+use Rattle.ac_omega_certify.specs.declared.strategy.Strategy.{Strategy}
+use Rattle.ac_omega_certify.specs.declared.strategy.Strategy.TheVariants.{Full, Economical}
 
 pub first-equal : (strategy : Strategy) (z i : ℕ) (rows : List Row) → Some i ≡ first_equality z 0 rows → Some (choice.Equal z i) ∷ [] ≡ alternatives_for strategy z rows
 unfolding alternatives_for

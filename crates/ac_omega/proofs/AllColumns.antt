@@ -4,16 +4,16 @@ use borrow.Author.Tests.{ltb-true, ltb-false}
 use Rattle.std.specs.List.{filter}
 use Rattle.ac_forms.specs.declared.row.Row.{Row}
 use Rattle.ac_forms.specs.declared.row.Row.TheVariants.{Eq, Div, Ge}
-use Rattle.ac_choices.specs.Bounds.{is_one_sided}
-use Rattle.ac_forms.specs.Columns.{has_column, is_present}
+use Rattle.ac_omega_steps.specs.Bounds.{is_one_sided}
+use Rattle.ac_forms.specs.RowColumns.{has_column, is_present}
 use Rattle.ac_omega.specs.declared.ranking.Rule.{Rule}
 use Rattle.ac_omega.specs.declared.ranking.Rule.TheVariants as rule
-use Rattle.ac_omega.specs.Columns.{better, precedes, least_from, or_else, by_equality, by_rule, passes, key, size_key, is_two_sided, precedes_by_two, splinter_key, excess_key, by_splinters, next_column}
+use Rattle.ac_omega.specs.ColumnChoice.{better, precedes, least_from, or_else, by_equality, by_rule, passes, key, size_key, is_two_sided, precedes_by_two, splinter_key, excess_key, by_splinters, next_column}
 use Rattle.ac_forms.specs.declared.conj.Conj.{Conj}
-use Rattle.ac_omega.specs.Searching.{Settle, columns_to}
+use Rattle.ac_omega.specs.WalkAnswers.{Settle, columns_to}
 use Rattle.ac_omega.proofs.Emptied.{no-columns}
-use Rattle.ac_refutations.specs.declared.strategy.Strategy.{Strategy}
-use Rattle.ac_refutations.specs.declared.strategy.Strategy.TheVariants.{Full, Economical}
+use Rattle.ac_omega_certify.specs.declared.strategy.Strategy.{Strategy}
+use Rattle.ac_omega_certify.specs.declared.strategy.Strategy.TheVariants.{Full, Economical}
 
 -- P holds of each of these columns
 abbrev pub Every : (ℕ → Type 0) → List ℕ → Type 0

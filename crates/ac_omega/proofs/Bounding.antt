@@ -5,13 +5,13 @@ use Rattle.std.specs.List.{AllByRecursion}
 use Rattle.ac_forms.specs.Affine.{Affine}
 use Rattle.ac_forms.specs.declared.row.Row.{Row}
 use Rattle.ac_forms.specs.declared.row.Row.TheVariants.{Eq, Div, Ge}
-use Rattle.ac_choices.specs.declared.choose.Choice.{Choice}
-use Rattle.ac_choices.specs.declared.choose.Choice.TheVariants as choice
+use Rattle.ac_omega_steps.specs.declared.choose.Choice.{Choice}
+use Rattle.ac_omega_steps.specs.declared.choose.Choice.TheVariants as choice
 use Rattle.ac_omega.specs.Maxima.{Maxima, greatest_abs, with_form, with_modulus, with_row, with_rows, with_choice}
 use Rattle.ac_omega.specs.Within.{Bounds, HaveRisen, IsWithin, AreAllWithin}
-use Rattle.ac_refutations.specs.Refutations.{IsFormWithin, IsRowWithin, AreModuliWithin, AreWithin2To120, IsWithin2To120, AreAllWithin2To120}
-use Rattle.ac_refutations.specs.declared.refutation.Refutation.{Refutation, Row_of-Refutation, end_of-Refutation, more_of-Refutation}
-use Rattle.ac_refutations.specs.declared.refutation.Refutation.TheVariants.{Absurd, Open'}
+use Rattle.ac_omega_certify.specs.Refutations.{IsFormWithin, IsRowWithin, AreModuliWithin, AreWithin2To120, IsWithin2To120, AreAllWithin2To120}
+use Rattle.ac_omega_certify.specs.declared.refutation.Refutation.{Refutation, Row_of-Refutation, end_of-Refutation, more_of-Refutation}
+use Rattle.ac_omega_certify.specs.declared.refutation.Refutation.TheVariants.{Absurd, Open'}
 
 -- the maxima only grow
 pub no-less : (s : Maxima) → HaveRisen s s

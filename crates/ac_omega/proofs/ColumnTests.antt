@@ -1,7 +1,7 @@
 -- A test of columns, one by one.
 use Rattle.std.proofs.Common.{◌≡◌, ℕ, ◌+◌, ◌<◌, ◌≤◌, List, ◌∷◌, length, drop, get_or, arith}
 use Rattle.std.proofs.lemmas.List.{drop_more, drop_all}
-use Rattle.ac_omega.specs.Columns.{AreColumns}
+use Rattle.ac_omega.specs.ColumnChoice.{AreColumns}
 
 -- the columns before place i pass: what is left to look at
 pub record TestedHalfway (n : ℕ) (zs : List ℕ) (i : ℕ) : Type 0 where

@@ -5,10 +5,10 @@ use Rattle.std.specs.Int.{◌∣◌}
 use Rattle.std.proofs.lemmas.Nat.{div-add-mod'}
 use Rattle.std.proofs.lemmas.Nat.Gcd.{le_of_dvd}
 use Rattle.std.proofs.Math.Nat.{dvd-mul_left, mul-dvd-mul_left, mul-dvd-mul_right, dvd_of_mul-dvd-mul_right, dvd-add_iff_right, dvd-mul_right_of_dvd, pos_of_dvd_of_pos, div-mul_cancel, mul_comm}
-use Rattle.ac_integers.specs.Gcd.{gcd_within, gcd}
-use Rattle.ac_integers.proofs.Divisors.{IsGcd-gcd}
+use Rattle.ac_base.specs.Gcd.{gcd_within, gcd}
+use Rattle.ac_base.proofs.Divisors.{IsGcd-gcd}
 use Rattle.ac_omega.specs.CommonMultiple.{IsLcm}
-use Rattle.ac_refutations.specs.Alternatives.{lcm}
+use Rattle.ac_omega_certify.specs.Alternatives.{lcm}
 
 rest_scaled : (n a b : ℕ) → (n * b) * (a / b) + n * (a % b) ≡ n * a
 rest_scaled n a b = omega (arith, ap (λ x. n * x) (div-add-mod' a b))

@@ -11,25 +11,25 @@ use Rattle.ac_forms.specs.declared.row.Row.{Row}
 use Rattle.ac_forms.specs.declared.row.Row.TheVariants.{Ge}
 use Rattle.ac_forms.specs.declared.stop.FormStop.{FormStop}
 use Rattle.ac_forms.specs.declared.stop.FormStop.TheVariants.{Wide, Memory}
-use Rattle.ac_choices.specs.declared.choose.Choice.{Choice}
-use Rattle.ac_choices.specs.declared.choose.Choice.TheVariants as choice
-use Rattle.ac_choices.specs.Bounds.{is_low, low_bound, lows, highs, is_none, only_bounds, is_one_sided, last_splinter}
-use Rattle.ac_choices.specs.Choices.{is_equality_of, left_by}
-use Rattle.ac_choices.specs.ChoiceFits.{sizes_fit}
-use Rattle.ac_choices.proofs.Covering.{covers-equal, covers-residue, covers-drop}
-use Rattle.ac_exact.specs.Exact.{Needs, Suffices, IsOnNeeded}
-use Rattle.ac_exact.specs.Tests.{economical, full, pairs_fit}
-use Rattle.ac_exact.proofs.Covering.{covers-needed}
-use Rattle.ac_exact.proofs.Implying.{economical-suffices, full-suffices}
-use Rattle.ac_choices.proofs.Lifting.{lifts-somewhere}
-use Rattle.ac_forms.specs.Stops.{GivenOf, IfWide}
-use Rattle.ac_forms.specs.Members.{IsAmong}
-use Rattle.ac_refutations.specs.Alternatives.{Alternatives, first_equality, has_divisibility, common_modulus, residues_from, residues, splinters_from, count_to, last_splinter_fits, splinters_by, splinters_of, splinters, by_bounds, alternatives_by, alternatives_for, all_of}
+use Rattle.ac_omega_steps.specs.declared.choose.Choice.{Choice}
+use Rattle.ac_omega_steps.specs.declared.choose.Choice.TheVariants as choice
+use Rattle.ac_omega_steps.specs.Bounds.{is_low, low_bound, lows, highs, is_none, only_bounds, is_one_sided, last_splinter}
+use Rattle.ac_omega_steps.specs.Choices.{is_equality_of, left_by}
+use Rattle.ac_omega_steps.specs.ChoiceFits.{sizes_fit}
+use Rattle.ac_omega_steps.proofs.Covering.{covers-equal, covers-residue, covers-drop}
+use Rattle.ac_omega_exact.specs.Exact.{Needs, Suffices, IsOnNeeded}
+use Rattle.ac_omega_exact.specs.ExactnessTests.{economical, full, pairs_fit}
+use Rattle.ac_omega_exact.proofs.Covering.{covers-needed}
+use Rattle.ac_omega_exact.proofs.Implying.{economical-suffices, full-suffices}
+use Rattle.ac_omega_steps.proofs.Lifting.{lifts-somewhere}
+use Rattle.ac_forms.specs.FormStops.{GivenOf, IfWide}
+use Rattle.ac_forms.specs.ListMembers.{IsAmong}
+use Rattle.ac_omega_certify.specs.Alternatives.{Alternatives, first_equality, has_divisibility, common_modulus, residues_from, residues, splinters_from, count_to, last_splinter_fits, splinters_by, splinters_of, splinters, by_bounds, alternatives_by, alternatives_for, all_of}
 use Rattle.ac_omega.proofs.Moduli.{common-grows}
 use Rattle.ac_omega.proofs.Legal.{Allowed, all-allowed, among-allowed, only-bounds}
-use Rattle.ac_refutations.proofs.Tried.{equality-found}
-use Rattle.ac_refutations.specs.declared.strategy.Strategy.{Strategy}
-use Rattle.ac_refutations.specs.declared.strategy.Strategy.TheVariants.{Full, Economical}
+use Rattle.ac_omega_certify.proofs.Tried.{equality-found}
+use Rattle.ac_omega_certify.specs.declared.strategy.Strategy.{Strategy}
+use Rattle.ac_omega_certify.specs.declared.strategy.Strategy.TheVariants.{Full, Economical}
 
 -- the choice is one of these, up to the first that is none
 IsTried : Choice → Alternatives → Type 0

@@ -3,23 +3,23 @@ use Rattle.std.proofs.Common.{◌≡◌, inl, ℕ, ◌+◌, ℤ, List, Option, S
 use Rattle.std.specs.Prelude.{IfSome}
 use Rattle.ac_forms.specs.NormalForm.{normal_conj, RowsFit}
 use Rattle.ac_forms.specs.Rows.{IsWellMade, Meets}
-use Rattle.ac_forms.specs.Tests.{rows_fit}
+use Rattle.ac_forms.specs.RangeTests.{rows_fit}
 use Rattle.ac_forms.specs.declared.conj.Conj.{Conj}
 use Rattle.ac_forms.proofs.Twins.{rows_fit-is}
-use Rattle.ac_choices.specs.Points.{IsPoint}
+use Rattle.ac_omega_steps.specs.IntegerPoints.{IsPoint}
 use Rattle.ac_omega.specs.declared.halt.Halt.{Halt}
 use Rattle.ac_omega.specs.declared.halt.Halt.TheVariants as halt
 use Rattle.ac_omega.specs.Decisions.{Decides, walk_of}
-use Rattle.ac_omega.specs.Elimination.{eliminating}
+use Rattle.ac_omega.specs.ColumnElimination.{eliminating}
 use Rattle.ac_omega.specs.Maxima.{Maxima, nothing_met, with_rows}
-use Rattle.ac_omega.specs.Searching.{Searches, IsNormal, IsRefuted, columns_to}
+use Rattle.ac_omega.specs.WalkAnswers.{Searches, IsNormal, IsRefuted, columns_to}
 use Rattle.ac_omega.specs.Walk as def
 use Rattle.ac_omega.specs.Within.{Bounds, HaveRisen}
 use Rattle.ac_omega.proofs.Bounding.{rows-met, rows-on}
-use Rattle.ac_refutations.specs.Refutations.{IsRefutationOf}
-use Rattle.ac_refutations.specs.declared.refutation.Refutation.{Refutation}
-use Rattle.ac_choices.proofs.LeftMade.{conj_made}
-use Rattle.ac_refutations.specs.declared.strategy.Strategy.{Strategy}
+use Rattle.ac_omega_certify.specs.Refutations.{IsRefutationOf}
+use Rattle.ac_omega_certify.specs.declared.refutation.Refutation.{Refutation}
+use Rattle.ac_omega_steps.proofs.LeftMade.{conj_made}
+use Rattle.ac_omega_certify.specs.declared.strategy.Strategy.{Strategy}
 
 pub normal-made : (q d : Conj) → IsWellMade q → d ≡ normal_conj q → IsWellMade d
 normal-made q d made e = subst IsWellMade (sym e) (conj_made q made)

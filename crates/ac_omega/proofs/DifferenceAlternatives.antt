@@ -4,19 +4,19 @@ use Rattle.std.specs.Int.{int_max}
 use Rattle.ac_forms.specs.Affine.{Affine, coef}
 use Rattle.ac_forms.specs.declared.row.Row.{Row}
 use Rattle.ac_forms.specs.declared.row.Row.TheVariants.{Eq, Div, Ge}
-use Rattle.ac_choices.specs.declared.column.Bound.{Bound}
-use Rattle.ac_choices.specs.declared.choose.Choice.{Choice}
-use Rattle.ac_choices.specs.declared.choose.Choice.TheVariants as choice
-use Rattle.ac_choices.specs.Bounds.{is_low, low_bound, lows, highs, rows_without, is_none, is_one_sided, greatest_size}
-use Rattle.ac_forms.specs.Columns.{has_column}
-use Rattle.ac_choices.specs.Choices.{is_equality_of, by_equality, shadow_form, shadows, left_by, lifted, solved}
-use Rattle.ac_choices.specs.ChoiceFits.{choice_fits, equality_fits, sizes_fit, shadow_fits, shadows_fit, lift_fits, solved_fits}
+use Rattle.ac_omega_steps.specs.declared.column.Bound.{Bound}
+use Rattle.ac_omega_steps.specs.declared.choose.Choice.{Choice}
+use Rattle.ac_omega_steps.specs.declared.choose.Choice.TheVariants as choice
+use Rattle.ac_omega_steps.specs.Bounds.{is_low, low_bound, lows, highs, rows_without, is_none, is_one_sided, greatest_size}
+use Rattle.ac_forms.specs.RowColumns.{has_column}
+use Rattle.ac_omega_steps.specs.Choices.{is_equality_of, by_equality, shadow_form, shadows, left_by, lifted, solved}
+use Rattle.ac_omega_steps.specs.ChoiceFits.{choice_fits, equality_fits, sizes_fit, shadow_fits, shadows_fit, lift_fits, solved_fits}
 use Rattle.ac_forms.specs.Fits.{fits}
-use Rattle.ac_forms.specs.Tests.{normal_fits}
-use Rattle.ac_exact.specs.Tests.{greatest_failing, is_exact, pair_fits, pairs_fit}
-use Rattle.ac_refutations.specs.Alternatives.{Alternatives, first_equality, has_divisibility, alternatives_for, need_of, splinters_by, splinters}
+use Rattle.ac_forms.specs.RangeTests.{normal_fits}
+use Rattle.ac_omega_exact.specs.ExactnessTests.{greatest_failing, is_exact, pair_fits, pairs_fit}
+use Rattle.ac_omega_certify.specs.Alternatives.{Alternatives, first_equality, has_divisibility, alternatives_for, need_of, splinters_by, splinters}
 use Rattle.ac_omega.specs.Maxima.{Maxima, with_choice}
-use Rattle.ac_refutations.proofs.Tried.{equality-found}
+use Rattle.ac_omega_certify.proofs.Tried.{equality-found}
 use Rattle.ac_omega.proofs.DifferenceForms.{unit-at}
 use Rattle.ac_omega.proofs.DifferenceRows.{IsOver, IsRow, IsRaw, Each}
 use Rattle.ac_omega.proofs.DifferenceNormals.{both-true, row-fits}
@@ -24,8 +24,8 @@ use Rattle.ac_omega.proofs.DifferenceChoices.{leave, sign-of, each-at, each-appe
 use Rattle.ac_omega.proofs.DifferenceShadows.{IsBound, EachBound, each-free, each-low, each-high, each-shadow, shadow-over, low-one}
 use Rattle.ac_omega.proofs.DifferenceFits.{equality-fit, sizes-fit, shadow-fit, shadows-fit}
 use Rattle.ac_omega.proofs.DifferencePoints.{AreWithin, GoesBack, between-back, solved-back}
-use Rattle.ac_refutations.specs.declared.strategy.Strategy.{Strategy}
-use Rattle.ac_refutations.specs.declared.strategy.Strategy.TheVariants.{Full, Economical}
+use Rattle.ac_omega_certify.specs.declared.strategy.Strategy.{Strategy}
+use Rattle.ac_omega_certify.specs.declared.strategy.Strategy.TheVariants.{Full, Economical}
 
 -- one choice, which stays in `i128`, and what it leaves and takes back
 pub record OneChoice (strategy : Strategy) (vars : List ℕ) (b z : ℕ) (rows : List Row) : Type 0 where

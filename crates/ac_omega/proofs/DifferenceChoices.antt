@@ -6,14 +6,14 @@ use borrow.Author.Tests.{eqb-true}
 use Rattle.ac_forms.specs.Affine.{Affine, coef, combined, scaled}
 use Rattle.ac_forms.specs.declared.row.Row.{Row}
 use Rattle.ac_forms.specs.declared.row.Row.TheVariants.{Eq, Div, Ge}
-use Rattle.ac_choices.specs.Bounds.{without}
-use Rattle.ac_choices.specs.Choices.{size_of, against, replaced, replaced_row, others, by_equality}
-use Rattle.ac_choices.proofs.OneColumn.{coef-combined}
-use Rattle.ac_omega.specs.Differences.{IsDifference}
+use Rattle.ac_omega_steps.specs.Bounds.{without}
+use Rattle.ac_omega_steps.specs.Choices.{size_of, against, replaced, replaced_row, others, by_equality}
+use Rattle.ac_omega_steps.proofs.OneColumn.{coef-combined}
+use Rattle.ac_omega.specs.DifferenceRows.{IsDifference}
 use Rattle.ac_omega.specs.Projection.{is_among}
 use Rattle.ac_omega.proofs.DifferenceForms.{IsUnit, unit-at, sum-difference, same-difference}
 use Rattle.ac_omega.proofs.DifferenceRows.{IsOver, IsRow, IsRaw, Each, at-turned, over-turned}
-use Rattle.ac_refutations.proofs.Tried.{or-none}
+use Rattle.ac_omega_certify.proofs.Tried.{or-none}
 
 -- the columns but for one
 unfoldable pub leave : ℕ → List ℕ → List ℕ

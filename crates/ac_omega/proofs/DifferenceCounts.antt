@@ -9,7 +9,7 @@ use Rattle.std.proofs.lemmas.Cmp.{lists_equiv, int_eq_equiv}
 use Rattle.ac_forms.specs.Affine.{Affine, coef}
 use Rattle.ac_forms.specs.NormalForm.{alike}
 use Rattle.ac_forms.specs.NormalRows.{trim, trim_onto}
-use Rattle.ac_forms.specs.Orders.{columns_cmp, form_cmp, row_cmp, kind_of}
+use Rattle.ac_forms.specs.FormOrder.{columns_cmp, form_cmp, row_cmp, kind_of}
 use Rattle.ac_forms.specs.Rows.{form_of}
 use Rattle.ac_forms.specs.Ties.{columns_total, int_tied, then_tied}
 use Rattle.ac_forms.specs.declared.row.Row.{Row}

@@ -4,13 +4,13 @@ use Rattle.std.specs.Prelude.{unsigned_abs}
 use Rattle.std.proofs.lemmas.Int.{ints}
 use Rattle.ac_forms.specs.Affine.{Affine, coef, combined, mix_numbers}
 use Rattle.ac_forms.specs.Fits.{fits, all_fit}
-use Rattle.ac_forms.specs.Tests.{can_combine}
+use Rattle.ac_forms.specs.RangeTests.{can_combine}
 use Rattle.ac_forms.specs.declared.row.Row.{Row}
 use Rattle.ac_forms.specs.declared.row.Row.TheVariants.{Eq, Div, Ge}
-use Rattle.ac_choices.specs.declared.column.Bound.{Bound}
-use Rattle.ac_choices.specs.Bounds.{without}
-use Rattle.ac_choices.specs.Choices.{size_of, against, others}
-use Rattle.ac_choices.specs.ChoiceFits.{replaced_fits, all_replaced_fit, equality_fits, sizes_fit, shadow_fits, shadows_fit_with, shadows_fit}
+use Rattle.ac_omega_steps.specs.declared.column.Bound.{Bound}
+use Rattle.ac_omega_steps.specs.Bounds.{without}
+use Rattle.ac_omega_steps.specs.Choices.{size_of, against, others}
+use Rattle.ac_omega_steps.specs.ChoiceFits.{replaced_fits, all_replaced_fit, equality_fits, sizes_fit, shadow_fits, shadows_fit_with, shadows_fit}
 use Rattle.ac_omega.proofs.DifferenceForms.{IsUnit, unit-at}
 use Rattle.ac_omega.proofs.DifferenceRows.{IsOver, IsRow, Each, AreUnits, form-units}
 use Rattle.ac_omega.proofs.DifferenceNormals.{fits-within, both-true}

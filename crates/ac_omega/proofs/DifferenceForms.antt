@@ -3,7 +3,7 @@ use Rattle.std.proofs.Common.{◌≡◌, ◌⊎◌, inl, inr, ℕ, zero, suc, �
 use Rattle.std.specs.Prelude.{unsigned_abs}
 use Rattle.std.proofs.lemmas.Int.{ints}
 use borrow.Author.Tests.{eqb-true}
-use Rattle.ac_omega.specs.Differences.{one_in, IsDifference}
+use Rattle.ac_omega.specs.DifferenceRows.{one_in, IsDifference}
 
 -- one column's numbers
 abbrev pub IsUnit : ℤ → Type 0

@@ -5,12 +5,12 @@ use Rattle.std.proofs.lemmas.Int.{ints}
 use borrow.Author.Tests.{eq-eqb, eqb-true}
 use Rattle.ac_forms.specs.Affine.{coef}
 use Rattle.ac_forms.specs.NormalForm.{absurd_rows, left_rows, has_absurd, in_order, alike, has_clash, normal_form}
-use Rattle.ac_forms.specs.Orders.{kind_of}
+use Rattle.ac_forms.specs.FormOrder.{kind_of}
 use Rattle.ac_forms.specs.Rows.{form_of}
 use Rattle.ac_forms.specs.declared.row.Row.{Row}
 use Rattle.ac_forms.specs.declared.row.Row.TheVariants.{Eq, Div, Ge}
 use Rattle.ac_forms.proofs.Sorting.{Rising, rising-in_order}
-use Rattle.ac_omega.specs.Differences.{one_in, IsDifference}
+use Rattle.ac_omega.specs.DifferenceRows.{one_in, IsDifference}
 use Rattle.ac_omega.specs.Projection.{is_among}
 use Rattle.ac_omega.proofs.DifferenceForms.{one-cases}
 use Rattle.ac_omega.proofs.DifferenceRows.{IsOver, IsTrimmed, IsRow, IsRaw, Each}

@@ -3,13 +3,13 @@ use Rattle.std.proofs.Common.{◌≡◌, ℕ, ◌<◌, ◌≤◌, ◌==◌, cond
 use Rattle.ac_forms.specs.Affine.{coef}
 use Rattle.ac_forms.specs.declared.row.Row.{Row}
 use Rattle.ac_forms.specs.declared.row.Row.TheVariants.{Eq, Div, Ge}
-use Rattle.ac_forms.specs.Columns.{has_column, is_present}
-use Rattle.ac_omega.specs.Columns.{next_column}
+use Rattle.ac_forms.specs.RowColumns.{has_column, is_present}
+use Rattle.ac_omega.specs.ColumnChoice.{next_column}
 use Rattle.ac_omega.specs.Projection.{is_among}
 use Rattle.ac_omega.proofs.DifferenceRows.{IsRow, Each}
 use Rattle.ac_omega.proofs.DifferenceChoices.{leave}
 use Rattle.ac_omega.proofs.Present.{next-present}
-use Rattle.ac_refutations.specs.declared.strategy.Strategy.{Strategy}
+use Rattle.ac_omega_certify.specs.declared.strategy.Strategy.{Strategy}
 
 -- a column outside is in no row
 absent-test : (c : ℤ) → c ≡ pos 0 → not (int_eq c (pos 0)) ≡ false

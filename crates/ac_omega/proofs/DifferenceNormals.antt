@@ -5,21 +5,21 @@ use Rattle.std.specs.Int.{w128, int_div_euclid, int_rem_euclid}
 use Rattle.std.specs.List.{dedup, dedup_from}
 use Rattle.std.specs.Ordering.{is_gt}
 use Rattle.std.proofs.lemmas.Int.{ints, fits_signed_from_abs}
-use Rattle.ac_integers.specs.Dot.{residues}
-use Rattle.ac_integers.specs.Gcd.{gcd_all, content}
-use Rattle.ac_integers.specs.Multiple.{divides}
+use Rattle.ac_base.specs.Dot.{residues}
+use Rattle.ac_base.specs.Gcd.{gcd_all, content}
+use Rattle.ac_base.specs.Multiple.{divides}
 use Rattle.ac_forms.specs.Affine.{Affine}
 use Rattle.ac_forms.specs.Fits.{fits, all_fit}
 use Rattle.ac_forms.specs.NormalForm.{absurd_rows, left_onto, left_rows, has_absurd, insert_row, in_order, alike, has_clash, normal_form}
 use Rattle.ac_forms.specs.NormalRows.{divided, reduced, modular_content, leads_negative, absolutes, sign_numbers, eq_numbers, normal_row}
-use Rattle.ac_forms.specs.Orders.{row_cmp}
-use Rattle.ac_forms.specs.Tests.{normal_fits, rows_fit}
+use Rattle.ac_forms.specs.FormOrder.{row_cmp}
+use Rattle.ac_forms.specs.RangeTests.{normal_fits, rows_fit}
 use Rattle.ac_forms.specs.declared.row.Row.{Row}
 use Rattle.ac_forms.specs.declared.row.Row.TheVariants.{Eq, Div, Ge}
 use Rattle.ac_forms.specs.declared.normal.NormalRow.{NormalRow}
 use Rattle.ac_forms.specs.declared.normal.NormalRow.TheVariants.{Kept, Dropped, Absurd}
 use Rattle.ac_forms.proofs.Sizes.{common_small}
-use Rattle.ac_choices.proofs.Fitting.{fits_true}
+use Rattle.ac_omega_steps.proofs.Fitting.{fits_true}
 use Rattle.ac_omega.proofs.DifferenceForms.{IsUnit, no-difference}
 use Rattle.ac_omega.proofs.DifferenceRows.{IsOver, IsRow, IsRaw, IsLeft, IsBit, Each, AreUnits, all-bit, cond-left, left-ge, left-eq, form-units, over-divided}
 

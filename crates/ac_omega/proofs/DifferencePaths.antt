@@ -2,14 +2,14 @@
 use Rattle.std.proofs.Common.{◌≡◌, ℕ, zero, suc, ◌+◌, ◌*◌, ◌<◌, ◌≤◌, ◌^◌, nat_lt, cond, Bool, true, false, ℤ, List, length, Option, Some, None, arith, refl, sym, subst, ◌∙◌, mul-le-mul_left}
 use borrow.Author.Tests.{ltb-true}
 use Rattle.ac_forms.specs.NormalForm.{normal_conj}
-use Rattle.ac_forms.specs.Tests.{rows_fit}
+use Rattle.ac_forms.specs.RangeTests.{rows_fit}
 use Rattle.ac_forms.specs.declared.conj.Conj.{Conj}
-use Rattle.ac_choices.specs.Choices.{are_absurd, left_by, lifted}
-use Rattle.ac_choices.specs.ChoiceFits.{after_choice, choice_fits, lift_fits, raw}
-use Rattle.ac_choices.specs.declared.choose.Choice.{Choice}
-use Rattle.ac_refutations.specs.Alternatives.{Alternatives, alternatives_for}
-use Rattle.ac_omega.specs.Columns.{next_column}
-use Rattle.ac_omega.specs.Elimination.{eliminating, look_at}
+use Rattle.ac_omega_steps.specs.Choices.{are_absurd, left_by, lifted}
+use Rattle.ac_omega_steps.specs.ChoiceFits.{after_choice, choice_fits, lift_fits, raw}
+use Rattle.ac_omega_steps.specs.declared.choose.Choice.{Choice}
+use Rattle.ac_omega_certify.specs.Alternatives.{Alternatives, alternatives_for}
+use Rattle.ac_omega.specs.ColumnChoice.{next_column}
+use Rattle.ac_omega.specs.ColumnElimination.{eliminating, look_at}
 use Rattle.ac_omega.specs.Maxima.{Maxima, with_rows, with_choice}
 use Rattle.ac_omega.proofs.AllColumns.{AreBelow}
 use Rattle.ac_omega.specs.Walk.{Walked, Empty, Spent, Absurd, behind, entered, tries, looked, walk}
@@ -20,7 +20,7 @@ use Rattle.ac_omega.proofs.DifferencePoints.{AreWithin, within-more}
 use Rattle.ac_omega.proofs.DifferenceAlternatives.{OneChoice, one-choice}
 use Rattle.ac_omega.proofs.DifferenceNexts.{next-left, leave-less}
 use Rattle.ac_omega.proofs.DifferenceWalks.{level, cost, cost-step, cost-level, squares, grown, grown-least, Standing, normal-standing, AreSmall, rows-small, Comes, zeros-within, zeros-length, behind-comes}
-use Rattle.ac_refutations.specs.declared.strategy.Strategy.{Strategy}
+use Rattle.ac_omega_certify.specs.declared.strategy.Strategy.{Strategy}
 
 -- what is the same all along
 pub record Frame (strategy : Strategy) (top n : ℕ) (cols : List ℕ) : Type 0 where

@@ -5,17 +5,17 @@ use Rattle.std.proofs.Math.Nat.{div-one}
 use Rattle.std.specs.Int.{w128, int_div_euclid, int_max, int_min}
 use Rattle.std.proofs.lemmas.Int.{ints, clamps, unsigned_abs-mul, fits_signed_from_abs}
 use Rattle.std.proofs.lemmas.List.{length-set}
-use Rattle.ac_integers.specs.Dot.{dot}
+use Rattle.ac_base.specs.Dot.{dot}
 use Rattle.ac_forms.specs.Affine.{Affine, coef, value_at, partial_sums, CanEvaluate}
 use Rattle.ac_forms.specs.Fits.{AllFit, fits}
-use Rattle.ac_forms.specs.Tests.{can_evaluate}
+use Rattle.ac_forms.specs.RangeTests.{can_evaluate}
 use Rattle.ac_forms.specs.declared.row.Row.{Row}
 use Rattle.ac_forms.specs.declared.row.Row.TheVariants.{Eq, Div, Ge}
-use Rattle.ac_choices.specs.Bounds.{is_low, is_high, is_none, lows}
-use Rattle.ac_choices.specs.Choices.{rest_at, low_values, high_values, greatest, least, between, solved}
-use Rattle.ac_choices.specs.ChoiceFits.{low_values_fit, high_values_fit, between_fits, solved_fits}
-use Rattle.ac_choices.proofs.Fitting.{evaluate_true}
-use Rattle.ac_choices.proofs.OneColumn.{value-rest}
+use Rattle.ac_omega_steps.specs.Bounds.{is_low, is_high, is_none, lows}
+use Rattle.ac_omega_steps.specs.Choices.{rest_at, low_values, high_values, greatest, least, between, solved}
+use Rattle.ac_omega_steps.specs.ChoiceFits.{low_values_fit, high_values_fit, between_fits, solved_fits}
+use Rattle.ac_omega_steps.proofs.Fitting.{evaluate_true}
+use Rattle.ac_omega_steps.proofs.OneColumn.{value-rest}
 use Rattle.ac_omega.proofs.DifferenceForms.{unit-at, weight, weight-two}
 use Rattle.ac_omega.proofs.DifferenceRows.{IsOver, IsRow, Each, by-one}
 use Rattle.ac_omega.proofs.DifferenceNormals.{fits-within, both-true}

@@ -6,16 +6,16 @@ use borrow.Author.Tests.{eq-eqb}
 use Rattle.ac_forms.specs.Affine.{Affine}
 use Rattle.ac_forms.specs.NormalForm.{normal_conj}
 use Rattle.ac_forms.specs.Rows.{AreRowsOver, IsWellMade, CanTest}
-use Rattle.ac_forms.specs.Tests.{rows_fit}
+use Rattle.ac_forms.specs.RangeTests.{rows_fit}
 use Rattle.ac_forms.specs.declared.conj.Conj.{Conj}
 use Rattle.ac_forms.specs.declared.row.Row.{Row}
 use Rattle.ac_forms.specs.declared.row.Row.TheVariants.{Eq, Div, Ge}
 use Rattle.ac_omega.specs.Decisions.{walk_of}
-use Rattle.ac_omega.specs.Differences.{IsDifferenceWithin, AreDifferences}
-use Rattle.ac_omega.specs.Elimination.{eliminating}
+use Rattle.ac_omega.specs.DifferenceRows.{IsDifferenceWithin, AreDifferences}
+use Rattle.ac_omega.specs.ColumnElimination.{eliminating}
 use Rattle.ac_omega.specs.Maxima.{Maxima, nothing_met, with_form, with_rows}
 use Rattle.ac_omega.specs.Projection.{is_among}
-use Rattle.ac_omega.specs.Searching.{columns_to}
+use Rattle.ac_omega.specs.WalkAnswers.{columns_to}
 use Rattle.ac_omega.specs.Walk.{Walked, Empty, Found, Spent, Wide, entered, walk}
 use Rattle.ac_omega.proofs.AllColumns.{all-below}
 use Rattle.ac_omega.proofs.DifferenceRows.{IsOver, IsRaw, Each}
@@ -23,7 +23,7 @@ use Rattle.ac_omega.proofs.DifferenceNormals.{rows-fit}
 use Rattle.ac_omega.proofs.DifferencePoints.{AreWithin, can-evaluate}
 use Rattle.ac_omega.proofs.DifferenceWalks.{cost, grown, grown-least, normal-standing, AreSmall, form-small, Comes}
 use Rattle.ac_omega.proofs.DifferencePaths.{Frame, Stage, times-room, walk-comes}
-use Rattle.ac_refutations.specs.declared.strategy.Strategy.{Strategy}
+use Rattle.ac_omega_certify.specs.declared.strategy.Strategy.{Strategy}
 
 -- the columns below n
 pub below : ℕ → List ℕ

@@ -3,17 +3,17 @@ use Rattle.std.proofs.Common.{◌≡◌, ◌⊎◌, inl, inr, ℕ, zero, suc, �
 use Rattle.std.specs.Prelude.{unsigned_abs}
 use Rattle.std.specs.Int.{int_div_euclid}
 use Rattle.std.proofs.lemmas.Int.{ints}
-use Rattle.ac_integers.specs.Dot.{floored}
-use Rattle.ac_integers.specs.Gcd.{gcd, gcd_within, gcd_all, content}
-use Rattle.ac_integers.specs.Multiple.{divides}
-use Rattle.ac_integers.proofs.Floor.{floor_le, lt_floor}
+use Rattle.ac_base.specs.Dot.{floored}
+use Rattle.ac_base.specs.Gcd.{gcd, gcd_within, gcd_all, content}
+use Rattle.ac_base.specs.Multiple.{divides}
+use Rattle.ac_base.proofs.Floor.{floor_le, lt_floor}
 use Rattle.ac_forms.specs.Affine.{Affine, coef, scaled}
 use Rattle.ac_forms.specs.NormalRows.{trim, trim_onto, divided, leads_negative, signed, normal_row}
 use Rattle.ac_forms.specs.declared.row.Row.{Row}
 use Rattle.ac_forms.specs.declared.row.Row.TheVariants.{Eq, Div, Ge}
 use Rattle.ac_forms.specs.declared.normal.NormalRow.{NormalRow}
 use Rattle.ac_forms.specs.declared.normal.NormalRow.TheVariants.{Kept, Dropped, Absurd}
-use Rattle.ac_omega.specs.Differences.{IsDifference}
+use Rattle.ac_omega.specs.DifferenceRows.{IsDifference}
 use Rattle.ac_omega.specs.Projection.{is_among}
 use Rattle.ac_omega.proofs.DifferenceForms.{IsUnit, unit-at, same-difference, turned-difference}
 

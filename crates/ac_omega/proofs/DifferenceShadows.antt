@@ -7,11 +7,11 @@ use Rattle.ac_forms.specs.Affine.{Affine, coef, combined}
 use Rattle.ac_forms.specs.Rows.{form_of}
 use Rattle.ac_forms.specs.declared.row.Row.{Row}
 use Rattle.ac_forms.specs.declared.row.Row.TheVariants.{Eq, Div, Ge}
-use Rattle.ac_choices.specs.declared.column.Bound.{Bound}
-use Rattle.ac_choices.specs.Bounds.{without, is_low, is_high, low_bound, high_bound, lows, highs, rows_without}
-use Rattle.ac_forms.specs.Columns.{has_column}
-use Rattle.ac_choices.specs.Choices.{shadow_form, shadows_with, shadows}
-use Rattle.ac_choices.proofs.OneColumn.{coef-combined, has-not, coef-without}
+use Rattle.ac_omega_steps.specs.declared.column.Bound.{Bound}
+use Rattle.ac_omega_steps.specs.Bounds.{without, is_low, is_high, low_bound, high_bound, lows, highs, rows_without}
+use Rattle.ac_forms.specs.RowColumns.{has_column}
+use Rattle.ac_omega_steps.specs.Choices.{shadow_form, shadows_with, shadows}
+use Rattle.ac_omega_steps.proofs.OneColumn.{coef-combined, has-not, coef-without}
 use Rattle.ac_omega.proofs.DifferenceForms.{IsUnit, unit-at}
 use Rattle.ac_omega.proofs.DifferenceRows.{IsOver, IsRow, IsRaw, Each}
 use Rattle.ac_omega.proofs.DifferenceChoices.{leave, plus-over, free-over, each-append}

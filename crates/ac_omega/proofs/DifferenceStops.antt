@@ -7,11 +7,11 @@ use Rattle.ac_omega.specs.declared.halt.Halt.{Halt}
 use Rattle.ac_omega.specs.declared.halt.Halt.TheVariants as halt
 use Rattle.ac_omega.specs.declared.pieces.Stop.{Stop}
 use Rattle.ac_omega.specs.declared.pieces.Stop.TheVariants as stop
-use Rattle.ac_omega.specs.Answers.{HandsBack}
+use Rattle.ac_omega.specs.EliminationAnswers.{HandsBack}
 use Rattle.ac_omega.specs.Decisions.{Decides, Settles, IsWide, IsSpent, IsLarge, walk_of}
-use Rattle.ac_omega.specs.Differences.{AreDifferences, StopsBelow}
+use Rattle.ac_omega.specs.DifferenceRows.{AreDifferences, StopsBelow}
 use Rattle.ac_omega.proofs.DifferenceQuestions.{never-wide, never-spent, never-large, point-tests}
-use Rattle.ac_refutations.specs.declared.strategy.Strategy.{Strategy}
+use Rattle.ac_omega_certify.specs.declared.strategy.Strategy.{Strategy}
 
 below-or-not : (a b : ℕ) → (a < b) ⊎ (b ≤ a)
 below-or-not a b = grind arith

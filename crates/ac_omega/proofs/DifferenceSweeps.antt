@@ -5,21 +5,21 @@ use Rattle.std.proofs.Math.Nat.{pow-succ', pow-zero}
 use borrow.Author.Tests.{ltb-true, eqb-true, eq-eqb}
 use Rattle.ac_forms.specs.NormalForm.{normal_conj}
 use Rattle.ac_forms.specs.Rows.{IsWellMade}
-use Rattle.ac_forms.specs.Tests.{rows_fit}
+use Rattle.ac_forms.specs.RangeTests.{rows_fit}
 use Rattle.ac_forms.specs.declared.conj.Conj.{Conj}
 use Rattle.ac_forms.specs.declared.row.Row.{Row}
 use Rattle.ac_forms.specs.declared.row.Row.TheVariants.{Eq, Div, Ge}
-use Rattle.ac_choices.specs.Choices.{are_absurd, left_by}
-use Rattle.ac_choices.specs.ChoiceFits.{after_choice, raw}
-use Rattle.ac_choices.specs.declared.choose.Choice.{Choice}
-use Rattle.ac_refutations.specs.Alternatives.{Alternatives, alternatives_for}
+use Rattle.ac_omega_steps.specs.Choices.{are_absurd, left_by}
+use Rattle.ac_omega_steps.specs.ChoiceFits.{after_choice, raw}
+use Rattle.ac_omega_steps.specs.declared.choose.Choice.{Choice}
+use Rattle.ac_omega_certify.specs.Alternatives.{Alternatives, alternatives_for}
 use Rattle.ac_omega.specs.declared.pieces.Stop.{Stop}
 use Rattle.ac_omega.specs.declared.pieces.Stop.TheVariants as stop
 use Rattle.ac_omega.specs.declared.piece.Piece.{Piece}
-use Rattle.ac_omega.specs.Answers.{Eliminates, parts}
-use Rattle.ac_omega.specs.Columns.{next_column}
-use Rattle.ac_omega.specs.Differences.{AreDifferences, AreAllDifferences, StopsBelow}
-use Rattle.ac_omega.specs.Elimination.{eliminating, elimination, look_at, pieces_of}
+use Rattle.ac_omega.specs.EliminationAnswers.{Eliminates, parts}
+use Rattle.ac_omega.specs.ColumnChoice.{next_column}
+use Rattle.ac_omega.specs.DifferenceRows.{AreDifferences, AreAllDifferences, StopsBelow}
+use Rattle.ac_omega.specs.ColumnElimination.{eliminating, elimination, look_at, pieces_of}
 use Rattle.ac_omega.specs.Projection.{is_among}
 use Rattle.ac_omega.specs.Sweep.{Projected, Pieces, Spent, Wide, onward, into, sweeps, swept, sweep}
 use Rattle.ac_omega.specs.Walk.{Absurd}
@@ -33,7 +33,7 @@ use Rattle.ac_omega.proofs.DifferenceNexts.{next-left, leave-less}
 use Rattle.ac_omega.proofs.DifferenceWalks.{cost, cost-step, cost-level, grown, grown-least, normal-standing}
 use Rattle.ac_omega.proofs.DifferencePaths.{Stage, stage-rows, after-one, next-stage, none-left, double-fits}
 use Rattle.ac_omega.proofs.DifferenceQuestions.{below, length-below, question-raw, grown-upto, grown-sixty, cube-is}
-use Rattle.ac_refutations.specs.declared.strategy.Strategy.{Strategy}
+use Rattle.ac_omega_certify.specs.declared.strategy.Strategy.{Strategy}
 
 or-first : (a b : Bool) → a ≡ true → (a || b) ≡ true
 or-first true b e = refl

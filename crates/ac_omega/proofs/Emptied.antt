@@ -6,25 +6,25 @@ use Rattle.std.proofs.lemmas.Int.{ints}
 use Rattle.std.proofs.lemmas.Nat.Gcd.{dvd_refl, dvd-zero}
 use Rattle.std.proofs.Math.Nat.{eq-zero_of_zero-dvd, mul-le-mul_left}
 use Rattle.std.specs.List.{dedup}
-use Rattle.ac_integers.specs.Dot.{floored}
-use Rattle.ac_integers.specs.Gcd.{gcd, gcd_all, content, DividesEach}
-use Rattle.ac_integers.specs.Multiple.{divides}
-use Rattle.ac_integers.proofs.Divisors.{gcd_is, gcd_all_divides}
-use Rattle.ac_integers.proofs.Floor.{floor_exact}
+use Rattle.ac_base.specs.Dot.{floored}
+use Rattle.ac_base.specs.Gcd.{gcd, gcd_all, content, DividesEach}
+use Rattle.ac_base.specs.Multiple.{divides}
+use Rattle.ac_base.proofs.Divisors.{gcd_is, gcd_all_divides}
+use Rattle.ac_base.proofs.Floor.{floor_exact}
 use Rattle.ac_forms.specs.Affine.{Affine, coef, scaled}
 use Rattle.ac_forms.specs.NormalForm.{absurd_rows, alike, has_absurd, has_clash, in_order, left_rows, normal_form}
 use Rattle.ac_forms.specs.NormalRows.{normal_row, normal_ge, normal_eq, normal_div, divided, reduced, signed, leads_negative, modular_content, trim, trim_onto}
 use Rattle.ac_forms.specs.Rows.{form_of, HasModulus, AreRowsOver, IsWellMade}
-use Rattle.ac_forms.specs.Members.{IsAmong}
+use Rattle.ac_forms.specs.ListMembers.{IsAmong}
 use Rattle.ac_forms.specs.Traces.{IsLeftOf}
 use Rattle.ac_forms.specs.declared.conj.Conj.{Conj}
 use Rattle.ac_forms.specs.declared.row.Row.{Row}
 use Rattle.ac_forms.specs.declared.row.Row.TheVariants.{Eq, Div, Ge}
 use Rattle.ac_forms.specs.declared.normal.NormalRow.TheVariants.{Kept, Dropped, Absurd}
 use Rattle.ac_forms.proofs.Traces.{left_trace, order_trace, joined_trace}
-use Rattle.ac_choices.specs.Choices.{are_absurd}
-use Rattle.ac_forms.specs.Columns.{is_present}
-use Rattle.ac_omega.specs.Searching.{IsNormal}
+use Rattle.ac_omega_steps.specs.Choices.{are_absurd}
+use Rattle.ac_forms.specs.RowColumns.{is_present}
+use Rattle.ac_omega.specs.WalkAnswers.{IsNormal}
 
 -- each number is 0
 abbrev pub AreZero : List ℤ → Type 0

@@ -4,21 +4,21 @@ use Rattle.std.proofs.lemmas.Bool.{eqb-true}
 use Rattle.std.specs.List.{filter}
 use Rattle.ac_forms.specs.declared.conj.Conj.{Conj}
 use Rattle.ac_forms.specs.declared.row.Row.{Row}
-use Rattle.ac_choices.specs.Bounds.{is_one_sided}
-use Rattle.ac_choices.specs.Choices.{are_absurd}
-use Rattle.ac_choices.specs.declared.choose.Choice.{Choice}
+use Rattle.ac_omega_steps.specs.Bounds.{is_one_sided}
+use Rattle.ac_omega_steps.specs.Choices.{are_absurd}
+use Rattle.ac_omega_steps.specs.declared.choose.Choice.{Choice}
 use Rattle.ac_omega.specs.declared.ranking.Rule.TheVariants as rule
 use Rattle.ac_omega.specs.declared.piece.Piece.{Piece}
-use Rattle.ac_omega.specs.Answers.{parts}
-use Rattle.ac_omega.specs.Columns.{precedes, precedes_by_two, least_from, or_else, by_equality, by_rule, passes, key, splinter_key, excess_key, by_splinters, next_column}
-use Rattle.ac_forms.specs.Columns.{is_present}
-use Rattle.ac_omega.specs.Elimination.{elimination, look, look_at}
+use Rattle.ac_omega.specs.EliminationAnswers.{parts}
+use Rattle.ac_omega.specs.ColumnChoice.{precedes, precedes_by_two, least_from, or_else, by_equality, by_rule, passes, key, splinter_key, excess_key, by_splinters, next_column}
+use Rattle.ac_forms.specs.RowColumns.{is_present}
+use Rattle.ac_omega.specs.ColumnElimination.{elimination, look, look_at}
 use Rattle.ac_omega.specs.Projection.{is_among, HaveNone, AllEmpty}
-use Rattle.ac_refutations.specs.Alternatives.{alternatives_for}
+use Rattle.ac_omega_certify.specs.Alternatives.{alternatives_for}
 use Rattle.ac_omega.specs.Walk.{Done, Absurd, Open}
 use Rattle.ac_omega.proofs.Sweeps.{AllDone}
-use Rattle.ac_refutations.specs.declared.strategy.Strategy.{Strategy}
-use Rattle.ac_refutations.specs.declared.strategy.Strategy.TheVariants.{Full, Economical}
+use Rattle.ac_omega_certify.specs.declared.strategy.Strategy.{Strategy}
+use Rattle.ac_omega_certify.specs.declared.strategy.Strategy.TheVariants.{Full, Economical}
 
 some-stays : (before : ℕ → ℕ → Bool) (y : ℕ) (zs : List ℕ) → least_from before (Some y) zs ≡ None → ⊥
 some-stays before y [] e = cc

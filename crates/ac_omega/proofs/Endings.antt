@@ -3,8 +3,8 @@ use Rattle.std.proofs.Common.{◌≡◌, ℕ, ◌+◌, ◌<◌, ℤ, List, [], l
 use Rattle.ac_forms.specs.NormalForm.{normal_conj, RowsFit}
 use Rattle.ac_forms.specs.Rows.{IsWellMade}
 use Rattle.ac_forms.specs.declared.conj.Conj.{Conj}
-use Rattle.ac_choices.specs.declared.choose.Choice.{Choice}
-use Rattle.ac_choices.proofs.LeftMade.{conj_made, rows_fit_true, rows_fit_false}
+use Rattle.ac_omega_steps.specs.declared.choose.Choice.{Choice}
+use Rattle.ac_omega_steps.proofs.LeftMade.{conj_made, rows_fit_true, rows_fit_false}
 use Rattle.ac_omega.specs.declared.halt.Halt.{Halt}
 use Rattle.ac_omega.specs.declared.halt.Halt.TheVariants as halt
 use Rattle.ac_omega.specs.declared.piece.Piece.{Piece}
@@ -14,10 +14,10 @@ use Rattle.ac_omega.specs.declared.search.Walked.TheVariants as done
 use Rattle.ac_omega.specs.Maxima.{Maxima}
 use Rattle.ac_omega.specs.declared.pieces.Stop.{Stop}
 use Rattle.ac_omega.specs.declared.pieces.Stop.TheVariants as stop
-use Rattle.ac_omega.specs.Answers.{parts, HandsBack, Eliminates}
-use Rattle.ac_omega.specs.Elimination.{elimination, pieces_of}
+use Rattle.ac_omega.specs.EliminationAnswers.{parts, HandsBack, Eliminates}
+use Rattle.ac_omega.specs.ColumnElimination.{elimination, pieces_of}
 use Rattle.ac_omega.specs.Projection.{HoldsFor, AllEmpty, MeetsRest}
-use Rattle.ac_forms.specs.Pieces.{IsInSome}
+use Rattle.ac_forms.specs.PieceMembership.{IsInSome}
 use Rattle.ac_omega.specs.Sweep as def
 use Rattle.ac_omega.specs.Visits.{seen, visiting, Visits}
 use Rattle.ac_omega.specs.Walk.{walk}
@@ -25,7 +25,7 @@ use Rattle.ac_omega.proofs.Empties.{all-gone}
 use Rattle.ac_omega.proofs.Projecting.{pieces-project}
 use Rattle.ac_omega.proofs.Sweeps.{sweep-done}
 use Rattle.ac_omega.proofs.Visiting.{SweepsTo, swept-to}
-use Rattle.ac_refutations.specs.declared.strategy.Strategy.{Strategy}
+use Rattle.ac_omega_certify.specs.declared.strategy.Strategy.{Strategy}
 
 -- the walk from the normal form
 pieces-from : (strategy : Strategy) (vars : List ℕ) (b : ℕ) (c : Conj) → RowsFit c.rows → pieces_of strategy vars b c ≡ def.sweep (elimination strategy vars) (b + 1) b [] (normal_conj c) 0

@@ -2,18 +2,18 @@
 use Rattle.std.proofs.Common.{◌≡◌, ℕ, ◌+◌, ℤ, List, Some, None, Bool, true, false, cond, refl, subst}
 use Rattle.ac_forms.specs.NormalForm.{normal_conj}
 use Rattle.ac_forms.specs.Rows.{IsWellMade}
-use Rattle.ac_forms.specs.Tests.{rows_fit}
+use Rattle.ac_forms.specs.RangeTests.{rows_fit}
 use Rattle.ac_forms.specs.declared.conj.Conj.{Conj}
 use Rattle.ac_forms.proofs.Joining.{form_keeps}
-use Rattle.ac_choices.specs.Points.{IsPoint}
+use Rattle.ac_omega_steps.specs.IntegerPoints.{IsPoint}
 use Rattle.ac_omega.specs.Decisions.{walk_of}
-use Rattle.ac_omega.specs.Elimination.{elimination, eliminating}
+use Rattle.ac_omega.specs.ColumnElimination.{elimination, eliminating}
 use Rattle.ac_omega.specs.Maxima.{Maxima, nothing_met, with_rows}
-use Rattle.ac_omega.specs.Searching.{columns_to}
+use Rattle.ac_omega.specs.WalkAnswers.{columns_to}
 use Rattle.ac_omega.specs.Walk as def
-use Rattle.ac_choices.proofs.LeftMade.{conj_made}
+use Rattle.ac_omega_steps.proofs.LeftMade.{conj_made}
 use Rattle.ac_omega.proofs.Projecting.{gone-empty}
-use Rattle.ac_refutations.specs.declared.strategy.Strategy.{Strategy}
+use Rattle.ac_omega_certify.specs.declared.strategy.Strategy.{Strategy}
 
 same-method : (strategy : Strategy) (vars : List ℕ) → eliminating strategy vars ≡ elimination strategy vars
 unfolding elimination

@@ -1,9 +1,9 @@
 -- A list of choices that is made by adding them one at a time.
 use Rattle.std.proofs.Common.{◌≡◌, List, [], ◌∷◌, ◌++◌, append_assoc, Option, Some, None, refl, ap, ◌∙◌}
 use Rattle.std.specs.Prelude.{option_map}
-use Rattle.ac_choices.specs.declared.choose.Choice.{Choice}
-use Rattle.ac_refutations.specs.Alternatives.{Alternatives, all_of}
-use Rattle.ac_refutations.proofs.GatheredChoices.{gathered}
+use Rattle.ac_omega_steps.specs.declared.choose.Choice.{Choice}
+use Rattle.ac_omega_certify.specs.Alternatives.{Alternatives, all_of}
+use Rattle.ac_omega_certify.proofs.GatheredChoices.{gathered}
 
 pub gathered-all : (made : List Choice) (hs : Alternatives) → gathered made hs ≡ option_map (λ rest. made ++ rest) (all_of hs)
 gathered-all made [] = rw (append-nil made) refl

@@ -3,7 +3,7 @@ use Rattle.std.proofs.Common.{◌≡◌, ℕ, Bool, true, false, cond, not, ◌&
 use Rattle.std.proofs.lemmas.Bool.{eqb-true}
 use Rattle.std.proofs.lemmas.Bool.Decides.{nat_tests}
 use Rattle.std.proofs.lemmas.Int.{ints}
-use Rattle.ac_omega.specs.Columns.{less, precedes, precedes_by_two, better, least_from, least_by}
+use Rattle.ac_omega.specs.ColumnChoice.{less, precedes, precedes_by_two, better, least_from, least_by}
 use Rattle.ac_omega.specs.Projection.{is_among}
 
 -- by two keys and places

@@ -3,13 +3,13 @@ use Rattle.std.proofs.Common.{◌≡◌, inl, inr, add-zero, zero-add, ℕ, zero
 use Rattle.std.specs.Prelude.{unsigned_abs, option_map, Result, Ok, Err, IfOk}
 use Rattle.ac_forms.specs.declared.stop.FormStop.{FormStop}
 use Rattle.ac_forms.specs.declared.stop.FormStop.TheVariants.{Wide, Memory}
-use Rattle.ac_forms.specs.Stops.{GivenOf, IfWide}
+use Rattle.ac_forms.specs.FormStops.{GivenOf, IfWide}
 use Rattle.std.specs.Int.{◌∣◌}
 use Rattle.std.proofs.lemmas.Int.{ints}
 use Rattle.std.proofs.lemmas.Bool.{lt-ltb}
 use Rattle.std.proofs.lemmas.Nat.Gcd.{dvd_refl, dvd_trans}
-use Rattle.ac_integers.specs.Multiple.{divides}
-use Rattle.ac_integers.proofs.Divisors.{true-divides}
+use Rattle.ac_base.specs.Multiple.{divides}
+use Rattle.ac_base.proofs.Divisors.{true-divides}
 use Rattle.ac_forms.specs.Affine.{coef}
 use Rattle.ac_forms.specs.Fits.{fits}
 use Rattle.ac_forms.specs.Rows.{HasModulus, HaveModuli, IsWellMade}
@@ -17,19 +17,19 @@ use Rattle.ac_forms.proofs.Passes.{moduli_of}
 use Rattle.ac_forms.specs.declared.conj.Conj.{Conj}
 use Rattle.ac_forms.specs.declared.row.Row.{Row}
 use Rattle.ac_forms.specs.declared.row.Row.TheVariants.{Eq, Div, Ge}
-use Rattle.ac_choices.specs.declared.choose.Choice.{Choice}
-use Rattle.ac_choices.specs.declared.choose.Choice.TheVariants as choice
-use Rattle.ac_choices.specs.Bounds.{is_low, only_bounds, is_one_sided}
-use Rattle.ac_forms.specs.Columns.{has_column}
-use Rattle.ac_choices.specs.Choices.{column_of, are_absurd, is_equality_of, is_lower_row, is_common_multiple, allows, is_legal}
-use Rattle.ac_items.proofs.Truths.{true-le}
-use Rattle.ac_forms.specs.Members.{IsAmong}
-use Rattle.ac_refutations.specs.Alternatives.{Alternatives, first_equality, has_divisibility, lcm, common_modulus, residues_from, residues, splinters_from, count_to, last_splinter, last_splinter_fits, need_of, splinters_by, splinters_of, splinters, by_bounds, alternatives_by, alternatives_for, all_of}
+use Rattle.ac_omega_steps.specs.declared.choose.Choice.{Choice}
+use Rattle.ac_omega_steps.specs.declared.choose.Choice.TheVariants as choice
+use Rattle.ac_omega_steps.specs.Bounds.{is_low, only_bounds, is_one_sided}
+use Rattle.ac_forms.specs.RowColumns.{has_column}
+use Rattle.ac_omega_steps.specs.Choices.{column_of, are_absurd, is_equality_of, is_lower_row, is_common_multiple, allows, is_legal}
+use Rattle.ac_base.proofs.Truths.{true-le}
+use Rattle.ac_forms.specs.ListMembers.{IsAmong}
+use Rattle.ac_omega_certify.specs.Alternatives.{Alternatives, first_equality, has_divisibility, lcm, common_modulus, residues_from, residues, splinters_from, count_to, last_splinter, last_splinter_fits, need_of, splinters_by, splinters_of, splinters, by_bounds, alternatives_by, alternatives_for, all_of}
 use Rattle.ac_omega.specs.Walk.{IsTried}
 use Rattle.ac_omega.proofs.CommonMultiples.{IsLcm-lcm, lcm-positive}
 use Rattle.ac_omega.proofs.Moduli.{common-cons, row-grows, size_positive}
-use Rattle.ac_refutations.specs.declared.strategy.Strategy.{Strategy}
-use Rattle.ac_refutations.proofs.Tried.{equality-found, both-true, not-true, or-none}
+use Rattle.ac_omega_certify.specs.declared.strategy.Strategy.{Strategy}
+use Rattle.ac_omega_certify.proofs.Tried.{equality-found, both-true, not-true, or-none}
 
 -- the choice takes the column, and the rows allow it
 pub record Allowed (z : ℕ) (rows : List Row) (h : Choice) : Type 0 where

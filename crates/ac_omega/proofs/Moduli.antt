@@ -7,8 +7,8 @@ use Rattle.ac_forms.specs.Fits.{Fits}
 use Rattle.ac_forms.specs.Rows.{HasModulus, HaveModuli}
 use Rattle.ac_forms.specs.declared.row.Row.{Row}
 use Rattle.ac_forms.specs.declared.row.Row.TheVariants.{Eq, Div, Ge}
-use Rattle.ac_forms.specs.Columns.{has_column}
-use Rattle.ac_refutations.specs.Alternatives.{lcm, common_modulus}
+use Rattle.ac_forms.specs.RowColumns.{has_column}
+use Rattle.ac_omega_certify.specs.Alternatives.{lcm, common_modulus}
 use Rattle.ac_omega.proofs.CommonMultiples.{lcm-positive, lcm-grows}
 
 pub drop-at : {A : Type 0} (xs : List A) (i : ℕ) (x : A) → i < length xs → x ≡ get_or xs i x → drop i xs ≡ x ∷ drop (i + 1) xs

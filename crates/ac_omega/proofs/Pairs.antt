@@ -5,13 +5,13 @@ use Rattle.std.specs.Int.{w128}
 use Rattle.std.specs.Int.Signed.{lt_z}
 use Rattle.std.proofs.lemmas.Int.{ints, to_z_pos}
 use Rattle.std.proofs.Math.Nat.{mul-le-mul_left}
-use Rattle.ac_integers.proofs.Bits.{again_128}
+use Rattle.ac_base.proofs.Bits.{again_128}
 use Rattle.ac_forms.specs.Affine.{coef}
 use Rattle.ac_forms.specs.declared.row.Row.{Row}
 use Rattle.ac_forms.specs.declared.row.Row.TheVariants.{Eq, Div, Ge}
-use Rattle.ac_choices.specs.declared.column.Bound.{Bound}
-use Rattle.ac_choices.specs.Bounds.{lows, highs, is_low, is_high}
-use Rattle.ac_omega.specs.Columns.{is_unit, are_units, is_unit_with, are_unit_pairs, excess}
+use Rattle.ac_omega_steps.specs.declared.column.Bound.{Bound}
+use Rattle.ac_omega_steps.specs.Bounds.{lows, highs, is_low, is_high}
+use Rattle.ac_omega.specs.ColumnChoice.{is_unit, are_units, is_unit_with, are_unit_pairs, excess}
 
 unit-with : (b : Bound) (hs : List Bound) → is_unit_with b hs ≡ (is_unit b || are_units hs)
 unit-with b [] = elim (is_unit b) as (λ t. true ≡ (t || true)) [ true ↦ refl | false ↦ refl ]

@@ -10,16 +10,16 @@ use Rattle.ac_forms.specs.Rows.{IsWellMade, AreRowsOver, form_of}
 use Rattle.ac_forms.specs.declared.conj.Conj.{Conj}
 use Rattle.ac_forms.specs.declared.row.Row.{Row}
 use Rattle.ac_forms.specs.declared.row.Row.TheVariants.{Eq, Div, Ge}
-use Rattle.ac_choices.specs.Bounds.{is_low, low_bound, lows, highs, is_none, is_one_sided}
-use Rattle.ac_forms.specs.Columns.{has_column, is_present}
-use Rattle.ac_refutations.specs.Alternatives.{has_divisibility}
-use Rattle.ac_omega.specs.Columns.{is_two_sided, are_unit_pairs, least_by, or_else, by_equality, by_rule, passes, key, size_key, precedes, precedes_by_two, splinter_key, excess_key, by_splinters, next_column}
+use Rattle.ac_omega_steps.specs.Bounds.{is_low, low_bound, lows, highs, is_none, is_one_sided}
+use Rattle.ac_forms.specs.RowColumns.{has_column, is_present}
+use Rattle.ac_omega_certify.specs.Alternatives.{has_divisibility}
+use Rattle.ac_omega.specs.ColumnChoice.{is_two_sided, are_unit_pairs, least_by, or_else, by_equality, by_rule, passes, key, size_key, precedes, precedes_by_two, splinter_key, excess_key, by_splinters, next_column}
 use Rattle.ac_omega.specs.declared.ranking.Rule.{Rule}
 use Rattle.ac_omega.specs.declared.ranking.Rule.TheVariants as rule
 use Rattle.ac_omega.specs.Projection.{is_among}
 use Rattle.ac_omega.proofs.Nexts.{least-among}
-use Rattle.ac_refutations.specs.declared.strategy.Strategy.{Strategy}
-use Rattle.ac_refutations.specs.declared.strategy.Strategy.TheVariants.{Full, Economical}
+use Rattle.ac_omega_certify.specs.declared.strategy.Strategy.{Strategy}
+use Rattle.ac_omega_certify.specs.declared.strategy.Strategy.TheVariants.{Full, Economical}
 
 -- the least of those that pass passes
 among-filter : (test : ℕ → Bool) (z : ℕ) (zs : List ℕ) → is_among z (filter test zs) ≡ true → test z ≡ true

@@ -4,32 +4,32 @@ use Rattle.std.proofs.lemmas.Int.{ints}
 use Rattle.std.proofs.lemmas.Bool.Decides.{Decides-int_eq}
 use Rattle.std.proofs.lemmas.List.{length-set, set-get_or, get_or-set_other}
 use Rattle.std.specs.Prelude.{option_map}
-use Rattle.ac_integers.specs.Dot.{dot}
+use Rattle.ac_base.specs.Dot.{dot}
 use Rattle.ac_forms.specs.Affine.{Affine, coef, value_at}
 use Rattle.ac_forms.specs.NormalForm.{normal_conj}
 use Rattle.ac_forms.specs.Rows.{form_of, Holds, Meets, IsWellMade}
-use Rattle.ac_forms.specs.Tests.{rows_fit}
+use Rattle.ac_forms.specs.RangeTests.{rows_fit}
 use Rattle.ac_forms.specs.declared.conj.Conj.{Conj}
 use Rattle.ac_forms.specs.declared.row.Row.{Row}
 use Rattle.ac_forms.specs.declared.row.Row.TheVariants.{Eq, Div, Ge}
 use Rattle.ac_forms.proofs.Joining.{form_keeps}
-use Rattle.ac_forms.specs.Columns.{has_column, is_present}
-use Rattle.ac_choices.specs.Choices.{are_absurd, column_of, is_legal, left_by, lifted}
-use Rattle.ac_choices.specs.ChoiceFits.{after_choice, choice_fits, raw}
-use Rattle.ac_choices.specs.declared.choose.Choice.{Choice}
-use Rattle.ac_choices.proofs.LeftMade.{conj_made, raw_made}
-use Rattle.ac_choices.proofs.Lifting.{lifts, lifted_at}
-use Rattle.ac_choices.proofs.OneColumn.{has-not}
+use Rattle.ac_forms.specs.RowColumns.{has_column, is_present}
+use Rattle.ac_omega_steps.specs.Choices.{are_absurd, column_of, is_legal, left_by, lifted}
+use Rattle.ac_omega_steps.specs.ChoiceFits.{after_choice, choice_fits, raw}
+use Rattle.ac_omega_steps.specs.declared.choose.Choice.{Choice}
+use Rattle.ac_omega_steps.proofs.LeftMade.{conj_made, raw_made}
+use Rattle.ac_omega_steps.proofs.Lifting.{lifts, lifted_at}
+use Rattle.ac_omega_steps.proofs.OneColumn.{has-not}
 use Rattle.ac_omega.specs.declared.piece.Piece.{Piece}
-use Rattle.ac_omega.specs.Answers.{parts}
-use Rattle.ac_omega.specs.Columns.{next_column}
-use Rattle.ac_omega.specs.Elimination.{elimination}
+use Rattle.ac_omega.specs.EliminationAnswers.{parts}
+use Rattle.ac_omega.specs.ColumnChoice.{next_column}
+use Rattle.ac_omega.specs.ColumnElimination.{elimination}
 use Rattle.ac_omega.specs.Projection.{is_among, DiffersIn, HoldsFor, HaveNone, MeetsRest}
-use Rattle.ac_forms.specs.Pieces.{IsInSome}
+use Rattle.ac_forms.specs.PieceMembership.{IsInSome}
 use Rattle.ac_omega.specs.Sweep.{Pieces, sweep}
 use Rattle.ac_omega.proofs.WalkLaws.{Projects}
-use Rattle.ac_forms.specs.Members.{IsAmong}
-use Rattle.ac_refutations.specs.Alternatives.{Alternatives, alternatives_for, all_of}
+use Rattle.ac_forms.specs.ListMembers.{IsAmong}
+use Rattle.ac_omega_certify.specs.Alternatives.{Alternatives, alternatives_for, all_of}
 use Rattle.ac_omega.specs.Maxima.{Maxima}
 use Rattle.ac_omega.specs.Walk.{IsTried, Empty, walk}
 use Rattle.ac_omega.proofs.WalkLaws.{IsWhole, Covers}
@@ -42,7 +42,7 @@ use Rattle.ac_forms.proofs.Passes.{moduli_of}
 use Rattle.ac_omega.proofs.Nexts.{next-among, allowed-each}
 use Rattle.ac_omega.proofs.Present.{next-within}
 use Rattle.ac_omega.proofs.Sweeps.{sweep-exact, AtEnd}
-use Rattle.ac_refutations.specs.declared.strategy.Strategy.{Strategy}
+use Rattle.ac_omega_certify.specs.declared.strategy.Strategy.{Strategy}
 use Rattle.ac_forms.proofs.Trimmed.{or-false}
 
 -- a dot product, where the points agree but at coefficients that are 0

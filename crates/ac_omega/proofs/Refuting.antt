@@ -5,10 +5,10 @@ use Rattle.std.specs.List.{AllByRecursion}
 use Rattle.ac_forms.specs.Rows.{IsWellMade}
 use Rattle.ac_forms.specs.declared.conj.Conj.{Conj}
 use Rattle.ac_forms.specs.declared.row.Row.{Row}
-use Rattle.ac_choices.specs.Choices.{are_absurd}
-use Rattle.ac_choices.specs.declared.choose.Choice.{Choice}
+use Rattle.ac_omega_steps.specs.Choices.{are_absurd}
+use Rattle.ac_omega_steps.specs.declared.choose.Choice.{Choice}
 use Rattle.ac_omega.specs.Maxima.{Maxima}
-use Rattle.ac_omega.specs.Searching.{IfWalkedEmpty, IsRefuted, IsRefutedBehind, WantsRefutation, wanted, with_choice_behind, with_refutation}
+use Rattle.ac_omega.specs.WalkAnswers.{IfWalkedEmpty, IsRefuted, IsRefutedBehind, WantsRefutation, wanted, with_choice_behind, with_refutation}
 use Rattle.ac_omega.specs.Within.{Bounds, HaveRisen, IsWithin, AreAllWithin}
 use Rattle.ac_omega.specs.declared.search.Aim.{Aim}
 use Rattle.ac_omega.specs.declared.search.Aim.TheVariants.{ForPoint, ForRefutation, ForPieces}
@@ -17,12 +17,12 @@ use Rattle.ac_omega.specs.declared.search.Walked.TheVariants as done
 use Rattle.ac_omega.specs.declared.halt.Halt.{Halt}
 use Rattle.ac_omega.proofs.Bounding.{risen-on, all-more, moduli-more}
 use Rattle.ac_omega.proofs.Gathering.{gathered_all}
-use Rattle.ac_refutations.specs.Refutations.{Refutes, RefuteEach, AreChoicesOf, AreModuliWithin}
-use Rattle.ac_refutations.specs.Alternatives.{Alternatives, alternatives_for, all_of}
-use Rattle.ac_refutations.proofs.GatheredChoices.{gathered}
-use Rattle.ac_refutations.specs.declared.refutation.Refutation.{Refutation, Row_of-Refutation, end_of-Refutation, more_of-Refutation, items-the_row-Refutation, the_lemmas}
-use Rattle.ac_refutations.specs.declared.refutation.Refutation.TheVariants.{Absurd, Open, Open'}
-use Rattle.ac_refutations.specs.declared.strategy.Strategy.{Strategy}
+use Rattle.ac_omega_certify.specs.Refutations.{Refutes, RefuteEach, AreChoicesOf, AreModuliWithin}
+use Rattle.ac_omega_certify.specs.Alternatives.{Alternatives, alternatives_for, all_of}
+use Rattle.ac_omega_certify.proofs.GatheredChoices.{gathered}
+use Rattle.ac_omega_certify.specs.declared.refutation.Refutation.{Refutation, Row_of-Refutation, end_of-Refutation, more_of-Refutation, items-the_row-Refutation, the_lemmas}
+use Rattle.ac_omega_certify.specs.declared.refutation.Refutation.TheVariants.{Absurd, Open, Open'}
+use Rattle.ac_omega_certify.specs.declared.strategy.Strategy.{Strategy}
 
 -- what each choice leaves is refuted, in turn
 abbrev pub AreRefutedBehind : List Choice → Conj → List Refutation → Type 0

@@ -1,18 +1,18 @@
 -- The choices that lead to a piece are legal, name only the columns, and lead to it.
 use Rattle.std.proofs.Common.{◌≡◌, ℕ, zero, suc, ◌+◌, inl, inr, List, [], ◌∷◌, ◌++◌, append_assoc, append-nil, Option, Some, None, nat_lt, Bool, true, false, cond, ◌&&◌, refl, sym, ◌∙◌, subst}
 use Rattle.std.specs.Prelude.{option_and_then, Result, Ok, Err, IfOk}
-use Rattle.ac_forms.specs.Columns.{AreTrimmed}
+use Rattle.ac_forms.specs.RowColumns.{AreTrimmed}
 use Rattle.ac_forms.specs.NormalForm.{normal_conj}
 use Rattle.ac_forms.specs.Rows.{IsWellMade, AreRowsOver}
-use Rattle.ac_forms.specs.Tests.{rows_fit}
+use Rattle.ac_forms.specs.RangeTests.{rows_fit}
 use Rattle.ac_forms.specs.declared.conj.Conj.{Conj}
 use Rattle.ac_forms.proofs.Trimmed.{normal-trimmed, rows-short}
-use Rattle.ac_choices.specs.Choices.{is_legal, column_of}
-use Rattle.ac_choices.specs.ChoiceFits.{after_choice, raw}
-use Rattle.ac_choices.specs.declared.choose.Choice.{Choice}
-use Rattle.ac_choices.proofs.LeftMade.{conj_made, raw_made}
-use Rattle.ac_omega.specs.Answers.{Eliminates, parts}
-use Rattle.ac_omega.specs.Elimination.{elimination, look, pieces_of}
+use Rattle.ac_omega_steps.specs.Choices.{is_legal, column_of}
+use Rattle.ac_omega_steps.specs.ChoiceFits.{after_choice, raw}
+use Rattle.ac_omega_steps.specs.declared.choose.Choice.{Choice}
+use Rattle.ac_omega_steps.proofs.LeftMade.{conj_made, raw_made}
+use Rattle.ac_omega.specs.EliminationAnswers.{Eliminates, parts}
+use Rattle.ac_omega.specs.ColumnElimination.{elimination, look, pieces_of}
 use Rattle.ac_omega.specs.Projection.{is_among, AllEmpty}
 use Rattle.ac_omega.specs.Replays.{replayed, IsReached, AreReached, HaveAllFrom, AreOver}
 use Rattle.ac_omega.specs.Sweep.{Projected, Pieces, into, sweeps, swept, sweep}
@@ -23,7 +23,7 @@ use Rattle.ac_omega.proofs.Empties.{IsOpen, look-open, none-at}
 use Rattle.ac_omega.proofs.Nexts.{next-among}
 use Rattle.ac_omega.proofs.Projecting.{IsGood, projects, left-is, tried-legal, tried-column}
 use Rattle.ac_omega.proofs.Sweeps.{onward-parts, into-parts, if-pieces}
-use Rattle.ac_refutations.specs.declared.strategy.Strategy.{Strategy}
+use Rattle.ac_omega_certify.specs.declared.strategy.Strategy.{Strategy}
 
 -- the choices behind the path lead from the conjunction to the piece
 record Leads (vars : List ℕ) (path : List Choice) (c : Conj) (choices : List Choice) (rest : Conj) : Type 0 where

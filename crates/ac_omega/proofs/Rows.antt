@@ -3,14 +3,14 @@ use Rattle.std.proofs.Common.{◌≡◌, ℕ, ◌≤◌, List, [], ◌∷◌, Op
 use Rattle.std.specs.List.{filter}
 use Rattle.ac_forms.specs.declared.conj.Conj.{Conj}
 use Rattle.ac_forms.specs.declared.row.Row.{Row}
-use Rattle.ac_choices.specs.Choices.{are_absurd}
-use Rattle.ac_omega.specs.Columns.{or_else, by_rule, passes, key, precedes, precedes_by_two, least_from, is_two_sided, splinter_key, excess_key, by_splinters, next_column}
+use Rattle.ac_omega_steps.specs.Choices.{are_absurd}
+use Rattle.ac_omega.specs.ColumnChoice.{or_else, by_rule, passes, key, precedes, precedes_by_two, least_from, is_two_sided, splinter_key, excess_key, by_splinters, next_column}
 use Rattle.ac_omega.specs.declared.ranking.Rule.{Rule}
 use Rattle.ac_omega.specs.declared.ranking.Rule.TheVariants as rule
-use Rattle.ac_omega.specs.Elimination.{look, look_at}
+use Rattle.ac_omega.specs.ColumnElimination.{look, look_at}
 use Rattle.ac_omega.specs.Walk.{Absurd, HasRows}
-use Rattle.ac_refutations.specs.declared.strategy.Strategy.{Strategy}
-use Rattle.ac_refutations.specs.declared.strategy.Strategy.TheVariants.{Full, Economical}
+use Rattle.ac_omega_certify.specs.declared.strategy.Strategy.{Strategy}
+use Rattle.ac_omega_certify.specs.declared.strategy.Strategy.TheVariants.{Full, Economical}
 
 -- a row, where the next column is one
 filter-none : {X : Type 0} (test : X → Bool) (xs : List X) → ((x : X) → test x ≡ false) → filter test xs ≡ []

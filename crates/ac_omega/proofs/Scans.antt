@@ -2,8 +2,8 @@
 use Rattle.std.proofs.Common.{◌≡◌, ℕ, ◌+◌, List, ◌∷◌, Some, cond, refl, add-one}
 use Rattle.ac_forms.specs.declared.row.Row.{Row}
 use Rattle.ac_forms.specs.declared.row.Row.TheVariants.{Eq, Div, Ge}
-use Rattle.ac_choices.specs.Choices.{is_equality_of}
-use Rattle.ac_refutations.specs.Alternatives.{first_equality}
+use Rattle.ac_omega_steps.specs.Choices.{is_equality_of}
+use Rattle.ac_omega_certify.specs.Alternatives.{first_equality}
 
 pub first-cons : (z i : ℕ) (r : Row) (rs : List Row) → first_equality z i (r ∷ rs) ≡ cond (is_equality_of z (Some r)) (Some i) (first_equality z (i + 1) rs)
 first-cons z i (Eq f) rs = rw (add-one i) refl

@@ -5,16 +5,16 @@ use borrow.Author.Tests.{lt-ltb, le-ltb}
 use Rattle.ac_forms.specs.NormalForm.{normal_conj}
 use Rattle.ac_forms.specs.Rows.{IsWellMade}
 use Rattle.ac_forms.specs.declared.conj.Conj.{Conj}
-use Rattle.ac_forms.specs.Tests.{rows_fit}
-use Rattle.ac_choices.specs.Choices.{are_absurd, left_by}
-use Rattle.ac_choices.specs.ChoiceFits.{after_choice, choice_fits, raw}
-use Rattle.ac_choices.specs.Points.{IsPoint}
-use Rattle.ac_choices.specs.declared.choose.Choice.{Choice}
-use Rattle.ac_omega.specs.Columns.{next_column}
+use Rattle.ac_forms.specs.RangeTests.{rows_fit}
+use Rattle.ac_omega_steps.specs.Choices.{are_absurd, left_by}
+use Rattle.ac_omega_steps.specs.ChoiceFits.{after_choice, choice_fits, raw}
+use Rattle.ac_omega_steps.specs.IntegerPoints.{IsPoint}
+use Rattle.ac_omega_steps.specs.declared.choose.Choice.{Choice}
+use Rattle.ac_omega.specs.ColumnChoice.{next_column}
 use Rattle.ac_omega.specs.Maxima.{with_rows}
-use Rattle.ac_omega.specs.Searching.{IfFound, IsNormal, Settle, SettleFor, WantsPoint}
+use Rattle.ac_omega.specs.WalkAnswers.{IfFound, IsNormal, Settle, SettleFor, WantsPoint}
 use Rattle.ac_omega.specs.Visits.{Seen, seen, visiting, Visits, tried, Tried, at_leaf}
-use Rattle.ac_refutations.specs.Alternatives.{alternatives_for}
+use Rattle.ac_omega_certify.specs.Alternatives.{alternatives_for}
 use Rattle.ac_omega.specs.Walk as def
 use Rattle.ac_omega.specs.Walk.{walk, looked, behind, entered}
 use Rattle.ac_omega.specs.declared.halt.Halt.{Halt}
@@ -25,7 +25,7 @@ use Rattle.ac_omega.specs.declared.search.Aim.TheVariants.{ForPoint, ForRefutati
 use Rattle.ac_omega.specs.declared.search.Walked.{Walked}
 use Rattle.ac_omega.specs.declared.search.Walked.TheVariants as done
 use Rattle.ac_omega.proofs.Rows.{column-rows}
-use Rattle.ac_refutations.specs.declared.strategy.Strategy.{Strategy}
+use Rattle.ac_omega_certify.specs.declared.strategy.Strategy.{Strategy}
 
 -- what a choice leaves is in normal form
 pub after-normal : (h : Choice) (c d : Conj) → after_choice h c ≡ Some d → (d.columns ≡ c.columns) × IsNormal d

@@ -8,15 +8,15 @@ use Rattle.ac_forms.specs.Affine.{Affine, coef}
 use Rattle.ac_forms.specs.Fits.{Fits, fits}
 use Rattle.ac_forms.specs.declared.row.Row.{Row}
 use Rattle.ac_forms.specs.declared.row.Row.TheVariants.{Eq, Div, Ge}
-use Rattle.ac_choices.specs.declared.column.Bound.{Bound}
-use Rattle.ac_choices.specs.Bounds.{is_low, is_high, low_bound, high_bound, lows, highs, is_none, is_one_sided}
-use Rattle.ac_choices.specs.Choices.{is_lower_row}
-use Rattle.ac_choices.specs.ChoiceFits.{sizes_fit}
-use Rattle.ac_choices.proofs.Fitting.{fits_true, fits_false}
-use Rattle.ac_items.proofs.Truths.{and-true}
-use Rattle.ac_integers.proofs.Bits.{again_128}
+use Rattle.ac_omega_steps.specs.declared.column.Bound.{Bound}
+use Rattle.ac_omega_steps.specs.Bounds.{is_low, is_high, low_bound, high_bound, lows, highs, is_none, is_one_sided}
+use Rattle.ac_omega_steps.specs.Choices.{is_lower_row}
+use Rattle.ac_omega_steps.specs.ChoiceFits.{sizes_fit}
+use Rattle.ac_omega_steps.proofs.Fitting.{fits_true, fits_false}
+use Rattle.ac_base.proofs.Truths.{and-true}
+use Rattle.ac_base.proofs.Bits.{again_128}
 use Rattle.ac_omega.proofs.Moduli.{drop-at}
-use Rattle.ac_refutations.specs.Alternatives.{greatest_size}
+use Rattle.ac_omega_certify.specs.Alternatives.{greatest_size}
 
 pub upper_is : (z : ℕ) (f : Affine) → is_none (highs z (Ge f ∷ [])) ≡ not (is_high z f)
 upper_is z f = elim (is_high z f) as (λ t. is_none (cond t (high_bound z f ∷ []) []) ≡ not t) [ true ↦ refl | false ↦ refl ]

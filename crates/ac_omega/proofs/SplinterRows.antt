@@ -1,6 +1,6 @@
 -- The splinters of one row.
 use Rattle.std.specs.Prelude.{ℕ, [], ◌∷◌, Option, Some, None}
-use Rattle.ac_refutations.specs.Alternatives.{Alternatives, splinters_from}
+use Rattle.ac_omega_certify.specs.Alternatives.{Alternatives, splinters_from}
 
 -- that many splinters of row i, or a number that is too wide
 abbrev pub row_splinters : ℕ → ℕ → Option ℕ → Alternatives

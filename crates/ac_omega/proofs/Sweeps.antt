@@ -1,6 +1,6 @@
 -- The pieces of a whole walk are exactly the projection.
 use Rattle.std.proofs.Common.{◌≡◌, ℕ, zero, suc, ◌+◌, ◌⊎◌, inl, inr, ℤ, List, [], ◌∷◌, ◌++◌, Option, Some, None, nat_lt, Bool, true, false, cond, refl, ap, ◌∙◌}
-use Rattle.ac_forms.specs.Pieces.{IsInSome}
+use Rattle.ac_forms.specs.PieceMembership.{IsInSome}
 use Rattle.ac_forms.proofs.InPieces.{some-append}
 use Rattle.ac_omega.specs.Walk.{Node, Done, Absurd, Open, Method, IsTried}
 use Rattle.ac_omega.proofs.WalkLaws.{IsWhole}

@@ -3,10 +3,10 @@ use Rattle.std.proofs.Common.{◌≡◌, ℕ, List, Option, Some}
 use Rattle.std.specs.Prelude.{option_map}
 use Rattle.std.specs.List.{filter}
 use Rattle.ac_forms.specs.declared.row.Row.{Row}
-use Rattle.ac_omega.specs.Columns.{least_from, fewest, is_two_sided, precedes_by_two, splinter_key, excess_key, plus, fitting, total_of}
+use Rattle.ac_omega.specs.ColumnChoice.{least_from, fewest, is_two_sided, precedes_by_two, splinter_key, excess_key, plus, fitting, total_of}
 use Rattle.ac_omega.specs.Fewest.{candidate_of}
 use Rattle.ac_omega.specs.declared.fewest.Candidate.{Candidate}
-use Rattle.ac_refutations.specs.declared.strategy.Strategy.TheVariants.{Economical}
+use Rattle.ac_omega_certify.specs.declared.strategy.Strategy.TheVariants.{Economical}
 
 -- the splinters so far, and those of the rows that are left
 abbrev pub TotalSoFar : ℕ → ℕ → List Row → List Row → Type 0

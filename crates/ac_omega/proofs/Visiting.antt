@@ -2,8 +2,8 @@
 use Rattle.std.proofs.Common.{◌≡◌, ℕ, zero, suc, ◌+◌, nat_lt, ℤ, List, [], ◌∷◌, ◌++◌, append_assoc, append-nil, length, Option, Some, None, Result, Ok, Err, Bool, true, false, cond, refl, ◌∙◌, ap, sym, subst}
 use Rattle.std.specs.Prelude.{option_map}
 use Rattle.ac_forms.specs.declared.conj.Conj.{Conj}
-use Rattle.ac_choices.specs.ChoiceFits.{after_choice}
-use Rattle.ac_choices.specs.declared.choose.Choice.{Choice}
+use Rattle.ac_omega_steps.specs.ChoiceFits.{after_choice}
+use Rattle.ac_omega_steps.specs.declared.choose.Choice.{Choice}
 use Rattle.ac_omega.specs.declared.halt.Halt.{Halt}
 use Rattle.ac_omega.specs.declared.halt.Halt.TheVariants as halt
 use Rattle.ac_omega.specs.declared.piece.Piece.{Piece}
@@ -11,17 +11,17 @@ use Rattle.ac_omega.specs.declared.search.Aim.{Aim}
 use Rattle.ac_omega.specs.declared.search.Aim.TheVariants.{ForPoint, ForRefutation, ForPieces}
 use Rattle.ac_omega.specs.declared.search.Walked.{Walked}
 use Rattle.ac_omega.specs.declared.search.Walked.TheVariants as done
-use Rattle.ac_omega.specs.Answers.{parts, saturated}
-use Rattle.ac_omega.specs.Elimination.{eliminating, elimination, look}
+use Rattle.ac_omega.specs.EliminationAnswers.{parts, saturated}
+use Rattle.ac_omega.specs.ColumnElimination.{eliminating, elimination, look}
 use Rattle.ac_omega.specs.Maxima.{Maxima, with_rows, with_choice}
-use Rattle.ac_omega.specs.Searching.{Searches, WantsPoint, columns_to, lifted_to}
+use Rattle.ac_omega.specs.WalkAnswers.{Searches, WantsPoint, columns_to, lifted_to}
 use Rattle.ac_omega.specs.Sweep as whole
 use Rattle.ac_omega.specs.Sweep.{Projected, Pieces, joined, onward, into, sweeps, swept, sweep}
 use Rattle.ac_omega.specs.Visits.{Seen, seen, piece_of, look_for, pieces_at, visiting, Visits}
 use Rattle.ac_omega.specs.Walk as def
 use Rattle.ac_omega.specs.Walk.{Node, Done, Absurd, Open, behind, entered, lifted, tries, looked, walk}
-use Rattle.ac_refutations.specs.Alternatives.{Alternatives}
-use Rattle.ac_refutations.specs.declared.strategy.Strategy.{Strategy}
+use Rattle.ac_omega_certify.specs.Alternatives.{Alternatives}
+use Rattle.ac_omega_certify.specs.declared.strategy.Strategy.{Strategy}
 
 -- For a point: the pieces stay as they are.
 abbrev as_seen : List Piece → def.Walked Maxima → def.Walked Seen

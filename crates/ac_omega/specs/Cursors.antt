@@ -1,16 +1,16 @@
 -- Where one stands among the choices for a column.
 use Rattle.std.specs.Prelude.{◌≡◌, ℕ, ℤ, suc, ◌-◌, ◌<◌, ◌≤◌, ◌^◌, length, false, cond, pos, ◌≤ℤ◌, unsigned_abs, List, [], ◌∷◌, ◌++◌, drop, Option, Some, None}
 use Rattle.ac_forms.specs.declared.row.Row.{Row}
-use Rattle.ac_choices.specs.declared.choose.Choice.TheVariants as choice
-use Rattle.ac_choices.specs.Bounds.{highs, is_one_sided}
-use Rattle.ac_choices.specs.ChoiceFits.{sizes_fit}
+use Rattle.ac_omega_steps.specs.declared.choose.Choice.TheVariants as choice
+use Rattle.ac_omega_steps.specs.Bounds.{highs, is_one_sided}
+use Rattle.ac_omega_steps.specs.ChoiceFits.{sizes_fit}
 use Rattle.ac_omega.specs.declared.cursor.Cursor.{Cursor}
 use Rattle.ac_omega.specs.declared.cursor.Cursor.TheVariants as at
 use Rattle.ac_omega.specs.declared.cursor.Next.{Next}
 use Rattle.ac_omega.specs.declared.cursor.Next.TheVariants as next
-use Rattle.ac_refutations.specs.Alternatives.{Alternatives, residues_from, splinters_from, splinters, greatest_size}
-use Rattle.ac_refutations.specs.declared.strategy.Strategy.{Strategy}
-use Rattle.ac_refutations.specs.declared.strategy.Strategy.TheVariants.{Full, Economical}
+use Rattle.ac_omega_certify.specs.Alternatives.{Alternatives, residues_from, splinters_from, splinters, greatest_size}
+use Rattle.ac_omega_certify.specs.declared.strategy.Strategy.{Strategy}
+use Rattle.ac_omega_certify.specs.declared.strategy.Strategy.TheVariants.{Full, Economical}
 
 -- what is kept for all lower rows: the greatest size of an upper row, where each has its splinters for that one
 abbrev pub kept_for : Strategy → ℕ → List Row → Option ℤ

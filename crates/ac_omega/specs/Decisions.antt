@@ -14,11 +14,11 @@ use Rattle.ac_omega.specs.declared.halt.Halt.{Halt}
 use Rattle.ac_omega.specs.declared.halt.Halt.TheVariants as halt
 use Rattle.ac_omega.specs.declared.pieces.Stop.{Stop}
 use Rattle.ac_omega.specs.declared.pieces.Stop.TheVariants as stop
-use Rattle.ac_omega.specs.Elimination.{eliminating, normal_of}
+use Rattle.ac_omega.specs.ColumnElimination.{eliminating, normal_of}
 use Rattle.ac_omega.specs.Maxima.{Maxima, nothing_met, with_rows}
-use Rattle.ac_omega.specs.Searching.{columns_to}
+use Rattle.ac_omega.specs.WalkAnswers.{columns_to}
 use Rattle.ac_omega.specs.Walk as def
-use Rattle.ac_refutations.specs.declared.strategy.Strategy.{Strategy}
+use Rattle.ac_omega_certify.specs.declared.strategy.Strategy.{Strategy}
 
 -- the walk of a question: from its normal form on, over all its columns; the question's own numbers count among the greatest
 abbrev pub walk_of : Strategy → ℕ → Conj → def.Walked Maxima

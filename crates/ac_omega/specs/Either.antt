@@ -1,15 +1,15 @@
 -- A question that is asked of two walks: of the second where the first stops. An answer is that of one of the two, a stop the second one's. Want of memory may come at any time.
 use Rattle.std.specs.Prelude.{◌≡◌, ◌⊎◌, ℕ, List, Result, MatchResult}
 use Rattle.ac_forms.specs.declared.conj.Conj.{Conj}
-use Rattle.ac_choices.specs.declared.choose.Choice.{Choice}
+use Rattle.ac_omega_steps.specs.declared.choose.Choice.{Choice}
 use Rattle.ac_omega.specs.declared.decision.Decided.{Decided}
 use Rattle.ac_omega.specs.declared.decision.Decision.{Decision}
 use Rattle.ac_omega.specs.declared.piece.Piece.{Piece}
 use Rattle.ac_omega.specs.declared.pieces.Stop.{Stop}
-use Rattle.ac_omega.specs.Answers.{Eliminates}
+use Rattle.ac_omega.specs.EliminationAnswers.{Eliminates}
 use Rattle.ac_omega.specs.Decisions.{Finds, Settles, IsWide, IsLarge}
 use Rattle.ac_omega.specs.Maxima.{Maxima}
-use Rattle.ac_omega.specs.Stops.{UnlessMemory}
+use Rattle.ac_omega.specs.WalkStops.{UnlessMemory}
 use Rattle.ac_omega.specs.Sweep as whole
 use Rattle.ac_omega.specs.Walk as def
 

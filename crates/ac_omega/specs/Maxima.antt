@@ -3,8 +3,8 @@ use Rattle.std.specs.Prelude.{ℕ, ℤ, max, unsigned_abs, List, [], ◌∷◌}
 use Rattle.ac_forms.specs.Affine.{Affine}
 use Rattle.ac_forms.specs.declared.row.Row.{Row}
 use Rattle.ac_forms.specs.declared.row.Row.TheVariants.{Eq, Div, Ge}
-use Rattle.ac_choices.specs.declared.choose.Choice.{Choice}
-use Rattle.ac_choices.specs.declared.choose.Choice.TheVariants as choice
+use Rattle.ac_omega_steps.specs.declared.choose.Choice.{Choice}
+use Rattle.ac_omega_steps.specs.declared.choose.Choice.TheVariants as choice
 -- `factor` of coefficients, moduli and the moduli of residues; `number` of coefficients, constants and moduli
 pub use Rattle.ac_omega.specs.declared.extent.Maxima.{Maxima}
 

@@ -4,7 +4,7 @@ use Rattle.std.specs.List.{list_any}
 use Rattle.ac_forms.specs.Rows.{Meets}
 use Rattle.ac_forms.specs.declared.row.Row.{Row}
 use Rattle.ac_omega.specs.declared.piece.Piece.{Piece}
-use Rattle.ac_forms.specs.Columns.{is_present}
+use Rattle.ac_forms.specs.RowColumns.{is_present}
 
 -- the number is one of the numbers
 abbrev pub is_among : ℕ → List ℕ → Bool

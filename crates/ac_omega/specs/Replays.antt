@@ -3,11 +3,11 @@ use Rattle.std.specs.Prelude.{◌≡◌, ℕ, ◌<◌, ◌≤◌, true, ◌&&◌
 use Rattle.std.specs.List.{AllByRecursion}
 use Rattle.ac_forms.specs.NormalForm.{normal_conj}
 use Rattle.ac_forms.specs.Rows.{AreRowsOver}
-use Rattle.ac_forms.specs.Tests.{rows_fit}
+use Rattle.ac_forms.specs.RangeTests.{rows_fit}
 use Rattle.ac_forms.specs.declared.conj.Conj.{Conj}
-use Rattle.ac_choices.specs.Choices.{is_legal, column_of}
-use Rattle.ac_choices.specs.ChoiceFits.{after_choice}
-use Rattle.ac_choices.specs.declared.choose.Choice.{Choice}
+use Rattle.ac_omega_steps.specs.Choices.{is_legal, column_of}
+use Rattle.ac_omega_steps.specs.ChoiceFits.{after_choice}
+use Rattle.ac_omega_steps.specs.declared.choose.Choice.{Choice}
 use Rattle.ac_omega.specs.Projection.{is_among, HaveNone}
 use Rattle.ac_omega.specs.declared.piece.Piece.{Piece}
 

@@ -1,9 +1,9 @@
 -- One walk for a point, for a refutation and for pieces: over conjunctions, each with the choices that led to it; it keeps the greatest numbers met and the pieces so far.
 use Rattle.std.specs.Prelude.{◌≡◌, ℕ, ◌+◌, ◌-◌, ◌<◌, ◌^◌, min, cond, pos, ℤ, List, [], ◌∷◌, ◌++◌, length, replicate, Some, None, option_map, Result, Ok, Err}
 use Rattle.ac_forms.specs.declared.conj.Conj.{Conj}
-use Rattle.ac_choices.specs.Choices.{lifted}
-use Rattle.ac_choices.specs.ChoiceFits.{after_choice, lift_fits}
-use Rattle.ac_choices.specs.declared.choose.Choice.{Choice}
+use Rattle.ac_omega_steps.specs.Choices.{lifted}
+use Rattle.ac_omega_steps.specs.ChoiceFits.{after_choice, lift_fits}
+use Rattle.ac_omega_steps.specs.declared.choose.Choice.{Choice}
 use Rattle.ac_omega.specs.declared.halt.Halt.{Halt}
 use Rattle.ac_omega.specs.declared.halt.Halt.TheVariants as halt
 use Rattle.ac_omega.specs.declared.piece.Piece.{Piece}
@@ -11,12 +11,12 @@ use Rattle.ac_omega.specs.declared.search.Aim.{Aim}
 use Rattle.ac_omega.specs.declared.search.Aim.TheVariants.{ForPoint, ForRefutation, ForPieces}
 use Rattle.ac_omega.specs.declared.search.Walked.{Walked}
 use Rattle.ac_omega.specs.declared.search.Walked.TheVariants as done
-use Rattle.ac_omega.specs.Elimination.{look}
+use Rattle.ac_omega.specs.ColumnElimination.{look}
 use Rattle.ac_omega.specs.Maxima.{Maxima, with_rows, with_choice}
 use Rattle.ac_omega.specs.Walk.{Method, Node, Done, Absurd, Open}
 use Rattle.ac_omega.specs.Walk as def
-use Rattle.ac_refutations.specs.Alternatives.{Alternatives}
-use Rattle.ac_refutations.specs.declared.strategy.Strategy.{Strategy}
+use Rattle.ac_omega_certify.specs.Alternatives.{Alternatives}
+use Rattle.ac_omega_certify.specs.declared.strategy.Strategy.{Strategy}
 
 -- what a walk has met and kept so far
 pub record Seen : Type 0 where

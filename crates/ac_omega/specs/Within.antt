@@ -2,9 +2,9 @@
 use Rattle.std.specs.Prelude.{◌≤◌, List}
 use Rattle.ac_forms.specs.declared.row.Row.{Row}
 use Rattle.ac_omega.specs.Maxima.{Maxima}
-use Rattle.ac_refutations.specs.Refutations.{AreRowsWithin, AreModuliWithin}
-use Rattle.ac_refutations.specs.declared.refutation.Refutation.{Refutation, Row_of-Refutation, end_of-Refutation, more_of-Refutation}
-use Rattle.ac_refutations.specs.declared.refutation.Refutation.TheVariants.{Absurd, Open'}
+use Rattle.ac_omega_certify.specs.Refutations.{AreRowsWithin, AreModuliWithin}
+use Rattle.ac_omega_certify.specs.declared.refutation.Refutation.{Refutation, Row_of-Refutation, end_of-Refutation, more_of-Refutation}
+use Rattle.ac_omega_certify.specs.declared.refutation.Refutation.TheVariants.{Absurd, Open'}
 
 -- the maxima only grew
 pub record HaveRisen (from to : Maxima) : Type 0 where

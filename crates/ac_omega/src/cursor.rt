@@ -1,14 +1,14 @@
 ghost use Rattle.std.specs.Prelude.{◌≡◌, ◌<◌, ◌≤◌, ◌^◌, ◌-◌, ◌++◌, suc, List, [], ◌∷◌, Some, pos, ◌≤ℤ◌, unsigned_abs, length, false, drop, IfOk};
 ghost use Rattle.ac_forms.specs.Rows.{HaveModuli};
-ghost use Rattle.ac_choices.specs.Bounds.{is_one_sided};
+ghost use Rattle.ac_omega_steps.specs.Bounds.{is_one_sided};
 ghost use Rattle.ac_omega.specs.Cursors.{kept_for, alternatives_left, IsSound, IsNext};
-ghost use Rattle.ac_refutations.specs.Alternatives.{residues_from, splinters_from, splinters, alternatives_for};
+ghost use Rattle.ac_omega_certify.specs.Alternatives.{residues_from, splinters_from, splinters, alternatives_for};
 
 use crate::needs::{kept_for, splinter_count};
 use crate::scan::{common_modulus, first_equality, has_divisibility, is_one_sided};
-use ac_choices::Choice;
 use ac_forms::Row;
-use ac_refutations::Strategy;
+use ac_omega_certify::Strategy;
+use ac_omega_steps::Choice;
 use std::alloc::{AllocError, Global};
 
 /// Where one stands among the choices for a column, which are made one at a time.
@@ -94,7 +94,7 @@ pub(crate) fn advance(
 }
 
 /// What comes next among residues.
-#[tactic(auto, using(ac_integers::proofs::Bits::again_128))]
+#[tactic(auto, using(ac_base::proofs::Bits::again_128))]
 fn next_residue(strategy: Strategy, z: usize, rows: &[Row], modulus: &i128, r: u128) -> Next
     requires { pos 0 ≤ℤ modulus.now }
     ensures { IsNext strategy z rows.now result (residues_from (unsigned_abs modulus.now - r) z modulus.now r) }
@@ -110,7 +110,7 @@ fn next_residue(strategy: Strategy, z: usize, rows: &[Row], modulus: &i128, r: u
 }
 
 /// What comes next among the splinters of a row and of the rows behind it.
-#[tactic(auto, using(ac_integers::proofs::Bits::again_128))]
+#[tactic(auto, using(ac_base::proofs::Bits::again_128))]
 fn next_splinter(
     alloc: Global,
     strategy: Strategy,
@@ -162,7 +162,7 @@ fn next_lower(
 }
 
 /// The first splinter of a row.
-#[tactic(auto, using(ac_integers::proofs::Bits::again_128))]
+#[tactic(auto, using(ac_base::proofs::Bits::again_128))]
 fn first_splinter(
     strategy: Strategy,
     z: usize,

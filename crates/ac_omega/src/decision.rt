@@ -1,25 +1,25 @@
 ghost use Rattle.std.specs.Prelude.{◌≡◌, ◌+◌, ◌*◌, ◌^◌, ◌<◌, ◌≤◌, ℤ, List, [], IfOk, IfErr, IfSome, IsSome, MatchResult};
-ghost use Rattle.ac_omega.specs.Differences.{AreDifferences, StopsBelow};
+ghost use Rattle.ac_omega.specs.DifferenceRows.{AreDifferences, StopsBelow};
 ghost use Rattle.ac_forms.specs.Rows.{IsWellMade, CanTest};
-ghost use Rattle.ac_cert.specs.Accepted.{Accepts, absurd_refusals};
-ghost use Rattle.ac_choices.specs.Points.{IsPoint};
-ghost use Rattle.ac_omega.specs.Elimination.{eliminating};
-ghost use Rattle.ac_omega.specs.Searching.{Searches, IfFound, IfWalkedEmpty, IsRefuted, IsNormal, WantsPoint, WantsRefutation, columns_to};
-ghost use Rattle.ac_omega.specs.Stops.{OnlyWide};
+ghost use Rattle.ac_cert.specs.AcceptedTrees.{Accepts, absurd_refusals};
+ghost use Rattle.ac_omega_steps.specs.IntegerPoints.{IsPoint};
+ghost use Rattle.ac_omega.specs.ColumnElimination.{eliminating};
+ghost use Rattle.ac_omega.specs.WalkAnswers.{Searches, IfFound, IfWalkedEmpty, IsRefuted, IsNormal, WantsPoint, WantsRefutation, columns_to};
+ghost use Rattle.ac_omega.specs.WalkStops.{OnlyWide};
 ghost use Rattle.ac_omega.specs.Decisions.{Decides, Finds, Settles, IfEmpty, IfPoint, IfCertified, IfMet, walk_of};
 ghost use Rattle.ac_omega.specs.Walk.{walk};
 ghost use Rattle.ac_omega.specs.Within.{Bounds, HaveRisen, IsWithin};
-ghost use Rattle.ac_refutations.specs.Refutations.{IsRefutationOf};
-ghost use Rattle.ac_refutations.specs.declared.strategy.Strategy.TheVariants.{Full};
+ghost use Rattle.ac_omega_certify.specs.Refutations.{IsRefutationOf};
+ghost use Rattle.ac_omega_certify.specs.declared.strategy.Strategy.TheVariants.{Full};
 
 use crate::extent::{Maxima, are_large, with_rows};
 use crate::halt::Halt;
 use crate::pieces::{Stop, handed_back};
 use crate::search::{Aim, Walked, search};
+use ac_base::Items;
 use ac_cert::{Absurd, Tree};
 use ac_forms::{Conj, FormStop};
-use ac_items::Items;
-use ac_refutations::{Refutation, Strategy, certify};
+use ac_omega_certify::{Refutation, Strategy, certify};
 use std::alloc::{AllocError, Global};
 
 /// What a question comes to.

@@ -3,12 +3,12 @@
 ghost use Rattle.std.specs.Prelude.{◌≡◌, ◌≤◌, ◌+◌, ◌*◌, ◌^◌, ℕ, ℤ, List};
 ghost use Rattle.ac_forms.specs.Rows.{CanTest, IsWellMade};
 ghost use Rattle.ac_omega.specs.Decisions.{walk_of};
-ghost use Rattle.ac_omega.specs.Differences.{AreDifferences};
+ghost use Rattle.ac_omega.specs.DifferenceRows.{AreDifferences};
 ghost use Rattle.ac_omega.specs.Maxima.{Maxima};
 ghost use Rattle.ac_omega.specs.Walk.{Found, Empty, Spent, Wide};
 
 use ac_forms::Conj;
-use ac_refutations::Strategy;
+use ac_omega_certify::Strategy;
 
 /// Over n columns, at most 60, where each row is a difference of two columns, of a column and 0, or 0, plus a number of at
 /// most 2^48 by its absolute value, the walk of each strategy comes to an answer: no number is too wide, it costs at most 2 (n + 1)^3, the

@@ -1,8 +1,8 @@
 ghost use Rattle.std.specs.Prelude.{◌≡◌, ◌*◌, ◌<◌, ◌^◌, ◌↔◌, IsTrue};
 ghost use Rattle.ac_omega.specs.Maxima.{greatest_abs, with_form, with_modulus, with_row, with_rows, with_choice};
 
-use ac_choices::Choice;
 use ac_forms::{Form, Row};
+use ac_omega_steps::Choice;
 
 /// The greatest absolute values that a walk meets.
 #[derive(Clone, Copy, PartialEq, Eq, Drop)]

@@ -1,15 +1,15 @@
 //! The column with the fewest splinters.
 ghost use Rattle.std.specs.Prelude.{◌≡◌, ℕ, List, Option, Some, IfOk, false, option_map};
 ghost use Rattle.ac_forms.specs.declared.row.Row.{Row};
-ghost use Rattle.ac_choices.specs.Bounds.{is_one_sided};
-ghost use Rattle.ac_omega.specs.Columns.{better, excess_key, fewest, precedes, precedes_by_two, splinter_key};
+ghost use Rattle.ac_omega_steps.specs.Bounds.{is_one_sided};
+ghost use Rattle.ac_omega.specs.ColumnChoice.{better, excess_key, fewest, precedes, precedes_by_two, splinter_key};
 ghost use Rattle.ac_omega.specs.Fewest.{candidate_of};
 
 use crate::needs::splinter_count;
 use crate::ranking::{excess_of, less};
 use crate::scan::is_one_sided;
 use ac_forms::Row;
-use ac_refutations::Strategy;
+use ac_omega_certify::Strategy;
 use std::alloc::{AllocError, Global};
 
 /// A column that rows bound from both sides, with the numbers by which it is compared.

@@ -3,17 +3,17 @@
 ghost use Rattle.std.specs.Prelude.{◌≡◌, ◌<◌, ◌≤◌, ◌+◌, ℕ, ℤ, Bool, List, [], Option, Some, None, true, false, length};
 ghost use Rattle.ac_forms.specs.Rows.{IsWellMade, Meets};
 ghost use Rattle.ac_forms.specs.declared.row.Row.{Row};
-ghost use Rattle.ac_choices.specs.Choices.{are_absurd};
-ghost use Rattle.ac_omega.specs.Columns.{least_by, next_column, precedes, precedes_by_two};
-ghost use Rattle.ac_forms.specs.Columns.{is_present};
-ghost use Rattle.ac_omega.specs.Searching.{IsNormal};
-ghost use Rattle.ac_omega.specs.Elimination.{elimination};
+ghost use Rattle.ac_omega_steps.specs.Choices.{are_absurd};
+ghost use Rattle.ac_omega.specs.ColumnChoice.{least_by, next_column, precedes, precedes_by_two};
+ghost use Rattle.ac_forms.specs.RowColumns.{is_present};
+ghost use Rattle.ac_omega.specs.WalkAnswers.{IsNormal};
+ghost use Rattle.ac_omega.specs.ColumnElimination.{elimination};
 ghost use Rattle.ac_omega.specs.Maxima.{Maxima};
 ghost use Rattle.ac_omega.specs.Projection.{HaveNone, is_among};
 ghost use Rattle.ac_omega.specs.Walk.{Empty, walk};
 
 use ac_forms::Conj;
-use ac_refutations::Strategy;
+use ac_omega_certify::Strategy;
 
 /// A walk needs no more conjunctions on one path than the budget leaves: any two numbers above that give the same walk.
 pub fn walk_is_one(strategy: Strategy, vars: &[usize], conj: &Conj, budget: u64, cost: u64)

@@ -17,7 +17,7 @@ mod scan;
 mod search;
 mod settling;
 
-pub use ac_refutations::Strategy;
+pub use ac_omega_certify::Strategy;
 pub use decision::{Decided, Decision, decide, decide_by, find_point, find_point_by};
 pub use extent::Maxima;
 pub use listing::{choices, choices_by};

@@ -1,17 +1,17 @@
 ghost use Rattle.std.specs.Prelude.{◌≡◌, ◌<◌, ℤ, List, length, set, IfOk, ◌↔◌, true, false};
 ghost use Rattle.ac_forms.specs.Rows.{IsWellMade, HaveModuli, Meets};
-ghost use Rattle.ac_choices.specs.declared.choose.Choice.{Choice};
-ghost use Rattle.ac_choices.specs.Choices.{are_absurd, is_legal, left_by};
-ghost use Rattle.ac_forms.specs.Stops.{GivenOf, IfWide};
-ghost use Rattle.ac_forms.specs.Members.{IsAmong};
-ghost use Rattle.ac_refutations.specs.Alternatives.{alternatives_for, all_of};
-ghost use Rattle.ac_refutations.specs.declared.strategy.Strategy.TheVariants.{Full};
+ghost use Rattle.ac_omega_steps.specs.declared.choose.Choice.{Choice};
+ghost use Rattle.ac_omega_steps.specs.Choices.{are_absurd, is_legal, left_by};
+ghost use Rattle.ac_forms.specs.FormStops.{GivenOf, IfWide};
+ghost use Rattle.ac_forms.specs.ListMembers.{IsAmong};
+ghost use Rattle.ac_omega_certify.specs.Alternatives.{alternatives_for, all_of};
+ghost use Rattle.ac_omega_certify.specs.declared.strategy.Strategy.TheVariants.{Full};
 
 use crate::cursor::{Next, advance, first};
-use ac_choices::Choice;
+use ac_base::Items;
 use ac_forms::{Conj, FormStop, Row};
-use ac_items::Items;
-use ac_refutations::Strategy;
+use ac_omega_certify::Strategy;
+use ac_omega_steps::Choice;
 use std::alloc::Global;
 
 /// The choices for a column, in order, all at once.

@@ -1,15 +1,15 @@
 //! How many splinters the lower rows of a column have (W. Pugh, The Omega test, 1991).
 ghost use Rattle.std.specs.Prelude.{◌≡◌, ◌≤◌, ◌^◌, ◌≤ℤ◌, pos, true, false, IfOk, IfSome};
 ghost use Rattle.ac_forms.specs.Affine.{coef};
-ghost use Rattle.ac_choices.specs.Bounds.{is_low, is_one_sided};
-ghost use Rattle.ac_omega.specs.Columns.{count_for, count_of};
+ghost use Rattle.ac_omega_steps.specs.Bounds.{is_low, is_one_sided};
+ghost use Rattle.ac_omega.specs.ColumnChoice.{count_for, count_of};
 ghost use Rattle.ac_omega.specs.Cursors.{kept_for};
-ghost use Rattle.ac_refutations.specs.Alternatives.{count_to, need_of};
+ghost use Rattle.ac_omega_certify.specs.Alternatives.{count_to, need_of};
 
 use crate::scan::{greatest_size, is_lower_row, last_splinter};
-use ac_exact::needed_size;
 use ac_forms::{Form, FormStop, Row};
-use ac_refutations::Strategy;
+use ac_omega_certify::Strategy;
+use ac_omega_exact::needed_size;
 use std::alloc::{AllocError, Global};
 
 /// What is kept for all lower rows of a column: the greatest size of an upper row, where each lower row has its splinters for
@@ -47,7 +47,7 @@ fn need_of(
 }
 
 /// How many numbers there are from 0 to a last one.
-#[tactic(auto, using(ac_integers::proofs::Bits::again_128))]
+#[tactic(auto, using(ac_base::proofs::Bits::again_128))]
 fn count_to(last: i128) -> u128
     ensures value { result ≡ count_to last }
     ensures small { result ≤ 2 ^ 127 }

@@ -1,6 +1,6 @@
-use ac_choices::Choice;
+use ac_base::Items;
 use ac_forms::Conj;
-use ac_items::Items;
+use ac_omega_steps::Choice;
 
 /// A conjunction from which nothing is left to eliminate, with the choices that led to it.
 #[derive(Drop)]

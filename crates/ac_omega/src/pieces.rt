@@ -1,20 +1,20 @@
 ghost use Rattle.std.specs.Prelude.{◌≡◌, ◌≤◌, ◌*◌, ◌^◌, ℕ, ℤ, List, length, IfOk, IfErr, ◌↔◌};
 ghost use Rattle.ac_forms.specs.Rows.{IsWellMade};
-ghost use Rattle.ac_omega.specs.Answers.{Eliminates, HandsBack};
-ghost use Rattle.ac_omega.specs.Differences.{AreDifferences, AreAllDifferences, StopsBelow};
-ghost use Rattle.ac_omega.specs.Elimination.{pieces_of};
+ghost use Rattle.ac_omega.specs.EliminationAnswers.{Eliminates, HandsBack};
+ghost use Rattle.ac_omega.specs.DifferenceRows.{AreDifferences, AreAllDifferences, StopsBelow};
+ghost use Rattle.ac_omega.specs.ColumnElimination.{pieces_of};
 ghost use Rattle.ac_omega.specs.Projection.{HoldsFor, AllEmpty, MeetsRest};
-ghost use Rattle.ac_forms.specs.Pieces.{IsInSome};
+ghost use Rattle.ac_forms.specs.PieceMembership.{IsInSome};
 ghost use Rattle.ac_omega.specs.Replays.{AreReached, HaveAllFrom, AreOver};
-ghost use Rattle.ac_refutations.specs.declared.strategy.Strategy.TheVariants.{Full};
+ghost use Rattle.ac_omega_certify.specs.declared.strategy.Strategy.TheVariants.{Full};
 
 use crate::extent::Maxima;
 use crate::halt::Halt;
 use crate::piece::Piece;
 use crate::search::{Aim, search};
+use ac_base::Items;
 use ac_forms::{Conj, FormStop};
-use ac_items::Items;
-use ac_refutations::Strategy;
+use ac_omega_certify::Strategy;
 use std::alloc::{AllocError, Global};
 
 /// Why a question has no answer. The question is handed back as a copy.

@@ -1,14 +1,14 @@
 ghost use Rattle.std.specs.Prelude.{◌≡◌, ◌↔◌, IsTrue, IfOk, ◌<◌, ◌≤◌, ◌+◌, ◌^◌, ◌||◌, Some, pos, [], ◌∷◌, length, unsigned_abs, filter, cond};
 ghost use Rattle.ac_forms.specs.Affine.{coef};
 ghost use Rattle.ac_forms.specs.Rows.{HaveModuli, form_of};
-ghost use Rattle.ac_choices.specs.Bounds.{is_low, is_high, lows, highs, is_one_sided};
-ghost use Rattle.ac_forms.specs.Columns.{has_column, is_present};
-ghost use Rattle.ac_omega.specs.Columns.{AreColumns, are_units, are_unit_pairs, excess, less, precedes, better, by_equality, passes, key, by_rule, by_splinters, least_by, size_key, next_column};
+ghost use Rattle.ac_omega_steps.specs.Bounds.{is_low, is_high, lows, highs, is_one_sided};
+ghost use Rattle.ac_forms.specs.RowColumns.{has_column, is_present};
+ghost use Rattle.ac_omega.specs.ColumnChoice.{AreColumns, are_units, are_unit_pairs, excess, less, precedes, better, by_equality, passes, key, by_rule, by_splinters, least_by, size_key, next_column};
 
 use crate::fewest::fewest;
 use crate::scan::{common_modulus, has_divisibility, is_one_sided};
 use ac_forms::{Form, Row, is_present};
-use ac_refutations::Strategy;
+use ac_omega_certify::Strategy;
 use std::alloc::{AllocError, Global};
 
 /// The rules by which the next column is taken where no equality decides.
@@ -308,7 +308,7 @@ fn by_splinters(
 /// coefficient; the least common modulus of divisibilities; rows from one side only; pairs of a lower and an upper row
 /// that have a coefficient 1 or -1 each, by the rows that the pairs are more than the rows; and then any, by the same, or by
 /// the fewest splinters first where these are economical.
-#[tactic(auto, unfolding(crate::specs::Columns::next_column))]
+#[tactic(auto, unfolding(crate::specs::ColumnChoice::next_column))]
 pub(crate) fn next_column(
     alloc: Global,
     strategy: Strategy,

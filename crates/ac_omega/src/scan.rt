@@ -1,15 +1,15 @@
 ghost use Rattle.std.specs.Prelude.{◌≡◌, ◌<◌, ◌^◌, not, pos, ◌≤ℤ◌, SomeIff, IfSome, Some, true, [], ◌∷◌};
 ghost use Rattle.ac_forms.specs.Fits.{Fits};
 ghost use Rattle.ac_forms.specs.Rows.{HasModulus, HaveModuli};
-ghost use Rattle.ac_choices.specs.Bounds.{lows, highs, is_none, is_one_sided};
-ghost use Rattle.ac_forms.specs.Columns.{has_column};
-ghost use Rattle.ac_choices.specs.Choices.{is_equality_of, is_lower_row};
-ghost use Rattle.ac_choices.specs.ChoiceFits.{sizes_fit};
+ghost use Rattle.ac_omega_steps.specs.Bounds.{lows, highs, is_none, is_one_sided};
+ghost use Rattle.ac_forms.specs.RowColumns.{has_column};
+ghost use Rattle.ac_omega_steps.specs.Choices.{is_equality_of, is_lower_row};
+ghost use Rattle.ac_omega_steps.specs.ChoiceFits.{sizes_fit};
 ghost use Rattle.ac_omega.specs.CommonMultiple.{IsLcm};
-ghost use Rattle.ac_refutations.specs.Alternatives.{first_equality, has_divisibility, lcm, common_modulus, greatest_size, last_splinter, last_splinter_fits};
+ghost use Rattle.ac_omega_certify.specs.Alternatives.{first_equality, has_divisibility, lcm, common_modulus, greatest_size, last_splinter, last_splinter_fits};
 
+use ac_base::greatest_common_divisor;
 use ac_forms::{Row, has_column};
-use ac_integers::greatest_common_divisor;
 
 /// Whether a row is an equality that has a column.
 fn is_equality_of(z: usize, row: &Row) -> bool
@@ -100,7 +100,7 @@ pub(crate) fn common_modulus(z: usize, rows: &[Row]) -> Option<i128>
 }
 
 /// Whether a row bounds a column from below.
-#[tactic(auto, using(ac_integers::proofs::Bits::again_128))]
+#[tactic(auto, using(ac_base::proofs::Bits::again_128))]
 pub(crate) fn is_lower_row(z: usize, row: &Row) -> bool
     ensures { result ≡ is_lower_row z (Some row.now) }
 {
@@ -111,7 +111,7 @@ pub(crate) fn is_lower_row(z: usize, row: &Row) -> bool
 }
 
 /// Whether a row bounds a column from above.
-#[tactic(auto, using(ac_integers::proofs::Bits::again_128, crate::proofs::Sides::upper_is))]
+#[tactic(auto, using(ac_base::proofs::Bits::again_128, crate::proofs::Sides::upper_is))]
 fn is_upper_row(z: usize, row: &Row) -> bool
     ensures { not result ≡ is_none (highs z (row.now ∷ [])) }
 {
@@ -156,7 +156,7 @@ pub(crate) fn is_one_sided(z: usize, rows: &[Row]) -> bool
 
 /// The size of a column's coefficient in a row that bounds it from above, 0 for any other row; none exactly where it
 /// leaves `i128`.
-#[tactic(auto, using(ac_integers::proofs::Bits::again_128, crate::proofs::Sides::size_steps))]
+#[tactic(auto, using(ac_base::proofs::Bits::again_128, crate::proofs::Sides::size_steps))]
 fn upper_size(z: usize, row: &Row) -> Option<i128>
     ensures { SomeIff result (sizes_fit (highs z (row.now ∷ [])) ≡ true) (greatest_size (highs z (row.now ∷ []))) }
 {
@@ -175,7 +175,7 @@ fn upper_size(z: usize, row: &Row) -> Option<i128>
 
 /// The greatest size of a column's coefficient in the rows that bound it from above, 0 where there is none; none exactly
 /// where one of the sizes leaves `i128`.
-#[tactic(auto, using(ac_integers::proofs::Bits::again_128))]
+#[tactic(auto, using(ac_base::proofs::Bits::again_128))]
 pub(crate) fn greatest_size(z: usize, rows: &[Row]) -> Option<i128>
     ensures { SomeIff result (sizes_fit (highs z rows.now) ≡ true) (greatest_size (highs z rows.now)) }
 {
@@ -191,7 +191,7 @@ pub(crate) fn greatest_size(z: usize, rows: &[Row]) -> Option<i128>
 
 /// The last splinter of a lower row with coefficient `b`, where `a` is the greatest size of an upper row; none exactly
 /// where a number that makes it leaves `i128`.
-#[tactic(auto, using(ac_integers::proofs::Bits::again_128, crate::proofs::Sides::last_steps))]
+#[tactic(auto, using(ac_base::proofs::Bits::again_128, crate::proofs::Sides::last_steps))]
 pub(crate) fn last_splinter(a: i128, b: i128) -> Option<i128>
     requires { pos 1 ≤ℤ a }
     ensures { SomeIff result (last_splinter_fits a b ≡ true) (last_splinter a b) }

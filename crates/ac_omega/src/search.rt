@@ -1,28 +1,28 @@
 ghost use Rattle.std.specs.Prelude.{◌≡◌, ◌<◌, ◌≤◌, ◌+◌, ◌++◌, ℕ, ℤ, pos, List, [], ◌∷◌, Some, None, Option, IfOk, OnOk, IfSome, IsSome, true, false, length, replicate};
 ghost use Rattle.ac_forms.specs.Rows.{IsWellMade, Meets};
 ghost use Rattle.ac_forms.specs.declared.conj.Conj.{Conj};
-ghost use Rattle.ac_choices.specs.Choices.{are_absurd, is_legal, left_by};
-ghost use Rattle.ac_choices.specs.ChoiceFits.{after_choice};
-ghost use Rattle.ac_choices.specs.Points.{IsPoint};
-ghost use Rattle.ac_forms.specs.Stops.{GivenOf};
-ghost use Rattle.ac_omega.specs.Stops.{OnlyWide};
-ghost use Rattle.ac_omega.specs.Searching.{lifted_to, IfFound, IfWalkedEmpty, IsRefuted, IsRefutedBehind, HasGrown, AreLegal, IsNormal, SettleFor, WantsPoint, WantsRefutation, wanted, with_choice_behind, with_refutation};
+ghost use Rattle.ac_omega_steps.specs.Choices.{are_absurd, is_legal, left_by};
+ghost use Rattle.ac_omega_steps.specs.ChoiceFits.{after_choice};
+ghost use Rattle.ac_omega_steps.specs.IntegerPoints.{IsPoint};
+ghost use Rattle.ac_forms.specs.FormStops.{GivenOf};
+ghost use Rattle.ac_omega.specs.WalkStops.{OnlyWide};
+ghost use Rattle.ac_omega.specs.WalkAnswers.{lifted_to, IfFound, IfWalkedEmpty, IsRefuted, IsRefutedBehind, HasGrown, AreLegal, IsNormal, SettleFor, WantsPoint, WantsRefutation, wanted, with_choice_behind, with_refutation};
 ghost use Rattle.ac_omega.specs.declared.piece.Piece.{Piece};
 ghost use Rattle.ac_omega.specs.Visits.{Visits, Tried, visiting, seen, at_leaf};
-ghost use Rattle.ac_refutations.specs.Alternatives.{alternatives_for};
+ghost use Rattle.ac_omega_certify.specs.Alternatives.{alternatives_for};
 ghost use Rattle.ac_omega.specs.Walk.{walk, lifted};
 ghost use Rattle.ac_omega.specs.Within.{Bounds, HaveRisen, IsWithin};
-ghost use Rattle.ac_refutations.specs.Refutations.{AreModuliWithin};
+ghost use Rattle.ac_omega_certify.specs.Refutations.{AreModuliWithin};
 
 use crate::cursor::{Next, advance, first};
 use crate::extent::{Maxima, with_choice, with_rows};
 use crate::halt::Halt;
 use crate::piece::Piece;
 use crate::ranking::next_column;
-use ac_choices::{Choice, StepStop, are_absurd};
+use ac_base::Items;
 use ac_forms::{Conj, FormStop, Row};
-use ac_items::Items;
-use ac_refutations::{Refutation, Strategy};
+use ac_omega_certify::{Refutation, Strategy};
+use ac_omega_steps::{Choice, StepStop, are_absurd};
 use std::alloc::{AllocError, Global};
 
 /// What a walk is for.
@@ -100,7 +100,7 @@ pub(crate) fn left_by(alloc: Global, conj: &Conj, choice: &Choice) -> Result<Con
     ensures normal { IfOk result (λ rest. IsNormal rest) }
     ensures points { IfOk result (λ rest. (p : List ℤ) → Meets rest.rows p → Meets (left_by choice.now conj.now.rows) p) }
 {
-    match ac_choices::step(alloc, conj, choice) {
+    match ac_omega_steps::step(alloc, conj, choice) {
         Ok(rest) => Ok(rest),
         Err(StepStop::Memory(want)) => Err(Halt::Memory(want)),
         Err(StepStop::Wide) => Err(Halt::Wide),
@@ -118,7 +118,7 @@ fn lifted(alloc: Global, conj: &Conj, choice: &Choice, point: &[i128]) -> Result
     ensures point { IfOk result (λ w. IfFound w (λ p. IsPoint conj.now p)) }
     ensures found { IfOk result (λ w. IfWalkedEmpty w (λ s r. ⊥)) }
 {
-    match ac_choices::lift(alloc, conj, choice, point) {
+    match ac_omega_steps::lift(alloc, conj, choice, point) {
         Ok(back) => Ok(Walked::Found(back)),
         Err(FormStop::Wide) => Err(Halt::Wide),
         Err(FormStop::Memory(want)) => Err(Halt::Memory(want)),

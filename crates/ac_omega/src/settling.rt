@@ -1,23 +1,23 @@
 //! What a search asks: the economical walk first, and the full one where that stops.
 ghost use Rattle.std.specs.Prelude.{◌≡◌, ◌≤◌, ◌*◌, ◌^◌, ◌↔◌, ℕ, ℤ, List, length, IfOk, IfErr};
 ghost use Rattle.ac_forms.specs.Rows.{IsWellMade};
-ghost use Rattle.ac_cert.specs.Accepted.{Accepts, absurd_refusals};
-ghost use Rattle.ac_choices.specs.Points.{IsPoint};
+ghost use Rattle.ac_cert.specs.AcceptedTrees.{Accepts, absurd_refusals};
+ghost use Rattle.ac_omega_steps.specs.IntegerPoints.{IsPoint};
 ghost use Rattle.ac_omega.specs.Decisions.{IfEmpty, IfPoint, IfCertified, IfMet, walk_of};
-ghost use Rattle.ac_omega.specs.Differences.{AreDifferences, AreAllDifferences, StopsBelow};
+ghost use Rattle.ac_omega.specs.DifferenceRows.{AreDifferences, AreAllDifferences, StopsBelow};
 ghost use Rattle.ac_omega.specs.Either.{EliminatesEither, FindsEither, SettlesEither};
-ghost use Rattle.ac_omega.specs.Elimination.{pieces_of};
+ghost use Rattle.ac_omega.specs.ColumnElimination.{pieces_of};
 ghost use Rattle.ac_omega.specs.Projection.{HoldsFor, AllEmpty, MeetsRest};
-ghost use Rattle.ac_forms.specs.Pieces.{IsInSome};
+ghost use Rattle.ac_forms.specs.PieceMembership.{IsInSome};
 ghost use Rattle.ac_omega.specs.Replays.{AreReached, HaveAllFrom, AreOver};
-ghost use Rattle.ac_refutations.specs.declared.strategy.Strategy.TheVariants.{Full, Economical};
+ghost use Rattle.ac_omega_certify.specs.declared.strategy.Strategy.TheVariants.{Full, Economical};
 
 use crate::decision::{Decided, Decision, decide, decide_by, find_point, find_point_by};
 use crate::piece::Piece;
 use crate::pieces::{Stop, eliminate, eliminate_by};
+use ac_base::Items;
 use ac_forms::Conj;
-use ac_items::Items;
-use ac_refutations::Strategy;
+use ac_omega_certify::Strategy;
 use std::alloc::Global;
 
 /// Whether a question has an integer point (W. Pugh, The Omega test, 1991): what the economical walk answers within a budget;

@@ -7,7 +7,7 @@ use Rattle.ac_syntax.specs.declared.tree.IndexExpr.{IndexExpr}
 use Rattle.ac_syntax.specs.declared.tree.Value.{Value}
 use Rattle.ac_syntax.specs.declared.tree.Stmt.{Stmt, Row_of-Stmt, end_of-Stmt, more_of-Stmt, items-the_row-Stmt, the_lemmas}
 use Rattle.ac_syntax.specs.declared.tree.Stmt.TheVariants.{For, If, Assign}
-use Rattle.ac_parse.specs.Assigned.{assigns, assigns_in}
+use Rattle.ac_parse.specs.AssignedArrays.{assigns, assigns_in}
 
 row : (array : ℕ) (m : _) (k : Row_of-Stmt m) → assigns_in array k ≡ list_any (assigns array) (items-the_row-Stmt m k)
 unfolding assigns

@@ -3,36 +3,36 @@ use Rattle.std.proofs.Common.{◌≡◌, ℕ, List, length, refl, sym, ap, subst
 use Rattle.std.specs.Prelude.{Result, Ok, Err, IfErr}
 use Rattle.std.specs.Result.{IsErrAnd}
 use Rattle.std.proofs.lemmas.Option.{none-some}
-use Rattle.ac_syntax.specs.Ready.{ReadyProgram}
+use Rattle.ac_syntax.specs.ReadyPrograms.{ReadyProgram}
 use Rattle.ac_syntax.specs.Small.{IsSmallProgram}
 use Rattle.ac_syntax.specs.declared.tree.Program.{Program}
 use Rattle.ac_lex.specs.Lexemes.{Lexeme}
 use Rattle.ac_lex.specs.Tokens.{AreTokens}
-use Rattle.ac_lex.specs.Pieces.{bad_byte, bad_number, long_name, open_comment_begins}
-use Rattle.ac_lex.specs.Answers.{HasFault}
+use Rattle.ac_lex.specs.TextPieces.{bad_byte, bad_number, long_name, open_comment_begins}
+use Rattle.ac_lex.specs.LexerAnswers.{HasFault}
 use Rattle.ac_lex.specs.declared.tokens.LexFault.{LexFault}
 use Rattle.ac_lex.specs.declared.tokens.LexFault.TheVariants as lex
 use Rattle.ac_lex.proofs.LawLemmas.{one_list}
-use Rattle.ac_grammar.specs.declared.tree.File.{File}
-use Rattle.ac_grammar.specs.declared.file.GrammarFault.{GrammarFault}
-use Rattle.ac_grammar.specs.declared.file.GrammarFault.TheVariants as grammar
-use Rattle.ac_grammar.specs.FileGrammar.{IsFile}
-use Rattle.ac_grammar.specs.FileAnswers.{IsFileAnswer, IsOnlyFile}
-use Rattle.ac_grammar.proofs.StatementAnswers.{one_file}
-use Rattle.ac_rules.specs.declared.fault.RuleFault.{RuleFault}
-use Rattle.ac_rules.specs.declared.fault.RuleFault.TheVariants as rules
-use Rattle.ac_rules.specs.Files.{file_broken, program_of, IsAnswer}
-use Rattle.ac_rules.proofs.ReadyPrograms.{ready_program}
-use Rattle.ac_rules.specs.LawsOfPrograms.{DoesAs}
-use Rattle.ac_rules.proofs.SmallPrograms.{small_program}
-use Rattle.ac_rules.proofs.UsedNames.{none_is_undeclared}
-use Rattle.ac_rules.proofs.WrittenPrograms.{programs_do_as_written}
+use Rattle.ac_parse_grammar.specs.declared.tree.File.{File}
+use Rattle.ac_parse_grammar.specs.declared.file.GrammarFault.{GrammarFault}
+use Rattle.ac_parse_grammar.specs.declared.file.GrammarFault.TheVariants as grammar
+use Rattle.ac_parse_grammar.specs.FileGrammar.{IsFile}
+use Rattle.ac_parse_grammar.specs.FileAnswers.{IsFileAnswer, IsOnlyFile}
+use Rattle.ac_parse_grammar.proofs.StatementAnswers.{one_file}
+use Rattle.ac_parse_rules.specs.declared.fault.RuleFault.{RuleFault}
+use Rattle.ac_parse_rules.specs.declared.fault.RuleFault.TheVariants as rules
+use Rattle.ac_parse_rules.specs.Files.{file_broken, program_of, IsAnswer}
+use Rattle.ac_parse_rules.proofs.ReadyPrograms.{ready_program}
+use Rattle.ac_parse_rules.specs.LawsOfPrograms.{DoesAs}
+use Rattle.ac_parse_rules.proofs.SmallPrograms.{small_program}
+use Rattle.ac_parse_rules.proofs.UsedNames.{none_is_undeclared}
+use Rattle.ac_parse_rules.proofs.WrittenPrograms.{programs_do_as_written}
 use Rattle.ac_parse.specs.declared.faults.SourceFault.{SourceFault}
 use Rattle.ac_parse.specs.Program.{IsShort, IsProgramOf}
-use Rattle.ac_parse.specs.Answers.{HasSourceFault, no_tokens, no_file, too_deep, breaks_a_rule, no_memory, IsOnlyProgram}
-use Rattle.ac_parse.specs.Laws.{HasOneProgram, ProgramsAreReady, ProgramsAreSmall, ProgramsDoAsTexts}
+use Rattle.ac_parse.specs.ParseAnswers.{HasSourceFault, no_tokens, no_file, too_deep, breaks_a_rule, no_memory, IsOnlyProgram}
+use Rattle.ac_parse.specs.TextMeaning.{HasOneProgram, ProgramsAreReady, ProgramsAreSmall, ProgramsDoAsTexts}
 use Rattle.ac_parse.proofs.Conditions.{file_conditions}
-use Rattle.ac_parse.specs.Stages.{of_lexer, of_grammar, of_rules, IsTokensAnswer, has_program, is_no_file, is_too_deep, breaks, lacks_memory}
+use Rattle.ac_parse.specs.TextFaults.{of_lexer, of_grammar, of_rules, IsTokensAnswer, has_program, is_no_file, is_too_deep, breaks, lacks_memory}
 
 -- what holds of a converted fault
 pub converted : {T E : Type 0} (P : Result T E → Type 0) (r : Result T E) (e : E) → IsErrAnd r (λ f. f ≡ e) → P (Err e) → P r

@@ -7,18 +7,18 @@ use Rattle.std.proofs.lemmas.List.{length-append}
 use Rattle.std.proofs.lemmas.Bool.{lt-ltb}
 use Rattle.ac_lex.specs.Lexemes.{Lexeme}
 use Rattle.ac_syntax.specs.declared.tree.Place.{Place}
-use Rattle.ac_grammar.specs.declared.tree.Word.{Word}
-use Rattle.ac_grammar.specs.declared.tree.Step.{Step}
-use Rattle.ac_grammar.specs.declared.tree.Part.{Part}
-use Rattle.ac_grammar.specs.declared.tree.Operator.{Operator}
-use Rattle.ac_grammar.specs.declared.tree.Expr.{Expr}
-use Rattle.ac_grammar.specs.declared.tree.Statement.{Statement, the_lemmas}
-use Rattle.ac_grammar.specs.declared.tree.Statement.TheVariants.{Loop, Branch, Assign}
-use Rattle.ac_grammar.specs.declared.tree.File.{File}
-use Rattle.ac_grammar.specs.Grammar.{IsCond, one_part, next_part, IsPart, comparison, nested}
-use Rattle.ac_grammar.specs.StatementsGrammar.{assignment, IsStatement, empty, block, loop, branch, branch_with_else, assign, IsStatements, no_statement, a_statement}
-use Rattle.ac_grammar.specs.FileGrammar.{function, IsFile, file}
-use Rattle.ac_rules.specs.Numbers.{has_conditions, HasConditions}
+use Rattle.ac_parse_grammar.specs.declared.tree.Word.{Word}
+use Rattle.ac_parse_grammar.specs.declared.tree.Step.{Step}
+use Rattle.ac_parse_grammar.specs.declared.tree.Part.{Part}
+use Rattle.ac_parse_grammar.specs.declared.tree.Operator.{Operator}
+use Rattle.ac_parse_grammar.specs.declared.tree.Expr.{Expr}
+use Rattle.ac_parse_grammar.specs.declared.tree.Statement.{Statement, the_lemmas}
+use Rattle.ac_parse_grammar.specs.declared.tree.Statement.TheVariants.{Loop, Branch, Assign}
+use Rattle.ac_parse_grammar.specs.declared.tree.File.{File}
+use Rattle.ac_parse_grammar.specs.Grammar.{IsCond, one_part, next_part, IsPart, comparison, nested}
+use Rattle.ac_parse_grammar.specs.StatementsGrammar.{assignment, IsStatement, empty, block, loop, branch, branch_with_else, assign, IsStatements, no_statement, a_statement}
+use Rattle.ac_parse_grammar.specs.FileGrammar.{function, IsFile, file}
+use Rattle.ac_parse_rules.specs.DeclaredNumbers.{has_conditions, HasConditions}
 
 more : (m n : ℕ) → 0 < m → 0 < m + n
 more m n h = omega arith

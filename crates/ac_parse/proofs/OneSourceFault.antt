@@ -2,24 +2,24 @@
 use Rattle.std.proofs.Common.{◌≡◌, ◌<◌, ℕ, List, length, arith, refl, sym, ap, subst, ◌∙◌, Some, None, false}
 use Rattle.ac_syntax.specs.declared.tree.Place.{Place}
 use Rattle.ac_lex.specs.Lexemes.{Lexeme}
-use Rattle.ac_lex.specs.Pieces.{Why}
+use Rattle.ac_lex.specs.TextPieces.{Why}
 use Rattle.ac_lex.specs.Tokens.{AreTokens, IsFault}
 use Rattle.ac_lex.proofs.LawLemmas as lex
-use Rattle.ac_grammar.specs.declared.tree.File.{File}
-use Rattle.ac_grammar.specs.Reading.{syntax, nesting}
-use Rattle.ac_grammar.specs.Reading as grammar
-use Rattle.ac_grammar.specs.FileGrammar.{IsFile}
-use Rattle.ac_grammar.specs.FileLaws.{HasFault}
-use Rattle.ac_grammar.proofs.OneFault as grammar_laws
-use Rattle.ac_grammar.proofs.StatementAnswers.{one_file}
-use Rattle.ac_affine.specs.declared.fault.Which.TheVariants as which
-use Rattle.ac_affine.specs.declared.fault.Broken.{Broken}
-use Rattle.ac_rules.specs.Files.{file_broken}
+use Rattle.ac_parse_grammar.specs.declared.tree.File.{File}
+use Rattle.ac_parse_grammar.specs.ReaderCombinators.{syntax, nesting}
+use Rattle.ac_parse_grammar.specs.ReaderCombinators as grammar
+use Rattle.ac_parse_grammar.specs.FileGrammar.{IsFile}
+use Rattle.ac_parse_grammar.specs.FileLaws.{HasFault}
+use Rattle.ac_parse_grammar.proofs.OneFault as grammar_laws
+use Rattle.ac_parse_grammar.proofs.StatementAnswers.{one_file}
+use Rattle.ac_parse_exprs.specs.declared.fault.Which.TheVariants as which
+use Rattle.ac_parse_exprs.specs.declared.fault.Broken.{Broken}
+use Rattle.ac_parse_rules.specs.Files.{file_broken}
 use Rattle.ac_parse.specs.declared.faults.SourceFault.{SourceFault}
 use Rattle.ac_parse.specs.declared.faults.SourceFault.TheVariants.{Lex, Syntax, Limit}
 use Rattle.ac_parse.specs.Program.{IsShort, IsText}
-use Rattle.ac_parse.specs.Answers.{lex_fault, rule_fault, HasSourceFault, too_long, no_tokens, no_file, too_deep, breaks_a_rule, no_memory, is_memory}
-use Rattle.ac_parse.specs.Laws.{HasOneSourceFault, HasNotBoth}
+use Rattle.ac_parse.specs.ParseAnswers.{lex_fault, rule_fault, HasSourceFault, too_long, no_tokens, no_file, too_deep, breaks_a_rule, no_memory, is_memory}
+use Rattle.ac_parse.specs.TextMeaning.{HasOneSourceFault, HasNotBoth}
 use Rattle.ac_parse.proofs.Composing.{none_is_some}
 
 -- a fault of tokens, as a fault of their text

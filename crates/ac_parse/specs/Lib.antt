@@ -1,6 +1,7 @@
 pub mod Program
-pub mod Answers
-pub mod Laws
-pub mod Stages
-pub mod Assigned
-pub mod Pairing
+pub mod ParseAnswers
+pub mod TextMeaning
+pub mod TextFaults
+pub mod AssignedArrays
+pub mod ProgramPairs
+pub mod Arities

@@ -3,9 +3,9 @@ use Rattle.std.specs.Prelude.{◌≡◌, ◌≤◌, ℕ, List, length, None}
 use Rattle.ac_syntax.specs.declared.tree.Program.{Program}
 use Rattle.ac_lex.specs.Lexemes.{Lexeme}
 use Rattle.ac_lex.specs.Tokens.{AreTokens}
-use Rattle.ac_grammar.specs.declared.tree.File.{File}
-use Rattle.ac_grammar.specs.FileGrammar.{IsFile}
-use Rattle.ac_rules.specs.Files.{file_broken, program_of}
+use Rattle.ac_parse_grammar.specs.declared.tree.File.{File}
+use Rattle.ac_parse_grammar.specs.FileGrammar.{IsFile}
+use Rattle.ac_parse_rules.specs.Files.{file_broken, program_of}
 
 -- at most 65,536 bytes
 abbrev pub IsShort : List ℕ → Type 0

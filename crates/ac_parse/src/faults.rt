@@ -1,6 +1,6 @@
-use ac_grammar::GrammarFault;
 use ac_lex::LexFault;
-use ac_rules::fault::{RuleFault, Which};
+use ac_parse_grammar::GrammarFault;
+use ac_parse_rules::fault::{RuleFault, Which};
 use ac_syntax::tree::Place;
 use std::alloc::AllocError;
 use thiserror::Error;
@@ -42,7 +42,7 @@ pub enum PairFault {
 
 impl From<LexFault> for SourceFault {
     ghost use Rattle.std.specs.Prelude.{◌≡◌};
-    ghost use Rattle.ac_parse.specs.Stages.{of_lexer};
+    ghost use Rattle.ac_parse.specs.TextFaults.{of_lexer};
 
     ghost from_gives = { λ e fault. fault ≡ of_lexer e };
 
@@ -56,7 +56,7 @@ impl From<LexFault> for SourceFault {
 
 impl From<GrammarFault> for SourceFault {
     ghost use Rattle.std.specs.Prelude.{◌≡◌};
-    ghost use Rattle.ac_parse.specs.Stages.{of_grammar};
+    ghost use Rattle.ac_parse.specs.TextFaults.{of_grammar};
 
     ghost from_gives = { λ e fault. fault ≡ of_grammar e };
 
@@ -71,7 +71,7 @@ impl From<GrammarFault> for SourceFault {
 
 impl From<RuleFault> for SourceFault {
     ghost use Rattle.std.specs.Prelude.{◌≡◌};
-    ghost use Rattle.ac_parse.specs.Stages.{of_rules};
+    ghost use Rattle.ac_parse.specs.TextFaults.{of_rules};
 
     ghost from_gives = { λ e fault. fault ≡ of_rules e };
 

@@ -1,7 +1,7 @@
 // What a pair takes from both of its programs.
 ghost use Rattle.std.specs.Prelude.{◌≡◌, ◌++◌, IfOk, OnOk};
 
-use ac_items::Items;
+use ac_base::Items;
 use ac_syntax::name::Name;
 use ac_syntax::tree::{Comparison, IndexExpr};
 use std::alloc::{AllocError, Global};

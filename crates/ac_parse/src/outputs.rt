@@ -1,10 +1,10 @@
 // The arrays that a pair compares.
 ghost use Rattle.std.specs.Prelude.{◌≡◌, ◌==◌, IfOk, slice_get};
 ghost use Rattle.std.specs.List.{list_any};
-ghost use Rattle.ac_parse.specs.Assigned as spec;
-ghost use Rattle.ac_parse.specs.Pairing as pairing;
+ghost use Rattle.ac_parse.specs.AssignedArrays as spec;
+ghost use Rattle.ac_parse.specs.ProgramPairs as pairing;
 
-use ac_items::Items;
+use ac_base::Items;
 use ac_syntax::tree::{Program, Slot, Stmt};
 use std::alloc::{AllocError, Global};
 

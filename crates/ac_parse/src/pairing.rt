@@ -1,7 +1,7 @@
 // From two programs to a pair.
 ghost use Rattle.std.specs.Prelude.{◌≡◌, IfOk, IfErr};
-ghost use Rattle.ac_parse.specs.Pairing.{IsPairOf, HasPairFault};
-ghost use Rattle.ac_parse.specs.Pairing as spec;
+ghost use Rattle.ac_parse.specs.ProgramPairs.{IsPairOf, HasPairFault};
+ghost use Rattle.ac_parse.specs.ProgramPairs as spec;
 
 use crate::faults::PairFault;
 use crate::join::{join_comparisons, join_names};

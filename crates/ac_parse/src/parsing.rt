@@ -1,22 +1,22 @@
 // From the bytes of a text to a program.
 ghost use Rattle.std.specs.Prelude.{◌≡◌, ◌<◌, length, map, None, IfOk, IfErr, IsErrOf};
-ghost use Rattle.ac_syntax.specs.Ready.{ReadyProgram};
+ghost use Rattle.ac_syntax.specs.ReadyPrograms.{ReadyProgram};
 ghost use Rattle.ac_syntax.specs.Small.{IsSmallProgram};
 ghost use Rattle.ac_syntax.specs.declared.tree.Program.{Program};
 ghost use Rattle.ac_lex.specs.Lexemes.{lexeme_of};
-ghost use Rattle.ac_grammar.specs.declared.tree.File.{File};
-ghost use Rattle.ac_grammar.specs.FileGrammar.{IsFile};
-ghost use Rattle.ac_rules.specs.Files.{file_broken, program_of};
-ghost use Rattle.ac_rules.specs.Numbers.{HasDeclaredNumbers, HasInputs, ListsItsParameters};
+ghost use Rattle.ac_parse_grammar.specs.declared.tree.File.{File};
+ghost use Rattle.ac_parse_grammar.specs.FileGrammar.{IsFile};
+ghost use Rattle.ac_parse_rules.specs.Files.{file_broken, program_of};
+ghost use Rattle.ac_parse_rules.specs.DeclaredNumbers.{HasDeclaredNumbers, HasInputs, ListsItsParameters};
 ghost use Rattle.ac_parse.specs.Program.{IsShort, IsProgramOf};
-ghost use Rattle.ac_parse.specs.Answers.{HasSourceFault, IsOnlyProgram};
-ghost use Rattle.ac_parse.specs.Stages.{IsTokensAnswer};
+ghost use Rattle.ac_parse.specs.ParseAnswers.{HasSourceFault, IsOnlyProgram};
+ghost use Rattle.ac_parse.specs.TextFaults.{IsTokensAnswer};
 
 use crate::faults::SourceFault;
-use ac_grammar::read;
 use ac_lex::{Token, lex};
-use ac_rules::apply;
-use ac_rules::fault::Which;
+use ac_parse_grammar::read;
+use ac_parse_rules::apply;
+use ac_parse_rules::fault::Which;
 use ac_syntax::tree::{Place, Program};
 use std::alloc::Global;
 

@@ -1,7 +1,7 @@
 // Where the parameter lists of two programs differ.
 ghost use Rattle.std.specs.Prelude.{◌≡◌, ◌↔◌, ◌≤◌, ◌+◌, [], length, map, IfNone, IfSome, IsTrue, option_map};
 ghost use Rattle.std.specs.Option.{option_copied};
-ghost use Rattle.ac_parse.specs.Pairing.{significant, extent_of, shape_of, parameter_at, signature, IsFirstDifference};
+ghost use Rattle.ac_parse.specs.ProgramPairs.{significant, extent_of, shape_of, parameter_at, signature, IsFirstDifference};
 
 use ac_syntax::name::Name;
 use ac_syntax::tree::{Array, IndexExpr, Program, Slot};

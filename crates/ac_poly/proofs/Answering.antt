@@ -1,10 +1,10 @@
 -- Answers that may be faults.
 use Rattle.std.proofs.Common.{◌≡◌, Result, Ok, Err, ap}
 use Rattle.std.specs.Result.{IsErrAnd}
-use Rattle.ac_forms.specs.Stops.{IfWide}
+use Rattle.ac_forms.specs.FormStops.{IfWide}
 use Rattle.ac_forms.specs.declared.stop.FormStop.{FormStop}
 use Rattle.ac_forms.specs.declared.stop.FormStop.TheVariants.{Wide as FormWide, Memory as FormMemory}
-use Rattle.ac_poly.specs.Faults.{Answers}
+use Rattle.ac_poly.specs.LoweringFaults.{Answers}
 use Rattle.ac_poly.specs.declared.types.LowerFault.{LowerFault}
 use Rattle.ac_poly.specs.declared.types.LowerFault.TheVariants.{Pieces, Wide, Memory}
 

@@ -1,7 +1,7 @@
 -- The numbers of a point in a block of its columns.
 use Rattle.std.proofs.Common.{◌≡◌, ℕ, ◌+◌, List, [], ◌∷◌, ◌++◌, length, get_or, refl, sym, ◌∙◌, arith, ℤ, pos, length-append, append_assoc, append-nil}
 use Rattle.std.proofs.Math.Seq.{get_or-append_seam}
-use Rattle.ac_poly.specs.Before.{numbers}
+use Rattle.ac_poly.specs.LevelRows.{numbers}
 
 block : (front middle back : List ℤ) → numbers (length front) (length middle) (front ++ (middle ++ back)) ≡ middle
 block front [] back = refl

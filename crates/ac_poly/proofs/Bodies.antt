@@ -5,22 +5,22 @@ use Rattle.std.proofs.lemmas.List.{get_or_append_left, get_or-append-add}
 use Rattle.std.proofs.lemmas.List.Elements.{Contains-append_left, Contains-append_right, Contains-append_cases}
 use Rattle.ac_syntax.specs.Index.{Point}
 use Rattle.ac_syntax.specs.Trace.{Entry, assignments, assignments_in, trace, trace_all}
-use Rattle.ac_syntax.specs.Loops.{loop_count, loop_count_in}
+use Rattle.ac_syntax.specs.LoopNests.{loop_count, loop_count_in}
 use Rattle.ac_syntax.proofs.Instances.{instance_of_trace, trace_of_instance, in_nothing}
 use Rattle.ac_syntax.specs.declared.tree.Stmt.{Stmt, Row_of-Stmt, end_of-Stmt, more_of-Stmt}
 use Rattle.ac_syntax.specs.declared.tree.Stmt.TheVariants.{For', If', Assign}
 use Rattle.ac_poly.specs.declared.scope.Scope.{Scope}
 use Rattle.ac_poly.specs.declared.types.StmtModel.{StmtModel as Lowered}
 use Rattle.ac_poly.specs.Lower.{in_loop, where_holds, where_fails, lower, lower_in, lower_all, lowered_body, outermost}
-use Rattle.ac_poly.specs.Laws.{HasEntry, PointsAreInstances}
+use Rattle.ac_poly.specs.ModelMeaning.{HasEntry, PointsAreInstances}
 use Rattle.ac_poly.proofs.Relation.{IsLowered, IsLoweredIn, IsLoweredAll}
 use Rattle.std.specs.Prelude.{slice_get, Some}
 use Rattle.std.proofs.lemmas.Option.{slice_get_within, get_or_from_slice_get}
-use Rattle.ac_syntax.specs.Ready.{ReadyAll}
+use Rattle.ac_syntax.specs.ReadyPrograms.{ReadyAll}
 use Rattle.ac_poly.proofs.Scopes.{Stands}
 use Rattle.ac_poly.proofs.Points.{to_instance, of_instance, lowered_range, instance_range}
 use Rattle.ac_forms.specs.Rows.{Meets}
-use Rattle.ac_forms.specs.Pieces.{IsInSome}
+use Rattle.ac_forms.specs.PieceMembership.{IsInSome}
 
 mutual
   unfolding lower assignments

@@ -5,7 +5,7 @@ use Rattle.ac_forms.specs.Affine.{Affine, FormFits, combined, shifted, column_fo
 use Rattle.ac_forms.specs.Fits.{Fits}
 use Rattle.ac_forms.specs.declared.row.Row.{Row}
 use Rattle.ac_forms.specs.declared.row.Row.TheVariants.{Ge}
-use Rattle.ac_poly.specs.Columns.{room, element_rows, CanBound}
+use Rattle.ac_poly.specs.CoordinateColumns.{room, element_rows, CanBound}
 
 -- after i extents: the rows that are made, and those that follow
 pub record Bounded (first : ℕ) (es : List Affine) (i column : ℕ) (made : List Row) : Type 0 where

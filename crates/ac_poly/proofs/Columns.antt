@@ -6,9 +6,9 @@ use Rattle.ac_forms.specs.Affine.{Affine}
 use Rattle.ac_forms.specs.Rows.{HasModulus, HaveModuli, AreRowsOver}
 use Rattle.ac_forms.specs.declared.row.Row.{Row}
 use Rattle.ac_syntax.specs.Index.{Point}
-use Rattle.ac_syntax.specs.Loops.{loop_count, loop_count_in}
+use Rattle.ac_syntax.specs.LoopNests.{loop_count, loop_count_in}
 use Rattle.ac_syntax.specs.Outputs.{input_at}
-use Rattle.ac_syntax.specs.Ready.{AllFit, FitParts, FitsValue, FitValues, Ready, ReadyIn, ReadyAll, ReadyProgram}
+use Rattle.ac_syntax.specs.ReadyPrograms.{AllFit, FitParts, FitsValue, FitValues, Ready, ReadyIn, ReadyAll, ReadyProgram}
 use Rattle.ac_syntax.specs.Trace.{assignments, assignments_in}
 use Rattle.ac_syntax.specs.Turns.{inside}
 use Rattle.ac_syntax.specs.declared.tree.Array.{Array}
@@ -22,12 +22,12 @@ use Rattle.ac_syntax.specs.declared.tree.Stmt.{Stmt, Row_of-Stmt, end_of-Stmt, m
 use Rattle.ac_syntax.specs.declared.tree.Stmt.TheVariants.{For', If', Assign}
 use Rattle.ac_syntax.specs.declared.tree.Value.{Value, Row_of-Value, end_of-Value, more_of-Value}
 use Rattle.ac_syntax.specs.declared.tree.Value.TheVariants.{Number, Access, Call'}
-use Rattle.ac_poly.specs.Columns.{AreOver}
-use Rattle.ac_poly.specs.Forms.{lowered, row_by, rows_of}
+use Rattle.ac_poly.specs.CoordinateColumns.{AreOver}
+use Rattle.ac_poly.specs.IndexForms.{lowered, row_by, rows_of}
 use Rattle.ac_poly.specs.Lower.{in_loop, loop_rows, where_holds, where_fails, outermost}
 use Rattle.ac_poly.specs.Model.{model_of, extents_of, kind_of, is_input, NodeIsOver, StmtIsOver, HasColumns, HasKinds}
-use Rattle.ac_poly.specs.Nodes.{nodes, nodes_in}
-use Rattle.ac_poly.specs.Pieces.{negations, with_each, failing}
+use Rattle.ac_poly.specs.ModelNodes.{nodes, nodes_in}
+use Rattle.ac_poly.specs.ConditionPieces.{negations, with_each, failing}
 use Rattle.ac_poly.specs.declared.scope.Scope.{Scope}
 use Rattle.ac_poly.specs.declared.types.StmtModel.{StmtModel}
 use Rattle.ac_poly.proofs.Bodies.{is_lowered, stands_outermost}

@@ -2,7 +2,7 @@
 use Rattle.std.proofs.Common.{◌≡◌, ℕ, suc, ◌+◌, ◌<◌, ◌≤◌, List, [], ◌∷◌, length, drop, get_or, refl, ap, ◌∙◌, arith, ◌==◌, Bool, true, false, cond}
 use Rattle.std.proofs.lemmas.List.{drop_more, drop_all}
 use Rattle.std.proofs.lemmas.Bool.Decides.{nat_tests}
-use Rattle.ac_syntax.specs.Loops.{common}
+use Rattle.ac_syntax.specs.LoopNests.{common}
 
 same_number : (l m : ℕ) → l ≡ m → (l == m) ≡ true
 same_number l m e = grind (arith, nat_tests, e)

@@ -1,7 +1,7 @@
 -- What the loop over coordinates keeps.
 use Rattle.std.proofs.Common.{◌≡◌, ℕ, zero, suc, ◌+◌, List, [], ◌∷◌, ◌++◌, refl, sym, ap, ◌∙◌, arith}
 use Rattle.ac_forms.specs.Affine.{Affine, column_form}
-use Rattle.ac_poly.specs.Columns.{coordinate_forms}
+use Rattle.ac_poly.specs.CoordinateColumns.{coordinate_forms}
 
 pub record Coordinated (first k : ℕ) (made : List Affine) : Type 0 where
   pub value : made ≡ coordinate_forms first k

@@ -1,11 +1,11 @@
 -- The value of a difference of two columns, its coefficients one by one, and equalities of forms.
 use Rattle.std.proofs.Common.{◌≡◌, ℕ, zero, suc, ◌+◌, ◌-◌, ◌<◌, ◌≤◌, List, [], ◌∷◌, ◌++◌, length, replicate, set, get_or, refl, sym, ap, ◌∙◌, arith, ℤ, pos, negsuc, ◌+ℤ◌, ◌*ℤ◌}
 use Rattle.std.proofs.lemmas.Int.{ints}
-use Rattle.ac_integers.specs.Dot.{dot, mix}
+use Rattle.ac_base.specs.Dot.{dot, mix}
 use Rattle.ac_forms.specs.Affine.{Affine, value_at, combined, column_form, constant_form}
 use Rattle.ac_forms.proofs.Values.{value_at-combined}
-use Rattle.ac_poly.specs.Before.{difference, EqualitiesAreEqualValues}
-use Rattle.ac_poly.specs.Laws.{values_at}
+use Rattle.ac_poly.specs.LevelRows.{difference, EqualitiesAreEqualValues}
+use Rattle.ac_poly.specs.ModelMeaning.{values_at}
 use Rattle.ac_poly.proofs.Values.{length-mix, narrow-column}
 
 -- a column has the number that the point has there

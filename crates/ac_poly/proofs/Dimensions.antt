@@ -5,8 +5,8 @@ use Rattle.std.specs.List.{AllByRecursion}
 use Rattle.std.proofs.lemmas.List.{length-map}
 use Rattle.ac_forms.specs.Affine.{Affine}
 use Rattle.ac_syntax.specs.Dimensions.{IsCellOf, ReadsCells, EachReadsCells, UsesCells, EachUsesCells, HasDimensions}
-use Rattle.ac_syntax.specs.Loops.{loop_count, loop_count_in}
-use Rattle.ac_syntax.specs.Nodes.{size}
+use Rattle.ac_syntax.specs.LoopNests.{loop_count, loop_count_in}
+use Rattle.ac_syntax.specs.ValueNodes.{size}
 use Rattle.ac_syntax.specs.Trace.{assignments, assignments_in}
 use Rattle.ac_syntax.specs.declared.tree.Array.{Array}
 use Rattle.ac_syntax.specs.declared.tree.Cond.{Cond}
@@ -16,10 +16,10 @@ use Rattle.ac_syntax.specs.declared.tree.Stmt.{Stmt, Row_of-Stmt, end_of-Stmt, m
 use Rattle.ac_syntax.specs.declared.tree.Stmt.TheVariants.{For', If', Assign}
 use Rattle.ac_syntax.specs.declared.tree.Value.{Value, Row_of-Value, end_of-Value, more_of-Value}
 use Rattle.ac_syntax.specs.declared.tree.Value.TheVariants.{Number, Access, Call'}
-use Rattle.ac_poly.specs.Forms.{lowered}
+use Rattle.ac_poly.specs.IndexForms.{lowered}
 use Rattle.ac_poly.specs.Lower.{in_loop, where_holds, where_fails, outermost}
 use Rattle.ac_poly.specs.Model.{model_of, extents_of, IsCellIn, ReadsCellIn, StmtHasDimensions, CellsHaveDimensions}
-use Rattle.ac_poly.specs.Nodes.{nodes, nodes_in}
+use Rattle.ac_poly.specs.ModelNodes.{nodes, nodes_in}
 use Rattle.ac_poly.specs.declared.scope.Scope.{Scope}
 use Rattle.ac_poly.specs.declared.types.StmtModel.{StmtModel}
 use Rattle.ac_poly.proofs.Bodies.{is_lowered}

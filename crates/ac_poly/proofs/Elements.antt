@@ -6,15 +6,15 @@ use Rattle.std.proofs.lemmas.List.{length-map}
 use Rattle.ac_forms.specs.Affine.{Affine}
 use Rattle.ac_syntax.specs.Index.{Point, point, index_value}
 use Rattle.ac_syntax.specs.Outputs.{InExtents, extents_at}
-use Rattle.ac_syntax.specs.Ready.{AllFit, ReadyProgram}
+use Rattle.ac_syntax.specs.ReadyPrograms.{AllFit, ReadyProgram}
 use Rattle.ac_syntax.specs.declared.tree.Array.{Array}
 use Rattle.ac_syntax.specs.declared.tree.Cond.{Cond}
 use Rattle.ac_syntax.specs.declared.tree.IndexExpr.{IndexExpr}
 use Rattle.ac_syntax.specs.declared.tree.Program.{Program}
-use Rattle.ac_poly.specs.Before.{numbers}
-use Rattle.ac_poly.specs.Columns.{AreBelow}
-use Rattle.ac_poly.specs.Forms.{lowered}
-use Rattle.ac_poly.specs.Laws.{values_at}
+use Rattle.ac_poly.specs.LevelRows.{numbers}
+use Rattle.ac_poly.specs.CoordinateColumns.{AreBelow}
+use Rattle.ac_poly.specs.IndexForms.{lowered}
+use Rattle.ac_poly.specs.ModelMeaning.{values_at}
 use Rattle.ac_poly.specs.Model.{extents_of, model_of, HasElements}
 use Rattle.ac_poly.proofs.Blocks.{numbers_behind}
 use Rattle.ac_poly.proofs.Placing.{element_rows_hold}

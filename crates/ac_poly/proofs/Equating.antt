@@ -4,7 +4,7 @@ use Rattle.std.proofs.lemmas.List.{drop_more, drop_all}
 use Rattle.ac_forms.specs.Affine.{Affine, combined, FormFits}
 use Rattle.ac_forms.specs.declared.row.Row.{Row}
 use Rattle.ac_forms.specs.declared.row.Row.TheVariants.{Eq}
-use Rattle.ac_poly.specs.Before.{equalities, CanEquate}
+use Rattle.ac_poly.specs.LevelRows.{equalities, CanEquate}
 
 -- after i dimensions: the rows that are made, and those that follow
 pub record Equated (fs gs : List Affine) (i : ℕ) (made : List Row) : Type 0 where

@@ -5,9 +5,9 @@ use Rattle.std.proofs.lemmas.List.{drop_more, drop_all}
 use Rattle.ac_forms.specs.Affine.{Affine}
 use Rattle.ac_forms.specs.declared.row.Row.{Row}
 use Rattle.ac_syntax.specs.declared.tree.Comparison.{Comparison}
-use Rattle.ac_poly.specs.Forms.{lowered, row_by}
-use Rattle.ac_poly.specs.Pieces.{negations, with_each, failing}
-use Rattle.ac_poly.specs.Steps.{way, failing_by, ways_by, ways}
+use Rattle.ac_poly.specs.IndexForms.{lowered, row_by}
+use Rattle.ac_poly.specs.ConditionPieces.{negations, with_each, failing}
+use Rattle.ac_poly.specs.LoweringSteps.{way, failing_by, ways_by, ways}
 use Rattle.ac_poly.specs.declared.pieces.Way.{Way}
 
 pub more : {A : Type 0} (xs : List A) (i : ℕ) (x : A) → i < length xs → x ≡ get_or xs i x → drop i xs ≡ x ∷ drop (i + 1) xs

@@ -6,10 +6,10 @@ use Rattle.ac_forms.specs.Affine.{value_at}
 use Rattle.ac_forms.specs.Rows.{Meets, Holds, AreRowsOver}
 use Rattle.ac_forms.specs.declared.row.Row.{Row}
 use Rattle.ac_forms.specs.declared.row.Row.TheVariants.{Ge, Eq}
-use Rattle.ac_syntax.specs.Before.{Before}
-use Rattle.ac_syntax.specs.Loops.{common}
-use Rattle.ac_poly.specs.Before.{difference, levels_from, numbers, LevelsAreApart, LevelsHaveColumns, LevelsMove}
-use Rattle.ac_forms.specs.Pieces.{IsInSome, IsInOneAtMost}
+use Rattle.ac_syntax.specs.ExecutionOrder.{Before}
+use Rattle.ac_syntax.specs.LoopNests.{common}
+use Rattle.ac_poly.specs.LevelRows.{difference, levels_from, numbers, LevelsAreApart, LevelsHaveColumns, LevelsMove}
+use Rattle.ac_forms.specs.PieceMembership.{IsInSome, IsInOneAtMost}
 use Rattle.ac_poly.proofs.Commons.{common_within}
 use Rattle.ac_poly.proofs.Differences.{value-difference, difference-within}
 use Rattle.ac_poly.proofs.Rows.{meets_append}

@@ -3,8 +3,8 @@ use Rattle.std.proofs.Common.{◌≡◌, ℕ, suc, ◌+◌, ◌-◌, ◌<◌, �
 use Rattle.ac_forms.specs.Affine.{Affine}
 use Rattle.ac_forms.specs.declared.row.Row.{Row}
 use Rattle.ac_forms.specs.declared.row.Row.TheVariants.{Ge, Eq}
-use Rattle.ac_syntax.specs.Loops.{common}
-use Rattle.ac_poly.specs.Before.{difference, levels, levels_from}
+use Rattle.ac_syntax.specs.LoopNests.{common}
+use Rattle.ac_poly.specs.LevelRows.{difference, levels, levels_from}
 
 -- after k levels: those that are made, and those that follow
 pub record Levelled (i j : ℕ) (ls ms : List ℕ) (text : Bool) (made : List (List Row)) (done : List Row) (k : ℕ) : Type 0 where

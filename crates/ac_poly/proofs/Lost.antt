@@ -6,8 +6,8 @@ use Rattle.std.proofs.lemmas.List.{length-map}
 use Rattle.std.proofs.lemmas.Bool.Decides.{nat_tests}
 use Rattle.ac_forms.specs.Affine.{Affine}
 use Rattle.ac_forms.specs.declared.row.Row.{Row}
-use Rattle.ac_syntax.specs.Loops.{loop_count, loop_count_in}
-use Rattle.ac_syntax.specs.Ready.{Ready, ReadyIn, ReadyAll}
+use Rattle.ac_syntax.specs.LoopNests.{loop_count, loop_count_in}
+use Rattle.ac_syntax.specs.ReadyPrograms.{Ready, ReadyIn, ReadyAll}
 use Rattle.ac_syntax.specs.declared.tree.Rel.{Rel}
 use Rattle.ac_syntax.specs.declared.tree.Rel.TheVariants.{NonNegative, Zero}
 use Rattle.ac_syntax.specs.declared.tree.Place.{Place}
@@ -15,12 +15,12 @@ use Rattle.ac_syntax.specs.declared.tree.Comparison.{Comparison}
 use Rattle.ac_syntax.specs.declared.tree.Cond.{Cond}
 use Rattle.ac_syntax.specs.declared.tree.Stmt.{Stmt, Row_of-Stmt, end_of-Stmt, more_of-Stmt}
 use Rattle.ac_syntax.specs.declared.tree.Stmt.TheVariants.{For', If', Assign}
-use Rattle.ac_poly.specs.Forms.{lowered, row_by}
-use Rattle.ac_poly.specs.Pieces.{negations, with_each, failing}
+use Rattle.ac_poly.specs.IndexForms.{lowered, row_by}
+use Rattle.ac_poly.specs.ConditionPieces.{negations, with_each, failing}
 use Rattle.ac_poly.specs.Lower.{in_loop, where_holds, where_fails, lower, lower_in, lower_all}
-use Rattle.ac_poly.specs.Numbers.{CanHold, CanFail, CanEnter, CanAssign}
-use Rattle.ac_poly.specs.Faults.{IsLowerable, IsLowerableIn, Names, IsFirst, IsFirstIn, AreLowerable, IsFirstAll}
-use Rattle.ac_poly.specs.Steps.{ways, ways_by, pieces_by, or_first, fault, fault_in, fault_all}
+use Rattle.ac_poly.specs.LoweringRange.{CanHold, CanFail, CanEnter, CanAssign}
+use Rattle.ac_poly.specs.LoweringFaults.{IsLowerable, IsLowerableIn, Names, IsFirst, IsFirstIn, AreLowerable, IsFirstAll}
+use Rattle.ac_poly.specs.LoweringSteps.{ways, ways_by, pieces_by, or_first, fault, fault_in, fault_all}
 use Rattle.ac_poly.specs.declared.scope.Scope.{Scope}
 use Rattle.ac_poly.specs.declared.types.LowerFault.{LowerFault}
 use Rattle.ac_poly.specs.declared.types.LowerFault.TheVariants.{Pieces, Wide, Memory}

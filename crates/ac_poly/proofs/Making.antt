@@ -7,9 +7,9 @@ use Rattle.ac_forms.specs.Negation.{NegationFits}
 use Rattle.ac_forms.specs.declared.row.Row.{Row}
 use Rattle.ac_syntax.specs.declared.tree.IndexExpr.{IndexExpr}
 use Rattle.ac_syntax.specs.declared.tree.Comparison.{Comparison}
-use Rattle.ac_poly.specs.Forms.{replaced, lowered, row_by, rows_of}
-use Rattle.ac_poly.specs.Numbers.{CanLower, CanLowerAll, CanHold, CanFail}
-use Rattle.ac_poly.specs.Steps.{way}
+use Rattle.ac_poly.specs.IndexForms.{replaced, lowered, row_by, rows_of}
+use Rattle.ac_poly.specs.LoweringRange.{CanLower, CanLowerAll, CanHold, CanFail}
+use Rattle.ac_poly.specs.LoweringSteps.{way}
 use Rattle.ac_poly.specs.declared.pieces.Way.{Way}
 
 -- after i of the things: what is made, and what is left

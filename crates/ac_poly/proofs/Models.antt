@@ -4,8 +4,8 @@ use Rattle.std.specs.Prelude.{slice_get}
 use Rattle.std.specs.List.{Contains, AllByRecursion}
 use Rattle.std.proofs.lemmas.Option.{slice_get-get_or}
 use Rattle.ac_syntax.specs.Index.{point}
-use Rattle.ac_syntax.specs.Loops.{loop_count}
-use Rattle.ac_syntax.specs.Ready.{ReadyAll, ReadyProgram}
+use Rattle.ac_syntax.specs.LoopNests.{loop_count}
+use Rattle.ac_syntax.specs.ReadyPrograms.{ReadyAll, ReadyProgram}
 use Rattle.ac_syntax.specs.Trace.{trace_of}
 use Rattle.ac_syntax.specs.declared.tree.Cond.{Cond}
 use Rattle.ac_syntax.specs.declared.tree.Program.{Program}

@@ -11,10 +11,10 @@ use Rattle.ac_syntax.specs.declared.tree.Rel.{Rel}
 use Rattle.ac_syntax.specs.declared.tree.Rel.TheVariants.{NonNegative, Zero}
 use Rattle.ac_syntax.specs.declared.tree.Comparison.{Comparison}
 use Rattle.ac_forms.specs.Negation.{below, above}
-use Rattle.ac_forms.specs.Pieces.{IsInSome}
-use Rattle.ac_poly.specs.Forms.{lowered, row_by, rows_of}
-use Rattle.ac_poly.specs.Pieces.{negations, with_each, failing}
-use Rattle.ac_syntax.specs.Ready.{FitParts}
+use Rattle.ac_forms.specs.PieceMembership.{IsInSome}
+use Rattle.ac_poly.specs.IndexForms.{lowered, row_by, rows_of}
+use Rattle.ac_poly.specs.ConditionPieces.{negations, with_each, failing}
+use Rattle.ac_syntax.specs.ReadyPrograms.{FitParts}
 use Rattle.ac_poly.proofs.Values.{Narrow, narrow-replaced, value-narrow}
 
 abbrev pub NarrowRows : ℕ → List Row → Type 0

@@ -5,13 +5,13 @@ use Rattle.std.proofs.lemmas.Bool.Decides.{nat_tests}
 use Rattle.std.proofs.lemmas.List.{get_or_append_left, get_or-append-add}
 use Rattle.std.proofs.lemmas.Option.{slice_get_within, get_or_from_slice_get, slice_get-get_or}
 use Rattle.ac_forms.specs.Affine.{Affine}
-use Rattle.ac_syntax.specs.Nodes.{size, size_in, node_of, node_in}
-use Rattle.ac_syntax.specs.Ready.{FitsValue, FitValues}
+use Rattle.ac_syntax.specs.ValueNodes.{size, size_in, node_of, node_in}
+use Rattle.ac_syntax.specs.ReadyPrograms.{FitsValue, FitValues}
 use Rattle.ac_syntax.specs.declared.tree.Value.{Value, Row_of-Value, end_of-Value, more_of-Value}
 use Rattle.ac_syntax.specs.declared.tree.Value.TheVariants.{Number, Access, Call'}
-use Rattle.ac_poly.specs.Forms.{lowered}
-use Rattle.ac_poly.specs.Laws.{Shows}
-use Rattle.ac_poly.specs.Nodes.{nodes, nodes_in, roots}
+use Rattle.ac_poly.specs.IndexForms.{lowered}
+use Rattle.ac_poly.specs.ModelMeaning.{Shows}
+use Rattle.ac_poly.specs.ModelNodes.{nodes, nodes_in, roots}
 use Rattle.ac_poly.specs.declared.types.NodeModel.{NodeModel}
 use Rattle.ac_poly.specs.declared.types.NodeModel.TheVariants.{Number as Constant, Read, Call}
 use Rattle.ac_poly.proofs.Values.{worth, value-lowered, all_values}

@@ -3,16 +3,16 @@ use Rattle.std.proofs.Common.{◌≡◌, ℕ, ◌+◌, ◌<◌, ◌≤◌, List,
 use Rattle.std.specs.List.{AllByRecursion}
 use Rattle.std.proofs.lemmas.List.{drop_more, drop_all}
 use Rattle.ac_forms.specs.Affine.{Affine}
-use Rattle.ac_syntax.specs.Nodes.{size}
+use Rattle.ac_syntax.specs.ValueNodes.{size}
 use Rattle.ac_syntax.specs.declared.tree.Place.{Place}
 use Rattle.ac_syntax.specs.declared.tree.Symbol.{Symbol}
 use Rattle.ac_syntax.specs.declared.tree.IndexExpr.{IndexExpr}
 use Rattle.ac_syntax.specs.declared.tree.Value.{Value, Row_of-Value, end_of-Value, more_of-Value, items-the_row-Value, the_lemmas}
 use Rattle.ac_syntax.specs.declared.tree.Value.TheVariants.{Number, Access, Call, Call'}
-use Rattle.ac_poly.specs.Forms.{lowered}
-use Rattle.ac_poly.specs.Nodes.{nodes, nodes_in, roots}
-use Rattle.ac_poly.specs.Numbers.{CanLower, CanLowerAll, CanLowerValue, CanLowerValues}
-use Rattle.ac_poly.specs.Steps.{nodes_of, roots_of}
+use Rattle.ac_poly.specs.IndexForms.{lowered}
+use Rattle.ac_poly.specs.ModelNodes.{nodes, nodes_in, roots}
+use Rattle.ac_poly.specs.LoweringRange.{CanLower, CanLowerAll, CanLowerValue, CanLowerValues}
+use Rattle.ac_poly.specs.LoweringSteps.{nodes_of, roots_of}
 use Rattle.ac_poly.specs.declared.types.NodeModel.{NodeModel}
 use Rattle.ac_poly.specs.declared.types.NodeModel.TheVariants.{Number as Constant, Read, Call as Applied}
 use Rattle.ac_poly.proofs.NodeForms.{length-nodes}

@@ -2,16 +2,16 @@
 use Rattle.std.proofs.Common.{◌≡◌, ◌↔◌, inl, inr, ℕ, suc, ◌+◌, ◌<◌, ◌≤◌, List, [], ◌∷◌, ◌++◌, length, Bool, true, false, cond, refl, sym, ap, ◌∙◌, arith, subst, append_assoc, append-nil, ℤ}
 use Rattle.std.specs.Prelude.{nat_lt, slice_get, Some}
 use Rattle.std.proofs.lemmas.Bool.Decides.{nat_tests}
-use Rattle.ac_syntax.specs.Before.{Before}
+use Rattle.ac_syntax.specs.ExecutionOrder.{Before}
 use Rattle.ac_syntax.specs.Index.{point}
-use Rattle.ac_syntax.specs.Loops.{loops, loops_in, loops_all, loops_around, common, loop_count, loop_count_in}
-use Rattle.ac_syntax.specs.Ready.{ReadyAll}
+use Rattle.ac_syntax.specs.LoopNests.{loops, loops_in, loops_all, loops_around, common, loop_count, loop_count_in}
+use Rattle.ac_syntax.specs.ReadyPrograms.{ReadyAll}
 use Rattle.ac_syntax.specs.Source.{Writer, Stands}
 use Rattle.ac_syntax.specs.Trace.{assignments, assignments_in, trace_of}
 use Rattle.ac_syntax.specs.declared.tree.Stmt.{Stmt, Row_of-Stmt, end_of-Stmt, more_of-Stmt}
 use Rattle.ac_syntax.specs.declared.tree.Stmt.TheVariants.{For', If', Assign}
 use Rattle.ac_syntax.proofs.LastWriters.{is_before, stands_before, stands_contains}
-use Rattle.ac_poly.specs.Before.{levels, numbers, LevelsAreTheOrder}
+use Rattle.ac_poly.specs.LevelRows.{levels, numbers, LevelsAreTheOrder}
 use Rattle.ac_poly.specs.Lower.{in_loop, where_holds, where_fails, lowered_body, outermost}
 use Rattle.ac_poly.specs.declared.scope.Scope.{Scope}
 use Rattle.ac_poly.specs.declared.types.StmtModel.{StmtModel}
@@ -23,7 +23,7 @@ use Rattle.ac_poly.proofs.Points.{lowered_range, lowered_range_in}
 use Rattle.ac_poly.proofs.Relation.{IsLowered, IsLoweredIn, IsLoweredAll}
 use Rattle.ac_poly.proofs.Targets.{told_at}
 use Rattle.ac_forms.specs.Rows.{Meets}
-use Rattle.ac_forms.specs.Pieces.{IsInSome}
+use Rattle.ac_forms.specs.PieceMembership.{IsInSome}
 
 is_less : (a b : ℕ) → a < b → nat_lt a b ≡ true
 is_less a b h = grind (arith, nat_tests)

@@ -4,12 +4,12 @@ use Rattle.std.specs.List.{flat_map}
 use Rattle.std.proofs.lemmas.Int.{ints}
 use Rattle.ac_forms.specs.Affine.{Affine}
 use Rattle.ac_forms.specs.Negation.{above, below, opposite}
-use Rattle.ac_forms.specs.Pieces.{IsInSome, IsInOneAtMost}
+use Rattle.ac_forms.specs.PieceMembership.{IsInSome, IsInOneAtMost}
 use Rattle.ac_forms.specs.Rows.{Holds, Meets}
 use Rattle.ac_forms.specs.declared.row.Row.{Row}
 use Rattle.ac_forms.specs.declared.row.Row.TheVariants.{Ge}
 use Rattle.ac_forms.proofs.Values.{value_at-scaled, value_at-shifted}
-use Rattle.ac_syntax.specs.Loops.{loop_count, loop_count_in}
+use Rattle.ac_syntax.specs.LoopNests.{loop_count, loop_count_in}
 use Rattle.ac_syntax.specs.Trace.{assignments, assignments_in}
 use Rattle.ac_syntax.specs.declared.tree.Comparison.{Comparison}
 use Rattle.ac_syntax.specs.declared.tree.Cond.{Cond}
@@ -18,10 +18,10 @@ use Rattle.ac_syntax.specs.declared.tree.Rel.{Rel}
 use Rattle.ac_syntax.specs.declared.tree.Rel.TheVariants.{NonNegative, Zero}
 use Rattle.ac_syntax.specs.declared.tree.Stmt.{Stmt, Row_of-Stmt, end_of-Stmt, more_of-Stmt}
 use Rattle.ac_syntax.specs.declared.tree.Stmt.TheVariants.{For', If', Assign}
-use Rattle.ac_poly.specs.Forms.{lowered, row_by}
+use Rattle.ac_poly.specs.IndexForms.{lowered, row_by}
 use Rattle.ac_poly.specs.Lower.{outermost, in_loop, where_holds, where_fails}
 use Rattle.ac_poly.specs.Model.{model_of, PiecesAreApart}
-use Rattle.ac_poly.specs.Pieces.{negations, with_each, failing}
+use Rattle.ac_poly.specs.ConditionPieces.{negations, with_each, failing}
 use Rattle.ac_poly.specs.declared.scope.Scope.{Scope}
 use Rattle.ac_poly.specs.declared.types.StmtModel.{StmtModel}
 use Rattle.ac_poly.proofs.Bodies.{is_lowered}

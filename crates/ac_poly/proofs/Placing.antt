@@ -4,16 +4,16 @@ use Rattle.std.specs.Prelude.{◌<ℤ◌}
 use Rattle.std.proofs.lemmas.Int.{ints}
 use Rattle.std.proofs.lemmas.List.{drop_all}
 use Rattle.std.proofs.Math.ListN.{take-append-drop, length-take, length-drop, length-replicate}
-use Rattle.ac_integers.specs.Dot.{dot}
-use Rattle.ac_integers.specs.Multiple.{IsMultiple}
-use Rattle.ac_integers.proofs.Dot.{dot-append, dot-append_both}
+use Rattle.ac_base.specs.Dot.{dot}
+use Rattle.ac_base.specs.Multiple.{IsMultiple}
+use Rattle.ac_base.proofs.Dot.{dot-append, dot-append_both}
 use Rattle.ac_forms.specs.Affine.{Affine, value_at, column_form, combined}
 use Rattle.ac_forms.specs.Rows.{Holds, IsRowOver}
 use Rattle.ac_forms.specs.declared.row.Row.{Row}
 use Rattle.ac_forms.specs.declared.row.Row.TheVariants.{Eq, Div, Ge}
 use Rattle.ac_forms.proofs.Values.{value_at-combined, value_at-shifted}
-use Rattle.ac_poly.specs.Before.{numbers}
-use Rattle.ac_poly.specs.Columns.{room, ElementRowsHold}
+use Rattle.ac_poly.specs.LevelRows.{numbers}
+use Rattle.ac_poly.specs.CoordinateColumns.{room, ElementRowsHold}
 use Rattle.ac_poly.proofs.Differences.{column-value}
 
 value-room : (k : ℕ) (e : Affine) (p : List ℤ) → value_at (room k e) p ≡ (value_at e p +ℤ negsuc 0 *ℤ get_or p k (pos 0)) +ℤ negsuc 0

@@ -4,7 +4,7 @@ use Rattle.std.proofs.lemmas.List.{length-map}
 use Rattle.std.proofs.lemmas.Int.{ints}
 use Rattle.ac_syntax.specs.Index.{Point, index_value, holds}
 use Rattle.ac_syntax.specs.Trace.{Entry, assignments, assignments_in}
-use Rattle.ac_syntax.specs.Loops.{loop_count, loop_count_in}
+use Rattle.ac_syntax.specs.LoopNests.{loop_count, loop_count_in}
 use Rattle.ac_syntax.specs.Instance.{IsInstance, IsInstanceIn}
 use Rattle.ac_syntax.specs.Turns.{inside, iterator_at, turns, Bounded}
 use Rattle.ac_syntax.specs.declared.tree.IndexExpr.{IndexExpr}
@@ -14,7 +14,7 @@ use Rattle.ac_syntax.specs.declared.tree.Stmt.TheVariants.{For', If', Assign}
 use Rattle.ac_poly.specs.declared.scope.Scope.{Scope}
 use Rattle.ac_poly.specs.declared.types.StmtModel.{StmtModel as Lowered}
 use Rattle.ac_poly.specs.Lower.{in_loop, where_holds, where_fails}
-use Rattle.ac_syntax.specs.Ready.{FitParts, Ready, ReadyIn}
+use Rattle.ac_syntax.specs.ReadyPrograms.{FitParts, Ready, ReadyIn}
 use Rattle.ac_syntax.specs.declared.tree.Comparison.{Comparison}
 use Rattle.std.specs.List.{AllByRecursion}
 use Rattle.ac_syntax.proofs.TurnRows.{turn_rows, rows_turn}
@@ -22,7 +22,7 @@ use Rattle.std.proofs.Math.IntN.{*ℤ-zero}
 use Rattle.ac_poly.proofs.Relation.{IsLowered, IsLoweredIn}
 use Rattle.ac_poly.proofs.Scopes.{Stands, stands_loop, stands_taken, stands_other, loop_pieces, taken_pieces, other_pieces}
 use Rattle.ac_forms.specs.Rows.{Meets}
-use Rattle.ac_forms.specs.Pieces.{IsInSome}
+use Rattle.ac_forms.specs.PieceMembership.{IsInSome}
 
 mutual
   unfolding IsInstance assignments

@@ -1,6 +1,6 @@
 -- The assignment with a number and its model, as a relation by cases on the text.
 use Rattle.std.specs.Prelude.{ℕ, suc, ◌+◌, ◌≡◌, ◌⊎◌, List, [], ◌∷◌}
-use Rattle.ac_syntax.specs.Loops.{loop_count, loop_count_in}
+use Rattle.ac_syntax.specs.LoopNests.{loop_count, loop_count_in}
 use Rattle.ac_syntax.specs.Trace.{assignments, assignments_in}
 use Rattle.ac_syntax.specs.declared.tree.Stmt.{Stmt, Row_of-Stmt, end_of-Stmt, more_of-Stmt}
 use Rattle.ac_syntax.specs.declared.tree.Stmt.TheVariants.{For', If', Assign}

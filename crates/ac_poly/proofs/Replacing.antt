@@ -3,12 +3,12 @@ use Rattle.std.proofs.Common.{◌≡◌, ℕ, ◌+◌, ◌<◌, ◌≤◌, List,
 use Rattle.std.proofs.lemmas.List.{drop_more, drop_all, get_or_default}
 use Rattle.std.proofs.lemmas.Int.{to_z-of_z}
 use Rattle.std.specs.Result.{IsErrAnd}
-use Rattle.ac_forms.specs.Stops.{IfWide, MadeIff}
+use Rattle.ac_forms.specs.FormStops.{IfWide, MadeIff}
 use Rattle.ac_forms.specs.declared.stop.FormStop.{FormStop}
 use Rattle.ac_forms.specs.declared.stop.FormStop.TheVariants.{Wide, Memory}
 use Rattle.ac_forms.specs.Affine.{Affine, combined, CanAddTimes}
-use Rattle.ac_poly.specs.Forms.{replaced}
-use Rattle.ac_poly.specs.Numbers.{CanReplace}
+use Rattle.ac_poly.specs.IndexForms.{replaced}
+use Rattle.ac_poly.specs.LoweringRange.{CanReplace}
 
 -- after i iterators: what is left to add and to test
 pub record Replacing (f0 : Affine) (cs : List ℤ) (gs : List Affine) (f : Affine) (i : ℕ) : Type 0 where

@@ -9,14 +9,14 @@ use Rattle.ac_syntax.specs.declared.tree.IndexExpr.{IndexExpr}
 use Rattle.ac_syntax.specs.declared.tree.Cond.{Cond}
 use Rattle.ac_poly.specs.declared.scope.Scope.{Scope}
 use Rattle.ac_forms.specs.Affine.{column_form}
-use Rattle.ac_poly.specs.Forms.{lowered, stepping, rows_of}
+use Rattle.ac_poly.specs.IndexForms.{lowered, stepping, rows_of}
 use Rattle.ac_poly.specs.Lower.{columns, loop_rows, in_loop, where_holds, where_fails}
-use Rattle.ac_syntax.specs.Ready.{FitParts}
+use Rattle.ac_syntax.specs.ReadyPrograms.{FitParts}
 use Rattle.ac_poly.proofs.Values.{worth, Narrow, value-lowered, value-narrow, value-column, value-stepping, worth-narrow, narrow-column, narrow-combined}
 use Rattle.ac_poly.proofs.Rows.{meets_rows, meets_append, somewhere_with, somewhere_fails}
 use Rattle.ac_poly.proofs.Narrows.{NarrowRows, NarrowPieces, somewhere-narrow, all_append, all_wider, narrow-lowered, narrow_rows, narrow_with, narrow_fails}
 use Rattle.ac_forms.specs.Rows.{Meets}
-use Rattle.ac_forms.specs.Pieces.{IsInSome}
+use Rattle.ac_forms.specs.PieceMembership.{IsInSome}
 
 -- the scope of a statement inside xs loops, at a point where their counters are zs
 pub record Stands (xs : ℕ) (p : Point) (zs : List ℤ) (sc : Scope) : Type 0 where

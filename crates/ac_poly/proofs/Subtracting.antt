@@ -2,8 +2,8 @@
 use Rattle.std.proofs.Common.{◌≡◌, ℕ, ◌+◌, ◌<◌, ◌≤◌, max, ℤ, pos, negsuc, ◌+ℤ◌, ◌-ℤ◌, ◌*ℤ◌, List, [], ◌∷◌, ◌++◌, length, drop, get_or, arith, ◌∙◌, sym, ap, refl, subst, append_assoc, add-zero, append-nil}
 use Rattle.std.proofs.lemmas.List.{length-drop, get_or-drop, drop-drop, drop_all}
 use Rattle.std.proofs.lemmas.Int.{ints}
-use Rattle.ac_integers.specs.Dot.{mix}
-use Rattle.ac_integers.proofs.Bits.{again_128}
+use Rattle.ac_base.specs.Dot.{mix}
+use Rattle.ac_base.proofs.Bits.{again_128}
 use Rattle.ac_forms.specs.Fits.{Fits, AllFit}
 
 pub less-is : (x y : ℤ) → x -ℤ y ≡ pos 1 *ℤ x +ℤ negsuc 0 *ℤ y

@@ -4,10 +4,10 @@ use Rattle.std.specs.List.{AllByRecursion}
 use Rattle.ac_forms.specs.Affine.{Affine}
 use Rattle.ac_syntax.specs.Index.{Point, index_value}
 use Rattle.ac_syntax.specs.Algebra.{target}
-use Rattle.ac_syntax.specs.Ready.{Fits}
+use Rattle.ac_syntax.specs.ReadyPrograms.{Fits}
 use Rattle.ac_syntax.specs.Trace.{Entry, assignments, assignments_in, trace, trace_all}
 use Rattle.ac_syntax.specs.Turns.{inside}
-use Rattle.ac_syntax.specs.Loops.{loop_count, loop_count_in}
+use Rattle.ac_syntax.specs.LoopNests.{loop_count, loop_count_in}
 use Rattle.ac_syntax.proofs.Instances.{instance_of_trace}
 use Rattle.std.specs.List.{Contains}
 use Rattle.std.proofs.lemmas.List.Elements.{Contains-append_cases}
@@ -16,13 +16,13 @@ use Rattle.ac_syntax.specs.declared.tree.Stmt.{Stmt, Row_of-Stmt, end_of-Stmt, m
 use Rattle.ac_syntax.specs.declared.tree.Stmt.TheVariants.{For', If', Assign}
 use Rattle.ac_poly.specs.declared.scope.Scope.{Scope}
 use Rattle.ac_poly.specs.declared.types.StmtModel.{StmtModel}
-use Rattle.ac_poly.specs.Forms.{lowered}
-use Rattle.ac_poly.specs.Nodes.{nodes}
+use Rattle.ac_poly.specs.IndexForms.{lowered}
+use Rattle.ac_poly.specs.ModelNodes.{nodes}
 use Rattle.ac_poly.specs.Lower.{in_loop, where_holds, where_fails, lowered_body, outermost}
-use Rattle.ac_poly.specs.Laws.{cell_of, TargetsAreCells, NodesAreValues, Shows}
+use Rattle.ac_poly.specs.ModelMeaning.{cell_of, TargetsAreCells, NodesAreValues, Shows}
 use Rattle.ac_poly.proofs.Relation.{IsLowered, IsLoweredIn, IsLoweredAll}
 use Rattle.ac_poly.proofs.Bodies.{is_lowered, lowered_after, instance_after, stands_outermost}
-use Rattle.ac_syntax.specs.Ready.{FitsValue, Ready, ReadyIn, ReadyAll}
+use Rattle.ac_syntax.specs.ReadyPrograms.{FitsValue, Ready, ReadyIn, ReadyAll}
 use Rattle.std.specs.Prelude.{slice_get, Some}
 use Rattle.ac_poly.proofs.Values.{worth, all_values}
 use Rattle.ac_poly.proofs.NodeForms.{length-nodes, node_shows}

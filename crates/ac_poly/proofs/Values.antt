@@ -3,14 +3,14 @@ use Rattle.std.proofs.Common.{◌≡◌, ℕ, zero, suc, ◌+◌, ◌-◌, ◌�
 use Rattle.std.specs.List.{AllByRecursion}
 use Rattle.std.proofs.lemmas.Int.{ints}
 use Rattle.ac_forms.specs.Affine.{Affine, value_at, combined, column_form}
-use Rattle.ac_integers.specs.Dot.{dot, mix}
-use Rattle.ac_integers.proofs.Dot.{dot-append}
+use Rattle.ac_base.specs.Dot.{dot, mix}
+use Rattle.ac_base.proofs.Dot.{dot-append}
 use Rattle.ac_forms.proofs.Values.{value_at-combined, value_at-scaled}
 use Rattle.ac_syntax.specs.Index.{index_value}
-use Rattle.ac_syntax.specs.Ready.{Fits}
+use Rattle.ac_syntax.specs.ReadyPrograms.{Fits}
 use Rattle.ac_syntax.specs.declared.tree.IndexExpr.{IndexExpr}
 use Rattle.ac_forms.specs.Negation.{below, above}
-use Rattle.ac_poly.specs.Forms.{replaced, lowered, stepping}
+use Rattle.ac_poly.specs.IndexForms.{replaced, lowered, stepping}
 use Rattle.ac_forms.proofs.Negations.{value-below, value-above}
 
 -- what each form is worth

@@ -5,22 +5,22 @@ use Rattle.std.proofs.lemmas.Bool.Decides.{nat_tests}
 use Rattle.std.proofs.lemmas.List.{length-map, drop_more, drop_all}
 use Rattle.std.proofs.lemmas.List.Sums.{sum_by-cons}
 use Rattle.std.specs.Result.{IsErrAnd}
-use Rattle.ac_forms.specs.Stops.{MadeIff}
+use Rattle.ac_forms.specs.FormStops.{MadeIff}
 use Rattle.ac_forms.specs.declared.stop.FormStop.{FormStop}
 use Rattle.ac_forms.specs.declared.stop.FormStop.TheVariants as stops
-use Rattle.ac_syntax.specs.Loops.{loop_count, loop_count_in}
-use Rattle.ac_syntax.specs.Ready.{ReadyAll}
+use Rattle.ac_syntax.specs.LoopNests.{loop_count, loop_count_in}
+use Rattle.ac_syntax.specs.ReadyPrograms.{ReadyAll}
 use Rattle.ac_syntax.specs.declared.tree.Place.{Place}
 use Rattle.ac_syntax.specs.declared.tree.IndexExpr.{IndexExpr}
 use Rattle.ac_syntax.specs.declared.tree.Value.{Value}
 use Rattle.ac_syntax.specs.declared.tree.Cond.{Cond}
 use Rattle.ac_syntax.specs.declared.tree.Stmt.{Stmt, Row_of-Stmt, end_of-Stmt, more_of-Stmt, items-the_row-Stmt, the_lemmas}
 use Rattle.ac_syntax.specs.declared.tree.Stmt.TheVariants.{For, If, Assign, For', If'}
-use Rattle.ac_poly.specs.Forms.{lowered, stepping, rows_of}
+use Rattle.ac_poly.specs.IndexForms.{lowered, stepping, rows_of}
 use Rattle.ac_poly.specs.Lower.{columns, loop_rows, in_loop, where_holds, where_fails, assigned, lower, lower_in, lower_all}
-use Rattle.ac_poly.specs.Numbers.{CanHold, CanFail, CanEnter, CanAssign}
-use Rattle.ac_poly.specs.Faults.{IsLowerable, IsLowerableIn, IsFirst, IsFirstIn, AreLowerable, IsFirstAll}
-use Rattle.ac_poly.specs.Steps.{ways, pieces_by, Lowers, LowersAll, LowersWithin, SeeksAll}
+use Rattle.ac_poly.specs.LoweringRange.{CanHold, CanFail, CanEnter, CanAssign}
+use Rattle.ac_poly.specs.LoweringFaults.{IsLowerable, IsLowerableIn, IsFirst, IsFirstIn, AreLowerable, IsFirstAll}
+use Rattle.ac_poly.specs.LoweringSteps.{ways, pieces_by, Lowers, LowersAll, LowersWithin, SeeksAll}
 use Rattle.ac_poly.specs.declared.scope.Scope.{Scope}
 use Rattle.ac_poly.specs.declared.types.StmtModel.{StmtModel}
 use Rattle.ac_poly.specs.declared.types.LowerFault.{LowerFault}

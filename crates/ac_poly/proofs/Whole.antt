@@ -4,16 +4,16 @@ use Rattle.std.specs.Prelude.{slice_get, Some}
 use Rattle.std.specs.List.{AllByRecursion}
 use Rattle.ac_forms.specs.Rows.{Meets}
 use Rattle.ac_syntax.specs.Index.{point, index_value, holds}
-use Rattle.ac_syntax.specs.Ready.{FitParts, AllFit, ReadyAll, ReadyProgram}
+use Rattle.ac_syntax.specs.ReadyPrograms.{FitParts, AllFit, ReadyAll, ReadyProgram}
 use Rattle.ac_syntax.specs.declared.tree.Array.{Array}
 use Rattle.ac_syntax.specs.declared.tree.Cond.{Cond}
 use Rattle.ac_syntax.specs.declared.tree.Program.{Program}
 use Rattle.ac_poly.specs.Coordinates.{levels_before}
-use Rattle.ac_poly.specs.Forms.{rows_of}
-use Rattle.ac_poly.specs.Laws.{values_at}
+use Rattle.ac_poly.specs.IndexForms.{rows_of}
+use Rattle.ac_poly.specs.ModelMeaning.{values_at}
 use Rattle.ac_poly.specs.Lower.{lowered_body}
 use Rattle.ac_poly.specs.Model.{extents_of, model_of, HasInstances, HasCells, HasNodes, HasOrder, HasContext, HasExtents}
-use Rattle.ac_poly.specs.Faults.{Answers}
+use Rattle.ac_poly.specs.LoweringFaults.{Answers}
 use Rattle.ac_poly.specs.declared.types.LowerFault.{LowerFault}
 use Rattle.ac_poly.specs.declared.types.Model.{Model}
 use Rattle.ac_poly.specs.declared.types.StmtModel.{StmtModel}
@@ -22,7 +22,7 @@ use Rattle.ac_poly.proofs.Orders.{counters_behind}
 use Rattle.ac_poly.proofs.Rows.{meets_rows}
 use Rattle.ac_poly.proofs.Targets.{targets_are_cells, nodes_are_values}
 use Rattle.ac_poly.proofs.Values.{all_values}
-use Rattle.ac_forms.specs.Pieces.{IsInSome}
+use Rattle.ac_forms.specs.PieceMembership.{IsInSome}
 
 ready : (p : Program) (params : List ℤ) → ReadyProgram p → length params ≡ length p.params → ReadyAll (length params) 0 p.body
 ready p params r l = subst (λ n. ReadyAll n 0 p.body) (sym l) r.body

@@ -4,7 +4,7 @@ use Rattle.std.specs.Prelude.{ℕ, ◌+◌, ◌≡◌, List, length, ℤ, nat_lt
 use Rattle.std.specs.List.{Contains}
 use Rattle.ac_forms.specs.declared.row.Row.{Row}
 use Rattle.ac_syntax.specs.Trace.{Entry}
-use Rattle.ac_poly.specs.Before.{levels}
+use Rattle.ac_poly.specs.LevelRows.{levels}
 use Rattle.ac_poly.specs.declared.types.Model.{Model}
 use Rattle.ac_poly.specs.declared.types.StmtModel.{StmtModel}
 

@@ -4,15 +4,15 @@ use Rattle.std.specs.List.{flat_map}
 use Rattle.ac_forms.specs.Affine.{column_form}
 use Rattle.ac_forms.specs.declared.row.Row.{Row}
 use Rattle.ac_forms.specs.declared.row.Row.TheVariants.{Ge}
-use Rattle.ac_syntax.specs.Loops.{loop_count, loop_count_in}
+use Rattle.ac_syntax.specs.LoopNests.{loop_count, loop_count_in}
 use Rattle.ac_syntax.specs.declared.tree.IndexExpr.{IndexExpr}
 use Rattle.ac_syntax.specs.declared.tree.Cond.{Cond}
 use Rattle.ac_syntax.specs.declared.tree.Value.{Value}
 use Rattle.ac_syntax.specs.declared.tree.Stmt.{Stmt, Row_of-Stmt, end_of-Stmt, more_of-Stmt}
 use Rattle.ac_syntax.specs.declared.tree.Stmt.TheVariants.{For', If', Assign}
-use Rattle.ac_poly.specs.Forms.{lowered, stepping, rows_of}
-use Rattle.ac_poly.specs.Nodes.{nodes}
-use Rattle.ac_poly.specs.Pieces.{failing}
+use Rattle.ac_poly.specs.IndexForms.{lowered, stepping, rows_of}
+use Rattle.ac_poly.specs.ModelNodes.{nodes}
+use Rattle.ac_poly.specs.ConditionPieces.{failing}
 use Rattle.ac_poly.specs.declared.scope.Scope.{Scope}
 use Rattle.ac_poly.specs.declared.types.StmtModel.{StmtModel}
 

@@ -5,7 +5,7 @@ use Rattle.ac_forms.specs.Affine.{Affine}
 use Rattle.ac_forms.specs.Rows.{Meets, AreRowsOver}
 use Rattle.ac_syntax.specs.Algebra.{target}
 use Rattle.ac_syntax.specs.Index.{point, index_value, holds}
-use Rattle.ac_syntax.specs.Nodes.{size, node_of}
+use Rattle.ac_syntax.specs.ValueNodes.{size, node_of}
 use Rattle.ac_syntax.specs.Outputs.{input_at, is_input_kind, InExtents, extents_at}
 use Rattle.ac_syntax.specs.Source.{Writer, Stands}
 use Rattle.ac_syntax.specs.Trace.{Entry, trace_of}
@@ -14,12 +14,12 @@ use Rattle.ac_syntax.specs.declared.tree.Cond.{Cond}
 use Rattle.ac_syntax.specs.declared.tree.Kind.{Kind}
 use Rattle.ac_syntax.specs.declared.tree.Program.{Program}
 use Rattle.ac_syntax.specs.declared.tree.Value.{Value}
-use Rattle.ac_poly.specs.Columns.{AreOver, element_rows}
+use Rattle.ac_poly.specs.CoordinateColumns.{AreOver, element_rows}
 use Rattle.ac_poly.specs.Coordinates.{width, coordinates, HasInstance, levels_before}
-use Rattle.ac_poly.specs.Forms.{lowered, rows_of}
-use Rattle.ac_poly.specs.Laws.{values_at, cell_of, Shows}
+use Rattle.ac_poly.specs.IndexForms.{lowered, rows_of}
+use Rattle.ac_poly.specs.ModelMeaning.{values_at, cell_of, Shows}
 use Rattle.ac_poly.specs.Lower.{lowered_body}
-use Rattle.ac_forms.specs.Pieces.{IsInSome, IsInOneAtMost}
+use Rattle.ac_forms.specs.PieceMembership.{IsInSome, IsInOneAtMost}
 use Rattle.ac_poly.specs.declared.types.Model.{Model}
 use Rattle.ac_poly.specs.declared.types.NodeModel.{NodeModel}
 use Rattle.ac_poly.specs.declared.types.NodeModel.TheVariants.{Number, Read, Call}

@@ -2,12 +2,12 @@
 ghost use Rattle.std.specs.Prelude.{◌≡◌, ◌+ℤ◌, pos, negsuc};
 ghost use Rattle.ac_forms.specs.Affine.{FormFits, combined, shifted};
 ghost use Rattle.ac_forms.specs.Fits.{Fits, AllFit};
-ghost use Rattle.ac_forms.specs.Stops.{MadeIff, MadeWhere};
-ghost use Rattle.ac_integers.specs.Dot.{mix};
-ghost use Rattle.ac_poly.specs.Columns.{element_rows, CanBound};
+ghost use Rattle.ac_forms.specs.FormStops.{MadeIff, MadeWhere};
+ghost use Rattle.ac_base.specs.Dot.{mix};
+ghost use Rattle.ac_poly.specs.CoordinateColumns.{element_rows, CanBound};
 
+use ac_base::Items;
 use ac_forms::{Form, FormStop, Row};
-use ac_items::Items;
 use std::alloc::{AllocError, Global};
 
 /// The elements of an array with these extents, whose coordinates stand from column `first` on: for each dimension the

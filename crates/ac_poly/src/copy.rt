@@ -1,8 +1,8 @@
 //! Copies of rows and forms.
 ghost use Rattle.std.specs.Prelude.{◌≡◌, ◌++◌, ◌∷◌, [], map, IfOk};
 
+use ac_base::Items;
 use ac_forms::{Form, Row};
-use ac_items::Items;
 use std::alloc::{AllocError, Global};
 
 /// The same rows again.

@@ -1,10 +1,10 @@
 //! The coordinates of an instance among further columns.
 ghost use Rattle.std.specs.Prelude.{◌≡◌, ◌+◌, IfOk};
 ghost use Rattle.ac_forms.specs.Affine.{column_form};
-ghost use Rattle.ac_poly.specs.Columns.{coordinate_forms};
+ghost use Rattle.ac_poly.specs.CoordinateColumns.{coordinate_forms};
 
+use ac_base::Items;
 use ac_forms::Form;
-use ac_items::Items;
 use std::alloc::{AllocError, Global};
 
 /// The forms of so many coordinates, from column `first` on.

@@ -1,12 +1,12 @@
 //! What is around the statements inside a loop or a branch.
 ghost use Rattle.std.specs.Prelude.{◌≡◌, ◌+◌, ◌++◌, ◌∷◌, [], length, IfOk};
 ghost use Rattle.ac_forms.specs.Affine.{CanAddTimes, column_form};
-ghost use Rattle.ac_forms.specs.Stops.{MadeIff, MadeWhere};
+ghost use Rattle.ac_forms.specs.FormStops.{MadeIff, MadeWhere};
 ghost use Rattle.ac_forms.specs.declared.row.Row.TheVariants.{Ge};
-ghost use Rattle.ac_poly.specs.Forms.{stepping, rows_of};
+ghost use Rattle.ac_poly.specs.IndexForms.{stepping, rows_of};
 ghost use Rattle.ac_poly.specs.Lower.{outermost, in_loop, where_holds, where_fails, assigned};
-ghost use Rattle.ac_poly.specs.Numbers.{CanHold, CanFail, CanEnter, CanAssign};
-ghost use Rattle.ac_poly.specs.Steps.{ways, pieces_by};
+ghost use Rattle.ac_poly.specs.LoweringRange.{CanHold, CanFail, CanEnter, CanAssign};
+ghost use Rattle.ac_poly.specs.LoweringSteps.{ways, pieces_by};
 
 use crate::copy::{copy_forms, copy_pieces, joined, with_form, with_rows};
 use crate::forms::{lowered, lowered_all, plus_times, rows_of};
@@ -14,8 +14,8 @@ use crate::nodes::add_nodes;
 use crate::pieces::{pieces_by, where_fails};
 use crate::scope::Scope;
 use crate::types::StmtModel;
+use ac_base::Items;
 use ac_forms::{Form, FormStop, Row};
-use ac_items::Items;
 use ac_syntax::tree::{Comparison, Cond, IndexExpr, Value};
 use std::alloc::{AllocError, Global};
 

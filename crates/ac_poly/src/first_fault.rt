@@ -1,5 +1,5 @@
 //! The first assignment inside a scope that can't be lowered.
-ghost use Rattle.ac_poly.specs.Steps.{Seeks, SeeksAll};
+ghost use Rattle.ac_poly.specs.LoweringSteps.{Seeks, SeeksAll};
 
 use crate::pieces::pieces_by;
 use crate::types::LowerFault;

@@ -1,12 +1,12 @@
 //! Index expressions as forms over the parameters and then the counters, and comparisons as rows.
 ghost use Rattle.std.specs.Prelude.{◌≡◌, [], map, pos, IfOk};
 ghost use Rattle.ac_forms.specs.Affine.{CanAddTimes, combined};
-ghost use Rattle.ac_forms.specs.Stops.{MadeIff, MadeWhere};
-ghost use Rattle.ac_poly.specs.Forms.{lowered, row_by, rows_of};
-ghost use Rattle.ac_poly.specs.Numbers.{CanLower, CanLowerAll, CanHold};
+ghost use Rattle.ac_forms.specs.FormStops.{MadeIff, MadeWhere};
+ghost use Rattle.ac_poly.specs.IndexForms.{lowered, row_by, rows_of};
+ghost use Rattle.ac_poly.specs.LoweringRange.{CanLower, CanLowerAll, CanHold};
 
+use ac_base::Items;
 use ac_forms::{Form, FormStop, Row};
-use ac_items::Items;
 use ac_syntax::tree::{Comparison, IndexExpr, Rel};
 use std::alloc::{AllocError, Global};
 

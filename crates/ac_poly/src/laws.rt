@@ -1,7 +1,7 @@
 //! What a lowered program means, in words: each function here does nothing, and its contract is a fact about all programs.
-ghost use Rattle.ac_poly.specs.Laws.{PointsAreInstances, TargetsAreCells, NodesAreValues};
-ghost use Rattle.ac_poly.specs.Columns.{ElementRowsHold};
-ghost use Rattle.ac_poly.specs.Before.{LevelsAreTheOrder, LevelsAreApart, LevelsHaveColumns, LevelsMove, EqualitiesAreEqualValues};
+ghost use Rattle.ac_poly.specs.ModelMeaning.{PointsAreInstances, TargetsAreCells, NodesAreValues};
+ghost use Rattle.ac_poly.specs.CoordinateColumns.{ElementRowsHold};
+ghost use Rattle.ac_poly.specs.LevelRows.{LevelsAreTheOrder, LevelsAreApart, LevelsHaveColumns, LevelsMove, EqualitiesAreEqualValues};
 
 /// The points of an assignment's pieces are exactly its instances: at each valuation of the parameters, a list of
 /// counters lies in some piece exactly where the trace has an entry of the assignment with these counters.

@@ -1,16 +1,16 @@
 //! The nodes of a value.
 ghost use Rattle.std.specs.Prelude.{◌≡◌, ◌++◌, length, IfOk};
 ghost use Rattle.std.specs.List.{AllByRecursion};
-ghost use Rattle.ac_forms.specs.Stops.{MadeWhere};
-ghost use Rattle.ac_syntax.specs.Nodes.{size};
-ghost use Rattle.ac_poly.specs.Nodes.{nodes};
-ghost use Rattle.ac_poly.specs.Numbers.{CanLowerValue};
-ghost use Rattle.ac_poly.specs.Steps.{nodes_of, roots_of};
+ghost use Rattle.ac_forms.specs.FormStops.{MadeWhere};
+ghost use Rattle.ac_syntax.specs.ValueNodes.{size};
+ghost use Rattle.ac_poly.specs.ModelNodes.{nodes};
+ghost use Rattle.ac_poly.specs.LoweringRange.{CanLowerValue};
+ghost use Rattle.ac_poly.specs.LoweringSteps.{nodes_of, roots_of};
 
 use crate::forms::{lowered, lowered_all};
 use crate::types::NodeModel;
+use ac_base::Items;
 use ac_forms::{Form, FormStop};
-use ac_items::Items;
 use ac_syntax::copy::copy_symbol;
 use ac_syntax::count;
 use ac_syntax::tree::Value;

@@ -1,16 +1,16 @@
 //! The order of instances, and the equality of the cells that they read and write, as rows.
 ghost use Rattle.std.specs.Prelude.{◌≡◌, ◌<◌, length, replicate, set, pos, negsuc, IfOk, slice_get, Some};
-ghost use Rattle.ac_forms.specs.Stops.{MadeWhere};
-ghost use Rattle.ac_syntax.specs.Loops.{common};
-ghost use Rattle.ac_poly.specs.Before.{difference, levels, equalities, CanEquate};
+ghost use Rattle.ac_forms.specs.FormStops.{MadeWhere};
+ghost use Rattle.ac_syntax.specs.LoopNests.{common};
+ghost use Rattle.ac_poly.specs.LevelRows.{difference, levels, equalities, CanEquate};
 ghost use Rattle.ac_poly.specs.Coordinates.{width, levels_before, levels_between};
 ghost use Rattle.ac_poly.specs.declared.types.StmtModel.{StmtModel};
 
 use crate::cells::less;
 use crate::copy::with_row;
 use crate::types::{Model, StmtModel};
+use ac_base::Items;
 use ac_forms::{Form, FormStop, Row};
-use ac_items::Items;
 use std::alloc::{AllocError, Global};
 
 /// The levels by which an instance of the assignment `s` stands before one of the assignment `u`: rows over the

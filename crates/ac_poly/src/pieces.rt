@@ -4,16 +4,16 @@ ghost use Rattle.std.specs.List.{flat_map};
 ghost use Rattle.ac_forms.specs.Affine.{FormFits};
 ghost use Rattle.ac_forms.specs.Fits.{Fits};
 ghost use Rattle.ac_forms.specs.Negation.{NegationFits, opposite, below};
-ghost use Rattle.ac_forms.specs.Stops.{MadeIff, MadeWhere};
-ghost use Rattle.ac_poly.specs.Forms.{lowered, row_by};
-ghost use Rattle.ac_poly.specs.Numbers.{CanLower, CanFail};
-ghost use Rattle.ac_poly.specs.Pieces.{negations, with_each, failing};
-ghost use Rattle.ac_poly.specs.Steps.{way, failing_by, ways_by, ways, pieces_by};
+ghost use Rattle.ac_forms.specs.FormStops.{MadeIff, MadeWhere};
+ghost use Rattle.ac_poly.specs.IndexForms.{lowered, row_by};
+ghost use Rattle.ac_poly.specs.LoweringRange.{CanLower, CanFail};
+ghost use Rattle.ac_poly.specs.ConditionPieces.{negations, with_each, failing};
+ghost use Rattle.ac_poly.specs.LoweringSteps.{way, failing_by, ways_by, ways, pieces_by};
 
 use crate::copy::{copy_rows, with_row};
 use crate::forms::{lowered, row_by};
+use ac_base::Items;
 use ac_forms::{Form, FormStop, Row};
-use ac_items::Items;
 use ac_syntax::tree::{Comparison, Cond, Rel};
 use std::alloc::{AllocError, Global};
 

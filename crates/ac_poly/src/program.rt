@@ -1,8 +1,8 @@
 //! From a program to its model.
 ghost use Rattle.std.specs.Prelude.{◌≡◌, map, length, IfOk};
 ghost use Rattle.ac_syntax.specs.Dimensions.{HasDimensions};
-ghost use Rattle.ac_syntax.specs.Ready.{ReadyProgram, FitParts};
-ghost use Rattle.ac_poly.specs.Faults.{Answers, AreLowerable, IsFirstAll};
+ghost use Rattle.ac_syntax.specs.ReadyPrograms.{ReadyProgram, FitParts};
+ghost use Rattle.ac_poly.specs.LoweringFaults.{Answers, AreLowerable, IsFirstAll};
 ghost use Rattle.ac_poly.specs.Lower.{outermost};
 ghost use Rattle.ac_poly.specs.Model.{extents_of, kind_of, model_of, HasModels, HasInstances, PiecesAreApart, HasCells, HasNodes, HasOrder, HasContext, HasExtents, HasElements, HasKinds, HasColumns, CellsHaveDimensions};
 
@@ -10,8 +10,8 @@ use crate::enter::outermost;
 use crate::forms::{all_alone, rows_alone};
 use crate::types::{LowerFault, Model};
 use crate::walk::lower_all;
+use ac_base::Items;
 use ac_forms::Form;
-use ac_items::Items;
 use ac_syntax::tree::{Array, Cond, Kind, Program};
 use std::alloc::{AllocError, Global};
 

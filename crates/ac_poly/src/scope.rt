@@ -1,5 +1,5 @@
+use ac_base::Items;
 use ac_forms::{Form, Row};
-use ac_items::Items;
 
 /// What is around a statement, over the parameters and the counters of its loops.
 #[derive(Drop)]

@@ -1,5 +1,5 @@
+use ac_base::Items;
 use ac_forms::{Form, Row};
-use ac_items::Items;
 use ac_syntax::tree::{Kind, Place, Symbol};
 use std::alloc::{AllocError, AllocFailed};
 

@@ -1,16 +1,16 @@
 //! From statements to the models of their assignments.
 ghost use Rattle.std.specs.Prelude.{◌≤◌, length, IfOk};
-ghost use Rattle.ac_syntax.specs.Ready.{Ready, ReadyAll};
+ghost use Rattle.ac_syntax.specs.ReadyPrograms.{Ready, ReadyAll};
 ghost use Rattle.ac_poly.specs.Lower.{where_holds, where_fails};
-ghost use Rattle.ac_poly.specs.Numbers.{CanHold, CanFail};
-ghost use Rattle.ac_poly.specs.Steps.{Lowers, LowersAll, LowersWithin};
+ghost use Rattle.ac_poly.specs.LoweringRange.{CanHold, CanFail};
+ghost use Rattle.ac_poly.specs.LoweringSteps.{Lowers, LowersAll, LowersWithin};
 
 use crate::enter::{assigned, in_loop, other, other_pieces, taken};
 use crate::first_fault::seek_all;
 use crate::scope::Scope;
 use crate::types::{LowerFault, StmtModel};
+use ac_base::Items;
 use ac_forms::FormStop;
-use ac_items::Items;
 use ac_syntax::tree::{Cond, Stmt};
 use std::alloc::{AllocError, Global};
 

@@ -1,5 +1,5 @@
-pub mod Calls
+pub mod FakeCalls
 pub mod Contents
-pub mod Counts
+pub mod CallCounts
 pub mod Log
 pub mod Memory

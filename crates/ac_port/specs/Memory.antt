@@ -3,7 +3,7 @@ use Rattle.std.specs.Prelude.{ℕ, List, Bool, ◌||◌, is_none, refl}
 use Rattle.std.specs.Coded.{Coded, code_by, coded×, coded_list, coded_ℕ}
 use Rattle.std.specs.FinMap.{get, code}
 use Rattle.ac_port.specs.Contents.{Contents}
-use Rattle.ac_port.specs.Calls.{Calls, calls_code, is_listed}
+use Rattle.ac_port.specs.FakeCalls.{Calls, calls_code, is_listed}
 
 -- what the files hold, and the reads and writes on them
 pub record FilesInMemory : Type 0 where

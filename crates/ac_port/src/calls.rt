@@ -1,6 +1,6 @@
 // The calls of one kind on a fake, which fails at those that it was told.
 ghost use Rattle.std.specs.Prelude.{◌≡◌, ◌≤◌, ◌++◌, ◌∷◌, [], OnOk, OnErr};
-ghost use Rattle.ac_port.specs.Calls.{is_listed, after_call};
+ghost use Rattle.ac_port.specs.FakeCalls.{is_listed, after_call};
 
 use std::alloc::{AllocError, Global};
 use std::marker::Model;
@@ -13,7 +13,7 @@ pub struct CallLog {
 }
 
 impl Model for CallLog {
-    ghost use Rattle.ac_port.specs.Calls.{Calls, calls_code};
+    ghost use Rattle.ac_port.specs.FakeCalls.{Calls, calls_code};
 
     ghost Value = { Calls };
 

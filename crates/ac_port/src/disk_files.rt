@@ -1,6 +1,6 @@
 // The real files.
 ghost use Rattle.std.specs.Prelude.{◌≡◌, ◌≤◌, length, None, IfOk};
-ghost use Rattle.ac_port.specs.Counts.{one_more};
+ghost use Rattle.ac_port.specs.CallCounts.{one_more};
 
 use crate::streams::{fill, read_up_to, write_whole};
 use crate::{Files, ReadStop, WriteStop};

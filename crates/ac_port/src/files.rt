@@ -2,7 +2,7 @@
 ghost use Rattle.std.specs.Prelude.{◌≡◌, ◌≤◌, ℕ, List, length, Option, option_map, IfOk, OnOk, OnErr, IfSome, IsSomeAnd, IsErrOf, alloc_error};
 ghost use Rattle.std.specs.FinMap as map;
 ghost use Rattle.ac_port.specs.Contents.{Contents, IsTooBig, IsPart, IsSameBut};
-ghost use Rattle.ac_port.specs.Counts.{Rose};
+ghost use Rattle.ac_port.specs.CallCounts.{Rose};
 ghost use Rattle.ac_port.specs.declared.files.ReadStop.TheVariants as read_stop;
 ghost use Rattle.ac_port.specs.declared.files.WriteStop.TheVariants as write_stop;
 

@@ -3,8 +3,8 @@ ghost use Rattle.std.specs.Prelude.{◌≡◌, ◌≤◌, ◌++◌, ◌∷◌, �
 ghost use Rattle.std.specs.Option.{option_copied};
 ghost use Rattle.std.specs.FinMap as map;
 ghost use Rattle.ac_port.specs.Contents.{IsTooBig, IsPart};
-ghost use Rattle.ac_port.specs.Counts.{Rose};
-ghost use Rattle.ac_port.specs.Calls.{is_listed, after_call};
+ghost use Rattle.ac_port.specs.CallCounts.{Rose};
+ghost use Rattle.ac_port.specs.FakeCalls.{is_listed, after_call};
 ghost use Rattle.ac_port.specs.Memory.{read_fails};
 
 use crate::calls::CallLog;

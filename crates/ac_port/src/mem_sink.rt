@@ -1,7 +1,7 @@
 // A sink in memory, for tests.
 ghost use Rattle.std.specs.Prelude.{◌≡◌, ◌≤◌, ◌++◌, ◌∷◌, ◌↔◌, [], Option, OnOk, OnErr, IsErrOf, IsTrue};
-ghost use Rattle.ac_port.specs.Counts.{Rose};
-ghost use Rattle.ac_port.specs.Calls.{is_listed, after_call};
+ghost use Rattle.ac_port.specs.CallCounts.{Rose};
+ghost use Rattle.ac_port.specs.FakeCalls.{is_listed, after_call};
 
 use crate::calls::CallLog;
 use crate::{Sink, SinkStop};

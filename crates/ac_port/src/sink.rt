@@ -1,6 +1,6 @@
 // Where the program's text goes.
 ghost use Rattle.std.specs.Prelude.{◌≡◌, ◌≤◌, ◌++◌, ℕ, List, take, Option, option_map, OnOk, IsErrOf, alloc_error};
-ghost use Rattle.ac_port.specs.Counts.{Rose};
+ghost use Rattle.ac_port.specs.CallCounts.{Rose};
 ghost use Rattle.ac_port.specs.declared.sink.SinkStop.TheVariants as sink_stop;
 
 use std::alloc::AllocError;

@@ -5,16 +5,16 @@ use Rattle.std.specs.List.{AllByRecursion}
 use Rattle.std.proofs.lemmas.List.{append-nil}
 use Rattle.ac_cert.specs.declared.types.Rule.{Rule}
 use Rattle.ac_cert.specs.declared.types.Rule.TheVariants as rule
-use Rattle.ac_paths.specs.Calls.{pairing}
-use Rattle.ac_paths.specs.Going.{Pairing}
-use Rattle.ac_claims.specs.Judging.{state_of, SamePair}
+use Rattle.ac_claims_paths.specs.ModelCalls.{pairing}
+use Rattle.ac_claims_paths.specs.PathSteps.{Pairing}
+use Rattle.ac_claims.specs.CheckState.{state_of, SamePair}
 use Rattle.ac_claims.specs.Steppers.{State, beginning, answer_of}
 use Rattle.ac_claims.specs.declared.stepper.Stepper.{Stepper}
 use Rattle.ac_prooftext.specs.declared.stages.Stage.TheVariants as stage
-use Rattle.ac_prooftext.specs.Texts.{lines_text, deepest, capped, IsSpelling, IsNesting}
-use Rattle.ac_prooftext.specs.Lines.{IsWithin}
-use Rattle.ac_prooftext.specs.Checks.{max_bytes, max_depth, IsTooDeep, IsJudged, IsTextRefused, IsAnswer, behind}
-use Rattle.ac_prooftext.specs.Courses.{Checked, IsCourseBy, IsCourse, IsUnderWay, IsFed, GoesOn, HasVerdict}
+use Rattle.ac_prooftext.specs.ProofTexts.{lines_text, deepest, capped, IsSpelling, IsNesting}
+use Rattle.ac_prooftext.specs.LinePrefixes.{IsWithin}
+use Rattle.ac_prooftext.specs.StreamChecks.{max_bytes, max_depth, IsTooDeep, IsJudged, IsTextRefused, IsAnswer, behind}
+use Rattle.ac_prooftext.specs.CheckProgress.{Checked, IsCourseBy, IsCourse, IsUnderWay, IsFed, GoesOn, HasVerdict}
 use Rattle.ac_prooftext.specs.declared.checker.Checker.{Checker}
 use Rattle.ac_prooftext.specs.declared.lines.LineReader.{LineReader}
 use Rattle.ac_prooftext.specs.declared.lines.Reading.TheVariants.{Within}
@@ -145,5 +145,5 @@ fed_nothing g outputs c b p o l course = record {
   bytes = b;
   pairing_is = p;
   outputs_are = o;
-  known = inr (inr (record { lines = []; text_is = sym l; lines_free = tt; line_free = subst (Rattle.ac_proofitems.specs.Words.IsFree 10) (sym l) tt; course = course }));
+  known = inr (inr (record { lines = []; text_is = sym l; lines_free = tt; line_free = subst (Rattle.ac_prooftext_lines.specs.LineWords.IsFree 10) (sym l) tt; course = course }));
 }

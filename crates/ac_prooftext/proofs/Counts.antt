@@ -2,7 +2,7 @@
 use Rattle.std.proofs.Common.{rules, ◌≡◌, ◌<◌, ◌+◌, ◌-◌, ℕ, zero, suc, Bool, false, true, cond, nat_le, List, [], ◌∷◌, ◌++◌, length, reverse, slice_index_or, refl, sym, ap, ◌∙◌, arith}
 use Rattle.std.specs.Prelude.{slice_set}
 use Rattle.std.proofs.lemmas.List.{reverse-append}
-use Rattle.ac_prooftext.specs.Outlines.{Place, closed}
+use Rattle.ac_prooftext.specs.LineOrder.{Place, closed}
 use Rattle.ac_prooftext.specs.declared.stages.Stage.TheVariants as stage
 
 at_last : (xs : List ℕ) (at d : ℕ) → suc at ≡ length xs → (front : List ℕ) × ((length front ≡ at) × (xs ≡ front ++ slice_index_or xs at d ∷ []))

@@ -5,21 +5,21 @@ use Rattle.std.specs.List.{AllByRecursion}
 use Rattle.ac_forms.specs.declared.row.Row.{Row}
 use Rattle.ac_forms.specs.declared.row.Row.TheVariants as row
 use Rattle.ac_forms.specs.Rows.{HasModulus}
-use Rattle.ac_paths.specs.Going.{Pairing}
-use Rattle.ac_claims.specs.Checking.{IsLine}
-use Rattle.ac_claims.specs.Judging.{state_of}
+use Rattle.ac_claims_paths.specs.PathSteps.{Pairing}
+use Rattle.ac_claims.specs.CheckKnowledge.{IsLine}
+use Rattle.ac_claims.specs.CheckState.{state_of}
 use Rattle.ac_claims.specs.Steppers.{State, after, after_all, beginning}
 use Rattle.ac_claims.specs.declared.item.Item.{Item}
 use Rattle.ac_claims.specs.declared.item.Item.TheVariants as item
 use Rattle.ac_claims.specs.declared.stepper.Stepper.{Stepper}
-use Rattle.ac_proofitems.specs.Spellable.{IsSpellable, IsSpellableRow}
-use Rattle.ac_proofitems.specs.Spelling.{spelled}
-use Rattle.ac_proofitems.proofs.Injective.{one_item}
-use Rattle.ac_prooftext.specs.Texts.{format_line, lines_in}
-use Rattle.ac_prooftext.specs.Outlines.{Place}
-use Rattle.ac_prooftext.specs.Lines.{IsBroken, IsWithin, IsAfter, Took, Gave}
-use Rattle.ac_prooftext.specs.Checks.{behind}
-use Rattle.ac_prooftext.specs.Courses.{Checked, IsCourseBy, IsCourse}
+use Rattle.ac_prooftext_lines.specs.Spellable.{IsSpellable, IsSpellableRow}
+use Rattle.ac_prooftext_lines.specs.Spelling.{spelled}
+use Rattle.ac_prooftext_lines.proofs.Injective.{one_item}
+use Rattle.ac_prooftext.specs.ProofTexts.{format_line, lines_in}
+use Rattle.ac_prooftext.specs.LineOrder.{Place}
+use Rattle.ac_prooftext.specs.LinePrefixes.{IsBroken, IsWithin, IsAfter, Took, Gave}
+use Rattle.ac_prooftext.specs.StreamChecks.{behind}
+use Rattle.ac_prooftext.specs.CheckProgress.{Checked, IsCourseBy, IsCourse}
 use Rattle.ac_prooftext.specs.declared.lines.LineReader.{LineReader}
 use Rattle.ac_prooftext.specs.declared.lines.Reading.{Reading}
 use Rattle.ac_prooftext.specs.declared.lines.Reading.TheVariants.{Unopened, Within, Faulty}

@@ -6,15 +6,15 @@ use Rattle.std.proofs.lemmas.List.{append-nil}
 use Rattle.ac_claims.specs.ProofMachine.{lines_of}
 use Rattle.ac_claims.specs.declared.item.Item.{Item}
 use Rattle.ac_claims.specs.declared.types.Proof.{Proof}
-use Rattle.ac_proofitems.specs.Spellable.{IsSpellable}
-use Rattle.ac_proofitems.specs.Spelling.{spelled}
-use Rattle.ac_proofitems.specs.Words.{IsFree}
-use Rattle.ac_proofitems.proofs.Cuts.{same_cut}
-use Rattle.ac_proofitems.proofs.Plain.{one_line}
-use Rattle.ac_proofitems.proofs.Injective.{one_item}
-use Rattle.ac_prooftext.specs.Outlines.{Place, next, next_all, start, done}
+use Rattle.ac_prooftext_lines.specs.Spellable.{IsSpellable}
+use Rattle.ac_prooftext_lines.specs.Spelling.{spelled}
+use Rattle.ac_prooftext_lines.specs.LineWords.{IsFree}
+use Rattle.ac_prooftext_lines.proofs.Cuts.{same_cut}
+use Rattle.ac_prooftext_lines.proofs.Plain.{one_line}
+use Rattle.ac_prooftext_lines.proofs.Injective.{one_item}
+use Rattle.ac_prooftext.specs.LineOrder.{Place, next, next_all, start, done}
 use Rattle.ac_prooftext.specs.declared.stages.Stage.TheVariants as stage
-use Rattle.ac_prooftext.specs.Texts.{format_line, ended, lines_text, items_text, lines_in, text_of, Begin, deepest, IsSpelling, IsTextFault, no_format, no_item, IsSpelledProof, proof_text}
+use Rattle.ac_prooftext.specs.ProofTexts.{format_line, ended, lines_text, items_text, lines_in, text_of, Begin, deepest, IsSpelling, IsTextFault, no_format, no_item, IsSpelledProof, proof_text}
 use Rattle.ac_prooftext.proofs.Following.{takes_proofs}
 use Rattle.ac_prooftext.proofs.Judging.{ended_by, format_free, some_byte}
 

@@ -3,7 +3,7 @@ use Rattle.std.proofs.Common.{◌≡◌, ◌-◌, ℕ, zero, suc, Bool, true, fa
 use Rattle.std.specs.Prelude.{option_and_then, is_some, unsigned_abs}
 use Rattle.ac_forms.specs.declared.row.Row.{Row}
 use Rattle.ac_cert.specs.declared.types.Step.{Step}
-use Rattle.ac_choices.specs.declared.choose.Choice.{Choice}
+use Rattle.ac_omega_steps.specs.declared.choose.Choice.{Choice}
 use Rattle.ac_claims.specs.Machine.{step_items, choice_items, next_items, row_items, IsSpelled, AreSpelled}
 use Rattle.ac_claims.specs.PlanFaults.{count_of}
 use Rattle.ac_claims.specs.ProofMachine.{items_of, head_items, row_lines, claims_lines, output_lines, tree_lines, lines_of, AreSpelledTrees}
@@ -16,8 +16,8 @@ use Rattle.ac_claims.specs.declared.types.Plan.{Plan}
 use Rattle.ac_claims.specs.declared.types.PlanNext.{PlanNext, Split', Residue', Go', Row_of-Plan, end_of-Plan, more_of-Plan}
 use Rattle.ac_claims.specs.declared.types.PlanNext.TheVariants.{Absurd, Killed, Hit, SameNumber, SameInitial}
 use Rattle.ac_claims.specs.declared.types.Proof.{Proof}
-use Rattle.ac_prooftext.specs.Laws.{AreRising}
-use Rattle.ac_prooftext.specs.Outlines.{Place, next, next_all, start, done, closed, opened, choices_left, claims_left, rows_left, is_above}
+use Rattle.ac_prooftext.specs.CompleteProofs.{AreRising}
+use Rattle.ac_prooftext.specs.LineOrder.{Place, next, next_all, start, done, closed, opened, choices_left, claims_left, rows_left, is_above}
 use Rattle.ac_prooftext.specs.declared.stages.Stage.{Stage}
 use Rattle.ac_prooftext.specs.declared.stages.Stage.TheVariants as stage
 

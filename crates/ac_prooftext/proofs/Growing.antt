@@ -4,11 +4,11 @@ use Rattle.std.specs.Prelude.{option_and_then}
 use Rattle.std.specs.List.{AllByRecursion}
 use Rattle.std.proofs.lemmas.List.{map-append}
 use Rattle.ac_claims.specs.declared.item.Item.{Item}
-use Rattle.ac_proofitems.specs.Spellable.{IsSpellable}
-use Rattle.ac_proofitems.specs.Spelling.{spelled}
-use Rattle.ac_prooftext.specs.Outlines.{Place, next, next_all, start, opens}
-use Rattle.ac_prooftext.specs.Texts.{format_line, lines_in, Begin, deepest, deepest_from, capped}
-use Rattle.ac_prooftext.specs.Lines.{IsBroken, format, item, IsWithin}
+use Rattle.ac_prooftext_lines.specs.Spellable.{IsSpellable}
+use Rattle.ac_prooftext_lines.specs.Spelling.{spelled}
+use Rattle.ac_prooftext.specs.LineOrder.{Place, next, next_all, start, opens}
+use Rattle.ac_prooftext.specs.ProofTexts.{format_line, lines_in, Begin, deepest, deepest_from, capped}
+use Rattle.ac_prooftext.specs.LinePrefixes.{IsBroken, format, item, IsWithin}
 
 pub all_more : (xs : List Item) (x : Item) → AllByRecursion IsSpellable xs → IsSpellable x → AllByRecursion IsSpellable (xs ++ x ∷ [])
 all_more [] x h k = (k, tt)

@@ -18,7 +18,7 @@ use Rattle.ac_claims.specs.declared.types.PlanNext.{PlanNext, Split, Residue, Go
 use Rattle.ac_claims.specs.declared.types.PlanNext.TheBlock.{hidden-the_row-Plan-0}
 use Rattle.ac_claims.specs.declared.types.PlanNext.TheVariants.{Killed}
 use Rattle.ac_claims.proofs.FeedSteps.{at_split, at_residue, at_go, at_kill}
-use Rattle.ac_prooftext.specs.Building.{IsSpelledPlan, Fills, IsNext, Opened, opened_by, opened_of, inner, IsJoined, Closes, Ends, EndsWith, Branches, Copied}
+use Rattle.ac_prooftext.specs.ProofAssembly.{IsSpelledPlan, Fills, IsNext, Opened, opened_by, opened_of, inner, IsJoined, Closes, Ends, EndsWith, Branches, Copied}
 use Rattle.ac_prooftext.specs.declared.forks.Fork.{Fork}
 use Rattle.ac_prooftext.specs.declared.forks.Fork.TheVariants as fork
 use Rattle.ac_prooftext.specs.declared.forks.Joined.TheVariants as joined

@@ -3,15 +3,15 @@ use Rattle.std.proofs.Common.{rules, ◌≡◌, ◌<◌, ◌+◌, ◌^◌, ◌�
 use Rattle.std.specs.List.{AllByRecursion, flat_map}
 use Rattle.std.proofs.lemmas.List.{append-nil}
 use Rattle.ac_claims.specs.declared.item.Item.{Item}
-use Rattle.ac_proofitems.specs.Spellable.{IsSpellable}
-use Rattle.ac_proofitems.specs.Spelling.{spelled}
-use Rattle.ac_proofitems.specs.Words.{IsFree}
-use Rattle.ac_proofitems.proofs.Cuts.{same_cut, uncut}
-use Rattle.ac_proofitems.proofs.Plain.{one_line}
-use Rattle.ac_prooftext.specs.Outlines.{Place, next}
+use Rattle.ac_prooftext_lines.specs.Spellable.{IsSpellable}
+use Rattle.ac_prooftext_lines.specs.Spelling.{spelled}
+use Rattle.ac_prooftext_lines.specs.LineWords.{IsFree}
+use Rattle.ac_prooftext_lines.proofs.Cuts.{same_cut, uncut}
+use Rattle.ac_prooftext_lines.proofs.Plain.{one_line}
+use Rattle.ac_prooftext.specs.LineOrder.{Place, next}
 use Rattle.ac_prooftext.specs.declared.stages.Stage.TheVariants as stage
-use Rattle.ac_prooftext.specs.Texts.{format_line, ended, lines_text, lines_in, text_of, Begin, deepest, capped, IsSpelling, IsTextFault, no_format, no_item, IsNesting}
-use Rattle.ac_prooftext.specs.Lines.{IsBroken, format, item, IsWithin, IsAfter, Took}
+use Rattle.ac_prooftext.specs.ProofTexts.{format_line, ended, lines_text, lines_in, text_of, Begin, deepest, capped, IsSpelling, IsTextFault, no_format, no_item, IsNesting}
+use Rattle.ac_prooftext.specs.LinePrefixes.{IsBroken, format, item, IsWithin, IsAfter, Took}
 use Rattle.ac_prooftext.specs.declared.lines.LineReader.{LineReader}
 use Rattle.ac_prooftext.specs.declared.lines.Reading.{Reading}
 use Rattle.ac_prooftext.specs.declared.lines.Reading.TheVariants.{Unopened, Within, Faulty}

@@ -7,13 +7,13 @@ use Rattle.std.specs.declared.alloc.Global.{Global}
 use Rattle.ac_claims.specs.ProofMachine.{lines_of}
 use Rattle.ac_claims.specs.declared.item.Item.{Item}
 use Rattle.ac_claims.specs.declared.types.Proof.{Proof}
-use Rattle.ac_proofitems.specs.Spellable.{IsSpellable}
-use Rattle.ac_proofitems.specs.Spelling.{spelled}
-use Rattle.ac_proofitems.specs.Words.{IsFree}
-use Rattle.ac_prooftext.specs.Building.{Taken, AreTaken, unread, HasParts, SameProof, IsRead, IsReadingBy, IsReading, IsReadFault}
-use Rattle.ac_prooftext.specs.Laws.{AreRising}
-use Rattle.ac_prooftext.specs.Lines.{IsBroken, IsWithin, IsAfter, Took, Gave}
-use Rattle.ac_prooftext.specs.Texts.{format_line, lines_text, items_text, lines_in, text_of, capped, IsNesting, IsSpelledProof, proof_text}
+use Rattle.ac_prooftext_lines.specs.Spellable.{IsSpellable}
+use Rattle.ac_prooftext_lines.specs.Spelling.{spelled}
+use Rattle.ac_prooftext_lines.specs.LineWords.{IsFree}
+use Rattle.ac_prooftext.specs.ProofAssembly.{Taken, AreTaken, unread, HasParts, SameProof, IsRead, IsReadingBy, IsReading, IsReadFault}
+use Rattle.ac_prooftext.specs.CompleteProofs.{AreRising}
+use Rattle.ac_prooftext.specs.LinePrefixes.{IsBroken, IsWithin, IsAfter, Took, Gave}
+use Rattle.ac_prooftext.specs.ProofTexts.{format_line, lines_text, items_text, lines_in, text_of, capped, IsNesting, IsSpelledProof, proof_text}
 use Rattle.ac_prooftext.specs.declared.lines.LineReader.{LineReader}
 use Rattle.ac_prooftext.specs.declared.lines.Reading.{Reading}
 use Rattle.ac_prooftext.specs.declared.lines.Reading.TheVariants.{Unopened, Within, Faulty}

@@ -6,9 +6,9 @@ use Rattle.std.specs.declared.alloc.Global.{Global}
 use Rattle.ac_forms.specs.Affine.{Affine}
 use Rattle.ac_forms.specs.declared.row.Row.{Row}
 use Rattle.ac_syntax.specs.declared.tree.Position.{Position}
-use Rattle.ac_choices.specs.declared.choose.Choice.{Choice}
+use Rattle.ac_omega_steps.specs.declared.choose.Choice.{Choice}
 use Rattle.ac_cert.specs.declared.types.Step.{Step}
-use Rattle.ac_claims.specs.Feeding.{of_choice}
+use Rattle.ac_claims.specs.CheckFeed.{of_choice}
 use Rattle.ac_claims.specs.Machine.{step_items, choice_items, next_items, row_items, IsSpelled, AreSpelled}
 use Rattle.ac_claims.specs.PlanFaults.{count_of}
 use Rattle.ac_claims.specs.ProofMachine.{items_of, head_items, row_lines, claims_lines, output_lines, tree_lines, lines_of, with_last, AreSpelledTrees}
@@ -23,7 +23,7 @@ use Rattle.ac_claims.specs.declared.types.PlanNext.{PlanNext, Split', Residue', 
 use Rattle.ac_claims.specs.declared.types.PlanNext.TheVariants.{Absurd, Killed, Hit, SameNumber, SameInitial}
 use Rattle.ac_claims.specs.declared.types.Proof.{Proof}
 use Rattle.ac_claims.proofs.ProofFolding.{last_is}
-use Rattle.ac_prooftext.specs.Building.{IsSpelledPlan, Fills, Opened, inner, with_child, IsWhole, Closes, EndsWith, Branches, kill_lines, with_choice, Copied, Chosen, name_of, with_point, with_heads, with_claims, with_outputs, with_name, with_plan, TakenInPlan, AreTaken, unread, HasParts, SameProof}
+use Rattle.ac_prooftext.specs.ProofAssembly.{IsSpelledPlan, Fills, Opened, inner, with_child, IsWhole, Closes, EndsWith, Branches, kill_lines, with_choice, Copied, Chosen, name_of, with_point, with_heads, with_claims, with_outputs, with_name, with_plan, TakenInPlan, AreTaken, unread, HasParts, SameProof}
 use Rattle.ac_prooftext.specs.declared.proof_reader.ProofReader.{ProofReader}
 use Rattle.ac_prooftext.specs.declared.proof_reader.TreeName.{TreeName}
 

@@ -9,9 +9,9 @@ use Rattle.ac_forms.specs.Affine.{Affine}
 use Rattle.ac_forms.specs.Rows.{HaveModuli}
 use Rattle.ac_forms.specs.declared.row.Row.{Row}
 use Rattle.ac_forms.specs.declared.row.Row.TheVariants.{Ge, Eq, Div}
-use Rattle.ac_choices.specs.declared.choose.Choice.{Choice}
+use Rattle.ac_omega_steps.specs.declared.choose.Choice.{Choice}
 use Rattle.ac_cert.specs.declared.types.Step.{Step}
-use Rattle.ac_claims.specs.Feeding.{of_choice, of_row}
+use Rattle.ac_claims.specs.CheckFeed.{of_choice, of_row}
 use Rattle.ac_claims.specs.Machine.{next_items, IsSpelled, AreSpelled}
 use Rattle.ac_claims.specs.PlanFaults.{count_of}
 use Rattle.ac_claims.specs.ProofMachine.{items_of, head_items, row_lines, claims_lines, output_lines, tree_lines, lines_of, AreSpelledTrees}
@@ -28,9 +28,9 @@ use Rattle.ac_claims.specs.declared.types.PlanNext.TheBlock.{hidden-the_row-Plan
 use Rattle.ac_claims.specs.declared.types.PlanNext.TheVariants.{Absurd, Killed, Hit, SameNumber, SameInitial}
 use Rattle.ac_claims.specs.declared.types.Proof.{Proof}
 use Rattle.ac_claims.proofs.FeedSteps.{at_split, at_residue, at_go, at_kill}
-use Rattle.ac_proofitems.specs.Spellable.{IsSpellable, IsSpellableRow}
-use Rattle.ac_prooftext.specs.Laws.{AreRising}
-use Rattle.ac_prooftext.specs.Outlines.{Place, next, next_all, closed, opened, choices_left, claims_left, rows_left, is_above, start, done}
+use Rattle.ac_prooftext_lines.specs.Spellable.{IsSpellable, IsSpellableRow}
+use Rattle.ac_prooftext.specs.CompleteProofs.{AreRising}
+use Rattle.ac_prooftext.specs.LineOrder.{Place, next, next_all, closed, opened, choices_left, claims_left, rows_left, is_above, start, done}
 use Rattle.ac_prooftext.specs.declared.stages.Stage.{Stage}
 use Rattle.ac_prooftext.specs.declared.stages.Stage.TheVariants as stage
 

@@ -7,7 +7,7 @@ use Rattle.std.specs.declared.alloc.Global.{Global}
 use Rattle.ac_syntax.specs.Outputs.{SameOutput}
 use Rattle.ac_syntax.specs.declared.tree.Pair.{Pair}
 use Rattle.ac_poly.specs.declared.types.Model.{Model}
-use Rattle.ac_cert.specs.Faults.{Fault}
+use Rattle.ac_cert.specs.CertificateFaults.{Fault}
 use Rattle.ac_cert.specs.declared.types.Rule.{Rule}
 use Rattle.ac_claims.specs.ProofFaults.{proof_fault}
 use Rattle.ac_claims.specs.Soundness.{ArePaired, AreModels, pairing_of}
@@ -16,12 +16,12 @@ use Rattle.ac_claims.specs.declared.item.Item.{Item}
 use Rattle.ac_claims.specs.declared.types.Proof.{Proof}
 use Rattle.ac_claims.proofs.Driving.{lines_drive_the_proof}
 use Rattle.ac_claims.proofs.Headline.{valid_proofs_name_same_outputs}
-use Rattle.ac_prooftext.specs.Outlines.{Place}
-use Rattle.ac_prooftext.specs.Checks.{IsAnswer}
-use Rattle.ac_prooftext.specs.Texts.{Begin, ended, format_line, lines_text, lines_in, text_of}
-use Rattle.ac_proofitems.specs.Spelling.{spelled}
+use Rattle.ac_prooftext.specs.LineOrder.{Place}
+use Rattle.ac_prooftext.specs.StreamChecks.{IsAnswer}
+use Rattle.ac_prooftext.specs.ProofTexts.{Begin, ended, format_line, lines_text, lines_in, text_of}
+use Rattle.ac_prooftext_lines.specs.Spelling.{spelled}
 use Rattle.ac_prooftext.specs.declared.stages.Stage.TheVariants as stage
-use Rattle.ac_prooftext.specs.Sound.{NamedOutputsAreSame, AcceptedOutputsAreSame}
+use Rattle.ac_prooftext.specs.CheckSoundness.{NamedOutputsAreSame, AcceptedOutputsAreSame}
 use Rattle.ac_prooftext.proofs.Rebuilding.{read_proof, ProofRead}
 
 each_same : (pair : Pair) (os : List (ℕ × ℕ)) → AllByRecursion (λ (o : ℕ × ℕ). SameOutput pair o.0) os → AllByRecursion (SameOutput pair) (map (λ o. o.0) os)

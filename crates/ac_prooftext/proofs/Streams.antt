@@ -2,15 +2,15 @@
 use Rattle.std.proofs.Common.{◌≡◌, ◌<◌, ◌≤◌, ◌⊎◌, inl, inr, ◌++◌, ◌∷◌, [], ℕ, min, List, refl, sym, ap, subst, ◌∙◌, arith, append_assoc}
 use Rattle.std.specs.List.{AllByRecursion}
 use Rattle.std.proofs.lemmas.List.{append-nil}
-use Rattle.ac_paths.specs.Calls.{pairing}
-use Rattle.ac_paths.specs.Going.{Pairing}
-use Rattle.ac_claims.specs.Judging.{state_of, SamePair}
+use Rattle.ac_claims_paths.specs.ModelCalls.{pairing}
+use Rattle.ac_claims_paths.specs.PathSteps.{Pairing}
+use Rattle.ac_claims.specs.CheckState.{state_of, SamePair}
 use Rattle.ac_claims.specs.declared.stepper.Stepper.{Stepper}
-use Rattle.ac_proofitems.specs.Words.{IsFree}
-use Rattle.ac_prooftext.specs.Texts.{ended, lines_text, lines_in, text_of, deepest, capped}
-use Rattle.ac_prooftext.specs.Lines.{IsBroken, format, item, IsWithin}
-use Rattle.ac_prooftext.specs.Checks.{max_depth, IsTooDeep}
-use Rattle.ac_prooftext.specs.Courses.{Checked, IsCourseBy, IsCourse, IsUnderWay, GoesOn}
+use Rattle.ac_prooftext_lines.specs.LineWords.{IsFree}
+use Rattle.ac_prooftext.specs.ProofTexts.{ended, lines_text, lines_in, text_of, deepest, capped}
+use Rattle.ac_prooftext.specs.LinePrefixes.{IsBroken, format, item, IsWithin}
+use Rattle.ac_prooftext.specs.StreamChecks.{max_depth, IsTooDeep}
+use Rattle.ac_prooftext.specs.CheckProgress.{Checked, IsCourseBy, IsCourse, IsUnderWay, GoesOn}
 use Rattle.ac_prooftext.specs.declared.lines.LineReader.{LineReader}
 use Rattle.ac_prooftext.specs.declared.lines.Reading.{Reading}
 use Rattle.ac_prooftext.specs.declared.lines.Reading.TheVariants.{Unopened, Within, Faulty}

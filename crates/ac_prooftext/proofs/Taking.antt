@@ -1,13 +1,13 @@
 -- A reader that takes one more line.
 use Rattle.std.proofs.Common.{◌≡◌, ◌+◌, ℕ, max, Bool, List, [], ◌∷◌, ◌++◌, length, Option, None, Some, refl, sym, ap, subst, ◌∙◌, arith}
 use Rattle.ac_claims.specs.declared.item.Item.{Item}
-use Rattle.ac_proofitems.specs.Spellable.{IsSpellable}
-use Rattle.ac_proofitems.specs.Spelling.{spelled}
-use Rattle.ac_proofitems.specs.Reading.{Reads}
-use Rattle.ac_proofitems.proofs.Injective.{one_item}
-use Rattle.ac_prooftext.specs.Outlines.{Place, next, opens}
-use Rattle.ac_prooftext.specs.Texts.{format_line, capped}
-use Rattle.ac_prooftext.specs.Lines.{IsBroken, IsWithin, IsAfter, Took}
+use Rattle.ac_prooftext_lines.specs.Spellable.{IsSpellable}
+use Rattle.ac_prooftext_lines.specs.Spelling.{spelled}
+use Rattle.ac_prooftext_lines.specs.ItemReaders.{Reads}
+use Rattle.ac_prooftext_lines.proofs.Injective.{one_item}
+use Rattle.ac_prooftext.specs.LineOrder.{Place, next, opens}
+use Rattle.ac_prooftext.specs.ProofTexts.{format_line, capped}
+use Rattle.ac_prooftext.specs.LinePrefixes.{IsBroken, IsWithin, IsAfter, Took}
 use Rattle.ac_prooftext.specs.declared.lines.LineReader.{LineReader}
 use Rattle.ac_prooftext.specs.declared.lines.Reading.{Reading}
 use Rattle.ac_prooftext.specs.declared.lines.Reading.TheVariants.{Unopened, Within, Faulty}

@@ -3,19 +3,19 @@ use Rattle.std.proofs.Common.{◌≡◌, ◌<◌, ◌≤◌, ◌+◌, ◌⊎◌,
 use Rattle.std.specs.Prelude.{option_and_then, is_some}
 use Rattle.std.specs.List.{AllByRecursion}
 use Rattle.std.proofs.lemmas.List.{append-nil}
-use Rattle.ac_paths.specs.Going.{Pairing}
+use Rattle.ac_claims_paths.specs.PathSteps.{Pairing}
 use Rattle.ac_claims.specs.ProofMachine.{lines_of}
 use Rattle.ac_claims.specs.Steppers.{after_all, beginning, answer_of, verdict}
 use Rattle.ac_claims.specs.declared.item.Item.{Item}
 use Rattle.ac_claims.specs.declared.types.Proof.{Proof}
 use Rattle.ac_claims.proofs.Driving.{lines_drive_the_proof}
-use Rattle.ac_proofitems.specs.Spellable.{IsSpellable}
-use Rattle.ac_proofitems.specs.Spelling.{spelled}
-use Rattle.ac_proofitems.proofs.Plain.{one_line}
-use Rattle.ac_proofitems.proofs.Injective.{one_item}
-use Rattle.ac_prooftext.specs.Outlines.{Place, next, next_all, start, opens}
-use Rattle.ac_prooftext.specs.Texts.{format_line, ended, items_text, deepest, deepest_from, IsSpelling, IsTextFault, no_format, no_item, IsSpelledProof, proof_text}
-use Rattle.ac_prooftext.specs.Checks.{max_depth, IsTooDeep, behind}
+use Rattle.ac_prooftext_lines.specs.Spellable.{IsSpellable}
+use Rattle.ac_prooftext_lines.specs.Spelling.{spelled}
+use Rattle.ac_prooftext_lines.proofs.Plain.{one_line}
+use Rattle.ac_prooftext_lines.proofs.Injective.{one_item}
+use Rattle.ac_prooftext.specs.LineOrder.{Place, next, next_all, start, opens}
+use Rattle.ac_prooftext.specs.ProofTexts.{format_line, ended, items_text, deepest, deepest_from, IsSpelling, IsTextFault, no_format, no_item, IsSpelledProof, proof_text}
+use Rattle.ac_prooftext.specs.StreamChecks.{max_depth, IsTooDeep, behind}
 use Rattle.ac_prooftext.specs.CheckLaws.{WrittenProofsAreJudged}
 use Rattle.ac_prooftext.specs.TextLaws.{TextsAreOfOneProof}
 use Rattle.ac_prooftext.specs.declared.types.CheckFault.TheVariants.{TooLong, TooDeep, Refused, Memory}

@@ -6,8 +6,8 @@ use Rattle.std.specs.declared.alloc.Global.{Global}
 use Rattle.std.proofs.lemmas.List.{drop_all}
 use Rattle.ac_forms.specs.Affine.{Affine}
 use Rattle.ac_cert.specs.declared.types.Step.{Step}
-use Rattle.ac_choices.proofs.Parts.{drop-at}
-use Rattle.ac_claims.specs.Feeding.{of_step, of_claim, of_output, of_tree, of_heads}
+use Rattle.ac_omega_steps.proofs.Parts.{drop-at}
+use Rattle.ac_claims.specs.CheckFeed.{of_step, of_claim, of_output, of_tree, of_heads}
 use Rattle.ac_claims.specs.Machine.{next_items}
 use Rattle.ac_claims.specs.ProofMachine.{items_of, lines_of}
 use Rattle.ac_claims.specs.declared.item.Item.{Item}
@@ -18,8 +18,8 @@ use Rattle.ac_claims.specs.declared.types.Plan.{Plan}
 use Rattle.ac_claims.specs.declared.types.PlanNext.{PlanNext, Split}
 use Rattle.ac_claims.specs.declared.types.Proof.{Proof}
 use Rattle.ac_claims.proofs.FeedSteps.{at_split, proof_flat, plan_flat}
-use Rattle.ac_proofitems.specs.Spelling.{spelled}
-use Rattle.ac_prooftext.specs.Texts.{ended, format_line, items_text, proof_text}
+use Rattle.ac_prooftext_lines.specs.Spelling.{spelled}
+use Rattle.ac_prooftext.specs.ProofTexts.{ended, format_line, items_text, proof_text}
 use Rattle.ac_prooftext.specs.Writing.{Adds}
 use Rattle.ac_prooftext.proofs.LineProgress.{Leads}
 

@@ -1,12 +1,12 @@
 -- What holds of the answers on streams.
 use Rattle.std.specs.Prelude.{◌≡◌, ◌<◌, ℕ, List, length, is_some, Result, Ok, Err, Vec}
 use Rattle.std.specs.Global.{Global}
-use Rattle.ac_paths.specs.Going.{Pairing}
+use Rattle.ac_claims_paths.specs.PathSteps.{Pairing}
 use Rattle.ac_claims.specs.ProofMachine.{lines_of}
 use Rattle.ac_claims.specs.Steppers.{answer_of, verdict}
 use Rattle.ac_claims.specs.declared.types.Proof.{Proof}
-use Rattle.ac_prooftext.specs.Texts.{deepest, IsSpelling, IsTextFault, IsSpelledProof, proof_text}
-use Rattle.ac_prooftext.specs.Checks.{max_bytes, max_depth, IsTooDeep, IsAnswer, behind}
+use Rattle.ac_prooftext.specs.ProofTexts.{deepest, IsSpelling, IsTextFault, IsSpelledProof, proof_text}
+use Rattle.ac_prooftext.specs.StreamChecks.{max_bytes, max_depth, IsTooDeep, IsAnswer, behind}
 use Rattle.ac_prooftext.specs.declared.types.CheckFault.{CheckFault}
 use Rattle.ac_prooftext.specs.declared.types.CheckFault.TheVariants.{TooLong, TooDeep, Refused, Memory}
 

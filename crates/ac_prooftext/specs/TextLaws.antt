@@ -2,7 +2,7 @@
 use Rattle.std.specs.Prelude.{◌≡◌, ℕ, List, is_some}
 use Rattle.ac_claims.specs.ProofMachine.{lines_of}
 use Rattle.ac_claims.specs.declared.types.Proof.{Proof}
-use Rattle.ac_prooftext.specs.Texts.{IsSpelling, IsTextFault, IsSpelledProof, proof_text, deepest}
+use Rattle.ac_prooftext.specs.ProofTexts.{IsSpelling, IsTextFault, IsSpelledProof, proof_text, deepest}
 
 -- the text of a spelled proof is a spelling
 abbrev pub ProofsAreSpelled : Type 0

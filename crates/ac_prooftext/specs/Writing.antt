@@ -2,7 +2,7 @@
 use Rattle.std.specs.Prelude.{◌≡◌, ℕ, List, ◌++◌, Vec}
 use Rattle.std.specs.Global.{Global}
 use Rattle.ac_claims.specs.declared.item.Item.{Item}
-use Rattle.ac_prooftext.specs.Texts.{items_text}
+use Rattle.ac_prooftext.specs.ProofTexts.{items_text}
 
 -- the lines of these items were added
 abbrev pub Adds : List Item → Vec ℕ Global → Vec ℕ Global → Type 0

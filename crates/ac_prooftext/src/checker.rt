@@ -1,11 +1,11 @@
 //! The check of a stream of bytes as a proof.
 ghost use Rattle.std.specs.Prelude.{◌≡◌, ◌++◌, ◌∷◌, [], ℕ, List, true, OnOk, OnErr, IsErr, IsTrue, ◌↔◌, ◌<◌, ◌⊎◌};
-ghost use Rattle.ac_paths.specs.Calls.{pairing};
-ghost use Rattle.ac_paths.specs.Going.{Pairing};
-ghost use Rattle.ac_claims.specs.Judging.{state_of, IsSteady, SamePair};
+ghost use Rattle.ac_claims_paths.specs.ModelCalls.{pairing};
+ghost use Rattle.ac_claims_paths.specs.PathSteps.{Pairing};
+ghost use Rattle.ac_claims.specs.CheckState.{state_of, IsSteady, SamePair};
 ghost use Rattle.ac_claims.specs.Soundness.{ArePaired, AreModels, pairing_of};
-ghost use Rattle.ac_prooftext.specs.Checks.{IsAnswer, max_bytes, max_depth};
-ghost use Rattle.ac_prooftext.specs.Courses.{IsCourse, GoesOn, HasVerdict};
+ghost use Rattle.ac_prooftext.specs.StreamChecks.{IsAnswer, max_bytes, max_depth};
+ghost use Rattle.ac_prooftext.specs.CheckProgress.{IsCourse, GoesOn, HasVerdict};
 
 use crate::depths::is_complete;
 use crate::lines::LineReader;
@@ -14,7 +14,7 @@ use ac_cert::types::Rule;
 use ac_claims::stepper::Stepper;
 use ac_claims::types::ProofFault;
 use ac_poly::types::Model;
-use ac_proofitems::cut;
+use ac_prooftext_lines::cut;
 use ac_syntax::tree::Pair;
 use std::alloc::{AllocError, Global};
 
@@ -117,7 +117,7 @@ fn judged(stepper: Stepper<'_>) -> Result<Vec<usize>, CheckFault>
 }
 
 impl<'a> Checker<'a> {
-    ghost use Rattle.ac_prooftext.specs.Courses.{IsFed, IsReady, IsWanting, TellsWant};
+    ghost use Rattle.ac_prooftext.specs.CheckProgress.{IsFed, IsReady, IsWanting, TellsWant};
 
     /// The check of a proof for a pair, before the first byte. The models are those of the pair's programs under its context.
     pub fn new(alloc: Global, pair: &'a Pair, left: &'a Model, right: &'a Model) -> Checker<'a>

@@ -1,14 +1,14 @@
 //! How deep the branches of a proof's text are nested, and where the text ends to be one.
 ghost use Rattle.std.specs.Prelude.{◌≡◌, ◌++◌, [], List, ℕ, IfOk, IsTrue, ◌↔◌};
 ghost use Rattle.std.specs.List.{AllByRecursion};
-ghost use Rattle.ac_proofitems.specs.Words.{IsFree};
-ghost use Rattle.ac_prooftext.specs.Lines.{Took};
-ghost use Rattle.ac_prooftext.specs.Texts.{IsNesting, lines_text};
+ghost use Rattle.ac_prooftext_lines.specs.LineWords.{IsFree};
+ghost use Rattle.ac_prooftext.specs.LinePrefixes.{Took};
+ghost use Rattle.ac_prooftext.specs.ProofTexts.{IsNesting, lines_text};
 
 use crate::lines::{LineReader, Reading};
 use crate::stages::Stage;
 use crate::types::Nesting;
-use ac_proofitems::cut;
+use ac_prooftext_lines::cut;
 use std::alloc::{AllocError, Global};
 
 /// Whether a text is complete of whose last line this is left.

@@ -1,12 +1,12 @@
 //! Branches of plans of which some children are to come.
 ghost use Rattle.std.specs.Prelude.{◌≡◌, ◌∷◌, [], length, IfOk};
 ghost use Rattle.ac_claims.specs.declared.item.Item.TheVariants as item;
-ghost use Rattle.ac_prooftext.specs.Building.{IsNext, IsJoined, opened_of, opened_by};
+ghost use Rattle.ac_prooftext.specs.ProofAssembly.{IsNext, IsJoined, opened_of, opened_by};
 
+use ac_base::Items;
 use ac_cert::types::Step;
 use ac_claims::types::{Plan, PlanNext};
 use ac_forms::Form;
-use ac_items::Items;
 use ac_syntax::tree::Order;
 use std::alloc::{AllocError, Global};
 

@@ -1,7 +1,7 @@
 //! What holds of all proofs and texts: each function here does nothing, and its contract is a fact.
 ghost use Rattle.ac_prooftext.specs.CheckLaws.{AnswersAreVerdicts, DeepTextsStayDeep, DeepSpellingsAreDeep, WrittenProofsAreJudged};
-ghost use Rattle.ac_prooftext.specs.Laws.{TakesProofs};
-ghost use Rattle.ac_prooftext.specs.Sound.{NamedOutputsAreSame, AcceptedOutputsAreSame};
+ghost use Rattle.ac_prooftext.specs.CompleteProofs.{TakesProofs};
+ghost use Rattle.ac_prooftext.specs.CheckSoundness.{NamedOutputsAreSame, AcceptedOutputsAreSame};
 ghost use Rattle.ac_prooftext.specs.TextLaws.{ProofsAreSpelled, SpellingsHaveNoFault, TextsAreOfOneProof};
 
 use std::alloc::Global;

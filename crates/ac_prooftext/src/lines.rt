@@ -1,11 +1,11 @@
 //! The lines of a text, one after the other.
 ghost use Rattle.std.specs.Prelude.{◌≡◌, ◌++◌, ◌∷◌, [], ℕ, List, Bool, IfOk, OnOk, OnErr, MatchOption};
-ghost use Rattle.ac_prooftext.specs.Outlines.{opens};
-ghost use Rattle.ac_prooftext.specs.Texts.{format_line};
+ghost use Rattle.ac_prooftext.specs.LineOrder.{opens};
+ghost use Rattle.ac_prooftext.specs.ProofTexts.{format_line};
 
 use crate::outline::Outline;
 use ac_claims::item::Item;
-use ac_proofitems::read_item;
+use ac_prooftext_lines::read_item;
 use std::alloc::{AllocError, Global};
 
 /// What is known of a text after some of its lines.
@@ -53,7 +53,7 @@ fn format_of(line: &[u8]) -> Option<bool>
 }
 
 impl LineReader {
-    ghost use Rattle.ac_prooftext.specs.Lines.{Took, Gave};
+    ghost use Rattle.ac_prooftext.specs.LinePrefixes.{Took, Gave};
 
     /// Before the first line.
     pub fn new(alloc: Global) -> LineReader

@@ -1,7 +1,7 @@
 //! Which lines of a proof may come next.
 ghost use Rattle.std.specs.Prelude.{◌≡◌, ◌≤◌, ◌<◌, ◌^◌, ◌-◌, ℕ, List, [], reverse, length, Bool, Option, Some, None, true, false, IsTrue, ◌↔◌, IfOk, OnErr, OnOk, if◌then◌else◌};
-ghost use Rattle.ac_prooftext.specs.Outlines as spec;
-ghost use Rattle.ac_prooftext.specs.Outlines.{Place, Takes, next, head_next, plan_next, choice_next, closed, opened, choices_left, start, done};
+ghost use Rattle.ac_prooftext.specs.LineOrder as spec;
+ghost use Rattle.ac_prooftext.specs.LineOrder.{Place, Takes, next, head_next, plan_next, choice_next, closed, opened, choices_left, start, done};
 
 use crate::stages::Stage;
 use ac_claims::item::Item;
@@ -17,7 +17,7 @@ pub struct Outline {
 
 impl Model for Outline {
     ghost use Rattle.std.specs.Prelude.{reverse};
-    ghost use Rattle.ac_prooftext.specs.Outlines.{Place};
+    ghost use Rattle.ac_prooftext.specs.LineOrder.{Place};
 
     ghost Value = { Place };
 

@@ -1,15 +1,15 @@
 //! A plan that is read line by line.
 ghost use Rattle.std.specs.Prelude.{◌≡◌, ◌∷◌, [], None, Some, length, IfOk, suc, unsigned_abs};
 ghost use Rattle.ac_claims.specs.declared.item.Item.TheVariants as item;
-ghost use Rattle.ac_prooftext.specs.Building.{IsNext, Closes, Ends, EndsWith, Branches, Chosen, Copied, TakesItem, inner, opened_by, kill_lines};
+ghost use Rattle.ac_prooftext.specs.ProofAssembly.{IsNext, Closes, Ends, EndsWith, Branches, Chosen, Copied, TakesItem, inner, opened_by, kill_lines};
 
 use crate::forks::{Fork, Joined, OpenBranch, go_next, join, residue_next};
+use ac_base::Items;
 use ac_cert::types::Step;
-use ac_choices::Choice;
 use ac_claims::item::Item;
 use ac_claims::types::{Kill, Plan, PlanNext};
 use ac_forms::Form;
-use ac_items::Items;
+use ac_omega_steps::Choice;
 use ac_syntax::tree::Order;
 use std::alloc::{AllocError, Global};
 use std::mem;

@@ -1,18 +1,18 @@
 //! The lines of plans, added to a text.
 ghost use Rattle.std.specs.Prelude.{◌≡◌, ◌∷◌, [], length, OnOk};
 ghost use Rattle.std.specs.List.{flat_map};
-ghost use Rattle.ac_claims.specs.Feeding.{of_step, of_choice};
+ghost use Rattle.ac_claims.specs.CheckFeed.{of_step, of_choice};
 ghost use Rattle.ac_claims.specs.Machine.{next_items};
 ghost use Rattle.ac_claims.specs.ProofMachine.{items_of};
 ghost use Rattle.ac_claims.specs.declared.item.Item.TheVariants as item;
 ghost use Rattle.ac_prooftext.specs.Writing.{Adds};
 
 use ac_cert::types::Step;
-use ac_choices::Choice;
 use ac_claims::item::Item;
 use ac_claims::types::{Kill, Plan, PlanNext};
 use ac_forms::Form;
-use ac_proofitems::{push_choice, push_item, push_residue, push_split, push_step};
+use ac_omega_steps::Choice;
+use ac_prooftext_lines::{push_choice, push_item, push_residue, push_split, push_step};
 use std::alloc::AllocError;
 
 /// Adds the line of an item.

@@ -1,13 +1,13 @@
 //! A proof that is read line by line.
 ghost use Rattle.std.specs.Prelude.{◌≡◌, ◌∷◌, ◌++◌, [], None, OnOk, IfOk};
 ghost use Rattle.ac_claims.specs.ProofMachine.{with_last};
-ghost use Rattle.ac_prooftext.specs.Building.{Taken, TakenInPlan, HasParts, unread, with_trees};
+ghost use Rattle.ac_prooftext.specs.ProofAssembly.{Taken, TakenInPlan, HasParts, unread, with_trees};
 
 use crate::plan_reader::PlanReader;
+use ac_base::Items;
 use ac_claims::item::Item;
 use ac_claims::types::{Claim, ClaimTree, Heads, Plan, Proof};
 use ac_forms::Row;
-use ac_items::Items;
 use std::alloc::{AllocError, Global};
 use std::mem;
 

@@ -1,7 +1,7 @@
 //! The proof that a text spells.
 ghost use Rattle.std.specs.Prelude.{◌≡◌, ◌++◌, ◌∷◌, [], ℕ, List, OnOk, IfOk, IfErr};
-ghost use Rattle.ac_prooftext.specs.Texts.{IsSpelledProof, proof_text};
-ghost use Rattle.ac_prooftext.specs.Building.{IsReading, IsReadFault, SameProof};
+ghost use Rattle.ac_prooftext.specs.ProofTexts.{IsSpelledProof, proof_text};
+ghost use Rattle.ac_prooftext.specs.ProofAssembly.{IsReading, IsReadFault, SameProof};
 ghost use Rattle.ac_claims.specs.declared.types.Proof.{Proof};
 
 use crate::depths::is_complete;
@@ -9,7 +9,7 @@ use crate::lines::LineReader;
 use crate::proof_reader::ProofReader;
 use crate::types::TextFault;
 use ac_claims::types::Proof;
-use ac_proofitems::cut;
+use ac_prooftext_lines::cut;
 use std::alloc::{AllocError, Global};
 
 /// Takes a line, without its LF.

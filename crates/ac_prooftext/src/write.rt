@@ -1,17 +1,17 @@
 //! The text of a proof.
 ghost use Rattle.std.specs.Prelude.{◌≡◌, ◌∷◌, ◌++◌, [], length, IfOk, OnOk, is_some};
 ghost use Rattle.std.specs.List.{flat_map};
-ghost use Rattle.ac_claims.specs.Feeding.{of_row, of_claim, of_output, of_tree, of_heads};
+ghost use Rattle.ac_claims.specs.CheckFeed.{of_row, of_claim, of_output, of_tree, of_heads};
 ghost use Rattle.ac_claims.specs.ProofMachine.{lines_of};
 ghost use Rattle.ac_claims.specs.declared.item.Item.TheVariants as item;
-ghost use Rattle.ac_prooftext.specs.Texts.{IsSpelledProof, IsSpelling, deepest, ended, format_line, proof_text};
+ghost use Rattle.ac_prooftext.specs.ProofTexts.{IsSpelledProof, IsSpelling, deepest, ended, format_line, proof_text};
 ghost use Rattle.ac_prooftext.specs.Writing.{Adds};
 
 use crate::plan_text::{write_line, write_plan};
 use ac_claims::item::Item;
 use ac_claims::types::{Claim, ClaimTree, Heads, Proof};
 use ac_forms::Row;
-use ac_proofitems::{push_left, push_point, push_right, push_row};
+use ac_prooftext_lines::{push_left, push_point, push_right, push_row};
 use std::alloc::{AllocError, Global};
 
 #[tactic(auto, using(crate::proofs::WriteSteps::line_steps))]

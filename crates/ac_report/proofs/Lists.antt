@@ -4,14 +4,14 @@ use Rattle.std.proofs.lemmas.Fmt.{length-decimal-le}
 use Rattle.std.specs.Prelude.{slice_get}
 use Rattle.std.proofs.lemmas.List.{drop_more}
 use Rattle.ac_forms.specs.declared.conj.Conj.{Conj}
-use Rattle.ac_sets.specs.Texts.{pieces_text}
+use Rattle.ac_sets.specs.SetTexts.{pieces_text}
 use Rattle.ac_syntax.specs.Text.{array_name}
 use Rattle.ac_report.specs.declared.types.Verdict.{Verdict}
 use Rattle.ac_report.specs.Layouts.{Layout, numbered}
 use Rattle.ac_syntax.proofs.TurnEntries.{flat_map_last}
 use Rattle.std.specs.List.{flat_map, range_with_len}
 use Rattle.std.proofs.lemmas.List.FromFn.{map-range_with_len_more}
-use Rattle.ac_report.specs.Texts.{line, value_text, further_values, verdict_lines, report_lines, entry_line, entry_lines}
+use Rattle.ac_report.specs.ReportTexts.{line, value_text, further_values, verdict_lines, report_lines, entry_line, entry_lines}
 use Rattle.ac_report.specs.FlowTexts.{union_line, source_line}
 use Rattle.ac_widen.specs.declared.derivation.Entry.{Entry}
 use Rattle.ac_flow.specs.declared.types.Case.{Case}

@@ -5,13 +5,13 @@ use Rattle.std.specs.List.{flat_map, range_with_len}
 use Rattle.ac_forms.specs.declared.conj.Conj.{Conj}
 use Rattle.ac_syntax.specs.declared.tree.Position.{Position}
 use Rattle.ac_syntax.specs.declared.tree.Position.TheVariants.{Output, Node, InitialOutput, InitialNode}
-use Rattle.ac_sets.specs.Texts.{pieces_text}
-use Rattle.ac_proofitems.specs.Spelling.{position_word}
+use Rattle.ac_sets.specs.SetTexts.{pieces_text}
+use Rattle.ac_prooftext_lines.specs.Spelling.{position_word}
 use Rattle.ac_flow.specs.declared.types.Case.{Case}
 use Rattle.ac_flow.specs.declared.types.ReadFlow.{ReadFlow}
 use Rattle.ac_flow.specs.declared.types.Remainder.{Remainder}
 use Rattle.ac_report.specs.Layouts.{Layout, loops_around, read_name, numbered}
-use Rattle.ac_report.specs.Texts.{line}
+use Rattle.ac_report.specs.ReportTexts.{line}
 
 abbrev pub is_same_source : Option ℕ → Option ℕ → Bool
 is_same_source None None = true

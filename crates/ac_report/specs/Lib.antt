@@ -1,3 +1,3 @@
 pub mod Layouts
-pub mod Texts
+pub mod ReportTexts
 pub mod FlowTexts

@@ -1,15 +1,15 @@
 //! The lines of causes.
 ghost use Rattle.std.specs.Prelude.{◌≡◌, ◌++◌, codes, OnOk};
 ghost use Rattle.std.specs.List.{join_by};
-ghost use Rattle.ac_report.specs.Texts as text;
+ghost use Rattle.ac_report.specs.ReportTexts as text;
 
 use crate::entries::push_all_refuted;
 use crate::layout::Layout;
 use crate::numbers::{push_natural, push_position, push_tuple};
 use crate::types::Cause;
 use crate::unions::push_question;
+use ac_base::Items;
 use ac_forms::Conj;
-use ac_items::Items;
 use ac_syntax::tree::Position;
 use std::alloc::{AllocError, Global};
 

@@ -1,7 +1,7 @@
 //! The lines of refuted orders: the sites, and the derivation of a mismatch.
 ghost use Rattle.std.specs.Prelude.{◌≡◌, ◌++◌, codes, OnOk};
 ghost use Rattle.std.specs.List.{flat_map};
-ghost use Rattle.ac_report.specs.Texts as text;
+ghost use Rattle.ac_report.specs.ReportTexts as text;
 
 use crate::layout::{Layout, width};
 use crate::numbers::{

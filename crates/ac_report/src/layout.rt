@@ -4,7 +4,7 @@ ghost use Rattle.std.specs.List.{flat_map};
 ghost use Rattle.ac_syntax.specs.Text.{array_name};
 ghost use Rattle.ac_report.specs.Layouts.{reads_of, assignments_of, loops_around, dimensions_of, width, name_read, reads_in, read_name};
 
-use ac_items::Items;
+use ac_base::Items;
 use ac_syntax::name::Name;
 use ac_syntax::tree::{Array, Position, Stmt, Value};
 use std::alloc::{AllocError, Global};

@@ -1,6 +1,6 @@
 //! What is said of the outputs of two programs and of the flow of one, and the exact texts of both.
 //!
-//! Each text is a definition in `specs/`: `Texts` has every line of a verdict and of a stop, `FlowTexts` those of a flow. Nothing
+//! Each text is a definition in `specs/`: `ReportTexts` has the lines of verdicts and stops, `FlowTexts` those of a flow. Nothing
 //! is asked of what is printed: a number that a program does not have names nothing and has no coordinates, and where there are
 //! fewer numbers than the text has place for, it shows those.
 #![tactic(auto)]

@@ -3,7 +3,7 @@ ghost use Rattle.std.specs.Prelude.{◌≡◌, ◌++◌, ◌∷◌, [], decimal,
 ghost use Rattle.ac_report.specs.Layouts.{numbered};
 
 use crate::numbers::push_natural;
-use ac_items::Items;
+use ac_base::Items;
 use ac_syntax::name::Name;
 use std::alloc::{AllocError, Global};
 

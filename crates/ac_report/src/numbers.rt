@@ -2,8 +2,8 @@
 ghost use Rattle.std.specs.Prelude.{◌≡◌, ◌++◌, ◌∷◌, [], codes, decimal, take, drop, OnOk};
 ghost use Rattle.std.specs.List.{flat_map, join_by};
 ghost use Rattle.std.specs.Fmt.{signed_decimal};
-ghost use Rattle.ac_proofitems.specs.Spelling.{dotted_word, position_word, order_word};
-ghost use Rattle.ac_report.specs.Texts as text;
+ghost use Rattle.ac_prooftext_lines.specs.Spelling.{dotted_word, position_word, order_word};
+ghost use Rattle.ac_report.specs.ReportTexts as text;
 
 use ac_syntax::tree::{Order, Position};
 use itoa::Buffer;

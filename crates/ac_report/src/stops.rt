@@ -1,7 +1,7 @@
 //! The texts of a flow that stops, and of a context without a valuation.
 ghost use Rattle.std.specs.Prelude.{◌≡◌, Some, IfOk};
 ghost use Rattle.ac_flow.specs.declared.types.FlowStop.TheVariants as flow;
-ghost use Rattle.ac_report.specs.Texts as text;
+ghost use Rattle.ac_report.specs.ReportTexts as text;
 
 use crate::causes::{push_cost_line, push_pieces_line, push_question_line};
 use ac_flow::types::{ContextStop, FlowStop};

@@ -1,5 +1,5 @@
+use ac_base::Items;
 use ac_forms::Conj;
-use ac_items::Items;
 use ac_match::Refuted;
 use ac_syntax::tree::Position;
 use ac_widen::Entry;

@@ -1,11 +1,11 @@
 //! Unions and questions in the texts.
 ghost use Rattle.std.specs.Prelude.{◌≡◌, ◌++◌, ◌∷◌, [], OnOk, IfOk};
-ghost use Rattle.ac_sets.specs.Texts.{rows_text, pieces_text};
-ghost use Rattle.ac_report.specs.Texts as text;
+ghost use Rattle.ac_sets.specs.SetTexts.{rows_text, pieces_text};
+ghost use Rattle.ac_report.specs.ReportTexts as text;
 
 use crate::names::with_numbered;
+use ac_base::Items;
 use ac_forms::Conj;
-use ac_items::Items;
 use ac_sets::{Union, set_text};
 use ac_syntax::name::Name;
 use std::alloc::{AllocError, Global};

@@ -3,7 +3,7 @@ ghost use Rattle.std.specs.Prelude.{◌≡◌, ◌++◌, codes, slice_get, OnOk,
 ghost use Rattle.std.specs.List.{flat_map};
 ghost use Rattle.ac_syntax.specs.Text.{array_name};
 ghost use Rattle.ac_report.specs.Layouts.{layout_of};
-ghost use Rattle.ac_report.specs.Texts as text;
+ghost use Rattle.ac_report.specs.ReportTexts as text;
 
 use crate::causes::{cause_words, push_cause_lines};
 use crate::layout::{Layout, array_name, assignments_of};

@@ -5,19 +5,19 @@ use Rattle.std.proofs.Math.Seq.{take-length}
 use Rattle.ac_forms.specs.Affine.{Affine, shifted}
 use Rattle.ac_forms.specs.Negation.{opposite, with_column, NegationFits}
 use Rattle.ac_forms.specs.Rows.{IsRowOver, AreRowsOver}
-use Rattle.ac_forms.specs.Stops.{MadeWhere}
+use Rattle.ac_forms.specs.FormStops.{MadeWhere}
 use Rattle.ac_forms.specs.declared.stop.FormStop.{FormStop}
 use Rattle.ac_forms.specs.declared.stop.FormStop.TheVariants.{Wide, Memory}
 use Rattle.ac_forms.specs.declared.conj.Conj.{Conj}
 use Rattle.ac_forms.specs.declared.row.Row.{Row}
 use Rattle.ac_forms.specs.declared.row.Row.TheVariants.{Eq, Div, Ge}
-use Rattle.ac_cert.specs.Accepted.{Accepts}
-use Rattle.ac_cert.specs.Faults.{Refusal}
+use Rattle.ac_cert.specs.AcceptedTrees.{Accepts}
+use Rattle.ac_cert.specs.CertificateFaults.{Refusal}
 use Rattle.ac_cert.specs.Rules.{with_row}
 use Rattle.ac_cert.specs.declared.types.Tree.{Tree}
-use Rattle.ac_sets.specs.Differences.{NegationsFit}
-use Rattle.ac_cert.specs.Branches.{with_floor, behind}
-use Rattle.ac_sets.specs.Paths.{piece_count, SidesStand, EndsStand, LeadsOn, Leads}
+use Rattle.ac_sets.specs.SetDifferences.{NegationsFit}
+use Rattle.ac_cert.specs.RowBranches.{with_floor, behind}
+use Rattle.ac_sets.specs.DifferencePaths.{piece_count, SidesStand, EndsStand, LeadsOn, Leads}
 use Rattle.ac_sets.specs.declared.parts.Part.{Part}
 use Rattle.ac_sets.specs.declared.parts.Part.TheVariants.{Piece, Inside}
 use Rattle.ac_sets.proofs.Commons.{Over-more}

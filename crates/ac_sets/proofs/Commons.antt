@@ -5,7 +5,7 @@ use Rattle.std.specs.List.{flat_map, range_with_len}
 use Rattle.std.proofs.lemmas.List.{length-append, length-replicate, length-take-le, length-drop, take-append-drop}
 use Rattle.ac_forms.specs.Affine.{Affine, value_at}
 use Rattle.ac_forms.specs.Negation.{HasExtension}
-use Rattle.ac_forms.specs.Pieces.{IsInSome}
+use Rattle.ac_forms.specs.PieceMembership.{IsInSome}
 use Rattle.ac_forms.specs.Renaming.{renamed_row, AreColumns}
 use Rattle.ac_forms.specs.Rows.{form_of, Holds, Meets, HasModulus, IsRowOver, AreRowsOver, IsWellMade}
 use Rattle.ac_forms.specs.declared.conj.Conj.{Conj}
@@ -14,9 +14,9 @@ use Rattle.ac_forms.specs.declared.row.Row.TheVariants.{Eq, Div, Ge}
 use Rattle.ac_forms.proofs.Passes.{moduli_of}
 use Rattle.ac_forms.proofs.Renamings.{rows-over}
 use Rattle.ac_forms.proofs.Values.{value_at-append}
-use Rattle.ac_choices.specs.Points.{IsPoint}
-use Rattle.ac_choices.proofs.Keeping.{Meets-append}
-use Rattle.ac_sets.specs.Moves.{quotients_from, common, common_pieces}
+use Rattle.ac_omega_steps.specs.IntegerPoints.{IsPoint}
+use Rattle.ac_omega_steps.proofs.Keeping.{Meets-append}
+use Rattle.ac_sets.specs.SetIntersections.{quotients_from, common, common_pieces}
 use Rattle.ac_sets.specs.MoveLaws.{moved-meets}
 use Rattle.ac_sets.specs.Unions.{ArePieces, IsUnion, AreFixed, IsFixed}
 use Rattle.ac_sets.specs.Unions as unions

@@ -5,9 +5,9 @@ use Rattle.ac_forms.specs.Renaming.{renamed_row, IsApartFrom, AreDistinct}
 use Rattle.ac_forms.specs.declared.conj.Conj.{Conj}
 use Rattle.ac_forms.specs.declared.row.Row.{Row}
 use Rattle.ac_forms.specs.Standing.{is_among}
-use Rattle.ac_items.proofs.Truths.{true-nat_le}
-use Rattle.ac_sets.specs.Ends.{stands}
-use Rattle.ac_sets.specs.Moves.{quotients_from, common}
+use Rattle.ac_base.proofs.Truths.{true-nat_le}
+use Rattle.ac_sets.specs.DifferenceEnds.{stands}
+use Rattle.ac_sets.specs.SetIntersections.{quotients_from, common}
 
 apart-range : (j first count : ℕ) → j < first → IsApartFrom j (range_with_len first count)
 apart-range j first zero h = tt

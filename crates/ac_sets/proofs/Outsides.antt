@@ -3,23 +3,23 @@ use Rattle.std.proofs.Common.{◌≡◌, ◌↔◌, ◌⊎◌, inl, inr, ℕ, ze
 use Rattle.std.specs.Prelude.{unsigned_abs}
 use Rattle.std.proofs.lemmas.Int.{ints, by_lt_z}
 use Rattle.std.proofs.lemmas.List.{drop_more, length-append, length-map}
-use Rattle.ac_integers.specs.Multiple.{divides, IsMultiple}
-use Rattle.ac_integers.proofs.Divisors.{divides-true, divides-false}
-use Rattle.ac_integers.proofs.Floor.{positive_is}
-use Rattle.ac_integers.proofs.Products.{mul-le-mul_ℤ, mul-add_ℤ, neg-mul_ℤ}
+use Rattle.ac_base.specs.Multiple.{divides, IsMultiple}
+use Rattle.ac_base.proofs.Divisors.{divides-true, divides-false}
+use Rattle.ac_base.proofs.Floor.{positive_is}
+use Rattle.ac_base.proofs.Products.{mul-le-mul_ℤ, mul-add_ℤ, neg-mul_ℤ}
 use Rattle.ac_forms.specs.Affine.{Affine, value_at, shifted}
 use Rattle.ac_forms.specs.Negation.{negation, NegationFits, opposite, above, below, with_column, piece, HasExtension}
-use Rattle.ac_forms.specs.Pieces.{IsInSome, IsInNone, IsInOneAtMost}
+use Rattle.ac_forms.specs.PieceMembership.{IsInSome, IsInNone, IsInOneAtMost}
 use Rattle.ac_forms.specs.Rows.{Holds, Meets, HasModulus, IsRowOver, AreRowsOver, IsWellMade}
 use Rattle.ac_forms.specs.declared.conj.Conj.{Conj}
 use Rattle.ac_forms.specs.declared.row.Row.{Row}
 use Rattle.ac_forms.specs.declared.row.Row.TheVariants.{Eq, Div, Ge}
 use Rattle.ac_forms.proofs.Negations.{complement, apart, length-with_column, value-with_column}
 use Rattle.ac_forms.proofs.Values.{value_at-scaled, value_at-shifted}
-use Rattle.ac_choices.specs.Points.{IsPoint}
+use Rattle.ac_omega_steps.specs.IntegerPoints.{IsPoint}
 use Rattle.ac_cert.specs.Rules.{with_row}
-use Rattle.ac_choices.proofs.Keeping.{Meets-append, Meets-push, made-push}
-use Rattle.ac_sets.specs.Differences.{further, outside, NegationsFit}
+use Rattle.ac_omega_steps.proofs.Keeping.{Meets-append, Meets-push, made-push}
+use Rattle.ac_sets.specs.SetDifferences.{further, outside, NegationsFit}
 use Rattle.ac_sets.specs.Unions.{ArePieces, IsFixed, AreFixed}
 use Rattle.ac_sets.proofs.Commons.{Meets-front, Meets-back, Meets-both, Meets-cut, Over-both, Over-more, Pieces-both, Fixed-both}
 use Rattle.ac_forms.proofs.InPieces.{some-append, none-of}

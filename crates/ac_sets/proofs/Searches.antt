@@ -2,7 +2,7 @@
 use Rattle.std.proofs.Common.{◌≡◌, ◌⊎◌, inl, inr, ℕ, zero, suc, ◌+◌, ◌-◌, ◌<◌, ◌≤◌, ℤ, List, [], ◌∷◌, ◌++◌, length, take, drop, drop_of_length-le, get_or, refl, sym, ap, ◌∙◌, subst, arith, min}
 use Rattle.std.proofs.lemmas.List.{drop_more, length-append, length-take-le, take-append-drop, take-take}
 use Rattle.ac_forms.specs.Negation.{HasExtension}
-use Rattle.ac_forms.specs.Pieces.{IsInSome}
+use Rattle.ac_forms.specs.PieceMembership.{IsInSome}
 use Rattle.ac_forms.specs.Rows.{IsWellMade, Meets, CanTest}
 use Rattle.ac_forms.specs.declared.conj.Conj.{Conj}
 use Rattle.ac_sets.specs.Unions.{ArePieces, AreWithin, IsUnion, Holds, IsMet, CanSearch}

@@ -8,7 +8,7 @@ use Rattle.std.proofs.lemmas.List.Folds.{list_all-append}
 use Rattle.std.proofs.Math.Seq.{take-append_seam, drop-append_seam}
 use Rattle.ac_forms.specs.Affine.{Affine, shifted}
 use Rattle.ac_forms.specs.Negation.{opposite, above, below, with_column, piece, negation}
-use Rattle.ac_forms.specs.Orders.{row_eq}
+use Rattle.ac_forms.specs.FormOrder.{row_eq}
 use Rattle.ac_forms.specs.Renaming.{add_at, renamed_coefs, renamed, renamed_row}
 use Rattle.ac_forms.specs.Rows.{form_of, IsRowOver, AreRowsOver, IsWellMade}
 use Rattle.ac_forms.specs.Ties.{row_equiv}
@@ -18,14 +18,14 @@ use Rattle.ac_forms.specs.declared.row.Row.TheVariants.{Eq, Div, Ge}
 use Rattle.ac_forms.proofs.Joining.{both_of, either_of}
 use Rattle.ac_cert.specs.Rules.{with_row, with_column_row}
 use Rattle.ac_cert.specs.declared.types.Rule.{Rule}
-use Rattle.ac_choices.proofs.Keeping.{made-push}
-use Rattle.ac_items.proofs.Truths.{true-nat_le}
-use Rattle.ac_sets.specs.Differences.{further, outside}
-use Rattle.ac_sets.specs.Ends.{stands, is_standing, conj_of, part_refusal}
+use Rattle.ac_omega_steps.proofs.Keeping.{made-push}
+use Rattle.ac_base.proofs.Truths.{true-nat_le}
+use Rattle.ac_sets.specs.SetDifferences.{further, outside}
+use Rattle.ac_sets.specs.DifferenceEnds.{stands, is_standing, conj_of, part_refusal}
 use Rattle.ac_forms.specs.Standing.{is_among}
-use Rattle.ac_sets.specs.Moves.{quotients_from}
-use Rattle.ac_cert.specs.Branches.{with_floor, behind}
-use Rattle.ac_sets.specs.Paths.{piece_count, SidesStand, EndsStand}
+use Rattle.ac_sets.specs.SetIntersections.{quotients_from}
+use Rattle.ac_cert.specs.RowBranches.{with_floor, behind}
+use Rattle.ac_sets.specs.DifferencePaths.{piece_count, SidesStand, EndsStand}
 use Rattle.ac_sets.specs.declared.parts.Part.{Part}
 use Rattle.ac_sets.specs.declared.parts.Part.TheVariants.{Piece, Inside}
 use Rattle.ac_sets.specs.declared.parts.Parts.{Parts}

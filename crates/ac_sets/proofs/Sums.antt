@@ -5,8 +5,8 @@ use Rattle.std.specs.List.{flat_map}
 use Rattle.std.specs.Fmt.{decimal}
 use Rattle.std.proofs.lemmas.List.{append-nil, drop_more}
 use Rattle.ac_forms.specs.Affine.{Affine}
-use Rattle.ac_sets.specs.Texts.{Term, column_name, multiple_text, term_of, terms_from, first_text, further_text, sum_text, form_text}
-use Rattle.ac_sets.specs.Printing.{next_text, continued, has_terms}
+use Rattle.ac_sets.specs.SetTexts.{Term, column_name, multiple_text, term_of, terms_from, first_text, further_text, sum_text, form_text}
+use Rattle.ac_sets.specs.SumTexts.{next_text, continued, has_terms}
 
 still : (ts : List Term) → has_terms true ts ≡ true
 still [] = refl

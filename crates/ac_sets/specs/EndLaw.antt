@@ -5,7 +5,7 @@ use Rattle.std.specs.List.{list_any, list_all}
 use Rattle.std.specs.Ordering.{int_eq}
 use Rattle.std.proofs.lemmas.Int.{ints}
 use Rattle.std.proofs.lemmas.List.{length-append, length-take-le, length-drop, take-append-drop}
-use Rattle.ac_forms.specs.Orders.{row_eq, form_eq}
+use Rattle.ac_forms.specs.FormOrder.{row_eq, form_eq}
 use Rattle.ac_forms.specs.Rows.{Holds, Meets}
 use Rattle.ac_forms.specs.Affine.{Affine}
 use Rattle.ac_forms.specs.declared.conj.Conj.{Conj}
@@ -13,13 +13,13 @@ use Rattle.ac_forms.specs.declared.row.Row.{Row}
 use Rattle.ac_forms.specs.declared.row.Row.TheVariants.{Eq, Div, Ge}
 use Rattle.ac_forms.proofs.Joining.{lists_same, both_of, either_of}
 use Rattle.ac_forms.proofs.Standings.{among-holds}
-use Rattle.ac_choices.specs.Points.{IsPoint}
+use Rattle.ac_omega_steps.specs.IntegerPoints.{IsPoint}
 use Rattle.ac_cert.specs.declared.types.Rule.{Rule}
 use Rattle.ac_cert.specs.declared.types.Rule.TheVariants as rule
-use Rattle.ac_sets.specs.Ends.{conj_of, stands, is_standing, part_refusal, ExtendsSome, IsInPart}
+use Rattle.ac_sets.specs.DifferenceEnds.{conj_of, stands, is_standing, part_refusal, ExtendsSome, IsInPart}
 use Rattle.ac_forms.specs.Renaming.{renamed_row}
 use Rattle.ac_forms.specs.Standing.{is_among}
-use Rattle.ac_sets.specs.Moves.{quotients_from}
+use Rattle.ac_sets.specs.SetIntersections.{quotients_from}
 use Rattle.ac_sets.specs.MoveLaws.{moved-holds}
 use Rattle.ac_sets.specs.declared.parts.Part.{Part}
 use Rattle.ac_sets.specs.declared.parts.Parts.{Parts}

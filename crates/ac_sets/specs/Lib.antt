@@ -1,9 +1,9 @@
 pub mod Unions
-pub mod Moves
+pub mod SetIntersections
 pub mod MoveLaws
-pub mod Differences
-pub mod Ends
+pub mod SetDifferences
+pub mod DifferenceEnds
 pub mod EndLaw
-pub mod Paths
-pub mod Texts
-pub mod Printing
+pub mod DifferencePaths
+pub mod SetTexts
+pub mod SumTexts

@@ -6,7 +6,7 @@ use Rattle.ac_forms.specs.Renaming.{renamed_row, picked}
 use Rattle.ac_forms.specs.Rows.{Holds, Meets}
 use Rattle.ac_forms.specs.declared.row.Row.{Row}
 use Rattle.ac_forms.proofs.Renamings.{holds-renamed, meets-renamed}
-use Rattle.ac_sets.specs.Moves.{quotients_from}
+use Rattle.ac_sets.specs.SetIntersections.{quotients_from}
 
 -- the numbers of a block of columns
 at-seam : (xs zs : List ℤ) (y : ℤ) (k : ℕ) → length xs ≡ k → get_or (xs ++ y ∷ zs) k (pos 0) ≡ y

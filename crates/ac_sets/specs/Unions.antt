@@ -2,10 +2,10 @@
 use Rattle.std.specs.Prelude.{◌≡◌, ℕ, ◌≤◌, ℤ, List, [], ◌∷◌, ◌++◌, length, take}
 use Rattle.ac_forms.specs.Rows.{IsWellMade, Meets, CanTest}
 use Rattle.ac_forms.specs.declared.conj.Conj.{Conj}
-use Rattle.ac_choices.specs.Points.{IsPoint}
+use Rattle.ac_omega_steps.specs.IntegerPoints.{IsPoint}
 use Rattle.ac_sets.specs.declared.unions.Union.{Union}
 use Rattle.ac_forms.specs.Negation.{HasExtension}
-use Rattle.ac_forms.specs.Pieces.{IsInSome}
+use Rattle.ac_forms.specs.PieceMembership.{IsInSome}
 
 -- each conjunction is well made and has these columns
 abbrev pub ArePieces : ℕ → List Conj → Type 0

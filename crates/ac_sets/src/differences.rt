@@ -1,21 +1,21 @@
 //! The difference of two conjunctions.
 ghost use Rattle.std.specs.Prelude.{◌≡◌, ◌↔◌, ◌++◌, map, ℕ, ℤ, List, length, OnOk, IfOk};
 ghost use Rattle.ac_forms.specs.Negation.{negation, NegationFits, HasExtension};
-ghost use Rattle.ac_forms.specs.Pieces.{IsInSome, IsInOneAtMost};
+ghost use Rattle.ac_forms.specs.PieceMembership.{IsInSome, IsInOneAtMost};
 ghost use Rattle.ac_forms.specs.Rows.{IsWellMade, AreRowsOver, IsRowOver, Meets};
-ghost use Rattle.ac_forms.specs.Stops.{MadeWhere};
-ghost use Rattle.ac_cert.specs.Accepted.{Accepts};
+ghost use Rattle.ac_forms.specs.FormStops.{MadeWhere};
+ghost use Rattle.ac_cert.specs.AcceptedTrees.{Accepts};
 ghost use Rattle.ac_cert.specs.Cover.{IsCovered};
-ghost use Rattle.ac_choices.specs.Points.{IsPoint};
-ghost use Rattle.ac_sets.specs.Differences.{further, outside, NegationsFit};
-ghost use Rattle.ac_sets.specs.Ends.{part_refusal, IsInPart};
+ghost use Rattle.ac_omega_steps.specs.IntegerPoints.{IsPoint};
+ghost use Rattle.ac_sets.specs.SetDifferences.{further, outside, NegationsFit};
+ghost use Rattle.ac_sets.specs.DifferenceEnds.{part_refusal, IsInPart};
 ghost use Rattle.ac_sets.specs.Unions.{ArePieces, AreFixed};
 
 use crate::parts::Part;
 use crate::trees::tree_from;
+use ac_base::Items;
 use ac_cert::Tree;
 use ac_forms::{Conj, FormStop, Row};
-use ac_items::Items;
 use std::alloc::{AllocError, Global};
 
 /// The points of one conjunction outside another.

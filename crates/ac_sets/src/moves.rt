@@ -2,11 +2,11 @@
 ghost use Rattle.std.specs.Prelude.{◌≡◌, ◌≤◌, ◌<◌, ◌+◌, ◌-◌, ◌^◌, ◌++◌, map, IfOk, OnOk};
 ghost use Rattle.std.specs.List.{range_with_len};
 ghost use Rattle.ac_forms.specs.Renaming.{renamed_row, AreDistinct};
-ghost use Rattle.ac_sets.specs.Moves.{quotients_from, common};
+ghost use Rattle.ac_sets.specs.SetIntersections.{quotients_from, common};
 
+use ac_base::Items;
 use ac_forms::laws::renaming_to_distinct_columns;
 use ac_forms::{Conj, FormStop, Row, push_range};
-use ac_items::Items;
 use std::alloc::{AllocError, Global};
 
 /// Where columns go: the visible ones stay, and those behind them, the quotients, stand from one column up to another.

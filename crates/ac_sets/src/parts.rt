@@ -4,12 +4,12 @@ ghost use Rattle.std.specs.Option.{option_copied};
 ghost use Rattle.std.specs.List.{list_all};
 ghost use Rattle.ac_forms.specs.Renaming.{renamed_row, AreDistinct};
 ghost use Rattle.ac_forms.specs.Standing.{is_among};
-ghost use Rattle.ac_sets.specs.Ends.{conj_of, stands, part_refusal, IsInPart};
+ghost use Rattle.ac_sets.specs.DifferenceEnds.{conj_of, stands, part_refusal, IsInPart};
 
 use crate::moves::{moved_row, quotients_from};
+use ac_base::Items;
 use ac_cert::{End, EndStop, Rule};
 use ac_forms::{Conj, Row, is_among};
-use ac_items::Items;
 use std::alloc::{AllocError, Global};
 
 /// An end of the tree of a difference.
@@ -83,7 +83,7 @@ impl End for Part {
     ghost use Rattle.std.specs.Prelude.{◌≡◌, ◌≤◌, List, Option};
     ghost use Rattle.ac_sets.specs.declared.parts.Part.{Part};
     ghost use Rattle.ac_sets.specs.declared.parts.Parts.{Parts};
-    ghost use Rattle.ac_sets.specs.Ends.{part_refusal, IsInPart};
+    ghost use Rattle.ac_sets.specs.DifferenceEnds.{part_refusal, IsInPart};
     ghost use Rattle.ac_sets.specs.EndLaw.{part_sound};
 
     ghost means = { λ e env p. IsInPart env e p };

@@ -1,8 +1,8 @@
 //! The texts of unions.
 ghost use Rattle.std.specs.Prelude.{◌≡◌, ◌++◌, ◌∷◌, [], ◌+◌, pos, codes, decimal, length, unsigned_abs, false, IfOk, OnOk, if◌then◌else◌};
 ghost use Rattle.std.specs.Fmt.{signed_decimal};
-ghost use Rattle.ac_sets.specs.Texts.{column_name, multiple_text, term_of, terms_from, form_text, row_text, rows_text, pieces_text};
-ghost use Rattle.ac_sets.specs.Printing.{continued, has_terms};
+ghost use Rattle.ac_sets.specs.SetTexts.{column_name, multiple_text, term_of, terms_from, form_text, row_text, rows_text, pieces_text};
+ghost use Rattle.ac_sets.specs.SumTexts.{continued, has_terms};
 
 use crate::unions::Union;
 use ac_forms::{Conj, Form, Row};

@@ -2,13 +2,13 @@
 ghost use Rattle.std.specs.Prelude.{◌≡◌, ℕ, ◌+◌, ◌≤◌, length, None, IfOk};
 ghost use Rattle.ac_forms.specs.Negation.{NegationFits};
 ghost use Rattle.ac_forms.specs.Rows.{IsRowOver, AreRowsOver};
-ghost use Rattle.ac_forms.specs.Stops.{MadeWhere};
+ghost use Rattle.ac_forms.specs.FormStops.{MadeWhere};
 ghost use Rattle.ac_forms.specs.declared.conj.Conj.{Conj};
 ghost use Rattle.ac_forms.specs.declared.row.Row.TheVariants.{Eq, Div, Ge};
-ghost use Rattle.ac_cert.specs.Accepted.{Accepts};
-ghost use Rattle.ac_cert.specs.Faults.{Refusal};
-ghost use Rattle.ac_sets.specs.Differences.{NegationsFit};
-ghost use Rattle.ac_sets.specs.Paths.{LeadsOn, Leads};
+ghost use Rattle.ac_cert.specs.AcceptedTrees.{Accepts};
+ghost use Rattle.ac_cert.specs.CertificateFaults.{Refusal};
+ghost use Rattle.ac_sets.specs.SetDifferences.{NegationsFit};
+ghost use Rattle.ac_sets.specs.DifferencePaths.{LeadsOn, Leads};
 ghost use Rattle.ac_sets.specs.declared.parts.Part.{Part};
 ghost use Rattle.ac_sets.specs.declared.parts.Part.TheVariants.{Piece};
 

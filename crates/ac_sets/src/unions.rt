@@ -1,13 +1,13 @@
 //! Unions of conjunctions.
 ghost use Rattle.std.specs.Prelude.{◌≡◌, ◌↔◌, ◌≤◌, ℤ, List, ◌++◌, take, map, length, IfOk, OnOk, IsTrue, MatchResult};
 ghost use Rattle.ac_forms.specs.Rows.{IsWellMade};
-ghost use Rattle.ac_sets.specs.Moves.{common, common_pieces};
+ghost use Rattle.ac_sets.specs.SetIntersections.{common, common_pieces};
 ghost use Rattle.ac_sets.specs.Unions.{IsUnion, ArePieces, AreFixed, AreWithin, Holds, CanSearch, IsMet};
-ghost use Rattle.ac_forms.specs.Pieces.{IsInSome};
+ghost use Rattle.ac_forms.specs.PieceMembership.{IsInSome};
 
 use crate::moves::common;
+use ac_base::Items;
 use ac_forms::{Conj, Wide};
-use ac_items::Items;
 use std::alloc::{AllocError, Global};
 
 /// A union of conjunctions over visible columns. The columns of a piece from `visible` on are its quotients, which its

@@ -2,10 +2,10 @@
 use Rattle.std.proofs.Common.{◌≡◌, ℕ, suc, ◌+◌, ◌*◌, ◌≤◌, false, refl, arith, List, [], ◌∷◌, ◌++◌, length, ℤ, pos, negsuc, ◌+ℤ◌, ◌*ℤ◌, ◌≤ℤ◌, ◌<ℤ◌, unsigned_abs}
 use Rattle.std.proofs.lemmas.Int.{ints}
 use Rattle.std.proofs.Math.IntN.{negsuc-*ℤ-pos, *ℤ-zero}
-use Rattle.ac_integers.specs.Dot.{dot}
+use Rattle.ac_base.specs.Dot.{dot}
 use Rattle.ac_syntax.specs.Index.{Point, index_value, is_nonnegative}
 use Rattle.ac_syntax.specs.Turns.{innermost, inside, iterator_at}
-use Rattle.ac_integers.proofs.Products.{mul-add_ℤ, mul_assoc_ℤ}
+use Rattle.ac_base.proofs.Products.{mul-add_ℤ, mul_assoc_ℤ}
 use Rattle.ac_syntax.specs.declared.tree.IndexExpr.{IndexExpr}
 
 -- one iterator more adds its product

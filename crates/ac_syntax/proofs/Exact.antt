@@ -2,8 +2,8 @@
 use Rattle.std.proofs.Common.{◌≡◌, List, [], ◌∷◌, true, false, cond, refl, Option, Some, None, ℤ, ◌+ℤ◌, ◌*ℤ◌, arith, IfSome}
 use Rattle.std.specs.Prelude.{option_and_then}
 use Rattle.std.proofs.lemmas.Int.{ints}
-use Rattle.ac_syntax.specs.Checked.{checked, summed, checked_value, fits_128}
-use Rattle.ac_integers.specs.Dot.{dot}
+use Rattle.ac_syntax.specs.CheckedArithmetic.{checked, summed, checked_value, fits_128}
+use Rattle.ac_base.specs.Dot.{dot}
 use Rattle.ac_syntax.specs.Index.{Point, index_value}
 use Rattle.ac_syntax.specs.declared.tree.IndexExpr.{IndexExpr}
 

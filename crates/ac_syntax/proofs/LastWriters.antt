@@ -6,7 +6,7 @@ use Rattle.ac_syntax.specs.Index.{Point, point}
 use Rattle.ac_syntax.specs.Trace.{Entry, trace_all, trace_of}
 use Rattle.ac_syntax.specs.Algebra.{Cell, same_cell, target}
 use Rattle.ac_syntax.specs.Source.{Writer, Stands, source}
-use Rattle.ac_syntax.specs.Before.{IsBefore}
+use Rattle.ac_syntax.specs.ExecutionOrder.{IsBefore}
 use Rattle.ac_syntax.specs.LawsOfSources.{Writes, IsLast}
 use Rattle.ac_syntax.specs.declared.tree.Stmt.{Stmt}
 use Rattle.ac_syntax.proofs.Cells.{same_cell_is, same_cell_refl}

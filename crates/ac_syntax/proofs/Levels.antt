@@ -1,5 +1,5 @@
 use Rattle.std.proofs.Common.{ℕ, zero, suc, ◌≤◌, List, [], ◌∷◌, arith, inl, inr, ℤ}
-use Rattle.ac_syntax.specs.Before.{Before}
+use Rattle.ac_syntax.specs.ExecutionOrder.{Before}
 use Rattle.ac_syntax.proofs.OrderLevels.{AtLevel}
 
 pub before_level : (c i j : ℕ) (x y : List ℤ) → Before c i j x y → (l : ℕ) × (l ≤ c) × AtLevel c l i j x y

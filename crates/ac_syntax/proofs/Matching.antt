@@ -2,7 +2,7 @@
 use Rattle.std.proofs.Common.{Bool}
 use Rattle.ac_syntax.specs.declared.tree.Symbol.{Symbol}
 use Rattle.ac_syntax.specs.Term.{Term, Terms, Num, Initial, Apply, none, more, Agree, AgreeAll, same, reverse, through, under, swap, nothing, both}
-use Rattle.ac_syntax.specs.Matches.{Matches, MatchAll, one_number, one_leaf, kept, swapped, no_terms, more_terms}
+use Rattle.ac_syntax.specs.TermMatches.{Matches, MatchAll, one_number, one_leaf, kept, swapped, no_terms, more_terms}
 
 module _ (swaps : Symbol → Bool) where
   mutual

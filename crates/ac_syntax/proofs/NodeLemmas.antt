@@ -3,7 +3,7 @@ use Rattle.std.proofs.Common.{◌≡◌, ℕ, zero, suc, ◌+◌, ◌-◌, ◌<�
 use Rattle.std.specs.Prelude.{nat_lt}
 use Rattle.std.proofs.lemmas.List.Sums.{sum_by-cons}
 use Rattle.std.proofs.lemmas.Bool.Decides.{nat_tests}
-use Rattle.ac_syntax.specs.Nodes.{size, size_in, node_of, node_in}
+use Rattle.ac_syntax.specs.ValueNodes.{size, size_in, node_of, node_in}
 use Rattle.ac_syntax.proofs.NodeLists.{node_among}
 use Rattle.ac_syntax.specs.declared.tree.Place.{Place}
 use Rattle.ac_syntax.specs.declared.tree.Symbol.{Symbol}

@@ -1,7 +1,7 @@
 -- Nodes of values one after another.
 use Rattle.std.specs.Prelude.{ℕ, ◌-◌, Option, None, nat_lt, if◌then◌else◌, List, [], ◌∷◌}
 use Rattle.ac_syntax.specs.declared.tree.Value.{Value}
-use Rattle.ac_syntax.specs.Nodes.{size, node_of}
+use Rattle.ac_syntax.specs.ValueNodes.{size, node_of}
 
 -- the same, at values one after another
 abbrev pub node_among : List Value → ℕ → Option Value

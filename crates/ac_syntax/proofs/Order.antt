@@ -9,7 +9,7 @@ use Rattle.ac_syntax.specs.Trace.{Entry, each_turn, assignments, assignments_in,
 use Rattle.ac_syntax.specs.Turns.{turns, inside, iterator_at}
 use Rattle.ac_syntax.specs.Source.{Writer, Stands}
 use Rattle.ac_syntax.proofs.Around.{around_both, around_both_in, around_both_all, in_part}
-use Rattle.ac_syntax.specs.Before.{Before}
+use Rattle.ac_syntax.specs.ExecutionOrder.{Before}
 use Rattle.ac_syntax.specs.declared.tree.Stmt.{Stmt, Row_of-Stmt, end_of-Stmt, more_of-Stmt}
 use Rattle.ac_syntax.specs.declared.tree.Stmt.TheVariants.{For', If', Assign}
 use Rattle.ac_syntax.proofs.Sources.{earlier_stands, one_place}

@@ -2,7 +2,7 @@
 use Rattle.std.proofs.Common.{◌≡◌, ℕ, ℤ, List, ◌∷◌, ◌++◌, codes, refl, rules, ap, sym, ◌∙◌}
 use Rattle.std.specs.List.{flat_map}
 use Rattle.ac_syntax.specs.Text.{Scope, line, loop_text, branch_text, assignment_text, inside, deeper, stmt_text, body_text, else_text}
-use Rattle.ac_syntax.specs.Printing.{else_lines}
+use Rattle.ac_syntax.specs.PrinterTerms.{else_lines}
 use Rattle.ac_syntax.specs.declared.tree.Place.{Place}
 use Rattle.ac_syntax.specs.declared.tree.Cond.{Cond}
 use Rattle.ac_syntax.specs.declared.tree.IndexExpr.{IndexExpr}

@@ -2,7 +2,7 @@
 use Rattle.std.proofs.Common.{ℕ, ◌+◌, ◌<◌, List, length, ℤ, rules}
 use Rattle.std.specs.List.{AllByRecursion}
 use Rattle.ac_syntax.specs.Turns.{Bounded}
-use Rattle.ac_syntax.specs.Ready.{Fits, AllFit, FitParts, FitsValue, FitValues, Ready, ReadyIn, ReadyAll}
+use Rattle.ac_syntax.specs.ReadyPrograms.{Fits, AllFit, FitParts, FitsValue, FitValues, Ready, ReadyIn, ReadyAll}
 use Rattle.ac_syntax.specs.declared.tree.Place.{Place}
 use Rattle.ac_syntax.specs.declared.tree.Cond.{Cond}
 use Rattle.ac_syntax.specs.declared.tree.Symbol.{Symbol}

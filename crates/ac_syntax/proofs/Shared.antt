@@ -5,7 +5,7 @@ use Rattle.std.proofs.lemmas.Bool.Decides.{nat_tests}
 use Rattle.std.proofs.lemmas.List.Sums.{sum_by-cons}
 use Rattle.ac_syntax.specs.Trace.{assignments, assignments_in}
 use Rattle.ac_syntax.proofs.Around.{around_both, around_both_in, around_both_all, in_part}
-use Rattle.ac_syntax.specs.Loops.{loop_count, loop_count_in, loops, loops_in, loops_all, common}
+use Rattle.ac_syntax.specs.LoopNests.{loop_count, loop_count_in, loops, loops_in, loops_all, common}
 use Rattle.ac_syntax.specs.declared.tree.Stmt.{Stmt, Row_of-Stmt, end_of-Stmt, more_of-Stmt}
 use Rattle.ac_syntax.specs.declared.tree.Stmt.TheVariants.{For', If', Assign}
 

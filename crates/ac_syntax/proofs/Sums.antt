@@ -5,7 +5,7 @@ use Rattle.std.proofs.lemmas.List.{drop_more}
 use Rattle.std.specs.List.{flat_map}
 use Rattle.std.proofs.lemmas.List.{append-nil}
 use Rattle.ac_syntax.specs.Text.{term, terms, sum_text}
-use Rattle.ac_syntax.specs.Printing.{plus, continued, has_terms}
+use Rattle.ac_syntax.specs.PrinterTerms.{plus, continued, has_terms}
 
 still : (xs : List (List ℕ)) → has_terms true xs ≡ true
 still [] = refl

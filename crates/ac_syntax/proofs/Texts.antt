@@ -6,7 +6,7 @@ use Rattle.ac_syntax.specs.Index.{Point, index_value, holds}
 use Rattle.ac_syntax.specs.Source.{Writer, Stands}
 use Rattle.ac_syntax.specs.Trace.{Entry, each_turn, assignments, assignments_in, trace, trace_in, trace_all}
 use Rattle.ac_syntax.specs.Turns.{turns, inside, iterator_at}
-use Rattle.ac_syntax.specs.Assigned.{Assigned, assigned, assigned_in, assigned_all, text_of}
+use Rattle.ac_syntax.specs.AssignmentText.{Assigned, assigned, assigned_in, assigned_all, text_of}
 use Rattle.ac_syntax.specs.declared.tree.Stmt.{Stmt, Row_of-Stmt, end_of-Stmt, more_of-Stmt}
 use Rattle.ac_syntax.specs.declared.tree.Stmt.TheVariants.{For', If', Assign}
 use Rattle.ac_syntax.proofs.Order.{Within, within_trace, within_trace_in, within_trace_all, lt_true, lt_false, if_either}

@@ -6,7 +6,7 @@ use Rattle.ac_syntax.specs.Index.{Point, index_value, holds}
 use Rattle.ac_syntax.specs.Turns.{inside, iterator_at, turns, Bounded}
 use Rattle.ac_syntax.specs.declared.tree.IndexExpr.{IndexExpr}
 use Rattle.ac_syntax.specs.declared.tree.Cond.{Cond}
-use Rattle.ac_integers.proofs.Products.{mul-add_ℤ}
+use Rattle.ac_base.proofs.Products.{mul-add_ℤ}
 use Rattle.ac_syntax.proofs.Ends.{turns_is}
 
 pub record Walking (p : Point) (start : IndexExpr) (cond : Cond) (step x : ℤ) (k : ℕ) : Type 0 where

@@ -6,7 +6,7 @@ use Rattle.std.specs.Prelude.{option_and_then}
 use Rattle.std.specs.Option.{SomeIff}
 use Rattle.std.proofs.lemmas.Int.{ints, fits_signed_mul}
 use Rattle.std.proofs.lemmas.Bool.Decides.{nat_tests}
-use Rattle.ac_syntax.specs.Checked.{checked, fits_128, summed}
+use Rattle.ac_syntax.specs.CheckedArithmetic.{checked, fits_128, summed}
 
 pub fits_true : (z : ℤ) → FitsSigned w128 z → fits_128 z ≡ true
 fits_true (pos n) h = grind (arith, nat_tests, h)

@@ -1,6 +1,6 @@
 -- The calls of the assignments that are executed.
 use Rattle.std.specs.Prelude.{ℕ, ◌≡◌, ℤ, List, length, Some}
-use Rattle.ac_syntax.specs.Nodes.{node_of}
+use Rattle.ac_syntax.specs.ValueNodes.{node_of}
 use Rattle.ac_syntax.specs.Source.{Writer, Stands}
 use Rattle.ac_syntax.specs.Trace.{trace_of}
 use Rattle.ac_syntax.specs.declared.tree.Place.{Place}

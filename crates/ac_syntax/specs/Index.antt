@@ -1,7 +1,7 @@
 -- The values of index expressions and conditions, in exact integers.
 use Rattle.std.specs.Prelude.{zero, suc, List, Bool, true, false, ℤ, pos, negsuc, ◌+ℤ◌}
 use Rattle.std.specs.List.{list_all}
-use Rattle.ac_integers.specs.Dot.{dot}
+use Rattle.ac_base.specs.Dot.{dot}
 use Rattle.ac_syntax.specs.declared.tree.IndexExpr.{IndexExpr}
 use Rattle.ac_syntax.specs.declared.tree.Rel.{Rel}
 use Rattle.ac_syntax.specs.declared.tree.Rel.TheVariants.{NonNegative, Zero}

@@ -1,6 +1,6 @@
 -- The nodes of a value, with the arguments of a call as a list.
 use Rattle.std.specs.Prelude.{ℕ, suc, ◌+◌, ◌≡◌, ◌⊎◌, List, ◌∷◌, ◌++◌, Some, sum_by}
-use Rattle.ac_syntax.specs.Nodes.{size, node_of}
+use Rattle.ac_syntax.specs.ValueNodes.{size, node_of}
 use Rattle.ac_syntax.specs.declared.tree.IndexExpr.{IndexExpr}
 use Rattle.ac_syntax.specs.declared.tree.Place.{Place}
 use Rattle.ac_syntax.specs.declared.tree.Symbol.{Symbol}

@@ -5,7 +5,7 @@ use Rattle.ac_syntax.specs.Trace.{Entry, trace_of}
 use Rattle.ac_syntax.specs.Algebra.{Cell, target, run, integers}
 use Rattle.ac_syntax.specs.Source.{Writer, Stands, source}
 use Rattle.ac_syntax.specs.Spot.{value_at, resolved}
-use Rattle.ac_syntax.specs.Before.{IsBefore}
+use Rattle.ac_syntax.specs.ExecutionOrder.{IsBefore}
 use Rattle.ac_syntax.specs.declared.tree.Stmt.{Stmt}
 use Rattle.ac_syntax.specs.declared.tree.Symbol.{Symbol}
 

@@ -5,7 +5,7 @@ use Rattle.ac_syntax.specs.Algebra.{Cell, run, integers}
 use Rattle.ac_syntax.specs.Source.{source}
 use Rattle.ac_syntax.specs.Spot.{value_at, resolved}
 use Rattle.ac_syntax.specs.Term.{Leaf, Term, Agree, Respects, eval, free, Initial}
-use Rattle.ac_syntax.specs.Matches.{Matches}
+use Rattle.ac_syntax.specs.TermMatches.{Matches}
 use Rattle.ac_syntax.specs.Sameness.{leaves, term, Same, SameTerms}
 use Rattle.ac_syntax.specs.Outputs.{IsValuation, IsElement, SameTermsAt, SameOutput}
 use Rattle.ac_syntax.specs.declared.tree.Stmt.{Stmt}

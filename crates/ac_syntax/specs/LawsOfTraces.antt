@@ -5,8 +5,8 @@ use Rattle.ac_syntax.specs.Index.{Point}
 use Rattle.ac_syntax.specs.Trace.{Entry, trace_all, trace_of}
 use Rattle.ac_syntax.specs.Instance.{IsInstanceAmong}
 use Rattle.ac_syntax.specs.Source.{Writer, Stands}
-use Rattle.ac_syntax.specs.Assigned.{assigned_all, text_of}
-use Rattle.ac_syntax.specs.Before.{IsBefore}
+use Rattle.ac_syntax.specs.AssignmentText.{assigned_all, text_of}
+use Rattle.ac_syntax.specs.ExecutionOrder.{IsBefore}
 use Rattle.ac_syntax.specs.declared.tree.Stmt.{Stmt}
 
 -- the entries of a trace are exactly the instances

@@ -4,7 +4,7 @@ use Rattle.ac_syntax.specs.Index.{index_value}
 use Rattle.ac_syntax.specs.Trace.{Entry}
 use Rattle.ac_syntax.specs.Algebra.{Algebra, Cell, run, value_of}
 use Rattle.ac_syntax.specs.Source.{Writer}
-use Rattle.ac_syntax.specs.Nodes.{size}
+use Rattle.ac_syntax.specs.ValueNodes.{size}
 use Rattle.ac_syntax.specs.declared.tree.Place.{Place}
 use Rattle.ac_syntax.specs.declared.tree.IndexExpr.{IndexExpr}
 use Rattle.ac_syntax.specs.declared.tree.Value.{Value}

@@ -4,7 +4,7 @@ use Rattle.std.specs.Prelude.{ℕ, ◌≡◌, List, ℤ, Some}
 use Rattle.ac_syntax.specs.Trace.{Entry}
 use Rattle.ac_syntax.specs.Algebra.{Cell}
 use Rattle.ac_syntax.specs.Source.{Writer, Stands}
-use Rattle.ac_syntax.specs.Nodes.{node_of}
+use Rattle.ac_syntax.specs.ValueNodes.{node_of}
 use Rattle.ac_syntax.specs.Spot.{Spot, AtEnd, AtNode, AtStart, cell_at}
 use Rattle.ac_syntax.specs.declared.tree.Place.{Place}
 use Rattle.ac_syntax.specs.declared.tree.IndexExpr.{IndexExpr}

@@ -1,8 +1,8 @@
 //! How many assignments statements have, and how many nodes values have.
 ghost use Rattle.std.specs.Prelude.{sum_by};
-ghost use Rattle.ac_syntax.specs.Counts.{Gives};
+ghost use Rattle.ac_syntax.specs.BoundedCount.{Gives};
 ghost use Rattle.ac_syntax.specs.Trace.{assignments};
-ghost use Rattle.ac_syntax.specs.Nodes.{size};
+ghost use Rattle.ac_syntax.specs.ValueNodes.{size};
 
 use crate::tree::{Stmt, Value};
 

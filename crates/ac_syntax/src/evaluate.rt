@@ -1,6 +1,6 @@
 //! The values of index expressions and conditions at a point, computed in 128 bits.
 ghost use Rattle.std.specs.Prelude.{◌≡◌, ◌+ℤ◌, ◌*ℤ◌, IfSome};
-ghost use Rattle.ac_syntax.specs.Checked.{checked, summed, checked_value, checked_comparison, checked_holds};
+ghost use Rattle.ac_syntax.specs.CheckedArithmetic.{checked, summed, checked_value, checked_comparison, checked_holds};
 ghost use Rattle.ac_syntax.specs.Index.{point, index_value, comparison_holds, holds};
 
 use crate::tree::{Comparison, Cond, IndexExpr, Rel};

@@ -5,7 +5,7 @@ ghost use Rattle.ac_syntax.specs.declared.tree.Stmt.TheVariants as stmt;
 
 use crate::name::Name;
 use crate::tree::{Comparison, Cond, IndexExpr, Place, Stmt, Symbol, Value};
-use ac_items::Items;
+use ac_base::Items;
 
 /// An index expression: a constant, the coefficients of the parameters and those of the iterators, the outermost first.
 pub fn index_expr(konst: i64, params: Vec<i64>, iters: Vec<i64>, place: Place) -> IndexExpr

@@ -1,5 +1,5 @@
 use crate::name::Name;
-use ac_items::Items;
+use ac_base::Items;
 
 /// A place in a source text: the number of the byte, from 0.
 #[derive(Clone, Copy, Debug, PartialEq, Eq)]

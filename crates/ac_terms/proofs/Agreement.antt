@@ -6,7 +6,7 @@ use Rattle.ac_syntax.specs.declared.tree.Symbol.{Symbol}
 use Rattle.ac_terms.specs.declared.node.TermId.{TermId}
 use Rattle.ac_syntax.specs.Term.{Leaf, Term, Num, Initial, Apply, Terms, none, more, Agree, same, reverse, through, under, swap, AgreeAll, nothing, both}
 use Rattle.ac_terms.specs.Table.{Table, number_of, initial_of, call_of, in_order, stored, StandsFor, StandForAll}
-use Rattle.ac_terms.specs.Nodes.{AreApart}
+use Rattle.ac_terms.specs.TableNodes.{AreApart}
 
 same_id : (a b : TermId) → a.index ≡ b.index → a ≡ b
 same_id a b e = ap (λ n. record { index = n }) e

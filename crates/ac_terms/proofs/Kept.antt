@@ -4,7 +4,7 @@ use Rattle.ac_syntax.specs.declared.tree.Symbol.{Symbol}
 use Rattle.ac_terms.specs.declared.node.TermId.{TermId}
 use Rattle.ac_syntax.specs.Term.{Term, Num, Initial, Apply, Terms, none, more}
 use Rattle.ac_terms.specs.Table.{Table, call_of, stored, StandsFor, StandForAll, Keeps}
-use Rattle.ac_terms.specs.Nodes.{KeepsPlaces}
+use Rattle.ac_terms.specs.TableNodes.{KeepsPlaces}
 
 mutual
   pub stands_kept : (old new : Table) → new.commutative ≡ old.commutative → KeepsPlaces old.places new.places → (t : Term) (id : TermId) → StandsFor old t id → StandsFor new t id

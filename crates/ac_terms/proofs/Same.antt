@@ -12,7 +12,7 @@ use Rattle.ac_terms.specs.declared.node.TermId.{TermId}
 use Rattle.ac_terms.specs.declared.node.Node.{Node}
 use Rattle.ac_terms.specs.declared.node.Node.TheVariants.{Number, Initial, Call}
 use Rattle.ac_terms.specs.Table.{number_of, initial_of, call_of}
-use Rattle.ac_terms.specs.Nodes.{shape, leaf_at}
+use Rattle.ac_terms.specs.TableNodes.{shape, leaf_at}
 use Rattle.ac_terms.specs.contracts.node.NodePartialEq.TheImpl as derived
 use Rattle.ac_terms.specs.contracts.node.LeafPartialEq.TheImpl as leaf
 use Rattle.ac_terms.specs.contracts.node.TermIdPartialEq.TheImpl as id

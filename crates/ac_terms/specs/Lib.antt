@@ -1,3 +1,3 @@
 pub mod Table
-pub mod Nodes
-pub mod Laws
+pub mod TableNodes
+pub mod IdAgreement

@@ -4,8 +4,8 @@ ghost use Rattle.std.specs.List.{list_any};
 ghost use Rattle.ac_syntax.specs.Outputs.{swaps_of};
 ghost use Rattle.ac_syntax.specs.Term.{Term, Terms as TermList, Agree, Num, Initial as InitialTerm, Apply};
 ghost use Rattle.ac_terms.specs.Table.{StandsFor, StandForAll, Keeps, in_order};
-ghost use Rattle.ac_terms.specs.Nodes.{shape, leaf_at, KeepsPlaces};
-ghost use Rattle.ac_terms.specs.Laws.{IdsDecideAgreement};
+ghost use Rattle.ac_terms.specs.TableNodes.{shape, leaf_at, KeepsPlaces};
+ghost use Rattle.ac_terms.specs.IdAgreement.{IdsDecideAgreement};
 
 use crate::node::{Leaf, Node, TermId};
 use ac_syntax::name::Name;
@@ -29,7 +29,7 @@ pub struct Terms {
 impl Model for Terms {
     ghost use Rattle.std.specs.Prelude.{map};
     ghost use Rattle.ac_terms.specs.Table.{Table};
-    ghost use Rattle.ac_terms.specs.Nodes.{shape, AreApart};
+    ghost use Rattle.ac_terms.specs.TableNodes.{shape, AreApart};
 
     ghost Value = { Table };
 

@@ -13,15 +13,15 @@ use Rattle.ac_syntax.specs.declared.tree.Value.TheVariants.{Access, Call, Call'}
 use Rattle.ac_syntax.specs.declared.tree.Stmt.{Stmt, Row_of-Stmt, end_of-Stmt, more_of-Stmt, items-the_row-Stmt, the_lemmas}
 use Rattle.ac_syntax.specs.declared.tree.Stmt.TheVariants.{For, For', Assign}
 use Rattle.ac_parse.specs.Program.{IsProgramOf}
-use Rattle.ac_gen.specs.Loops.{nowhere, function_symbol, Loop, statement}
+use Rattle.ac_gen.specs.PipelineLoops.{nowhere, function_symbol, Loop, statement}
 use Rattle.ac_gen.specs.Pipelines.{program}
 use Rattle.ac_syntax.specs.ExecutedCalls.{HaveArities}
-use Rattle.ac_arities.specs.Arities.{HasArities, EachHasArities, AssignsArities, EachAssignsArities, AllHaveArities}
-use Rattle.ac_arities.proofs.Assigned.{files_have_arities}
-use Rattle.ac_arities.proofs.Built.{count_row}
-use Rattle.ac_arities.proofs.Executed.{executions_have_arities}
-use Rattle.ac_generated.specs.Generated.{IsGeneratedPair}
-use Rattle.ac_top.specs.Answers.{ArePaired}
+use Rattle.ac_parse.specs.Arities.{HasArities, EachHasArities, AssignsArities, EachAssignsArities, AllHaveArities}
+use Rattle.ac_parse.proofs.Assigned.{files_have_arities}
+use Rattle.ac_parse.proofs.Built.{count_row}
+use Rattle.ac_parse.proofs.Executed.{executions_have_arities}
+use Rattle.ac_gen.specs.GeneratedPair.{IsGeneratedPair}
+use Rattle.ac_top.specs.ProgramAnswers.{ArePaired}
 
 -- both programs of a pair
 abbrev Have : Pair → Type 0

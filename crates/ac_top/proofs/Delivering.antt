@@ -10,17 +10,17 @@ use Rattle.ac_claims.specs.declared.types.Proof.{Proof}
 use Rattle.ac_report.specs.declared.types.Verdict.{Verdict}
 use Rattle.ac_report.specs.declared.types.Verdict.TheVariants.{Equal, Different, Unknown}
 use Rattle.ac_walk.specs.Verdicts.{AreVerdicts, equal_outputs}
-use Rattle.ac_commands.specs.Commands.{prove, check_of, instance_of, flow_of, gen_of, IsCommand}
-use Rattle.ac_top.specs.Answers.{FileReports, first_unread, first_too_long, second_unread, second_too_long, sources, TextReports, text_refused, text_not_lowered, text_lowered, OneFileReports, file_unread, file_too_long, text_of_file, Reports, no_form, of_command, CheckReports, proof_unread, tested, accepted, too_long, too_deep, not_valid, HoldAPair, Puts, whole, part, nothing, Delivers, only_put, proof_first, proof_fails, proof_wants, Ends, reported, DoneMeansTheSame, DifferentMeansDifferent, AsksFor, AskForAProof, KeepsFiles, kept, proof_written, proof_spoilt}
-use Rattle.ac_top.specs.Flows.{FlowReports, no_valuation, context_stopped, flow_stopped, flowed}
-use Rattle.ac_top.specs.Proving.{ProveReports, empty_context, compared, IsProofOf, IsFileOf, no_name, none_equal, whole_text, ShowsEqual}
+use Rattle.ac_cli_args.specs.Commands.{prove, check_of, instance_of, flow_of, gen_of, IsCommand}
+use Rattle.ac_top.specs.ProgramAnswers.{FileReports, first_unread, first_too_long, second_unread, second_too_long, sources, TextReports, text_refused, text_not_lowered, text_lowered, OneFileReports, file_unread, file_too_long, text_of_file, Reports, no_form, of_command, CheckReports, proof_unread, tested, accepted, too_long, too_deep, not_valid, HoldAPair, Puts, whole, part, nothing, Delivers, only_put, proof_first, proof_fails, proof_wants, Ends, reported, DoneMeansTheSame, DifferentMeansDifferent, AsksFor, AskForAProof, KeepsFiles, kept, proof_written, proof_spoilt}
+use Rattle.ac_top.specs.FlowReports.{FlowReports, no_valuation, context_stopped, flow_stopped, flowed}
+use Rattle.ac_top.specs.ProveReports.{ProveReports, empty_context, compared, IsProofOf, IsFileOf, no_name, none_equal, whole_text, ShowsEqual}
 use Rattle.ac_top.specs.Reports.{Report, report as a_report, ProofFile}
-use Rattle.ac_top.specs.Runs.{InstanceReports, not_a_valuation, at_valuation, outside, too_large, range, ran}
+use Rattle.ac_top.specs.InstanceReports.{InstanceReports, not_a_valuation, at_valuation, outside, too_large, range, ran}
 use Rattle.ac_top.specs.declared.status.Status.{Status}
 use Rattle.ac_top.specs.declared.status.Status.TheVariants as status
-use Rattle.ac_port.specs.Counts.{Rose}
+use Rattle.ac_port.specs.CallCounts.{Rose}
 use Rattle.ac_top.specs.Reads.{Fails}
-use Rattle.ac_top.specs.Stages.{file_of, written}
+use Rattle.ac_top.specs.RunStages.{file_of, written}
 use Rattle.ac_top.specs.declared.report.ProofFile.{ProofFile as File}
 use Rattle.ac_top.specs.declared.report.Report.{Report as Written}
 use Rattle.ac_top.proofs.Generating.{generated_none}

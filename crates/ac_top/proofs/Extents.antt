@@ -4,8 +4,8 @@ use Rattle.std.specs.List.{list_any}
 use Rattle.std.proofs.lemmas.Int.{ints}
 use Rattle.std.specs.Ordering.{int_eq}
 use Rattle.std.proofs.lemmas.Bool.Decides.{Decides-int_eq, Decides-eqb}
-use Rattle.ac_integers.specs.Dot.{dot}
-use Rattle.ac_integers.proofs.Dot.{dot-nil}
+use Rattle.ac_base.specs.Dot.{dot}
+use Rattle.ac_base.proofs.Dot.{dot-nil}
 use Rattle.ac_syntax.specs.Index.{point, index_value}
 use Rattle.ac_syntax.specs.Outputs.{extents_at}
 use Rattle.ac_syntax.specs.declared.tree.Array.{Array}
@@ -13,10 +13,10 @@ use Rattle.ac_syntax.specs.declared.tree.IndexExpr.{IndexExpr}
 use Rattle.ac_syntax.specs.declared.tree.Pair.{Pair}
 use Rattle.ac_syntax.specs.declared.tree.Program.{Program}
 use Rattle.ac_syntax.specs.declared.tree.Slot.TheVariants as slot
-use Rattle.ac_grammar.specs.declared.tree.Declared.{Declared}
-use Rattle.ac_rules.specs.Declarations.{is_whole, count, slots_from}
-use Rattle.ac_rules.specs.Numbers.{array_numbers}
-use Rattle.ac_parse.specs.Pairing.{with_later, significant, Extent, extent_of, Shape, shape_of, Parameter, integer_named, array_shaped, parameter_at, is_output, IsPairOf}
+use Rattle.ac_parse_grammar.specs.declared.tree.Declared.{Declared}
+use Rattle.ac_parse_rules.specs.Declarations.{is_whole, count, slots_from}
+use Rattle.ac_parse_rules.specs.DeclaredNumbers.{array_numbers}
+use Rattle.ac_parse.specs.ProgramPairs.{with_later, significant, Extent, extent_of, Shape, shape_of, Parameter, integer_named, array_shaped, parameter_at, is_output, IsPairOf}
 use Rattle.ac_parse.specs.Program.{IsProgramOf}
 
 -- coefficients behind the last one that is not 0 add nothing

@@ -1,9 +1,9 @@
 -- The file for a proof.
 use Rattle.std.proofs.Common.{◌≡◌, ◌≢◌, ℕ, List, [], ◌∷◌, map, Some, refl, ap, subst}
 use Rattle.ac_claims.specs.declared.types.Proof.{Proof}
-use Rattle.ac_prooftext.specs.Texts.{proof_text}
+use Rattle.ac_prooftext.specs.ProofTexts.{proof_text}
 use Rattle.ac_walk.specs.Verdicts.{named}
-use Rattle.ac_top.specs.Proving.{IsFileOf, whole_text}
+use Rattle.ac_top.specs.ProveReports.{IsFileOf, whole_text}
 use Rattle.ac_top.specs.Reports.{ProofFile}
 
 some_output : (os : List (ℕ × ℕ)) → os ≢ [] → map (λ o. o.0) os ≢ []

@@ -1,6 +1,6 @@
 -- What is reported of the flow of a program.
 use Rattle.std.proofs.Common.{◌≡◌, ℕ, List, Some, subst}
-use Rattle.ac_syntax.specs.Ready.{ReadyProgram}
+use Rattle.ac_syntax.specs.ReadyPrograms.{ReadyProgram}
 use Rattle.ac_syntax.specs.declared.tree.Program.{Program}
 use Rattle.ac_poly.specs.Model.{HasContext}
 use Rattle.ac_poly.specs.declared.types.Model.{Model}
@@ -13,10 +13,10 @@ use Rattle.ac_flow.specs.declared.types.Flow.{Flow}
 use Rattle.ac_flow.specs.declared.types.FlowStop.{FlowStop}
 use Rattle.ac_report.specs.FlowTexts.{flow_lines}
 use Rattle.ac_report.specs.Layouts.{layout_of}
-use Rattle.ac_report.specs.Texts.{context_stop_text, flow_stop_text}
-use Rattle.ac_top.specs.Flows.{FlowReports, no_valuation, context_stopped, flow_stopped, flowed, lowered, default_budget}
+use Rattle.ac_report.specs.ReportTexts.{context_stop_text, flow_stop_text}
+use Rattle.ac_top.specs.FlowReports.{FlowReports, no_valuation, context_stopped, flow_stopped, flowed, lowered, default_budget}
 use Rattle.ac_top.specs.Reports.{report as a_report}
-use Rattle.ac_top.specs.Texts.{empty_context_line}
+use Rattle.ac_top.specs.ConsoleLines.{empty_context_line}
 use Rattle.ac_top.specs.declared.status.Status.{Status}
 use Rattle.ac_top.specs.declared.status.Status.TheVariants as status
 

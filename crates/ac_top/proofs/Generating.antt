@@ -6,20 +6,20 @@ use Rattle.ac_syntax.specs.Outputs.{IsValuation}
 use Rattle.ac_syntax.specs.declared.tree.Cond.{Cond}
 use Rattle.ac_syntax.specs.declared.tree.Pair.{Pair}
 use Rattle.ac_syntax.specs.declared.tree.Program.{Program}
-use Rattle.ac_instance.specs.Answers.{due, AreOutcomes, compared}
-use Rattle.ac_instance.specs.Steps.{IsDue}
+use Rattle.ac_instance.specs.ComparisonAnswers.{due, AreOutcomes, compared}
+use Rattle.ac_instance.specs.MachineSteps.{IsDue}
 use Rattle.ac_instance.specs.declared.halt.Halt.{Halt}
 use Rattle.ac_instance.specs.declared.halt.Halt.TheVariants.{OutsideContext, TooLarge, Range, Wide, Memory}
 use Rattle.ac_instance.specs.declared.halt.Outcome.{Outcome}
 use Rattle.ac_instance.specs.declared.halt.Outcome.TheVariants.{Equal, Different}
-use Rattle.ac_generated.specs.Generated.{IsGeneratedPair}
-use Rattle.ac_top.specs.Answers.{IsTheSame}
-use Rattle.ac_top.specs.Flows.{default_budget}
-use Rattle.ac_top.specs.Generated.{at_1000, RunEnds, run_halted, run_ended, status_of_both, GenReports, of_generated}
-use Rattle.ac_top.specs.Proving.{HasDifference}
+use Rattle.ac_gen.specs.GeneratedPair.{IsGeneratedPair}
+use Rattle.ac_top.specs.ProgramAnswers.{IsTheSame}
+use Rattle.ac_top.specs.FlowReports.{default_budget}
+use Rattle.ac_top.specs.GenReports.{at_1000, RunEnds, run_halted, run_ended, status_of_both, GenReports, of_generated}
+use Rattle.ac_top.specs.ProveReports.{HasDifference}
 use Rattle.ac_top.specs.Reports.{Report, ProofFile}
-use Rattle.ac_top.specs.Runs.{is_different, of_side, status_of, RunReports, HaltReports}
-use Rattle.ac_top.specs.Texts.{too_large_line, range_line}
+use Rattle.ac_top.specs.InstanceReports.{is_different, of_side, status_of, RunReports, HaltReports}
+use Rattle.ac_top.specs.ConsoleLines.{too_large_line, range_line}
 use Rattle.ac_top.specs.declared.status.Status.{Status}
 use Rattle.ac_top.specs.declared.status.Status.TheVariants as status
 use Rattle.ac_top.proofs.Instances.{of_halt}

@@ -4,14 +4,14 @@ use Rattle.ac_port.specs.Contents.{Contents}
 use Rattle.ac_syntax.specs.declared.tree.Pair.{Pair}
 use Rattle.ac_syntax.specs.declared.tree.Program.{Program}
 use Rattle.ac_flow.specs.declared.types.Flow.{Flow}
-use Rattle.ac_commands.specs.Commands.{Asked, prove, check_of, instance_of, flow_of, gen_of}
-use Rattle.ac_commands.proofs.Determined.{one_command}
-use Rattle.ac_top.specs.Answers.{Holds, SourceReports, refused, paired, FileReports, first_unread, first_too_long, second_unread, second_too_long, sources, TextReports, text_refused, text_not_lowered, text_lowered, OneFileReports, file_unread, file_too_long, text_of_file, CommandReports, Reports, no_form, of_command, CheckReports, proof_unread, tested, accepted, too_long, too_deep, not_valid, AreAccepted, HoldAPair, HoldsAProgram, IsTheSame, AreTheSame, DoneMeansTheSame, AreDifferent, DifferentMeansDifferent}
-use Rattle.ac_top.specs.Flows.{FlowReports, no_valuation, context_stopped, flow_stopped, flowed, IsFlowOf}
-use Rattle.ac_top.specs.Proving.{ProveReports, HasDifference}
+use Rattle.ac_cli_args.specs.Commands.{Asked, prove, check_of, instance_of, flow_of, gen_of}
+use Rattle.ac_cli_args.proofs.Determined.{one_command}
+use Rattle.ac_top.specs.ProgramAnswers.{Holds, SourceReports, refused, paired, FileReports, first_unread, first_too_long, second_unread, second_too_long, sources, TextReports, text_refused, text_not_lowered, text_lowered, OneFileReports, file_unread, file_too_long, text_of_file, CommandReports, Reports, no_form, of_command, CheckReports, proof_unread, tested, accepted, too_long, too_deep, not_valid, AreAccepted, HoldAPair, HoldsAProgram, IsTheSame, AreTheSame, DoneMeansTheSame, AreDifferent, DifferentMeansDifferent}
+use Rattle.ac_top.specs.FlowReports.{FlowReports, no_valuation, context_stopped, flow_stopped, flowed, IsFlowOf}
+use Rattle.ac_top.specs.ProveReports.{ProveReports, HasDifference}
 use Rattle.ac_top.specs.Reports.{Report, report as a_report}
-use Rattle.ac_top.specs.Runs.{InstanceReports, IsTheSameAt}
-use Rattle.ac_top.specs.Texts.{read_fault_line, too_long_line}
+use Rattle.ac_top.specs.InstanceReports.{InstanceReports, IsTheSameAt}
+use Rattle.ac_top.specs.ConsoleLines.{read_fault_line, too_long_line}
 use Rattle.ac_top.specs.declared.status.Status.TheVariants as status
 use Rattle.ac_top.proofs.Generating.{done_generated, different_generated}
 use Rattle.ac_top.proofs.Instances.{done_instance}

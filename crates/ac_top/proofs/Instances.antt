@@ -4,7 +4,7 @@ use Rattle.std.specs.Prelude.{option_and_then, option_map}
 use Rattle.std.specs.Global.{Global}
 use Rattle.std.specs.List.{list_all, list_any}
 use Rattle.std.proofs.lemmas.List.{append_assoc, append-nil, take_more, length-take, length-map}
-use Rattle.ac_syntax.specs.Checked.{checked_value, checked_holds}
+use Rattle.ac_syntax.specs.CheckedArithmetic.{checked_value, checked_holds}
 use Rattle.ac_syntax.specs.Index.{Point, point, index_value, rel_holds, comparison_holds}
 use Rattle.ac_syntax.specs.Outputs.{input_at, swaps_of}
 use Rattle.ac_syntax.specs.Where.{element}
@@ -13,18 +13,18 @@ use Rattle.ac_syntax.specs.declared.tree.Comparison.{Comparison}
 use Rattle.ac_syntax.specs.declared.tree.Pair.{Pair}
 use Rattle.ac_syntax.proofs.Agreeing.{same_from_terms}
 use Rattle.ac_syntax.proofs.Exact.{checked_exact}
-use Rattle.ac_instance.specs.Answers.{IsReadyAt, everything, in_context, due, AreOutcomes, compared}
+use Rattle.ac_instance.specs.ComparisonAnswers.{IsReadyAt, everything, in_context, due, AreOutcomes, compared}
 use Rattle.ac_instance.specs.Events.{Event, event, evaluated, fits_64, unless, reached}
 use Rattle.ac_instance.specs.Least.{Looked}
-use Rattle.ac_instance.specs.Steps.{IsDue}
+use Rattle.ac_instance.specs.MachineSteps.{IsDue}
 use Rattle.ac_instance.specs.declared.halt.Halt.{Halt}
 use Rattle.ac_instance.specs.declared.halt.Halt.TheVariants.{OutsideContext, TooLarge, Range, Wide, Memory}
 use Rattle.ac_instance.specs.declared.halt.Outcome.{Outcome}
 use Rattle.ac_instance.specs.declared.halt.Outcome.TheVariants.{Equal, Different}
-use Rattle.ac_commands.specs.Valuations.{IsValuationWord, given_to}
+use Rattle.ac_cli_args.specs.Valuations.{IsValuationWord, given_to}
 use Rattle.ac_top.specs.Reports.{Report, report as a_report}
-use Rattle.ac_top.specs.Runs.{IsGiven, is_different, status_of, RunReports, outside, too_large, range, ran, InstanceReports, not_a_valuation, at_valuation, IsTheSameAt, EqualIsSame, IsReadyPair, HaltReports}
-use Rattle.ac_top.specs.Texts.{name_at, outcome_line, outcome_lines, too_large_line}
+use Rattle.ac_top.specs.InstanceReports.{IsGiven, is_different, status_of, RunReports, outside, too_large, range, ran, InstanceReports, not_a_valuation, at_valuation, IsTheSameAt, EqualIsSame, IsReadyPair, HaltReports}
+use Rattle.ac_top.specs.ConsoleLines.{name_at, outcome_line, outcome_lines, too_large_line}
 use Rattle.ac_top.specs.declared.status.Status.TheVariants as status
 
 -- lines of outcomes, one after another

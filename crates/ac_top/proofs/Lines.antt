@@ -2,7 +2,7 @@
 use Rattle.std.proofs.Common.{◌≡◌, ℕ, zero, suc, ◌+◌, ◌<◌, List, [], ◌∷◌, ◌++◌, length, take, slice_index_or, slice_get, Option, None, Some, refl, sym, ap, ◌∙◌}
 use Rattle.std.proofs.lemmas.List.{append_assoc, append-nil, take_more}
 use Rattle.ac_syntax.specs.declared.tree.Array.{Array}
-use Rattle.ac_top.specs.Texts.{name_at, accepted_line, accepted_lines}
+use Rattle.ac_top.specs.ConsoleLines.{name_at, accepted_line, accepted_lines}
 
 abbrev pub name_in : Option Array → List ℕ
 name_in None = []

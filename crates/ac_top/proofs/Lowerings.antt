@@ -1,10 +1,10 @@
 -- What the lowering of the programs of a pair rests on.
 use Rattle.std.proofs.Common.{ℕ, List, [], ◌∷◌, ◌++◌, length, sym, subst}
-use Rattle.ac_syntax.specs.Ready.{FitParts}
+use Rattle.ac_syntax.specs.ReadyPrograms.{FitParts}
 use Rattle.ac_syntax.specs.declared.tree.Comparison.{Comparison}
 use Rattle.ac_syntax.specs.declared.tree.Pair.{Pair}
 use Rattle.ac_claims.specs.Soundness as judge
-use Rattle.ac_top.specs.Stages.{IsReadPair}
+use Rattle.ac_top.specs.RunStages.{IsReadPair}
 
 both_fit : (ps xs : ℕ) (cs ds : List Comparison) → FitParts ps xs cs → FitParts ps xs ds → FitParts ps xs (cs ++ ds)
 both_fit ps xs [] ds h k = k

@@ -7,11 +7,11 @@ use Rattle.ac_syntax.specs.declared.tree.Slot.{Slot}
 use Rattle.ac_syntax.specs.declared.tree.Slot.TheVariants as slot
 use Rattle.ac_syntax.specs.declared.tree.Program.{Program}
 use Rattle.ac_syntax.specs.declared.tree.Pair.{Pair}
-use Rattle.ac_rules.specs.Numbers.{param_numbers, ListsItsParameters}
+use Rattle.ac_parse_rules.specs.DeclaredNumbers.{param_numbers, ListsItsParameters}
 use Rattle.ac_parse.specs.Program.{IsProgramOf}
-use Rattle.ac_parse.specs.Pairing.{Parameter, integer_named, array_shaped, parameter_at, signature, IsPairOf}
-use Rattle.ac_top.specs.Runs.{IsReadyPair}
-use Rattle.ac_top.specs.Stages.{IsRead, IsReadPair}
+use Rattle.ac_parse.specs.ProgramPairs.{Parameter, integer_named, array_shaped, parameter_at, signature, IsPairOf}
+use Rattle.ac_top.specs.InstanceReports.{IsReadyPair}
+use Rattle.ac_top.specs.RunStages.{IsRead, IsReadPair}
 use Rattle.ac_top.proofs.Extents.{same_extents}
 
 joined_context : (left right : Program) (pair : Pair) → IsPairOf left right pair → pair.context.parts ≡ pair.left.context.parts ++ pair.right.context.parts

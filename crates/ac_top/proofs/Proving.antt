@@ -6,8 +6,8 @@ use Rattle.ac_syntax.specs.declared.tree.Pair.{Pair}
 use Rattle.ac_report.specs.declared.types.Verdict.{Verdict}
 use Rattle.ac_report.specs.declared.types.Verdict.TheVariants.{Equal, Different, Unknown}
 use Rattle.ac_walk.specs.Verdicts.{AreVerdicts, IsDifferentAt}
-use Rattle.ac_top.specs.Answers.{IsTheSame}
-use Rattle.ac_top.specs.Proving.{ProveReports, empty_context, compared, HasDifference}
+use Rattle.ac_top.specs.ProgramAnswers.{IsTheSame}
+use Rattle.ac_top.specs.ProveReports.{ProveReports, empty_context, compared, HasDifference}
 use Rattle.ac_top.specs.Reports.{Report}
 use Rattle.ac_top.specs.Statuses.{is_different, is_unknown, status_of}
 use Rattle.ac_top.specs.declared.status.Status.TheVariants as status

@@ -6,12 +6,12 @@ use Rattle.std.proofs.Math.Seq.{take-add}
 use Rattle.ac_port.specs.Contents.{Contents, part_of}
 use Rattle.ac_syntax.specs.declared.tree.Pair.{Pair}
 use Rattle.ac_prooftext.specs.declared.checker.Checker.{Checker}
-use Rattle.ac_top.specs.Answers.{IsStream, stream_limit, SourceReports, refused, paired, CheckReports, proof_unread, tested}
-use Rattle.ac_top.specs.Proving.{ProveReports}
+use Rattle.ac_top.specs.ProgramAnswers.{IsStream, stream_limit, SourceReports, refused, paired, CheckReports, proof_unread, tested}
+use Rattle.ac_top.specs.ProveReports.{ProveReports}
 use Rattle.ac_top.specs.Reads.{AreRead, no_read, one_more, Fails}
 use Rattle.ac_top.specs.Reports.{Report}
-use Rattle.ac_top.specs.Runs.{InstanceReports}
-use Rattle.ac_top.specs.Stages.{TaskReports, IsFed}
+use Rattle.ac_top.specs.InstanceReports.{InstanceReports}
+use Rattle.ac_top.specs.RunStages.{TaskReports, IsFed}
 use Rattle.ac_top.specs.declared.runs.Task.{Task}
 use Rattle.ac_top.specs.declared.runs.Task.TheVariants.{Prove, Check, Instance}
 

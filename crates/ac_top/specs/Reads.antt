@@ -1,6 +1,6 @@
 -- Which of a run's reads failed. Files are seen by what a read of a name may make of them and by how many of their reads have failed.
 use Rattle.std.specs.Prelude.{◌≡◌, ℕ, List, [], ◌∷◌, ◌++◌}
-use Rattle.ac_port.specs.Counts.{Rose}
+use Rattle.ac_port.specs.CallCounts.{Rose}
 
 -- these names were read, one after the other, and no read failed, as the counts between them show
 pub data AreRead {Files : Type 0} (makes : Files → List ℕ → Files → Type 0) (faults : Files → ℕ) : List (List ℕ) → Files → Files → Type 0 where

@@ -1,14 +1,14 @@
 // The work of `check`: a proof file is fed to a checker, part by part, and what is reported of it.
 ghost use Rattle.std.specs.Prelude.{◌≡◌, ◌++◌, [], ℕ, List, replicate, IfOk};
-ghost use Rattle.ac_port.specs.Counts.{Rose};
-ghost use Rattle.ac_paths.specs.Going.{Pairing};
+ghost use Rattle.ac_port.specs.CallCounts.{Rose};
+ghost use Rattle.ac_claims_paths.specs.PathSteps.{Pairing};
 ghost use Rattle.ac_claims.specs.Soundness.{AreModels, pairing_of};
 ghost use Rattle.ac_claims.specs.Soundness as judge;
-ghost use Rattle.ac_prooftext.specs.Courses.{IsFed as Took, IsReady};
-ghost use Rattle.ac_top.specs.Answers.{ProofReports, CheckReports};
+ghost use Rattle.ac_prooftext.specs.CheckProgress.{IsFed as Took, IsReady};
+ghost use Rattle.ac_top.specs.ProgramAnswers.{ProofReports, CheckReports};
 ghost use Rattle.ac_top.specs.Reads.{Fails};
 ghost use Rattle.ac_top.specs.Reports.{report as a_report};
-ghost use Rattle.ac_top.specs.Stages.{written, IsPiece, IsPartRead, IsFeeding};
+ghost use Rattle.ac_top.specs.RunStages.{written, IsPiece, IsPartRead, IsFeeding};
 
 use crate::proof_lines::{accepted_lines, rejected_line, rejected_too_long_line};
 use crate::report::{Report, unread};

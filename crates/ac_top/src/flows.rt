@@ -1,14 +1,14 @@
 // The work of `flow`: the sources of the reads of one file, under its own context.
 ghost use Rattle.std.specs.Prelude.{◌≡◌, [], IfOk};
-ghost use Rattle.ac_syntax.specs.Ready.{ReadyProgram};
+ghost use Rattle.ac_syntax.specs.ReadyPrograms.{ReadyProgram};
 ghost use Rattle.ac_parse.specs.Program.{IsProgramOf};
 ghost use Rattle.ac_flow.specs.Contexts.{ContextStops};
 ghost use Rattle.ac_poly.specs.Model.{HasContext};
-ghost use Rattle.ac_top.specs.Answers.{TextReports, OneFileReports};
-ghost use Rattle.ac_top.specs.Flows.{FlowReports, lowered, default_budget};
+ghost use Rattle.ac_top.specs.ProgramAnswers.{TextReports, OneFileReports};
+ghost use Rattle.ac_top.specs.FlowReports.{FlowReports, lowered, default_budget};
 ghost use Rattle.ac_top.specs.Reads.{Fails};
 ghost use Rattle.ac_top.specs.Reports.{report as a_report};
-ghost use Rattle.ac_top.specs.Stages.{IsRead, written};
+ghost use Rattle.ac_top.specs.RunStages.{IsRead, written};
 
 use crate::lowering::{OneLowered, lowered_program};
 use crate::refusals::refusal_line;

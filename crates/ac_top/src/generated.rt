@@ -1,13 +1,13 @@
 //! The work of `gen`: a pair of programs made from a seed is proved and run.
 ghost use Rattle.std.specs.Prelude.{◌≡◌, ◌≢◌, ◌≤◌, ◌++◌, decimal, Err, OnOk, IfOk};
 ghost use Rattle.ac_syntax.specs.Small.{IsSmallPair};
-ghost use Rattle.ac_instance.specs.Answers.{IsReadyAt, due};
+ghost use Rattle.ac_instance.specs.ComparisonAnswers.{IsReadyAt, due};
 ghost use Rattle.ac_instance.specs.declared.halt.Halt.TheVariants.{OutsideContext};
 ghost use Rattle.ac_claims.specs.Soundness as judge;
-ghost use Rattle.ac_generated.specs.Generated.{IsGeneratedPair};
-ghost use Rattle.ac_top.specs.Generated as spec;
+ghost use Rattle.ac_gen.specs.GeneratedPair.{IsGeneratedPair};
+ghost use Rattle.ac_top.specs.GenReports as spec;
 ghost use Rattle.ac_top.specs.Reports.{report as a_report};
-ghost use Rattle.ac_top.specs.Stages.{models_of, written};
+ghost use Rattle.ac_top.specs.RunStages.{models_of, written};
 
 use crate::halts::status_of_outcomes;
 use crate::prove::report_prove;
@@ -15,7 +15,7 @@ use crate::report::Report;
 use crate::runs::{Named, report_halt};
 use crate::status::Status;
 use crate::texts::{name_of, push_element};
-use ac_generated::{LoweredPair, generated};
+use ac_gen::{LoweredPair, generated};
 use ac_instance::{Outcome, Ran, instance};
 use ac_syntax::tree::Pair;
 use itoa::Buffer;

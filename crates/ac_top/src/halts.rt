@@ -1,8 +1,8 @@
 // The lines of `instance`.
 ghost use Rattle.std.specs.Prelude.{◌≡◌, ◌++◌, codes, length, OnOk, IfOk};
 ghost use Rattle.std.specs.Fmt.{signed_decimal};
-ghost use Rattle.ac_top.specs.Runs as run;
-ghost use Rattle.ac_top.specs.Texts as text;
+ghost use Rattle.ac_top.specs.InstanceReports as run;
+ghost use Rattle.ac_top.specs.ConsoleLines as text;
 
 use crate::places::push_place;
 use crate::status::Status;

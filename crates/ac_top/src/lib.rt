@@ -2,7 +2,7 @@
 //!
 //! `run` is the top call. It reads the files through whatever `Files` it is given and puts its text through whatever
 //! `Sink`, so that its contract speaks of the bytes read and the bytes put. What it may answer stands in one relation,
-//! `specs/Answers.antt`, case by case, with the exact lines in `specs/Texts.antt`; and the headline is a clause of it: where
+//! `specs/ProgramAnswers.antt`, case by case, with the lines in `specs/ConsoleLines.antt`; and the headline is a clause of it: if
 //! the status is done, each output of the two programs is the same.
 //!
 //! A text without a program is refused by a line that says what is wrong and where, by line and column; of two such texts the first
@@ -13,7 +13,7 @@
 //! proof of what is equal before the text is put (`program`). `check` tests such a file, `instance` runs both programs of a pair at one
 //! valuation, `flow` tells the sources of the reads of one file, and `gen` proves and runs a pair that it makes itself (`generated`).
 //!
-//! The words of the command line are read by the library clap (`ac_commands`).
+//! The words of the command line are read by the library clap (`ac_cli_args`).
 #![tactic(auto)]
 
 mod check;

@@ -1,9 +1,9 @@
 // The programs of a pair lowered to integer points, and what is said where one is not.
 ghost use Rattle.std.specs.Prelude.{◌≡◌, length, IfOk};
-ghost use Rattle.ac_syntax.specs.Ready.{ReadyProgram, FitParts};
-ghost use Rattle.ac_top.specs.Answers.{ArePaired};
-ghost use Rattle.ac_top.specs.Stages.{told, IsLowering, IsLoweringOf, IsReadPair};
-ghost use Rattle.ac_top.specs.Texts as text;
+ghost use Rattle.ac_syntax.specs.ReadyPrograms.{ReadyProgram, FitParts};
+ghost use Rattle.ac_top.specs.ProgramAnswers.{ArePaired};
+ghost use Rattle.ac_top.specs.RunStages.{told, IsLowering, IsLoweringOf, IsReadPair};
+ghost use Rattle.ac_top.specs.ConsoleLines as text;
 
 use crate::refusals::{Complaint, about, refusal_line};
 use crate::runs::Named;

@@ -1,6 +1,6 @@
 ghost use Rattle.std.specs.Prelude.{◌≡◌, ◌+◌, ◌++◌, take, count_by, not, decimal, codes, OnOk};
 ghost use Rattle.std.specs.List.{suffix_len};
-ghost use Rattle.ac_top.specs.Places.{is_newline, place_text};
+ghost use Rattle.ac_top.specs.TextPlaces.{is_newline, place_text};
 
 use itoa::Buffer;
 use std::alloc::AllocError;

@@ -1,14 +1,14 @@
 ghost use Rattle.std.specs.Prelude.{◌≡◌, None, map, IfOk};
 ghost use Rattle.std.specs.List.{AllByRecursion};
 ghost use Rattle.std.specs.Str.{IsUtf8};
-ghost use Rattle.ac_port.specs.Counts.{Rose};
-ghost use Rattle.ac_commands.specs.Commands.{spelled, asked_by};
-ghost use Rattle.ac_commands.specs.Laws.{IsInRange};
-ghost use Rattle.ac_top.specs.Answers.{Reports, CommandReports, Puts, Delivers, Ends, DoneMeansTheSame, DifferentMeansDifferent, KeepsFiles, AskForAProof};
+ghost use Rattle.ac_port.specs.CallCounts.{Rose};
+ghost use Rattle.ac_cli_args.specs.Commands.{spelled, asked_by};
+ghost use Rattle.ac_cli_args.specs.UniqueCommands.{IsInRange};
+ghost use Rattle.ac_top.specs.ProgramAnswers.{Reports, CommandReports, Puts, Delivers, Ends, DoneMeansTheSame, DifferentMeansDifferent, KeepsFiles, AskForAProof};
 ghost use Rattle.ac_top.specs.Reads.{Fails};
 ghost use Rattle.ac_top.specs.Reports.{report as a_report};
-ghost use Rattle.ac_top.specs.Stages.{written};
-ghost use Rattle.ac_top.specs.Texts as text;
+ghost use Rattle.ac_top.specs.RunStages.{written};
+ghost use Rattle.ac_top.specs.ConsoleLines as text;
 
 use crate::flows::report_flow;
 use crate::generated::report_generated;
@@ -16,7 +16,7 @@ use crate::report::{Report, report_files};
 use crate::runs::Task;
 use crate::status::Status;
 use crate::texts::{usage_line, write_fault_line};
-use ac_commands::{Command, command_of, texts_of};
+use ac_cli_args::{Command, command_of, texts_of};
 use ac_port::{Files, Sink, SinkStop, WriteStop};
 use std::alloc::{AllocError, Global};
 

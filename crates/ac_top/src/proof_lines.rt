@@ -1,6 +1,6 @@
 // The lines of `check`.
 ghost use Rattle.std.specs.Prelude.{◌≡◌, ◌++◌, take, OnOk, IfOk};
-ghost use Rattle.ac_top.specs.Texts as text;
+ghost use Rattle.ac_top.specs.ConsoleLines as text;
 
 use crate::texts::name_of;
 use ac_cert::types::Rule;

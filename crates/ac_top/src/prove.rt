@@ -2,10 +2,10 @@
 ghost use Rattle.std.specs.Prelude.{◌≡◌, Some, option_map, IfOk};
 ghost use Rattle.ac_claims.specs.Soundness as judge;
 ghost use Rattle.ac_syntax.specs.ExecutedCalls.{HaveArities};
-ghost use Rattle.ac_walk.specs.Causes.{IsAnswered};
+ghost use Rattle.ac_walk.specs.UnknownCauses.{IsAnswered};
 ghost use Rattle.ac_walk.specs.Verdicts.{AreVerdicts};
-ghost use Rattle.ac_top.specs.Proving.{ProveReports, IsProofOf, IsFileOf};
-ghost use Rattle.ac_top.specs.Stages.{file_of, models_of, written};
+ghost use Rattle.ac_top.specs.ProveReports.{ProveReports, IsProofOf, IsFileOf};
+ghost use Rattle.ac_top.specs.RunStages.{file_of, models_of, written};
 
 use crate::report::{ProofFile, Report, refused};
 use crate::status::status_of;

@@ -1,6 +1,6 @@
 ghost use Rattle.std.specs.Prelude.{◌≡◌, Ok, IfOk};
-ghost use Rattle.ac_top.specs.Stages.{said_by, told};
-ghost use Rattle.ac_top.specs.Texts as text;
+ghost use Rattle.ac_top.specs.RunStages.{said_by, told};
+ghost use Rattle.ac_top.specs.ConsoleLines as text;
 
 use crate::places::push_place;
 use ac_lex::LexFault;

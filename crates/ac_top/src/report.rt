@@ -1,10 +1,10 @@
 ghost use Rattle.std.specs.Prelude.{◌≡◌, ◌∷◌, replicate, IfOk};
-ghost use Rattle.ac_port.specs.Counts.{Rose};
+ghost use Rattle.ac_port.specs.CallCounts.{Rose};
 ghost use Rattle.ac_syntax.specs.ExecutedCalls.{HaveArities};
-ghost use Rattle.ac_top.specs.Answers.{ArePaired, SourceReports, FileReports};
+ghost use Rattle.ac_top.specs.ProgramAnswers.{ArePaired, SourceReports, FileReports};
 ghost use Rattle.ac_top.specs.Reads.{Fails};
 ghost use Rattle.ac_top.specs.Reports.{report as a_report};
-ghost use Rattle.ac_top.specs.Stages.{IsReadPair, IsSource, IsWithin, TaskReports, models_of, written};
+ghost use Rattle.ac_top.specs.RunStages.{IsReadPair, IsSource, IsWithin, TaskReports, models_of, written};
 
 use crate::check::report_check;
 use crate::lowering::{Lowered, lowered_pair};

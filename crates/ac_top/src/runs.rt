@@ -1,13 +1,13 @@
 // The work of `instance`: both programs of a pair run at one valuation, and what is reported of it.
 ghost use Rattle.std.specs.Prelude.{◌≡◌, ◌≤◌, ℤ, List, length, map, option_map, IfOk, MatchOption};
 ghost use Rattle.ac_syntax.specs.Small.{IsSmallPair};
-ghost use Rattle.ac_instance.specs.Answers.{IsReadyAt};
+ghost use Rattle.ac_instance.specs.ComparisonAnswers.{IsReadyAt};
 ghost use Rattle.ac_instance.specs.declared.halt.Halt.TheVariants.{Wide};
-ghost use Rattle.ac_commands.specs.Valuations.{IsValuationWord};
+ghost use Rattle.ac_cli_args.specs.Valuations.{IsValuationWord};
 ghost use Rattle.ac_top.specs.Reports.{report as a_report};
-ghost use Rattle.ac_top.specs.Runs.{valuation_word, IsGiven, status_of, IsReadyPair, RunReports, InstanceReports, HaltReports};
-ghost use Rattle.ac_top.specs.Stages.{written};
-ghost use Rattle.ac_top.specs.Texts.{outcome_lines};
+ghost use Rattle.ac_top.specs.InstanceReports.{valuation_word, IsGiven, status_of, IsReadyPair, RunReports, InstanceReports, HaltReports};
+ghost use Rattle.ac_top.specs.RunStages.{written};
+ghost use Rattle.ac_top.specs.ConsoleLines.{outcome_lines};
 
 use crate::halts::{
     outcome_lines, outside_context_line, range_line, status_of_outcomes, too_large_line,
@@ -15,7 +15,7 @@ use crate::halts::{
 };
 use crate::report::{Report, refused};
 use crate::status::Status;
-use ac_commands::valuation;
+use ac_cli_args::valuation;
 use ac_instance::{Halt, Outcome, Side, instance};
 use ac_syntax::tree::Pair;
 use std::alloc::{AllocError, Global};

@@ -1,5 +1,5 @@
 ghost use Rattle.std.specs.Prelude.{IfOk};
-ghost use Rattle.ac_top.specs.Stages.{IsPairing, IsPairingOf, IsParsed};
+ghost use Rattle.ac_top.specs.RunStages.{IsPairing, IsPairingOf, IsParsed};
 
 use crate::refusals::{Complaint, complaint_of, refusal_line};
 use crate::runs::Named;

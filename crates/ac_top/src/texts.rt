@@ -1,6 +1,6 @@
 ghost use Rattle.std.specs.Prelude.{◌≡◌, ◌∷◌, [], ◌++◌, codes, slice_get, OnOk, IfOk};
 ghost use Rattle.std.specs.Option.{option_copied};
-ghost use Rattle.ac_top.specs.Texts as text;
+ghost use Rattle.ac_top.specs.ConsoleLines as text;
 
 use ac_syntax::tree::Array;
 use itoa::Buffer;

@@ -5,27 +5,27 @@ use Rattle.ac_forms.specs.Affine.{Affine}
 use Rattle.ac_syntax.specs.declared.tree.Position.{Position}
 use Rattle.ac_syntax.specs.declared.tree.Position.TheVariants.{Node}
 use Rattle.ac_poly.specs.declared.types.Model.{Model}
-use Rattle.ac_paths.specs.Coordinates.{width}
-use Rattle.ac_paths.specs.Going.{Pairing, model_of, root}
-use Rattle.ac_paths.specs.Killing.{source_from}
-use Rattle.ac_forms.specs.Members.{IsAmong}
-use Rattle.ac_paths.specs.declared.path.Assumed.{Assumed}
-use Rattle.ac_paths.specs.declared.path.Path.{Path}
-use Rattle.ac_paths.specs.declared.path.Seat.{Seat}
-use Rattle.ac_paths.specs.declared.path.Side.{Side}
-use Rattle.ac_paths.specs.declared.path.Side.TheVariants.{Left, Right}
+use Rattle.ac_claims_paths.specs.InstanceCoordinates.{width}
+use Rattle.ac_claims_paths.specs.PathSteps.{Pairing, model_of, root}
+use Rattle.ac_claims_paths.specs.CopyKills.{source_from}
+use Rattle.ac_forms.specs.ListMembers.{IsAmong}
+use Rattle.ac_claims_paths.specs.declared.path.Assumed.{Assumed}
+use Rattle.ac_claims_paths.specs.declared.path.Path.{Path}
+use Rattle.ac_claims_paths.specs.declared.path.Seat.{Seat}
+use Rattle.ac_claims_paths.specs.declared.path.Side.{Side}
+use Rattle.ac_claims_paths.specs.declared.path.Side.TheVariants.{Left, Right}
 use Rattle.ac_claims.proofs.Plans.{position_is}
-use Rattle.ac_flow.specs.Cases.{Reads}
+use Rattle.ac_flow.specs.FlowCases.{Reads}
 use Rattle.ac_flow.specs.Readers.{readers, AreFlows}
 use Rattle.ac_flow.specs.declared.types.Case.{Case}
 use Rattle.ac_flow.specs.declared.types.ReadFlow.{ReadFlow}
 use Rattle.ac_flow.proofs.Linking.{IsReader, OfNode, OfOutput, is_reader}
-use Rattle.ac_flow_laws.proofs.InPieces.{flows_of_readers}
-use Rattle.ac_unfold.specs.Cases.{count_at, AssumesCase, AssumesSource}
-use Rattle.ac_leading.specs.Steps.{flow_on}
-use Rattle.ac_unfold.specs.Cutting.{IsAssumed}
-use Rattle.ac_unfold.specs.Making.{judge_of, IsCaseAt}
-use Rattle.ac_unfold.specs.Plans.{IsSettled}
+use Rattle.ac_flow.proofs.InPieces.{flows_of_readers}
+use Rattle.ac_unfold.specs.CaseBranches.{count_at, AssumesCase, AssumesSource}
+use Rattle.ac_widen_programs.specs.PairPathSteps.{flow_on}
+use Rattle.ac_unfold.specs.KillCuts.{IsAssumed}
+use Rattle.ac_unfold.specs.PlanResults.{judge_of, IsCaseAt}
+use Rattle.ac_unfold.specs.ReadySetting.{IsSettled}
 use Rattle.ac_unfold.specs.declared.ends.Search.{Search}
 
 reader_count : (m : Model) (r : Reads) → IsReader m r → count_at m r.position ≡ Some r.count
@@ -67,6 +67,6 @@ case_in g side m flows flow case q a e are i among is h =
       };
     }
 
-pub case_there : (search : Search) (side : Side) (flow : ReadFlow) (case : Case) (q : Path) → IsSettled search.setting.now → IsAmong flow (flow_on search.setting.now.left_flow.now search.setting.now.right_flow.now side).reads → IsAssumed search side flow case q → IsCaseAt (judge_of search) q case
-case_there search Left flow case q s i a = case_in (judge_of search) Left (judge_of search).left search.setting.now.left_flow.now.reads flow case q a.assumed refl s.left_flow i a.among a.is a.assumes
-case_there search Right flow case q s i a = case_in (judge_of search) Right (judge_of search).right search.setting.now.right_flow.now.reads flow case q a.assumed refl s.right_flow i a.among a.is a.assumes
+pub case_there : (search : Search) (side : Side) (flow : ReadFlow) (case : Case) (q : Path) → IsSettled search.program_flows.now → IsAmong flow (flow_on search.program_flows.now.left_flow.now search.program_flows.now.right_flow.now side).reads → IsAssumed search side flow case q → IsCaseAt (judge_of search) q case
+case_there search Left flow case q s i a = case_in (judge_of search) Left (judge_of search).left search.program_flows.now.left_flow.now.reads flow case q a.assumed refl s.left_flow i a.among a.is a.assumes
+case_there search Right flow case q s i a = case_in (judge_of search) Right (judge_of search).right search.program_flows.now.right_flow.now.reads flow case q a.assumed refl s.right_flow i a.among a.is a.assumes

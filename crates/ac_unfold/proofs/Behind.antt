@@ -3,12 +3,12 @@ use Rattle.std.proofs.Common.{◌≡◌, ℕ, ◌+◌, ◌≤◌, List, [], ◌�
 use Rattle.std.specs.Prelude.{Result, Ok, Err, IfOk, option_to_list}
 use Rattle.std.specs.declared.alloc.AllocError.{AllocError}
 use Rattle.ac_claims.specs.declared.types.Plan.{Plan}
-use Rattle.ac_graft.specs.Plans.{BranchesTo}
-use Rattle.ac_graft.specs.Sides.{BranchServesAnywhere}
-use Rattle.ac_unfold.specs.Courses.{IsBehind, IsBranched}
+use Rattle.ac_claims_plans.specs.PlanAcceptance.{BranchesTo}
+use Rattle.ac_claims_plans.specs.BranchSides.{BranchServesAnywhere}
+use Rattle.ac_unfold.specs.OpenBranches.{IsBehind, IsBranched}
 use Rattle.ac_unfold.specs.declared.course.Open.{Open}
 
-pub branched_ok : (res : Result Plan AllocError) (b : Open) (inside : Plan) → IfOk res (λ t. BranchServesAnywhere b.placing b.row inside b.outside.items t) → IfOk res (λ t. BranchesTo (inside ∷ b.outside.items) t.next) → IfOk res (IsBranched b inside)
+pub branched_ok : (res : Result Plan AllocError) (b : Open) (inside : Plan) → IfOk res (λ t. BranchServesAnywhere b.embedding b.row inside b.outside.items t) → IfOk res (λ t. BranchesTo (inside ∷ b.outside.items) t.next) → IfOk res (IsBranched b inside)
 branched_ok (Ok t) b inside s r = record { serves = s; branches = r }
 branched_ok (Err e) b inside s r = tt
 
@@ -16,10 +16,10 @@ branched_ok (Err e) b inside s r = tt
 pub record Inside (bs : List Open) (b : Open) (end t : Plan) : Type 0 where
   pub plan : Plan
   pub behind : IsBehind bs plan t
-  pub serves : BranchServesAnywhere b.placing b.row end b.outside.items plan
+  pub serves : BranchServesAnywhere b.embedding b.row end b.outside.items plan
 
 pub behind_last : (bs : List Open) (b : Open) (end t : Plan) → IsBehind (bs ++ b ∷ []) end t → Inside bs b end t
-behind_last [] b end t h = record { plan = t; behind = refl; serves = subst (λ (x : Plan). BranchServesAnywhere b.placing b.row x b.outside.items t) (sym h.1) h.2.serves }
+behind_last [] b end t h = record { plan = t; behind = refl; serves = subst (λ (x : Plan). BranchServesAnywhere b.embedding b.row x b.outside.items t) (sym h.1) h.2.serves }
 behind_last (x ∷ bs) b end t h =
     let k = behind_last bs b end h.0 h.1 in
     record { plan = k.plan; behind = (h.0, k.behind, h.2); serves = k.serves }

@@ -3,8 +3,8 @@ use Rattle.std.proofs.Common.{◌≡◌, ◌-◌, ◌++◌, ℕ, List, length, t
 use Rattle.std.proofs.lemmas.List.{length-drop, take_all, take-append-drop}
 use Rattle.std.specs.Prelude.{Result, Ok, Err, IfOk, IfSome, OnOk}
 use Rattle.ac_forms.specs.declared.conj.Conj.{Conj}
-use Rattle.ac_unfold.specs.Searching.{IsPointIn}
-use Rattle.ac_unfold.specs.declared.asking.Answer.{Answer}
+use Rattle.ac_unfold.specs.BrokenPathResults.{IsPointIn}
+use Rattle.ac_unfold.specs.declared.decide.Answer.{Answer}
 use Rattle.ac_unfold.specs.declared.types.UnfoldStop.{UnfoldStop}
 use Rattle.ac_unfold.proofs.Results.{at_some}
 

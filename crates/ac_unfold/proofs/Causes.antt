@@ -2,13 +2,13 @@
 use Rattle.std.proofs.Common.{◌≡◌, ◌⊎◌, inl, inr, ℕ, sym, subst}
 use Rattle.std.specs.Prelude.{Err}
 use Rattle.ac_forms.specs.declared.conj.Conj.{Conj}
-use Rattle.ac_refutations.specs.declared.strategy.Strategy.TheVariants.{Full, Economical}
+use Rattle.ac_omega_certify.specs.declared.strategy.Strategy.TheVariants.{Full, Economical}
 use Rattle.ac_omega.specs.Decisions.{walk_of, IsLarge, IsSpent, IsWide}
 use Rattle.ac_omega.specs.Either.{FindsEither, SettlesEither, StopsDeciding, StopsFinding}
 use Rattle.ac_omega.specs.declared.pieces.Stop.{Stop}
 use Rattle.ac_omega.specs.declared.pieces.Stop.TheVariants as decision
-use Rattle.ac_unfold.specs.Causes.{stop_of, IsTooCostly, IsTooWide}
-use Rattle.ac_unfold.specs.Stops.{StopsAsking}
+use Rattle.ac_unfold.specs.UnfoldCauses.{stop_of, IsTooCostly, IsTooWide}
+use Rattle.ac_unfold.specs.UnfoldStops.{StopsAsking}
 
 -- a walk that finds nothing does not decide
 not_decided : (q : Conj) (budget : ℕ) → StopsFinding q (walk_of Economical budget q) → StopsDeciding q (walk_of Economical budget q)

@@ -3,12 +3,12 @@ use Rattle.std.proofs.Common.{◌≡◌, inl, inr, ℕ, zero, suc, ◌+◌, ◌<
 use Rattle.std.specs.Prelude.{slice_get}
 use Rattle.std.proofs.lemmas.List.{take_more, take_all}
 use Rattle.ac_syntax.specs.declared.tree.Position.{Position}
-use Rattle.ac_forms.specs.Members.{IsAmong}
+use Rattle.ac_forms.specs.ListMembers.{IsAmong}
 use Rattle.ac_forms.proofs.Joining.{both_of}
-use Rattle.ac_claims.specs.Ending.{same_position}
+use Rattle.ac_claims.specs.ProofEnds.{same_position}
 use Rattle.ac_claims.specs.declared.types.Claim.{Claim}
 use Rattle.ac_graph.proofs.MoveSteps.{same_self, true_both}
-use Rattle.ac_unfold.specs.Cutting.{IsNumbered}
+use Rattle.ac_unfold.specs.KillCuts.{IsNumbered}
 
 -- none of the claims is of these positions
 abbrev pub NoneOf : List Claim → Position → Position → Type 0

@@ -10,22 +10,22 @@ use Rattle.ac_forms.specs.declared.row.Row.{Row}
 use Rattle.ac_forms.proofs.Distinct.{row_renaming-points}
 use Rattle.ac_syntax.specs.declared.tree.Order.{Order}
 use Rattle.ac_syntax.specs.declared.tree.Order.TheVariants.{Keep}
-use Rattle.ac_items.proofs.Options.{bind-some, map-some, some-is}
-use Rattle.ac_paths.specs.Branching.{onto}
-use Rattle.ac_paths.specs.Columns.{base, columns_of}
-use Rattle.ac_paths.specs.Going.{Pairing, at_rows, branches, extended, seat_of}
-use Rattle.ac_paths.specs.Calls.{pairing}
-use Rattle.ac_paths.specs.Killing.{case_columns}
-use Rattle.ac_forms.specs.Members.{IsAmong}
-use Rattle.ac_paths.specs.declared.path.Assumed.{Assumed}
-use Rattle.ac_paths.specs.declared.path.Branch.{Branch}
-use Rattle.ac_paths.specs.declared.path.Path.{Path}
-use Rattle.ac_paths.specs.declared.path.Seat.{Seat}
-use Rattle.ac_paths.specs.declared.path.Side.{Side}
+use Rattle.ac_base.proofs.Options.{bind-some, map-some, some-is}
+use Rattle.ac_claims_paths.specs.BranchPaths.{onto}
+use Rattle.ac_claims_paths.specs.PathColumns.{base, columns_of}
+use Rattle.ac_claims_paths.specs.PathSteps.{Pairing, at_rows, branches, extended, seat_of}
+use Rattle.ac_claims_paths.specs.ModelCalls.{pairing}
+use Rattle.ac_claims_paths.specs.CopyKills.{case_columns}
+use Rattle.ac_forms.specs.ListMembers.{IsAmong}
+use Rattle.ac_claims_paths.specs.declared.path.Assumed.{Assumed}
+use Rattle.ac_claims_paths.specs.declared.path.Branch.{Branch}
+use Rattle.ac_claims_paths.specs.declared.path.Path.{Path}
+use Rattle.ac_claims_paths.specs.declared.path.Seat.{Seat}
+use Rattle.ac_claims_paths.specs.declared.path.Side.{Side}
 use Rattle.ac_widen.specs.declared.derivation.Entry.{Entry}
 use Rattle.ac_claims.specs.Domains.{of_width, piece_by}
 use Rattle.ac_claims.specs.ProofFaults.{domain, left_seat, piece_rows, right_seat, start, start_columns}
-use Rattle.ac_claims.specs.Remaining.{start_at, start_beside, start_of}
+use Rattle.ac_claims.specs.RemainingPlans.{start_at, start_beside, start_of}
 use Rattle.ac_claims.specs.declared.domains.Piece.{Piece}
 use Rattle.ac_claims.specs.declared.types.Claim.{Claim}
 use Rattle.ac_claims.specs.declared.types.PlanNext.{PlanNext}
@@ -33,53 +33,53 @@ use Rattle.ac_claims.proofs.Plans.{position_is}
 use Rattle.ac_flow.specs.declared.types.Case.{Case}
 use Rattle.ac_flow.specs.declared.types.ReadFlow.{ReadFlow}
 use Rattle.ac_flow.specs.declared.types.Remainder.{Remainder}
-use Rattle.ac_graph.specs.Moves.{pairing_of}
-use Rattle.ac_graph.specs.Steps.{HaveFlows}
-use Rattle.ac_stopping.specs.Parts.{order_of as listed}
+use Rattle.ac_graph.specs.PairMoves.{pairing_of}
+use Rattle.ac_graph.specs.GraphMeaning.{HaveFlows}
+use Rattle.ac_unfold_plans.specs.ArgumentOrders.{order_of as listed}
 use Rattle.ac_syntax.specs.declared.tree.Site.{Site}
-use Rattle.ac_setting.specs.Programs.{order_at}
-use Rattle.ac_leading.specs.Ends.{entries_at}
-use Rattle.ac_leading.specs.Leading.{Unfolding, ComesTo, params_of, positions_of, seats_of}
-use Rattle.ac_leading.specs.Steps.{at_rest, columns_left, flow_on, further, order_of, with_rest, IsReached}
-use Rattle.ac_leading.proofs.Calling.{orders_are_taken}
-use Rattle.ac_leading.proofs.Reaching.{trails_lead}
-use Rattle.ac_leading.specs.Broken.{EndsBroken, HasNoClaim, IsBroken}
+use Rattle.ac_widen_programs.specs.PairSetting.{order_at}
+use Rattle.ac_widen_programs.specs.PairPathEnds.{entries_at}
+use Rattle.ac_widen_programs.specs.PairPaths.{Unfolding, ComesTo, params_of, positions_of, seats_of}
+use Rattle.ac_widen_programs.specs.PairPathSteps.{at_rest, columns_left, flow_on, further, order_of, with_rest, IsReached}
+use Rattle.ac_widen_programs.proofs.Calling.{orders_are_taken}
+use Rattle.ac_widen_programs.proofs.Reaching.{pair_paths_lead}
+use Rattle.ac_widen_programs.specs.BrokenPaths.{EndsBroken, HasNoClaim, IsBroken}
 use Rattle.ac_unfold.specs.Unfoldings.{IsUnfoldingOf}
-use Rattle.ac_unfold.specs.Cutting.{IsClaimBehind}
-use Rattle.ac_unfold.specs.Ended.{EndsAtClaimed, EndsWithoutStep, IsWalked}
-use Rattle.ac_unfold.specs.Full.{nothing_found}
-use Rattle.ac_unfold.specs.Making.{judge_of}
-use Rattle.ac_unfold.specs.Paths.{Found}
-use Rattle.ac_unfold.specs.Planned.{IsBrokenFrom}
-use Rattle.ac_unfold.specs.Searching.{Adds, AddsBroken, IsAt, IsFrom, IsInCase, IsKindThere, IsLeaf, IsOf, IsPast, IsPathAt, IsPathBreaking, Reached}
+use Rattle.ac_unfold.specs.KillCuts.{IsClaimBehind}
+use Rattle.ac_unfold.specs.UnfoldEnds.{EndsAtClaimed, EndsWithoutStep, IsWalked}
+use Rattle.ac_unfold.specs.EndResults.{nothing_found}
+use Rattle.ac_unfold.specs.PlanResults.{judge_of}
+use Rattle.ac_unfold.specs.UnfoldPaths.{BrokenPathsOf}
+use Rattle.ac_unfold.specs.StartResults.{IsBrokenFrom}
+use Rattle.ac_unfold.specs.BrokenPathResults.{Adds, AddsBroken, IsAt, IsFrom, IsInCase, IsKindThere, IsLeaf, IsOf, IsPast, IsPathAt, IsPathBreaking, Reached}
 use Rattle.ac_unfold.specs.declared.ends.Search.{Search}
 use Rattle.ac_unfold.specs.declared.kinds.Next.TheVariants as next
 use Rattle.ac_unfold.specs.declared.node.Node.{Node}
-use Rattle.ac_unfold.specs.declared.types.Setting.{Setting}
+use Rattle.ac_unfold.specs.declared.types.ProgramFlows.{ProgramFlows}
 use Rattle.ac_unfold.proofs.Adding.{adds_all, adds_all_ends, adds_kept}
 
 -- ---- what is added, one after the other
 
 -- nothing, of either
-pub broken_same : (search : Search) (At : Unfolding → Type 0) (before after : Found) → after.paths ≡ before.paths → after.ended ≡ before.ended → AddsBroken search At before after
+pub broken_same : (search : Search) (At : Unfolding → Type 0) (before after : BrokenPathsOf) → after.paths ≡ before.paths → after.ended ≡ before.ended → AddsBroken search At before after
 unfolding AddsBroken
 broken_same search At before after e f =
     (omega (arith, ap length e), λ u of at h. record { broken = subst (AllByRecursion (IsBroken u search.claims.now)) (sym e) h.broken; walked = subst (AllByRecursion (IsWalked u search.claims.now)) (sym f) h.walked })
 
-pub broken_none : (search : Search) (At : Unfolding → Type 0) (before after : Found) → after ≡ before → AddsBroken search At before after
-broken_none search At before after e = broken_same search At before after (ap (λ (f : Found). f.paths) e) (ap (λ (f : Found). f.ended) e)
+pub broken_none : (search : Search) (At : Unfolding → Type 0) (before after : BrokenPathsOf) → after ≡ before → AddsBroken search At before after
+broken_none search At before after e = broken_same search At before after (ap (λ (f : BrokenPathsOf). f.paths) e) (ap (λ (f : BrokenPathsOf). f.ended) e)
 
-pub broken_then : (search : Search) (At : Unfolding → Type 0) (a b c : Found) → AddsBroken search At a b → AddsBroken search At b c → AddsBroken search At a c
+pub broken_then : (search : Search) (At : Unfolding → Type 0) (a b c : BrokenPathsOf) → AddsBroken search At a b → AddsBroken search At b c → AddsBroken search At a c
 unfolding AddsBroken
 broken_then search At a b c h k = (omega (arith, h.0, k.0), λ u of at all. k.1 u of at (h.1 u of at all))
 
 -- at one place, where it was at another
-pub broken_from : (search : Search) (At Next : Unfolding → Type 0) (before after : Found) → ((u : Unfolding) → IsOf search u → At u → Next u) → AddsBroken search Next before after → AddsBroken search At before after
+pub broken_from : (search : Search) (At Next : Unfolding → Type 0) (before after : BrokenPathsOf) → ((u : Unfolding) → IsOf search u → At u → Next u) → AddsBroken search Next before after → AddsBroken search At before after
 unfolding AddsBroken
 broken_from search At Next before after f h = (h.0, λ u of at. h.1 u of (f u of at))
 
 -- by paths of one kind, and ends of another
-pub broken_by : (search : Search) (At : Unfolding → Type 0) (Kind Ends : List Entry → Type 0) (before after : Found) → ((u : Unfolding) → IsOf search u → At u → (es : List Entry) → Kind es → IsBroken u search.claims.now es)
+pub broken_by : (search : Search) (At : Unfolding → Type 0) (Kind Ends : List Entry → Type 0) (before after : BrokenPathsOf) → ((u : Unfolding) → IsOf search u → At u → (es : List Entry) → Kind es → IsBroken u search.claims.now es)
     → ((u : Unfolding) → IsOf search u → At u → (es : List Entry) → Ends es → IsWalked u search.claims.now es) → Adds Kind Ends before after → AddsBroken search At before after
 unfolding AddsBroken
 broken_by search At Kind Ends before after f g h = (
@@ -88,7 +88,7 @@ broken_by search At Kind Ends before after f g h = (
 )
 
 -- no path is lost
-pub broken_kept : (search : Search) (At : Unfolding → Type 0) (before after : Found) → AddsBroken search At before after → length before.paths ≤ length after.paths
+pub broken_kept : (search : Search) (At : Unfolding → Type 0) (before after : BrokenPathsOf) → AddsBroken search At before after → length before.paths ≤ length after.paths
 unfolding AddsBroken
 broken_kept search At before after h = h.0
 
@@ -100,77 +100,77 @@ all_last claims (x ∷ xs) s h k = (h.0, all_last claims xs s h.1 k)
 
 -- ---- where no claim stands
 
-pub is_past : (search : Search) (trail : List (Seat × Seat)) (q : Path) (u : Unfolding) → (q.gone ≡ true → HasNoClaim search.claims.now (seats_of q)) → IsAt search trail q u → IsPast search trail q u
-is_past search trail q u none at = by q.gone refl
+pub is_past : (search : Search) (pair_path : List (Seat × Seat)) (q : Path) (u : Unfolding) → (q.gone ≡ true → HasNoClaim search.claims.now (seats_of q)) → IsAt search pair_path q u → IsPast search pair_path q u
+is_past search pair_path q u none at = by q.gone refl
   where
-    by : (b : Bool) → q.gone ≡ b → IsPast search trail q u
+    by : (b : Bool) → q.gone ≡ b → IsPast search pair_path q u
     by false e = record { reached = at.reached; first = seats_of q; rest = []; is = at.begins e; free = tt }
     by true e =
         let b = at.behind e in
         record { reached = at.reached; first = b.first; rest = b.between ++ seats_of q ∷ []; is = b.is; free = all_last search.claims.now b.between (seats_of q) b.free (none e) }
 
-pub broken_past : (search : Search) (trail : List (Seat × Seat)) (q : Path) (before after : Found) → (q.gone ≡ true → HasNoClaim search.claims.now (seats_of q)) → AddsBroken search (IsPast search trail q) before after → AddsBroken search (IsAt search trail q) before after
-broken_past search trail q before after none h = broken_from search (IsAt search trail q) (IsPast search trail q) before after (λ u of at. is_past search trail q u none at) h
+pub broken_past : (search : Search) (pair_path : List (Seat × Seat)) (q : Path) (before after : BrokenPathsOf) → (q.gone ≡ true → HasNoClaim search.claims.now (seats_of q)) → AddsBroken search (IsPast search pair_path q) before after → AddsBroken search (IsAt search pair_path q) before after
+broken_past search pair_path q before after none h = broken_from search (IsAt search pair_path q) (IsPast search pair_path q) before after (λ u of at. is_past search pair_path q u none at) h
 
 -- ---- a point of a question
 
 pub params_are : (search : Search) (u : Unfolding) → IsOf search u → params_of u ≡ (judge_of search).params
 params_are search u of = ap (λ (g : Pairing). g.params) of.programs
 
--- the path of a trail at a point, with its end
-path_broken : (search : Search) (u : Unfolding) (trail : List (Seat × Seat)) (q : Path) (p : List ℤ) (first : Seat × Seat) (rest : List (Seat × Seat)) (es : List Entry) → IsOf search u → Reached search u trail q → q.conj.columns ≤ length p → Meets q.conj.rows p → trail ≡ first ∷ rest
-    → es ≡ entries_at (judge_of search).params p trail → EndsBroken u search.claims.now rest q p → IsBroken u search.claims.now es
-path_broken search u trail q p first rest es of reached long meets is are ends =
-    let comes = trails_lead u search.setting.now.left_flow.now search.setting.now.right_flow.now trail q of.flows reached p long meets in
+-- the path of a pair path at a point, with its end
+path_broken : (search : Search) (u : Unfolding) (pair_path : List (Seat × Seat)) (q : Path) (p : List ℤ) (first : Seat × Seat) (rest : List (Seat × Seat)) (es : List Entry) → IsOf search u → Reached search u pair_path q → q.conj.columns ≤ length p → Meets q.conj.rows p → pair_path ≡ first ∷ rest
+    → es ≡ entries_at (judge_of search).params p pair_path → EndsBroken u search.claims.now rest q p → IsBroken u search.claims.now es
+path_broken search u pair_path q p first rest es of reached long meets is are ends =
+    let comes = pair_paths_lead u search.program_flows.now.left_flow.now search.program_flows.now.right_flow.now pair_path q of.flows reached p long meets in
     record {
       first = first;
       rest = rest;
       question = q;
       point = p;
       comes = subst (λ (t : List (Seat × Seat)). ComesTo u t q p) is comes;
-      are = are ∙ ap (λ (n : ℕ). entries_at n p trail) (sym (params_are search u of)) ∙ ap (entries_at (params_of u) p) is;
+      are = are ∙ ap (λ (n : ℕ). entries_at n p pair_path) (sym (params_are search u of)) ∙ ap (entries_at (params_of u) p) is;
       ends = ends;
     }
 
 -- the same of a path to an end
-path_walked : (search : Search) (u : Unfolding) (trail : List (Seat × Seat)) (q : Path) (p : List ℤ) (first : Seat × Seat) (rest : List (Seat × Seat)) (es : List Entry) → IsOf search u → Reached search u trail q → q.conj.columns ≤ length p → Meets q.conj.rows p → trail ≡ first ∷ rest
-    → es ≡ entries_at (judge_of search).params p trail → EndsAtClaimed search.claims.now rest q ⊎ EndsWithoutStep u search.claims.now rest q → IsWalked u search.claims.now es
-path_walked search u trail q p first rest es of reached long meets is are ends =
-    let comes = trails_lead u search.setting.now.left_flow.now search.setting.now.right_flow.now trail q of.flows reached p long meets in
+path_walked : (search : Search) (u : Unfolding) (pair_path : List (Seat × Seat)) (q : Path) (p : List ℤ) (first : Seat × Seat) (rest : List (Seat × Seat)) (es : List Entry) → IsOf search u → Reached search u pair_path q → q.conj.columns ≤ length p → Meets q.conj.rows p → pair_path ≡ first ∷ rest
+    → es ≡ entries_at (judge_of search).params p pair_path → EndsAtClaimed search.claims.now rest q ⊎ EndsWithoutStep u search.claims.now rest q → IsWalked u search.claims.now es
+path_walked search u pair_path q p first rest es of reached long meets is are ends =
+    let comes = pair_paths_lead u search.program_flows.now.left_flow.now search.program_flows.now.right_flow.now pair_path q of.flows reached p long meets in
     record {
       first = first;
       rest = rest;
       question = q;
       point = p;
       comes = subst (λ (t : List (Seat × Seat)). ComesTo u t q p) is comes;
-      are = are ∙ ap (λ (n : ℕ). entries_at n p trail) (sym (params_are search u of)) ∙ ap (entries_at (params_of u) p) is;
+      are = are ∙ ap (λ (n : ℕ). entries_at n p pair_path) (sym (params_are search u of)) ∙ ap (entries_at (params_of u) p) is;
       ends = ends;
     }
 
 -- at a pair without a step
-pub leaf_walked : (search : Search) (trail : List (Seat × Seat)) (q : Path) (u : Unfolding) (es : List Entry) → IsLeaf (judge_of search) q → IsOf search u → IsPast search trail q u → IsPathAt (judge_of search).params trail q.conj es → IsWalked u search.claims.now es
-leaf_walked search trail q u es leaf of at x =
+pub leaf_walked : (search : Search) (pair_path : List (Seat × Seat)) (q : Path) (u : Unfolding) (es : List Entry) → IsLeaf (judge_of search) q → IsOf search u → IsPast search pair_path q u → IsPathAt (judge_of search).params pair_path q.conj es → IsWalked u search.claims.now es
+leaf_walked search pair_path q u es leaf of at x =
     let l = x.there.long in
     let k : IsLeaf (pairing_of u.pair) q = subst (λ (g : Pairing). IsLeaf g q) (sym of.programs) leaf in
-    path_walked search u trail q x.point at.first at.rest es of at.reached (omega (arith, l)) x.there.meets at.is x.are (inr (record { free = at.free; readers = record { left = k.left; right = k.right }; calls = k.calls }))
+    path_walked search u pair_path q x.point at.first at.rest es of at.reached (omega (arith, l)) x.there.meets at.is x.are (inr (record { free = at.free; readers = record { left = k.left; right = k.right }; calls = k.calls }))
 
 -- ---- mismatches
 
-pub mismatch_broken : (search : Search) (trail : List (Seat × Seat)) (q : Path) (before after : Found) → IsKindThere search q next.Mismatch → IsLeaf (judge_of search) q
-    → Adds (IsPathAt (judge_of search).params trail q.conj) (IsPathAt (judge_of search).params trail q.conj) before after → AddsBroken search (IsPast search trail q) before after
+pub mismatch_broken : (search : Search) (pair_path : List (Seat × Seat)) (q : Path) (before after : BrokenPathsOf) → IsKindThere search q next.Mismatch → IsLeaf (judge_of search) q
+    → Adds (IsPathAt (judge_of search).params pair_path q.conj) (IsPathAt (judge_of search).params pair_path q.conj) before after → AddsBroken search (IsPast search pair_path q) before after
 unfolding IsKindThere
-mismatch_broken search trail q before after kind leaf h =
-    broken_by search (IsPast search trail q) (IsPathAt (judge_of search).params trail q.conj) (IsPathAt (judge_of search).params trail q.conj) before after
-    (λ u of at es x. let l = x.there.long in path_broken search u trail q x.point at.first at.rest es of at.reached (omega (arith, l)) x.there.meets at.is x.are (inl (record { free = at.free; nothing = kind u of x.point })))
-    (λ u of at es x. leaf_walked search trail q u es leaf of at x) h
+mismatch_broken search pair_path q before after kind leaf h =
+    broken_by search (IsPast search pair_path q) (IsPathAt (judge_of search).params pair_path q.conj) (IsPathAt (judge_of search).params pair_path q.conj) before after
+    (λ u of at es x. let l = x.there.long in path_broken search u pair_path q x.point at.first at.rest es of at.reached (omega (arith, l)) x.there.meets at.is x.are (inl (record { free = at.free; nothing = kind u of x.point })))
+    (λ u of at es x. leaf_walked search pair_path q u es leaf of at x) h
 
-pub match_broken : (search : Search) (trail : List (Seat × Seat)) (q : Path) (rows : List Row) (end : PlanNext) (before after : Found) → IsKindThere search q (next.Match rows end) → IsLeaf (judge_of search) q
-    → Adds (IsPathBreaking (judge_of search).params trail q.conj rows) (IsPathAt (judge_of search).params trail q.conj) before after → AddsBroken search (IsPast search trail q) before after
+pub match_broken : (search : Search) (pair_path : List (Seat × Seat)) (q : Path) (rows : List Row) (end : PlanNext) (before after : BrokenPathsOf) → IsKindThere search q (next.Match rows end) → IsLeaf (judge_of search) q
+    → Adds (IsPathBreaking (judge_of search).params pair_path q.conj rows) (IsPathAt (judge_of search).params pair_path q.conj) before after → AddsBroken search (IsPast search pair_path q) before after
 unfolding IsKindThere
-match_broken search trail q rows end before after kind leaf h =
-    broken_by search (IsPast search trail q) (IsPathBreaking (judge_of search).params trail q.conj rows) (IsPathAt (judge_of search).params trail q.conj) before after
-    (λ u of at es x. path_broken search u trail q x.point at.first at.rest es of at.reached x.long x.meets at.is x.are (inl (record { free = at.free; nothing = kind u of x.point x.row x.among x.fails })))
-    (λ u of at es x. leaf_walked search trail q u es leaf of at x) h
+match_broken search pair_path q rows end before after kind leaf h =
+    broken_by search (IsPast search pair_path q) (IsPathBreaking (judge_of search).params pair_path q.conj rows) (IsPathAt (judge_of search).params pair_path q.conj) before after
+    (λ u of at es x. path_broken search u pair_path q x.point at.first at.rest es of at.reached x.long x.meets at.is x.are (inl (record { free = at.free; nothing = kind u of x.point x.row x.among x.fails })))
+    (λ u of at es x. leaf_walked search pair_path q u es leaf of at x) h
 
 -- ---- claims
 
@@ -191,11 +191,11 @@ in_get (y ∷ xs) zero x e = inl cc
 in_get (y ∷ xs) (suc i) x e = inr (in_get xs i x e)
 
 -- a path to the pair of a claim ends there
-pub claim_walked : (search : Search) (trail : List (Seat × Seat)) (q : Path) (number : ℕ) (u : Unfolding) (es : List Entry) → IsClaimBehind search q number → IsOf search u → IsAt search trail q u → IsPathAt (judge_of search).params trail q.conj es → IsWalked u search.claims.now es
-claim_walked search trail q number u es there of at x =
+pub claim_walked : (search : Search) (pair_path : List (Seat × Seat)) (q : Path) (number : ℕ) (u : Unfolding) (es : List Entry) → IsClaimBehind search q number → IsOf search u → IsAt search pair_path q u → IsPathAt (judge_of search).params pair_path q.conj es → IsWalked u search.claims.now es
+claim_walked search pair_path q number u es there of at x =
     let b = at.behind there.gone in
     let l = x.there.long in
-    path_walked search u trail q x.point b.first (b.between ++ seats_of q ∷ []) es of at.reached (omega (arith, l)) x.there.meets b.is x.are
+    path_walked search u pair_path q x.point b.first (b.between ++ seats_of q ∷ []) es of at.reached (omega (arith, l)) x.there.meets b.is x.are
     (inl (record {
       between = b.between;
       rest_is = refl;
@@ -206,12 +206,12 @@ claim_walked search trail q number u es there of at x =
       right_is = position_is q.right.position there.at.claim.right there.at.right_is;
     }))
 
-pub claim_broken : (search : Search) (trail : List (Seat × Seat)) (q : Path) (number : ℕ) (claim : Claim) (rows : List Row) (before after : Found) → IsClaimBehind search q number → slice_get search.claims.now number ≡ Some claim
+pub claim_broken : (search : Search) (pair_path : List (Seat × Seat)) (q : Path) (number : ℕ) (claim : Claim) (rows : List Row) (before after : BrokenPathsOf) → IsClaimBehind search q number → slice_get search.claims.now number ≡ Some claim
     → Some rows ≡ rows_renaming (base (judge_of search).params ++ (columns_of q.left ++ columns_of q.right)) claim.rows
-    → Adds (IsPathBreaking (judge_of search).params trail q.conj rows) (IsPathAt (judge_of search).params trail q.conj) before after → AddsBroken search (IsAt search trail q) before after
-claim_broken search trail q number claim rows before after there get made h =
-    broken_by search (IsAt search trail q) (IsPathBreaking (judge_of search).params trail q.conj rows) (IsPathAt (judge_of search).params trail q.conj) before after (λ u of at es x. by u of at es x (renamed_in ks claim.rows rows (sym made) x.row x.among))
-    (λ u of at es x. claim_walked search trail q number u es there of at x) h
+    → Adds (IsPathBreaking (judge_of search).params pair_path q.conj rows) (IsPathAt (judge_of search).params pair_path q.conj) before after → AddsBroken search (IsAt search pair_path q) before after
+claim_broken search pair_path q number claim rows before after there get made h =
+    broken_by search (IsAt search pair_path q) (IsPathBreaking (judge_of search).params pair_path q.conj rows) (IsPathAt (judge_of search).params pair_path q.conj) before after (λ u of at es x. by u of at es x (renamed_in ks claim.rows rows (sym made) x.row x.among))
+    (λ u of at es x. claim_walked search pair_path q number u es there of at x) h
   where
     ks : List ℕ
     ks = base (judge_of search).params ++ (columns_of q.left ++ columns_of q.right)
@@ -219,12 +219,12 @@ claim_broken search trail q number claim rows before after there get made h =
     same : there.at.claim ≡ claim
     same = some-is there.at.claim claim (sym there.at.is ∙ get)
 
-    by : (u : Unfolding) → IsOf search u → IsAt search trail q u → (es : List Entry) → (x : IsPathBreaking (judge_of search).params trail q.conj rows es) → (row : Row) × IsAmong row claim.rows × (row_renaming ks row ≡ Some x.row) → IsBroken u search.claims.now es
+    by : (u : Unfolding) → IsOf search u → IsAt search pair_path q u → (es : List Entry) → (x : IsPathBreaking (judge_of search).params pair_path q.conj rows es) → (row : Row) × IsAmong row claim.rows × (row_renaming ks row ≡ Some x.row) → IsBroken u search.claims.now es
     by u of at es x r =
         let b = at.behind there.gone in
         let n = params_are search u of in
         let fails : ¬ (Holds r.0 (picked ks x.point)) = λ h. x.fails.fails ((row_renaming-points ks r.0 x.row x.point r.2).1 h) in
-        path_broken search u trail q x.point b.first (b.between ++ seats_of q ∷ []) es of at.reached x.long x.meets b.is x.are
+        path_broken search u pair_path q x.point b.first (b.between ++ seats_of q ∷ []) es of at.reached x.long x.meets b.is x.are
         (inr (record {
           between = b.between;
           rest_is = refl;
@@ -241,8 +241,8 @@ claim_broken search trail q number claim rows before after there get made h =
 -- ---- starts
 
 -- where a claim starts, the unfolding of the claim begins
-pub is_begun : (search : Search) (start : Claim) (left right : ℕ) (path : Path) (node : Node) (u : Unfolding) → start_at (judge_of search) start left right ≡ Some path → IsWellMade path.conj → node.question ≡ path → node.trail ≡ seats_of path ∷ [] → IsOf search u → IsFrom start u
-    → IsAt search node.trail node.question u
+pub is_begun : (search : Search) (start : Claim) (left right : ℕ) (path : Path) (node : Node) (u : Unfolding) → start_at (judge_of search) start left right ≡ Some path → IsWellMade path.conj → node.question ≡ path → node.pair_path ≡ seats_of path ∷ [] → IsOf search u → IsFrom start u
+    → IsAt search node.pair_path node.question u
 is_begun search start left right path node u e made q t of from =
     let g = judge_of search in
     let a = bind-some (piece_by left (domain g.left start.left)) (λ (l : Piece). start_beside g start l (piece_by right (domain g.right start.right))) path e in
@@ -269,72 +269,72 @@ is_begun search start left right path node u e made q t of from =
     not_both : (b : Bool) → b ≡ false → ¬ (b ≡ true)
     not_both b e f = let z : false ≡ true = sym e ∙ f in absurd cc
 
-pub begun_broken : (search : Search) (start : Claim) (left right : ℕ) (path : Path) (node next : Node) (before after : Found) → start_at (judge_of search) start left right ≡ Some path → IsWellMade path.conj → node.question ≡ path → node.trail ≡ seats_of path ∷ []
-    → next.question ≡ node.question → next.trail ≡ node.trail → AddsBroken search (IsAt search next.trail next.question) before after → AddsBroken search (IsFrom start) before after
+pub begun_broken : (search : Search) (start : Claim) (left right : ℕ) (path : Path) (node next : Node) (before after : BrokenPathsOf) → start_at (judge_of search) start left right ≡ Some path → IsWellMade path.conj → node.question ≡ path → node.pair_path ≡ seats_of path ∷ []
+    → next.question ≡ node.question → next.pair_path ≡ node.pair_path → AddsBroken search (IsAt search next.pair_path next.question) before after → AddsBroken search (IsFrom start) before after
 begun_broken search start left right path node next before after e made q t q' t' h =
-    broken_from search (IsFrom start) (IsAt search next.trail next.question) before after (λ u of from. is_begun search start left right path next u e made (q' ∙ q) (t' ∙ t) of from) h
+    broken_from search (IsFrom start) (IsAt search next.pair_path next.question) before after (λ u of from. is_begun search start left right path next u e made (q' ∙ q) (t' ∙ t) of from) h
 
 -- ---- calls
 
 -- behind a branch of two calls
-pub behind_call : (search : Search) (trail : List (Seat × Seat)) (q : Path) (order : Order) (bs : List Path) (b : Path) (u : Unfolding) → IsOf search u → IsKindThere search q (next.Calls order) → branches (judge_of search) order q ≡ Some bs → IsAmong b bs → b.gone ≡ true → IsPast search trail q u
-    → IsAt search (trail ++ seats_of b ∷ []) b u
+pub behind_call : (search : Search) (pair_path : List (Seat × Seat)) (q : Path) (order : Order) (bs : List Path) (b : Path) (u : Unfolding) → IsOf search u → IsKindThere search q (next.Calls order) → branches (judge_of search) order q ≡ Some bs → IsAmong b bs → b.gone ≡ true → IsPast search pair_path q u
+    → IsAt search (pair_path ++ seats_of b ∷ []) b u
 unfolding IsKindThere
-behind_call search trail q order bs b u of kind is i gone at =
+behind_call search pair_path q order bs b u of kind is i gone at =
     let k = kind u of in
     let there : branches (pairing_of u.pair) order q ≡ Some bs = ap (λ (g : Pairing). branches g order q) of.programs ∙ is in
     let key = positions_of (seats_of q) in
     let same : order_of u q ≡ order = ap (order_at u.pair key) k.1 ∙ orders_are_taken u q order bs k.0 there in
     let taken : branches (pairing_of u.pair) (order_of u q) q ≡ Some bs = ap (λ (o : Order). branches (pairing_of u.pair) o q) same ∙ there in
     record {
-      reached = IsReached.call trail q b bs at.reached k.0 taken i;
+      reached = IsReached.call pair_path q b bs at.reached k.0 taken i;
       begins = λ e. let z : false ≡ true = sym e ∙ gone in absurd cc;
       behind = λ _. record { first = at.first; between = at.rest; is = ap (λ (xs : List (Seat × Seat)). xs ++ seats_of b ∷ []) at.is; free = at.free };
     }
 
 -- paths are added behind the first branches of some, of which these are the branches of two calls
-unfoldable pub AddsCalls : Search → Node → Order → List Branch → Found → Found → Type 0
-AddsCalls search node order found before after = (rest : List Branch) → Some (map (onto node.question) (found ++ rest)) ≡ branches (judge_of search) order node.question → AddsBroken search (IsPast search node.trail node.question) before after
+unfoldable pub AddsCalls : Search → Node → Order → List Branch → BrokenPathsOf → BrokenPathsOf → Type 0
+AddsCalls search node order found before after = (rest : List Branch) → Some (map (onto node.question) (found ++ rest)) ≡ branches (judge_of search) order node.question → AddsBroken search (IsPast search node.pair_path node.question) before after
 
-pub calls_none : (search : Search) (node : Node) (order : Order) (before after : Found) → after ≡ before → AddsCalls search node order [] before after
+pub calls_none : (search : Search) (node : Node) (order : Order) (before after : BrokenPathsOf) → after ≡ before → AddsCalls search node order [] before after
 unfolding AddsCalls
-calls_none search node order before after e rest is = broken_none search (IsPast search node.trail node.question) before after e
+calls_none search node order before after e rest is = broken_none search (IsPast search node.pair_path node.question) before after e
 
 pub in_middle : (q : Path) (xs rest : List Branch) (b : Branch) → IsAmong (onto q b) (map (onto q) (xs ++ b ∷ rest))
 in_middle q [] rest b = inl refl
 in_middle q (x ∷ xs) rest b = inr (in_middle q xs rest b)
 
-pub calls_more : (search : Search) (node : Node) (order : Order) (found : List Branch) (b : Branch) (child : Node) (before now after : Found) → IsKindThere search node.question (next.Calls order) → AddsCalls search node order found before now
-    → child.question ≡ onto node.question b → child.trail ≡ node.trail ++ (b.left, b.right) ∷ [] → AddsBroken search (IsAt search child.trail child.question) now after → AddsCalls search node order (found ++ b ∷ []) before after
+pub calls_more : (search : Search) (node : Node) (order : Order) (found : List Branch) (b : Branch) (child : Node) (before now after : BrokenPathsOf) → IsKindThere search node.question (next.Calls order) → AddsCalls search node order found before now
+    → child.question ≡ onto node.question b → child.pair_path ≡ node.pair_path ++ (b.left, b.right) ∷ [] → AddsBroken search (IsAt search child.pair_path child.question) now after → AddsCalls search node order (found ++ b ∷ []) before after
 unfolding AddsCalls
 calls_more search node order found b child before now after kind h e f k rest is =
     let all : Some (map (onto node.question) (found ++ b ∷ rest)) ≡ branches (judge_of search) order node.question = ap (λ (xs : List Branch). Some (map (onto node.question) xs)) (sym (append_assoc found (b ∷ []) rest)) ∙ is in
-    let there : (u : Unfolding) → IsOf search u → IsPast search node.trail node.question u → IsAt search child.trail child.question u = λ u of at.
-    subst (λ (x : List (Seat × Seat)). IsAt search x child.question u) (sym f) (subst (λ (x : Path). IsAt search (node.trail ++ (b.left, b.right) ∷ []) x u) (sym e)
-    (behind_call search node.trail node.question order (map (onto node.question) (found ++ b ∷ rest)) (onto node.question b) u of kind (sym all) (in_middle node.question found rest b) refl at)) in
-    broken_then search (IsPast search node.trail node.question) before now after (h (b ∷ rest) all) (broken_from search (IsPast search node.trail node.question) (IsAt search child.trail child.question) now after there k)
+    let there : (u : Unfolding) → IsOf search u → IsPast search node.pair_path node.question u → IsAt search child.pair_path child.question u = λ u of at.
+    subst (λ (x : List (Seat × Seat)). IsAt search x child.question u) (sym f) (subst (λ (x : Path). IsAt search (node.pair_path ++ (b.left, b.right) ∷ []) x u) (sym e)
+    (behind_call search node.pair_path node.question order (map (onto node.question) (found ++ b ∷ rest)) (onto node.question b) u of kind (sym all) (in_middle node.question found rest b) refl at)) in
+    broken_then search (IsPast search node.pair_path node.question) before now after (h (b ∷ rest) all) (broken_from search (IsPast search node.pair_path node.question) (IsAt search child.pair_path child.question) now after there k)
 
 -- behind the first ones
-pub calls_some : (search : Search) (node : Node) (order : Order) (first found : List Branch) (n : ℕ) (before after : Found) → AddsCalls search node order first before after → first ≡ take n found
-    → Some (map (onto node.question) found) ≡ branches (judge_of search) order node.question → AddsBroken search (IsPast search node.trail node.question) before after
+pub calls_some : (search : Search) (node : Node) (order : Order) (first found : List Branch) (n : ℕ) (before after : BrokenPathsOf) → AddsCalls search node order first before after → first ≡ take n found
+    → Some (map (onto node.question) found) ≡ branches (judge_of search) order node.question → AddsBroken search (IsPast search node.pair_path node.question) before after
 unfolding AddsCalls
 calls_some search node order first found n before after h e is =
     h (drop n found) (ap (λ (xs : List Branch). Some (map (onto node.question) (xs ++ drop n found))) e ∙ ap (λ (xs : List Branch). Some (map (onto node.question) xs)) (take-append-drop n found) ∙ is)
 
-pub calls_all : (search : Search) (node : Node) (order : Order) (found : List Branch) (before after : Found) → AddsCalls search node order found before after → Some (map (onto node.question) found) ≡ branches (judge_of search) order node.question
-    → AddsBroken search (IsPast search node.trail node.question) before after
+pub calls_all : (search : Search) (node : Node) (order : Order) (found : List Branch) (before after : BrokenPathsOf) → AddsCalls search node order found before after → Some (map (onto node.question) found) ≡ branches (judge_of search) order node.question
+    → AddsBroken search (IsPast search node.pair_path node.question) before after
 unfolding AddsCalls
 calls_all search node order found before after h is = h [] (ap (λ (xs : List Branch). Some (map (onto node.question) xs)) (append-nil found) ∙ is)
 
 -- ---- reads
 
 -- the same of a read or an output, and so many of its branches
-unfoldable pub AddsReads : Search → Node → ℕ → List Branch → Found → Found → Type 0
-AddsReads search node number found before after = (number ≡ length found) × ((rest : List Branch) → Some (map (onto node.question) (found ++ rest)) ≡ branches (judge_of search) Keep node.question → AddsBroken search (IsPast search node.trail node.question) before after)
+unfoldable pub AddsReads : Search → Node → ℕ → List Branch → BrokenPathsOf → BrokenPathsOf → Type 0
+AddsReads search node number found before after = (number ≡ length found) × ((rest : List Branch) → Some (map (onto node.question) (found ++ rest)) ≡ branches (judge_of search) Keep node.question → AddsBroken search (IsPast search node.pair_path node.question) before after)
 
-pub reads_none : (search : Search) (node : Node) (before after : Found) → after ≡ before → AddsReads search node 0 [] before after
+pub reads_none : (search : Search) (node : Node) (before after : BrokenPathsOf) → after ≡ before → AddsReads search node 0 [] before after
 unfolding AddsReads
-reads_none search node before after e = (refl, λ rest is. broken_none search (IsPast search node.trail node.question) before after e)
+reads_none search node before after e = (refl, λ rest is. broken_none search (IsPast search node.pair_path node.question) before after e)
 
 get_middle : (q : Path) (xs rest : List Branch) (b : Branch) → slice_get (map (onto q) (xs ++ b ∷ rest)) (length xs) ≡ Some (onto q b)
 get_middle q [] rest b = refl
@@ -346,14 +346,14 @@ length_last (x ∷ xs) b = ap suc (length_last xs b) ∙ omega arith
 
 -- the branch of a case with its number
 pub in_case : (search : Search) (node : Node) (side : Side) (read : ReadFlow) (case : Case) (number : ℕ) (found rest : List Branch) (b : Branch) (u : Unfolding) → IsOf search u → IsKindThere search node.question (next.Read side)
-    → IsAmong read (flow_on search.setting.now.left_flow.now search.setting.now.right_flow.now side).reads → read.position ≡ (seat_of node.question side).position → slice_get read.cases number ≡ Some case → number ≡ length found
-    → Some (map (onto node.question) (found ++ b ∷ rest)) ≡ branches (judge_of search) Keep node.question → IsPast search node.trail node.question u → IsInCase search case (node.trail ++ (b.left, b.right) ∷ []) (onto node.question b) u
+    → IsAmong read (flow_on search.program_flows.now.left_flow.now search.program_flows.now.right_flow.now side).reads → read.position ≡ (seat_of node.question side).position → slice_get read.cases number ≡ Some case → number ≡ length found
+    → Some (map (onto node.question) (found ++ b ∷ rest)) ≡ branches (judge_of search) Keep node.question → IsPast search node.pair_path node.question u → IsInCase search case (node.pair_path ++ (b.left, b.right) ∷ []) (onto node.question b) u
 unfolding IsKindThere
 in_case search node side read case number found rest b u of kind among position get count is at =
     let q = node.question in
     let bs = map (onto q) (found ++ b ∷ rest) in
     record {
-      before = node.trail;
+      before = node.pair_path;
       question = q;
       past = at;
       side = side;
@@ -368,33 +368,33 @@ in_case search node side read case number found rest b u of kind among position 
         branch_is = ap (slice_get bs) count ∙ get_middle q found rest b;
         case_is = get;
       };
-      trail_is = refl;
+      pair_path_is = refl;
       gone = refl;
     }
 
-pub reads_more : (search : Search) (node : Node) (side : Side) (read : ReadFlow) (case : Case) (number next_number : ℕ) (found : List Branch) (b : Branch) (child : Node) (before now after : Found) → IsKindThere search node.question (next.Read side)
-    → IsAmong read (flow_on search.setting.now.left_flow.now search.setting.now.right_flow.now side).reads → read.position ≡ (seat_of node.question side).position → slice_get read.cases number ≡ Some case → AddsReads search node number found before now
-    → child.question ≡ onto node.question b → child.trail ≡ node.trail ++ (b.left, b.right) ∷ [] → next_number ≡ number + 1 → AddsBroken search (IsInCase search case child.trail child.question) now after → AddsReads search node next_number (found ++ b ∷ []) before after
+pub reads_more : (search : Search) (node : Node) (side : Side) (read : ReadFlow) (case : Case) (number next_number : ℕ) (found : List Branch) (b : Branch) (child : Node) (before now after : BrokenPathsOf) → IsKindThere search node.question (next.Read side)
+    → IsAmong read (flow_on search.program_flows.now.left_flow.now search.program_flows.now.right_flow.now side).reads → read.position ≡ (seat_of node.question side).position → slice_get read.cases number ≡ Some case → AddsReads search node number found before now
+    → child.question ≡ onto node.question b → child.pair_path ≡ node.pair_path ++ (b.left, b.right) ∷ [] → next_number ≡ number + 1 → AddsBroken search (IsInCase search case child.pair_path child.question) now after → AddsReads search node next_number (found ++ b ∷ []) before after
 unfolding AddsReads
 reads_more search node side read case number next_number found b child before now after kind among position get h e f n k = (
   n ∙ ap (λ (j : ℕ). j + 1) h.0 ∙ sym (length_last found b),
   λ rest is.
       let all : Some (map (onto node.question) (found ++ b ∷ rest)) ≡ branches (judge_of search) Keep node.question = ap (λ (xs : List Branch). Some (map (onto node.question) xs)) (sym (append_assoc found (b ∷ []) rest)) ∙ is in
-      let there : (u : Unfolding) → IsOf search u → IsPast search node.trail node.question u → IsInCase search case child.trail child.question u = λ u of at.
-      subst (λ (x : List (Seat × Seat)). IsInCase search case x child.question u) (sym f) (subst (λ (x : Path). IsInCase search case (node.trail ++ (b.left, b.right) ∷ []) x u) (sym e)
+      let there : (u : Unfolding) → IsOf search u → IsPast search node.pair_path node.question u → IsInCase search case child.pair_path child.question u = λ u of at.
+      subst (λ (x : List (Seat × Seat)). IsInCase search case x child.question u) (sym f) (subst (λ (x : Path). IsInCase search case (node.pair_path ++ (b.left, b.right) ∷ []) x u) (sym e)
       (in_case search node side read case number found rest b u of kind among position get h.0 all at)) in
-      broken_then search (IsPast search node.trail node.question) before now after (h.1 (b ∷ rest) all) (broken_from search (IsPast search node.trail node.question) (IsInCase search case child.trail child.question) now after there k),
+      broken_then search (IsPast search node.pair_path node.question) before now after (h.1 (b ∷ rest) all) (broken_from search (IsPast search node.pair_path node.question) (IsInCase search case child.pair_path child.question) now after there k),
 )
 
 -- behind the first ones
-pub reads_some : (search : Search) (node : Node) (number : ℕ) (first found : List Branch) (n : ℕ) (before after : Found) → AddsReads search node number first before after → first ≡ take n found
-    → Some (map (onto node.question) found) ≡ branches (judge_of search) Keep node.question → AddsBroken search (IsPast search node.trail node.question) before after
+pub reads_some : (search : Search) (node : Node) (number : ℕ) (first found : List Branch) (n : ℕ) (before after : BrokenPathsOf) → AddsReads search node number first before after → first ≡ take n found
+    → Some (map (onto node.question) found) ≡ branches (judge_of search) Keep node.question → AddsBroken search (IsPast search node.pair_path node.question) before after
 unfolding AddsReads
 reads_some search node number first found n before after h e is =
     h.1 (drop n found) (ap (λ (xs : List Branch). Some (map (onto node.question) (xs ++ drop n found))) e ∙ ap (λ (xs : List Branch). Some (map (onto node.question) xs)) (take-append-drop n found) ∙ is)
 
-pub reads_all : (search : Search) (node : Node) (number : ℕ) (found : List Branch) (before after : Found) → AddsReads search node number found before after → Some (map (onto node.question) found) ≡ branches (judge_of search) Keep node.question
-    → AddsBroken search (IsPast search node.trail node.question) before after
+pub reads_all : (search : Search) (node : Node) (number : ℕ) (found : List Branch) (before after : BrokenPathsOf) → AddsReads search node number found before after → Some (map (onto node.question) found) ≡ branches (judge_of search) Keep node.question
+    → AddsBroken search (IsPast search node.pair_path node.question) before after
 unfolding AddsReads
 reads_all search node number found before after h is = h.1 [] (ap (λ (xs : List Branch). Some (map (onto node.question) xs)) (append-nil found) ∙ is)
 
@@ -406,30 +406,30 @@ rest_keeps n b rest d e =
     let m = map-some _ _ d a.2 in
     (ap (λ (x : Path). x.gone) m.2, ap seats_of m.2)
 
-pub at_piece : (search : Search) (case : Case) (trail : List (Seat × Seat)) (b d : Path) (rest : Remainder) (u : Unfolding) → IsOf search u → IsAmong rest case.pieces → at_rest (judge_of search).params b rest.conj ≡ Some d → IsInCase search case trail b u → IsAt search trail d u
-at_piece search case trail b d rest u of i e at =
+pub at_piece : (search : Search) (case : Case) (pair_path : List (Seat × Seat)) (b d : Path) (rest : Remainder) (u : Unfolding) → IsOf search u → IsAmong rest case.pieces → at_rest (judge_of search).params b rest.conj ≡ Some d → IsInCase search case pair_path b u → IsAt search pair_path d u
+at_piece search case pair_path b d rest u of i e at =
     let n = params_are search u of in
     let e' : at_rest (params_of u) b rest.conj ≡ Some d = ap (λ (k : ℕ). at_rest k b rest.conj) n ∙ e in
     let k = rest_keeps (judge_of search).params b rest.conj d e in
     let reached : Reached search u (at.before ++ seats_of b ∷ []) d = IsReached.read at.before at.side at.question b d case rest at.past.reached at.branch i e' in
     record {
-      reached = subst (λ (t : List (Seat × Seat)). Reached search u t d) (sym at.trail_is) reached;
+      reached = subst (λ (t : List (Seat × Seat)). Reached search u t d) (sym at.pair_path_is) reached;
       begins = λ f. let z : false ≡ true = sym f ∙ k.0 ∙ at.gone in absurd cc;
       behind = λ _. record {
         first = at.past.first;
         between = at.past.rest;
-        is = at.trail_is ∙ ap (λ (xs : List (Seat × Seat)). xs ++ seats_of b ∷ []) at.past.is ∙ ap (λ (s : Seat × Seat). at.past.first ∷ (at.past.rest ++ s ∷ [])) (sym k.1);
+        is = at.pair_path_is ∙ ap (λ (xs : List (Seat × Seat)). xs ++ seats_of b ∷ []) at.past.is ∙ ap (λ (s : Seat × Seat). at.past.first ∷ (at.past.rest ++ s ∷ [])) (sym k.1);
         free = at.past.free;
       };
     }
 
-pub piece_broken : (search : Search) (case : Case) (node child next : Node) (rest : Remainder) (before now after : Found) → AddsBroken search (IsInCase search case node.trail node.question) before now → IsAmong rest case.pieces
-    → at_rest (judge_of search).params node.question rest.conj ≡ Some child.question → child.trail ≡ node.trail → next.question ≡ child.question → next.trail ≡ child.trail → AddsBroken search (IsAt search next.trail next.question) now after
-    → AddsBroken search (IsInCase search case node.trail node.question) before after
+pub piece_broken : (search : Search) (case : Case) (node child next : Node) (rest : Remainder) (before now after : BrokenPathsOf) → AddsBroken search (IsInCase search case node.pair_path node.question) before now → IsAmong rest case.pieces
+    → at_rest (judge_of search).params node.question rest.conj ≡ Some child.question → child.pair_path ≡ node.pair_path → next.question ≡ child.question → next.pair_path ≡ child.pair_path → AddsBroken search (IsAt search next.pair_path next.question) now after
+    → AddsBroken search (IsInCase search case node.pair_path node.question) before after
 piece_broken search case node child next rest before now after h i e t q' t' k =
-    let there : (u : Unfolding) → IsOf search u → IsInCase search case node.trail node.question u → IsAt search next.trail next.question u = λ u of at.
-    subst (λ (x : List (Seat × Seat)). IsAt search x next.question u) (sym (t' ∙ t)) (subst (λ (x : Path). IsAt search node.trail x u) (sym q') (at_piece search case node.trail node.question child.question rest u of i e at)) in
-    broken_then search (IsInCase search case node.trail node.question) before now after h (broken_from search (IsInCase search case node.trail node.question) (IsAt search next.trail next.question) now after there k)
+    let there : (u : Unfolding) → IsOf search u → IsInCase search case node.pair_path node.question u → IsAt search next.pair_path next.question u = λ u of at.
+    subst (λ (x : List (Seat × Seat)). IsAt search x next.question u) (sym (t' ∙ t)) (subst (λ (x : Path). IsAt search node.pair_path x u) (sym q') (at_piece search case node.pair_path node.question child.question rest u of i e at)) in
+    broken_then search (IsInCase search case node.pair_path node.question) before now after h (broken_from search (IsInCase search case node.pair_path node.question) (IsAt search next.pair_path next.question) now after there k)
 
 -- ---- results
 
@@ -449,24 +449,24 @@ rest_is n q rest a made own columns more rows last o m c r e =
 
 -- ---- all paths of a start
 
-pub is_of : (search : Search) (setting : Setting) (start : Claim) (order : List (Site × Order)) → search.setting.now ≡ setting → search.order.now ≡ order → (u : Unfolding) → IsUnfoldingOf setting start order u → IsOf search u
-is_of search setting start order s o u is = record {
-  programs = is.programs ∙ ap (λ (x : Setting). pairing x.programs) (sym s);
-  flows = subst (λ (x : Setting). HaveFlows u.pair x.left_flow.now x.right_flow.now) (sym s) is.flows;
+pub is_of : (search : Search) (program_flows : ProgramFlows) (start : Claim) (order : List (Site × Order)) → search.program_flows.now ≡ program_flows → search.order.now ≡ order → (u : Unfolding) → IsUnfoldingOf program_flows start order u → IsOf search u
+is_of search program_flows start order s o u is = record {
+  programs = is.programs ∙ ap (λ (x : ProgramFlows). pairing x.programs) (sym s);
+  flows = subst (λ (x : ProgramFlows). HaveFlows u.pair x.left_flow.now x.right_flow.now) (sym s) is.flows;
   orders = λ key. is.orders key ∙ ap (λ (x : List (Site × Order)). listed x key) (sym o);
 }
 
-pub paths_broken : (search : Search) (setting : Setting) (start : Claim) (claims : List Claim) (order : List (Site × Order)) (found : Found) → AddsBroken search (IsFrom start) nothing_found found → search.setting.now ≡ setting → search.claims.now ≡ claims
-    → search.order.now ≡ order → (u : Unfolding) → IsUnfoldingOf setting start order u → AllByRecursion (IsBroken u claims) found.paths
+pub paths_broken : (search : Search) (program_flows : ProgramFlows) (start : Claim) (claims : List Claim) (order : List (Site × Order)) (found : BrokenPathsOf) → AddsBroken search (IsFrom start) nothing_found found → search.program_flows.now ≡ program_flows → search.claims.now ≡ claims
+    → search.order.now ≡ order → (u : Unfolding) → IsUnfoldingOf program_flows start order u → AllByRecursion (IsBroken u claims) found.paths
 unfolding AddsBroken
-paths_broken search setting start claims order found h s c o u is =
-    let sound = h.1 u (is_of search setting start order s o u is) is.claim (record { broken = tt; walked = tt }) in
+paths_broken search program_flows start claims order found h s c o u is =
+    let sound = h.1 u (is_of search program_flows start order s o u is) is.claim (record { broken = tt; walked = tt }) in
     subst (λ (x : List Claim). AllByRecursion (IsBroken u x) found.paths) c sound.broken
 
 -- ---- plans
 
 -- the first path of a start is broken
-pub first_broken : (search : Search) (start : Claim) (found : Found) (path : List Entry) → AddsBroken search (IsFrom start) nothing_found found → slice_get found.paths 0 ≡ Some path → IsBrokenFrom search start path
+pub first_broken : (search : Search) (start : Claim) (found : BrokenPathsOf) (path : List Entry) → AddsBroken search (IsFrom start) nothing_found found → slice_get found.paths 0 ≡ Some path → IsBrokenFrom search start path
 unfolding AddsBroken
 first_broken search start found path h e u of from =
     let sound = h.1 u of from (record { broken = tt; walked = tt }) in
@@ -476,6 +476,6 @@ first_broken search start found path h e u of from =
     first [] is all = absurd cc
     first (x ∷ xs) is all = subst (IsBroken u search.claims.now) (some-is x path is) all.0
 
-pub path_is_broken : (search : Search) (setting : Setting) (start : Claim) (claims : List Claim) (order : List (Site × Order)) (path : List Entry) → IsBrokenFrom search start path → search.setting.now ≡ setting → search.claims.now ≡ claims → search.order.now ≡ order
-    → (u : Unfolding) → IsUnfoldingOf setting start order u → IsBroken u claims path
-path_is_broken search setting start claims order path h s c o u is = subst (λ (x : List Claim). IsBroken u x path) c (h u (is_of search setting start order s o u is) is.claim)
+pub path_is_broken : (search : Search) (program_flows : ProgramFlows) (start : Claim) (claims : List Claim) (order : List (Site × Order)) (path : List Entry) → IsBrokenFrom search start path → search.program_flows.now ≡ program_flows → search.claims.now ≡ claims → search.order.now ≡ order
+    → (u : Unfolding) → IsUnfoldingOf program_flows start order u → IsBroken u claims path
+path_is_broken search program_flows start claims order path h s c o u is = subst (λ (x : List Claim). IsBroken u x path) c (h u (is_of search program_flows start order s o u is) is.claim)

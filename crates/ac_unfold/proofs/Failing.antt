@@ -4,8 +4,8 @@ use Rattle.std.proofs.lemmas.Int.{ints}
 use Rattle.std.specs.List.{range_with_len}
 use Rattle.std.specs.Int.{◌∣◌}
 use Rattle.std.proofs.lemmas.Nat.Gcd.{le_of_dvd}
-use Rattle.ac_integers.specs.Multiple.{IsMultiple}
-use Rattle.ac_integers.proofs.Multiples.{multiple_add}
+use Rattle.ac_base.specs.Multiple.{IsMultiple}
+use Rattle.ac_base.proofs.Multiples.{multiple_add}
 use Rattle.ac_forms.specs.Affine.{Affine, shifted, value_at}
 use Rattle.ac_forms.specs.Negation.{above, below, piece, HasExtension}
 use Rattle.ac_forms.specs.Rows.{Holds, Meets, IsRowOver}
@@ -15,15 +15,15 @@ use Rattle.ac_forms.specs.declared.row.Row.TheVariants.{Eq, Div, Ge}
 use Rattle.ac_forms.proofs.Negations.{complement}
 use Rattle.ac_forms.proofs.Values.{value_at-shifted}
 use Rattle.ac_cert.specs.Rules.{class_row}
-use Rattle.ac_forms.specs.Members.{IsAmong}
-use Rattle.ac_paths.specs.declared.path.Seat.{Seat}
-use Rattle.ac_paths.proofs.Moving.{meets-parts}
+use Rattle.ac_forms.specs.ListMembers.{IsAmong}
+use Rattle.ac_claims_paths.specs.declared.path.Seat.{Seat}
+use Rattle.ac_claims_paths.proofs.Moving.{meets-parts}
 use Rattle.ac_widen.specs.declared.derivation.Entry.{Entry}
-use Rattle.ac_graft.specs.Sides.{has_few, one_row, outside_of, rest_side}
-use Rattle.ac_graft.specs.declared.branching.Part.{Part}
-use Rattle.ac_leading.proofs.Picks.{front_and_rest, holds_front}
-use Rattle.ac_unfold.specs.Paths.{Found}
-use Rattle.ac_unfold.specs.Searching.{Adds, IsPathAt, IsPathBeside, IsPathBreaking}
+use Rattle.ac_claims_plans.specs.BranchSides.{has_few, one_row, outside_of, rest_side}
+use Rattle.ac_claims_plans.specs.declared.branching.Part.{Part}
+use Rattle.ac_widen_programs.proofs.Picks.{front_and_rest, holds_front}
+use Rattle.ac_unfold.specs.UnfoldPaths.{BrokenPathsOf}
+use Rattle.ac_unfold.specs.BrokenPathResults.{Adds, IsPathAt, IsPathBeside, IsPathBreaking}
 use Rattle.ac_unfold.proofs.Adding.{adds_by, adds_then}
 
 -- ---- the parts of a negation
@@ -105,24 +105,24 @@ outside_fails n (Div m f) part p over i l meets = by (has_few m) i
 
 -- ---- paths
 
-pub breaking_beside : (Ends : List Entry → Type 0) (n : ℕ) (trail : List (Seat × Seat)) (c : Conj) (row : Row) (parts : List Part) (before after : Found) → IsRowOver c.columns row → parts ≡ outside_of c.columns row → Adds (IsPathBeside n trail c parts) Ends before after
-    → Adds (IsPathBreaking n trail c (row ∷ [])) Ends before after
-breaking_beside Ends n trail c row parts before after over e h =
-    adds_by (IsPathBeside n trail c parts) (IsPathBreaking n trail c (row ∷ [])) Ends before after (λ es x. by es x (meets-parts c.rows x.part.rows x.at.point x.at.there.meets)) h
+pub breaking_beside : (Ends : List Entry → Type 0) (n : ℕ) (pair_path : List (Seat × Seat)) (c : Conj) (row : Row) (parts : List Part) (before after : BrokenPathsOf) → IsRowOver c.columns row → parts ≡ outside_of c.columns row → Adds (IsPathBeside n pair_path c parts) Ends before after
+    → Adds (IsPathBreaking n pair_path c (row ∷ [])) Ends before after
+breaking_beside Ends n pair_path c row parts before after over e h =
+    adds_by (IsPathBeside n pair_path c parts) (IsPathBreaking n pair_path c (row ∷ [])) Ends before after (λ es x. by es x (meets-parts c.rows x.part.rows x.at.point x.at.there.meets)) h
   where
-    by : (es : List Entry) → (x : IsPathBeside n trail c parts es) → Meets c.rows x.at.point × Meets x.part.rows x.at.point → IsPathBreaking n trail c (row ∷ []) es
+    by : (es : List Entry) → (x : IsPathBeside n pair_path c parts es) → Meets c.rows x.at.point × Meets x.part.rows x.at.point → IsPathBreaking n pair_path c (row ∷ []) es
     by es x m =
         let f = outside_fails c.columns row x.part x.at.point over (subst (IsAmong x.part) e x.among) x.at.there.long m.1 in
         let l = x.at.there.long in
         record { point = x.at.point; long = omega (arith, l); meets = m.0; row = row; among = inl refl; fails = record { over = over; fails = f.fails; exact = f.exact }; are = x.at.are }
 
-pub breaking_absurd : (Ends : List Entry → Type 0) (n : ℕ) (trail : List (Seat × Seat)) (c : Conj) (row : Row) (before after : Found) → IsRowOver c.columns row × ((p : List ℤ) → ¬ (Holds row p)) → Adds (IsPathAt n trail c) Ends before after → Adds (IsPathBreaking n trail c (row ∷ [])) Ends before after
-breaking_absurd Ends n trail c row before after none h =
-    adds_by (IsPathAt n trail c) (IsPathBreaking n trail c (row ∷ [])) Ends before after
+pub breaking_absurd : (Ends : List Entry → Type 0) (n : ℕ) (pair_path : List (Seat × Seat)) (c : Conj) (row : Row) (before after : BrokenPathsOf) → IsRowOver c.columns row × ((p : List ℤ) → ¬ (Holds row p)) → Adds (IsPathAt n pair_path c) Ends before after → Adds (IsPathBreaking n pair_path c (row ∷ [])) Ends before after
+breaking_absurd Ends n pair_path c row before after none h =
+    adds_by (IsPathAt n pair_path c) (IsPathBreaking n pair_path c (row ∷ [])) Ends before after
     (λ es x. let l = x.there.long in record { point = x.point; long = omega (arith, l); meets = x.there.meets; row = row; among = inl refl; fails = record { over = none.0; fails = none.1 x.point; exact = λ f e. x.there.long }; are = x.are }) h
 
-among_more : (n : ℕ) (trail : List (Seat × Seat)) (c : Conj) (rows more : List Row) (es : List Entry) → ((r : Row) → IsAmong r rows → IsAmong r more) → IsPathBreaking n trail c rows es → IsPathBreaking n trail c more es
-among_more n trail c rows more es f x = record { point = x.point; long = x.long; meets = x.meets; row = x.row; among = f x.row x.among; fails = x.fails; are = x.are }
+among_more : (n : ℕ) (pair_path : List (Seat × Seat)) (c : Conj) (rows more : List Row) (es : List Entry) → ((r : Row) → IsAmong r rows → IsAmong r more) → IsPathBreaking n pair_path c rows es → IsPathBreaking n pair_path c more es
+among_more n pair_path c rows more es f x = record { point = x.point; long = x.long; meets = x.meets; row = x.row; among = f x.row x.among; fails = x.fails; are = x.are }
 
 in_front : (xs ys : List Row) (r : Row) → IsAmong r xs → IsAmong r (xs ++ ys)
 in_front [] ys r i = absurd i
@@ -133,18 +133,18 @@ in_back : (xs ys : List Row) (r : Row) → IsAmong r ys → IsAmong r (xs ++ ys)
 in_back [] ys r i = i
 in_back (x ∷ xs) ys r i = inr (in_back xs ys r i)
 
-pub breaking_more : (Ends : List Entry → Type 0) (n : ℕ) (trail t : List (Seat × Seat)) (c d : Conj) (rows more : List Row) (row : Row) (before now after : Found) → t ≡ trail → d ≡ c → more ≡ rows ++ row ∷ [] → Adds (IsPathBreaking n trail c rows) Ends before now
-    → Adds (IsPathBreaking n t d (row ∷ [])) Ends now after → Adds (IsPathBreaking n trail c more) Ends before after
-breaking_more Ends n trail t c d rows more row before now after e f g h k =
-    let k' : Adds (IsPathBreaking n trail c (row ∷ [])) Ends now after = subst (λ (x : List (Seat × Seat)). Adds (IsPathBreaking n x c (row ∷ [])) Ends now after) e (subst (λ (x : Conj). Adds (IsPathBreaking n t x (row ∷ [])) Ends now after) f k) in
-    adds_then (IsPathBreaking n trail c more) Ends before now after
-    (adds_by (IsPathBreaking n trail c rows) (IsPathBreaking n trail c more) Ends before now (λ es x. among_more n trail c rows more es (λ r i. subst (IsAmong r) (sym g) (in_front rows (row ∷ []) r i)) x) h)
-    (adds_by (IsPathBreaking n trail c (row ∷ [])) (IsPathBreaking n trail c more) Ends now after (λ es x. among_more n trail c (row ∷ []) more es (λ r i. subst (IsAmong r) (sym g) (in_back rows (row ∷ []) r i)) x) k')
+pub breaking_more : (Ends : List Entry → Type 0) (n : ℕ) (pair_path t : List (Seat × Seat)) (c d : Conj) (rows more : List Row) (row : Row) (before now after : BrokenPathsOf) → t ≡ pair_path → d ≡ c → more ≡ rows ++ row ∷ [] → Adds (IsPathBreaking n pair_path c rows) Ends before now
+    → Adds (IsPathBreaking n t d (row ∷ [])) Ends now after → Adds (IsPathBreaking n pair_path c more) Ends before after
+breaking_more Ends n pair_path t c d rows more row before now after e f g h k =
+    let k' : Adds (IsPathBreaking n pair_path c (row ∷ [])) Ends now after = subst (λ (x : List (Seat × Seat)). Adds (IsPathBreaking n x c (row ∷ [])) Ends now after) e (subst (λ (x : Conj). Adds (IsPathBreaking n t x (row ∷ [])) Ends now after) f k) in
+    adds_then (IsPathBreaking n pair_path c more) Ends before now after
+    (adds_by (IsPathBreaking n pair_path c rows) (IsPathBreaking n pair_path c more) Ends before now (λ es x. among_more n pair_path c rows more es (λ r i. subst (IsAmong r) (sym g) (in_front rows (row ∷ []) r i)) x) h)
+    (adds_by (IsPathBreaking n pair_path c (row ∷ [])) (IsPathBreaking n pair_path c more) Ends now after (λ es x. among_more n pair_path c (row ∷ []) more es (λ r i. subst (IsAmong r) (sym g) (in_back rows (row ∷ []) r i)) x) k')
 
 -- the rows behind the first ones may be any
-pub breaking_all : (Ends : List Entry → Type 0) (n : ℕ) (trail : List (Seat × Seat)) (c : Conj) (rows all rest : List Row) (before after : Found) → all ≡ rows ++ rest → Adds (IsPathBreaking n trail c rows) Ends before after → Adds (IsPathBreaking n trail c all) Ends before after
-breaking_all Ends n trail c rows all rest before after e h = adds_by (IsPathBreaking n trail c rows) (IsPathBreaking n trail c all) Ends before after (λ es x. among_more n trail c rows all es (λ r i. subst (IsAmong r) (sym e) (in_front rows rest r i)) x) h
+pub breaking_all : (Ends : List Entry → Type 0) (n : ℕ) (pair_path : List (Seat × Seat)) (c : Conj) (rows all rest : List Row) (before after : BrokenPathsOf) → all ≡ rows ++ rest → Adds (IsPathBreaking n pair_path c rows) Ends before after → Adds (IsPathBreaking n pair_path c all) Ends before after
+breaking_all Ends n pair_path c rows all rest before after e h = adds_by (IsPathBreaking n pair_path c rows) (IsPathBreaking n pair_path c all) Ends before after (λ es x. among_more n pair_path c rows all es (λ r i. subst (IsAmong r) (sym e) (in_front rows rest r i)) x) h
 
 -- those on which one of the last ones fails, too
-pub breaking_rest : (Ends : List Entry → Type 0) (n : ℕ) (trail : List (Seat × Seat)) (c : Conj) (front rest all : List Row) (before after : Found) → all ≡ front ++ rest → Adds (IsPathBreaking n trail c rest) Ends before after → Adds (IsPathBreaking n trail c all) Ends before after
-breaking_rest Ends n trail c front rest all before after e h = adds_by (IsPathBreaking n trail c rest) (IsPathBreaking n trail c all) Ends before after (λ es x. among_more n trail c rest all es (λ r i. subst (IsAmong r) (sym e) (in_back front rest r i)) x) h
+pub breaking_rest : (Ends : List Entry → Type 0) (n : ℕ) (pair_path : List (Seat × Seat)) (c : Conj) (front rest all : List Row) (before after : BrokenPathsOf) → all ≡ front ++ rest → Adds (IsPathBreaking n pair_path c rest) Ends before after → Adds (IsPathBreaking n pair_path c all) Ends before after
+breaking_rest Ends n pair_path c front rest all before after e h = adds_by (IsPathBreaking n pair_path c rest) (IsPathBreaking n pair_path c all) Ends before after (λ es x. among_more n pair_path c rest all es (λ r i. subst (IsAmong r) (sym e) (in_back front rest r i)) x) h

@@ -1,11 +1,11 @@
 -- Paths with further rows and columns.
 use Rattle.std.proofs.Common.{◌≡◌, ◌+◌, ◌++◌, [], append_assoc, append-nil, refl, sym, ap, ◌∙◌, subst, arith}
-use Rattle.ac_paths.specs.Going.{at_rows, extended}
-use Rattle.ac_paths.specs.declared.path.Path.{Path}
-use Rattle.ac_graft.specs.declared.branching.Part.{Part}
-use Rattle.ac_plans.specs.Serving.{question_on}
-use Rattle.ac_decided.specs.Stopping.{key_at}
-use Rattle.ac_unfold.specs.Passing.{IsGrown}
+use Rattle.ac_claims_paths.specs.PathSteps.{at_rows, extended}
+use Rattle.ac_claims_paths.specs.declared.path.Path.{Path}
+use Rattle.ac_claims_plans.specs.declared.branching.Part.{Part}
+use Rattle.ac_claims_plans.specs.QuestionPlans.{question_on}
+use Rattle.ac_unfold_plans.specs.PlanStops.{positions_at}
+use Rattle.ac_unfold.specs.KillTraversal.{IsGrown}
 
 pub grown_itself : (q : Path) → IsGrown q q
 grown_itself q =
@@ -32,8 +32,8 @@ pub grown_same : (q v : Path) → v ≡ q → IsGrown q v
 grown_same q v e = subst (IsGrown q) (sym e) (grown_itself q)
 
 -- the pair is the same, behind a step or before the first one
-pub grown_pair : (q v : Path) → IsGrown q v → key_at v ≡ key_at q
-grown_pair q v h = ap key_at h.is
+pub grown_pair : (q v : Path) → IsGrown q v → positions_at v ≡ positions_at q
+grown_pair q v h = ap positions_at h.is
 
 pub grown_gone : (q v : Path) → IsGrown q v → v.gone ≡ q.gone
 grown_gone q v h = ap (λ (x : Path). x.gone) h.is

@@ -7,30 +7,30 @@ use Rattle.ac_forms.specs.Renaming.{rows_renaming}
 use Rattle.ac_forms.specs.Rows.{IsWellMade}
 use Rattle.ac_forms.specs.declared.row.Row.{Row}
 use Rattle.ac_poly.specs.Model.{is_input}
-use Rattle.ac_paths.specs.Columns.{base, columns_of, equal_forms}
-use Rattle.ac_paths.specs.Going.{Pairing, at_rows}
-use Rattle.ac_paths.specs.Places.{number_at, initial_cell}
-use Rattle.ac_paths.specs.declared.path.Path.{Path}
-use Rattle.ac_paths.specs.declared.places.CellForms.{CellForms}
-use Rattle.ac_claims.specs.Ending.{equal_cells, equal_numbers}
+use Rattle.ac_claims_paths.specs.PathColumns.{base, columns_of, equal_forms}
+use Rattle.ac_claims_paths.specs.PathSteps.{Pairing, at_rows}
+use Rattle.ac_claims_paths.specs.ModelPositions.{number_at, initial_cell}
+use Rattle.ac_claims_paths.specs.declared.path.Path.{Path}
+use Rattle.ac_claims_paths.specs.declared.places.CellForms.{CellForms}
+use Rattle.ac_claims.specs.ProofEnds.{equal_cells, equal_numbers}
 use Rattle.ac_claims.specs.declared.types.Claim.{Claim}
 use Rattle.ac_claims.specs.declared.types.PlanNext.TheVariants.{Hit, SameInitial, SameNumber}
-use Rattle.ac_graft.specs.declared.placing.Placing.{Placing}
-use Rattle.ac_ends.specs.Ends.{initial_rows, number_rows, IsClaimAt}
-use Rattle.ac_ends.specs.Standing.{RowsStandAlong}
-use Rattle.ac_ends.proofs.Carrying.{standing_along}
-use Rattle.ac_ends.proofs.Ending.{cells_plans, hits_plans, numbers_plans}
-use Rattle.ac_decided.specs.Stopping.{key_at}
-use Rattle.ac_plans.specs.Due.{AreNumbered}
-use Rattle.ac_plan_heeds.proofs.Heeding.{hits_heed, initial_cells_heed, numbers_heed}
-use Rattle.ac_plan_stops.proofs.Stopping.{hits_stop, initial_cells_stop, numbers_stop}
-use Rattle.ac_unfold.specs.Cutting.{columns_there, IsClaimBehind, IsNumbered, IsTabledBehind}
-use Rattle.ac_unfold.specs.Making.{judge_of, AreStanding, EndsWhere, IsEndFor, IsGiven}
-use Rattle.ac_unfold.specs.Stopping.{IsUnclaimed, StopsIn}
+use Rattle.ac_claims_plans.specs.declared.embedding.Embedding.{Embedding}
+use Rattle.ac_unfold_plans.specs.PlanEnds.{initial_rows, number_rows, IsClaimAt}
+use Rattle.ac_unfold_plans.specs.RowsAlongPaths.{RowsStandAlong}
+use Rattle.ac_unfold_plans.proofs.Carrying.{standing_along}
+use Rattle.ac_unfold_plans.proofs.Ending.{cells_plans, hits_plans, numbers_plans}
+use Rattle.ac_unfold_plans.specs.PlanStops.{positions_at}
+use Rattle.ac_claims_plans.specs.DuePlans.{AreNumbered}
+use Rattle.ac_unfold_plans.proofs.Heeding.{hits_use_tabled, initial_cells_use_tabled, numbers_use_tabled}
+use Rattle.ac_unfold_plans.proofs.Stopping.{hits_stop, initial_cells_stop, numbers_stop}
+use Rattle.ac_unfold.specs.KillCuts.{columns_there, IsClaimBehind, IsNumbered, IsTabledBehind}
+use Rattle.ac_unfold.specs.PlanResults.{judge_of, AreStanding, EndsWhere, IsEndFor, IsGiven}
+use Rattle.ac_unfold.specs.SearchPlanStops.{IsUnclaimed, StopsIn}
 use Rattle.ac_unfold.specs.declared.ends.Search.{Search}
 use Rattle.ac_unfold.proofs.Stops.{may_go}
 
-pub rows_along : (params : ℕ) (s : Placing) (q : Path) (rows : List Row) → IsWellMade q.conj → AreStanding q.conj rows → RowsStandAlong params s q rows
+pub rows_along : (params : ℕ) (s : Embedding) (q : Path) (rows : List Row) → IsWellMade q.conj → AreStanding q.conj rows → RowsStandAlong params s q rows
 rows_along params s q [] w h = tt
 rows_along params s q (r ∷ rows) w h = (standing_along params s q r w h.0.0 h.0.1, rows_along params s q rows w h.1)
 
@@ -47,7 +47,7 @@ numbers_end search q form other rows l r e cs s c t given formed standing end =
 pub number_ends : (search : Search) (q : Path) (form other : Affine) (rows : List Row) → number_at (judge_of search).left q.left.position ≡ Some form → number_at (judge_of search).right q.right.position ≡ Some other
     → Some rows ≡ equal_forms (base (judge_of search).params ++ columns_of q.left) (form ∷ []) (base (judge_of search).params ++ columns_of q.right) (other ∷ []) → IsUnclaimed search q → IsEndFor search q rows SameNumber
 unfolding StopsIn
-number_ends search q form other rows l r e none = record { ends = numbers_end search q form other rows l r e; stops = λ making. ((λ g at. numbers_stop g (key_at q) q.gone (may_go search q g at none)), (λ heeding. numbers_heed (judge_of search) search.tabled.now q (none.passes making heeding.moduli))) }
+number_ends search q form other rows l r e none = record { ends = numbers_end search q form other rows l r e; stops = λ making. ((λ g at. numbers_stop g (positions_at q) q.gone (may_go search q g at none)), (λ may_use_tabled. numbers_use_tabled (judge_of search) search.tabled.now q (none.passes making may_use_tabled.moduli))) }
 
 -- ---- initial cells
 
@@ -75,7 +75,7 @@ initials_end search q c d rows l r same input e cs s k t given formed standing e
 pub initial_ends : (search : Search) (q : Path) (c d : CellForms) (rows : List Row) → initial_cell (judge_of search).left q.left.position ≡ Some c → initial_cell (judge_of search).right q.right.position ≡ Some d → c.array ≡ d.array
     → is_input (slice_get (judge_of search).left.kinds c.array) ≡ true → Some rows ≡ equal_forms (base (judge_of search).params ++ columns_of q.left) c.subs (base (judge_of search).params ++ columns_of q.right) d.subs → IsUnclaimed search q → IsEndFor search q rows SameInitial
 unfolding StopsIn
-initial_ends search q c d rows l r same input e none = record { ends = initials_end search q c d rows l r same input e; stops = λ making. ((λ g at. initial_cells_stop g (key_at q) q.gone (may_go search q g at none)), (λ heeding. initial_cells_heed (judge_of search) search.tabled.now q (none.passes making heeding.moduli))) }
+initial_ends search q c d rows l r same input e none = record { ends = initials_end search q c d rows l r same input e; stops = λ making. ((λ g at. initial_cells_stop g (positions_at q) q.gone (may_go search q g at none)), (λ may_use_tabled. initial_cells_use_tabled (judge_of search) search.tabled.now q (none.passes making may_use_tabled.moduli))) }
 
 -- the same forms over the same columns
 pub forms_same : (q : Path) (n m : ℕ) (fs gs xs ys : List Affine) → n ≡ m → fs ≡ xs → gs ≡ ys → equal_forms (base n ++ columns_of q.left) fs (base n ++ columns_of q.right) gs ≡ equal_forms (base m ++ columns_of q.left) xs (base m ++ columns_of q.right) ys
@@ -109,7 +109,7 @@ pub claim_ends : (search : Search) (q : Path) (number : ℕ) (claim : Claim) (ro
 unfolding StopsIn
 claim_ends search q number claim rows there is e = record {
   ends = numbered_end search q search.base search.claims.now number claim rows there.gone there.at is e (λ cs given. given.numbered);
-  stops = λ making. ((λ g at. hits_stop g (key_at q) q.gone (search.base + number) (at.part number claim is)), (λ heeding p z formed follows. hits_heed (search.base + number) (judge_of search) search.tabled.now p));
+  stops = λ making. ((λ g at. hits_stop g (positions_at q) q.gone (search.base + number) (at.part number claim is)), (λ may_use_tabled p z formed follows. hits_use_tabled (search.base + number) (judge_of search) search.tabled.now p));
 }
 
 pub tabled_ends : (search : Search) (q : Path) (number : ℕ) (claim : Claim) (rows : List Row) → IsTabledBehind search q number → slice_get search.tabled.now number ≡ Some claim
@@ -118,7 +118,7 @@ unfolding StopsIn
 tabled_ends search q number claim rows there is e = record {
   ends = numbered_end search q (search.base + length search.claims.now) search.tabled.now number claim rows there.gone there.at is e (λ cs given. given.tabled);
   stops = λ making. (
-    (λ g at. hits_stop g (key_at q) q.gone (search.base + length search.claims.now + number) (at.tabled_part number claim is)),
-    (λ heeding p z formed follows. hits_heed (search.base + length search.claims.now + number) (judge_of search) search.tabled.now p),
+    (λ g at. hits_stop g (positions_at q) q.gone (search.base + length search.claims.now + number) (at.tabled_part number claim is)),
+    (λ may_use_tabled p z formed follows. hits_use_tabled (search.base + length search.claims.now + number) (judge_of search) search.tabled.now p),
   );
 }

@@ -3,42 +3,42 @@ use Rattle.std.proofs.Common.{◌≡◌, inl, inr, ℕ, zero, suc, ◌+◌, ◌�
 use Rattle.std.proofs.lemmas.List.{take_all}
 use Rattle.std.proofs.Math.Nat.{min-le_left}
 use Rattle.std.specs.Prelude.{◌-◌, ◌^◌, IfOk, IfSome, Ok, Result, min, slice_get}
-use Rattle.ac_forms.specs.Members.{IsAmong}
+use Rattle.ac_forms.specs.ListMembers.{IsAmong}
 use Rattle.ac_forms.specs.Renaming.{picked, rows_renaming}
 use Rattle.ac_forms.specs.Rows.{Holds, Meets, AreRowsOver, IsRowOver}
 use Rattle.ac_forms.specs.declared.conj.Conj.{Conj}
 use Rattle.ac_forms.specs.declared.row.Row.{Row}
 use Rattle.ac_forms.proofs.Distinct.{rows_renaming-points}
 use Rattle.ac_syntax.specs.declared.tree.Position.TheVariants.{Output}
-use Rattle.ac_items.proofs.Options.{some-is}
-use Rattle.ac_paths.specs.Formed.{AllFormed, IsFormed}
-use Rattle.ac_paths.specs.Going.{at_rows, extended}
-use Rattle.ac_paths.specs.Killing.{case_columns}
-use Rattle.ac_paths.specs.declared.path.Assumed.{Assumed}
-use Rattle.ac_paths.specs.declared.path.Path.{Path}
-use Rattle.ac_paths.specs.declared.path.Seat.{Seat}
-use Rattle.ac_paths.proofs.Moving.{meets-both, meets-parts}
+use Rattle.ac_base.proofs.Options.{some-is}
+use Rattle.ac_claims_paths.specs.WellFormedPaths.{AllFormed, IsFormed}
+use Rattle.ac_claims_paths.specs.PathSteps.{at_rows, extended}
+use Rattle.ac_claims_paths.specs.CopyKills.{case_columns}
+use Rattle.ac_claims_paths.specs.declared.path.Assumed.{Assumed}
+use Rattle.ac_claims_paths.specs.declared.path.Path.{Path}
+use Rattle.ac_claims_paths.specs.declared.path.Seat.{Seat}
+use Rattle.ac_claims_paths.proofs.Moving.{meets-both, meets-parts}
 use Rattle.ac_claims.specs.declared.types.Kill.{Kill}
 use Rattle.ac_claims.specs.declared.types.Plan.{Plan}
 use Rattle.ac_flow.specs.declared.types.Case.{Case}
-use Rattle.ac_flow_laws.specs.Steps.{InNoKill}
-use Rattle.ac_graft.specs.Sides.{outside_of, AreSides}
-use Rattle.ac_graft.specs.declared.branching.Part.{Part}
-use Rattle.ac_graft.specs.declared.branching.Parts.{Parts}
-use Rattle.ac_leading.specs.Leading.{Unfolding, seats_of}
-use Rattle.ac_leading.specs.Steps.{AreOutside, IsOutside, IsReached}
-use Rattle.ac_leading.proofs.Picks.{front_and_rest, holds_front, meets_front}
-use Rattle.ac_leading.proofs.Reaching.{trails_lead}
-use Rattle.ac_leading.proofs.Surviving.{survivors_are_left}
-use Rattle.ac_plans.specs.Serving.{question_on}
-use Rattle.ac_plans.proofs.Sides.{sides_formed}
-use Rattle.ac_unfold.specs.Making.{judge_of}
-use Rattle.ac_unfold.specs.Missing.{HasNone}
-use Rattle.ac_unfold.specs.Passing.{AreApart, AreKillRows, GoesWithin, IsGrown, IsKillRow, IsOutsideKills, Misses, SidesMiss}
-use Rattle.ac_unfold.specs.Paths.{Found}
-use Rattle.ac_unfold.specs.Searching.{Adds, AddsBroken, IsAt, IsInCase, IsNone, IsOf, IsPathAt, Reached}
-use Rattle.ac_unfold.specs.declared.asking.Answer.{Answer}
-use Rattle.ac_unfold.specs.declared.asking.Answer.TheVariants as answer
+use Rattle.ac_flow.specs.SourceSteps.{InNoKill}
+use Rattle.ac_claims_plans.specs.BranchSides.{outside_of, AreSides}
+use Rattle.ac_claims_plans.specs.declared.branching.Part.{Part}
+use Rattle.ac_claims_plans.specs.declared.branching.Parts.{Parts}
+use Rattle.ac_widen_programs.specs.PairPaths.{Unfolding, seats_of}
+use Rattle.ac_widen_programs.specs.PairPathSteps.{AreOutside, IsOutside, IsReached}
+use Rattle.ac_widen_programs.proofs.Picks.{front_and_rest, holds_front, meets_front}
+use Rattle.ac_widen_programs.proofs.Reaching.{pair_paths_lead}
+use Rattle.ac_widen_programs.proofs.Surviving.{survivors_are_left}
+use Rattle.ac_claims_plans.specs.QuestionPlans.{question_on}
+use Rattle.ac_claims_plans.proofs.Sides.{sides_formed}
+use Rattle.ac_unfold.specs.PlanResults.{judge_of}
+use Rattle.ac_unfold.specs.PlanGaps.{HasNone}
+use Rattle.ac_unfold.specs.KillTraversal.{AreApart, AreKillRows, GoesWithin, IsGrown, IsKillRow, IsOutsideKills, Misses, SidesMiss}
+use Rattle.ac_unfold.specs.UnfoldPaths.{BrokenPathsOf}
+use Rattle.ac_unfold.specs.BrokenPathResults.{Adds, AddsBroken, IsAt, IsInCase, IsNone, IsOf, IsPathAt, Reached}
+use Rattle.ac_unfold.specs.declared.decide.Answer.{Answer}
+use Rattle.ac_unfold.specs.declared.decide.Answer.TheVariants as answer
 use Rattle.ac_unfold.specs.declared.ends.Search.{Search}
 use Rattle.ac_unfold.specs.declared.node.Node.{Node}
 use Rattle.ac_unfold.specs.declared.types.UnfoldStop.{UnfoldStop}
@@ -61,27 +61,27 @@ grown_last q v h = ap (λ (x : Path). x.last) h.is
 -- ---- nodes
 
 pub within_itself : (node next : Node) → next ≡ node → GoesWithin node next
-within_itself node next e = record { question = subst (λ (x : Node). IsGrown node.question x.question) (sym e) (grown_itself node.question); trail = ap (λ (x : Node). x.trail) e }
+within_itself node next e = record { question = subst (λ (x : Node). IsGrown node.question x.question) (sym e) (grown_itself node.question); pair_path = ap (λ (x : Node). x.pair_path) e }
 
 pub within_more : (a b c : Node) → GoesWithin a b → GoesWithin b c → GoesWithin a c
-within_more a b c h k = record { question = grown_more a.question b.question c.question h.question k.question; trail = k.trail ∙ h.trail }
+within_more a b c h k = record { question = grown_more a.question b.question c.question h.question k.question; pair_path = k.pair_path ∙ h.pair_path }
 
-pub within_part : (node next : Node) (part : Part) → next.question ≡ question_on node.question part → next.trail ≡ node.trail → GoesWithin node next
-within_part node next part e f = record { question = subst (IsGrown node.question) (sym e) (grown_on node.question part); trail = f }
+pub within_part : (node next : Node) (part : Part) → next.question ≡ question_on node.question part → next.pair_path ≡ node.pair_path → GoesWithin node next
+within_part node next part e f = record { question = subst (IsGrown node.question) (sym e) (grown_on node.question part); pair_path = f }
 
-pub within_same : (node next : Node) → next.question ≡ node.question → next.trail ≡ node.trail → GoesWithin node next
-within_same node next e f = record { question = subst (IsGrown node.question) (sym e) (grown_itself node.question); trail = f }
+pub within_same : (node next : Node) → next.question ≡ node.question → next.pair_path ≡ node.pair_path → GoesWithin node next
+within_same node next e f = record { question = subst (IsGrown node.question) (sym e) (grown_itself node.question); pair_path = f }
 
 -- ---- at a place outside the first kills
 
 -- at the branch of the case none is passed yet
-pub outside_start : (search : Search) (case : Case) (trail : List (Seat × Seat)) (q : Path) (u : Unfolding) → IsInCase search case trail q u → IsOutsideKills search case 0 trail q u
-outside_start search case trail q u h = record { branch = q; in_case = h; grown = grown_itself q; outside = λ p long meets a last. tt }
+pub outside_start : (search : Search) (case : Case) (pair_path : List (Seat × Seat)) (q : Path) (u : Unfolding) → IsInCase search case pair_path q u → IsOutsideKills search case 0 pair_path q u
+outside_start search case pair_path q u h = record { branch = q; in_case = h; grown = grown_itself q; outside = λ p long meets a last. tt }
 
-pub outside_within : (search : Search) (case : Case) (number : ℕ) (node next : Node) (u : Unfolding) → GoesWithin node next → IsOutsideKills search case number node.trail node.question u → IsOutsideKills search case number next.trail next.question u
+pub outside_within : (search : Search) (case : Case) (number : ℕ) (node next : Node) (u : Unfolding) → GoesWithin node next → IsOutsideKills search case number node.pair_path node.question u → IsOutsideKills search case number next.pair_path next.question u
 outside_within search case number node next u w h = record {
   branch = h.branch;
-  in_case = subst (λ (t : List (Seat × Seat)). IsInCase search case t h.branch u) (sym w.trail) h.in_case;
+  in_case = subst (λ (t : List (Seat × Seat)). IsInCase search case t h.branch u) (sym w.pair_path) h.in_case;
   grown = grown_more h.branch node.question next.question h.grown w.question;
   outside = λ p long meets a last.
       let m = grown_meets node.question next.question w.question p long meets in
@@ -101,9 +101,9 @@ in_no_fewer (k ∷ ks) n zero p l h = tt
 in_no_fewer (k ∷ ks) zero (suc m) p l h = absurd (omega (arith, l))
 in_no_fewer (k ∷ ks) (suc n) (suc m) p l h = (h.0, in_no_fewer ks n m p (omega (arith, l)) h.1)
 
-pub outside_next : (search : Search) (case : Case) (number next : ℕ) (trail : List (Seat × Seat)) (q : Path) (u : Unfolding) → next ≤ number + 1 → Misses search case number q → IsOutsideKills search case number trail q u → IsOutsideKills search case next trail q u
+pub outside_next : (search : Search) (case : Case) (number next : ℕ) (pair_path : List (Seat × Seat)) (q : Path) (u : Unfolding) → next ≤ number + 1 → Misses search case number q → IsOutsideKills search case number pair_path q u → IsOutsideKills search case next pair_path q u
 unfolding Misses
-outside_next search case number next trail q u l none h = record {
+outside_next search case number next pair_path q u l none h = record {
   branch = h.branch;
   in_case = h.in_case;
   grown = h.grown;
@@ -113,96 +113,96 @@ outside_next search case number next trail q u l none h = record {
 }
 
 -- where all are passed
-all_outside : (search : Search) (case : Case) (trail : List (Seat × Seat)) (q : Path) (u : Unfolding) → IsOf search u → (h : IsOutsideKills search case (length case.kills) trail q u) → AreOutside u case h.branch (extended h.branch.conj h.grown.more h.grown.rows)
-all_outside search case trail q u of h p long meets a last =
+all_outside : (search : Search) (case : Case) (pair_path : List (Seat × Seat)) (q : Path) (u : Unfolding) → IsOf search u → (h : IsOutsideKills search case (length case.kills) pair_path q u) → AreOutside u case h.branch (extended h.branch.conj h.grown.more h.grown.rows)
+all_outside search case pair_path q u of h p long meets a last =
     let n = params_are search u of in
     let all : take (length case.kills) case.kills ≡ case.kills = take_all (length case.kills) case.kills (omega arith) in
     let out = subst (λ (x : Path). x.conj.columns ≤ length p → Meets x.conj.rows p → (b : Assumed) → x.last ≡ Some b → InNoKill (take (length case.kills) case.kills) (picked (case_columns (judge_of search).params b) p)) h.grown.is (h.outside p) in
     subst (λ (k : ℕ). InNoKill case.kills (picked (case_columns k a) p)) (sym n) (subst (λ (ks : List (Conj × Kill)). InNoKill ks (picked (case_columns (judge_of search).params a) p)) all (out long meets a last))
 
-pub outside_all : (search : Search) (case : Case) (trail : List (Seat × Seat)) (q : Path) (u : Unfolding) → IsOf search u → IsOutsideKills search case (length case.kills) trail q u → IsAt search trail q u
-outside_all search case trail q u of h =
+pub outside_all : (search : Search) (case : Case) (pair_path : List (Seat × Seat)) (q : Path) (u : Unfolding) → IsOf search u → IsOutsideKills search case (length case.kills) pair_path q u → IsAt search pair_path q u
+outside_all search case pair_path q u of h =
     let at = h.in_case in
     let b = h.branch in
     let seats : seats_of q ≡ seats_of b = ap seats_of h.grown.is in
     let gone : q.gone ≡ true = ap (λ (x : Path). x.gone) h.grown.is ∙ at.gone in
-    let there : Reached search u (at.before ++ seats_of b ∷ []) (at_rows b (extended b.conj h.grown.more h.grown.rows)) = IsReached.survive at.before at.side at.question b case h.grown.more h.grown.rows at.past.reached at.branch (all_outside search case trail q u of h) in
+    let there : Reached search u (at.before ++ seats_of b ∷ []) (at_rows b (extended b.conj h.grown.more h.grown.rows)) = IsReached.survive at.before at.side at.question b case h.grown.more h.grown.rows at.past.reached at.branch (all_outside search case pair_path q u of h) in
     record {
-      reached = subst (λ (t : List (Seat × Seat)). Reached search u t q) (sym at.trail_is) (subst (λ (x : Path). Reached search u (at.before ++ seats_of b ∷ []) x) (sym h.grown.is) there);
+      reached = subst (λ (t : List (Seat × Seat)). Reached search u t q) (sym at.pair_path_is) (subst (λ (x : Path). Reached search u (at.before ++ seats_of b ∷ []) x) (sym h.grown.is) there);
       begins = λ f. let z : false ≡ true = sym f ∙ gone in absurd cc;
       behind = λ _. record {
         first = at.past.first;
         between = at.past.rest;
-        is = at.trail_is ∙ ap (λ (xs : List (Seat × Seat)). xs ++ seats_of b ∷ []) at.past.is ∙ ap (λ (s : Seat × Seat). at.past.first ∷ (at.past.rest ++ s ∷ [])) (sym seats);
+        is = at.pair_path_is ∙ ap (λ (xs : List (Seat × Seat)). xs ++ seats_of b ∷ []) at.past.is ∙ ap (λ (s : Seat × Seat). at.past.first ∷ (at.past.rest ++ s ∷ [])) (sym seats);
         free = at.past.free;
       };
     }
 
 -- something is left of the case, where there is such a point
-pub outside_left : (search : Search) (case : Case) (trail : List (Seat × Seat)) (q : Path) (u : Unfolding) → IsOf search u → IsOutsideKills search case (length case.kills) trail q u → (p : List ℤ) → q.conj.columns ≤ length p → Meets q.conj.rows p → ¬ (case.pieces ≡ [])
-outside_left search case trail q u of h p long meets =
+pub outside_left : (search : Search) (case : Case) (pair_path : List (Seat × Seat)) (q : Path) (u : Unfolding) → IsOf search u → IsOutsideKills search case (length case.kills) pair_path q u → (p : List ℤ) → q.conj.columns ≤ length p → Meets q.conj.rows p → ¬ (case.pieces ≡ [])
+outside_left search case pair_path q u of h p long meets =
     let at = h.in_case in
     let b = h.branch in
-    let left = search.setting.now.left_flow.now in
-    let right = search.setting.now.right_flow.now in
+    let left = search.program_flows.now.left_flow.now in
+    let right = search.program_flows.now.right_flow.now in
     let m = grown_meets b q h.grown p long meets in
-    let out : IsOutside u case b p = all_outside search case trail q u of h p (subst (λ (x : Path). x.conj.columns ≤ length p) h.grown.is long) (subst (λ (x : Path). Meets x.conj.rows p) h.grown.is meets) in
-    survivors_are_left u at.before left right at.side at.question b case of.flows (trails_lead u left right at.before at.question of.flows at.past.reached) at.branch p m.0 m.1 out
+    let out : IsOutside u case b p = all_outside search case pair_path q u of h p (subst (λ (x : Path). x.conj.columns ≤ length p) h.grown.is long) (subst (λ (x : Path). Meets x.conj.rows p) h.grown.is meets) in
+    survivors_are_left u at.before left right at.side at.question b case of.flows (pair_paths_lead u left right at.before at.question of.flows at.past.reached) at.branch p m.0 m.1 out
 
 -- ---- what is added there
 
-pub start_broken : (search : Search) (case : Case) (node next : Node) (before after : Found) → next.question ≡ node.question → next.trail ≡ node.trail → AddsBroken search (IsOutsideKills search case 0 next.trail next.question) before after
-    → AddsBroken search (IsInCase search case node.trail node.question) before after
+pub start_broken : (search : Search) (case : Case) (node next : Node) (before after : BrokenPathsOf) → next.question ≡ node.question → next.pair_path ≡ node.pair_path → AddsBroken search (IsOutsideKills search case 0 next.pair_path next.question) before after
+    → AddsBroken search (IsInCase search case node.pair_path node.question) before after
 start_broken search case node next before after e f h =
-    broken_from search (IsInCase search case node.trail node.question) (IsOutsideKills search case 0 next.trail next.question) before after
-    (λ u of at. outside_within search case 0 node next u (within_same node next e f) (outside_start search case node.trail node.question u at)) h
+    broken_from search (IsInCase search case node.pair_path node.question) (IsOutsideKills search case 0 next.pair_path next.question) before after
+    (λ u of at. outside_within search case 0 node next u (within_same node next e f) (outside_start search case node.pair_path node.question u at)) h
 
-pub within_broken : (search : Search) (case : Case) (number : ℕ) (node next : Node) (before after : Found) → GoesWithin node next → AddsBroken search (IsOutsideKills search case number next.trail next.question) before after
-    → AddsBroken search (IsOutsideKills search case number node.trail node.question) before after
+pub within_broken : (search : Search) (case : Case) (number : ℕ) (node next : Node) (before after : BrokenPathsOf) → GoesWithin node next → AddsBroken search (IsOutsideKills search case number next.pair_path next.question) before after
+    → AddsBroken search (IsOutsideKills search case number node.pair_path node.question) before after
 within_broken search case number node next before after w h =
-    broken_from search (IsOutsideKills search case number node.trail node.question) (IsOutsideKills search case number next.trail next.question) before after (λ u of at. outside_within search case number node next u w at) h
+    broken_from search (IsOutsideKills search case number node.pair_path node.question) (IsOutsideKills search case number next.pair_path next.question) before after (λ u of at. outside_within search case number node next u w at) h
 
-pub next_broken : (search : Search) (case : Case) (number next : ℕ) (trail : List (Seat × Seat)) (q : Path) (before after : Found) → next ≤ number + 1 → Misses search case number q → AddsBroken search (IsOutsideKills search case next trail q) before after
-    → AddsBroken search (IsOutsideKills search case number trail q) before after
-next_broken search case number next trail q before after l none h =
-    broken_from search (IsOutsideKills search case number trail q) (IsOutsideKills search case next trail q) before after (λ u of at. outside_next search case number next trail q u l none at) h
+pub next_broken : (search : Search) (case : Case) (number next : ℕ) (pair_path : List (Seat × Seat)) (q : Path) (before after : BrokenPathsOf) → next ≤ number + 1 → Misses search case number q → AddsBroken search (IsOutsideKills search case next pair_path q) before after
+    → AddsBroken search (IsOutsideKills search case number pair_path q) before after
+next_broken search case number next pair_path q before after l none h =
+    broken_from search (IsOutsideKills search case number pair_path q) (IsOutsideKills search case next pair_path q) before after (λ u of at. outside_next search case number next pair_path q u l none at) h
 
 -- fewer kills are passed too
-pub fewer_outside : (search : Search) (case : Case) (number next : ℕ) (trail : List (Seat × Seat)) (q : Path) (u : Unfolding) → next ≤ number → IsOutsideKills search case number trail q u → IsOutsideKills search case next trail q u
-fewer_outside search case number next trail q u l h =
+pub fewer_outside : (search : Search) (case : Case) (number next : ℕ) (pair_path : List (Seat × Seat)) (q : Path) (u : Unfolding) → next ≤ number → IsOutsideKills search case number pair_path q u → IsOutsideKills search case next pair_path q u
+fewer_outside search case number next pair_path q u l h =
     record { branch = h.branch; in_case = h.in_case; grown = h.grown; outside = λ p long meets a last. in_no_fewer case.kills number next (picked (case_columns (judge_of search).params a) p) l (h.outside p long meets a last) }
 
-pub fewer_broken : (search : Search) (case : Case) (number next : ℕ) (node opened : Node) (before after : Found) → next ≤ number → opened.question ≡ node.question → opened.trail ≡ node.trail
-    → AddsBroken search (IsOutsideKills search case next opened.trail opened.question) before after → AddsBroken search (IsOutsideKills search case number node.trail node.question) before after
+pub fewer_broken : (search : Search) (case : Case) (number next : ℕ) (node opened : Node) (before after : BrokenPathsOf) → next ≤ number → opened.question ≡ node.question → opened.pair_path ≡ node.pair_path
+    → AddsBroken search (IsOutsideKills search case next opened.pair_path opened.question) before after → AddsBroken search (IsOutsideKills search case number node.pair_path node.question) before after
 fewer_broken search case number next node opened before after l e f h =
-    broken_from search (IsOutsideKills search case number node.trail node.question) (IsOutsideKills search case next opened.trail opened.question) before after
-    (λ u of at. outside_within search case next node opened u (within_same node opened e f) (fewer_outside search case number next node.trail node.question u l at)) h
+    broken_from search (IsOutsideKills search case number node.pair_path node.question) (IsOutsideKills search case next opened.pair_path opened.question) before after
+    (λ u of at. outside_within search case next node opened u (within_same node opened e f) (fewer_outside search case number next node.pair_path node.question u l at)) h
 
-pub survivor_broken : (search : Search) (case : Case) (trail : List (Seat × Seat)) (q : Path) (before after : Found) → AddsBroken search (IsAt search trail q) before after → AddsBroken search (IsOutsideKills search case (length case.kills) trail q) before after
-survivor_broken search case trail q before after h =
-    broken_from search (IsOutsideKills search case (length case.kills) trail q) (IsAt search trail q) before after (λ u of at. outside_all search case trail q u of at) h
+pub survivor_broken : (search : Search) (case : Case) (pair_path : List (Seat × Seat)) (q : Path) (before after : BrokenPathsOf) → AddsBroken search (IsAt search pair_path q) before after → AddsBroken search (IsOutsideKills search case (length case.kills) pair_path q) before after
+survivor_broken search case pair_path q before after h =
+    broken_from search (IsOutsideKills search case (length case.kills) pair_path q) (IsAt search pair_path q) before after (λ u of at. outside_all search case pair_path q u of at) h
 
-pub nothing_left : (search : Search) (case : Case) (trail : List (Seat × Seat)) (q : Path) (before after : Found) → case.pieces ≡ [] → Adds (IsPathAt (judge_of search).params trail q.conj) IsNone before after
-    → AddsBroken search (IsOutsideKills search case (length case.kills) trail q) before after
-nothing_left search case trail q before after none h =
-    broken_by search (IsOutsideKills search case (length case.kills) trail q) (IsPathAt (judge_of search).params trail q.conj) IsNone before after
-    (λ u of at es x. let l = x.there.long in absurd (outside_left search case trail q u of at x.point (omega (arith, l)) x.there.meets none)) (λ u of at es x. absurd x) h
+pub nothing_left : (search : Search) (case : Case) (pair_path : List (Seat × Seat)) (q : Path) (before after : BrokenPathsOf) → case.pieces ≡ [] → Adds (IsPathAt (judge_of search).params pair_path q.conj) IsNone before after
+    → AddsBroken search (IsOutsideKills search case (length case.kills) pair_path q) before after
+nothing_left search case pair_path q before after none h =
+    broken_by search (IsOutsideKills search case (length case.kills) pair_path q) (IsPathAt (judge_of search).params pair_path q.conj) IsNone before after
+    (λ u of at es x. let l = x.there.long in absurd (outside_left search case pair_path q u of at x.point (omega (arith, l)) x.there.meets none)) (λ u of at es x. absurd x) h
 
 -- all kills are passed behind the last one
-pub last_broken : (search : Search) (case : Case) (number : ℕ) (trail : List (Seat × Seat)) (q : Path) (before after : Found) → length case.kills ≤ number → AddsBroken search (IsOutsideKills search case (length case.kills) trail q) before after
-    → AddsBroken search (IsOutsideKills search case number trail q) before after
-last_broken search case number trail q before after l h =
-    broken_from search (IsOutsideKills search case number trail q) (IsOutsideKills search case (length case.kills) trail q) before after (λ u of at. fewer_outside search case number (length case.kills) trail q u l at) h
+pub last_broken : (search : Search) (case : Case) (number : ℕ) (pair_path : List (Seat × Seat)) (q : Path) (before after : BrokenPathsOf) → length case.kills ≤ number → AddsBroken search (IsOutsideKills search case (length case.kills) pair_path q) before after
+    → AddsBroken search (IsOutsideKills search case number pair_path q) before after
+last_broken search case number pair_path q before after l h =
+    broken_from search (IsOutsideKills search case number pair_path q) (IsOutsideKills search case (length case.kills) pair_path q) before after (λ u of at. fewer_outside search case number (length case.kills) pair_path q u l at) h
 
 -- on a side that misses the next kill
-pub side_broken : (search : Search) (case : Case) (number : ℕ) (node beside : Node) (parts : List Part) (part : Part) (before now after : Found) → AddsBroken search (IsOutsideKills search case number node.trail node.question) before now
-    → SidesMiss search case number node.question parts → IsAmong part parts → beside.question ≡ question_on node.question part → beside.trail ≡ node.trail → AddsBroken search (IsOutsideKills search case (number + 1) beside.trail beside.question) now after
-    → AddsBroken search (IsOutsideKills search case number node.trail node.question) before after
+pub side_broken : (search : Search) (case : Case) (number : ℕ) (node beside : Node) (parts : List Part) (part : Part) (before now after : BrokenPathsOf) → AddsBroken search (IsOutsideKills search case number node.pair_path node.question) before now
+    → SidesMiss search case number node.question parts → IsAmong part parts → beside.question ≡ question_on node.question part → beside.pair_path ≡ node.pair_path → AddsBroken search (IsOutsideKills search case (number + 1) beside.pair_path beside.question) now after
+    → AddsBroken search (IsOutsideKills search case number node.pair_path node.question) before after
 unfolding SidesMiss
 side_broken search case number node beside parts part before now after h miss i e f k =
     let own : Misses search case number beside.question = subst (Misses search case number) (sym e) (miss part i) in
-    broken_then search (IsOutsideKills search case number node.trail node.question) before now after h
-    (within_broken search case number node beside now after (within_part node beside part e f) (next_broken search case number (number + 1) beside.trail beside.question now after (omega arith) own k))
+    broken_then search (IsOutsideKills search case number node.pair_path node.question) before now after h
+    (within_broken search case number node beside now after (within_part node beside part e f) (next_broken search case number (number + 1) beside.pair_path beside.question now after (omega arith) own k))
 
 -- one more, where the numbers go so far
 pub most : (number next : ℕ) → next ≡ min (number + 1) (2 ^ 64 - 1) → next ≤ number + 1

@@ -3,7 +3,7 @@ use Rattle.std.proofs.Common.{◌≡◌, ℕ, ◌+◌, List, [], ◌∷◌, ◌+
 use Rattle.std.specs.List.{AllByRecursion}
 use Rattle.ac_widen.specs.declared.derivation.Entry.{Entry}
 use Rattle.ac_claims.specs.declared.types.ClaimTree.{ClaimTree}
-use Rattle.ac_unfold.specs.Paths.{reason_at, AreFrom, IsPath, ArePlansOf}
+use Rattle.ac_unfold.specs.UnfoldPaths.{reason_at, AreFrom, IsPath, ArePlansOf}
 
 one_more : (n : ℕ) (es : List Entry) (e : Entry) → AreFrom n es → e.reason ≡ reason_at (n + length es) → AreFrom n (es ++ e ∷ [])
 one_more n [] e h is = let z : n + 0 ≡ n = omega arith in (is ∙ ap reason_at z, tt)

@@ -3,46 +3,46 @@ use Rattle.std.proofs.lemmas.List.{take-append-drop}
 use Rattle.std.proofs.Common.{◌≡◌, inl, inr, ℕ, List, [], ◌∷◌, ◌++◌, length, map, take, drop, Some, None, refl, sym, ap, ◌∙◌, subst}
 use Rattle.std.specs.Prelude.{Result, Ok, Err, IfErr, IsErrAnd, option_and_then, slice_get}
 use Rattle.std.specs.declared.alloc.AllocError.{AllocError}
-use Rattle.ac_forms.specs.Members.{IsAmong}
+use Rattle.ac_forms.specs.ListMembers.{IsAmong}
 use Rattle.ac_forms.specs.Renaming.{rows_renaming}
 use Rattle.ac_forms.specs.declared.conj.Conj.{Conj}
 use Rattle.ac_forms.specs.declared.row.Row.{Row}
 use Rattle.ac_syntax.specs.declared.tree.Order.{Order}
 use Rattle.ac_syntax.specs.declared.tree.Order.TheVariants.{Keep}
 use Rattle.ac_syntax.specs.declared.tree.Site.{Site}
-use Rattle.ac_paths.specs.Branching.{onto}
-use Rattle.ac_paths.specs.Going.{Pairing, at_rows, branches, seat_of}
-use Rattle.ac_paths.specs.Killing.{case_columns}
-use Rattle.ac_paths.specs.declared.path.Assumed.{Assumed}
-use Rattle.ac_paths.specs.declared.path.Branch.{Branch}
-use Rattle.ac_paths.specs.declared.path.Path.{Path}
-use Rattle.ac_paths.specs.declared.path.Side.{Side}
-use Rattle.ac_claims.specs.Remaining.{start_at}
+use Rattle.ac_claims_paths.specs.BranchPaths.{onto}
+use Rattle.ac_claims_paths.specs.PathSteps.{Pairing, at_rows, branches, seat_of}
+use Rattle.ac_claims_paths.specs.CopyKills.{case_columns}
+use Rattle.ac_claims_paths.specs.declared.path.Assumed.{Assumed}
+use Rattle.ac_claims_paths.specs.declared.path.Branch.{Branch}
+use Rattle.ac_claims_paths.specs.declared.path.Path.{Path}
+use Rattle.ac_claims_paths.specs.declared.path.Side.{Side}
+use Rattle.ac_claims.specs.RemainingPlans.{start_at}
 use Rattle.ac_claims.specs.declared.types.Claim.{Claim}
 use Rattle.ac_claims.specs.declared.types.Kill.{Kill}
 use Rattle.ac_flow.specs.declared.types.Case.{Case}
 use Rattle.ac_flow.specs.declared.types.ReadFlow.{ReadFlow}
 use Rattle.ac_flow.specs.declared.types.Remainder.{Remainder}
-use Rattle.ac_graft.specs.Sides.{inside_of, outside_of, side_of, AreSides, CanBranch}
-use Rattle.ac_graft.specs.declared.branching.Part.{Part}
-use Rattle.ac_graft.specs.declared.branching.Parts.{Parts}
-use Rattle.ac_graph.specs.Moves.{pairing_of}
-use Rattle.ac_setting.specs.Programs.{order_at}
-use Rattle.ac_leading.specs.Leading.{Unfolding, params_of, positions_of, seats_of}
-use Rattle.ac_leading.specs.Steps.{at_rest, flow_on, order_of}
-use Rattle.ac_leading.proofs.Calling.{orders_are_taken}
-use Rattle.ac_unfold.specs.Asked.{kill_on, AreTargets, AreTwoCalls, GoesOn, IsCut, IsFollowed, LackKill, LacksNext}
-use Rattle.ac_unfold.specs.Causes.{StopsUnfolding}
-use Rattle.ac_unfold.specs.Making.{judge_of}
-use Rattle.ac_unfold.specs.Passing.{GoesWithin}
-use Rattle.ac_unfold.specs.Paths.{Found}
-use Rattle.ac_unfold.specs.Searching.{IsFrom, IsKindThere, IsOf}
-use Rattle.ac_unfold.specs.Stops.{AreKillsRows, AreKillsSides, CutsOn, Follows, FollowsCase, FollowsCut, FollowsOn, HandsBack, IsKillsRow, StopsAsking, StopsStanding, StopsUnder}
-use Rattle.ac_unfold.specs.Wanting.{CanStand}
+use Rattle.ac_claims_plans.specs.BranchSides.{inside_of, outside_of, side_of, AreSides, CanBranch}
+use Rattle.ac_claims_plans.specs.declared.branching.Part.{Part}
+use Rattle.ac_claims_plans.specs.declared.branching.Parts.{Parts}
+use Rattle.ac_graph.specs.PairMoves.{pairing_of}
+use Rattle.ac_widen_programs.specs.PairSetting.{order_at}
+use Rattle.ac_widen_programs.specs.PairPaths.{Unfolding, params_of, positions_of, seats_of}
+use Rattle.ac_widen_programs.specs.PairPathSteps.{at_rest, flow_on, order_of}
+use Rattle.ac_widen_programs.proofs.Calling.{orders_are_taken}
+use Rattle.ac_unfold.specs.UnfoldQuestions.{kill_on, AreTargets, AreTwoCalls, GoesOn, IsCut, IsFollowed, LackKill, LacksNext}
+use Rattle.ac_unfold.specs.UnfoldCauses.{StopsUnfolding}
+use Rattle.ac_unfold.specs.PlanResults.{judge_of}
+use Rattle.ac_unfold.specs.KillTraversal.{GoesWithin}
+use Rattle.ac_unfold.specs.UnfoldPaths.{BrokenPathsOf}
+use Rattle.ac_unfold.specs.BrokenPathResults.{IsFrom, IsKindThere, IsOf}
+use Rattle.ac_unfold.specs.UnfoldStops.{AreKillsRows, AreKillsSides, CutsOn, Follows, FollowsCase, FollowsCut, FollowsOn, HandsBack, IsKillsRow, StopsAsking, StopsStanding, StopsUnder}
+use Rattle.ac_unfold.specs.RequiredRows.{CanStand}
 use Rattle.ac_unfold.specs.declared.ends.Search.{Search}
 use Rattle.ac_unfold.specs.declared.kinds.Next.TheVariants as next
 use Rattle.ac_unfold.specs.declared.node.Node.{Node}
-use Rattle.ac_unfold.specs.declared.types.Setting.{Setting}
+use Rattle.ac_unfold.specs.declared.types.ProgramFlows.{ProgramFlows}
 use Rattle.ac_unfold.specs.declared.types.UnfoldStop.{UnfoldStop}
 use Rattle.ac_unfold.specs.declared.types.UnfoldStop.TheVariants.{Overflow, Spent, Paths, Memory}
 use Rattle.ac_unfold.proofs.Coming.{params_are, AddsReads}
@@ -69,7 +69,7 @@ match_stops (Err stop) search q rows targets h = followed_standing search q rows
 
 -- what comes next at the question is not formed
 abbrev Lacks : Search → Path → Unfolding → Type 0
-Lacks search q u = LacksNext u search.setting.now.left_flow.now search.setting.now.right_flow.now search.claims.now q
+Lacks search q u = LacksNext u search.program_flows.now.left_flow.now search.program_flows.now.right_flow.now search.claims.now q
 
 -- where that is so, the question may be handed back
 handed : (search : Search) (At : Unfolding → Type 0) (q : Path) (Why : Type 0) (stop : UnfoldStop) → ((u : Unfolding) → IsOf search u → At u → Why → Lacks search q u) → HandsBack q.conj Why stop → StopsUnder search At stop
@@ -137,13 +137,13 @@ calls_stop search q order stop kind calls none h = handed search (FollowsOn sear
 -- ---- reads
 
 -- the branches so far have numbers up to this one
-reads_count : (search : Search) (node : Node) (number : ℕ) (xs : List Branch) (before after : Found) → AddsReads search node number xs before after → number ≡ length xs
+reads_count : (search : Search) (node : Node) (number : ℕ) (xs : List Branch) (before after : BrokenPathsOf) → AddsReads search node number xs before after → number ≡ length xs
 unfolding AddsReads
 reads_count search node number xs before after h = h.0
 
 -- a path goes on to the branch of a case with its number
 case_follows : (search : Search) (q : Path) (side : Side) (read : ReadFlow) (case : Case) (number : ℕ) (xs found : List Branch) (b : Branch) (n : ℕ) (u : Unfolding) → IsOf search u → IsKindThere search q (next.Read side)
-    → IsAmong read (flow_on search.setting.now.left_flow.now search.setting.now.right_flow.now side).reads → read.position ≡ (seat_of q side).position → slice_get read.cases number ≡ Some case → number ≡ length xs → xs ++ b ∷ [] ≡ take n found
+    → IsAmong read (flow_on search.program_flows.now.left_flow.now search.program_flows.now.right_flow.now side).reads → read.position ≡ (seat_of q side).position → slice_get read.cases number ≡ Some case → number ≡ length xs → xs ++ b ∷ [] ≡ take n found
     → Some (map (onto q) found) ≡ branches (judge_of search) Keep q → FollowsOn search q u → FollowsCase search case (onto q b) u
 unfolding IsKindThere
 case_follows search q side read case number xs found b n u of kind among position get count first is at =
@@ -166,8 +166,8 @@ case_follows search q side read case number xs found b n u of kind among positio
       };
     }
 
-pub case_stops : (search : Search) (node : Node) (child : Path) (side : Side) (read : ReadFlow) (case : Case) (number : ℕ) (xs found : List Branch) (b : Branch) (n : ℕ) (before after : Found) (stop : UnfoldStop) → IsKindThere search node.question (next.Read side)
-    → IsAmong read (flow_on search.setting.now.left_flow.now search.setting.now.right_flow.now side).reads → read.position ≡ (seat_of node.question side).position → slice_get read.cases number ≡ Some case → AddsReads search node number xs before after
+pub case_stops : (search : Search) (node : Node) (child : Path) (side : Side) (read : ReadFlow) (case : Case) (number : ℕ) (xs found : List Branch) (b : Branch) (n : ℕ) (before after : BrokenPathsOf) (stop : UnfoldStop) → IsKindThere search node.question (next.Read side)
+    → IsAmong read (flow_on search.program_flows.now.left_flow.now search.program_flows.now.right_flow.now side).reads → read.position ≡ (seat_of node.question side).position → slice_get read.cases number ≡ Some case → AddsReads search node number xs before after
     → xs ++ b ∷ [] ≡ take n found → Some (map (onto node.question) found) ≡ branches (judge_of search) Keep node.question → child ≡ onto node.question b → StopsUnder search (FollowsCase search case child) stop → StopsUnder search (FollowsOn search node.question) stop
 case_stops search node child side read case number xs found b n before after stop kind among position get adds first is e h =
     stops_from search (FollowsOn search node.question) (FollowsCase search case child) stop
@@ -315,5 +315,5 @@ begun_stops r search start left right path node opened e q q' h =
     err_from r search (IsFrom start) (Follows search opened.question) (λ u of from. subst (λ (x : Path). Follows search x u) (sym (q' ∙ q)) (start_follows search start left right path u e of from)) h
 
 -- there was no memory
-pub memory_stops : {A : Type 0} (r : Result A UnfoldStop) (want : AllocError) (setting : Setting) (start : Claim) (claims : List Claim) (order : List (Site × Order)) → IsErrAnd r (λ e. e ≡ Memory want) → IfErr r (StopsUnfolding setting start claims order)
-memory_stops r want setting start claims order e = if_err (StopsUnfolding setting start claims order) r (Memory want) e (λ u is. tt)
+pub memory_stops : {A : Type 0} (r : Result A UnfoldStop) (want : AllocError) (program_flows : ProgramFlows) (start : Claim) (claims : List Claim) (order : List (Site × Order)) → IsErrAnd r (λ e. e ≡ Memory want) → IfErr r (StopsUnfolding program_flows start claims order)
+memory_stops r want program_flows start claims order e = if_err (StopsUnfolding program_flows start claims order) r (Memory want) e (λ u is. tt)

@@ -12,15 +12,15 @@ use Rattle.ac_forms.specs.declared.row.Row.{Row}
 use Rattle.ac_syntax.specs.declared.tree.Position.{Position}
 use Rattle.ac_omega.specs.declared.pieces.Stop.{Stop}
 use Rattle.ac_omega.specs.declared.pieces.Stop.TheVariants as decision
-use Rattle.ac_paths.specs.declared.path.Seat.{Seat}
+use Rattle.ac_claims_paths.specs.declared.path.Seat.{Seat}
 use Rattle.ac_widen.specs.declared.derivation.Entry.{Entry}
-use Rattle.ac_leading.specs.Ends.{entries_at}
-use Rattle.ac_unfold.specs.Causes.{stop_of}
-use Rattle.ac_unfold.specs.Ended.{places_along, place_of, AreIncreasing}
-use Rattle.ac_unfold.specs.Full.{nothing_found, EndsMore, FullBy, IncreaseTo, IsCounted, IsFull, IsNeverFull}
-use Rattle.ac_unfold.specs.Paths.{Found, IsPath}
-use Rattle.ac_unfold.specs.Searching.{IsNone, IsPathAt}
-use Rattle.ac_unfold.specs.Stops.{HandsBack, StopsAsking, StopsStanding}
+use Rattle.ac_widen_programs.specs.PairPathEnds.{entries_at}
+use Rattle.ac_unfold.specs.UnfoldCauses.{stop_of}
+use Rattle.ac_unfold.specs.UnfoldEnds.{places_along, place_of, AreIncreasing}
+use Rattle.ac_unfold.specs.EndResults.{nothing_found, EndsMore, FullBy, IncreaseTo, IsCounted, IsFull, IsNeverFull}
+use Rattle.ac_unfold.specs.UnfoldPaths.{BrokenPathsOf, IsPath}
+use Rattle.ac_unfold.specs.BrokenPathResults.{IsNone, IsPathAt}
+use Rattle.ac_unfold.specs.UnfoldStops.{HandsBack, StopsAsking, StopsStanding}
 use Rattle.ac_unfold.specs.declared.types.UnfoldStop.{UnfoldStop}
 use Rattle.ac_unfold.specs.declared.types.UnfoldStop.TheVariants.{Overflow, Spent, Paths, Memory}
 use Rattle.ac_unfold.proofs.PathSteps.{paths_more}
@@ -95,7 +95,7 @@ pub nothing_kept : (paths ended : List (List Entry)) (last : List ℕ) → paths
 nothing_kept paths ended last e f = subst (λ (xs : List (List Entry)). AreKeptSo xs ended last) (sym e) (subst (λ (ys : List (List Entry)). AreKeptSo [] ys last) (sym f) (tt, tt, omega arith))
 
 -- that is nothing
-pub nothing_is : (found : Found) → found.paths ≡ [] → found.ended ≡ [] → found ≡ nothing_found
+pub nothing_is : (found : BrokenPathsOf) → found.paths ≡ [] → found.ended ≡ [] → found ≡ nothing_found
 nothing_is found e f = λ i. record { paths = e i; ended = f i }
 
 -- one broken path more, if there was memory
@@ -120,8 +120,8 @@ pub ends_same : (Kind : List Entry → Type 0) (before after : List (List Entry)
 ends_same Kind before after e = inl e
 
 -- the path to an end, at a point of its question
-pub reached_at : (params : ℕ) (trail : List (Seat × Seat)) (c : Conj) (p : List ℤ) (es : List Entry) → (length p ≡ c.columns) × Meets c.rows p → es ≡ entries_at params p trail → IsPathAt params trail c es
-reached_at params trail c p es there e = record { point = p; there = record { long = there.0; meets = there.1 }; are = e }
+pub reached_at : (params : ℕ) (pair_path : List (Seat × Seat)) (c : Conj) (p : List ℤ) (es : List Entry) → (length p ≡ c.columns) × Meets c.rows p → es ≡ entries_at params p pair_path → IsPathAt params pair_path c es
+reached_at params pair_path c p es there e = record { point = p; there = record { long = there.0; meets = there.1 }; are = e }
 
 -- one end more
 pub end_more : (Kind : List Entry → Type 0) (before now after : List (List Entry)) (es : List Entry) → Kind es → now ≡ before → after ≡ now ++ es ∷ [] → EndsMore Kind before after

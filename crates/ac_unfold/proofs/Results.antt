@@ -3,34 +3,34 @@ use Rattle.std.proofs.Common.{◌≡◌, inl, inr, ℕ, zero, suc, ◌+◌, ◌<
 use Rattle.std.proofs.lemmas.List.{take_more}
 use Rattle.std.specs.Prelude.{Result, Ok, Err, IfOk, IfSome, slice_get}
 use Rattle.ac_forms.specs.declared.row.Row.{Row}
-use Rattle.ac_paths.specs.Formed.{AllFormed, IsFormed}
-use Rattle.ac_paths.specs.Going.{Pairing, at_rows}
-use Rattle.ac_paths.specs.Killing.{case_width}
-use Rattle.ac_forms.specs.Members.{IsAmong}
-use Rattle.ac_paths.specs.declared.path.Path.{Path}
+use Rattle.ac_claims_paths.specs.WellFormedPaths.{AllFormed, IsFormed}
+use Rattle.ac_claims_paths.specs.PathSteps.{Pairing, at_rows}
+use Rattle.ac_claims_paths.specs.CopyKills.{case_width}
+use Rattle.ac_forms.specs.ListMembers.{IsAmong}
+use Rattle.ac_claims_paths.specs.declared.path.Path.{Path}
 use Rattle.ac_claims.specs.declared.types.Claim.{Claim}
 use Rattle.ac_claims.specs.declared.types.Kill.{Kill}
 use Rattle.ac_claims.specs.declared.types.Plan.{Plan}
 use Rattle.ac_claims.specs.declared.types.PlanNext.{PlanNext}
 use Rattle.ac_claims.specs.declared.types.PlanNext.TheVariants.{Killed}
 use Rattle.ac_flow.specs.declared.types.Case.{Case}
-use Rattle.ac_flow_laws.specs.Accepting.{on_path}
-use Rattle.ac_graft.specs.Placings.{advanced}
-use Rattle.ac_graft.specs.Sides.{outside_of, on_side, AreSides}
-use Rattle.ac_graft.specs.declared.branching.Part.{Part}
-use Rattle.ac_graft.specs.declared.branching.Parts.{Parts}
-use Rattle.ac_graft.specs.declared.placing.Placing.{Placing}
-use Rattle.ac_plans.specs.Following.{IsPlanFor}
-use Rattle.ac_plans.specs.Serving.{question_on, AreSidePlans}
-use Rattle.ac_ends.specs.Ends.{IsEnd}
-use Rattle.ac_ends.specs.Kills.{IsKillAt, kill_on}
-use Rattle.ac_ends.proofs.Killing.{kills_plans}
-use Rattle.ac_unfold.specs.Courses.{IsBehind, IsOpened}
-use Rattle.ac_unfold.specs.Cutting.{AreMadeOn, CutsMore, IsKilled, IsKillThere}
-use Rattle.ac_unfold.specs.Making.{judge_of, EndsWhere, IsCaseAt, IsEndFor, IsGiven, IsMade, IsMadeIn, IsPlanIn, IsRefuted}
-use Rattle.ac_unfold.specs.Standing.{AreKept, AreRefutedOn, Cuts, IsEndedPlan, IsEndOf, KeepsMore, StopsBeside}
-use Rattle.ac_unfold.specs.Stopping.{EndsAnywhere, StopsIn}
-use Rattle.ac_unfold.specs.Wanting.{CanStand}
+use Rattle.ac_flow.specs.KillAcceptance.{on_path}
+use Rattle.ac_claims_plans.specs.Embeddings.{advanced}
+use Rattle.ac_claims_plans.specs.BranchSides.{outside_of, on_side, AreSides}
+use Rattle.ac_claims_plans.specs.declared.branching.Part.{Part}
+use Rattle.ac_claims_plans.specs.declared.branching.Parts.{Parts}
+use Rattle.ac_claims_plans.specs.declared.embedding.Embedding.{Embedding}
+use Rattle.ac_claims_plans.specs.QuestionPaths.{IsPlanFor}
+use Rattle.ac_claims_plans.specs.QuestionPlans.{question_on, AreSidePlans}
+use Rattle.ac_unfold_plans.specs.PlanEnds.{IsEnd}
+use Rattle.ac_unfold_plans.specs.KillEnds.{IsKillAt, kill_on}
+use Rattle.ac_unfold_plans.proofs.Killing.{kills_plans}
+use Rattle.ac_unfold.specs.OpenBranches.{IsBehind, HasBranchMore}
+use Rattle.ac_unfold.specs.KillCuts.{AreMadeOn, CutsMore, IsKilled, IsKillThere}
+use Rattle.ac_unfold.specs.PlanResults.{judge_of, EndsWhere, IsCaseAt, IsEndFor, IsGiven, IsMade, IsMadeIn, IsPlanIn, IsRefuted}
+use Rattle.ac_unfold.specs.EndRows.{AreKept, AreRefutedOn, Cuts, IsEndedPlan, IsEndOf, KeepsMore, StopsBeside}
+use Rattle.ac_unfold.specs.SearchPlanStops.{EndsAnywhere, StopsIn}
+use Rattle.ac_unfold.specs.RequiredRows.{CanStand}
 use Rattle.ac_unfold.specs.declared.course.Course.{Course}
 use Rattle.ac_unfold.specs.declared.ends.Search.{Search}
 use Rattle.ac_unfold.specs.declared.node.Node.{Node}
@@ -60,34 +60,34 @@ in_read (y ∷ xs) (suc i) x l e = inr (in_read xs i x (omega (arith, l)) e)
 
 -- ---- plans of one kind that are plans of another
 
-pub refuted_made : (search : Search) (s : Placing) (q : Path) (o : Option Plan) → IfSome o (IsRefuted s q) → IfSome o (IsMade search s q)
+pub refuted_made : (search : Search) (s : Embedding) (q : Path) (o : Option Plan) → IfSome o (IsRefuted s q) → IfSome o (IsMade search s q)
 unfolding IsPlanIn
 refuted_made search s q (Some t) h = record { plan = λ cs given formed. h.plan (judge_of search) cs; stops = anywhere_stops search q t.next h.stops }
 refuted_made search s q None h = tt
 
-pub made_in : (search : Search) (case : Case) (s : Placing) (q : Path) (o : Option Plan) → IfSome o (IsMade search s q) → IfSome o (IsMadeIn search case s q)
+pub made_in : (search : Search) (case : Case) (s : Embedding) (q : Path) (o : Option Plan) → IfSome o (IsMade search s q) → IfSome o (IsMadeIn search case s q)
 made_in search case s q (Some t) h = record { plan = λ assumed. h.plan; stops = h.stops }
 made_in search case s q None h = tt
 
-pub refuted_in : (search : Search) (case : Case) (s : Placing) (q : Path) (o : Option Plan) → IfSome o (IsRefuted s q) → IfSome o (IsMadeIn search case s q)
+pub refuted_in : (search : Search) (case : Case) (s : Embedding) (q : Path) (o : Option Plan) → IfSome o (IsRefuted s q) → IfSome o (IsMadeIn search case s q)
 refuted_in search case s q o h = made_in search case s q o (refuted_made search s q o h)
 
-pub all_refuted_made : (res : Result (Option Plan) UnfoldStop) (search : Search) (s : Placing) (q : Path) → IfOk res (λ o. IfSome o (IsRefuted s q)) → IfOk res (λ o. IfSome o (IsMade search s q))
+pub all_refuted_made : (res : Result (Option Plan) UnfoldStop) (search : Search) (s : Embedding) (q : Path) → IfOk res (λ o. IfSome o (IsRefuted s q)) → IfOk res (λ o. IfSome o (IsMade search s q))
 all_refuted_made (Ok o) search s q h = refuted_made search s q o h
 all_refuted_made (Err e) search s q h = tt
 
-pub all_made_in : (res : Result (Option Plan) UnfoldStop) (search : Search) (case : Case) (s : Placing) (q : Path) → IfOk res (λ o. IfSome o (IsMade search s q)) → IfOk res (λ o. IfSome o (IsMadeIn search case s q))
+pub all_made_in : (res : Result (Option Plan) UnfoldStop) (search : Search) (case : Case) (s : Embedding) (q : Path) → IfOk res (λ o. IfSome o (IsMade search s q)) → IfOk res (λ o. IfSome o (IsMadeIn search case s q))
 all_made_in (Ok o) search case s q h = made_in search case s q o h
 all_made_in (Err e) search case s q h = tt
 
 -- at a node with the same question
-pub same_made_in : (res : Result (Option Plan) UnfoldStop) (search : Search) (case : Case) (s z : Placing) (q v : Path) → (v ≡ q) × (z ≡ s) → IfOk res (λ o. IfSome o (IsMadeIn search case z v)) → IfOk res (λ o. IfSome o (IsMadeIn search case s q))
-same_made_in res search case s z q v e h = subst (λ (x : Placing). IfOk res (λ o. IfSome o (IsMadeIn search case x q))) e.1 (subst (λ (x : Path). IfOk res (λ o. IfSome o (IsMadeIn search case z x))) e.0 h)
+pub same_made_in : (res : Result (Option Plan) UnfoldStop) (search : Search) (case : Case) (s z : Embedding) (q v : Path) → (v ≡ q) × (z ≡ s) → IfOk res (λ o. IfSome o (IsMadeIn search case z v)) → IfOk res (λ o. IfSome o (IsMadeIn search case s q))
+same_made_in res search case s z q v e h = subst (λ (x : Embedding). IfOk res (λ o. IfSome o (IsMadeIn search case x q))) e.1 (subst (λ (x : Path). IfOk res (λ o. IfSome o (IsMadeIn search case z x))) e.0 h)
 
-pub same_made : (res : Result (Option Plan) UnfoldStop) (search : Search) (s z : Placing) (q v : Path) → (v ≡ q) × (z ≡ s) → IfOk res (λ o. IfSome o (IsMade search z v)) → IfOk res (λ o. IfSome o (IsMade search s q))
-same_made res search s z q v e h = subst (λ (x : Placing). IfOk res (λ o. IfSome o (IsMade search x q))) e.1 (subst (λ (x : Path). IfOk res (λ o. IfSome o (IsMade search z x))) e.0 h)
+pub same_made : (res : Result (Option Plan) UnfoldStop) (search : Search) (s z : Embedding) (q v : Path) → (v ≡ q) × (z ≡ s) → IfOk res (λ o. IfSome o (IsMade search z v)) → IfOk res (λ o. IfSome o (IsMade search s q))
+same_made res search s z q v e h = subst (λ (x : Embedding). IfOk res (λ o. IfSome o (IsMade search x q))) e.1 (subst (λ (x : Path). IfOk res (λ o. IfSome o (IsMade search z x))) e.0 h)
 
-pub none_made : (res : Result (Option Plan) UnfoldStop) (search : Search) (case : Case) (s : Placing) (q : Path) → IfOk res (λ o. o ≡ None) → IfOk res (λ o. IfSome o (IsMadeIn search case s q))
+pub none_made : (res : Result (Option Plan) UnfoldStop) (search : Search) (case : Case) (s : Embedding) (q : Path) → IfOk res (λ o. o ≡ None) → IfOk res (λ o. IfSome o (IsMadeIn search case s q))
 none_made (Ok o) search case s q h = subst (λ (x : Option Plan). IfSome x (IsMadeIn search case s q)) (sym h) tt
 none_made (Err e) search case s q h = tt
 
@@ -102,17 +102,17 @@ pub kept_none : (search : Search) (node : Node) (course : Course) → course.nod
 kept_none search node course e none = record { keeps = λ cs given formed. keeps_start search cs node course e none formed; beside = beside_none search node course e none }
 
 pub kept_more : (search : Search) (node : Node) (course next : Course) (rows : List Row) (row : Row) → AreKept search node course rows → KeepsMore search course row next → AreKept search node next (rows ++ row ∷ [])
-kept_more search node course next rows row h k = record { keeps = λ cs given formed. k.keeps cs node.placing node.question rows given (h.keeps cs given formed); beside = k.beside node.question h.beside }
+kept_more search node course next rows row h k = record { keeps = λ cs given formed. k.keeps cs node.embedding node.question rows given (h.keeps cs given formed); beside = k.beside node.question h.beside }
 
-pub ended_made : (search : Search) (node : Node) (course : Course) (rows : List Row) (o : Option Plan) → AreKept search node course rows → IfSome o (IsEndOf search course) → IfSome o (IsMade search node.placing node.question)
+pub ended_made : (search : Search) (node : Node) (course : Course) (rows : List Row) (o : Option Plan) → AreKept search node course rows → IfSome o (IsEndOf search course) → IfSome o (IsMade search node.embedding node.question)
 unfolding IsPlanIn
-ended_made search node course rows (Some t) h e = record { plan = λ cs given formed. e.plan cs node.placing node.question rows given (h.keeps cs given formed); stops = e.stops node.question h.beside }
+ended_made search node course rows (Some t) h e = record { plan = λ cs given formed. e.plan cs node.embedding node.question rows given (h.keeps cs given formed); stops = e.stops node.question h.beside }
 ended_made search node course rows None h e = tt
 
 end_is : (end : PlanNext) (o : Option Plan) (t : Plan) → IfSome o (IsEnd end) → o ≡ Some t → IsEnd end t
 end_is end o t h e = subst (λ (x : Option Plan). IfSome x (IsEnd end)) e h
 
-stood : (search : Search) (node : Node) (course : Course) (rows : List Row) (end : PlanNext) (o : Option Plan) (t : Plan) → AreKept search node course rows → EndsWhere search node.question rows end → IfSome o (IsEnd end) → IsEndedPlan course o t → IsPlanIn search node.placing node.question t
+stood : (search : Search) (node : Node) (course : Course) (rows : List Row) (end : PlanNext) (o : Option Plan) (t : Plan) → AreKept search node course rows → EndsWhere search node.question rows end → IfSome o (IsEnd end) → IsEndedPlan course o t → IsPlanIn search node.embedding node.question t
 unfolding EndsWhere IsPlanIn
 stood search node course rows end o t k w i h cs given formed =
     let kept = k.keeps cs given formed in
@@ -122,7 +122,7 @@ stood search node course rows end o t k w i h cs given formed =
     kept.leads h.last t (subst (λ (x : Path). IsPlanFor (judge_of search) cs kept.placed x h.last) (sym same) there) h.behind
 
 pub stood_made : (res : Result (Option Plan) UnfoldStop) (search : Search) (node : Node) (course : Course) (rows : List Row) (end : PlanNext) (o : Option Plan) → AreKept search node course rows → IsEndFor search node.question rows end → IfSome o (IsEnd end)
-    → IfOk res (λ made. IfSome made (λ t. IsEndedPlan course o t)) → IfOk res (λ made. IfSome made (IsMade search node.placing node.question))
+    → IfOk res (λ made. IfSome made (λ t. IsEndedPlan course o t)) → IfOk res (λ made. IfSome made (IsMade search node.embedding node.question))
 stood_made (Err e) search node course rows end o k w i h = tt
 stood_made (Ok None) search node course rows end o k w i h = tt
 stood_made (Ok (Some t)) search node course rows end o k w i h = record {
@@ -130,55 +130,55 @@ stood_made (Ok (Some t)) search node course rows end o k w i h = record {
   stops = behind_stops search node.question course.branches.items h.last t k.beside.outside h.behind (subst (StopsIn search node.question) (sym (end_is end o h.last i h.is).1) w.stops);
 }
 
-pub absurd_ended : (search : Search) (course : Course) (end made : Option Plan) → IfSome end (IsRefuted course.node.placing course.node.question) → IfSome made (λ t. IsEndedPlan course end t) → IfSome made (IsEndOf search course)
-absurd_ended search course end (Some t) r h = refuted_end search course end t h (λ last e. at_some end last (IsRefuted course.node.placing course.node.question) e r)
+pub absurd_ended : (search : Search) (course : Course) (end made : Option Plan) → IfSome end (IsRefuted course.node.embedding course.node.question) → IfSome made (λ t. IsEndedPlan course end t) → IfSome made (IsEndOf search course)
+absurd_ended search course end (Some t) r h = refuted_end search course end t h (λ last e. at_some end last (IsRefuted course.node.embedding course.node.question) e r)
 absurd_ended search course end None r h = tt
 
-pub branched : (search : Search) (course next : Course) (row : Row) (outside : List Plan) (parts : Parts) (sides : List Part) → AreSides course.node.question.conj.columns row (Some parts) → sides ≡ parts.outside → AreRefutedOn search course.node.placing course.node.question sides outside
-    → IsOpened course row outside next → next.node.question ≡ course.node.question → next.node.placing ≡ advanced course.node.placing parts.inside.path_columns parts.inside.path_rows → CanStand course.node.question.conj.columns row → KeepsMore search course row next
+pub branched : (search : Search) (course next : Course) (row : Row) (outside : List Plan) (parts : Parts) (sides : List Part) → AreSides course.node.question.conj.columns row (Some parts) → sides ≡ parts.outside → AreRefutedOn search course.node.embedding course.node.question sides outside
+    → HasBranchMore course row outside next → next.node.question ≡ course.node.question → next.node.embedding ≡ advanced course.node.embedding parts.inside.path_columns parts.inside.path_rows → CanStand course.node.question.conj.columns row → KeepsMore search course row next
 branched search course next row outside parts sides a e r o q p can =
     let n = course.node.question.conj.columns in
     let same : sides ≡ outside_of n row = e ∙ ap (λ (x : Parts). x.outside) a.1 in
-    branch_more search course next row outside o q (p ∙ ap (λ (x : Parts). advanced course.node.placing x.inside.path_columns x.inside.path_rows) a.1) can a.0
-    (subst (λ (ps : List Part). AreRefutedOn search course.node.placing course.node.question ps outside) same r)
+    branch_more search course next row outside o q (p ∙ ap (λ (x : Parts). advanced course.node.embedding x.inside.path_columns x.inside.path_rows) a.1) can a.0
+    (subst (λ (ps : List Part). AreRefutedOn search course.node.embedding course.node.question ps outside) same r)
 
-pub cut_branched : (search : Search) (case : Case) (course next : Course) (row : Row) (outside : List Plan) (parts : Parts) (sides : List Part) → AreSides course.node.question.conj.columns row (Some parts) → sides ≡ parts.outside → AreMadeOn search case course.node.placing course.node.question sides outside
-    → IsOpened course row outside next → next.node.question ≡ question_on course.node.question parts.inside → next.node.placing ≡ on_side course.node.placing parts.inside → CanStand course.node.question.conj.columns row → CutsMore search case course row next
+pub cut_branched : (search : Search) (case : Case) (course next : Course) (row : Row) (outside : List Plan) (parts : Parts) (sides : List Part) → AreSides course.node.question.conj.columns row (Some parts) → sides ≡ parts.outside → AreMadeOn search case course.node.embedding course.node.question sides outside
+    → HasBranchMore course row outside next → next.node.question ≡ question_on course.node.question parts.inside → next.node.embedding ≡ on_side course.node.embedding parts.inside → CanStand course.node.question.conj.columns row → CutsMore search case course row next
 cut_branched search case course next row outside parts sides a e r o q p can =
     let n = course.node.question.conj.columns in
     let same : sides ≡ outside_of n row = e ∙ ap (λ (x : Parts). x.outside) a.1 in
-    cut_goes search case course next row outside o (q ∙ ap (λ (x : Parts). question_on course.node.question x.inside) a.1) (p ∙ ap (λ (x : Parts). on_side course.node.placing x.inside) a.1) can a.0
-    (subst (λ (ps : List Part). AreMadeOn search case course.node.placing course.node.question ps outside) same r)
+    cut_goes search case course next row outside o (q ∙ ap (λ (x : Parts). question_on course.node.question x.inside) a.1) (p ∙ ap (λ (x : Parts). on_side course.node.embedding x.inside) a.1) can a.0
+    (subst (λ (ps : List Part). AreMadeOn search case course.node.embedding course.node.question ps outside) same r)
 
 -- ---- sides
 
-pub sides_more : (g : Pairing) (cs : List Claim) (s : Placing) (q : Path) (ps : List Part) (ts : List Plan) (p : Part) (t : Plan) → AreSidePlans g cs s q ps ts → IsPlanFor g cs (on_side s p) (question_on q p) t → AreSidePlans g cs s q (ps ++ p ∷ []) (ts ++ t ∷ [])
+pub sides_more : (g : Pairing) (cs : List Claim) (s : Embedding) (q : Path) (ps : List Part) (ts : List Plan) (p : Part) (t : Plan) → AreSidePlans g cs s q ps ts → IsPlanFor g cs (on_side s p) (question_on q p) t → AreSidePlans g cs s q (ps ++ p ∷ []) (ts ++ t ∷ [])
 sides_more g cs s q [] [] p t h k = (k, tt)
 sides_more g cs s q [] (u ∷ ts) p t h k = absurd h
 sides_more g cs s q (r ∷ ps) [] p t h k = absurd h
 sides_more g cs s q (r ∷ ps) (u ∷ ts) p t h k = (h.0, sides_more g cs s q ps ts p t h.1 k)
 
-pub refuted_none : (search : Search) (s : Placing) (q : Path) → AreRefutedOn search s q [] []
+pub refuted_none : (search : Search) (s : Embedding) (q : Path) → AreRefutedOn search s q [] []
 refuted_none search s q = record { sides = λ making g cs. tt; stop = λ making. tt }
 
-pub refuted_more : (search : Search) (s : Placing) (q : Path) (ps : List Part) (ts : List Plan) (p : Part) (beside : Node) (t : Plan) → AreRefutedOn search s q ps ts → beside.question ≡ question_on q p → beside.placing ≡ on_side s p → IsRefuted beside.placing beside.question t
+pub refuted_more : (search : Search) (s : Embedding) (q : Path) (ps : List Part) (ts : List Plan) (p : Part) (beside : Node) (t : Plan) → AreRefutedOn search s q ps ts → beside.question ≡ question_on q p → beside.embedding ≡ on_side s p → IsRefuted beside.embedding beside.question t
     → AreRefutedOn search s q (ps ++ p ∷ []) (ts ++ t ∷ [])
 refuted_more search s q ps ts p beside t h e f r = record {
-  sides = λ making g cs. sides_more g cs s q ps ts p t (h.sides making g cs) (subst (λ (z : Placing). IsPlanFor g cs z (question_on q p) t) f (subst (λ (x : Path). IsPlanFor g cs beside.placing x t) e (r.plan g cs)));
+  sides = λ making g cs. sides_more g cs s q ps ts p t (h.sides making g cs) (subst (λ (z : Embedding). IsPlanFor g cs z (question_on q p) t) f (subst (λ (x : Path). IsPlanFor g cs beside.embedding x t) e (r.plan g cs)));
   stop = λ making. all_more (λ (u : Plan). EndsAnywhere u.next) ts t (h.stop making) r.stops;
 }
 
-pub refuted_off : (search : Search) (s : Placing) (q : Path) (ps : List Part) (ts : List Plan) → search.making ≡ false → AreRefutedOn search s q ps ts
+pub refuted_off : (search : Search) (s : Embedding) (q : Path) (ps : List Part) (ts : List Plan) → search.making ≡ false → AreRefutedOn search s q ps ts
 refuted_off search s q ps ts e = record { sides = λ making. let z : true ≡ false = sym making ∙ e in absurd cc; stop = λ making. let z : true ≡ false = sym making ∙ e in absurd cc }
 
-pub made_none : (search : Search) (case : Case) (s : Placing) (q : Path) → AreMadeOn search case s q [] []
+pub made_none : (search : Search) (case : Case) (s : Embedding) (q : Path) → AreMadeOn search case s q [] []
 made_none search case s q = record { sides = λ cs given assumed formed. tt; stop = tt }
 
 formed_last : (n : ℕ) (q : Path) (ps : List Part) (p : Part) → AllFormed n (map (question_on q) (ps ++ p ∷ [])) → AllFormed n (map (question_on q) ps) × IsFormed n (question_on q p)
 formed_last n q [] p h = (tt, h.0)
 formed_last n q (r ∷ ps) p h = let k = formed_last n q ps p h.1 in ((h.0, k.0), k.1)
 
-pub made_more : (search : Search) (case : Case) (s : Placing) (q : Path) (ps : List Part) (ts : List Plan) (p : Part) (beside : Node) (t : Plan) → AreMadeOn search case s q ps ts → beside.question ≡ question_on q p → beside.placing ≡ on_side s p → IsMadeIn search case beside.placing beside.question t
+pub made_more : (search : Search) (case : Case) (s : Embedding) (q : Path) (ps : List Part) (ts : List Plan) (p : Part) (beside : Node) (t : Plan) → AreMadeOn search case s q ps ts → beside.question ≡ question_on q p → beside.embedding ≡ on_side s p → IsMadeIn search case beside.embedding beside.question t
     → AreMadeOn search case s q (ps ++ p ∷ []) (ts ++ t ∷ [])
 unfolding IsPlanIn
 made_more search case s q ps ts p beside t h e f made = record {
@@ -186,25 +186,25 @@ made_more search case s q ps ts p beside t h e f made = record {
       let g = judge_of search in
       let k = formed_last g.params q ps p formed in
       let there : IsCaseAt g beside.question case = subst (λ (x : Path). IsCaseAt g x case) (sym e) (case_beside g q (question_on q p).conj case assumed) in
-      let plan : IsPlanFor g cs beside.placing beside.question t = made.plan there cs given (subst (λ (x : Path). IsFormed g.params x) (sym e) k.1) in
-      sides_more g cs s q ps ts p t (h.sides cs given assumed k.0) (subst (λ (z : Placing). IsPlanFor g cs z (question_on q p) t) f (subst (λ (x : Path). IsPlanFor g cs beside.placing x t) e plan));
+      let plan : IsPlanFor g cs beside.embedding beside.question t = made.plan there cs given (subst (λ (x : Path). IsFormed g.params x) (sym e) k.1) in
+      sides_more g cs s q ps ts p t (h.sides cs given assumed k.0) (subst (λ (z : Embedding). IsPlanFor g cs z (question_on q p) t) f (subst (λ (x : Path). IsPlanFor g cs beside.embedding x t) e plan));
   stop = all_more (λ (u : Plan). StopsIn search q u.next) ts t h.stop (there_stops search q beside.question t.next (grown_part q beside.question p e) made.stops);
 }
 
 -- ---- the rows of a kill
 
 pub record AreCut (search : Search) (case : Case) (node : Node) (course : Course) (rows : List Row) : Type 0 where
-  pub cuts : (cs : List Claim) → IsGiven search cs → IsCaseAt (judge_of search) node.question case → IsFormed (judge_of search).params node.question → Cuts search cs node.placing node.question course rows
+  pub cuts : (cs : List Claim) → IsGiven search cs → IsCaseAt (judge_of search) node.question case → IsFormed (judge_of search).params node.question → Cuts search cs node.embedding node.question course rows
   pub beside : StopsBeside search node.question course
 
 pub cut_none : (search : Search) (case : Case) (node : Node) (course : Course) → course.node ≡ node → course.branches.items ≡ [] → AreCut search case node course []
 cut_none search case node course e none = record { cuts = λ cs given assumed formed. cuts_start search cs node course e none formed; beside = beside_none search node course e none }
 
 pub cut_more : (search : Search) (case : Case) (node : Node) (course next : Course) (rows : List Row) (row : Row) → AreCut search case node course rows → CutsMore search case course row next → AreCut search case node next (rows ++ row ∷ [])
-cut_more search case node course next rows row h k = record { cuts = λ cs given assumed formed. k.cuts cs node.placing node.question rows given assumed (h.cuts cs given assumed formed); beside = k.beside node.question h.beside }
+cut_more search case node course next rows row h k = record { cuts = λ cs given assumed formed. k.cuts cs node.embedding node.question rows given assumed (h.cuts cs given assumed formed); beside = k.beside node.question h.beside }
 
 cut_plan : (search : Search) (case : Case) (node : Node) (course : Course) (rows : List Row) (kill : Kill) (end t : Plan) → AreCut search case node course rows → IsKilled search course.node kill end → IsBehind course.branches.items end t → IsKillThere search node.question case kill rows
-    → IsCaseAt (judge_of search) node.question case → IsPlanIn search node.placing node.question t
+    → IsCaseAt (judge_of search) node.question case → IsPlanIn search node.embedding node.question t
 unfolding IsPlanIn
 cut_plan search case node course rows kill end t h killed behind there assumed cs given formed =
     let g = judge_of search in
@@ -221,11 +221,11 @@ cut_plan search case node course rows kill end t h killed behind there assumed c
       assumed = assumed.stands_for;
       rows = sym (there.moved a assumed.is);
     } in
-    let end_is : IsEnd (Killed (kill_on g course.node.placing a there.whole.1)) end = subst (λ (x : Kill). IsEnd (Killed (on_path (case_width g.params a) course.node.placing.next_column x)) end) (sym there.is) (killed.ends a last) in
-    k.leads end t (kills_plans g cs course.node.placing v a there.whole rows end at (rows_along g.params course.node.placing v rows k.formed.made k.standing) end_is) behind
+    let end_is : IsEnd (Killed (kill_on g course.node.embedding a there.whole.1)) end = subst (λ (x : Kill). IsEnd (Killed (on_path (case_width g.params a) course.node.embedding.next_column x)) end) (sym there.is) (killed.ends a last) in
+    k.leads end t (kills_plans g cs course.node.embedding v a there.whole rows end at (rows_along g.params course.node.embedding v rows k.formed.made k.standing) end_is) behind
 
 pub cut_made : (search : Search) (case : Case) (node : Node) (course : Course) (rows : List Row) (kill : Kill) (end t : Plan) → AreCut search case node course rows
-    → IsKilled search course.node kill end → IsBehind course.branches.items end t → IsKillThere search node.question case kill rows → IsMadeIn search case node.placing node.question t
+    → IsKilled search course.node kill end → IsBehind course.branches.items end t → IsKillThere search node.question case kill rows → IsMadeIn search case node.embedding node.question t
 cut_made search case node course rows kill end t h killed behind there = record {
   plan = cut_plan search case node course rows kill end t h killed behind there;
   stops = behind_stops search node.question course.branches.items end t h.beside.outside behind (anywhere_stops search node.question end.next killed.stops);

@@ -6,11 +6,11 @@ use Rattle.ac_forms.specs.declared.conj.Conj.{Conj}
 use Rattle.ac_forms.specs.declared.row.Row.{Row}
 use Rattle.ac_forms.specs.declared.row.Row.TheVariants.{Eq, Div, Ge}
 use Rattle.ac_forms.proofs.Standings.{stands-more, stands-there}
-use Rattle.ac_graft.specs.Sides.{has_few, inside_of, one_row, side_of}
-use Rattle.ac_graft.specs.declared.branching.Part.{Part}
-use Rattle.ac_plans.specs.Covering.{HasPlaces}
-use Rattle.ac_unfold.specs.Making.{IsStanding, AreStanding}
-use Rattle.ac_unfold.specs.Wanting.{CanStand}
+use Rattle.ac_claims_plans.specs.BranchSides.{has_few, inside_of, one_row, side_of}
+use Rattle.ac_claims_plans.specs.declared.branching.Part.{Part}
+use Rattle.ac_claims_plans.specs.QuestionCover.{HasPlaces}
+use Rattle.ac_unfold.specs.PlanResults.{IsStanding, AreStanding}
+use Rattle.ac_unfold.specs.RequiredRows.{CanStand}
 
 -- it has the row, at one place, and no further column
 pub record IsInside (r : Row) (p : Part) : Type 0 where

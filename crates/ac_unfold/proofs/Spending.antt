@@ -2,11 +2,11 @@
 use Rattle.std.proofs.Common.{◌≡◌, ℕ, zero, suc, ◌+◌, ◌-◌, ◌^◌, ◌<◌, ◌≤◌, ℤ, List, [], ◌∷◌, Option, Some, None, nat_lt, Bool, true, false, cond, arith, refl, subst}
 use borrow.Author.Tests.{ltb-true, ltb-false}
 use Rattle.ac_forms.specs.declared.conj.Conj.{Conj}
-use Rattle.ac_refutations.specs.declared.strategy.Strategy.{Strategy}
+use Rattle.ac_omega_certify.specs.declared.strategy.Strategy.{Strategy}
 use Rattle.ac_omega.specs.Decisions.{walk_of, IsSpent}
-use Rattle.ac_omega.specs.Elimination.{eliminating, normal_of}
+use Rattle.ac_omega.specs.ColumnElimination.{eliminating, normal_of}
 use Rattle.ac_omega.specs.Maxima.{nothing_met, with_rows}
-use Rattle.ac_omega.specs.Searching.{columns_to}
+use Rattle.ac_omega.specs.WalkAnswers.{columns_to}
 use Rattle.ac_omega.specs.Walk.{Walked, Empty, Found, Spent, Wide, Node, Done, Absurd, Open, Method, lifted, behind, entered, tries, looked, walk, HasRows}
 use Rattle.ac_omega.proofs.Rows.{has-rows}
 use Rattle.ac_omega.proofs.Walks.{open-rows}

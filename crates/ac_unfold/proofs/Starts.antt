@@ -4,38 +4,38 @@ use Rattle.std.specs.Prelude.{Result, Ok, Err, IfOk, IfSome}
 use Rattle.std.specs.List.{AllByRecursion, range_with_len}
 use Rattle.ac_forms.specs.Rows.{IsWellMade}
 use Rattle.ac_forms.specs.declared.row.Row.{Row}
-use Rattle.ac_items.proofs.Options.{bind-some, map-some, some-is}
+use Rattle.ac_base.proofs.Options.{bind-some, map-some, some-is}
 use Rattle.ac_syntax.specs.declared.tree.Order.{Order}
 use Rattle.ac_syntax.specs.declared.tree.Position.{Position}
 use Rattle.ac_syntax.specs.declared.tree.Site.{Site}
 use Rattle.ac_syntax.proofs.TurnEntries.{flat_map_last}
-use Rattle.ac_paths.specs.Calls.{pairing}
-use Rattle.ac_paths.specs.Formed.{IsFormed, LastIn}
-use Rattle.ac_paths.specs.Going.{Pairing}
-use Rattle.ac_paths.specs.declared.path.Path.{Path}
+use Rattle.ac_claims_paths.specs.ModelCalls.{pairing}
+use Rattle.ac_claims_paths.specs.WellFormedPaths.{IsFormed, LastIn}
+use Rattle.ac_claims_paths.specs.PathSteps.{Pairing}
+use Rattle.ac_claims_paths.specs.declared.path.Path.{Path}
 use Rattle.ac_claims.specs.Domains.{of_width, piece_by}
 use Rattle.ac_claims.specs.ProofFaults.{domain, left_seat, piece_rows, right_seat, start, start_columns}
-use Rattle.ac_claims.specs.Remaining.{start_at, start_beside, start_of}
+use Rattle.ac_claims.specs.RemainingPlans.{start_at, start_beside, start_of}
 use Rattle.ac_claims.specs.declared.domains.Piece.{Piece}
 use Rattle.ac_claims.specs.declared.types.Claim.{Claim}
 use Rattle.ac_claims.specs.declared.types.ClaimTree.{ClaimTree}
 use Rattle.ac_claims.specs.declared.types.Plan.{Plan}
-use Rattle.ac_graft.specs.Placings.{itself}
-use Rattle.ac_graft.specs.declared.placing.Placing.{Placing}
-use Rattle.ac_plans.proofs.Starting.{accepted_at_starts}
-use Rattle.ac_decided.specs.Stopping.{key_at, key_of}
-use Rattle.ac_plan_heeds.specs.Heeded.{HaveClaimModuli, Heeds, HeedsFromStart}
-use Rattle.ac_plan_heeds.proofs.Heeding.{starts_heed}
-use Rattle.ac_plan_stops.specs.Stopped.{Stopped, StopsFrom, StopsOn}
-use Rattle.ac_plan_stops.proofs.Stopping.{plans_stop}
-use Rattle.ac_unfold.specs.Begun.{AreBegun, IsBegun, StopsAtStart}
-use Rattle.ac_unfold.specs.Making.{judge_of, IsGiven, IsMade, IsPlanIn, IsRefuted}
-use Rattle.ac_plans.specs.Due.{pairs_of, pieces_of, AreNumbered, StartsAccepted}
-use Rattle.ac_unfold.specs.Plans.{IsSettled}
-use Rattle.ac_unfold.specs.Stopping.{IsHeeding, IsStoppedAt, IsStoppedIn, StopsIn}
+use Rattle.ac_claims_plans.specs.Embeddings.{itself}
+use Rattle.ac_claims_plans.specs.declared.embedding.Embedding.{Embedding}
+use Rattle.ac_claims_plans.proofs.Starting.{accepted_at_starts}
+use Rattle.ac_unfold_plans.specs.PlanStops.{positions_at, claim_positions}
+use Rattle.ac_unfold_plans.specs.TabledUse.{HaveClaimModuli, UsesTabled, UsesTabledFromStart}
+use Rattle.ac_unfold_plans.proofs.Heeding.{starts_use_tabled}
+use Rattle.ac_unfold_plans.specs.PairStops.{Stopped, StopsFrom, StopsOn}
+use Rattle.ac_unfold_plans.proofs.Stopping.{plans_stop}
+use Rattle.ac_unfold.specs.PiecePlans.{AreBegun, IsBegun, StopsAtStart}
+use Rattle.ac_unfold.specs.PlanResults.{judge_of, IsGiven, IsMade, IsPlanIn, IsRefuted}
+use Rattle.ac_claims_plans.specs.DuePlans.{pairs_of, pieces_of, AreNumbered, StartsAccepted}
+use Rattle.ac_unfold.specs.ReadySetting.{IsSettled}
+use Rattle.ac_unfold.specs.SearchPlanStops.{MayUseTabled, IsStoppedAt, IsStoppedIn, StopsIn}
 use Rattle.ac_unfold.specs.declared.ends.Search.{Search}
 use Rattle.ac_unfold.specs.declared.node.Node.{Node}
-use Rattle.ac_unfold.specs.declared.types.Setting.{Setting}
+use Rattle.ac_unfold.specs.declared.types.ProgramFlows.{ProgramFlows}
 use Rattle.ac_unfold.specs.declared.types.UnfoldStop.{UnfoldStop}
 use Rattle.ac_unfold.proofs.Results.{refuted_made}
 use Rattle.ac_unfold.proofs.Stops.{all_more}
@@ -69,7 +69,7 @@ at_formed g c i k h e made =
     start_formed g c a.0 b.0 h b.2 made
 
 -- a claim starts at its pair, before the first step
-start_pair : (g : Pairing) (c : Claim) (i k : ℕ) (h : Path) → start_at g c i k ≡ Some h → (key_at h ≡ key_of c) × (h.gone ≡ false)
+start_pair : (g : Pairing) (c : Claim) (i k : ℕ) (h : Path) → start_at g c i k ≡ Some h → (positions_at h ≡ claim_positions c) × (h.gone ≡ false)
 start_pair g c i k h e =
     let a = bind-some (piece_by i (domain g.left c.left)) (λ (l : Piece). start_beside g c l (piece_by k (domain g.right c.right))) h e in
     let b = bind-some (piece_by k (domain g.right c.right)) (start_of g c a.0) h a.2 in
@@ -82,56 +82,56 @@ start_pair g c i k h e =
       gone = false;
       last = None;
     }) h b.2 in
-    (ap key_at m.2, ap (λ (x : Path). x.gone) m.2)
+    (ap positions_at m.2, ap (λ (x : Path). x.gone) m.2)
 
 -- a plan that stops from the pair of the start stops from that of the claim
 stops_at_start : (search : Search) (start : Claim) (left right : ℕ) (path : Path) (t : Plan) → start_at (judge_of search) start left right ≡ Some path → StopsIn search path t.next → StopsAtStart search start t
 unfolding StopsIn StopsAtStart
 stops_at_start search start left right path t e h making g at =
     let p = start_pair (judge_of search) start left right path e in
-    plans_stop g (key_of start) t (subst (λ (k : Position × Position). StopsOn g k false t.next) p.0 (subst (λ (b : Bool). StopsOn g (key_at path) b t.next) p.1 ((h making).0 g at)))
+    plans_stop g (claim_positions start) t (subst (λ (k : Position × Position). StopsOn g k false t.next) p.0 (subst (λ (b : Bool). StopsOn g (positions_at path) b t.next) p.1 ((h making).0 g at)))
 
--- what heeds claims on the path of the start heeds them from there on
-heeds_at_start : (search : Search) (path : Path) (t : Plan) → IsFormed (judge_of search).params path → StopsIn search path t.next → search.making ≡ true → IsHeeding search → Heeds (judge_of search) search.tabled.now t.next path
+-- what uses tabled claims on the path of the start uses them from there on
+uses_tabled_at_start : (search : Search) (path : Path) (t : Plan) → IsFormed (judge_of search).params path → StopsIn search path t.next → search.making ≡ true → MayUseTabled search → UsesTabled (judge_of search) search.tabled.now t.next path
 unfolding StopsIn
-heeds_at_start search path t formed h making heeding = starts_heed (judge_of search) search.tabled.now path t.next formed ((h making).1 heeding)
+uses_tabled_at_start search path t formed h making may_use_tabled = starts_use_tabled (judge_of search) search.tabled.now path t.next formed ((h making).1 may_use_tabled)
 
 -- a plan for the start of a claim is accepted on it
-pub begun : (search : Search) (start : Claim) (left right : ℕ) (path : Path) (node : Node) (t : Plan) → start_at (judge_of search) start left right ≡ Some path → IsWellMade path.conj → node.question ≡ path → node.placing ≡ itself path.conj.columns (length path.conj.rows)
-    → IsMade search node.placing node.question t → IsBegun search start left right t
+pub begun : (search : Search) (start : Claim) (left right : ℕ) (path : Path) (node : Node) (t : Plan) → start_at (judge_of search) start left right ≡ Some path → IsWellMade path.conj → node.question ≡ path → node.embedding ≡ itself path.conj.columns (length path.conj.rows)
+    → IsMade search node.embedding node.question t → IsBegun search start left right t
 unfolding IsPlanIn
 begun search start left right path node t e made q s plan =
     let g = judge_of search in
     let formed = at_formed g start left right path e made in
-    let there : IsMade search (itself path.conj.columns (length path.conj.rows)) path t = subst (λ (x : Path). IsMade search (itself path.conj.columns (length path.conj.rows)) x t) q (subst (λ (z : Placing). IsMade search z node.question t) s plan) in
+    let there : IsMade search (itself path.conj.columns (length path.conj.rows)) path t = subst (λ (x : Path). IsMade search (itself path.conj.columns (length path.conj.rows)) x t) q (subst (λ (z : Embedding). IsMade search z node.question t) s plan) in
     record {
       path = path;
       starts = e;
       accepted = λ cs given. accepted_at_starts g cs path t formed (there.plan cs given formed);
       stops = stops_at_start search start left right path t e there.stops;
-      heeds = heeds_at_start search path t formed there.stops;
+      uses_tabled = uses_tabled_at_start search path t formed there.stops;
     }
 
 -- ---- the trees
 
-from_start : (search : Search) (start : Claim) (t : ClaimTree) → IsBegun search start t.left_piece t.right_piece t.tree → search.making ≡ true → IsHeeding search → HeedsFromStart (judge_of search) search.tabled.now start t
-from_start search start t b making heeding = λ p e.
+from_start : (search : Search) (start : Claim) (t : ClaimTree) → IsBegun search start t.left_piece t.right_piece t.tree → search.making ≡ true → MayUseTabled search → UsesTabledFromStart (judge_of search) search.tabled.now start t
+from_start search start t b making may_use_tabled = λ p e.
     let same : b.path ≡ p = some-is b.path p (sym b.starts ∙ e) in
-    subst (Heeds (judge_of search) search.tabled.now t.tree.next) same (b.heeds making heeding)
+    subst (UsesTabled (judge_of search) search.tabled.now t.tree.next) same (b.uses_tabled making may_use_tabled)
 
 pub begun_more : (search : Search) (start : Claim) (trees : List ClaimTree) (t : ClaimTree) → AreBegun search start trees → IsBegun search start t.left_piece t.right_piece t.tree → AreBegun search start (trees ++ t ∷ [])
 begun_more search start trees t h b = record {
   accepted = λ cs given. all_more (StartsAccepted (judge_of search) cs start) trees t (h.accepted cs given) (record { path = b.path; starts = b.starts; accepted = b.accepted cs given });
   stop = all_more (λ (x : ClaimTree). StopsAtStart search start x.tree) trees t h.stop b.stops;
-  heed = λ making heeding. all_more (HeedsFromStart (judge_of search) search.tabled.now start) trees t (h.heed making heeding) (from_start search start t b making heeding);
+  use_tabled = λ making may_use_tabled. all_more (UsesTabledFromStart (judge_of search) search.tabled.now start) trees t (h.use_tabled making may_use_tabled) (from_start search start t b making may_use_tabled);
 }
 
 pub begun_none : (search : Search) (start : Claim) (trees : List ClaimTree) → trees ≡ [] → AreBegun search start trees
-begun_none search start trees e = subst (AreBegun search start) (sym e) (record { accepted = λ cs given. tt; stop = tt; heed = λ making heeding. tt })
+begun_none search start trees e = subst (AreBegun search start) (sym e) (record { accepted = λ cs given. tt; stop = tt; use_tabled = λ making may_use_tabled. tt })
 
-pub accepted_by : (search : Search) (setting : Setting) (base : ℕ) (claims tabled : List Claim) (start : Claim) (trees : List ClaimTree) → search.setting.now ≡ setting → search.base ≡ base → search.claims.now ≡ claims → search.tabled.now ≡ tabled → search.making ≡ true
-    → AreBegun search start trees → IsSettled setting → (cs : List Claim) → AreNumbered base claims cs → AreNumbered (base + length claims) tabled cs → AllByRecursion (StartsAccepted (pairing setting.programs) cs start) trees
-accepted_by search setting base claims tabled start trees e b k t m h settled cs numbered behind =
+pub accepted_by : (search : Search) (program_flows : ProgramFlows) (base : ℕ) (claims tabled : List Claim) (start : Claim) (trees : List ClaimTree) → search.program_flows.now ≡ program_flows → search.base ≡ base → search.claims.now ≡ claims → search.tabled.now ≡ tabled → search.making ≡ true
+    → AreBegun search start trees → IsSettled program_flows → (cs : List Claim) → AreNumbered base claims cs → AreNumbered (base + length claims) tabled cs → AllByRecursion (StartsAccepted (pairing program_flows.programs) cs start) trees
+accepted_by search program_flows base claims tabled start trees e b k t m h settled cs numbered behind =
     let given : IsGiven search cs = record {
       making = m;
       settled = subst IsSettled (sym e) settled;
@@ -139,29 +139,29 @@ accepted_by search setting base claims tabled start trees e b k t m h settled cs
       tabled = subst (λ (n : ℕ). AreNumbered (n + length search.claims.now) search.tabled.now cs) (sym b)
           (subst (λ (xs : List Claim). AreNumbered (base + length xs) search.tabled.now cs) (sym k) (subst (λ (xs : List Claim). AreNumbered (base + length claims) xs cs) (sym t) behind));
     } in
-    subst (λ (x : Setting). AllByRecursion (StartsAccepted (pairing x.programs) cs start) trees) e (h.accepted cs given)
+    subst (λ (x : ProgramFlows). AllByRecursion (StartsAccepted (pairing x.programs) cs start) trees) e (h.accepted cs given)
 
-pub stopped_by : (search : Search) (setting : Setting) (order : List (Site × Order)) (base : ℕ) (claims tabled : List Claim) (start : Claim) (trees : List ClaimTree) → search.setting.now ≡ setting → search.order.now ≡ order → search.base ≡ base → search.claims.now ≡ claims
-    → search.tabled.now ≡ tabled → search.making ≡ true → AreBegun search start trees → (g : Stopped) → IsStoppedAt setting order base claims tabled g → AllByRecursion (λ (t : ClaimTree). StopsFrom g (key_of start) t.tree) trees
+pub stopped_by : (search : Search) (program_flows : ProgramFlows) (order : List (Site × Order)) (base : ℕ) (claims tabled : List Claim) (start : Claim) (trees : List ClaimTree) → search.program_flows.now ≡ program_flows → search.order.now ≡ order → search.base ≡ base → search.claims.now ≡ claims
+    → search.tabled.now ≡ tabled → search.making ≡ true → AreBegun search start trees → (g : Stopped) → IsStoppedAt program_flows order base claims tabled g → AllByRecursion (λ (t : ClaimTree). StopsFrom g (claim_positions start) t.tree) trees
 unfolding StopsAtStart
-stopped_by search setting order base claims tabled start trees e o b k t m h g at = each trees h.stop
+stopped_by search program_flows order base claims tabled start trees e o b k t m h g at = each trees h.stop
   where
     there : IsStoppedIn search g
     there =
-        subst (λ (x : Setting). IsStoppedAt x search.order.now search.base search.claims.now search.tabled.now g) (sym e)
-        (subst (λ (x : List (Site × Order)). IsStoppedAt setting x search.base search.claims.now search.tabled.now g) (sym o)
-        (subst (λ (x : ℕ). IsStoppedAt setting order x search.claims.now search.tabled.now g) (sym b)
-        (subst (λ (x : List Claim). IsStoppedAt setting order base x search.tabled.now g) (sym k) (subst (λ (x : List Claim). IsStoppedAt setting order base claims x g) (sym t) at))))
+        subst (λ (x : ProgramFlows). IsStoppedAt x search.order.now search.base search.claims.now search.tabled.now g) (sym e)
+        (subst (λ (x : List (Site × Order)). IsStoppedAt program_flows x search.base search.claims.now search.tabled.now g) (sym o)
+        (subst (λ (x : ℕ). IsStoppedAt program_flows order x search.claims.now search.tabled.now g) (sym b)
+        (subst (λ (x : List Claim). IsStoppedAt program_flows order base x search.tabled.now g) (sym k) (subst (λ (x : List Claim). IsStoppedAt program_flows order base claims x g) (sym t) at))))
 
-    each : (ts : List ClaimTree) → AllByRecursion (λ (t : ClaimTree). StopsAtStart search start t.tree) ts → AllByRecursion (λ (t : ClaimTree). StopsFrom g (key_of start) t.tree) ts
+    each : (ts : List ClaimTree) → AllByRecursion (λ (t : ClaimTree). StopsAtStart search start t.tree) ts → AllByRecursion (λ (t : ClaimTree). StopsFrom g (claim_positions start) t.tree) ts
     each [] s = tt
     each (t ∷ ts) s = (s.0 m g there, each ts s.1)
 
-pub heeded_by : (search : Search) (setting : Setting) (tabled : List Claim) (start : Claim) (trees : List ClaimTree) → search.setting.now ≡ setting → search.tabled.now ≡ tabled → search.making ≡ true
-    → AreBegun search start trees → IsSettled setting → HaveClaimModuli tabled → AllByRecursion (HeedsFromStart (pairing setting.programs) tabled start) trees
-heeded_by search setting tabled start trees e t m h settled moduli =
-    let heeding : IsHeeding search = record { settled = subst IsSettled (sym e) settled; moduli = subst HaveClaimModuli (sym t) moduli } in
-    subst (λ (x : Setting). AllByRecursion (HeedsFromStart (pairing x.programs) tabled start) trees) e (subst (λ (xs : List Claim). AllByRecursion (HeedsFromStart (judge_of search) xs start) trees) t (h.heed m heeding))
+pub used_by_tabled : (search : Search) (program_flows : ProgramFlows) (tabled : List Claim) (start : Claim) (trees : List ClaimTree) → search.program_flows.now ≡ program_flows → search.tabled.now ≡ tabled → search.making ≡ true
+    → AreBegun search start trees → IsSettled program_flows → HaveClaimModuli tabled → AllByRecursion (UsesTabledFromStart (pairing program_flows.programs) tabled start) trees
+used_by_tabled search program_flows tabled start trees e t m h settled moduli =
+    let may_use_tabled : MayUseTabled search = record { settled = subst IsSettled (sym e) settled; moduli = subst HaveClaimModuli (sym t) moduli } in
+    subst (λ (x : ProgramFlows). AllByRecursion (UsesTabledFromStart (pairing x.programs) tabled start) trees) e (subst (λ (xs : List Claim). AllByRecursion (UsesTabledFromStart (judge_of search) xs start) trees) t (h.use_tabled m may_use_tabled))
 
 -- the trees behind some, each with the next right piece
 pub record Rights (left done : ℕ) (old new : List ClaimTree) : Type 0 where
@@ -218,13 +218,13 @@ lefts_more rights done old new h e =
 
 -- ---- at the pieces
 
-pub begun_refuted : (search : Search) (start : Claim) (left right : ℕ) (path : Path) (node : Node) (o : Option Plan) → start_at (judge_of search) start left right ≡ Some path → IsWellMade path.conj → node.question ≡ path → node.placing ≡ itself path.conj.columns (length path.conj.rows)
-    → IfSome o (IsRefuted node.placing node.question) → IfSome o (IsBegun search start left right)
+pub begun_refuted : (search : Search) (start : Claim) (left right : ℕ) (path : Path) (node : Node) (o : Option Plan) → start_at (judge_of search) start left right ≡ Some path → IsWellMade path.conj → node.question ≡ path → node.embedding ≡ itself path.conj.columns (length path.conj.rows)
+    → IfSome o (IsRefuted node.embedding node.question) → IfSome o (IsBegun search start left right)
 begun_refuted search start left right path node None e made q s h = tt
-begun_refuted search start left right path node (Some t) e made q s h = begun search start left right path node t e made q s (refuted_made search node.placing node.question (Some t) h)
+begun_refuted search start left right path node (Some t) e made q s h = begun search start left right path node t e made q s (refuted_made search node.embedding node.question (Some t) h)
 
 pub begun_visited : (res : Result (Option Plan) UnfoldStop) (search : Search) (start : Claim) (left right : ℕ) (path : Path) (node next : Node) → start_at (judge_of search) start left right ≡ Some path → IsWellMade path.conj → node.question ≡ path
-    → node.placing ≡ itself path.conj.columns (length path.conj.rows) → (next.question ≡ node.question) × (next.placing ≡ node.placing) → IfOk res (λ o. IfSome o (IsMade search next.placing next.question)) → IfOk res (λ o. IfSome o (IsBegun search start left right))
+    → node.embedding ≡ itself path.conj.columns (length path.conj.rows) → (next.question ≡ node.question) × (next.embedding ≡ node.embedding) → IfOk res (λ o. IfSome o (IsMade search next.embedding next.question)) → IfOk res (λ o. IfSome o (IsBegun search start left right))
 begun_visited (Err x) search start left right path node next e made q s same h = tt
 begun_visited (Ok None) search start left right path node next e made q s same h = tt
 begun_visited (Ok (Some t)) search start left right path node next e made q s same h = begun search start left right path next t e made (same.0 ∙ q) (same.1 ∙ s) h

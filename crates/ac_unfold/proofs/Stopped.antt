@@ -6,7 +6,7 @@ use Rattle.std.specs.Prelude.{nat_eq, option_and_then, option_map, slice_get, Is
 use Rattle.std.specs.List.{range_with_len}
 use Rattle.std.specs.Result.{IfErr, IsErrAnd}
 use Rattle.ac_forms.specs.Affine.{Affine}
-use Rattle.ac_forms.specs.Members.{IsAmong}
+use Rattle.ac_forms.specs.ListMembers.{IsAmong}
 use Rattle.ac_forms.specs.NormalForm.{is_absurd}
 use Rattle.ac_forms.specs.NormalRows.{normal_row, NormalFits}
 use Rattle.ac_forms.specs.Renaming.{rows_renaming}
@@ -15,33 +15,33 @@ use Rattle.ac_forms.specs.declared.conj.Conj.{Conj}
 use Rattle.ac_forms.specs.declared.row.Row.{Row}
 use Rattle.ac_syntax.specs.declared.tree.Position.TheVariants.{Node}
 use Rattle.ac_poly.specs.Model.{is_input}
-use Rattle.ac_items.proofs.Options.{some-is}
-use Rattle.ac_paths.specs.Calls.{called}
-use Rattle.ac_paths.specs.Columns.{base, columns_of, equal_forms}
-use Rattle.ac_paths.specs.Going.{Pairing, at_rows, extended, same_symbol}
-use Rattle.ac_paths.specs.Killing.{case_columns}
-use Rattle.ac_paths.specs.Places.{call_at, initial_cell, number_at}
-use Rattle.ac_paths.specs.declared.path.Assumed.{Assumed}
-use Rattle.ac_paths.specs.declared.path.Path.{Path}
-use Rattle.ac_paths.specs.declared.places.CallNode.{CallNode}
-use Rattle.ac_paths.specs.declared.places.CellForms.{CellForms}
-use Rattle.ac_claims.specs.Ending.{equal_cells}
+use Rattle.ac_base.proofs.Options.{some-is}
+use Rattle.ac_claims_paths.specs.ModelCalls.{called}
+use Rattle.ac_claims_paths.specs.PathColumns.{base, columns_of, equal_forms}
+use Rattle.ac_claims_paths.specs.PathSteps.{Pairing, at_rows, extended, same_symbol}
+use Rattle.ac_claims_paths.specs.CopyKills.{case_columns}
+use Rattle.ac_claims_paths.specs.ModelPositions.{call_at, initial_cell, number_at}
+use Rattle.ac_claims_paths.specs.declared.path.Assumed.{Assumed}
+use Rattle.ac_claims_paths.specs.declared.path.Path.{Path}
+use Rattle.ac_claims_paths.specs.declared.places.CallNode.{CallNode}
+use Rattle.ac_claims_paths.specs.declared.places.CellForms.{CellForms}
+use Rattle.ac_claims.specs.ProofEnds.{equal_cells}
 use Rattle.ac_claims.specs.declared.types.Claim.{Claim}
 use Rattle.ac_claims.proofs.Plans.{position_is}
 use Rattle.ac_flow.specs.declared.types.Flow.{Flow}
-use Rattle.ac_graft.specs.Sides.{outside_of, side_of, CanBranch}
-use Rattle.ac_graft.specs.declared.branching.Part.{Part}
-use Rattle.ac_graph.specs.Moves.{pairing_of}
-use Rattle.ac_leading.specs.Leading.{Unfolding}
-use Rattle.ac_leading.specs.Steps.{at_rest, columns_left, further, with_rest}
-use Rattle.ac_unfold.specs.Asked.{kill_on, AreTargets, AreTwoCalls, IsAsked, IsFollowed, LackTarget, LacksNext}
-use Rattle.ac_unfold.specs.Cutting.{IsClaimBehind}
-use Rattle.ac_unfold.specs.Making.{judge_of}
-use Rattle.ac_unfold.specs.Searching.{IsOf}
-use Rattle.ac_unfold.specs.Stops.{Follows, HandsBack, HandsTargets, IsAround, IsOnSide, StopsAmong, StopsAsking, StopsOutside, StopsStanding, StopsUnder}
-use Rattle.ac_unfold.specs.Wanting.{CanStand, IsRefused}
-use Rattle.ac_unfold.specs.declared.asking.Wanted.{Wanted}
-use Rattle.ac_unfold.specs.declared.asking.Wanted.TheVariants.{Absurd, Wide}
+use Rattle.ac_claims_plans.specs.BranchSides.{outside_of, side_of, CanBranch}
+use Rattle.ac_claims_plans.specs.declared.branching.Part.{Part}
+use Rattle.ac_graph.specs.PairMoves.{pairing_of}
+use Rattle.ac_widen_programs.specs.PairPaths.{Unfolding}
+use Rattle.ac_widen_programs.specs.PairPathSteps.{at_rest, columns_left, further, with_rest}
+use Rattle.ac_unfold.specs.UnfoldQuestions.{kill_on, AreTargets, AreTwoCalls, IsAsked, IsFollowed, LackTarget, LacksNext}
+use Rattle.ac_unfold.specs.KillCuts.{IsClaimBehind}
+use Rattle.ac_unfold.specs.PlanResults.{judge_of}
+use Rattle.ac_unfold.specs.BrokenPathResults.{IsOf}
+use Rattle.ac_unfold.specs.UnfoldStops.{Follows, HandsBack, HandsTargets, IsAround, IsOnSide, StopsAmong, StopsAsking, StopsOutside, StopsStanding, StopsUnder}
+use Rattle.ac_unfold.specs.RequiredRows.{CanStand, IsRefused}
+use Rattle.ac_unfold.specs.declared.decide.Wanted.{Wanted}
+use Rattle.ac_unfold.specs.declared.decide.Wanted.TheVariants.{Absurd, Wide}
 use Rattle.ac_unfold.specs.declared.ends.Search.{Search}
 use Rattle.ac_unfold.specs.declared.types.UnfoldStop.{UnfoldStop}
 use Rattle.ac_unfold.specs.declared.types.UnfoldStop.TheVariants.{Overflow, Spent, Paths, Memory}
@@ -230,19 +230,19 @@ targets_by search u q o of t = subst (λ (g : Pairing). AreTargets g search.clai
 
 -- it asks a question to which it follows a path
 pub followed_asking : (search : Search) (q : Path) (stop : UnfoldStop) → StopsAsking search.budget q.conj stop → StopsUnder search (Follows search q) stop
-followed_asking search q (Overflow c) h = λ u of at. inl (asked_here u search.setting.now.left_flow.now search.setting.now.right_flow.now search.claims.now q c at h.0, h.1)
-followed_asking search q (Spent c cost) h = λ u of at. (asked_here u search.setting.now.left_flow.now search.setting.now.right_flow.now search.claims.now q c at h.0, h.1)
+followed_asking search q (Overflow c) h = λ u of at. inl (asked_here u search.program_flows.now.left_flow.now search.program_flows.now.right_flow.now search.claims.now q c at h.0, h.1)
+followed_asking search q (Spent c cost) h = λ u of at. (asked_here u search.program_flows.now.left_flow.now search.program_flows.now.right_flow.now search.claims.now q c at h.0, h.1)
 followed_asking search q (Paths found) h = tt
 followed_asking search q (Memory want) h = tt
 
 -- rows have to stand there
 pub followed_standing : (search : Search) (q : Path) (rows : List Row) (stop : UnfoldStop) → AreTargets (judge_of search) search.claims.now q (Some rows) → StopsStanding search.budget q.conj rows stop → StopsUnder search (Follows search q) stop
 followed_standing search q rows (Overflow c) t (inl h) =
-    λ u of at. inl (asked_around u search.setting.now.left_flow.now search.setting.now.right_flow.now search.claims.now q rows c at (targets_by search u q (Some rows) of t) h.0, h.1)
+    λ u of at. inl (asked_around u search.program_flows.now.left_flow.now search.program_flows.now.right_flow.now search.claims.now q rows c at (targets_by search u q (Some rows) of t) h.0, h.1)
 followed_standing search q rows (Overflow c) t (inr h) =
     λ u of at. inr (record { path = q; is = h.0; lacks = LacksNext.target q (Some rows) at (targets_by search u q (Some rows) of t) h.1 })
 followed_standing search q rows (Spent c cost) t h =
-    λ u of at. (asked_around u search.setting.now.left_flow.now search.setting.now.right_flow.now search.claims.now q rows c at (targets_by search u q (Some rows) of t) h.0, h.1)
+    λ u of at. (asked_around u search.program_flows.now.left_flow.now search.program_flows.now.right_flow.now search.claims.now q rows c at (targets_by search u q (Some rows) of t) h.0, h.1)
 followed_standing search q rows (Paths found) t h = tt
 followed_standing search q rows (Memory want) t h = tt
 

@@ -3,28 +3,28 @@ use Rattle.std.proofs.Common.{◌≡◌, inl, inr, ℕ, ◌+◌, ◌<◌, ◌≤
 use Rattle.std.proofs.lemmas.List.{take_more, take_all}
 use Rattle.std.specs.Prelude.{Result, Ok, Err, IfErr, IfOk, IfSome, slice_get}
 use Rattle.std.specs.List.{AllByRecursion}
-use Rattle.ac_forms.specs.Members.{IsAmong}
+use Rattle.ac_forms.specs.ListMembers.{IsAmong}
 use Rattle.ac_forms.specs.Renaming.{rows_renaming, AreColumns}
 use Rattle.ac_forms.specs.Rows.{AreRowsOver, HaveModuli, IsRowOver, IsWellMade}
 use Rattle.ac_forms.specs.Standing.{all_stand, stands}
 use Rattle.ac_forms.specs.declared.conj.Conj.{Conj}
 use Rattle.ac_forms.specs.declared.row.Row.{Row}
 use Rattle.ac_forms.proofs.Distinct.{rows_renaming-over}
-use Rattle.ac_items.proofs.Options.{some-is}
-use Rattle.ac_paths.specs.Standing.{made_and_stand}
-use Rattle.ac_paths.specs.declared.path.Path.{Path}
-use Rattle.ac_claims.specs.Ending.{is_hit, same_position}
+use Rattle.ac_base.proofs.Options.{some-is}
+use Rattle.ac_claims_paths.specs.PathRows.{made_and_stand}
+use Rattle.ac_claims_paths.specs.declared.path.Path.{Path}
+use Rattle.ac_claims.specs.ProofEnds.{is_hit, same_position}
 use Rattle.ac_claims.specs.declared.types.Claim.{Claim}
 use Rattle.ac_claims.specs.declared.types.Plan.{Plan}
 use Rattle.ac_claims.specs.declared.types.PlanNext.{PlanNext}
-use Rattle.ac_ends.specs.Ends.{IsEnd}
-use Rattle.ac_plan_heeds.specs.Heeded.{HaveClaimModuli, HitsNone, PassesNone}
-use Rattle.ac_unfold.specs.Cutting.{columns_there}
-use Rattle.ac_unfold.specs.GivenUp.{IsStop}
-use Rattle.ac_unfold.specs.Heeding.{IsMissed}
-use Rattle.ac_unfold.specs.Making.{judge_of, AreStanding, EndsWhere, IsEndFor, IsMade, IsPlanIn}
-use Rattle.ac_unfold.specs.Stopping.{StopsIn}
-use Rattle.ac_unfold.specs.Stops.{HandsBack}
+use Rattle.ac_unfold_plans.specs.PlanEnds.{IsEnd}
+use Rattle.ac_unfold_plans.specs.TabledUse.{HaveClaimModuli, HitsNone, PassesNone}
+use Rattle.ac_unfold.specs.KillCuts.{columns_there}
+use Rattle.ac_unfold.specs.RecoverableStops.{IsStop}
+use Rattle.ac_unfold.specs.TabledHits.{IsMissed}
+use Rattle.ac_unfold.specs.PlanResults.{judge_of, AreStanding, EndsWhere, IsEndFor, IsMade, IsPlanIn}
+use Rattle.ac_unfold.specs.SearchPlanStops.{StopsIn}
+use Rattle.ac_unfold.specs.UnfoldStops.{HandsBack}
 use Rattle.ac_unfold.specs.declared.ends.Search.{Search}
 use Rattle.ac_unfold.specs.declared.node.Node.{Node}
 use Rattle.ac_unfold.specs.declared.types.UnfoldStop.{UnfoldStop}
@@ -67,10 +67,10 @@ all_fail c (w ∷ rows) r (inl e) h made over =
 all_fail c (w ∷ rows) r (inr i) h made over = and_false (stands c.rows w) (all_stand c.rows rows) (all_fail c rows r i h made over.1)
 
 -- the end where the rows stand among those of the question
-pub standing_made : (search : Search) (node : Node) (rows : List Row) (end : PlanNext) (t : Plan) → IsEndFor search node.question rows end → AreStanding node.question.conj rows → IsEnd end t → IsMade search node.placing node.question t
+pub standing_made : (search : Search) (node : Node) (rows : List Row) (end : PlanNext) (t : Plan) → IsEndFor search node.question rows end → AreStanding node.question.conj rows → IsEnd end t → IsMade search node.embedding node.question t
 unfolding EndsWhere IsPlanIn
 standing_made search node rows end t w standing is = record {
-  plan = λ cs given formed. w.ends cs node.placing node.question.conj t given formed standing is;
+  plan = λ cs given formed. w.ends cs node.embedding node.question.conj t given formed standing is;
   stops = subst (StopsIn search node.question) (sym is.1) w.stops;
 }
 

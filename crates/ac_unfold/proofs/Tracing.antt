@@ -1,15 +1,15 @@
--- The entries of a trail at a point, one after the other.
+-- The entries of a pair path at a point, one after the other.
 use Rattle.std.proofs.Common.{◌≡◌, ℕ, zero, suc, ◌+◌, ℤ, pos, List, [], ◌∷◌, ◌++◌, length, refl, sym, ap, ◌∙◌, arith, append_assoc}
 use Rattle.std.specs.Prelude.{slice_index_or}
 use Rattle.std.specs.List.{range_with_len}
 use Rattle.ac_forms.specs.Renaming.{picked}
-use Rattle.ac_paths.specs.Columns.{base, columns_of}
-use Rattle.ac_paths.specs.declared.path.Seat.{Seat}
-use Rattle.ac_paths.proofs.Moving.{pick-append}
+use Rattle.ac_claims_paths.specs.PathColumns.{base, columns_of}
+use Rattle.ac_claims_paths.specs.declared.path.Seat.{Seat}
+use Rattle.ac_claims_paths.proofs.Moving.{pick-append}
 use Rattle.ac_widen.specs.declared.derivation.Entry.{Entry}
-use Rattle.ac_leading.specs.Ends.{entries_at, entry_at, step_from, steps_behind}
-use Rattle.ac_leading.specs.Leading.{point_of}
-use Rattle.ac_unfold.specs.Paths.{reason_at}
+use Rattle.ac_widen_programs.specs.PairPathEnds.{entries_at, entry_at, step_from, steps_behind}
+use Rattle.ac_widen_programs.specs.PairPaths.{point_of}
+use Rattle.ac_unfold.specs.UnfoldPaths.{reason_at}
 
 -- ---- the numbers in some columns
 

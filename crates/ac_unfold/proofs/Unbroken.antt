@@ -4,13 +4,13 @@ use Rattle.std.proofs.lemmas.Int.{ints, by_lt_z}
 use Rattle.std.specs.Prelude.{Result, Ok, Err, OnOk, slice_get}
 use Rattle.std.specs.Int.{int_div_euclid}
 use Rattle.std.specs.List.{range_with_len}
-use Rattle.ac_integers.proofs.Floor.{positive_is}
-use Rattle.ac_integers.proofs.Multiples.{multiple_from}
-use Rattle.ac_integers.proofs.Residues.{split_mod, class_of}
+use Rattle.ac_base.proofs.Floor.{positive_is}
+use Rattle.ac_base.proofs.Multiples.{multiple_from}
+use Rattle.ac_base.proofs.Residues.{split_mod, class_of}
 use Rattle.ac_forms.specs.Affine.{Affine, shifted, value_at}
-use Rattle.ac_forms.specs.Members.{IsAmong}
+use Rattle.ac_forms.specs.ListMembers.{IsAmong}
 use Rattle.ac_forms.specs.Negation.{above, below, negation, HasExtension}
-use Rattle.ac_forms.specs.Pieces.{IsInSome}
+use Rattle.ac_forms.specs.PieceMembership.{IsInSome}
 use Rattle.ac_forms.specs.Renaming.{picked, rows_renaming}
 use Rattle.ac_forms.specs.Rows.{Holds, Meets, IsRowOver, IsWellMade}
 use Rattle.ac_forms.specs.declared.conj.Conj.{Conj}
@@ -19,49 +19,49 @@ use Rattle.ac_forms.specs.declared.row.Row.TheVariants.{Eq, Div, Ge}
 use Rattle.ac_forms.proofs.Distinct.{rows_renaming-points}
 use Rattle.ac_forms.proofs.Negations.{complement, value-above, value-below}
 use Rattle.ac_forms.proofs.Values.{value_at-shifted}
-use Rattle.ac_choices.specs.Points.{IsPoint}
-use Rattle.ac_choices.proofs.Keeping.{Meets-append}
-use Rattle.ac_items.proofs.Options.{some-is}
+use Rattle.ac_omega_steps.specs.IntegerPoints.{IsPoint}
+use Rattle.ac_omega_steps.proofs.Keeping.{Meets-append}
+use Rattle.ac_base.proofs.Options.{some-is}
 use Rattle.ac_cert.specs.Rules.{class_row}
 use Rattle.ac_syntax.specs.declared.tree.Order.{Order}
 use Rattle.ac_syntax.specs.declared.tree.Order.TheVariants.{Keep}
 use Rattle.ac_syntax.specs.declared.tree.Site.{Site}
-use Rattle.ac_paths.specs.Branching.{onto}
-use Rattle.ac_paths.specs.Calls.{pairing}
-use Rattle.ac_paths.specs.Columns.{base, columns_of}
-use Rattle.ac_paths.specs.Going.{Pairing, branches, seat_of}
-use Rattle.ac_paths.specs.declared.path.Branch.{Branch}
-use Rattle.ac_paths.specs.declared.path.Path.{Path}
-use Rattle.ac_paths.specs.declared.path.Side.{Side}
-use Rattle.ac_paths.proofs.Moving.{meets-both}
+use Rattle.ac_claims_paths.specs.BranchPaths.{onto}
+use Rattle.ac_claims_paths.specs.ModelCalls.{pairing}
+use Rattle.ac_claims_paths.specs.PathColumns.{base, columns_of}
+use Rattle.ac_claims_paths.specs.PathSteps.{Pairing, branches, seat_of}
+use Rattle.ac_claims_paths.specs.declared.path.Branch.{Branch}
+use Rattle.ac_claims_paths.specs.declared.path.Path.{Path}
+use Rattle.ac_claims_paths.specs.declared.path.Side.{Side}
+use Rattle.ac_claims_paths.proofs.Moving.{meets-both}
 use Rattle.ac_widen.specs.declared.derivation.Entry.{Entry}
 use Rattle.ac_claims.specs.ProofFaults.{domain}
-use Rattle.ac_claims.specs.Remaining.{count_by, start_at}
+use Rattle.ac_claims.specs.RemainingPlans.{count_by, start_at}
 use Rattle.ac_claims.specs.declared.types.Claim.{Claim}
 use Rattle.ac_claims.proofs.Plans.{position_is}
 use Rattle.ac_flow.specs.declared.types.Case.{Case}
 use Rattle.ac_flow.specs.declared.types.ReadFlow.{ReadFlow}
 use Rattle.ac_flow.specs.declared.types.Remainder.{Remainder}
-use Rattle.ac_graft.specs.Sides.{has_few, one_row, outside_of, rest_side, side_of}
-use Rattle.ac_graft.specs.declared.branching.Part.{Part}
-use Rattle.ac_graph.specs.Moves.{pairing_of}
-use Rattle.ac_setting.specs.Programs.{order_at}
-use Rattle.ac_leading.specs.Leading.{Unfolding, params_of, positions_of, seats_of}
-use Rattle.ac_leading.specs.Steps.{at_rest, flow_on, order_of}
-use Rattle.ac_leading.proofs.Calling.{orders_are_taken}
-use Rattle.ac_unfold.specs.Asked.{AreTargets, AreTwoCalls, GoesOn}
-use Rattle.ac_unfold.specs.Cutting.{IsClaimBehind}
-use Rattle.ac_unfold.specs.Full.{nothing_found}
-use Rattle.ac_unfold.specs.Making.{judge_of}
-use Rattle.ac_unfold.specs.Paths.{Found}
-use Rattle.ac_unfold.specs.Planned.{HasDomains}
-use Rattle.ac_unfold.specs.Searching.{IsKindThere, IsOf}
-use Rattle.ac_unfold.specs.Stands.{AllHold, HasNoPoint, StartStands, Stands}
-use Rattle.ac_unfold.specs.Unbroken.{AreEmpty, CaseStands, FindsNone, StandsAtStart, StandsBeside, StandsIn, StandsLeft}
+use Rattle.ac_claims_plans.specs.BranchSides.{has_few, one_row, outside_of, rest_side, side_of}
+use Rattle.ac_claims_plans.specs.declared.branching.Part.{Part}
+use Rattle.ac_graph.specs.PairMoves.{pairing_of}
+use Rattle.ac_widen_programs.specs.PairSetting.{order_at}
+use Rattle.ac_widen_programs.specs.PairPaths.{Unfolding, params_of, positions_of, seats_of}
+use Rattle.ac_widen_programs.specs.PairPathSteps.{at_rest, flow_on, order_of}
+use Rattle.ac_widen_programs.proofs.Calling.{orders_are_taken}
+use Rattle.ac_unfold.specs.UnfoldQuestions.{AreTargets, AreTwoCalls, GoesOn}
+use Rattle.ac_unfold.specs.KillCuts.{IsClaimBehind}
+use Rattle.ac_unfold.specs.EndResults.{nothing_found}
+use Rattle.ac_unfold.specs.PlanResults.{judge_of}
+use Rattle.ac_unfold.specs.UnfoldPaths.{BrokenPathsOf}
+use Rattle.ac_unfold.specs.StartResults.{HasDomains}
+use Rattle.ac_unfold.specs.BrokenPathResults.{IsKindThere, IsOf}
+use Rattle.ac_unfold.specs.UnbrokenStarts.{AllHold, HasNoPoint, StartStands, Stands}
+use Rattle.ac_unfold.specs.UnbrokenResults.{AreEmpty, CaseStands, FindsNone, StandsAtStart, StandsBeside, StandsIn, StandsLeft}
 use Rattle.ac_unfold.specs.Unfoldings.{IsUnfoldingOf}
 use Rattle.ac_unfold.specs.declared.ends.Search.{Search}
 use Rattle.ac_unfold.specs.declared.kinds.Next.TheVariants as next
-use Rattle.ac_unfold.specs.declared.types.Setting.{Setting}
+use Rattle.ac_unfold.specs.declared.types.ProgramFlows.{ProgramFlows}
 use Rattle.ac_unfold.proofs.Coming.{is_of, length_last, params_are}
 use Rattle.ac_unfold.proofs.Failing.{class_fails}
 use Rattle.ac_unfold.proofs.Results.{in_get}
@@ -70,34 +70,34 @@ use Rattle.ac_unfold.proofs.Stopped.{targets_by}
 -- ---- nothing found
 
 -- before and after something else
-pub none_before : (search : Search) (a b c : Found) → length b.paths ≤ length c.paths → FindsNone search a c → FindsNone search a b
+pub none_before : (search : Search) (a b c : BrokenPathsOf) → length b.paths ≤ length c.paths → FindsNone search a c → FindsNone search a b
 none_before search a b c k none = let n = none.none in record { finding = none.finding; none = omega (arith, k, n) }
 
-pub none_after : (search : Search) (a b c : Found) → length a.paths ≤ length b.paths → FindsNone search a c → FindsNone search b c
+pub none_after : (search : Search) (a b c : BrokenPathsOf) → length a.paths ≤ length b.paths → FindsNone search a c → FindsNone search b c
 none_after search a b c k none = let n = none.none in record { finding = none.finding; none = omega (arith, k, n) }
 
 -- not where one is
-pub not_one : (search : Search) (before after : Found) (es : List Entry) → after.paths ≡ before.paths ++ es ∷ [] → ¬ (FindsNone search before after)
+pub not_one : (search : Search) (before after : BrokenPathsOf) (es : List Entry) → after.paths ≡ before.paths ++ es ∷ [] → ¬ (FindsNone search before after)
 not_one search before after es e none = let n = none.none in let l = ap length e in omega (arith, n, l, length-append before.paths (es ∷ []))
 
-pub not_more : (search : Search) (before now after : Found) → length before.paths ≤ length now.paths → length now.paths < length after.paths → ¬ (FindsNone search before after)
+pub not_more : (search : Search) (before now after : BrokenPathsOf) → length before.paths ≤ length now.paths → length now.paths < length after.paths → ¬ (FindsNone search before after)
 not_more search before now after k l none = let n = none.none in omega (arith, n, k, l)
 
 -- nor where plans are made
-pub not_making : (search : Search) (before after : Found) → search.making ≡ true → ¬ (FindsNone search before after)
+pub not_making : (search : Search) (before after : BrokenPathsOf) → search.making ≡ true → ¬ (FindsNone search before after)
 not_making search before after on none = let z : true ≡ false = sym on ∙ none.finding in absurd cc
 
-pub off_making : {T E : Type 0} (res : Result T E) (search : Search) (before after : Found) (P : Type 0) → search.making ≡ true → OnOk res (FindsNone search before after → P)
+pub off_making : {T E : Type 0} (res : Result T E) (search : Search) (before after : BrokenPathsOf) (P : Type 0) → search.making ≡ true → OnOk res (FindsNone search before after → P)
 off_making (Ok x) search before after P on = λ none. absurd (not_making search before after on none)
 off_making (Err e) search before after P on = tt
 
 -- the same of the question where the paths are those of another time
-pub none_same : {T E : Type 0} (res : Result T E) (search : Search) (before now after : Found) (P : Type 0) → now.paths ≡ before.paths → OnOk res (FindsNone search now after → P) → OnOk res (FindsNone search before after → P)
+pub none_same : {T E : Type 0} (res : Result T E) (search : Search) (before now after : BrokenPathsOf) (P : Type 0) → now.paths ≡ before.paths → OnOk res (FindsNone search now after → P) → OnOk res (FindsNone search before after → P)
 none_same (Ok x) search before now after P e h = λ none. let l = ap length e in h (none_after search before now after (omega (arith, l)) none)
 none_same (Err x) search before now after P e h = tt
 
 -- what is shown where none is found, another way
-pub none_by : {T E : Type 0} (res : Result T E) (search : Search) (before after : Found) (P Q : Type 0) → (P → Q) → OnOk res (FindsNone search before after → P) → OnOk res (FindsNone search before after → Q)
+pub none_by : {T E : Type 0} (res : Result T E) (search : Search) (before after : BrokenPathsOf) (P Q : Type 0) → (P → Q) → OnOk res (FindsNone search before after → P) → OnOk res (FindsNone search before after → Q)
 none_by (Ok x) search before after P Q f h = λ none. f (h none)
 none_by (Err e) search before after P Q f h = tt
 
@@ -210,7 +210,7 @@ pub hold_empty : (c : Conj) (rows : List Row) → HasNoPoint c → AllHold c row
 hold_empty c rows h p point = absurd (h p point)
 
 -- one row more, where the others are met before it
-pub hold_more : (search : Search) (c d : Conj) (rows more : List Row) (row : Row) (before now after : Found) → d ≡ c → more ≡ rows ++ row ∷ [] → length before.paths ≤ length now.paths → length now.paths ≤ length after.paths → (FindsNone search before now → AllHold c rows)
+pub hold_more : (search : Search) (c d : Conj) (rows more : List Row) (row : Row) (before now after : BrokenPathsOf) → d ≡ c → more ≡ rows ++ row ∷ [] → length before.paths ≤ length now.paths → length now.paths ≤ length after.paths → (FindsNone search before now → AllHold c rows)
     → (FindsNone search now after → AllHold d (row ∷ [])) → FindsNone search before after → AllHold c more
 hold_more search c d rows more row before now after e m a b h k none p point =
     subst (λ (rs : List Row). Meets rs p) (sym m) (meets-both rows (row ∷ []) p (h (none_before search before now after b none) p point) (subst (λ (x : Conj). AllHold x (row ∷ [])) e (k (none_after search before now after a none)) p point))
@@ -245,14 +245,14 @@ match_stands search q rows goes targets h = λ u of. Stands.matches q (record { 
 -- ---- calls
 
 -- the first branches stand, if no further path was found behind them
-unfoldable pub BranchesStand : Search → Path → List Branch → Found → Found → Type 0
+unfoldable pub BranchesStand : Search → Path → List Branch → BrokenPathsOf → BrokenPathsOf → Type 0
 BranchesStand search q found before after = FindsNone search before after → (b : Branch) → IsAmong b found → StandsIn search (onto q b)
 
-pub branches_none : (search : Search) (q : Path) (before after : Found) → BranchesStand search q [] before after
+pub branches_none : (search : Search) (q : Path) (before after : BrokenPathsOf) → BranchesStand search q [] before after
 unfolding BranchesStand
 branches_none search q before after = λ none b i. absurd i
 
-pub branches_more : (search : Search) (q child : Path) (found : List Branch) (b : Branch) (before now after : Found) → length before.paths ≤ length now.paths → length now.paths ≤ length after.paths → BranchesStand search q found before now → child ≡ onto q b
+pub branches_more : (search : Search) (q child : Path) (found : List Branch) (b : Branch) (before now after : BrokenPathsOf) → length before.paths ≤ length now.paths → length now.paths ≤ length after.paths → BranchesStand search q found before now → child ≡ onto q b
     → (FindsNone search now after → StandsIn search child) → BranchesStand search q (found ++ b ∷ []) before after
 unfolding BranchesStand
 branches_more search q child found b before now after k l h e stands = λ none x i. by none x (last_or found b x i)
@@ -261,7 +261,7 @@ branches_more search q child found b before now after k l h e stands = λ none x
     by none x (inl j) = h (none_before search before now after l none) x j
     by none x (inr f) = subst (StandsIn search) (e ∙ ap (onto q) (sym f)) (stands (none_after search before now after k none))
 
-pub calls_stand : (search : Search) (q : Path) (order : Order) (found : List Branch) (before after : Found) → IsKindThere search q (next.Calls order) → AreTwoCalls (judge_of search) q → GoesOn search.claims.now q → Some (map (onto q) found) ≡ branches (judge_of search) order q
+pub calls_stand : (search : Search) (q : Path) (order : Order) (found : List Branch) (before after : BrokenPathsOf) → IsKindThere search q (next.Calls order) → AreTwoCalls (judge_of search) q → GoesOn search.claims.now q → Some (map (onto q) found) ≡ branches (judge_of search) order q
     → BranchesStand search q found before after → FindsNone search before after → StandsIn search q
 unfolding IsKindThere StandsIn BranchesStand
 calls_stand search q order found before after kind two goes is h none = λ u of.
@@ -274,20 +274,20 @@ calls_stand search q order found before after kind two goes is h none = λ u of.
     Stands.calls q bs goes k.0 (subst (λ (g : Pairing). AreTwoCalls g q) (sym of.programs) two) taken
     (λ b i.
     let x = in_map (onto q) found b i in
-    subst (λ (y : Path). Stands u search.setting.now.left_flow.now search.setting.now.right_flow.now search.claims.now y) (sym x.2) (h none x.0 x.1 u of))
+    subst (λ (y : Path). Stands u search.program_flows.now.left_flow.now search.program_flows.now.right_flow.now search.claims.now y) (sym x.2) (h none x.0 x.1 u of))
 
 -- ---- reads
 
 -- the same of a read or an output, each branch with the case that has its number
-unfoldable pub CasesStand : Search → Path → ReadFlow → ℕ → List Branch → Found → Found → Type 0
+unfoldable pub CasesStand : Search → Path → ReadFlow → ℕ → List Branch → BrokenPathsOf → BrokenPathsOf → Type 0
 CasesStand search q read number found before after =
     (number ≡ length found) × (FindsNone search before after → (n : ℕ) (b : Branch) → slice_get found n ≡ Some b → (case : Case) × (slice_get read.cases n ≡ Some case) × CaseStands search case (onto q b))
 
-pub cases_none : (search : Search) (q : Path) (read : ReadFlow) (before after : Found) → CasesStand search q read 0 [] before after
+pub cases_none : (search : Search) (q : Path) (read : ReadFlow) (before after : BrokenPathsOf) → CasesStand search q read 0 [] before after
 unfolding CasesStand
 cases_none search q read before after = (refl, λ none n b e. absurd cc)
 
-pub cases_more : (search : Search) (q child : Path) (read : ReadFlow) (case : Case) (number next_number : ℕ) (found : List Branch) (b : Branch) (before now after : Found) → length before.paths ≤ length now.paths → length now.paths ≤ length after.paths → slice_get read.cases number ≡ Some case
+pub cases_more : (search : Search) (q child : Path) (read : ReadFlow) (case : Case) (number next_number : ℕ) (found : List Branch) (b : Branch) (before now after : BrokenPathsOf) → length before.paths ≤ length now.paths → length now.paths ≤ length after.paths → slice_get read.cases number ≡ Some case
     → CasesStand search q read number found before now → child ≡ onto q b → next_number ≡ number + 1 → (FindsNone search now after → CaseStands search case child) → CasesStand search q read next_number (found ++ b ∷ []) before after
 unfolding CasesStand
 cases_more search q child read case number next_number found b before now after k l get h e m stands = (
@@ -302,7 +302,7 @@ cases_more search q child read case number next_number found b before now after 
 left_question : (search : Search) (u : Unfolding) (q : Path) (b : Path) (x : Branch) (rest : Remainder) (z : StandsLeft search (onto q x) rest) → IsOf search u → b ≡ onto q x → at_rest (params_of u) b rest.conj ≡ Some z.question
 left_question search u q b x rest z of e = ap (λ (k : ℕ). at_rest k b rest.conj) (params_are search u of) ∙ ap (λ (y : Path). at_rest (judge_of search).params y rest.conj) e ∙ z.is
 
-pub reads_stand : (search : Search) (q : Path) (side : Side) (read : ReadFlow) (number : ℕ) (found : List Branch) (before after : Found) → IsKindThere search q (next.Read side) → IsAmong read (flow_on search.setting.now.left_flow.now search.setting.now.right_flow.now side).reads → read.position ≡ (seat_of q side).position
+pub reads_stand : (search : Search) (q : Path) (side : Side) (read : ReadFlow) (number : ℕ) (found : List Branch) (before after : BrokenPathsOf) → IsKindThere search q (next.Read side) → IsAmong read (flow_on search.program_flows.now.left_flow.now search.program_flows.now.right_flow.now side).reads → read.position ≡ (seat_of q side).position
     → GoesOn search.claims.now q → Some (map (onto q) found) ≡ branches (judge_of search) Keep q → CasesStand search q read number found before after → FindsNone search before after → StandsIn search q
 unfolding IsKindThere StandsIn CasesStand CaseStands
 reads_stand search q side read number found before after kind among position goes is h none = λ u of.
@@ -330,19 +330,19 @@ reads_stand search q side read number found before after kind among position goe
     let same : left.case ≡ y.0 = some-is left.case y.0 (sym left.case_is ∙ y.1) in
     let z = y.2 left.rest (subst (λ (k : Case). IsAmong left.rest k.pieces) same left.among) in
     let there : z.question ≡ d = some-is z.question d (sym (left_question search u q left.branch x.0 left.rest z of x.2) ∙ left.is) in
-    subst (λ (y : Path). Stands u search.setting.now.left_flow.now search.setting.now.right_flow.now search.claims.now y) there (z.stands u of))
+    subst (λ (y : Path). Stands u search.program_flows.now.left_flow.now search.program_flows.now.right_flow.now search.claims.now y) there (z.stands u of))
 
 -- ---- what is left of a case
 
 -- at the first ones of what is left, questions stand if no further path was found
-unfoldable pub PiecesStand : Search → Path → List Remainder → Found → Found → Type 0
+unfoldable pub PiecesStand : Search → Path → List Remainder → BrokenPathsOf → BrokenPathsOf → Type 0
 PiecesStand search b pieces before after = FindsNone search before after → (rest : Remainder) → IsAmong rest pieces → StandsLeft search b rest
 
-pub pieces_none : (search : Search) (b : Path) (before after : Found) → PiecesStand search b [] before after
+pub pieces_none : (search : Search) (b : Path) (before after : BrokenPathsOf) → PiecesStand search b [] before after
 unfolding PiecesStand
 pieces_none search b before after = λ none rest i. absurd i
 
-pub pieces_more : (search : Search) (b child : Path) (pieces more : List Remainder) (rest : Remainder) (before now after : Found) → more ≡ pieces ++ rest ∷ [] → length before.paths ≤ length now.paths → length now.paths ≤ length after.paths → PiecesStand search b pieces before now
+pub pieces_more : (search : Search) (b child : Path) (pieces more : List Remainder) (rest : Remainder) (before now after : BrokenPathsOf) → more ≡ pieces ++ rest ∷ [] → length before.paths ≤ length now.paths → length now.paths ≤ length after.paths → PiecesStand search b pieces before now
     → at_rest (judge_of search).params b rest.conj ≡ Some child → (FindsNone search now after → StandsIn search child) → PiecesStand search b more before after
 unfolding PiecesStand
 pieces_more search b child pieces more rest before now after m k l h e stands = λ none x i. by none x (last_or pieces rest x (subst (IsAmong x) m i))
@@ -351,7 +351,7 @@ pieces_more search b child pieces more rest before now after m k l h e stands = 
     by none x (inl j) = h (none_before search before now after l none) x j
     by none x (inr f) = subst (StandsLeft search b) (sym f) (record { question = child; is = e; stands = stands (none_after search before now after k none) })
 
-pub pieces_all : (search : Search) (case : Case) (b : Path) (pieces : List Remainder) (before after : Found) → pieces ≡ case.pieces → PiecesStand search b pieces before after → FindsNone search before after → CaseStands search case b
+pub pieces_all : (search : Search) (case : Case) (b : Path) (pieces : List Remainder) (before after : BrokenPathsOf) → pieces ≡ case.pieces → PiecesStand search b pieces before after → FindsNone search before after → CaseStands search case b
 unfolding PiecesStand CaseStands
 pieces_all search case b pieces before after e h none = λ rest i. h none rest (subst (IsAmong rest) (sym e) i)
 
@@ -364,14 +364,14 @@ pub begun_stands : (search : Search) (start : Claim) (left right : ℕ) (path q 
 begun_stands search start left right path q starts made e h = record { question = path; is = starts; made = made; stands = subst (StandsIn search) e h }
 
 -- beside the first pieces of the right position
-unfoldable pub RightsStand : Search → Claim → ℕ → ℕ → Found → Found → Type 0
+unfoldable pub RightsStand : Search → Claim → ℕ → ℕ → BrokenPathsOf → BrokenPathsOf → Type 0
 RightsStand search start left rights before after = FindsNone search before after → StandsBeside search start left rights
 
-pub rights_none : (search : Search) (start : Claim) (left : ℕ) (before after : Found) → RightsStand search start left 0 before after
+pub rights_none : (search : Search) (start : Claim) (left : ℕ) (before after : BrokenPathsOf) → RightsStand search start left 0 before after
 unfolding RightsStand StandsBeside
 rights_none search start left before after = λ none right l. absurd (omega (arith, l))
 
-pub rights_more : (search : Search) (start : Claim) (left rights : ℕ) (before now after : Found) → length before.paths ≤ length now.paths → length now.paths ≤ length after.paths → RightsStand search start left rights before now → (FindsNone search now after → StandsAtStart search start left rights)
+pub rights_more : (search : Search) (start : Claim) (left rights : ℕ) (before now after : BrokenPathsOf) → length before.paths ≤ length now.paths → length now.paths ≤ length after.paths → RightsStand search start left rights before now → (FindsNone search now after → StandsAtStart search start left rights)
     → RightsStand search start left (rights + 1) before after
 unfolding RightsStand StandsBeside
 rights_more search start left rights before now after k l h stands = λ none right m. by none right (or right m)
@@ -383,19 +383,19 @@ rights_more search start left rights before now after k l h stands = λ none rig
     by none right (inl m) = h (none_before search before now after l none) right m
     by none right (inr e) = subst (StandsAtStart search start left) (sym e) (stands (none_after search before now after k none))
 
-pub rights_all : (search : Search) (start : Claim) (left n rights : ℕ) (before after : Found) → n ≡ rights → RightsStand search start left n before after → FindsNone search before after → StandsBeside search start left rights
+pub rights_all : (search : Search) (start : Claim) (left n rights : ℕ) (before after : BrokenPathsOf) → n ≡ rights → RightsStand search start left n before after → FindsNone search before after → StandsBeside search start left rights
 unfolding RightsStand
 rights_all search start left n rights before after e h none = subst (StandsBeside search start left) e (h none)
 
 -- at the first pieces of the left one
-unfoldable pub LeftsStand : Search → Claim → ℕ → ℕ → Found → Found → Type 0
+unfoldable pub LeftsStand : Search → Claim → ℕ → ℕ → BrokenPathsOf → BrokenPathsOf → Type 0
 LeftsStand search start lefts rights before after = FindsNone search before after → (left : ℕ) → left < lefts → StandsBeside search start left rights
 
-pub lefts_none : (search : Search) (start : Claim) (rights : ℕ) (before after : Found) → LeftsStand search start 0 rights before after
+pub lefts_none : (search : Search) (start : Claim) (rights : ℕ) (before after : BrokenPathsOf) → LeftsStand search start 0 rights before after
 unfolding LeftsStand
 lefts_none search start rights before after = λ none left l. absurd (omega (arith, l))
 
-pub lefts_more : (search : Search) (start : Claim) (lefts rights : ℕ) (before now after : Found) → length before.paths ≤ length now.paths → length now.paths ≤ length after.paths → LeftsStand search start lefts rights before now → (FindsNone search now after → StandsBeside search start lefts rights)
+pub lefts_more : (search : Search) (start : Claim) (lefts rights : ℕ) (before now after : BrokenPathsOf) → length before.paths ≤ length now.paths → length now.paths ≤ length after.paths → LeftsStand search start lefts rights before now → (FindsNone search now after → StandsBeside search start lefts rights)
     → LeftsStand search start (lefts + 1) rights before after
 unfolding LeftsStand
 lefts_more search start lefts rights before now after k l h stands = λ none left m. by none left (or left m)
@@ -407,17 +407,17 @@ lefts_more search start lefts rights before now after k l h stands = λ none lef
     by none left (inl m) = h (none_before search before now after l none) left m
     by none left (inr e) = subst (λ (x : ℕ). StandsBeside search start x rights) (sym e) (stands (none_after search before now after k none))
 
-pub start_stands : (search : Search) (setting : Setting) (start : Claim) (claims : List Claim) (order : List (Site × Order)) (lefts rights : ℕ) (found : Found) → search.setting.now ≡ setting → search.claims.now ≡ claims → search.order.now ≡ order → search.making ≡ false → HasDomains (pairing setting.programs) start
-    → lefts ≡ count_by (domain setting.programs.left.now start.left) → rights ≡ count_by (domain setting.programs.right.now start.right) → found.paths ≡ [] → LeftsStand search start lefts rights nothing_found found
-    → (u : Unfolding) → IsUnfoldingOf setting start order u → StartStands u setting.left_flow.now setting.right_flow.now claims
+pub start_stands : (search : Search) (program_flows : ProgramFlows) (start : Claim) (claims : List Claim) (order : List (Site × Order)) (lefts rights : ℕ) (found : BrokenPathsOf) → search.program_flows.now ≡ program_flows → search.claims.now ≡ claims → search.order.now ≡ order → search.making ≡ false → HasDomains (pairing program_flows.programs) start
+    → lefts ≡ count_by (domain program_flows.programs.left.now start.left) → rights ≡ count_by (domain program_flows.programs.right.now start.right) → found.paths ≡ [] → LeftsStand search start lefts rights nothing_found found
+    → (u : Unfolding) → IsUnfoldingOf program_flows start order u → StartStands u program_flows.left_flow.now program_flows.right_flow.now claims
 unfolding LeftsStand StandsBeside StandsIn
-start_stands search setting start claims order lefts rights found s c o off d a b e h u is = record {
+start_stands search program_flows start claims order lefts rights found s c o off d a b e h u is = record {
   left_pieces = d.left;
-  left_is = ap (λ (g : Pairing). domain g.left u.claim.left) is.programs ∙ ap (λ (x : Claim). domain setting.programs.left.now x.left) is.claim ∙ d.left_is;
+  left_is = ap (λ (g : Pairing). domain g.left u.claim.left) is.programs ∙ ap (λ (x : Claim). domain program_flows.programs.left.now x.left) is.claim ∙ d.left_is;
   right_pieces = d.right;
-  right_is = ap (λ (g : Pairing). domain g.right u.claim.right) is.programs ∙ ap (λ (x : Claim). domain setting.programs.right.now x.right) is.claim ∙ d.right_is;
+  right_is = ap (λ (g : Pairing). domain g.right u.claim.right) is.programs ∙ ap (λ (x : Claim). domain program_flows.programs.right.now x.right) is.claim ∙ d.right_is;
   stands = λ i k l m.
-      let of = is_of search setting start order s o u is in
+      let of = is_of search program_flows start order s o u is in
       let n = ap length e in
       let none : FindsNone search nothing_found found = record { finding = off; none = omega (arith, n) } in
       let left : i < lefts = subst (λ (x : ℕ). i < x) (sym (a ∙ ap count_by d.left_is)) l in
@@ -427,6 +427,6 @@ start_stands search setting start claims order lefts rights found s c o off d a 
         question = at.question;
         is = ap (λ (x : Claim). start_at (pairing_of u.pair) x i k) is.claim ∙ ap (λ (g : Pairing). start_at g start i k) of.programs ∙ at.is;
         made = at.made;
-        stands = subst (λ (x : Setting). Stands u x.left_flow.now x.right_flow.now claims at.question) s (subst (λ (x : List Claim). Stands u search.setting.now.left_flow.now search.setting.now.right_flow.now x at.question) c (at.stands u of));
+        stands = subst (λ (x : ProgramFlows). Stands u x.left_flow.now x.right_flow.now claims at.question) s (subst (λ (x : List Claim). Stands u search.program_flows.now.left_flow.now search.program_flows.now.right_flow.now x at.question) c (at.stands u of));
       };
 }

@@ -3,7 +3,7 @@ use Rattle.std.proofs.Common.{◌≡◌, ◌⊎◌, inl, inr, ℕ, Bool, true, f
 use Rattle.std.specs.Prelude.{Result, Ok, Err, IfOk, is_some, option_map, slice_get}
 use Rattle.ac_forms.specs.Affine.{Affine}
 use Rattle.ac_forms.specs.Negation.{above, below, negation, piece, HasExtension}
-use Rattle.ac_forms.specs.Pieces.{IsInSome}
+use Rattle.ac_forms.specs.PieceMembership.{IsInSome}
 use Rattle.ac_forms.specs.Rows.{Holds, Meets, IsRowOver}
 use Rattle.ac_forms.specs.declared.conj.Conj.{Conj}
 use Rattle.ac_forms.specs.declared.row.Row.{Row}
@@ -13,25 +13,25 @@ use Rattle.ac_syntax.specs.declared.tree.Position.{Position}
 use Rattle.ac_syntax.specs.declared.tree.Position.TheVariants.{Output, Node, InitialOutput, InitialNode}
 use Rattle.ac_poly.specs.Model.{is_input}
 use Rattle.ac_poly.specs.declared.types.Model.{Model}
-use Rattle.ac_items.proofs.Options.{bind-some, map-some, some-is}
-use Rattle.ac_paths.specs.Columns.{base, columns_of, difference, equal_forms}
-use Rattle.ac_paths.specs.Going.{Pairing}
-use Rattle.ac_forms.specs.Members.{IsAmong}
-use Rattle.ac_paths.specs.Places.{CallAt, call_at, cell_read, initial_cell, number_at}
-use Rattle.ac_paths.specs.declared.path.Path.{Path}
-use Rattle.ac_paths.specs.declared.path.Side.TheVariants.{Left, Right}
-use Rattle.ac_paths.specs.declared.places.CellForms.{CellForms}
-use Rattle.ac_claims.specs.Ending.{equal_cells, equal_numbers}
+use Rattle.ac_base.proofs.Options.{bind-some, map-some, some-is}
+use Rattle.ac_claims_paths.specs.PathColumns.{base, columns_of, difference, equal_forms}
+use Rattle.ac_claims_paths.specs.PathSteps.{Pairing}
+use Rattle.ac_forms.specs.ListMembers.{IsAmong}
+use Rattle.ac_claims_paths.specs.ModelPositions.{CallAt, call_at, cell_read, initial_cell, number_at}
+use Rattle.ac_claims_paths.specs.declared.path.Path.{Path}
+use Rattle.ac_claims_paths.specs.declared.path.Side.TheVariants.{Left, Right}
+use Rattle.ac_claims_paths.specs.declared.places.CellForms.{CellForms}
+use Rattle.ac_claims.specs.ProofEnds.{equal_cells, equal_numbers}
 use Rattle.ac_claims.specs.declared.types.PlanNext.TheVariants.{SameInitial, SameNumber}
-use Rattle.ac_graph.specs.Moves.{IsReader, pairing_of}
-use Rattle.ac_leading.specs.Ends.{Breaks, MatchesNothing}
-use Rattle.ac_leading.specs.Leading.{Unfolding}
-use Rattle.ac_leading.specs.Steps.{AreNoReaders}
-use Rattle.ac_stopping.specs.Parts.{order_of}
+use Rattle.ac_graph.specs.PairMoves.{IsReader, pairing_of}
+use Rattle.ac_widen_programs.specs.PairPathEnds.{Breaks, MatchesNothing}
+use Rattle.ac_widen_programs.specs.PairPaths.{Unfolding}
+use Rattle.ac_widen_programs.specs.PairPathSteps.{AreNoReaders}
+use Rattle.ac_unfold_plans.specs.ArgumentOrders.{order_of}
 use Rattle.ac_syntax.specs.declared.tree.Order.{Order}
-use Rattle.ac_unfold.specs.Full.{IsEndOfSteps}
-use Rattle.ac_unfold.specs.Making.{judge_of}
-use Rattle.ac_unfold.specs.Searching.{Fails, IsKindThere, IsLeaf, IsNoNumber, IsOf}
+use Rattle.ac_unfold.specs.EndResults.{IsEndOfSteps}
+use Rattle.ac_unfold.specs.PlanResults.{judge_of}
+use Rattle.ac_unfold.specs.BrokenPathResults.{Fails, IsKindThere, IsLeaf, IsNoNumber, IsOf}
 use Rattle.ac_unfold.specs.declared.ends.Search.{Search}
 use Rattle.ac_unfold.specs.declared.kinds.Next.{Next}
 use Rattle.ac_unfold.specs.declared.kinds.Next.TheVariants as next

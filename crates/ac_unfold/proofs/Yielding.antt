@@ -1,6 +1,6 @@
 -- The branches that a loop has taken are the first ones.
 use Rattle.std.proofs.Common.{◌≡◌, ◌+◌, ◌<◌, List, [], ◌∷◌, ◌++◌, length, map, take, get_or, sym, ap, ◌∙◌, subst}
-use Rattle.ac_paths.specs.declared.path.Branch.{Branch}
+use Rattle.ac_claims_paths.specs.declared.path.Branch.{Branch}
 use Rattle.ac_unfold.proofs.Results.{next_item}
 use Rattle.ac_unfold.proofs.Stepping.{map_itself}
 

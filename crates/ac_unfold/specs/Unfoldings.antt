@@ -3,17 +3,17 @@ use Rattle.std.specs.Prelude.{◌≡◌, List}
 use Rattle.ac_syntax.specs.declared.tree.Order.{Order}
 use Rattle.ac_syntax.specs.declared.tree.Position.{Position}
 use Rattle.ac_syntax.specs.declared.tree.Site.{Site}
-use Rattle.ac_paths.specs.Calls.{pairing}
+use Rattle.ac_claims_paths.specs.ModelCalls.{pairing}
 use Rattle.ac_claims.specs.declared.types.Claim.{Claim}
-use Rattle.ac_graph.specs.Moves.{pairing_of}
-use Rattle.ac_graph.specs.Steps.{HaveFlows}
-use Rattle.ac_stopping.specs.Parts.{order_of}
-use Rattle.ac_leading.specs.Leading.{Unfolding}
-use Rattle.ac_unfold.specs.declared.types.Setting.{Setting}
+use Rattle.ac_graph.specs.PairMoves.{pairing_of}
+use Rattle.ac_graph.specs.GraphMeaning.{HaveFlows}
+use Rattle.ac_unfold_plans.specs.ArgumentOrders.{order_of}
+use Rattle.ac_widen_programs.specs.PairPaths.{Unfolding}
+use Rattle.ac_unfold.specs.declared.types.ProgramFlows.{ProgramFlows}
 
 -- the steps of both programs of the setting, whose flows are theirs, from the pairs of the start on, under the order that is listed
-pub record IsUnfoldingOf (setting : Setting) (start : Claim) (order : List (Site × Order)) (u : Unfolding) : Type 0 where
-  pub programs : pairing_of u.pair ≡ pairing setting.programs
-  pub flows : HaveFlows u.pair setting.left_flow.now setting.right_flow.now
+pub record IsUnfoldingOf (program_flows : ProgramFlows) (start : Claim) (order : List (Site × Order)) (u : Unfolding) : Type 0 where
+  pub programs : pairing_of u.pair ≡ pairing program_flows.programs
+  pub flows : HaveFlows u.pair program_flows.left_flow.now program_flows.right_flow.now
   pub claim : u.claim ≡ start
-  pub orders : (key : Position × Position) → u.order key ≡ order_of order key
+  pub orders : (positions : Position × Position) → u.order positions ≡ order_of order positions

@@ -1,10 +1,10 @@
 //! Which case of a flow a branch of a read or an output assumes.
 ghost use Rattle.std.specs.Prelude.{◌≡◌, Some, true};
-ghost use Rattle.ac_unfold.specs.Cases.{count_at, AssumesCase, AssumesSource};
+ghost use Rattle.ac_unfold.specs.CaseBranches.{count_at, AssumesCase, AssumesSource};
 
 use ac_claims::ending::same_position;
+use ac_claims_paths::path::{Assumed, Seat, Side};
 use ac_flow::types::{Case, ReadFlow};
-use ac_paths::path::{Assumed, Seat, Side};
 use ac_poly::types::Model;
 use ac_syntax::tree::Position;
 

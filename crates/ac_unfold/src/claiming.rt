@@ -1,30 +1,30 @@
 //! The end of a path at the claim of its pair.
 ghost use Rattle.std.specs.Prelude.{◌≡◌, ◌&&◌, IfErr, IfOk, IfSome, None, OnOk, true};
-ghost use Rattle.ac_forms.specs.Members.{IsAmong};
+ghost use Rattle.ac_forms.specs.ListMembers.{IsAmong};
 ghost use Rattle.ac_forms.specs.Renaming.{rows_renaming};
-ghost use Rattle.ac_claims.specs.Ending.{same_position};
+ghost use Rattle.ac_claims.specs.ProofEnds.{same_position};
 ghost use Rattle.ac_claims.specs.declared.types.Claim.{Claim as Asked};
-ghost use Rattle.ac_leading.specs.Leading.{seats_of};
-ghost use Rattle.ac_leading.specs.Broken.{HasNoClaim};
-ghost use Rattle.ac_unfold.specs.Searching.{AddsBroken, IsAt};
-ghost use Rattle.ac_unfold.specs.Full.{FullUnder};
-ghost use Rattle.ac_unfold.specs.Making.{IsMade};
-ghost use Rattle.ac_unfold.specs.Missing.{FindsElse};
-ghost use Rattle.ac_unfold.specs.Cutting.{columns_there, IsClaimBehind, IsNumbered};
-ghost use Rattle.ac_unfold.specs.Stops.{Follows, HandsBack, StopsUnder};
-ghost use Rattle.ac_unfold.specs.Unbroken.{FindsNone, StandsIn};
+ghost use Rattle.ac_widen_programs.specs.PairPaths.{seats_of};
+ghost use Rattle.ac_widen_programs.specs.BrokenPaths.{HasNoClaim};
+ghost use Rattle.ac_unfold.specs.BrokenPathResults.{AddsBroken, IsAt};
+ghost use Rattle.ac_unfold.specs.EndResults.{FullUnder};
+ghost use Rattle.ac_unfold.specs.PlanResults.{IsMade};
+ghost use Rattle.ac_unfold.specs.PlanGaps.{FindsElse};
+ghost use Rattle.ac_unfold.specs.KillCuts.{columns_there, IsClaimBehind, IsNumbered};
+ghost use Rattle.ac_unfold.specs.UnfoldStops.{Follows, HandsBack, StopsUnder};
+ghost use Rattle.ac_unfold.specs.UnbrokenResults.{FindsNone, StandsIn};
 
+use crate::breaks::BrokenPaths;
 use crate::ends::{Search, stand};
-use crate::finding::Finds;
 use crate::node::Node;
 use crate::remaining::over_columns;
 use crate::types::UnfoldStop;
+use ac_base::Items;
 use ac_claims::ending::same_position;
 use ac_claims::types::{Claim, Plan, PlanNext};
+use ac_claims_paths::columns::columns_of_both;
+use ac_claims_paths::path::Path;
 use ac_forms::{Row, column_after};
-use ac_items::Items;
-use ac_paths::columns::columns_of_both;
-use ac_paths::path::Path;
 use ac_syntax::tree::Position;
 use std::alloc::{AllocError, Global};
 
@@ -87,20 +87,20 @@ pub(crate) fn at_claim(
     search: &Search<'_>,
     node: Node,
     number: usize,
-    finds: &mut Finds,
+    found_paths: &mut BrokenPaths,
 ) -> Result<Option<Plan>, UnfoldStop>
     requires { IsClaimBehind search.now node.question number }
-    ensures missing { IfOk result (λ made. FindsElse search.now made finds.old finds.new) }
-    ensures made { IfOk result (λ made. IfSome made (IsMade search.now node.placing node.question)) }
-    ensures stands { OnOk result (FindsNone search.now finds.old finds.new → StandsIn search.now node.question) }
-    ensures broken { OnOk result (AddsBroken search.now (IsAt search.now node.trail node.question) finds.old finds.new) }
+    ensures missing { IfOk result (λ made. FindsElse search.now made found_paths.old found_paths.new) }
+    ensures made { IfOk result (λ made. IfSome made (IsMade search.now node.embedding node.question)) }
+    ensures stands { OnOk result (FindsNone search.now found_paths.old found_paths.new → StandsIn search.now node.question) }
+    ensures broken { OnOk result (AddsBroken search.now (IsAt search.now node.pair_path node.question) found_paths.old found_paths.new) }
     ensures causes { IfErr result (StopsUnder search.now (Follows search.now node.question)) }
-    ensures full { IfErr result (FullUnder search.now (IsAt search.now node.trail node.question) finds.old) }
+    ensures full { IfErr result (FullUnder search.now (IsAt search.now node.pair_path node.question) found_paths.old) }
 {
     let Some(claim) = search.claims.get(number) else {
         return Err(UnfoldStop::Memory(AllocError));
     };
     let rows = rows_at(alloc, search, &node, claim)?;
     let hit = PlanNext::Hit(column_after(search.base, number)?);
-    stand(alloc, search, node, rows.as_slice(), hit, finds)
+    stand(alloc, search, node, rows.as_slice(), hit, found_paths)
 }

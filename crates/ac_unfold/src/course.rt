@@ -1,20 +1,20 @@
 //! A plan under way: the node that it has come to, and the branches on rows behind which it stands.
 ghost use Rattle.std.specs.Prelude.{◌≡◌, ◌++◌, ◌∷◌, [], IfOk};
-ghost use Rattle.ac_paths.specs.Going.{at_rows};
-ghost use Rattle.ac_graft.specs.Placings.{advanced};
-ghost use Rattle.ac_graft.specs.Sides.{on_side, side_of};
-ghost use Rattle.ac_unfold.specs.Courses.{IsBehind, IsBranched, IsOpened};
+ghost use Rattle.ac_claims_paths.specs.PathSteps.{at_rows};
+ghost use Rattle.ac_claims_plans.specs.Embeddings.{advanced};
+ghost use Rattle.ac_claims_plans.specs.BranchSides.{on_side, side_of};
+ghost use Rattle.ac_unfold.specs.OpenBranches.{IsBehind, IsBranched, HasBranchMore};
 
 use crate::node::Node;
 use ac_claims::types::Plan;
+use ac_claims_plans::{Embedding, Part, branch_plan};
 use ac_forms::Row;
-use ac_graft::{Part, Placing, branch_plan};
 use std::alloc::{AllocError, Global};
 
 /// A branch that is open: a row, where it was branched on, and the plans of the parts of its negation.
 #[derive(Drop)]
 struct Open {
-    placing: Placing,
+    embedding: Embedding,
     row: Row,
     outside: Vec<Plan>,
 }
@@ -39,7 +39,7 @@ impl Course {
     }
 
     /// Behind a branch on a row too, of whose negation these are the plans; the node is what is given.
-    fn opened(
+    fn with_branch(
         self,
         alloc: Global,
         row: &Row,
@@ -47,14 +47,14 @@ impl Course {
         node: Node,
     ) -> Result<Course, AllocError>
         ensures node { IfOk result (λ course. course.node ≡ node) }
-        ensures opened { IfOk result (IsOpened self row.now outside.items) }
+        ensures with_branch { IfOk result (HasBranchMore self row.now outside.items) }
     {
         let Course {
             node: before,
             mut branches,
         } = self;
         branches.push(Open {
-            placing: before.placing,
+            embedding: before.embedding,
             row: row.copy(alloc)?,
             outside,
         })?;
@@ -70,12 +70,12 @@ impl Course {
         outside: Vec<Plan>,
     ) -> Result<Course, AllocError>
         ensures question { IfOk result (λ course. course.node.question ≡ at_rows self.node.question (side_of self.node.question.conj inside.now)) }
-        ensures placing { IfOk result (λ course. course.node.placing ≡ on_side self.node.placing inside.now) }
-        ensures trail { IfOk result (λ course. course.node.trail ≡ self.node.trail) }
-        ensures opened { IfOk result (IsOpened self row.now outside.items) }
+        ensures embedding { IfOk result (λ course. course.node.embedding ≡ on_side self.node.embedding inside.now) }
+        ensures pair_path { IfOk result (λ course. course.node.pair_path ≡ self.node.pair_path) }
+        ensures with_branch { IfOk result (HasBranchMore self row.now outside.items) }
     {
         let node = self.node.within(alloc, inside)?;
-        self.opened(alloc, row, outside, node)
+        self.with_branch(alloc, row, outside, node)
     }
 
     /// Behind a branch on a row, which stands on the path; the question stays.
@@ -87,12 +87,12 @@ impl Course {
         outside: Vec<Plan>,
     ) -> Result<Course, AllocError>
         ensures question { IfOk result (λ course. course.node.question ≡ self.node.question) }
-        ensures placing { IfOk result (λ course. course.node.placing ≡ advanced self.node.placing inside.now.path_columns inside.now.path_rows) }
-        ensures trail { IfOk result (λ course. course.node.trail ≡ self.node.trail) }
-        ensures opened { IfOk result (IsOpened self row.now outside.items) }
+        ensures embedding { IfOk result (λ course. course.node.embedding ≡ advanced self.node.embedding inside.now.path_columns inside.now.path_rows) }
+        ensures pair_path { IfOk result (λ course. course.node.pair_path ≡ self.node.pair_path) }
+        ensures with_branch { IfOk result (HasBranchMore self row.now outside.items) }
     {
         let node = self.node.beyond(alloc, inside)?;
-        self.opened(alloc, row, outside, node)
+        self.with_branch(alloc, row, outside, node)
     }
 
     /// The plan that ends as said, behind all branches.
@@ -120,9 +120,9 @@ fn behind(alloc: Global, branch: Open, inside: Plan) -> Result<Plan, AllocError>
     ensures { IfOk result (IsBranched branch inside) }
 {
     let Open {
-        placing,
+        embedding,
         row,
         outside,
     } = branch;
-    branch_plan(alloc, &placing, &row, inside, outside)
+    branch_plan(alloc, &embedding, &row, inside, outside)
 }

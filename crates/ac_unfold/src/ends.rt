@@ -1,30 +1,30 @@
 //! The ends of paths: a mismatch, and rows that have to stand.
 ghost use Rattle.std.specs.Prelude.{◌≡◌, ◌∷◌, [], ℤ, List, IfOk, IfSome, None, OnOk, Some, is_some, true, IfErr, false};
 ghost use Rattle.ac_forms.specs.Rows.{Holds, IsRowOver, IsWellMade};
-ghost use Rattle.ac_graft.specs.Sides.{sides_of, CanBranch};
-ghost use Rattle.ac_unfold.specs.Courses.{IsBehind};
-ghost use Rattle.ac_ends.specs.Ends.{IsEnd};
-ghost use Rattle.ac_unfold.specs.Making.{judge_of, IsEndFor, IsMade, IsRefuted};
-ghost use Rattle.ac_unfold.specs.Missing.{FindsClosed, FindsElse, FindsStood};
-ghost use Rattle.ac_unfold.specs.Full.{FullBy};
-ghost use Rattle.ac_unfold.specs.Searching.{Adds, IsNone, IsPathAt, IsPathBeside, IsPathBreaking, KeepsNode};
-ghost use Rattle.ac_unfold.specs.Standing.{AreStood, IsClosed, IsEndedPlan, IsStood};
-ghost use Rattle.ac_unfold.specs.Stands.{AllHold, HasNoPoint};
-ghost use Rattle.ac_unfold.specs.Stops.{HandsBack, StopsAsking, StopsOutside, StopsStanding};
-ghost use Rattle.ac_unfold.specs.Unbroken.{FindsNone, IsAllRefuted, HoldsOrEnds};
-ghost use Rattle.ac_unfold.specs.Wanting.{CanStand};
+ghost use Rattle.ac_claims_plans.specs.BranchSides.{sides_of, CanBranch};
+ghost use Rattle.ac_unfold.specs.OpenBranches.{IsBehind};
+ghost use Rattle.ac_unfold_plans.specs.PlanEnds.{IsEnd};
+ghost use Rattle.ac_unfold.specs.PlanResults.{judge_of, IsEndFor, IsMade, IsRefuted};
+ghost use Rattle.ac_unfold.specs.PlanGaps.{FindsClosed, FindsElse, FindsStood};
+ghost use Rattle.ac_unfold.specs.EndResults.{FullBy};
+ghost use Rattle.ac_unfold.specs.BrokenPathResults.{Adds, IsNone, IsPathAt, IsPathBeside, IsPathBreaking, KeepsNode};
+ghost use Rattle.ac_unfold.specs.EndRows.{AreStood, IsClosed, IsEndedPlan, IsStood};
+ghost use Rattle.ac_unfold.specs.UnbrokenStarts.{AllHold, HasNoPoint};
+ghost use Rattle.ac_unfold.specs.UnfoldStops.{HandsBack, StopsAsking, StopsOutside, StopsStanding};
+ghost use Rattle.ac_unfold.specs.UnbrokenResults.{FindsNone, IsAllRefuted, HoldsOrEnds};
+ghost use Rattle.ac_unfold.specs.RequiredRows.{CanStand};
 
-use crate::asking::{Answer, Wanted, asked, kind_of, seen, stands_in};
+use crate::breaks::BrokenPaths;
 use crate::course::Course;
-use crate::finding::Finds;
+use crate::decide::{Answer, Wanted, decide_by_sum, decide_question, kind_of, stands_in};
 use crate::further::{again, further};
 use crate::node::Node;
-use crate::types::{Setting, UnfoldStop};
+use crate::types::{ProgramFlows, UnfoldStop};
+use ac_base::Items;
+use ac_cert_short::Reduction;
 use ac_claims::types::{Claim, Plan, PlanNext};
+use ac_claims_plans::{Part, parts_of, plan_of};
 use ac_forms::Row;
-use ac_graft::{Part, parts_of, plan_of};
-use ac_items::Items;
-use ac_sums::Reduction;
 use ac_syntax::tree::{Order, Site};
 use std::alloc::{AllocError, Global};
 
@@ -32,7 +32,7 @@ use std::alloc::{AllocError, Global};
 /// claims are numbered from `base` on, and behind them tabled ones.
 #[derive(Clone, Copy)]
 pub(crate) struct Search<'a> {
-    pub setting: &'a Setting<'a>,
+    pub program_flows: &'a ProgramFlows<'a>,
     pub budget: u64,
     pub claims: &'a [Claim],
     pub tabled: &'a [Claim],
@@ -46,7 +46,7 @@ impl Search<'_> {
     pub(crate) fn params(&self) -> usize
         ensures { result ≡ (judge_of self.now).params }
     {
-        let programs = &self.setting.programs;
+        let programs = &self.program_flows.programs;
         programs.left.params
     }
 
@@ -66,19 +66,19 @@ pub(crate) fn refuted(
     alloc: Global,
     search: &Search<'_>,
     node: &Node,
-    finds: &mut Finds,
+    found_paths: &mut BrokenPaths,
 ) -> Result<Option<Plan>, UnfoldStop>
-    ensures missing { IfOk result (λ made. FindsElse search.now made finds.old finds.new) }
-    ensures made { IfOk result (λ made. IfSome made (IsRefuted node.now.placing node.now.question)) }
-    ensures empty { OnOk result (FindsNone search.now finds.old finds.new → HasNoPoint node.now.question.conj) }
-    ensures found { OnOk result (Adds (IsPathAt (judge_of search.now).params node.now.trail node.now.question.conj) IsNone finds.old finds.new) }
+    ensures missing { IfOk result (λ made. FindsElse search.now made found_paths.old found_paths.new) }
+    ensures made { IfOk result (λ made. IfSome made (IsRefuted node.now.embedding node.now.question)) }
+    ensures empty { OnOk result (FindsNone search.now found_paths.old found_paths.new → HasNoPoint node.now.question.conj) }
+    ensures found { OnOk result (Adds (IsPathAt (judge_of search.now).params node.now.pair_path node.now.question.conj) IsNone found_paths.old found_paths.new) }
     ensures causes { IfErr result (StopsAsking search.now.budget node.now.question.conj) }
-    ensures full { IfErr result (FullBy IsNone finds.old.ended) }
+    ensures full { IfErr result (FullBy IsNone found_paths.old.ended) }
 {
-    match asked(alloc, node, search.budget, search.making)? {
+    match decide_question(alloc, node, search.budget, search.making)? {
         Answer::Empty(plan) => Ok(plan),
         Answer::Point(point) => {
-            finds.push(alloc, search.params(), node, &point)?;
+            found_paths.push(alloc, search.params(), node, &point)?;
             Ok(None)
         }
     }
@@ -90,18 +90,18 @@ fn refuted_part(
     search: &Search<'_>,
     beside: &Node,
     reduction: &Reduction,
-    finds: &mut Finds,
+    found_paths: &mut BrokenPaths,
 ) -> Result<Option<Plan>, UnfoldStop>
-    ensures missing { IfOk result (λ made. FindsElse search.now made finds.old finds.new) }
-    ensures made { IfOk result (λ made. IfSome made (IsRefuted beside.now.placing beside.now.question)) }
-    ensures empty { OnOk result (FindsNone search.now finds.old finds.new → HasNoPoint beside.now.question.conj) }
-    ensures found { OnOk result (Adds (IsPathAt (judge_of search.now).params beside.now.trail beside.now.question.conj) IsNone finds.old finds.new) }
+    ensures missing { IfOk result (λ made. FindsElse search.now made found_paths.old found_paths.new) }
+    ensures made { IfOk result (λ made. IfSome made (IsRefuted beside.now.embedding beside.now.question)) }
+    ensures empty { OnOk result (FindsNone search.now found_paths.old found_paths.new → HasNoPoint beside.now.question.conj) }
+    ensures found { OnOk result (Adds (IsPathAt (judge_of search.now).params beside.now.pair_path beside.now.question.conj) IsNone found_paths.old found_paths.new) }
     ensures causes { IfErr result (StopsAsking search.now.budget beside.now.question.conj) }
-    ensures full { IfErr result (FullBy IsNone finds.old.ended) }
+    ensures full { IfErr result (FullBy IsNone found_paths.old.ended) }
 {
-    match seen(alloc, beside, reduction, search.making)? {
+    match decide_by_sum(alloc, beside, reduction, search.making)? {
         Some(Answer::Empty(plan)) => Ok(plan),
-        Some(Answer::Point(_)) | None => refuted(alloc, search, beside, finds),
+        Some(Answer::Point(_)) | None => refuted(alloc, search, beside, found_paths),
     }
 }
 
@@ -121,26 +121,26 @@ fn refute_parts(
     node: &Node,
     outside: &[Part],
     reduction: &Reduction,
-    finds: &mut Finds,
+    found_paths: &mut BrokenPaths,
 ) -> Result<Closed, UnfoldStop>
-    ensures missing { IfOk result (λ made. FindsClosed search.now made finds.old finds.new) }
+    ensures missing { IfOk result (λ made. FindsClosed search.now made found_paths.old found_paths.new) }
     ensures closed { IfOk result (IsClosed search.now node.now outside.now) }
-    ensures empty { IfOk result (λ closed. FindsNone search.now finds.old finds.new → IsAllRefuted node.now.question.conj outside.now closed) }
-    ensures found { OnOk result (Adds (IsPathBeside (judge_of search.now).params node.now.trail node.now.question.conj outside.now) IsNone finds.old finds.new) }
+    ensures empty { IfOk result (λ closed. FindsNone search.now found_paths.old found_paths.new → IsAllRefuted node.now.question.conj outside.now closed) }
+    ensures found { OnOk result (Adds (IsPathBeside (judge_of search.now).params node.now.pair_path node.now.question.conj outside.now) IsNone found_paths.old found_paths.new) }
     ensures causes { IfErr result (StopsOutside search.now.budget node.now.question.conj outside.now) }
-    ensures full { IfErr result (FullBy IsNone finds.old.ended) }
+    ensures full { IfErr result (FullBy IsNone found_paths.old.ended) }
 {
     let mut plans = Vec::new(alloc);
     for part in outside {
-        let before = finds.len();
+        let before = found_paths.len();
         let beside = node.within(alloc, part)?;
-        match refuted_part(alloc, search, &beside, reduction, finds)? {
+        match refuted_part(alloc, search, &beside, reduction, found_paths)? {
             Some(plan) => {
                 plans.push(plan)?;
                 continue;
             }
             None => {
-                if search.making || finds.len() > before {
+                if search.making || found_paths.len() > before {
                     return Ok(Closed::Broken);
                 }
                 continue;
@@ -179,18 +179,18 @@ fn stand_absurd(
     search: &Search<'_>,
     course: Course,
     row: &Row,
-    finds: &mut Finds,
+    found_paths: &mut BrokenPaths,
 ) -> Result<Stood, UnfoldStop>
     requires { IsRowOver course.node.question.conj.columns row.now × ((p : List ℤ) → ¬ (Holds row.now p)) }
-    ensures missing { IfOk result (λ made. FindsStood search.now made finds.old finds.new) }
+    ensures missing { IfOk result (λ made. FindsStood search.now made found_paths.old found_paths.new) }
     ensures stood { IfOk result (IsStood search.now course row.now) }
-    ensures met { IsWellMade course.node.question.conj → IfOk result (λ stood. FindsNone search.now finds.old finds.new → HoldsOrEnds course.node.question.conj row.now stood) }
+    ensures met { IsWellMade course.node.question.conj → IfOk result (λ stood. FindsNone search.now found_paths.old found_paths.new → HoldsOrEnds course.node.question.conj row.now stood) }
     ensures kept { IfOk result (KeepsNode course) }
-    ensures found { OnOk result (Adds (IsPathBreaking (judge_of search.now).params course.node.trail course.node.question.conj (row.now ∷ [])) IsNone finds.old finds.new) }
+    ensures found { OnOk result (Adds (IsPathBreaking (judge_of search.now).params course.node.pair_path course.node.question.conj (row.now ∷ [])) IsNone found_paths.old found_paths.new) }
     ensures causes { IfErr result (StopsStanding search.now.budget course.node.question.conj (row.now ∷ [])) }
-    ensures full { IfErr result (FullBy IsNone finds.old.ended) }
+    ensures full { IfErr result (FullBy IsNone found_paths.old.ended) }
 {
-    let end = refuted(alloc, search, &course.node, finds)?;
+    let end = refuted(alloc, search, &course.node, found_paths)?;
     let made = ended(alloc, course, end)?;
     Ok(Stood::Ended(made))
 }
@@ -202,16 +202,16 @@ fn stand_branched(
     course: Course,
     row: &Row,
     reduction: &Reduction,
-    finds: &mut Finds,
+    found_paths: &mut BrokenPaths,
 ) -> Result<Stood, UnfoldStop>
     requires { CanStand course.node.question.conj.columns row.now }
-    ensures missing { IfOk result (λ made. FindsStood search.now made finds.old finds.new) }
+    ensures missing { IfOk result (λ made. FindsStood search.now made found_paths.old found_paths.new) }
     ensures stood { IfOk result (IsStood search.now course row.now) }
-    ensures met { IsWellMade course.node.question.conj → IfOk result (λ stood. FindsNone search.now finds.old finds.new → HoldsOrEnds course.node.question.conj row.now stood) }
+    ensures met { IsWellMade course.node.question.conj → IfOk result (λ stood. FindsNone search.now found_paths.old found_paths.new → HoldsOrEnds course.node.question.conj row.now stood) }
     ensures kept { IfOk result (KeepsNode course) }
-    ensures found { OnOk result (Adds (IsPathBreaking (judge_of search.now).params course.node.trail course.node.question.conj (row.now ∷ [])) IsNone finds.old finds.new) }
+    ensures found { OnOk result (Adds (IsPathBreaking (judge_of search.now).params course.node.pair_path course.node.question.conj (row.now ∷ [])) IsNone found_paths.old found_paths.new) }
     ensures causes { IfErr result (StopsStanding search.now.budget course.node.question.conj (row.now ∷ [])) }
-    ensures full { IfErr result (FullBy IsNone finds.old.ended) }
+    ensures full { IfErr result (FullBy IsNone found_paths.old.ended) }
 {
     let Some(parts) = parts_of(alloc, row, course.node.question.conj.columns)? else {
         return Err(search.too_wide(alloc, &course.node));
@@ -222,7 +222,7 @@ fn stand_branched(
         &course.node,
         parts.outside.as_slice(),
         reduction,
-        finds,
+        found_paths,
     )?;
     match closed {
         Closed::Broken => Ok(Stood::Ended(None)),
@@ -240,15 +240,15 @@ fn stand_row(
     course: Course,
     row: &Row,
     reduction: &Reduction,
-    finds: &mut Finds,
+    found_paths: &mut BrokenPaths,
 ) -> Result<Stood, UnfoldStop>
-    ensures missing { IfOk result (λ made. FindsStood search.now made finds.old finds.new) }
+    ensures missing { IfOk result (λ made. FindsStood search.now made found_paths.old found_paths.new) }
     ensures stood { IfOk result (IsStood search.now course row.now) }
-    ensures met { IsWellMade course.node.question.conj → IfOk result (λ stood. FindsNone search.now finds.old finds.new → HoldsOrEnds course.node.question.conj row.now stood) }
+    ensures met { IsWellMade course.node.question.conj → IfOk result (λ stood. FindsNone search.now found_paths.old found_paths.new → HoldsOrEnds course.node.question.conj row.now stood) }
     ensures kept { IfOk result (KeepsNode course) }
-    ensures found { OnOk result (Adds (IsPathBreaking (judge_of search.now).params course.node.trail course.node.question.conj (row.now ∷ [])) IsNone finds.old finds.new) }
+    ensures found { OnOk result (Adds (IsPathBreaking (judge_of search.now).params course.node.pair_path course.node.question.conj (row.now ∷ [])) IsNone found_paths.old found_paths.new) }
     ensures causes { IfErr result (StopsStanding search.now.budget course.node.question.conj (row.now ∷ [])) }
-    ensures full { IfErr result (FullBy IsNone finds.old.ended) }
+    ensures full { IfErr result (FullBy IsNone found_paths.old.ended) }
 {
     let standing = stands_in(alloc, &course.node.question.conj, row)?;
     if standing {
@@ -256,8 +256,8 @@ fn stand_row(
     }
     let kind = kind_of(alloc, row, course.node.question.conj.columns)?;
     match kind {
-        Wanted::Standing => stand_branched(alloc, search, course, row, reduction, finds),
-        Wanted::Absurd => stand_absurd(alloc, search, course, row, finds),
+        Wanted::Standing => stand_branched(alloc, search, course, row, reduction, found_paths),
+        Wanted::Absurd => stand_absurd(alloc, search, course, row, found_paths),
         Wanted::Wide => Err(search.too_wide(alloc, &course.node)),
     }
 }
@@ -281,31 +281,38 @@ fn stand_rows(
     search: &Search<'_>,
     node: Node,
     rows: &[Row],
-    finds: &mut Finds,
+    found_paths: &mut BrokenPaths,
 ) -> Result<Stood, UnfoldStop>
-    ensures missing { IfOk result (λ made. FindsStood search.now made finds.old finds.new) }
+    ensures missing { IfOk result (λ made. FindsStood search.now made found_paths.old found_paths.new) }
     ensures stood { IfOk result (AreStood search.now node rows.now) }
-    ensures met { OnOk result (FindsNone search.now finds.old finds.new → AllHold node.question.conj rows.now) }
-    ensures found { OnOk result (Adds (IsPathBreaking (judge_of search.now).params node.trail node.question.conj rows.now) (IsPathAt (judge_of search.now).params node.trail node.question.conj) finds.old finds.new) }
+    ensures met { OnOk result (FindsNone search.now found_paths.old found_paths.new → AllHold node.question.conj rows.now) }
+    ensures found { OnOk result (Adds (IsPathBreaking (judge_of search.now).params node.pair_path node.question.conj rows.now) (IsPathAt (judge_of search.now).params node.pair_path node.question.conj) found_paths.old found_paths.new) }
     ensures causes { IfErr result (StopsStanding search.now.budget node.question.conj rows.now) }
-    ensures full { IfErr result (FullBy (IsPathAt (judge_of search.now).params node.trail node.question.conj) finds.old.ended) }
+    ensures full { IfErr result (FullBy (IsPathAt (judge_of search.now).params node.pair_path node.question.conj) found_paths.old.ended) }
 {
     if !node.question.conj.is_well_made() {
         return Err(UnfoldStop::Memory(AllocError));
     }
-    finds.reach(alloc, search.params(), &node)?;
+    found_paths.reach(alloc, search.params(), &node)?;
     let reduction = Reduction::of(alloc, &node.question.conj)?;
     let spare = again(alloc, search, &node)?;
     let mut course = Course::new(alloc, node);
     for (at, row) in rows.iter().enumerate() {
-        let stood = stand_row(alloc, search, course, row, &reduction, finds)?;
+        let stood = stand_row(alloc, search, course, row, &reduction, found_paths)?;
         match stood {
             Stood::On(next) => {
                 course = next;
                 continue;
             }
             Stood::Ended(plan) => {
-                further(alloc, search, &spare, &rows[at + 1..], &reduction, finds)?;
+                further(
+                    alloc,
+                    search,
+                    &spare,
+                    &rows[at + 1..],
+                    &reduction,
+                    found_paths,
+                )?;
                 return Ok(Stood::Ended(plan));
             }
         }
@@ -321,17 +328,17 @@ pub(crate) fn stand(
     node: Node,
     rows: &[Row],
     end: PlanNext,
-    finds: &mut Finds,
+    found_paths: &mut BrokenPaths,
 ) -> Result<Option<Plan>, UnfoldStop>
     requires { IsEndFor search.now node.question rows.now end }
-    ensures missing { IfOk result (λ made. FindsElse search.now made finds.old finds.new) }
-    ensures made { IfOk result (λ made. IfSome made (IsMade search.now node.placing node.question)) }
-    ensures met { OnOk result (FindsNone search.now finds.old finds.new → AllHold node.question.conj rows.now) }
-    ensures found { OnOk result (Adds (IsPathBreaking (judge_of search.now).params node.trail node.question.conj rows.now) (IsPathAt (judge_of search.now).params node.trail node.question.conj) finds.old finds.new) }
+    ensures missing { IfOk result (λ made. FindsElse search.now made found_paths.old found_paths.new) }
+    ensures made { IfOk result (λ made. IfSome made (IsMade search.now node.embedding node.question)) }
+    ensures met { OnOk result (FindsNone search.now found_paths.old found_paths.new → AllHold node.question.conj rows.now) }
+    ensures found { OnOk result (Adds (IsPathBreaking (judge_of search.now).params node.pair_path node.question.conj rows.now) (IsPathAt (judge_of search.now).params node.pair_path node.question.conj) found_paths.old found_paths.new) }
     ensures causes { IfErr result (StopsStanding search.now.budget node.question.conj rows.now) }
-    ensures full { IfErr result (FullBy (IsPathAt (judge_of search.now).params node.trail node.question.conj) finds.old.ended) }
+    ensures full { IfErr result (FullBy (IsPathAt (judge_of search.now).params node.pair_path node.question.conj) found_paths.old.ended) }
 {
-    let stood = stand_rows(alloc, search, node, rows, finds)?;
+    let stood = stand_rows(alloc, search, node, rows, found_paths)?;
     match stood {
         Stood::On(course) => {
             let last = end_of(alloc, search, end);
@@ -347,17 +354,17 @@ pub(crate) fn mismatch(
     alloc: Global,
     search: &Search<'_>,
     node: &Node,
-    finds: &mut Finds,
+    found_paths: &mut BrokenPaths,
 ) -> Result<Option<Plan>, UnfoldStop>
-    ensures missing { IfOk result (λ made. FindsElse search.now made finds.old finds.new) }
-    ensures made { IfOk result (λ made. IfSome made (IsRefuted node.now.placing node.now.question)) }
-    ensures empty { OnOk result (FindsNone search.now finds.old finds.new → HasNoPoint node.now.question.conj) }
-    ensures found { OnOk result (Adds (IsPathAt (judge_of search.now).params node.now.trail node.now.question.conj) (IsPathAt (judge_of search.now).params node.now.trail node.now.question.conj) finds.old finds.new) }
+    ensures missing { IfOk result (λ made. FindsElse search.now made found_paths.old found_paths.new) }
+    ensures made { IfOk result (λ made. IfSome made (IsRefuted node.now.embedding node.now.question)) }
+    ensures empty { OnOk result (FindsNone search.now found_paths.old found_paths.new → HasNoPoint node.now.question.conj) }
+    ensures found { OnOk result (Adds (IsPathAt (judge_of search.now).params node.now.pair_path node.now.question.conj) (IsPathAt (judge_of search.now).params node.now.pair_path node.now.question.conj) found_paths.old found_paths.new) }
     ensures causes { IfErr result (StopsAsking search.now.budget node.now.question.conj) }
-    ensures full { IfErr result (FullBy (IsPathAt (judge_of search.now).params node.now.trail node.now.question.conj) finds.old.ended) }
+    ensures full { IfErr result (FullBy (IsPathAt (judge_of search.now).params node.now.pair_path node.now.question.conj) found_paths.old.ended) }
 {
-    finds.reach(alloc, search.params(), node)?;
-    refuted(alloc, search, node, finds)
+    found_paths.reach(alloc, search.params(), node)?;
+    refuted(alloc, search, node, found_paths)
 }
 
 /// Rows that were made.

@@ -1,17 +1,17 @@
 //! Further paths: the rows behind one that fails at the end of a path.
 ghost use Rattle.std.specs.Prelude.{◌≡◌, ◌∷◌, [], IfOk, IfSome, OnOk};
-ghost use Rattle.ac_unfold.specs.Making.{judge_of};
-ghost use Rattle.ac_unfold.specs.Searching.{Adds, IsNone, IsPathBeside, IsPathBreaking};
-ghost use Rattle.ac_unfold.specs.Wanting.{CanStand};
+ghost use Rattle.ac_unfold.specs.PlanResults.{judge_of};
+ghost use Rattle.ac_unfold.specs.BrokenPathResults.{Adds, IsNone, IsPathBeside, IsPathBreaking};
+ghost use Rattle.ac_unfold.specs.RequiredRows.{CanStand};
 
-use crate::asking::{Answer, Wanted, asked, kind_of, seen, stands_in};
+use crate::breaks::BrokenPaths;
+use crate::decide::{Answer, Wanted, decide_by_sum, decide_question, kind_of, stands_in};
 use crate::ends::Search;
-use crate::finding::Finds;
 use crate::node::Node;
 use crate::types::freely;
+use ac_cert_short::Reduction;
+use ac_claims_plans::{Part, parts_of};
 use ac_forms::Row;
-use ac_graft::{Part, parts_of};
-use ac_sums::Reduction;
 use std::alloc::{AllocError, Global};
 
 /// Adds a path to a part of a row's negation, where a point of it is found. Whether there was one.
@@ -21,17 +21,17 @@ fn further_part(
     node: &Node,
     part: &Part,
     reduction: &Reduction,
-    finds: &mut Finds,
+    found_paths: &mut BrokenPaths,
 ) -> Result<bool, AllocError>
-    ensures { OnOk result (Adds (IsPathBeside (judge_of search.now).params node.now.trail node.now.question.conj (part.now ∷ [])) IsNone finds.old finds.new) }
+    ensures { OnOk result (Adds (IsPathBeside (judge_of search.now).params node.now.pair_path node.now.question.conj (part.now ∷ [])) IsNone found_paths.old found_paths.new) }
 {
     let beside = node.within(alloc, part)?;
-    if seen(alloc, &beside, reduction, false)?.is_some() {
+    if decide_by_sum(alloc, &beside, reduction, false)?.is_some() {
         return Ok(false);
     }
-    match freely(asked(alloc, &beside, search.budget, false))? {
+    match freely(decide_question(alloc, &beside, search.budget, false))? {
         Some(Answer::Point(point)) => {
-            finds.push(alloc, search.params(), &beside, &point)?;
+            found_paths.push(alloc, search.params(), &beside, &point)?;
             Ok(true)
         }
         Some(Answer::Empty(_)) | None => Ok(false),
@@ -45,12 +45,12 @@ fn further_parts(
     node: &Node,
     outside: &[Part],
     reduction: &Reduction,
-    finds: &mut Finds,
+    found_paths: &mut BrokenPaths,
 ) -> Result<(), AllocError>
-    ensures { OnOk result (Adds (IsPathBeside (judge_of search.now).params node.now.trail node.now.question.conj outside.now) IsNone finds.old finds.new) }
+    ensures { OnOk result (Adds (IsPathBeside (judge_of search.now).params node.now.pair_path node.now.question.conj outside.now) IsNone found_paths.old found_paths.new) }
 {
     for part in outside {
-        if further_part(alloc, search, node, part, reduction, finds)? {
+        if further_part(alloc, search, node, part, reduction, found_paths)? {
             return Ok(());
         }
     }
@@ -64,10 +64,10 @@ fn further_branched(
     node: &Node,
     row: &Row,
     reduction: &Reduction,
-    finds: &mut Finds,
+    found_paths: &mut BrokenPaths,
 ) -> Result<(), AllocError>
     requires { CanStand node.now.question.conj.columns row.now }
-    ensures { OnOk result (Adds (IsPathBreaking (judge_of search.now).params node.now.trail node.now.question.conj (row.now ∷ [])) IsNone finds.old finds.new) }
+    ensures { OnOk result (Adds (IsPathBreaking (judge_of search.now).params node.now.pair_path node.now.question.conj (row.now ∷ [])) IsNone found_paths.old found_paths.new) }
 {
     match parts_of(alloc, row, node.question.conj.columns)? {
         Some(parts) => {
@@ -77,7 +77,7 @@ fn further_branched(
                 node,
                 parts.outside.as_slice(),
                 reduction,
-                finds,
+                found_paths,
             )?;
             Ok(())
         }
@@ -92,9 +92,9 @@ fn further_row(
     node: &Node,
     row: &Row,
     reduction: &Reduction,
-    finds: &mut Finds,
+    found_paths: &mut BrokenPaths,
 ) -> Result<(), AllocError>
-    ensures { OnOk result (Adds (IsPathBreaking (judge_of search.now).params node.now.trail node.now.question.conj (row.now ∷ [])) IsNone finds.old finds.new) }
+    ensures { OnOk result (Adds (IsPathBreaking (judge_of search.now).params node.now.pair_path node.now.question.conj (row.now ∷ [])) IsNone found_paths.old found_paths.new) }
 {
     let standing = stands_in(alloc, &node.question.conj, row)?;
     if standing {
@@ -102,7 +102,7 @@ fn further_row(
     }
     let kind = kind_of(alloc, row, node.question.conj.columns)?;
     match kind {
-        Wanted::Standing => further_branched(alloc, search, node, row, reduction, finds),
+        Wanted::Standing => further_branched(alloc, search, node, row, reduction, found_paths),
         Wanted::Absurd => Ok(()),
         Wanted::Wide => Ok(()),
     }
@@ -115,12 +115,12 @@ fn further_rows(
     node: &Node,
     rows: &[Row],
     reduction: &Reduction,
-    finds: &mut Finds,
+    found_paths: &mut BrokenPaths,
 ) -> Result<(), AllocError>
-    ensures { OnOk result (Adds (IsPathBreaking (judge_of search.now).params node.now.trail node.now.question.conj rows.now) IsNone finds.old finds.new) }
+    ensures { OnOk result (Adds (IsPathBreaking (judge_of search.now).params node.now.pair_path node.now.question.conj rows.now) IsNone found_paths.old found_paths.new) }
 {
     for row in rows {
-        further_row(alloc, search, node, row, reduction, finds)?;
+        further_row(alloc, search, node, row, reduction, found_paths)?;
     }
     Ok(())
 }
@@ -132,12 +132,12 @@ pub(crate) fn further(
     again: &Option<Node>,
     rows: &[Row],
     reduction: &Reduction,
-    finds: &mut Finds,
+    found_paths: &mut BrokenPaths,
 ) -> Result<(), AllocError>
-    ensures { (n : Node) → IfSome again.now (λ same. same ≡ n) → OnOk result (Adds (IsPathBreaking (judge_of search.now).params n.trail n.question.conj rows.now) IsNone finds.old finds.new) }
+    ensures { (n : Node) → IfSome again.now (λ same. same ≡ n) → OnOk result (Adds (IsPathBreaking (judge_of search.now).params n.pair_path n.question.conj rows.now) IsNone found_paths.old found_paths.new) }
 {
     match again {
-        Some(node) => further_rows(alloc, search, node, rows, reduction, finds),
+        Some(node) => further_rows(alloc, search, node, rows, reduction, found_paths),
         None => Ok(()),
     }
 }

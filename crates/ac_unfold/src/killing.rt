@@ -1,20 +1,20 @@
 //! The end at a killed place, with the choices of its copy behind the columns of the path.
 ghost use Rattle.std.specs.Prelude.{◌≡◌, IfOk, Some, map};
-ghost use Rattle.ac_paths.specs.Killing.{case_width};
-ghost use Rattle.ac_paths.specs.declared.path.Assumed.{Assumed};
-ghost use Rattle.ac_flow_laws.specs.Accepting.{behind};
-ghost use Rattle.ac_unfold.specs.Cutting.{IsKilled};
-ghost use Rattle.ac_unfold.specs.Making.{judge_of};
+ghost use Rattle.ac_claims_paths.specs.CopyKills.{case_width};
+ghost use Rattle.ac_claims_paths.specs.declared.path.Assumed.{Assumed};
+ghost use Rattle.ac_flow.specs.KillAcceptance.{behind};
+ghost use Rattle.ac_unfold.specs.KillCuts.{IsKilled};
+ghost use Rattle.ac_unfold.specs.PlanResults.{judge_of};
 
 use crate::ends::Search;
 use crate::node::Node;
-use ac_choices::Choice;
+use ac_base::Items;
 use ac_claims::types::{Kill, Plan, PlanNext};
+use ac_claims_paths::killing::case_width;
+use ac_claims_paths::path::Assumed;
+use ac_claims_plans::plan_of;
 use ac_forms::column_after;
-use ac_graft::plan_of;
-use ac_items::Items;
-use ac_paths::killing::case_width;
-use ac_paths::path::Assumed;
+use ac_omega_steps::Choice;
 use std::alloc::{AllocError, Global};
 
 /// A choice whose column stands behind those of a path in place of those of a case.
@@ -67,7 +67,7 @@ pub(crate) fn killed(
     ensures { IfOk result (IsKilled search.now node.now kill.now) }
 {
     let own = own_columns(search, &node.question.last)?;
-    let path = node.placing.next_column;
+    let path = node.embedding.next_column;
     let end = PlanNext::Killed(Kill {
         stmt: kill.stmt,
         piece: kill.piece,

@@ -1,26 +1,26 @@
 //! What a pair of positions asks for, by what stands at both.
 ghost use Rattle.std.specs.Prelude.{◌≡◌, IfErr, IfOk, None, Some, false, true, length, slice_get};
 ghost use Rattle.ac_poly.specs.Model.{is_input};
-ghost use Rattle.ac_paths.specs.Calls.{pairing};
-ghost use Rattle.ac_paths.specs.Places.{CallAt, call_at, initial_cell, number_at};
-ghost use Rattle.ac_unfold.specs.Cutting.{IsNext};
-ghost use Rattle.ac_unfold.specs.Full.{IsEndOfSteps};
-ghost use Rattle.ac_unfold.specs.Making.{judge_of};
-ghost use Rattle.ac_unfold.specs.Searching.{IsKindThere, IsLeaf, IsNoNumber};
-ghost use Rattle.ac_unfold.specs.Asked.{AreTwoCalls};
-ghost use Rattle.ac_unfold.specs.Stops.{HandsTargets, HasItsCalls, IsMatchOf};
+ghost use Rattle.ac_claims_paths.specs.ModelCalls.{pairing};
+ghost use Rattle.ac_claims_paths.specs.ModelPositions.{CallAt, call_at, initial_cell, number_at};
+ghost use Rattle.ac_unfold.specs.KillCuts.{IsNext};
+ghost use Rattle.ac_unfold.specs.EndResults.{IsEndOfSteps};
+ghost use Rattle.ac_unfold.specs.PlanResults.{judge_of};
+ghost use Rattle.ac_unfold.specs.BrokenPathResults.{IsKindThere, IsLeaf, IsNoNumber};
+ghost use Rattle.ac_unfold.specs.UnfoldQuestions.{AreTwoCalls};
+ghost use Rattle.ac_unfold.specs.UnfoldStops.{HandsTargets, HasItsCalls, IsMatchOf};
 
 use crate::ends::{Search, rows_or};
 use crate::node::Node;
 use crate::steps::order_at;
 use crate::types::UnfoldStop;
+use ac_base::Items;
 use ac_claims::types::PlanNext;
+use ac_claims_paths::columns::{equal_at, equal_form_at};
+use ac_claims_paths::path::{Path, Programs, Side};
+use ac_claims_paths::places::{CellForms, call_at, cell_read, initial_cell, number_at};
+use ac_claims_paths::symbols::same_symbol;
 use ac_forms::{Form, Row};
-use ac_items::Items;
-use ac_paths::columns::{equal_at, equal_form_at};
-use ac_paths::path::{Path, Programs, Side};
-use ac_paths::places::{CellForms, call_at, cell_read, initial_cell, number_at};
-use ac_paths::symbols::same_symbol;
 use ac_poly::types::Model;
 use ac_syntax::tree::{Kind, Order};
 use std::alloc::Global;
@@ -106,7 +106,7 @@ fn cells(
     ensures targets { IfOk result (IsMatchOf search.now node.now.question) }
     ensures causes { IfErr result (HandsTargets search.now node.now.question) }
 {
-    let programs = &search.setting.programs;
+    let programs = &search.program_flows.programs;
     if cell.array != other.array || !is_input(programs.left, cell.array) {
         return Ok(Next::Mismatch);
     }
@@ -130,7 +130,7 @@ fn initials(alloc: Global, search: &Search<'_>, node: &Node) -> Result<Next, Unf
     ensures targets { IfOk result (IsMatchOf search.now node.now.question) }
     ensures causes { IfErr result (HandsTargets search.now node.now.question) }
 {
-    let programs = &search.setting.programs;
+    let programs = &search.program_flows.programs;
     let Some(cell) = initial_cell(alloc, programs.left, &node.question.left.position)? else {
         return Ok(Next::Mismatch);
     };
@@ -148,7 +148,7 @@ fn leaves(alloc: Global, search: &Search<'_>, node: &Node) -> Result<Next, Unfol
     ensures targets { IfOk result (IsMatchOf search.now node.now.question) }
     ensures causes { IfErr result (HandsTargets search.now node.now.question) }
 {
-    let programs = &search.setting.programs;
+    let programs = &search.program_flows.programs;
     let Some(form) = number_at(programs.left, &node.question.left.position) else {
         return initials(alloc, search, node);
     };
@@ -167,7 +167,7 @@ pub(crate) fn next_of(alloc: Global, search: &Search<'_>, node: &Node) -> Result
     ensures ends { IfOk result (IsEndOfSteps search.now node.now.question) }
     ensures causes { IfErr result (HandsTargets search.now node.now.question) }
 {
-    let programs = &search.setting.programs;
+    let programs = &search.program_flows.programs;
     let (left, right) = (&node.question.left.position, &node.question.right.position);
     if cell_read(alloc, programs.left, left)?.is_some() {
         return Ok(Next::Read(Side::Left));

@@ -1,7 +1,7 @@
 //! What the stops of an unfolding say: each function here does nothing, and its contract is a fact about all questions.
 ghost use Rattle.std.specs.Prelude.{◌<◌, ◌-◌, ◌^◌, ℕ};
 ghost use Rattle.ac_forms.specs.declared.conj.Conj.{Conj};
-ghost use Rattle.ac_unfold.specs.Causes.{IsTooCostly};
+ghost use Rattle.ac_unfold.specs.UnfoldCauses.{IsTooCostly};
 
 /// A question that is too costly costs more than the budget, unless that is the greatest number of `u64`, at which costs stand
 /// still.

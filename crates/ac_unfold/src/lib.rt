@@ -2,12 +2,12 @@
 //! out is either the concrete paths on which the start fails, or a plan for each pair of pieces that a valid proof may have.
 #![tactic(auto)]
 
-mod asking;
+mod breaks;
 mod casing;
 mod claiming;
 mod course;
+mod decide;
 mod ends;
-mod finding;
 mod further;
 mod killing;
 mod kinds;

@@ -1,16 +1,16 @@
 //! The state of an unfolding: a question, where it stands on the path of its plan, and the pairs of positions so far.
 ghost use Rattle.std.specs.Prelude.{◌≡◌, ◌+◌, ◌++◌, ◌∷◌, [], length, map, IfOk, OnOk};
 ghost use Rattle.std.specs.List.{range_with_len};
-ghost use Rattle.ac_paths.specs.Branching.{onto};
-ghost use Rattle.ac_paths.specs.Going.{at_rows, extended};
-ghost use Rattle.ac_graft.specs.Placings.{advanced, grown, itself};
-ghost use Rattle.ac_graft.specs.Sides.{on_side, side_of};
+ghost use Rattle.ac_claims_paths.specs.BranchPaths.{onto};
+ghost use Rattle.ac_claims_paths.specs.PathSteps.{at_rows, extended};
+ghost use Rattle.ac_claims_plans.specs.Embeddings.{advanced, grown, itself};
+ghost use Rattle.ac_claims_plans.specs.BranchSides.{on_side, side_of};
 
+use ac_base::Items;
+use ac_claims_paths::going::onto;
+use ac_claims_paths::path::{Branch, Path, Seat, at_rows};
+use ac_claims_plans::{Embedding, Part};
 use ac_forms::{Conj, Row, column_after, push_range};
-use ac_graft::{Part, Placing};
-use ac_items::Items;
-use ac_paths::going::onto;
-use ac_paths::path::{Branch, Path, Seat, at_rows};
 use std::alloc::{AllocError, Global};
 
 /// A question with its pair of positions, where it stands on the path of its plan, the pairs from the start on, the last one
@@ -18,8 +18,8 @@ use std::alloc::{AllocError, Global};
 #[derive(Drop)]
 pub(crate) struct Node {
     pub question: Path,
-    pub placing: Placing,
-    pub trail: Items<(Seat, Seat)>,
+    pub embedding: Embedding,
+    pub pair_path: Items<(Seat, Seat)>,
     pub known: Items<i128>,
 }
 
@@ -56,32 +56,32 @@ fn push_places(list: &mut Items<usize>, first: usize, offsets: &[usize]) -> Resu
     Ok(())
 }
 
-/// The placing on a side of a branch, where the question has the side's rows.
-fn on_side(placing: Placing, part: &Part) -> Result<Placing, AllocError>
-    ensures { IfOk result (λ made. made ≡ on_side placing part.now) }
+/// The embedding on a side of a branch, where the question has the side's rows.
+fn on_side(embedding: Embedding, part: &Part) -> Result<Embedding, AllocError>
+    ensures { IfOk result (λ made. made ≡ on_side embedding part.now) }
 {
-    let mut placing = placing;
-    let (column, row) = (placing.next_column, placing.next_row);
-    push_range(&mut placing.columns, column, part.question_columns)?;
-    push_places(&mut placing.rows, row, part.places.as_slice())?;
-    placing.advance(part.path_columns, part.path_rows)?;
-    Ok(placing)
+    let mut embedding = embedding;
+    let (column, row) = (embedding.next_column, embedding.next_row);
+    push_range(&mut embedding.columns, column, part.question_columns)?;
+    push_places(&mut embedding.rows, row, part.places.as_slice())?;
+    embedding.advance(part.path_columns, part.path_rows)?;
+    Ok(embedding)
 }
 
 impl Node {
     /// A start, on its own path.
     pub(crate) fn start(alloc: Global, path: Path) -> Result<Node, AllocError>
         ensures question { IfOk result (λ node. node.question ≡ path) }
-        ensures placing { IfOk result (λ node. node.placing ≡ itself path.conj.columns (length path.conj.rows)) }
-        ensures trail { IfOk result (λ node. node.trail ≡ (path.left, path.right) ∷ []) }
+        ensures embedding { IfOk result (λ node. node.embedding ≡ itself path.conj.columns (length path.conj.rows)) }
+        ensures pair_path { IfOk result (λ node. node.pair_path ≡ (path.left, path.right) ∷ []) }
     {
-        let placing = Placing::itself(alloc, path.conj.columns, path.conj.rows.len())?;
-        let mut trail = Items::new(alloc);
-        trail.push((path.left, path.right))?;
+        let embedding = Embedding::itself(alloc, path.conj.columns, path.conj.rows.len())?;
+        let mut pair_path = Items::new(alloc);
+        pair_path.push((path.left, path.right))?;
         Ok(Node {
             question: path,
-            placing,
-            trail,
+            embedding,
+            pair_path,
             known: Items::new(alloc),
         })
     }
@@ -92,8 +92,8 @@ impl Node {
     {
         Ok(Node {
             question: self.question.copy(alloc)?,
-            placing: self.placing.copy(alloc)?,
-            trail: Items::from_slice(alloc, self.trail.as_slice())?,
+            embedding: self.embedding.copy(alloc)?,
+            pair_path: Items::from_slice(alloc, self.pair_path.as_slice())?,
             known: Items::from_slice(alloc, self.known.as_slice())?,
         })
     }
@@ -101,20 +101,20 @@ impl Node {
     /// The same with a point of its question.
     pub(crate) fn knowing(self, point: Vec<i128>) -> Node
         ensures question { result.question ≡ self.question }
-        ensures placing { result.placing ≡ self.placing }
+        ensures embedding { result.embedding ≡ self.embedding }
         ensures known { result.known ≡ point.items }
-        ensures trail { result.trail ≡ self.trail }
+        ensures pair_path { result.pair_path ≡ self.pair_path }
     {
         let Node {
             question,
-            placing,
-            trail,
+            embedding,
+            pair_path,
             known: _,
         } = self;
         Node {
             question,
-            placing,
-            trail,
+            embedding,
+            pair_path,
             known: Items::from(point),
         }
     }
@@ -122,21 +122,21 @@ impl Node {
     /// Behind a branch of a step of the pair.
     pub(crate) fn behind(&self, alloc: Global, branch: Branch) -> Result<Node, AllocError>
         ensures question { IfOk result (λ node. node.question ≡ onto self.now.question branch) }
-        ensures placing { IfOk result (λ node. node.placing ≡ grown self.now.placing branch.columns (length branch.rows)) }
-        ensures trail { IfOk result (λ node. node.trail ≡ self.now.trail ++ (branch.left, branch.right) ∷ []) }
+        ensures embedding { IfOk result (λ node. node.embedding ≡ grown self.now.embedding branch.columns (length branch.rows)) }
+        ensures pair_path { IfOk result (λ node. node.pair_path ≡ self.now.pair_path ++ (branch.left, branch.right) ∷ []) }
     {
         let Node {
             question,
-            mut placing,
-            mut trail,
+            mut embedding,
+            mut pair_path,
             known,
         } = self.copy(alloc)?;
-        placing.grow(branch.columns, branch.rows.len())?;
-        trail.push((branch.left, branch.right))?;
+        embedding.grow(branch.columns, branch.rows.len())?;
+        pair_path.push((branch.left, branch.right))?;
         Ok(Node {
             question: onto(question, branch)?,
-            placing,
-            trail,
+            embedding,
+            pair_path,
             known,
         })
     }
@@ -144,21 +144,21 @@ impl Node {
     /// On one side of a branch on a row.
     pub(crate) fn within(&self, alloc: Global, part: &Part) -> Result<Node, AllocError>
         ensures question { IfOk result (λ node. node.question ≡ at_rows self.now.question (side_of self.now.question.conj part.now)) }
-        ensures placing { IfOk result (λ node. node.placing ≡ on_side self.now.placing part.now) }
-        ensures trail { IfOk result (λ node. node.trail ≡ self.now.trail) }
+        ensures embedding { IfOk result (λ node. node.embedding ≡ on_side self.now.embedding part.now) }
+        ensures pair_path { IfOk result (λ node. node.pair_path ≡ self.now.pair_path) }
     {
         let Node {
             question,
-            placing,
-            trail,
+            embedding,
+            pair_path,
             known,
         } = self.copy(alloc)?;
         let rows = with_rows(alloc, &question.conj, part.rows.as_slice())?.rows;
         let columns = column_after(question.conj.columns, part.question_columns)?;
         Ok(Node {
             question: at_rows(&question, Conj { columns, rows }),
-            placing: on_side(placing, part)?,
-            trail,
+            embedding: on_side(embedding, part)?,
+            pair_path,
             known,
         })
     }
@@ -171,20 +171,20 @@ impl Node {
         rows: &[Row],
     ) -> Result<Node, AllocError>
         ensures question { IfOk result (λ node. node.question ≡ at_rows self.now.question (extended self.now.question.conj columns rows.now)) }
-        ensures trail { IfOk result (λ node. node.trail ≡ self.now.trail) }
+        ensures pair_path { IfOk result (λ node. node.pair_path ≡ self.now.pair_path) }
     {
         let Node {
             question,
-            placing,
-            trail,
+            embedding,
+            pair_path,
             known,
         } = self.copy(alloc)?;
         let rows = with_rows(alloc, &question.conj, rows)?.rows;
         let columns = column_after(question.conj.columns, columns)?;
         Ok(Node {
             question: at_rows(&question, Conj { columns, rows }),
-            placing,
-            trail,
+            embedding,
+            pair_path,
             known,
         })
     }
@@ -192,11 +192,12 @@ impl Node {
     /// Where a row stands on the path behind a branch on it; the question stays.
     pub(crate) fn beyond(&self, alloc: Global, inside: &Part) -> Result<Node, AllocError>
         ensures question { IfOk result (λ node. node.question ≡ self.now.question) }
-        ensures placing { IfOk result (λ node. node.placing ≡ advanced self.now.placing inside.now.path_columns inside.now.path_rows) }
-        ensures trail { IfOk result (λ node. node.trail ≡ self.now.trail) }
+        ensures embedding { IfOk result (λ node. node.embedding ≡ advanced self.now.embedding inside.now.path_columns inside.now.path_rows) }
+        ensures pair_path { IfOk result (λ node. node.pair_path ≡ self.now.pair_path) }
     {
         let mut node = self.copy(alloc)?;
-        node.placing.advance(inside.path_columns, inside.path_rows)?;
+        node.embedding
+            .advance(inside.path_columns, inside.path_rows)?;
         Ok(node)
     }
 }

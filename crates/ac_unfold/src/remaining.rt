@@ -1,26 +1,26 @@
 //! The rows of a case over the columns of a question: of what is left of it, and of its kills.
 ghost use Rattle.std.specs.Prelude.{◌≡◌, IfOk, None, Some, true, IfErr};
 ghost use Rattle.ac_forms.specs.Renaming.{rows_renaming};
-ghost use Rattle.ac_paths.specs.Killing.{case_columns};
-ghost use Rattle.ac_paths.specs.declared.path.Assumed.{Assumed};
-ghost use Rattle.ac_leading.specs.Steps.{at_rest};
-ghost use Rattle.ac_unfold.specs.Asked.{kill_on};
-ghost use Rattle.ac_unfold.specs.Making.{judge_of};
-ghost use Rattle.ac_unfold.specs.Passing.{AreApart};
-ghost use Rattle.ac_unfold.specs.Stops.{HandsBack};
+ghost use Rattle.ac_claims_paths.specs.CopyKills.{case_columns};
+ghost use Rattle.ac_claims_paths.specs.declared.path.Assumed.{Assumed};
+ghost use Rattle.ac_widen_programs.specs.PairPathSteps.{at_rest};
+ghost use Rattle.ac_unfold.specs.UnfoldQuestions.{kill_on};
+ghost use Rattle.ac_unfold.specs.PlanResults.{judge_of};
+ghost use Rattle.ac_unfold.specs.KillTraversal.{AreApart};
+ghost use Rattle.ac_unfold.specs.UnfoldStops.{HandsBack};
 
-use crate::asking::{Answer, found};
+use crate::decide::{Answer, decide_point};
 use crate::ends::Search;
 use crate::node::{Node, with_rows};
 use crate::types::{UnfoldStop, freely};
 use crate::witness::continued;
+use ac_base::Items;
+use ac_claims_paths::killing::case_columns;
 use ac_forms::{Conj, FormStop, Row, push_range, renamed_rows};
-use ac_items::Items;
-use ac_paths::killing::case_columns;
 use std::alloc::{AllocError, Global};
 
 /// Rows over these columns of a question.
-#[tactic(auto, using(ac_paths::proofs::Moduli::rename_steps))]
+#[tactic(auto, using(ac_claims_paths::proofs::Moduli::rename_steps))]
 pub(crate) fn over_columns(
     alloc: Global,
     search: &Search<'_>,
@@ -46,7 +46,7 @@ pub(crate) fn at_remainder(
     rest: &Conj,
 ) -> Result<Node, UnfoldStop>
     ensures question { IfOk result (λ made. at_rest (judge_of search.now).params node.now.question rest.now ≡ Some made.question) }
-    ensures trail { IfOk result (λ made. made.trail ≡ node.now.trail) }
+    ensures pair_path { IfOk result (λ made. made.pair_path ≡ node.now.pair_path) }
     ensures causes { IfErr result (HandsBack node.now.question.conj (at_rest (judge_of search.now).params node.now.question rest.now ≡ None)) }
 {
     let Some(assumed) = &node.question.last else {
@@ -102,7 +102,7 @@ pub(crate) fn is_apart(
     if continued(alloc, &both, node.known.as_slice())?.is_some() {
         return Ok(false);
     }
-    match freely(found(alloc, &both, search.budget))? {
+    match freely(decide_point(alloc, &both, search.budget))? {
         Some(Answer::Empty(_)) => Ok(true),
         Some(Answer::Point(_)) | None => Ok(false),
     }

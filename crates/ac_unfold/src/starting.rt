@@ -1,66 +1,66 @@
 //! Where an unfolding starts: each pair of pieces of a claim.
 ghost use Rattle.std.specs.Prelude.{◌≡◌, ◌+◌, ◌++◌, [], IfOk, IfSome, List, None, OnOk, length, map, true, IfErr};
 ghost use Rattle.std.specs.List.{AllByRecursion, range_with_len};
-ghost use Rattle.ac_paths.specs.Calls.{pairing};
+ghost use Rattle.ac_claims_paths.specs.ModelCalls.{pairing};
 ghost use Rattle.ac_claims.specs.ProofFaults.{domain};
-ghost use Rattle.ac_claims.specs.Remaining.{count_by};
+ghost use Rattle.ac_claims.specs.RemainingPlans.{count_by};
 ghost use Rattle.ac_claims.specs.declared.types.Claim.{Claim as Asked};
 ghost use Rattle.ac_claims.specs.declared.types.ClaimTree.{ClaimTree as Tree};
-ghost use Rattle.ac_decided.specs.Stopping.{key_of};
-ghost use Rattle.ac_plan_heeds.specs.Heeded.{HaveClaimModuli, HeedsFromStart};
-ghost use Rattle.ac_plan_stops.specs.Stopped.{Stopped, StopsFrom};
-ghost use Rattle.ac_leading.specs.Leading.{Unfolding};
-ghost use Rattle.ac_leading.specs.Broken.{IsBroken};
-ghost use Rattle.ac_unfold.specs.Causes.{StopsUnfolding};
+ghost use Rattle.ac_unfold_plans.specs.PlanStops.{claim_positions};
+ghost use Rattle.ac_unfold_plans.specs.TabledUse.{HaveClaimModuli, UsesTabledFromStart};
+ghost use Rattle.ac_unfold_plans.specs.PairStops.{Stopped, StopsFrom};
+ghost use Rattle.ac_widen_programs.specs.PairPaths.{Unfolding};
+ghost use Rattle.ac_widen_programs.specs.BrokenPaths.{IsBroken};
+ghost use Rattle.ac_unfold.specs.UnfoldCauses.{StopsUnfolding};
 ghost use Rattle.ac_unfold.specs.Unfoldings.{IsUnfoldingOf};
-ghost use Rattle.ac_unfold.specs.Full.{nothing_found, FullUnder};
-ghost use Rattle.ac_unfold.specs.Making.{judge_of, IsGiven};
-ghost use Rattle.ac_unfold.specs.Missing.{FindsElse};
-ghost use Rattle.ac_unfold.specs.Paths.{IsPath, ArePlansOf};
-ghost use Rattle.ac_unfold.specs.Planned.{HasDomains, IfBroken, IfPlans, IsBrokenFrom};
-ghost use Rattle.ac_plans.specs.Due.{pairs_of, pieces_of, AreNumbered, StartsAccepted};
-ghost use Rattle.ac_unfold.specs.Plans.{IsSettled};
-ghost use Rattle.ac_unfold.specs.Begun.{AreBegun, IsBegun};
-ghost use Rattle.ac_unfold.specs.Searching.{AddsBroken, IsFrom};
-ghost use Rattle.ac_unfold.specs.Stopping.{IsStoppedAt};
-ghost use Rattle.ac_unfold.specs.Stands.{StartStands};
-ghost use Rattle.ac_unfold.specs.Stops.{StopsUnder};
-ghost use Rattle.ac_unfold.specs.Unbroken.{FindsNone, StandsAtStart, StandsBeside};
+ghost use Rattle.ac_unfold.specs.EndResults.{nothing_found, FullUnder};
+ghost use Rattle.ac_unfold.specs.PlanResults.{judge_of, IsGiven};
+ghost use Rattle.ac_unfold.specs.PlanGaps.{FindsElse};
+ghost use Rattle.ac_unfold.specs.UnfoldPaths.{IsPath, ArePlansOf};
+ghost use Rattle.ac_unfold.specs.StartResults.{HasDomains, IfBroken, IfPlans, IsBrokenFrom};
+ghost use Rattle.ac_claims_plans.specs.DuePlans.{pairs_of, pieces_of, AreNumbered, StartsAccepted};
+ghost use Rattle.ac_unfold.specs.ReadySetting.{IsSettled};
+ghost use Rattle.ac_unfold.specs.PiecePlans.{AreBegun, IsBegun};
+ghost use Rattle.ac_unfold.specs.BrokenPathResults.{AddsBroken, IsFrom};
+ghost use Rattle.ac_unfold.specs.SearchPlanStops.{IsStoppedAt};
+ghost use Rattle.ac_unfold.specs.UnbrokenStarts.{StartStands};
+ghost use Rattle.ac_unfold.specs.UnfoldStops.{StopsUnder};
+ghost use Rattle.ac_unfold.specs.UnbrokenResults.{FindsNone, StandsAtStart, StandsBeside};
 
-use crate::asking::{Opened, open_question};
+use crate::breaks::BrokenPaths;
+use crate::decide::{Opened, open_question};
 use crate::ends::Search;
-use crate::finding::Finds;
 use crate::node::Node;
-use crate::types::{Planned, Setting, UnfoldStop};
+use crate::types::{Planned, ProgramFlows, UnfoldStop};
 use crate::unfolding::{MOST_DEEP, visit};
+use ac_base::Items;
 use ac_claims::domains::size_at;
 use ac_claims::starts::start_at;
 use ac_claims::types::{Claim, ClaimTree, Plan};
-use ac_items::Items;
 use ac_syntax::tree::{Order, Site};
 use ac_widen::Entry;
 use std::alloc::{AllocError, Global};
 
 /// What an unfolding looks for.
 fn search_of<'a>(
-    setting: &'a Setting<'a>,
+    program_flows: &'a ProgramFlows<'a>,
     claims: &'a [Claim],
     tabled: &'a [Claim],
     base: usize,
     order: &'a [(Site, Order)],
     making: bool,
 ) -> Search<'a>
-    ensures setting { result.setting.now ≡ setting.now }
+    ensures program_flows { result.program_flows.now ≡ program_flows.now }
     ensures base { result.base ≡ base }
     ensures claims { result.claims.now ≡ claims.now }
     ensures tabled { result.tabled.now ≡ tabled.now }
     ensures order { result.order.now ≡ order.now }
     ensures making { result.making ≡ making }
-    ensures budget { result.budget ≡ setting.now.budget }
+    ensures budget { result.budget ≡ program_flows.now.budget }
 {
     Search {
-        setting,
-        budget: setting.budget,
+        program_flows,
+        budget: program_flows.budget,
         claims,
         tabled,
         base,
@@ -76,16 +76,16 @@ fn unfold_at(
     start: &Claim,
     left: usize,
     right: usize,
-    finds: &mut Finds,
+    found_paths: &mut BrokenPaths,
 ) -> Result<Option<Plan>, UnfoldStop>
-    ensures missing { IfOk result (λ made. FindsElse search.now made finds.old finds.new) }
+    ensures missing { IfOk result (λ made. FindsElse search.now made found_paths.old found_paths.new) }
     ensures begun { IfOk result (λ made. IfSome made (IsBegun search.now start.now left right)) }
-    ensures stands { OnOk result (FindsNone search.now finds.old finds.new → StandsAtStart search.now start.now left right) }
-    ensures broken { OnOk result (AddsBroken search.now (IsFrom start.now) finds.old finds.new) }
+    ensures stands { OnOk result (FindsNone search.now found_paths.old found_paths.new → StandsAtStart search.now start.now left right) }
+    ensures broken { OnOk result (AddsBroken search.now (IsFrom start.now) found_paths.old found_paths.new) }
     ensures causes { IfErr result (StopsUnder search.now (IsFrom start.now)) }
-    ensures full { IfErr result (FullUnder search.now (IsFrom start.now) finds.old) }
+    ensures full { IfErr result (FullUnder search.now (IsFrom start.now) found_paths.old) }
 {
-    let programs = &search.setting.programs;
+    let programs = &search.program_flows.programs;
     let Some(path) = start_at(alloc, programs, start, left, right)? else {
         return Err(UnfoldStop::Memory(AllocError));
     };
@@ -96,17 +96,21 @@ fn unfold_at(
     let question = open_question(alloc, node, search.budget, search.making)?;
     match question {
         Opened::Empty(plan) => Ok(plan),
-        Opened::On(node) => visit(alloc, search, node, finds, MOST_DEEP),
+        Opened::On(node) => visit(alloc, search, node, found_paths, MOST_DEEP),
     }
 }
 
 /// How many pieces the left position of a claim has, and the right one.
-fn pieces(alloc: Global, setting: &Setting<'_>, start: &Claim) -> Result<(usize, usize), AllocError>
-    ensures domains { IfOk result (λ counts. HasDomains (pairing setting.now.programs) start.now) }
-    ensures counts { IfOk result (λ counts. counts ≡ (count_by (domain setting.now.programs.left.now start.now.left), count_by (domain setting.now.programs.right.now start.now.right))) }
+fn pieces(
+    alloc: Global,
+    program_flows: &ProgramFlows<'_>,
+    start: &Claim,
+) -> Result<(usize, usize), AllocError>
+    ensures domains { IfOk result (λ counts. HasDomains (pairing program_flows.now.programs) start.now) }
+    ensures counts { IfOk result (λ counts. counts ≡ (count_by (domain program_flows.now.programs.left.now start.now.left), count_by (domain program_flows.now.programs.right.now start.now.right))) }
 {
-    let left = size_at(alloc, setting.programs.left, &start.left)?;
-    let right = size_at(alloc, setting.programs.right, &start.right)?;
+    let left = size_at(alloc, program_flows.programs.left, &start.left)?;
+    let right = size_at(alloc, program_flows.programs.right, &start.right)?;
     match (left, right) {
         (Some(left), Some(right)) => Ok((left.pieces, right.pieces)),
         _ => Err(AllocError),
@@ -120,15 +124,15 @@ fn find_beside(
     start: &Claim,
     left: usize,
     rights: usize,
-    finds: &mut Finds,
+    found_paths: &mut BrokenPaths,
 ) -> Result<(), UnfoldStop>
-    ensures stands { OnOk result (FindsNone search.now finds.old finds.new → StandsBeside search.now start.now left rights) }
-    ensures broken { OnOk result (AddsBroken search.now (IsFrom start.now) finds.old finds.new) }
+    ensures stands { OnOk result (FindsNone search.now found_paths.old found_paths.new → StandsBeside search.now start.now left rights) }
+    ensures broken { OnOk result (AddsBroken search.now (IsFrom start.now) found_paths.old found_paths.new) }
     ensures causes { IfErr result (StopsUnder search.now (IsFrom start.now)) }
-    ensures full { IfErr result (FullUnder search.now (IsFrom start.now) finds.old) }
+    ensures full { IfErr result (FullUnder search.now (IsFrom start.now) found_paths.old) }
 {
     for right in 0..rights {
-        let _none = unfold_at(alloc, search, start, left, right, finds)?;
+        let _none = unfold_at(alloc, search, start, left, right, found_paths)?;
     }
     Ok(())
 }
@@ -143,23 +147,23 @@ fn find_beside(
 /// other is a step from the one before it, by its number in the path; all are read off one point.
 pub fn broken_paths(
     alloc: Global,
-    setting: &Setting<'_>,
+    program_flows: &ProgramFlows<'_>,
     start: &Claim,
     claims: &[Claim],
     order: &[(Site, Order)],
 ) -> Result<Items<Items<Entry>>, UnfoldStop>
     ensures paths { IfOk result (AllByRecursion IsPath) }
-    ensures stands { IfOk result (λ paths. paths ≡ [] → (u : Unfolding) → IsUnfoldingOf setting.now start.now order.now u → StartStands u setting.now.left_flow.now setting.now.right_flow.now claims.now) }
-    ensures broken { IfOk result (λ paths. (u : Unfolding) → IsUnfoldingOf setting.now start.now order.now u → AllByRecursion (IsBroken u claims.now) paths) }
-    ensures causes { IfErr result (StopsUnfolding setting.now start.now claims.now order.now) }
+    ensures stands { IfOk result (λ paths. paths ≡ [] → (u : Unfolding) → IsUnfoldingOf program_flows.now start.now order.now u → StartStands u program_flows.now.left_flow.now program_flows.now.right_flow.now claims.now) }
+    ensures broken { IfOk result (λ paths. (u : Unfolding) → IsUnfoldingOf program_flows.now start.now order.now u → AllByRecursion (IsBroken u claims.now) paths) }
+    ensures causes { IfErr result (StopsUnfolding program_flows.now start.now claims.now order.now) }
 {
-    let search = search_of(setting, claims, &[], 0, order, false);
-    let (lefts, rights) = pieces(alloc, setting, start)?;
-    let mut finds = Finds::new(alloc);
+    let search = search_of(program_flows, claims, &[], 0, order, false);
+    let (lefts, rights) = pieces(alloc, program_flows, start)?;
+    let mut found_paths = BrokenPaths::new(alloc);
     for left in 0..lefts {
-        find_beside(alloc, &search, start, left, rights, &mut finds)?;
+        find_beside(alloc, &search, start, left, rights, &mut found_paths)?;
     }
-    Ok(finds.into_paths())
+    Ok(found_paths.into_paths())
 }
 
 /// Adds the plans from one piece of the left position, up to the first that can't be made: the path that is broken there.
@@ -182,10 +186,10 @@ fn push_trees(
     ensures causes { IfErr result (StopsUnder search.now (IsFrom start.now)) }
     ensures full { IfErr result (FullUnder search.now (IsFrom start.now) nothing_found) }
 {
-    let mut finds = Finds::new(alloc);
+    let mut found_paths = BrokenPaths::new(alloc);
     for right in 0..rights {
-        let Some(tree) = unfold_at(alloc, search, start, left, right, &mut finds)? else {
-            return Ok(Some(finds.into_first()));
+        let Some(tree) = unfold_at(alloc, search, start, left, right, &mut found_paths)? else {
+            return Ok(Some(found_paths.into_first()));
         };
         trees.push(ClaimTree {
             claim: number,
@@ -201,13 +205,13 @@ fn push_trees(
 /// claims of the list have the numbers from `base` on, and the tabled ones those behind them. A judge of proofs accepts each plan where
 /// the start begins at its pieces, against whatever claims these are among with their numbers. It stops at pairs of the list's claims:
 /// behind its first step it neither goes on from such a pair nor ends there at a number or an initial cell. At a pair of a tabled
-/// claim it ends only where that claim's rows are known to stand, and goes on elsewhere; so no path fails there. And it heeds the
+/// claim it ends only where that claim's rows are known to stand, and goes on elsewhere; so no path fails there. And it uses the
 /// tabled claims: followed by its steps alone from the start on, it goes on from no path on which a hit on one of them would be accepted.
 ///
 /// Where the start does not stand, a concrete path on which it fails, as those of `broken_paths`.
 pub fn claim_trees(
     alloc: Global,
-    setting: &Setting<'_>,
+    program_flows: &ProgramFlows<'_>,
     number: usize,
     start: &Claim,
     base: usize,
@@ -215,17 +219,17 @@ pub fn claim_trees(
     tabled: &[Claim],
     order: &[(Site, Order)],
 ) -> Result<Planned, UnfoldStop>
-    ensures broken { IfOk result (IfBroken (λ path. (u : Unfolding) → IsUnfoldingOf setting.now start.now order.now u → IsBroken u claims.now path)) }
-    ensures domains { IfOk result (IfPlans (λ trees. HasDomains (pairing setting.now.programs) start.now)) }
+    ensures broken { IfOk result (IfBroken (λ path. (u : Unfolding) → IsUnfoldingOf program_flows.now start.now order.now u → IsBroken u claims.now path)) }
+    ensures domains { IfOk result (IfPlans (λ trees. HasDomains (pairing program_flows.now.programs) start.now)) }
     ensures claim { IfOk result (IfPlans (λ trees. ArePlansOf number trees)) }
-    ensures pieces { IfOk result (IfPlans (λ trees. map pieces_of trees ≡ pairs_of (count_by (domain setting.now.programs.left.now start.now.left)) (count_by (domain setting.now.programs.right.now start.now.right)))) }
-    ensures accepted { IsSettled setting.now → IfOk result (IfPlans (λ trees. (cs : List Asked) → AreNumbered base claims.now cs → AreNumbered (base + length claims.now) tabled.now cs → AllByRecursion (StartsAccepted (pairing setting.now.programs) cs start.now) trees)) }
-    ensures heeds { IsSettled setting.now → HaveClaimModuli tabled.now → IfOk result (IfPlans (AllByRecursion (HeedsFromStart (pairing setting.now.programs) tabled.now start.now))) }
-    ensures stops { IfOk result (IfPlans (λ trees. (g : Stopped) → IsStoppedAt setting.now order.now base claims.now tabled.now g → AllByRecursion (λ (t : Tree). StopsFrom g (key_of start.now) t.tree) trees)) }
-    ensures causes { IfErr result (StopsUnfolding setting.now start.now claims.now order.now) }
+    ensures pieces { IfOk result (IfPlans (λ trees. map pieces_of trees ≡ pairs_of (count_by (domain program_flows.now.programs.left.now start.now.left)) (count_by (domain program_flows.now.programs.right.now start.now.right)))) }
+    ensures accepted { IsSettled program_flows.now → IfOk result (IfPlans (λ trees. (cs : List Asked) → AreNumbered base claims.now cs → AreNumbered (base + length claims.now) tabled.now cs → AllByRecursion (StartsAccepted (pairing program_flows.now.programs) cs start.now) trees)) }
+    ensures uses_tabled { IsSettled program_flows.now → HaveClaimModuli tabled.now → IfOk result (IfPlans (AllByRecursion (UsesTabledFromStart (pairing program_flows.now.programs) tabled.now start.now))) }
+    ensures stops { IfOk result (IfPlans (λ trees. (g : Stopped) → IsStoppedAt program_flows.now order.now base claims.now tabled.now g → AllByRecursion (λ (t : Tree). StopsFrom g (claim_positions start.now) t.tree) trees)) }
+    ensures causes { IfErr result (StopsUnfolding program_flows.now start.now claims.now order.now) }
 {
-    let search = search_of(setting, claims, tabled, base, order, true);
-    let counts = pieces(alloc, setting, start)?;
+    let search = search_of(program_flows, claims, tabled, base, order, true);
+    let counts = pieces(alloc, program_flows, start)?;
     let mut trees = Vec::new(alloc);
     for left in 0..counts.0 {
         let broken = push_trees(alloc, &search, number, start, left, counts.1, &mut trees)?;

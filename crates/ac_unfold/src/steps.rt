@@ -1,15 +1,15 @@
 //! Which step of a pair is taken: the order of two calls, and the flow of a read or an output.
 ghost use Rattle.std.specs.Prelude.{◌≡◌, IfSome, option_copied};
-ghost use Rattle.ac_forms.specs.Members.{IsAmong};
-ghost use Rattle.ac_paths.specs.Going.{seat_of};
-ghost use Rattle.ac_leading.specs.Steps.{flow_on};
-ghost use Rattle.ac_stopping.specs.Parts.{order_of};
-ghost use Rattle.ac_unfold.specs.Flows.{flow_at};
+ghost use Rattle.ac_forms.specs.ListMembers.{IsAmong};
+ghost use Rattle.ac_claims_paths.specs.PathSteps.{seat_of};
+ghost use Rattle.ac_widen_programs.specs.PairPathSteps.{flow_on};
+ghost use Rattle.ac_unfold_plans.specs.ArgumentOrders.{order_of};
+ghost use Rattle.ac_unfold.specs.PositionFlow.{flow_at};
 
-use crate::types::Setting;
+use crate::types::ProgramFlows;
 use ac_claims::ending::same_position;
+use ac_claims_paths::path::{Path, Side};
 use ac_flow::types::ReadFlow;
-use ac_paths::path::{Path, Side};
 use ac_syntax::tree::{Order, Position, Site};
 
 /// The order of a pair of calls: that of the first place of the list at which it stands, and `Keep` where there is none.
@@ -39,13 +39,23 @@ fn flow_at<'a>(flows: &'a [ReadFlow], position: &Position) -> Option<&'a ReadFlo
 }
 
 /// The flow of the read or output that stands on a side of a path: the first of its position, if the setting has one.
-pub fn flow_of<'a>(setting: &Setting<'a>, path: &Path, side: Side) -> Option<&'a ReadFlow>
-    ensures among { IfSome result (λ flow. IsAmong flow.now (flow_on setting.now.left_flow.now setting.now.right_flow.now side).reads) }
+pub fn flow_of<'a>(
+    program_flows: &ProgramFlows<'a>,
+    path: &Path,
+    side: Side,
+) -> Option<&'a ReadFlow>
+    ensures among { IfSome result (λ flow. IsAmong flow.now (flow_on program_flows.now.left_flow.now program_flows.now.right_flow.now side).reads) }
     ensures position { IfSome result (λ flow. flow.now.position ≡ (seat_of path.now side).position) }
-    ensures first { option_copied result ≡ flow_at (flow_on setting.now.left_flow.now setting.now.right_flow.now side).reads (seat_of path.now side).position }
+    ensures first { option_copied result ≡ flow_at (flow_on program_flows.now.left_flow.now program_flows.now.right_flow.now side).reads (seat_of path.now side).position }
 {
     match side {
-        Side::Left => flow_at(setting.left_flow.reads.as_slice(), &path.left.position),
-        Side::Right => flow_at(setting.right_flow.reads.as_slice(), &path.right.position),
+        Side::Left => flow_at(
+            program_flows.left_flow.reads.as_slice(),
+            &path.left.position,
+        ),
+        Side::Right => flow_at(
+            program_flows.right_flow.reads.as_slice(),
+            &path.right.position,
+        ),
     }
 }

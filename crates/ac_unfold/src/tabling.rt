@@ -3,20 +3,20 @@ ghost use Rattle.std.specs.Prelude.{◌≡◌, ◌+◌, IfOk, IfSome, None, fals
 ghost use Rattle.ac_forms.specs.Rows.{AreRowsOver, IsWellMade};
 ghost use Rattle.ac_forms.specs.Standing.{all_stand};
 ghost use Rattle.ac_claims.specs.declared.types.PlanNext.TheVariants.{Hit};
-ghost use Rattle.ac_plan_heeds.specs.Heeded.{HaveClaimModuli, PassesNone};
-ghost use Rattle.ac_unfold.specs.Cutting.{IsTabledBehind};
-ghost use Rattle.ac_unfold.specs.Heeding.{IsMissed};
-ghost use Rattle.ac_unfold.specs.Making.{judge_of, AreStanding, IsEndFor, IsMade};
+ghost use Rattle.ac_unfold_plans.specs.TabledUse.{HaveClaimModuli, PassesNone};
+ghost use Rattle.ac_unfold.specs.KillCuts.{IsTabledBehind};
+ghost use Rattle.ac_unfold.specs.TabledHits.{IsMissed};
+ghost use Rattle.ac_unfold.specs.PlanResults.{judge_of, AreStanding, IsEndFor, IsMade};
 
-use crate::asking::stands_in;
+use crate::breaks::BrokenPaths;
 use crate::claiming::{is_of, rows_at};
+use crate::decide::stands_in;
 use crate::ends::{Search, stand};
-use crate::finding::Finds;
 use crate::node::Node;
 use crate::types::freely;
 use ac_claims::types::{Plan, PlanNext};
+use ac_claims_plans::plan_of;
 use ac_forms::{Conj, Row, column_after};
-use ac_graft::plan_of;
 use std::alloc::{AllocError, Global};
 
 /// Whether each of some rows stands among those of a question.
@@ -51,7 +51,7 @@ fn hit_on(
     rows: &[Row],
 ) -> Result<Option<Plan>, AllocError>
     requires { IsEndFor search.now node.now.question rows.now (Hit (search.now.base + length search.now.claims.now + number)) }
-    ensures made { IfOk result (λ made. IfSome made (IsMade search.now node.now.placing node.now.question)) }
+    ensures made { IfOk result (λ made. IfSome made (IsMade search.now node.now.embedding node.now.question)) }
     ensures missed { IfOk result (λ made. made ≡ None → IsWellMade node.now.question.conj → AreRowsOver node.now.question.conj.columns rows.now → all_stand node.now.question.conj.rows rows.now ≡ false) }
 {
     let behind = number_of(search, number)?;
@@ -61,7 +61,7 @@ fn hit_on(
         return Ok(Some(plan_of(alloc, end)));
     }
     let again = node.copy(alloc)?;
-    let mut spare = Finds::new(alloc);
+    let mut spare = BrokenPaths::new(alloc);
     let asked = freely(stand(alloc, search, again, rows, end, &mut spare))?;
     match asked {
         Some(made) => Ok(made),
@@ -77,7 +77,7 @@ fn hit(
     number: usize,
 ) -> Result<Option<Plan>, AllocError>
     requires { IsTabledBehind search.now node.now.question number }
-    ensures made { IfOk result (λ made. IfSome made (IsMade search.now node.now.placing node.now.question)) }
+    ensures made { IfOk result (λ made. IfSome made (IsMade search.now node.now.embedding node.now.question)) }
     ensures missed { IfOk result (λ made. made ≡ None → IsWellMade node.now.question.conj → IsMissed search.now node.now.question number) }
 {
     let Some(claim) = search.tabled.get(number) else {
@@ -95,7 +95,7 @@ fn hit(
 fn first_hit(alloc: Global, search: &Search<'_>, node: &Node) -> Result<Option<Plan>, AllocError>
     requires gone { node.now.question.gone ≡ true }
     requires well { IsWellMade node.now.question.conj }
-    ensures made { IfOk result (λ made. IfSome made (IsMade search.now node.now.placing node.now.question)) }
+    ensures made { IfOk result (λ made. IfSome made (IsMade search.now node.now.embedding node.now.question)) }
     ensures none { IfOk result (λ made. made ≡ None → HaveClaimModuli search.now.tabled.now → PassesNone (judge_of search.now) search.now.tabled.now node.now.question) }
 {
     let (left, right) = (&node.question.left.position, &node.question.right.position);
@@ -120,7 +120,7 @@ pub(crate) fn tabled_hit(
     node: &Node,
 ) -> Result<Option<Plan>, AllocError>
     ensures making { IfOk result (λ made. IfSome made (λ plan. search.now.making ≡ true)) }
-    ensures made { IfOk result (λ made. IfSome made (IsMade search.now node.now.placing node.now.question)) }
+    ensures made { IfOk result (λ made. IfSome made (IsMade search.now node.now.embedding node.now.question)) }
     ensures none { IfOk result (λ made. made ≡ None → search.now.making ≡ true → HaveClaimModuli search.now.tabled.now → PassesNone (judge_of search.now) search.now.tabled.now node.now.question) }
 {
     if !search.making {

@@ -1,21 +1,21 @@
 //! What an unfolding is given, and what comes of it.
 ghost use Rattle.std.specs.Prelude.{◌≡◌, Err, IfErr, IfOk, IfSome, None, Ok};
-ghost use Rattle.ac_unfold.specs.GivenUp.{IsStop};
+ghost use Rattle.ac_unfold.specs.RecoverableStops.{IsStop};
 ghost use Rattle.ac_unfold.specs.declared.types.UnfoldStop.{UnfoldStop as Stop};
 ghost use Rattle.ac_unfold.specs.declared.types.UnfoldStop.TheVariants.{Memory};
 
+use ac_base::Items;
 use ac_claims::types::ClaimTree;
+use ac_claims_paths::path::Programs;
 use ac_flow::types::Flow;
 use ac_forms::Conj;
-use ac_items::Items;
-use ac_paths::path::Programs;
 use ac_widen::Entry;
 use std::alloc::{AllocError, AllocFailed};
 
 /// What the search knows of a pair: the models of both programs with the names that the pair declares commutative, and the
 /// exact dataflow of each.
 #[derive(Clone, Copy)]
-pub struct Setting<'a> {
+pub struct ProgramFlows<'a> {
     pub programs: Programs<'a>,
     pub left_flow: &'a Flow,
     pub right_flow: &'a Flow,

@@ -1,25 +1,25 @@
 //! The recursion of an unfolding: a pair by its kinds, the cases of a read, and what kills a case.
 ghost use Rattle.std.specs.Prelude.{◌≡◌, ◌+◌, IfErr, IfOk, IfSome, None, OnOk, Some, is_some, length, slice_get, true};
-ghost use Rattle.ac_paths.specs.Going.{model_of};
+ghost use Rattle.ac_claims_paths.specs.PathSteps.{model_of};
 ghost use Rattle.ac_syntax.specs.declared.tree.Order.TheVariants.{Keep};
-ghost use Rattle.ac_unfold.specs.Asked.{AreTwoCalls, GoesOn};
-ghost use Rattle.ac_unfold.specs.Cutting.{AreMadeOn, CutsMore, IsAssumed, IsKillThere, IsStep};
-ghost use Rattle.ac_unfold.specs.Full.{FullUnder};
-ghost use Rattle.ac_unfold.specs.Making.{judge_of, IsMade, IsMadeIn};
-ghost use Rattle.ac_unfold.specs.Missing.{FindsElse};
-ghost use Rattle.ac_unfold.specs.Passing.{AreKillRows, GoesWithin, IsKillRow, IsOutsideKills, SidesMiss};
-ghost use Rattle.ac_unfold.specs.Searching.{AddsBroken, IsAt, IsInCase, IsKindThere, IsPast};
-ghost use Rattle.ac_unfold.specs.Stopping.{MayStep};
-ghost use Rattle.ac_unfold.specs.Stops.{AreKillsRows, AreKillsSides, CutsOn, Follows, FollowsCase, FollowsCut, FollowsOn, IsKillsRow, StopsUnder};
-ghost use Rattle.ac_unfold.specs.Unbroken.{CaseStands, FindsNone, StandsIn};
+ghost use Rattle.ac_unfold.specs.UnfoldQuestions.{AreTwoCalls, GoesOn};
+ghost use Rattle.ac_unfold.specs.KillCuts.{AreMadeOn, CutsMore, IsAssumed, IsKillThere, IsStep};
+ghost use Rattle.ac_unfold.specs.EndResults.{FullUnder};
+ghost use Rattle.ac_unfold.specs.PlanResults.{judge_of, IsMade, IsMadeIn};
+ghost use Rattle.ac_unfold.specs.PlanGaps.{FindsElse};
+ghost use Rattle.ac_unfold.specs.KillTraversal.{AreKillRows, GoesWithin, IsKillRow, IsOutsideKills, SidesMiss};
+ghost use Rattle.ac_unfold.specs.BrokenPathResults.{AddsBroken, IsAt, IsInCase, IsKindThere, IsPast};
+ghost use Rattle.ac_unfold.specs.SearchPlanStops.{MayStep};
+ghost use Rattle.ac_unfold.specs.UnfoldStops.{AreKillsRows, AreKillsSides, CutsOn, Follows, FollowsCase, FollowsCut, FollowsOn, IsKillsRow, StopsUnder};
+ghost use Rattle.ac_unfold.specs.UnbrokenResults.{CaseStands, FindsNone, StandsIn};
 ghost use Rattle.ac_unfold.specs.declared.kinds.Next.TheVariants as kind;
 
-use crate::asking::{Opened, can_stand, open_question, stands_in};
+use crate::breaks::BrokenPaths;
 use crate::casing::assumes_case;
 use crate::claiming::{at_claim, claim_of};
 use crate::course::Course;
+use crate::decide::{Opened, can_stand, open_question, stands_in};
 use crate::ends::{Search, mismatch, refuted, stand};
-use crate::finding::Finds;
 use crate::killing::killed;
 use crate::kinds::{Next, next_of};
 use crate::node::Node;
@@ -28,12 +28,11 @@ use crate::steps::flow_of;
 use crate::tabling::tabled_hit;
 use crate::types::UnfoldStop;
 use ac_claims::types::{Kill, Plan};
+use ac_claims_paths::going::branches;
+use ac_claims_paths::path::{Path, Side};
+use ac_claims_plans::{Part, parts_of, step_plan};
 use ac_flow::types::{Case, ReadFlow};
 use ac_forms::{Row, column_after};
-use ac_graft::{Part, parts_of};
-use ac_paths::going::branches;
-use ac_paths::path::{Path, Side};
-use ac_plans::step_plan;
 use ac_poly::types::Model;
 use ac_syntax::tree::Order;
 use std::alloc::{AllocError, Global};
@@ -48,21 +47,21 @@ pub(crate) fn visit(
     alloc: Global,
     search: &Search<'_>,
     node: Node,
-    finds: &mut Finds,
+    found_paths: &mut BrokenPaths,
     room: usize,
 ) -> Result<Option<Plan>, UnfoldStop>
-    ensures missing { IfOk result (λ made. FindsElse search.now made finds.old finds.new) }
-    ensures made { IfOk result (λ made. IfSome made (IsMade search.now node.placing node.question)) }
-    ensures stands { OnOk result (FindsNone search.now finds.old finds.new → StandsIn search.now node.question) }
-    ensures broken { OnOk result (AddsBroken search.now (IsAt search.now node.trail node.question) finds.old finds.new) }
+    ensures missing { IfOk result (λ made. FindsElse search.now made found_paths.old found_paths.new) }
+    ensures made { IfOk result (λ made. IfSome made (IsMade search.now node.embedding node.question)) }
+    ensures stands { OnOk result (FindsNone search.now found_paths.old found_paths.new → StandsIn search.now node.question) }
+    ensures broken { OnOk result (AddsBroken search.now (IsAt search.now node.pair_path node.question) found_paths.old found_paths.new) }
     ensures causes { IfErr result (StopsUnder search.now (Follows search.now node.question)) }
-    ensures full { IfErr result (FullUnder search.now (IsAt search.now node.trail node.question) finds.old) }
+    ensures full { IfErr result (FullUnder search.now (IsAt search.now node.pair_path node.question) found_paths.old) }
 {
     if room == 0 {
         return Err(UnfoldStop::Memory(AllocError));
     }
     if let Some(number) = claim_of(search, &node.question) {
-        return at_claim(alloc, search, node, number, finds);
+        return at_claim(alloc, search, node, number, found_paths);
     }
     let tabled = tabled_hit(alloc, search, &node)?;
     if let Some(plan) = tabled {
@@ -70,10 +69,10 @@ pub(crate) fn visit(
     }
     let next = next_of(alloc, search, &node)?;
     match next {
-        Next::Read(side) => read(alloc, search, &node, side, finds, room - 1),
-        Next::Calls(order) => calls(alloc, search, &node, order, finds, room - 1),
-        Next::Match(rows, end) => stand(alloc, search, node, rows.as_slice(), end, finds),
-        Next::Mismatch => mismatch(alloc, search, &node, finds),
+        Next::Read(side) => read(alloc, search, &node, side, found_paths, room - 1),
+        Next::Calls(order) => calls(alloc, search, &node, order, found_paths, room - 1),
+        Next::Match(rows, end) => stand(alloc, search, node, rows.as_slice(), end, found_paths),
+        Next::Mismatch => mismatch(alloc, search, &node, found_paths),
     }
 }
 
@@ -84,28 +83,28 @@ fn calls(
     search: &Search<'_>,
     node: &Node,
     order: Order,
-    finds: &mut Finds,
+    found_paths: &mut BrokenPaths,
     room: usize,
 ) -> Result<Option<Plan>, UnfoldStop>
     requires kind { IsKindThere search.now node.now.question (kind.Calls order) }
     requires calls { AreTwoCalls (judge_of search.now) node.now.question }
-    ensures missing { IfOk result (λ made. FindsElse search.now made finds.old finds.new) }
-    ensures made { IfOk result (λ made. IfSome made (λ t. MayStep search.now node.now.question order → IsMade search.now node.now.placing node.now.question t)) }
-    ensures stands { GoesOn search.now.claims.now node.now.question → OnOk result (FindsNone search.now finds.old finds.new → StandsIn search.now node.now.question) }
-    ensures broken { OnOk result (AddsBroken search.now (IsPast search.now node.now.trail node.now.question) finds.old finds.new) }
+    ensures missing { IfOk result (λ made. FindsElse search.now made found_paths.old found_paths.new) }
+    ensures made { IfOk result (λ made. IfSome made (λ t. MayStep search.now node.now.question order → IsMade search.now node.now.embedding node.now.question t)) }
+    ensures stands { GoesOn search.now.claims.now node.now.question → OnOk result (FindsNone search.now found_paths.old found_paths.new → StandsIn search.now node.now.question) }
+    ensures broken { OnOk result (AddsBroken search.now (IsPast search.now node.now.pair_path node.now.question) found_paths.old found_paths.new) }
     ensures causes { IfErr result (StopsUnder search.now (FollowsOn search.now node.now.question)) }
-    ensures full { IfErr result (FullUnder search.now (IsPast search.now node.now.trail node.now.question) finds.old) }
+    ensures full { IfErr result (FullUnder search.now (IsPast search.now node.now.pair_path node.now.question) found_paths.old) }
 {
     if room == 0 {
         return Err(UnfoldStop::Memory(AllocError));
     }
-    let Some(found) = branches(alloc, &search.setting.programs, order, &node.question)? else {
+    let Some(found) = branches(alloc, &search.program_flows.programs, order, &node.question)? else {
         return Err(search.too_wide(alloc, node));
     };
     let mut cases = Vec::new(alloc);
     for branch in found.into_vec() {
         let child = node.behind(alloc, branch)?;
-        let made = visit(alloc, search, child, finds, room - 1)?;
+        let made = visit(alloc, search, child, found_paths, room - 1)?;
         match made {
             Some(plan) => {
                 cases.push(plan)?;
@@ -141,25 +140,25 @@ fn read(
     search: &Search<'_>,
     node: &Node,
     side: Side,
-    finds: &mut Finds,
+    found_paths: &mut BrokenPaths,
     room: usize,
 ) -> Result<Option<Plan>, UnfoldStop>
     requires { IsKindThere search.now node.now.question (kind.Read side) }
-    ensures missing { IfOk result (λ made. FindsElse search.now made finds.old finds.new) }
-    ensures made { IfOk result (λ made. IfSome made (λ t. MayStep search.now node.now.question Keep → IsMade search.now node.now.placing node.now.question t)) }
-    ensures stands { GoesOn search.now.claims.now node.now.question → OnOk result (FindsNone search.now finds.old finds.new → StandsIn search.now node.now.question) }
-    ensures broken { OnOk result (AddsBroken search.now (IsPast search.now node.now.trail node.now.question) finds.old finds.new) }
+    ensures missing { IfOk result (λ made. FindsElse search.now made found_paths.old found_paths.new) }
+    ensures made { IfOk result (λ made. IfSome made (λ t. MayStep search.now node.now.question Keep → IsMade search.now node.now.embedding node.now.question t)) }
+    ensures stands { GoesOn search.now.claims.now node.now.question → OnOk result (FindsNone search.now found_paths.old found_paths.new → StandsIn search.now node.now.question) }
+    ensures broken { OnOk result (AddsBroken search.now (IsPast search.now node.now.pair_path node.now.question) found_paths.old found_paths.new) }
     ensures causes { IfErr result (StopsUnder search.now (FollowsOn search.now node.now.question)) }
-    ensures full { IfErr result (FullUnder search.now (IsPast search.now node.now.trail node.now.question) finds.old) }
+    ensures full { IfErr result (FullUnder search.now (IsPast search.now node.now.pair_path node.now.question) found_paths.old) }
 {
     if room == 0 {
         return Err(UnfoldStop::Memory(AllocError));
     }
-    let programs = &search.setting.programs;
+    let programs = &search.program_flows.programs;
     let Some(found) = branches(alloc, programs, Order::Keep, &node.question)? else {
         return Err(search.too_wide(alloc, node));
     };
-    let Some(flow) = flow_of(search.setting, &node.question, side) else {
+    let Some(flow) = flow_of(search.program_flows, &node.question, side) else {
         return Err(UnfoldStop::Memory(AllocError));
     };
     let mut plans = Vec::new(alloc);
@@ -170,7 +169,7 @@ fn read(
             return Err(UnfoldStop::Memory(AllocError));
         };
         number = column_after(number, 1)?;
-        let made = enter(alloc, search, child, case, finds, room - 1)?;
+        let made = enter(alloc, search, child, case, found_paths, room - 1)?;
         match made {
             Some(plan) => {
                 plans.push(plan)?;
@@ -191,7 +190,7 @@ fn read(
 fn model_on<'a>(search: &Search<'a>, side: Side) -> &'a Model
     ensures { result.now ≡ model_of (judge_of search.now) side }
 {
-    let programs = &search.setting.programs;
+    let programs = &search.program_flows.programs;
     match side {
         Side::Left => programs.left,
         Side::Right => programs.right,
@@ -229,26 +228,26 @@ fn enter(
     search: &Search<'_>,
     node: Node,
     case: &Case,
-    finds: &mut Finds,
+    found_paths: &mut BrokenPaths,
     room: usize,
 ) -> Result<Option<Plan>, UnfoldStop>
-    ensures missing { IfOk result (λ made. FindsElse search.now made finds.old finds.new) }
-    ensures made { IfOk result (λ made. IfSome made (IsMadeIn search.now case.now node.placing node.question)) }
-    ensures stands { OnOk result (FindsNone search.now finds.old finds.new → CaseStands search.now case.now node.question) }
-    ensures broken { OnOk result (AddsBroken search.now (IsInCase search.now case.now node.trail node.question) finds.old finds.new) }
+    ensures missing { IfOk result (λ made. FindsElse search.now made found_paths.old found_paths.new) }
+    ensures made { IfOk result (λ made. IfSome made (IsMadeIn search.now case.now node.embedding node.question)) }
+    ensures stands { OnOk result (FindsNone search.now found_paths.old found_paths.new → CaseStands search.now case.now node.question) }
+    ensures broken { OnOk result (AddsBroken search.now (IsInCase search.now case.now node.pair_path node.question) found_paths.old found_paths.new) }
     ensures causes { IfErr result (StopsUnder search.now (FollowsCase search.now case.now node.question)) }
-    ensures full { IfErr result (FullUnder search.now (IsInCase search.now case.now node.trail node.question) finds.old) }
+    ensures full { IfErr result (FullUnder search.now (IsInCase search.now case.now node.pair_path node.question) found_paths.old) }
 {
     if room == 0 {
         return Err(UnfoldStop::Memory(AllocError));
     }
     if !search.making {
-        return remainders(alloc, search, &node, case, finds, room - 1);
+        return remainders(alloc, search, &node, case, found_paths, room - 1);
     }
     let question = open_question(alloc, node, search.budget, true)?;
     match question {
         Opened::Empty(plan) => Ok(plan),
-        Opened::On(node) => kills(alloc, search, node, case, 0, finds, room - 1),
+        Opened::On(node) => kills(alloc, search, node, case, 0, found_paths, room - 1),
     }
 }
 
@@ -259,14 +258,14 @@ fn remainders(
     search: &Search<'_>,
     node: &Node,
     case: &Case,
-    finds: &mut Finds,
+    found_paths: &mut BrokenPaths,
     room: usize,
 ) -> Result<Option<Plan>, UnfoldStop>
     ensures none { IfOk result (λ made. made ≡ None) }
-    ensures stands { OnOk result (FindsNone search.now finds.old finds.new → CaseStands search.now case.now node.now.question) }
-    ensures broken { OnOk result (AddsBroken search.now (IsInCase search.now case.now node.now.trail node.now.question) finds.old finds.new) }
+    ensures stands { OnOk result (FindsNone search.now found_paths.old found_paths.new → CaseStands search.now case.now node.now.question) }
+    ensures broken { OnOk result (AddsBroken search.now (IsInCase search.now case.now node.now.pair_path node.now.question) found_paths.old found_paths.new) }
     ensures causes { IfErr result (StopsUnder search.now (FollowsCase search.now case.now node.now.question)) }
-    ensures full { IfErr result (FullUnder search.now (IsInCase search.now case.now node.now.trail node.now.question) finds.old) }
+    ensures full { IfErr result (FullUnder search.now (IsInCase search.now case.now node.now.pair_path node.now.question) found_paths.old) }
 {
     if room == 0 {
         return Err(UnfoldStop::Memory(AllocError));
@@ -277,7 +276,7 @@ fn remainders(
         match question {
             Opened::Empty(_) => continue,
             Opened::On(child) => {
-                let _none = visit(alloc, search, child, finds, room - 1)?;
+                let _none = visit(alloc, search, child, found_paths, room - 1)?;
                 continue;
             }
         }
@@ -293,20 +292,20 @@ fn kills(
     node: Node,
     case: &Case,
     number: usize,
-    finds: &mut Finds,
+    found_paths: &mut BrokenPaths,
     room: usize,
 ) -> Result<Option<Plan>, UnfoldStop>
-    ensures broken { OnOk result (AddsBroken search.now (IsOutsideKills search.now case.now number node.trail node.question) finds.old finds.new) }
-    ensures missing { IfOk result (λ made. FindsElse search.now made finds.old finds.new) }
-    ensures made { IfOk result (λ made. IfSome made (IsMadeIn search.now case.now node.placing node.question)) }
+    ensures broken { OnOk result (AddsBroken search.now (IsOutsideKills search.now case.now number node.pair_path node.question) found_paths.old found_paths.new) }
+    ensures missing { IfOk result (λ made. FindsElse search.now made found_paths.old found_paths.new) }
+    ensures made { IfOk result (λ made. IfSome made (IsMadeIn search.now case.now node.embedding node.question)) }
     ensures causes { IfErr result (StopsUnder search.now (FollowsCut search.now case.now node.question)) }
-    ensures full { IfErr result (FullUnder search.now (IsOutsideKills search.now case.now number node.trail node.question) finds.old) }
+    ensures full { IfErr result (FullUnder search.now (IsOutsideKills search.now case.now number node.pair_path node.question) found_paths.old) }
 {
     if room == 0 {
         return Err(UnfoldStop::Memory(AllocError));
     }
     let Some(kill) = case.kills.get(number) else {
-        return survivor(alloc, search, node, case, finds, room - 1);
+        return survivor(alloc, search, node, case, found_paths, room - 1);
     };
     let rows = kill_rows(alloc, search, &node, &kill.0)?;
     let apart = is_apart(alloc, search, &node, rows.as_slice())?;
@@ -317,7 +316,7 @@ fn kills(
             node,
             case,
             number.saturating_add(1),
-            finds,
+            found_paths,
             room - 1,
         );
     }
@@ -329,7 +328,7 @@ fn kills(
         number,
         &kill.1,
         rows.as_slice(),
-        finds,
+        found_paths,
         room - 1,
     )
 }
@@ -341,22 +340,22 @@ fn survivor(
     search: &Search<'_>,
     node: Node,
     case: &Case,
-    finds: &mut Finds,
+    found_paths: &mut BrokenPaths,
     room: usize,
 ) -> Result<Option<Plan>, UnfoldStop>
-    ensures broken { OnOk result (AddsBroken search.now (IsOutsideKills search.now case.now (length case.now.kills) node.trail node.question) finds.old finds.new) }
-    ensures missing { IfOk result (λ made. FindsElse search.now made finds.old finds.new) }
-    ensures made { IfOk result (λ made. IfSome made (IsMade search.now node.placing node.question)) }
+    ensures broken { OnOk result (AddsBroken search.now (IsOutsideKills search.now case.now (length case.now.kills) node.pair_path node.question) found_paths.old found_paths.new) }
+    ensures missing { IfOk result (λ made. FindsElse search.now made found_paths.old found_paths.new) }
+    ensures made { IfOk result (λ made. IfSome made (IsMade search.now node.embedding node.question)) }
     ensures causes { IfErr result (StopsUnder search.now (FollowsCut search.now case.now node.question)) }
-    ensures full { IfErr result (FullUnder search.now (IsOutsideKills search.now case.now (length case.now.kills) node.trail node.question) finds.old) }
+    ensures full { IfErr result (FullUnder search.now (IsOutsideKills search.now case.now (length case.now.kills) node.pair_path node.question) found_paths.old) }
 {
     if room == 0 {
         return Err(UnfoldStop::Memory(AllocError));
     }
     if case.pieces.is_empty() {
-        return refuted(alloc, search, &node, finds);
+        return refuted(alloc, search, &node, found_paths);
     }
-    visit(alloc, search, node, finds, room - 1)
+    visit(alloc, search, node, found_paths, room - 1)
 }
 
 /// Branches on the rows of a kill: outside them with the next kill, and where all of them stand the place is killed.
@@ -369,23 +368,32 @@ fn cut(
     number: usize,
     kill: &Kill,
     rows: &[Row],
-    finds: &mut Finds,
+    found_paths: &mut BrokenPaths,
     room: usize,
 ) -> Result<Option<Plan>, UnfoldStop>
     requires numbered { AreKillRows search.now case.now number node.question rows.now }
     requires there { AreKillsRows search.now case.now node.question rows.now }
-    ensures broken { OnOk result (AddsBroken search.now (IsOutsideKills search.now case.now number node.trail node.question) finds.old finds.new) }
-    ensures missing { IfOk result (λ made. FindsElse search.now made finds.old finds.new) }
-    ensures made { IfOk result (λ made. IfSome made (λ t. IsKillThere search.now node.question case.now kill.now rows.now → IsMadeIn search.now case.now node.placing node.question t)) }
+    ensures broken { OnOk result (AddsBroken search.now (IsOutsideKills search.now case.now number node.pair_path node.question) found_paths.old found_paths.new) }
+    ensures missing { IfOk result (λ made. FindsElse search.now made found_paths.old found_paths.new) }
+    ensures made { IfOk result (λ made. IfSome made (λ t. IsKillThere search.now node.question case.now kill.now rows.now → IsMadeIn search.now case.now node.embedding node.question t)) }
     ensures causes { IfErr result (StopsUnder search.now (FollowsCut search.now case.now node.question)) }
-    ensures full { IfErr result (FullUnder search.now (IsOutsideKills search.now case.now number node.trail node.question) finds.old) }
+    ensures full { IfErr result (FullUnder search.now (IsOutsideKills search.now case.now number node.pair_path node.question) found_paths.old) }
 {
     if room == 0 {
         return Err(UnfoldStop::Memory(AllocError));
     }
     let mut course = Course::new(alloc, node);
     for row in rows {
-        let made = cut_row(alloc, search, course, case, number, row, finds, room - 1)?;
+        let made = cut_row(
+            alloc,
+            search,
+            course,
+            case,
+            number,
+            row,
+            found_paths,
+            room - 1,
+        )?;
         match made {
             Some(next) => {
                 course = next;
@@ -408,18 +416,18 @@ fn cut_row(
     case: &Case,
     number: usize,
     row: &Row,
-    finds: &mut Finds,
+    found_paths: &mut BrokenPaths,
     room: usize,
 ) -> Result<Option<Course>, UnfoldStop>
     requires numbered { IsKillRow search.now case.now number course.node.question row.now }
     requires there { IsKillsRow search.now case.now course.node.question row.now }
-    ensures broken { OnOk result (AddsBroken search.now (IsOutsideKills search.now case.now number course.node.trail course.node.question) finds.old finds.new) }
-    ensures missing { IfOk result (λ made. FindsElse search.now made finds.old finds.new) }
+    ensures broken { OnOk result (AddsBroken search.now (IsOutsideKills search.now case.now number course.node.pair_path course.node.question) found_paths.old found_paths.new) }
+    ensures missing { IfOk result (λ made. FindsElse search.now made found_paths.old found_paths.new) }
     ensures within { IfOk result (λ made. IfSome made (λ next. GoesWithin course.node next.node)) }
     ensures made { IfOk result (λ made. IfSome made (CutsMore search.now case.now course row.now)) }
     ensures cuts { IfOk result (λ made. IfSome made (λ next. CutsOn search.now case.now course.node next.node)) }
     ensures causes { IfErr result (StopsUnder search.now (FollowsCut search.now case.now course.node.question)) }
-    ensures full { IfErr result (FullUnder search.now (IsOutsideKills search.now case.now number course.node.trail course.node.question) finds.old) }
+    ensures full { IfErr result (FullUnder search.now (IsOutsideKills search.now case.now number course.node.pair_path course.node.question) found_paths.old) }
 {
     if room == 0 {
         return Err(UnfoldStop::Memory(AllocError));
@@ -443,7 +451,7 @@ fn cut_row(
         case,
         number,
         parted,
-        finds,
+        found_paths,
         room - 1,
     )?;
     match made {
@@ -464,16 +472,16 @@ fn outsides(
     case: &Case,
     number: usize,
     parts: &[Part],
-    finds: &mut Finds,
+    found_paths: &mut BrokenPaths,
     room: usize,
 ) -> Result<Option<Vec<Plan>>, UnfoldStop>
     requires miss { SidesMiss search.now case.now number node.now.question parts.now }
     requires there { AreKillsSides search.now case.now node.now.question parts.now }
-    ensures broken { OnOk result (AddsBroken search.now (IsOutsideKills search.now case.now number node.now.trail node.now.question) finds.old finds.new) }
-    ensures missing { IfOk result (λ made. FindsElse search.now made finds.old finds.new) }
-    ensures made { IfOk result (λ made. IfSome made (λ plans. AreMadeOn search.now case.now node.now.placing node.now.question parts.now plans.items)) }
+    ensures broken { OnOk result (AddsBroken search.now (IsOutsideKills search.now case.now number node.now.pair_path node.now.question) found_paths.old found_paths.new) }
+    ensures missing { IfOk result (λ made. FindsElse search.now made found_paths.old found_paths.new) }
+    ensures made { IfOk result (λ made. IfSome made (λ plans. AreMadeOn search.now case.now node.now.embedding node.now.question parts.now plans.items)) }
     ensures causes { IfErr result (StopsUnder search.now (FollowsCut search.now case.now node.now.question)) }
-    ensures full { IfErr result (FullUnder search.now (IsOutsideKills search.now case.now number node.now.trail node.now.question) finds.old) }
+    ensures full { IfErr result (FullUnder search.now (IsOutsideKills search.now case.now number node.now.pair_path node.now.question) found_paths.old) }
 {
     if room == 0 {
         return Err(UnfoldStop::Memory(AllocError));
@@ -481,7 +489,7 @@ fn outsides(
     let mut plans = Vec::new(alloc);
     for part in parts {
         let beside = node.within(alloc, part)?;
-        let made = outside_of(alloc, search, beside, case, number, finds, room - 1)?;
+        let made = outside_of(alloc, search, beside, case, number, found_paths, room - 1)?;
         match made {
             Some(plan) => {
                 plans.push(plan)?;
@@ -501,14 +509,14 @@ fn outside_of(
     node: Node,
     case: &Case,
     number: usize,
-    finds: &mut Finds,
+    found_paths: &mut BrokenPaths,
     room: usize,
 ) -> Result<Option<Plan>, UnfoldStop>
-    ensures broken { OnOk result (AddsBroken search.now (IsOutsideKills search.now case.now (number + 1) node.trail node.question) finds.old finds.new) }
-    ensures missing { IfOk result (λ made. FindsElse search.now made finds.old finds.new) }
-    ensures made { IfOk result (λ made. IfSome made (IsMadeIn search.now case.now node.placing node.question)) }
+    ensures broken { OnOk result (AddsBroken search.now (IsOutsideKills search.now case.now (number + 1) node.pair_path node.question) found_paths.old found_paths.new) }
+    ensures missing { IfOk result (λ made. FindsElse search.now made found_paths.old found_paths.new) }
+    ensures made { IfOk result (λ made. IfSome made (IsMadeIn search.now case.now node.embedding node.question)) }
     ensures causes { IfErr result (StopsUnder search.now (FollowsCut search.now case.now node.question)) }
-    ensures full { IfErr result (FullUnder search.now (IsOutsideKills search.now case.now (number + 1) node.trail node.question) finds.old) }
+    ensures full { IfErr result (FullUnder search.now (IsOutsideKills search.now case.now (number + 1) node.pair_path node.question) found_paths.old) }
 {
     if room == 0 {
         return Err(UnfoldStop::Memory(AllocError));
@@ -523,7 +531,7 @@ fn outside_of(
                 node,
                 case,
                 number.saturating_add(1),
-                finds,
+                found_paths,
                 room - 1,
             )
         }

@@ -2,7 +2,7 @@
 use Rattle.std.proofs.Common.{◌≡◌, ℕ, ℤ, List, length, Option, sym, ap, subst, ◌∙◌}
 use Rattle.ac_forms.specs.Rows.{Meets}
 use Rattle.ac_forms.specs.declared.conj.Conj.{Conj}
-use Rattle.ac_refutations.specs.declared.strategy.Strategy.TheVariants.{Full}
+use Rattle.ac_omega_certify.specs.declared.strategy.Strategy.TheVariants.{Full}
 use Rattle.ac_omega.specs.Decisions.{walk_of, EndsAt}
 use Rattle.ac_syntax.specs.declared.tree.Pair.{Pair}
 use Rattle.ac_poly.specs.declared.types.Model.{Model}
@@ -17,7 +17,7 @@ use Rattle.ac_flow.specs.declared.types.FlowStop.{FlowStop}
 use Rattle.ac_flow.specs.declared.types.FlowStop.TheVariants as flow
 use Rattle.ac_report.specs.declared.types.Cause.{Cause}
 use Rattle.ac_report.specs.declared.types.Verdict.{Verdict}
-use Rattle.ac_walk.specs.Causes.{AreUnknown, HasFlow, HasValuation, IsAnswered, context_stopped, left_stopped, right_stopped, cause_of, context_cause_of, left_model, right_model}
+use Rattle.ac_walk.specs.UnknownCauses.{AreUnknown, HasFlow, HasValuation, IsAnswered, context_stopped, left_stopped, right_stopped, cause_of, context_cause_of, left_model, right_model}
 
 -- the same stop of a question, of the context or of a flow, has the same cause
 pub same_overflow : (stop : ContextStop) (as_flow : FlowStop) (q : Conj) → stop ≡ context.Overflow q → as_flow ≡ flow.Overflow q → cause_of as_flow ≡ context_cause_of stop

@@ -1,7 +1,7 @@
 -- What the models of a pair are, and what an empty context says.
 use Rattle.std.proofs.Common.{◌≡◌, ℕ, ℤ, List, sym, subst}
 use Rattle.ac_syntax.specs.Outputs.{IsValuation}
-use Rattle.ac_syntax.specs.Ready.{FitParts}
+use Rattle.ac_syntax.specs.ReadyPrograms.{FitParts}
 use Rattle.ac_syntax.specs.declared.tree.Pair.{Pair}
 use Rattle.ac_poly.specs.Model.{model_of}
 use Rattle.ac_poly.specs.declared.types.Model.{Model}
@@ -10,7 +10,7 @@ use Rattle.ac_flow.specs.Contexts.{ContextStops}
 use Rattle.ac_flow.specs.Readers.{IsLowered}
 use Rattle.ac_flow.specs.declared.types.ContextStop.TheVariants.{EmptyContext}
 use Rattle.ac_claims.specs.Soundness.{ArePaired, AreModels}
-use Rattle.ac_walk.specs.Causes.{left_model}
+use Rattle.ac_walk.specs.UnknownCauses.{left_model}
 
 pub left_lowered : (pair : Pair) (m : Model) → ArePaired pair → m ≡ model_of pair.left pair.context → IsLowered m
 left_lowered pair m t e = record { program = pair.left; context = pair.context; ready = t.left; fit = t.context; is = e }

@@ -3,20 +3,20 @@ use Rattle.std.proofs.Common.{◌≡◌, ℕ, zero, suc, ℤ, List, [], ◌∷�
 use Rattle.std.specs.Prelude.{option_and_then, option_map, slice_get}
 use Rattle.std.specs.List.{list_all}
 use Rattle.std.specs.declared.alloc.AllocError.{AllocError}
-use Rattle.ac_syntax.specs.Checked.{checked_value, checked_holds}
+use Rattle.ac_syntax.specs.CheckedArithmetic.{checked_value, checked_holds}
 use Rattle.ac_syntax.specs.Index.{Point, point, index_value, rel_holds, comparison_holds}
-use Rattle.ac_syntax.specs.Ready.{ReadyAll}
+use Rattle.ac_syntax.specs.ReadyPrograms.{ReadyAll}
 use Rattle.ac_syntax.specs.declared.tree.Comparison.{Comparison}
 use Rattle.ac_syntax.specs.declared.tree.Pair.{Pair}
 use Rattle.ac_syntax.proofs.Exact.{checked_exact}
 use Rattle.ac_claims.specs.Soundness.{ArePaired}
-use Rattle.ac_instance.specs.Answers.{IsReadyAt, IsAnswer, IsOutcome, everything, in_context, due, AreOutcomes, compared}
+use Rattle.ac_instance.specs.ComparisonAnswers.{IsReadyAt, IsAnswer, IsOutcome, everything, in_context, due, AreOutcomes, compared}
 use Rattle.ac_instance.specs.Events.{reached}
 use Rattle.ac_instance.specs.Least.{Looked, IsLeast}
 use Rattle.ac_instance.specs.declared.halt.Outcome.{Outcome}
 use Rattle.ac_instance.specs.declared.halt.Outcome.TheVariants.{Different}
 use Rattle.ac_instance.specs.declared.halt.Ran.{Ran}
-use Rattle.ac_walk.specs.Deciding.{AreDifferent}
+use Rattle.ac_walk.specs.OutputDecisions.{AreDifferent}
 
 -- a valuation with a number for each parameter is one at which both programs may run
 pub ready_at : (pair : Pair) (params : List ℤ) → ArePaired pair → length params ≡ length pair.left.params → IsReadyAt pair params

@@ -4,14 +4,14 @@ use Rattle.ac_syntax.specs.declared.tree.Pair.{Pair}
 use Rattle.ac_syntax.specs.declared.tree.Position.{Position}
 use Rattle.ac_poly.specs.Model.{model_of}
 use Rattle.ac_poly.specs.declared.types.Model.{Model}
-use Rattle.ac_forms.specs.Members.{IsAmong}
+use Rattle.ac_forms.specs.ListMembers.{IsAmong}
 use Rattle.ac_claims.specs.Soundness.{ArePaired}
 use Rattle.ac_flow.specs.Readers.{AreFlows, readers}
 use Rattle.ac_flow.specs.declared.types.Flow.{Flow}
-use Rattle.ac_graph.specs.Moves.{IsEdge, AreReached, AreRecurrent, dependences, starts_of}
-use Rattle.ac_graph.specs.Steps.{HaveFlows}
+use Rattle.ac_graph.specs.PairMoves.{IsEdge, AreReached, AreRecurrent, dependences, starts_of}
+use Rattle.ac_graph.specs.GraphMeaning.{HaveFlows}
 use Rattle.ac_graph.specs.declared.types.Graph.{Graph}
-use Rattle.ac_searched.specs.Statements.{IsGraphOf}
+use Rattle.ac_walk_state.specs.GraphWidenings.{IsGraphOf}
 
 pub have_flows : (pair : Pair) (left right : Model) (f g : Flow) → ArePaired pair → left ≡ model_of pair.left pair.context → right ≡ model_of pair.right pair.context → AreFlows left (readers left) f.reads → AreFlows right (readers right) g.reads → HaveFlows pair f g
 have_flows pair left right f g t a b x y = record {

@@ -7,21 +7,21 @@ use Rattle.std.proofs.lemmas.Option.{slice_get_within, get_or_from_slice_get}
 use Rattle.std.proofs.Math.Seq.{take-length}
 use Rattle.ac_forms.specs.Rows.{HaveModuli}
 use Rattle.ac_syntax.specs.declared.tree.Pair.{Pair}
-use Rattle.ac_items.proofs.Options.{some-is}
+use Rattle.ac_base.proofs.Options.{some-is}
 use Rattle.ac_claims.specs.ProofMachine.{AreSpelledTrees}
 use Rattle.ac_claims.specs.declared.types.Claim.{Claim}
 use Rattle.ac_claims.specs.declared.types.Heads.{Heads}
 use Rattle.ac_claims.specs.declared.types.Proof.{Proof}
 use Rattle.ac_flow.specs.declared.types.FlowStop.{FlowStop}
 use Rattle.ac_flow.specs.declared.types.FlowStop.TheVariants as flow
-use Rattle.ac_parts.specs.Parts.{IsEmpty}
+use Rattle.ac_walk_state.specs.ProofParts.{IsEmpty}
 use Rattle.ac_report.specs.declared.types.Cause.{Cause}
 use Rattle.ac_report.specs.declared.types.Verdict.{Verdict}
 use Rattle.ac_report.specs.declared.types.Verdict.TheVariants.{Different, Unknown}
-use Rattle.ac_walk.specs.Causes.{AreSearched, AreUnknown, EndsSearch, IsSearched, cause_of}
+use Rattle.ac_walk.specs.UnknownCauses.{AreSearched, AreUnknown, EndsSearch, IsSearched, cause_of}
 use Rattle.ac_walk.specs.Verdicts.{IsCause, IsDifferentAt, IsVerdict, AreVerdicts, IsMatchedIf, AreMatched, if_equal, equal_outputs, named}
-use Rattle.ac_walk.specs.Gathering.{IsHeld, IsSaidOf, IsProvedOf, IsSearchedOf, IsValid}
-use Rattle.ac_walk.specs.declared.types.Proved.{Proved}
+use Rattle.ac_walk.specs.VerdictCollection.{IsHeld, IsSaidOf, IsProvedOf, IsSearchedOf, IsValid}
+use Rattle.ac_walk.specs.declared.verdict_types.Proved.{Proved}
 
 -- ---- one output
 

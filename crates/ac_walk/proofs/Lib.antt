@@ -1,3 +1,16 @@
+pub mod Stopping
+pub mod ApartClaims
+pub mod Lists
+pub mod Programs
+pub mod Unfolded
+pub mod Rounds
+pub mod Asked
+pub mod Ranked
+pub mod Added
+pub mod Found
+pub mod Planned
+pub mod Stopped
+pub mod Tabled
 pub mod Elements
 pub mod Gathered
 pub mod Contexts

@@ -4,47 +4,47 @@ use Rattle.ac_syntax.specs.declared.tree.Order.{Order}
 use Rattle.ac_syntax.specs.declared.tree.Pair.{Pair}
 use Rattle.ac_syntax.specs.declared.tree.Position.{Position}
 use Rattle.ac_syntax.specs.declared.tree.Site.{Site}
-use Rattle.ac_forms.specs.Members.{IsAmong}
+use Rattle.ac_forms.specs.ListMembers.{IsAmong}
 use Rattle.ac_forms.specs.declared.row.Row.{Row}
 use Rattle.ac_claims.specs.declared.types.Claim.{Claim}
 use Rattle.ac_hull.proofs.Comparing.{each_from}
 use Rattle.ac_hull.specs.Templates.{template_rows}
-use Rattle.ac_setting.specs.Programs.{point_width, setting}
-use Rattle.ac_derived.specs.Checks.{choices_of}
-use Rattle.ac_derived.specs.Hulls.{entries_of}
-use Rattle.ac_match.specs.Orders.{OrdersOf, IsNext}
+use Rattle.ac_widen_programs.specs.PairSetting.{point_width, setting}
+use Rattle.ac_widen_programs.specs.PairPoints.{choices_of}
+use Rattle.ac_widen_programs.specs.DerivationEntries.{entries_of}
+use Rattle.ac_match.specs.SiteOrders.{OrdersOf, IsNext}
 use Rattle.ac_match.specs.declared.orders.Next.TheVariants.{Done, Spent}
 use Rattle.ac_match.specs.declared.orders.Refuted.{Refuted}
-use Rattle.ac_refuted.specs.Searches.{IsUnmatched}
+use Rattle.ac_walk_state.specs.UnmatchedOutputs.{IsUnmatched}
 use Rattle.ac_report.specs.declared.types.Cause.{Cause}
 use Rattle.ac_report.specs.declared.types.Cause.TheVariants.{Unmatched, OverflowQuestion, OverflowHull, SpentQuestion, SpentPieces, SpentPaths, SpentOrders}
-use Rattle.ac_keys.specs.Keys.{claim_of, positions}
-use Rattle.ac_keys.specs.Known.{IsKey, IsKeyIn}
-use Rattle.ac_keys.specs.Stops.{AreTooLarge}
-use Rattle.ac_keys.proofs.Standing.{key_in}
-use Rattle.ac_parts.specs.Elements.{IsElementClaim}
-use Rattle.ac_rounds.specs.Known.{IsWide, claims_of, pairs_of}
-use Rattle.ac_rounds.specs.Statements.{AllRefuted}
-use Rattle.ac_rounds.specs.declared.known.Known.{Known}
-use Rattle.ac_rounds.proofs.Lists.{among_map, each_in}
-use Rattle.ac_rounds.proofs.Orders.{leaves_none, refutes_part}
-use Rattle.ac_search.specs.Searches.{AreTaken, IsFound, IsSearch, ShowMismatch, rows_at}
-use Rattle.ac_search.specs.Stops.{AreTooLargeUnder, StopsSearch, StopsUnfoldingUnder}
-use Rattle.ac_search.specs.Taking.{IsStartOf}
-use Rattle.ac_search.specs.declared.types.Search.{Search}
-use Rattle.ac_search.proofs.Lists.{get_among}
-use Rattle.ac_search.proofs.Programs.{lawful, numbers_are, template_is}
-use Rattle.ac_search.proofs.Unfolded.{is_unfolding, unfolding_at}
-use Rattle.ac_searched.specs.Searched.{Widening, IsWideningOf, searched}
-use Rattle.ac_stopping.specs.Parts.{order_of}
-use Rattle.ac_widen.specs.Refutations.{IsPartOf, IsRefuted}
+use Rattle.ac_walk_state.specs.RecurrencePairs.{claim_of, positions}
+use Rattle.ac_walk_state.specs.RecurrencePairInvariant.{IsWideningPoint, IsWideningPointIn}
+use Rattle.ac_walk_state.specs.RecurrencePairStops.{AreTooLarge}
+use Rattle.ac_walk_state.proofs.Standing.{key_in}
+use Rattle.ac_walk_state.specs.Elements.{IsElementClaim}
+use Rattle.ac_walk_state.specs.OrderKnowledge.{IsWide, claims_of, pairs_of}
+use Rattle.ac_walk_state.specs.RefutedOrders.{AllRefuted}
+use Rattle.ac_walk_state.specs.declared.known.Known.{Known}
+use Rattle.ac_walk_state.proofs.LastItems.{among_map, each_in}
+use Rattle.ac_walk_state.proofs.Orders.{leaves_none, refutes_part}
+use Rattle.ac_walk.specs.OutputSearch.{AreTaken, IsFound, IsSearch, ShowMismatch, rows_at}
+use Rattle.ac_walk.specs.SearchStops.{AreTooLargeUnder, StopsSearch, StopsUnfoldingUnder}
+use Rattle.ac_walk.specs.StartPaths.{IsStartOf}
+use Rattle.ac_walk.specs.declared.search_types.Search.{Search}
+use Rattle.ac_walk.proofs.Lists.{get_among}
+use Rattle.ac_walk.proofs.Programs.{lawful, numbers_are, template_is}
+use Rattle.ac_walk.proofs.Unfolded.{is_unfolding, unfolding_at}
+use Rattle.ac_walk_state.specs.SearchSetting.{Widening, IsWideningOf, searched}
+use Rattle.ac_unfold_plans.specs.ArgumentOrders.{order_of}
+use Rattle.ac_widen.specs.OrderRefutations.{IsPartOf, IsRefuted}
 use Rattle.ac_widen.specs.declared.derivation.Derivation.{Derivation}
 use Rattle.ac_widen.specs.declared.derivation.Entry.{Entry}
 use Rattle.ac_unfold.specs.declared.types.UnfoldStop.{UnfoldStop}
 use Rattle.ac_unfold.specs.declared.types.UnfoldStop.TheVariants as unfolded
-use Rattle.ac_walk.specs.Causes.{EndsSearch}
-use Rattle.ac_walk.specs.Deciding.{AreShown, GoesNoFurther, IsDecision, IsDifference, IsKept, IsOutputSearch, IsShown}
-use Rattle.ac_walk.specs.Stops.{UnfoldingStops}
+use Rattle.ac_walk.specs.UnknownCauses.{EndsSearch}
+use Rattle.ac_walk.specs.OutputDecisions.{AreShown, GoesNoFurther, IsDecision, IsDifference, IsKept, IsOutputSearch, IsShown}
+use Rattle.ac_walk.specs.OutputStops.{UnfoldingStops}
 use Rattle.ac_walk.specs.Verdicts.{AreRefutedOrders, AreTooLargePoints, IsCause}
 use Rattle.ac_walk.specs.declared.deciding.Decision.{Decision}
 use Rattle.ac_walk.specs.declared.deciding.Decision.TheVariants.{Stands, Different, Unknown}
@@ -54,7 +54,7 @@ use Rattle.ac_walk.specs.declared.deciding.Decision.TheVariants.{Stands, Differe
 -- in the setting of the search an order is refuted by entries that show a mismatch
 one_refuted : (s : Search) (w : Widening) → IsSearch s → IsWideningOf s.pair.now w → AreTaken s.stops.now w → (r : Refuted) → IsShown s r → IsRefuted (searched s.pair.now s.array w) (choices_of r.partial) (entries_of r.why.entries)
 one_refuted s w h is taken r shown =
-    let rows = λ (key : Position × Position). template_rows (point_width s.pair.now key) w.thresholds w.moduli in
+    let rows = λ (positions : Position × Position). template_rows (point_width s.pair.now positions) w.thresholds w.moduli in
     let found = shown.shown w is taken in
     refutes_part (searched s.pair.now s.array w) (order_of shown.order) r.why.entries r.partial (lawful s w h is) found.0 found.1 (shown.part (s.array ∷ []) w.recurrent rows)
 
@@ -103,23 +103,23 @@ spent_decides s number o h shown spent = record { kept = tt; ends = λ near. tt;
 
 -- the search under an order ends early
 are_too_large : (s : Search) (number : ℕ) (order : List (Site × Order)) (points : List (List ℤ)) → IsOutputSearch s number → GoesNoFurther s → AreTooLargeUnder s order points → AreTooLargePoints s.pair.now s.array points
-are_too_large s number order points h near (known, under, key, among, large) =
+are_too_large s number order points h near (known, under, widening_point, among, large) =
     let w = h.widening.0 in
     let is = h.widening.1 in
     let ns = numbers_are s w h.search is in
-    let at : IsAmong (positions key) (pairs_of known) = among_map positions known.keys.items key among in
+    let at : IsAmong (positions widening_point) (pairs_of known) = among_map positions known.widening_points.items widening_point among in
     record {
       widening = w;
       is_widening = is;
       order = order_of order;
       entries = known.entries;
       derived = under.derived w is (near w is);
-      key = key;
+      widening_point = widening_point;
       right =
-          key_in (searched s.pair.now s.array w) s.template.now (entries_of known.entries) key (each_in (IsKey s.template.now (entries_of known.entries)) known.keys.items key under.right.keys among)
-          (each_in (IsWide s.pair.now) known.keys.items key under.right.widths among) (template_is s w h.search is (positions key));
-      recurs = near w is (positions key) ((under.pairs (positions key)).0 at);
-      large = subst (λ (ts : List ℤ). AreTooLarge s.pair.now ts w.moduli key points) (sym ns.0) (subst (λ (ms : List ℤ). AreTooLarge s.pair.now s.template.now.thresholds ms key points) (sym ns.1) large);
+          key_in (searched s.pair.now s.array w) s.template.now (entries_of known.entries) widening_point (each_in (IsWideningPoint s.template.now (entries_of known.entries)) known.widening_points.items widening_point under.right.widening_points among)
+          (each_in (IsWide s.pair.now) known.widening_points.items widening_point under.right.widths among) (template_is s w h.search is (positions widening_point));
+      recurs = near w is (positions widening_point) ((under.pairs (positions widening_point)).0 at);
+      large = subst (λ (ts : List ℤ). AreTooLarge s.pair.now ts w.moduli widening_point points) (sym ns.0) (subst (λ (ms : List ℤ). AreTooLarge s.pair.now s.template.now.thresholds ms widening_point points) (sym ns.1) large);
     }
 
 early_cause : (s : Search) (number : ℕ) (order : List (Site × Order)) (why : Cause) → IsOutputSearch s number → GoesNoFurther s → StopsSearch s order why → IsCause s.pair.now s.array why
@@ -133,11 +133,11 @@ early_cause s number order (SpentOrders refuted) is near h = absurd h
 
 -- a start of what is known is the claim of the output, or one of the claims
 start_is : (s : Search) (known : Known) (from : Option ℕ) (claim : Claim) → IsStartOf s known from claim → IsElementClaim s.pair.now s.array claim ⊎ IsAmong claim (claims_of known)
-start_is s known (Some at) claim h = inr (subst (λ (c : Claim). IsAmong c (claims_of known)) (sym h.2) (among_map claim_of known.keys.items h.0 (get_among known.keys.items at h.0 h.1)))
+start_is s known (Some at) claim h = inr (subst (λ (c : Claim). IsAmong c (claims_of known)) (sym h.2) (among_map claim_of known.widening_points.items h.0 (get_among known.widening_points.items at h.0 h.1)))
 start_is s known None claim h = inl h
 
 -- an unfolding of what is known stops so in the setting of the search
-unfolding_stops : (s : Search) (number : ℕ) (order : List (Site × Order)) (stop : UnfoldStop) → IsOutputSearch s number → GoesNoFurther s → StopsUnfoldingUnder s order stop → UnfoldingStops s.setting.now.budget s.pair.now s.array stop
+unfolding_stops : (s : Search) (number : ℕ) (order : List (Site × Order)) (stop : UnfoldStop) → IsOutputSearch s number → GoesNoFurther s → StopsUnfoldingUnder s order stop → UnfoldingStops s.program_flows.now.budget s.pair.now s.array stop
 unfolding_stops s number order stop h near under =
     let w = h.widening.0 in
     let is = h.widening.1 in
@@ -149,22 +149,22 @@ unfolding_stops s number order stop h near under =
       order = order_of order;
       entries = known.entries;
       derived = k.derived w is (near w is);
-      keys = known.keys.items;
-      right = each_from (IsKeyIn (searched s.pair.now s.array w) (entries_of known.entries)) known.keys.items
-          (λ key among.
-          key_in (searched s.pair.now s.array w) s.template.now (entries_of known.entries) key (each_in (IsKey s.template.now (entries_of known.entries)) known.keys.items key k.right.keys among)
-          (each_in (IsWide s.pair.now) known.keys.items key k.right.widths among) (template_is s w h.search is (positions key)));
-      recur = λ key. ((λ i. near w is key ((k.pairs key).0 i)), λ e. (k.pairs key).1 (h.search.stops w is key e));
+      widening_points = known.widening_points.items;
+      right = each_from (IsWideningPointIn (searched s.pair.now s.array w) (entries_of known.entries)) known.widening_points.items
+          (λ widening_point among.
+          key_in (searched s.pair.now s.array w) s.template.now (entries_of known.entries) widening_point (each_in (IsWideningPoint s.template.now (entries_of known.entries)) known.widening_points.items widening_point k.right.widening_points among)
+          (each_in (IsWide s.pair.now) known.widening_points.items widening_point k.right.widths among) (template_is s w h.search is (positions widening_point)));
+      recur = λ widening_point. ((λ i. near w is widening_point ((k.pairs widening_point).0 i)), λ e. (k.pairs widening_point).1 (h.search.stops w is widening_point e));
       distinct = k.right.distinct;
       start = under.claim;
       starts = start_is s known under.from under.claim under.start;
-      left_flow = s.setting.now.left_flow.now;
-      right_flow = s.setting.now.right_flow.now;
+      left_flow = s.program_flows.now.left_flow.now;
+      right_flow = s.program_flows.now.right_flow.now;
       flows = h.search.flows;
       stops = under.stops (unfolding_at s order under.claim w) (is_unfolding s order h.search under.claim w.recurrent (rows_at s.pair.now w));
     }
 
-early_ends : (s : Search) (number : ℕ) (order : List (Site × Order)) (why : Cause) → IsOutputSearch s number → GoesNoFurther s → StopsSearch s order why → EndsSearch s.setting.now.budget s.pair.now s.array why
+early_ends : (s : Search) (number : ℕ) (order : List (Site × Order)) (why : Cause) → IsOutputSearch s number → GoesNoFurther s → StopsSearch s order why → EndsSearch s.program_flows.now.budget s.pair.now s.array why
 early_ends s number order (Unmatched refuted) is near h = absurd h
 early_ends s number order (OverflowQuestion question) is near h = unfolding_stops s number order (unfolded.Overflow question) is near h
 early_ends s number order (OverflowHull members) is near h = tt

@@ -10,17 +10,17 @@ use Rattle.ac_poly.specs.Model.{model_of}
 use Rattle.ac_claims.specs.Soundness.{AreModels}
 use Rattle.ac_claims.specs.declared.types.Proof.{Proof}
 use Rattle.ac_claims.proofs.Headline.{valid_proofs_name_same_outputs}
-use Rattle.ac_decided.specs.Statements.{IsStoppedProof}
-use Rattle.ac_decided.specs.Stopping.{programs_of}
-use Rattle.ac_matched.specs.Matches.{IsMatched}
-use Rattle.ac_matched.proofs.Stopping.{stopped_proofs_match}
-use Rattle.ac_parts.specs.Growing.{NamesWithPart, StaysAccepted, StopsWithPart}
-use Rattle.ac_parts.specs.Parts.{IsLonger, IsPartFor, in_part}
-use Rattle.ac_parts.specs.declared.types.Part.{Part}
+use Rattle.ac_unfold_plans.specs.ProofDecisions.{IsStoppedProof}
+use Rattle.ac_unfold_plans.specs.PlanStops.{programs_of}
+use Rattle.ac_walk.specs.MatchedOutputs.{IsMatched}
+use Rattle.ac_walk.proofs.Stopping.{stopped_proofs_match}
+use Rattle.ac_walk_state.specs.PartExtension.{NamesWithPart, StaysAccepted, StopsWithPart}
+use Rattle.ac_walk_state.specs.ProofParts.{IsLonger, IsPartFor, in_part}
+use Rattle.ac_walk_state.specs.declared.types.Part.{Part}
 use Rattle.ac_report.specs.declared.types.Verdict.TheVariants.{Equal}
-use Rattle.ac_search.specs.Searches.{IsFound, rows_at}
-use Rattle.ac_searched.proofs.Widening.{widenings_recur}
-use Rattle.ac_walk.specs.Gathering.{IsBasis, IsSaidOf, IsValid}
+use Rattle.ac_walk.specs.OutputSearch.{IsFound, rows_at}
+use Rattle.ac_walk_state.proofs.Widening.{widenings_recur}
+use Rattle.ac_walk.specs.VerdictCollection.{IsBasis, IsSaidOf, IsValid}
 use Rattle.ac_walk.specs.declared.outputs.Basis.{Basis}
 use Rattle.ac_walk.proofs.Widened.{widening}
 
@@ -51,7 +51,7 @@ is_matched b order proof longer part array h found fits stops names before valid
       right = model_of pair.right pair.context;
       models = own_models pair;
       moduli = valid.moduli;
-      recurring = widenings_recur pair b.setting.now.left_flow.now b.setting.now.right_flow.now w h.flows is;
+      recurring = widenings_recur pair b.program_flows.now.left_flow.now b.program_flows.now.right_flow.now w h.flows is;
       valid = valid.valid;
       stops = stops pair order w.recurrent (rows_at pair w) pair.outputs before fits (found.stops proof.claims refl w is);
     } in

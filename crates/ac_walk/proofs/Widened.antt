@@ -1,67 +1,67 @@
 -- The recurrence pairs of a pair's graph are those of its widening.
 use Rattle.std.proofs.Common.{◌≡◌, ◌<◌, ℕ, zero, suc, List, [], ◌∷◌, ◌++◌, inl, inr, length, get_or, sym, subst, ◌∙◌, arith}
-use Rattle.ac_forms.specs.Members.{IsAmong}
+use Rattle.ac_forms.specs.ListMembers.{IsAmong}
 use Rattle.ac_syntax.specs.declared.tree.Position.{Position}
-use Rattle.ac_searched.specs.Searched.{Widening, IsWideningOf}
-use Rattle.ac_searched.specs.Statements.{widening_of}
-use Rattle.ac_searched.proofs.Widening.{any_is, graph_recurs, graphs_widen, widenings_are_one}
-use Rattle.ac_search.specs.Searches.{AreTaken}
-use Rattle.ac_stopping.specs.Parts.{AreAll}
-use Rattle.ac_walk.specs.Deciding.{AreSame}
-use Rattle.ac_walk.specs.Gathering.{IsBasis}
+use Rattle.ac_walk_state.specs.SearchSetting.{Widening, IsWideningOf}
+use Rattle.ac_walk_state.specs.GraphWidenings.{widening_of}
+use Rattle.ac_walk_state.proofs.Widening.{any_is, graph_recurs, graphs_widen, widenings_are_one}
+use Rattle.ac_walk.specs.OutputSearch.{AreTaken}
+use Rattle.ac_unfold_plans.specs.ArgumentOrders.{AreAll}
+use Rattle.ac_walk.specs.OutputDecisions.{AreSame}
+use Rattle.ac_walk.specs.VerdictCollection.{IsBasis}
 use Rattle.ac_walk.specs.declared.outputs.Basis.{Basis}
 
 abbrev own : Basis → Widening
 own b = widening_of b.graph.now b.template.now.thresholds b.template.now.moduli
 
 own_is : (b : Basis) → IsBasis b → IsWideningOf b.pair.now (own b)
-own_is b h = graphs_widen b.pair.now b.setting.now.left_flow.now b.setting.now.right_flow.now b.graph.now b.template.now.thresholds b.template.now.moduli h.flows h.graph h.numbers
+own_is b h = graphs_widen b.pair.now b.program_flows.now.left_flow.now b.program_flows.now.right_flow.now b.graph.now b.template.now.thresholds b.template.now.moduli h.flows h.graph h.numbers
 
 -- there is one
 pub widening : (b : Basis) → IsBasis b → (w : Widening) × IsWideningOf b.pair.now w
 widening b h = (own b, own_is b h)
 
 -- the same pairs are all that it takes
-pub takes_all : (b : Basis) (keys : List (Position × Position)) → IsBasis b → AreSame keys b.graph.now.recurrent → (w : Widening) → IsWideningOf b.pair.now w → AreAll keys w.recurrent
-takes_all b keys h same w is key e =
+pub takes_all : (b : Basis) (widening_points : List (Position × Position)) → IsBasis b → AreSame widening_points b.graph.now.recurrent → (w : Widening) → IsWideningOf b.pair.now w → AreAll widening_points w.recurrent
+takes_all b widening_points h same w is widening_point e =
     let one = widenings_are_one b.pair.now w (own b) is (own_is b h) in
-    (same key).1 ((any_is key b.graph.now.recurrent).0 (sym (one.recurrent key) ∙ e))
+    (same widening_point).1 ((any_is widening_point b.graph.now.recurrent).0 (sym (one.recurrent widening_point) ∙ e))
 
-pub takes_each : (b : Basis) (keys : List (Position × Position)) → IsBasis b → AreSame keys b.graph.now.recurrent → (w : Widening) → IsWideningOf b.pair.now w → AreTaken keys w
-takes_each b keys h same w is key i =
-    graph_recurs b.pair.now b.setting.now.left_flow.now b.setting.now.right_flow.now b.graph.now b.template.now.thresholds b.template.now.moduli w h.flows h.graph h.numbers is key ((same key).0 i)
+pub takes_each : (b : Basis) (widening_points : List (Position × Position)) → IsBasis b → AreSame widening_points b.graph.now.recurrent → (w : Widening) → IsWideningOf b.pair.now w → AreTaken widening_points w
+takes_each b widening_points h same w is widening_point i =
+    graph_recurs b.pair.now b.program_flows.now.left_flow.now b.program_flows.now.right_flow.now b.graph.now b.template.now.thresholds b.template.now.moduli w h.flows h.graph h.numbers is widening_point ((same widening_point).0 i)
 
 -- pairs among two lists
-among_left : (key : Position × Position) (keys more : List (Position × Position)) → IsAmong key keys → IsAmong key (keys ++ more)
-among_left key [] more h = absurd h
-among_left key (k ∷ keys) more (inl e) = inl e
-among_left key (k ∷ keys) more (inr h) = inr (among_left key keys more h)
+among_left : (positions : Position × Position) (widening_points more : List (Position × Position)) → IsAmong positions widening_points → IsAmong positions (widening_points ++ more)
+among_left positions [] more h = absurd h
+among_left positions (k ∷ widening_points) more (inl e) = inl e
+among_left positions (k ∷ widening_points) more (inr h) = inr (among_left positions widening_points more h)
 
-among_right : (key : Position × Position) (keys more : List (Position × Position)) → IsAmong key more → IsAmong key (keys ++ more)
-among_right key [] more h = h
-among_right key (k ∷ keys) more h = inr (among_right key keys more h)
+among_right : (positions : Position × Position) (widening_points more : List (Position × Position)) → IsAmong positions more → IsAmong positions (widening_points ++ more)
+among_right positions [] more h = h
+among_right positions (k ∷ widening_points) more h = inr (among_right positions widening_points more h)
 
-among_either : (P : Position × Position → Type 0) (keys more : List (Position × Position)) → ((key : Position × Position) → IsAmong key keys → P key) → ((key : Position × Position) → IsAmong key more → P key) → (key : Position × Position) → IsAmong key (keys ++ more) → P key
-among_either P [] more a b key h = b key h
-among_either P (k ∷ keys) more a b key (inl e) = a key (inl e)
-among_either P (k ∷ keys) more a b key (inr h) = among_either P keys more (λ q i. a q (inr i)) b key h
+among_either : (P : Position × Position → Type 0) (widening_points more : List (Position × Position)) → ((positions : Position × Position) → IsAmong positions widening_points → P positions) → ((positions : Position × Position) → IsAmong positions more → P positions) → (positions : Position × Position) → IsAmong positions (widening_points ++ more) → P positions
+among_either P [] more a b positions h = b positions h
+among_either P (k ∷ widening_points) more a b positions (inl e) = a positions (inl e)
+among_either P (k ∷ widening_points) more a b positions (inr h) = among_either P widening_points more (λ q i. a q (inr i)) b positions h
 
 -- one more of some that are among others
-pub more_common : (made new : List (Position × Position)) (x : Position × Position) (others : List (Position × Position)) → new ≡ made ++ x ∷ [] → IsAmong x others → ((key : Position × Position) → IsAmong key made → IsAmong key others)
-    → (key : Position × Position) → IsAmong key new → IsAmong key others
-more_common made new x others e h before key i =
-    among_either (λ k. IsAmong k others) made (x ∷ []) before (λ k j. elim j [ inl f ↦ subst (λ (y : Position × Position). IsAmong y others) (sym f) h | inr b ↦ absurd b ]) key (subst (λ (keys : List (Position × Position)). IsAmong key keys) e i)
+pub more_common : (made new : List (Position × Position)) (x : Position × Position) (others : List (Position × Position)) → new ≡ made ++ x ∷ [] → IsAmong x others → ((positions : Position × Position) → IsAmong positions made → IsAmong positions others)
+    → (positions : Position × Position) → IsAmong positions new → IsAmong positions others
+more_common made new x others e h before positions i =
+    among_either (λ k. IsAmong k others) made (x ∷ []) before (λ k j. elim j [ inl f ↦ subst (λ (y : Position × Position). IsAmong y others) (sym f) h | inr b ↦ absurd b ]) positions (subst (λ (widening_points : List (Position × Position)). IsAmong positions widening_points) e i)
 
 -- all of the pairs, with some of them in front
-pub same_behind : (those keys : List (Position × Position)) → ((key : Position × Position) → IsAmong key those → IsAmong key keys) → AreSame (those ++ keys) keys
-same_behind those keys h key = (among_either (λ k. IsAmong k keys) those keys h (λ k i. i) key, among_right key those keys)
+pub same_behind : (those widening_points : List (Position × Position)) → ((widening_point : Position × Position) → IsAmong widening_point those → IsAmong widening_point widening_points) → AreSame (those ++ widening_points) widening_points
+same_behind those widening_points h widening_point = (among_either (λ k. IsAmong k widening_points) those widening_points h (λ k i. i) widening_point, among_right widening_point those widening_points)
 
 -- further ones leave all
-pub all_further : (keys more : List (Position × Position)) (w : Widening) → AreAll keys w.recurrent → AreAll (keys ++ more) w.recurrent
-all_further keys more w h key e = among_left key keys more (h key e)
+pub all_further : (widening_points more : List (Position × Position)) (w : Widening) → AreAll widening_points w.recurrent → AreAll (widening_points ++ more) w.recurrent
+all_further widening_points more w h widening_point e = among_left widening_point widening_points more (h widening_point e)
 
 -- a pair that is read
-pub in_pairs : (keys : List (Position × Position)) (i : ℕ) (x key : Position × Position) → i < length keys → x ≡ get_or keys i x → key ≡ x → IsAmong key keys
-in_pairs [] i x key l e same = absurd (omega (arith, l))
-in_pairs (k ∷ keys) zero x key l e same = inl (same ∙ e)
-in_pairs (k ∷ keys) (suc i) x key l e same = inr (in_pairs keys i x key (omega (arith, l)) e same)
+pub in_pairs : (widening_points : List (Position × Position)) (i : ℕ) (x positions : Position × Position) → i < length widening_points → x ≡ get_or widening_points i x → positions ≡ x → IsAmong positions widening_points
+in_pairs [] i x positions l e same = absurd (omega (arith, l))
+in_pairs (k ∷ widening_points) zero x positions l e same = inl (same ∙ e)
+in_pairs (k ∷ widening_points) (suc i) x positions l e same = inr (in_pairs widening_points i x positions (omega (arith, l)) e same)

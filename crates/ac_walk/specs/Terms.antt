@@ -3,18 +3,18 @@ use Rattle.std.specs.Prelude.{◌≡◌, ℕ, [], ◌∷◌, false}
 use Rattle.ac_syntax.specs.declared.tree.Pair.{Pair}
 use Rattle.ac_syntax.specs.declared.tree.Position.{Position}
 use Rattle.ac_claims.specs.Soundness.{ArePaired, TermsAgree}
-use Rattle.ac_agreeing.specs.Statements.{AreOutputs}
+use Rattle.ac_widen_programs.specs.OutputAgreement.{AreOutputs}
 use Rattle.ac_syntax.specs.ExecutedCalls.{HaveArities}
 use Rattle.ac_report.specs.declared.types.Cause.{Cause}
 use Rattle.ac_report.specs.declared.types.Cause.TheVariants.{Unmatched}
 use Rattle.ac_report.specs.declared.types.Verdict.{Verdict}
 use Rattle.ac_report.specs.declared.types.Verdict.TheVariants.{Equal, Different, Unknown}
-use Rattle.ac_searched.specs.Searched.{Widening, IsWideningOf}
+use Rattle.ac_walk_state.specs.SearchSetting.{Widening, IsWideningOf}
 use Rattle.ac_walk.specs.Verdicts.{IsVerdict, IsMatchedIf}
 
 -- nothing is widened or exchanged: no reached pair of positions recurs, and no function is declared commutative
 pub record IsPlain (pair : Pair) : Type 0 where
-  pub recurs : (w : Widening) → IsWideningOf pair w → (key : Position × Position) → w.recurrent key ≡ false
+  pub recurs : (w : Widening) → IsWideningOf pair w → (positions : Position × Position) → w.recurrent positions ≡ false
   pub commutative : pair.commutative ≡ []
 
 -- the terms of the output do not all agree, where it is unmatched

@@ -2,22 +2,22 @@
 use Rattle.std.specs.Prelude.{◌≡◌, ℕ, ◌≤◌, ℤ, List, [], ◌∷◌, ◌++◌, length, map, Some, true}
 use Rattle.ac_syntax.specs.Outputs.{IsValuation, SameOutput}
 use Rattle.ac_syntax.specs.declared.tree.Pair.{Pair}
-use Rattle.ac_instance.specs.Answers.{compared}
+use Rattle.ac_instance.specs.ComparisonAnswers.{compared}
 use Rattle.ac_instance.specs.Least.{IsLeast}
 use Rattle.ac_poly.specs.Model.{model_of}
-use Rattle.ac_paths.specs.Going.{Pairing}
+use Rattle.ac_claims_paths.specs.PathSteps.{Pairing}
 use Rattle.ac_claims.specs.ProofFaults.{IsValidProof}
 use Rattle.ac_claims.specs.Soundness.{pairing_of}
 use Rattle.ac_claims.specs.declared.types.Proof.{Proof}
 use Rattle.ac_match.specs.declared.orders.Refuted.{Refuted}
-use Rattle.ac_matched.specs.Matches.{IsMatched}
-use Rattle.ac_refuted.specs.Searches.{IsUnmatched}
-use Rattle.ac_rounds.specs.Statements.{AllRefuted}
-use Rattle.ac_searched.specs.Searched.{Widening, IsWideningOf, searched}
-use Rattle.ac_derived.specs.Hulls.{entries_of}
-use Rattle.ac_keys.specs.Keys.{KeyOf, positions}
-use Rattle.ac_keys.specs.Known.{IsKeyIn}
-use Rattle.ac_keys.specs.Stops.{AreTooLarge}
+use Rattle.ac_walk.specs.MatchedOutputs.{IsMatched}
+use Rattle.ac_walk_state.specs.UnmatchedOutputs.{IsUnmatched}
+use Rattle.ac_walk_state.specs.RefutedOrders.{AllRefuted}
+use Rattle.ac_walk_state.specs.SearchSetting.{Widening, IsWideningOf, searched}
+use Rattle.ac_widen_programs.specs.DerivationEntries.{entries_of}
+use Rattle.ac_walk_state.specs.RecurrencePairs.{WideningPointOf, positions}
+use Rattle.ac_walk_state.specs.RecurrencePairInvariant.{IsWideningPointIn}
+use Rattle.ac_walk_state.specs.RecurrencePairStops.{AreTooLarge}
 use Rattle.ac_syntax.specs.declared.tree.Order.{Order}
 use Rattle.ac_syntax.specs.declared.tree.Position.{Position}
 use Rattle.ac_widen.specs.Derivations.{IsDerivation}
@@ -26,8 +26,8 @@ use Rattle.ac_report.specs.declared.types.Cause.{Cause}
 use Rattle.ac_report.specs.declared.types.Cause.TheVariants.{Unmatched, OverflowQuestion, OverflowHull, SpentQuestion, SpentPieces, SpentPaths, SpentOrders}
 use Rattle.ac_report.specs.declared.types.Verdict.{Verdict}
 use Rattle.ac_report.specs.declared.types.Verdict.TheVariants.{Equal, Different, Unknown}
-use Rattle.ac_walk.specs.declared.types.ProveStop.{ProveStop}
-use Rattle.ac_walk.specs.declared.types.ProveStop.TheVariants.{EmptyContext, Memory}
+use Rattle.ac_walk.specs.declared.verdict_types.ProveStop.{ProveStop}
+use Rattle.ac_walk.specs.declared.verdict_types.ProveStop.TheVariants.{EmptyContext, Memory}
 
 -- at a valuation of the context this is the least element whose terms do not agree
 abbrev pub IsDifferentAt : Pair → ℕ → List ℤ → List ℤ → Type 0
@@ -46,10 +46,10 @@ pub record AreTooLargePoints (pair : Pair) (output : ℕ) (points : List (List �
   pub order : Position × Position → Order
   pub entries : List Entry
   pub derived : IsDerivation (searched pair output widening) order (entries_of entries)
-  pub key : KeyOf
-  pub right : IsKeyIn (searched pair output widening) (entries_of entries) key
-  pub recurs : widening.recurrent (positions key) ≡ true
-  pub large : AreTooLarge pair widening.thresholds widening.moduli key points
+  pub widening_point : WideningPointOf
+  pub right : IsWideningPointIn (searched pair output widening) (entries_of entries) widening_point
+  pub recurs : widening.recurrent (positions widening_point) ≡ true
+  pub large : AreTooLarge pair widening.thresholds widening.moduli widening_point points
 
 -- unmatched: in the setting of the search on the output each of the orders is refuted, and each order has a mismatch; overflow of a hull: a
 -- number is too large at its points; spent: each of the orders is refuted there, and they are many

@@ -1,23 +1,24 @@
 //! The search on one output over all orders of commutative arguments.
 ghost use Rattle.std.specs.Prelude.{◌≡◌, IfOk};
-ghost use Rattle.ac_match.specs.Orders.{IsNext};
+ghost use Rattle.ac_match.specs.SiteOrders.{IsNext};
 ghost use Rattle.ac_match.specs.declared.orders.Next.TheVariants.{Done};
-ghost use Rattle.ac_search.specs.Searches.{ShowMismatch};
-ghost use Rattle.ac_walk.specs.Deciding.{AreSame, AreShown, GoesNoFurther, IsDecision, IsFurther, IsKept, IsOutputSearch};
+ghost use Rattle.ac_walk.specs.OutputSearch.{ShowMismatch};
+ghost use Rattle.ac_walk.specs.OutputDecisions.{AreSame, AreShown, GoesNoFurther, IsDecision, IsFurther, IsKept, IsOutputSearch};
 
 use crate::differing::{Difference, try_point, try_refuted};
 use crate::pairs::{common, joined, with_first};
+use crate::search_types::{Ended, Search};
 use crate::sharing::shared;
+use crate::stops::Stop;
+use crate::walking::walk;
+use ac_base::Items;
 use ac_graph::types::Graph;
 use ac_graph::{reachable_from, sites};
-use ac_items::Items;
 use ac_match::{Next, Orders};
-use ac_parts::types::Part;
 use ac_report::Cause;
-use ac_rounds::partial_of;
-use ac_search::types::{Ended, Search};
-use ac_search::{Stop, walk};
 use ac_syntax::tree::{Order, Pair, Position, Site};
+use ac_walk_state::partial_of;
+use ac_walk_state::types::Part;
 use ac_widen::Derivation;
 use std::alloc::{AllocError, Global};
 
@@ -191,7 +192,7 @@ fn decide_further(
     let stops = joined(alloc, search.stops, reach.shared.as_slice())?;
     let further = Search {
         pair: search.pair,
-        setting: search.setting,
+        program_flows: search.program_flows,
         template: search.template,
         array: search.array,
         stops: stops.as_slice(),

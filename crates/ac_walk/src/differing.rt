@@ -2,11 +2,11 @@
 ghost use Rattle.std.specs.Prelude.{◌≡◌, Some, IfOk, IfSome, slice_get};
 ghost use Rattle.ac_claims.specs.Soundness.{ArePaired};
 ghost use Rattle.ac_instance.specs.declared.halt.Outcome.TheVariants.{Different};
-ghost use Rattle.ac_walk.specs.Deciding.{AreDifferent, IsDifference};
+ghost use Rattle.ac_walk.specs.OutputDecisions.{AreDifferent, IsDifference};
 
+use ac_base::Items;
 use ac_hull::Derivation;
 use ac_instance::{Halt, Outcome, instance};
-use ac_items::Items;
 use ac_match::Refuted;
 use ac_syntax::tree::Pair;
 use std::alloc::{AllocError, Global};

@@ -1,27 +1,26 @@
 //! The verdicts on the outputs, one after the other, and their proof.
 ghost use Rattle.std.specs.Prelude.{◌≡◌, ◌+◌, [], take, Some, true, IfOk, slice_get};
 ghost use Rattle.ac_claims.specs.ProofFaults.{is_point};
-ghost use Rattle.ac_walk.specs.Causes.{left_model};
-ghost use Rattle.ac_walk.specs.Gathering.{IsBasis, IsSaidOf, IsSearchedOf, IsValid};
+ghost use Rattle.ac_walk.specs.UnknownCauses.{left_model};
+ghost use Rattle.ac_walk.specs.VerdictCollection.{IsBasis, IsSaidOf, IsSearchedOf, IsValid};
 
 use crate::deciding::{Decision, decide, reach_of};
-use crate::types::Proved;
+use crate::search_types::Search;
+use crate::verdict_types::Proved;
+use ac_base::Items;
 use ac_claims::types::Proof;
 use ac_graph::types::Graph;
-use ac_items::Items;
-use ac_keys::Template;
-use ac_parts::{empty_proof, heads, with_part};
 use ac_report::Verdict;
-use ac_search::types::Search;
 use ac_syntax::tree::Pair;
-use ac_unfold::types::Setting;
+use ac_unfold::types::ProgramFlows;
+use ac_walk_state::{Template, empty_proof, heads, with_part};
 use std::alloc::{AllocError, Global};
 
 /// What is known of a pair before its outputs are searched on.
 #[derive(Clone, Copy)]
 pub(crate) struct Basis<'a> {
     pub pair: &'a Pair,
-    pub setting: &'a Setting<'a>,
+    pub program_flows: &'a ProgramFlows<'a>,
     pub graph: &'a Graph,
     pub template: &'a Template,
 }
@@ -37,12 +36,12 @@ fn verdict(
     requires basis { IsBasis basis.now }
     requires proof { IsValid basis.now.pair.now proof }
     requires array { slice_get basis.now.pair.now.outputs number ≡ Some array }
-    ensures { IfOk result (IsSaidOf basis.now.setting.now.budget basis.now.pair.now array proof) }
+    ensures { IfOk result (IsSaidOf basis.now.program_flows.now.budget basis.now.pair.now array proof) }
 {
     let reach = reach_of(alloc, basis.pair, basis.graph, array)?;
     let search = Search {
         pair: basis.pair,
-        setting: basis.setting,
+        program_flows: basis.program_flows,
         template: basis.template,
         array,
         stops: reach.recurrent.as_slice(),
@@ -71,9 +70,9 @@ fn with_verdict(
     array: usize,
 ) -> Result<Proved, AllocError>
     requires basis { IsBasis basis.now }
-    requires proved { IsSearchedOf basis.now.setting.now.budget basis.now.pair.now (take number basis.now.pair.now.outputs) proved }
+    requires proved { IsSearchedOf basis.now.program_flows.now.budget basis.now.pair.now (take number basis.now.pair.now.outputs) proved }
     requires array { slice_get basis.now.pair.now.outputs number ≡ Some array }
-    ensures { IfOk result (IsSearchedOf basis.now.setting.now.budget basis.now.pair.now (take (number + 1) basis.now.pair.now.outputs)) }
+    ensures { IfOk result (IsSearchedOf basis.now.program_flows.now.budget basis.now.pair.now (take (number + 1) basis.now.pair.now.outputs)) }
 {
     let Proved { verdicts, proof } = proved;
     let mut verdicts = verdicts;
@@ -86,9 +85,9 @@ fn with_verdict(
 fn none_said(alloc: Global, basis: &Basis<'_>, point: Vec<i128>) -> Result<Proved, AllocError>
     requires basis { IsBasis basis.now }
     requires point { is_point (left_model basis.now.pair.now) point.items ≡ true }
-    ensures { IfOk result (IsSearchedOf basis.now.setting.now.budget basis.now.pair.now []) }
+    ensures { IfOk result (IsSearchedOf basis.now.program_flows.now.budget basis.now.pair.now []) }
 {
-    let programs = &basis.setting.programs;
+    let programs = &basis.program_flows.programs;
     let heads = heads(alloc, programs.left, programs.right)?;
     Ok(Proved {
         verdicts: Items::new(alloc),
@@ -104,7 +103,7 @@ pub(crate) fn verdicts(
 ) -> Result<Proved, AllocError>
     requires basis { IsBasis basis.now }
     requires point { is_point (left_model basis.now.pair.now) point.items ≡ true }
-    ensures { IfOk result (IsSearchedOf basis.now.setting.now.budget basis.now.pair.now basis.now.pair.now.outputs) }
+    ensures { IfOk result (IsSearchedOf basis.now.program_flows.now.budget basis.now.pair.now basis.now.pair.now.outputs) }
 {
     let outputs = basis.pair.outputs.as_slice();
     let mut proved = none_said(alloc, basis, point)?;

@@ -1,11 +1,11 @@
 //! Lists of pairs of positions.
 ghost use Rattle.std.specs.Prelude.{◌≡◌, ◌++◌, List, true, IfOk};
-ghost use Rattle.ac_forms.specs.Members.{IsAmong};
+ghost use Rattle.ac_forms.specs.ListMembers.{IsAmong};
 ghost use Rattle.ac_syntax.specs.declared.tree.Position.{Position};
-ghost use Rattle.ac_walk.specs.Deciding.{AreSame};
+ghost use Rattle.ac_walk.specs.OutputDecisions.{AreSame};
 
+use ac_base::Items;
 use ac_claims::ending::same_position;
-use ac_items::Items;
 use ac_syntax::tree::Position;
 use std::alloc::{AllocError, Global};
 
@@ -34,7 +34,7 @@ pub(crate) fn common(
     pairs: &[(Position, Position)],
     others: &[(Position, Position)],
 ) -> Result<Items<(Position, Position)>, AllocError>
-    ensures { IfOk result (λ made. (key : Position × Position) → IsAmong key made → IsAmong key others.now) }
+    ensures { IfOk result (λ made. (positions : Position × Position) → IsAmong positions made → IsAmong positions others.now) }
 {
     let mut made = Items::new(alloc);
     for pair in pairs {

@@ -5,23 +5,23 @@ ghost use Rattle.ac_claims.specs.ProofFaults.{is_point};
 ghost use Rattle.ac_claims.specs.ProofMachine.{AreSpelledTrees};
 ghost use Rattle.ac_claims.specs.Soundness.{ArePaired, ClaimsHaveModuli};
 ghost use Rattle.ac_flow.specs.Contexts.{ContextStops};
-ghost use Rattle.ac_graph.specs.Steps.{HaveFlows};
-ghost use Rattle.ac_parts.specs.Elements.{AreProgramsOf};
+ghost use Rattle.ac_graph.specs.GraphMeaning.{HaveFlows};
+ghost use Rattle.ac_walk_state.specs.Elements.{AreProgramsOf};
 ghost use Rattle.ac_walk.specs.Verdicts.{AreMatched, AreVerdicts, IsAccepted, IsStop, equal_outputs, named};
-ghost use Rattle.ac_walk.specs.Causes.{HasValuation, IsAnswered, IsEmptyAt, left_model};
-ghost use Rattle.ac_walk.specs.Gathering.{IsProvedOf, IsSearchedOf};
+ghost use Rattle.ac_walk.specs.UnknownCauses.{HasValuation, IsAnswered, IsEmptyAt, left_model};
+ghost use Rattle.ac_walk.specs.VerdictCollection.{IsProvedOf, IsSearchedOf};
 
 use crate::outputs::{Basis, verdicts};
-use crate::types::{ProveStop, Proved};
 use crate::unanswered::unknown_all;
+use crate::verdict_types::{ProveStop, Proved};
+use ac_claims_paths::path::Programs;
 use ac_flow::types::{ContextStop, Flow, FlowStop, Limits};
 use ac_flow::{context_point, flow};
 use ac_graph::graph;
-use ac_keys::template_of;
-use ac_paths::path::Programs;
 use ac_poly::types::Model;
 use ac_syntax::tree::Pair;
-use ac_unfold::types::Setting;
+use ac_unfold::types::ProgramFlows;
+use ac_walk_state::template_of;
 use std::alloc::{AllocError, Global};
 
 /// The verdicts where both programs have a flow.
@@ -41,7 +41,7 @@ fn with_flows(
     requires point { is_point (left_model pair.now) point.items ≡ true }
     ensures { IfOk result (IsSearchedOf budget pair.now pair.now.outputs) }
 {
-    let setting = Setting {
+    let program_flows = ProgramFlows {
         programs,
         left_flow,
         right_flow,
@@ -51,7 +51,7 @@ fn with_flows(
     let template = template_of(alloc, pair)?;
     let basis = Basis {
         pair,
-        setting: &setting,
+        program_flows: &program_flows,
         graph: &graph,
         template: &template,
     };
@@ -131,7 +131,7 @@ fn without_point(
 ///
 /// It gives one verdict for each output, in order. `Equal` only where the output is the same in both programs: for each
 /// valuation of the context, at each element, for all contents of the arrays that agree on the inputs, and whatever the symbols
-/// stand for, as long as the commutative ones commute; and in the setting of the search on the output (`ac_searched`) some order of
+/// stand for, as long as the commutative ones commute; and in the setting of the search on the output (`ac_walk_state`) some order of
 /// commutative arguments has no mismatch. `Different` only where the terms that both programs leave in an
 /// element do not agree at a valuation of the context, and then the least such element is named. The proof names exactly
 /// the outputs with the verdict `Equal`, and `check_proof` accepts it where there is one. `EmptyContext` only where no

@@ -1,8 +1,8 @@
 //! Pairs to which many ways lead, so that the search does well to stop there.
 
 use crate::pairs::is_among;
+use ac_base::Items;
 use ac_graph::types::Graph;
-use ac_items::Items;
 use ac_syntax::tree::Position;
 use std::alloc::{AllocError, Global};
 

@@ -1,15 +1,15 @@
 //! What is said where the search does not begin.
 ghost use Rattle.std.specs.Prelude.{◌≡◌, Some, IfOk};
-ghost use Rattle.ac_walk.specs.Causes.{AreUnknown, cause_of};
-ghost use Rattle.ac_walk.specs.Gathering.{IsProvedOf};
+ghost use Rattle.ac_walk.specs.UnknownCauses.{AreUnknown, cause_of};
+ghost use Rattle.ac_walk.specs.VerdictCollection.{IsProvedOf};
 
-use crate::types::Proved;
+use crate::verdict_types::Proved;
+use ac_base::Items;
 use ac_flow::types::FlowStop;
 use ac_forms::Conj;
-use ac_items::Items;
-use ac_parts::empty_proof;
 use ac_report::{Cause, Verdict};
 use ac_syntax::tree::Pair;
+use ac_walk_state::empty_proof;
 use std::alloc::{AllocError, Global};
 
 /// Copies of conjunctions.

@@ -1,16 +1,16 @@
 -- Forms at combinations of points: what all the points meet, their combination meets.
 use Rattle.std.proofs.Common.{◌≡◌, inl, inr, zero, suc, ℤ, pos, negsuc, ◌+ℤ◌, ◌*ℤ◌, List, [], ◌∷◌, length, refl, ap, sym, ◌∙◌, arith}
 use Rattle.std.proofs.lemmas.Int.{ints}
-use Rattle.ac_integers.specs.Dot.{dot, mix}
-use Rattle.ac_integers.proofs.Dot.{dot-mix, dot-nil}
-use Rattle.ac_integers.proofs.Residues.{zero_factor}
-use Rattle.ac_integers.proofs.Ring.{ring_steps, same_diff, by_diff_4}
-use Rattle.ac_integers.proofs.Products.{mul_comm_ℤ, mul-add_ℤ, add-mul_ℤ, neg-mul_ℤ}
+use Rattle.ac_base.specs.Dot.{dot, mix}
+use Rattle.ac_base.proofs.Dot.{dot-mix, dot-nil}
+use Rattle.ac_base.proofs.Residues.{zero_factor}
+use Rattle.ac_base.proofs.Ring.{ring_steps, same_diff, by_diff_4}
+use Rattle.ac_base.proofs.Products.{mul_comm_ℤ, mul-add_ℤ, add-mul_ℤ, neg-mul_ℤ}
 use Rattle.ac_forms.specs.Affine.{Affine, value_at}
 use Rattle.ac_forms.specs.Rows.{Holds, Meets}
 use Rattle.ac_forms.specs.declared.row.Row.{Row}
 use Rattle.ac_forms.specs.declared.row.Row.TheVariants.{Eq}
-use Rattle.ac_forms.specs.Members.{IsAmong}
+use Rattle.ac_forms.specs.ListMembers.{IsAmong}
 use Rattle.ac_widen.specs.Combinations.{blend, total, times, IsCombination, Each}
 use Rattle.ac_widen.specs.Obligations.{BrokenBy}
 use Rattle.ac_widen.specs.Claims.{IsClaimRow}

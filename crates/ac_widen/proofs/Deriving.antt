@@ -4,7 +4,7 @@ use Rattle.std.specs.Prelude.{slice_get}
 use Rattle.ac_syntax.specs.declared.tree.Order.{Order}
 use Rattle.ac_forms.specs.Rows.{Holds, Meets}
 use Rattle.ac_forms.specs.declared.row.Row.{Row}
-use Rattle.ac_forms.specs.Members.{IsAmong}
+use Rattle.ac_forms.specs.ListMembers.{IsAmong}
 use Rattle.ac_widen.specs.Combinations.{IsCombination, Each}
 use Rattle.ac_widen.specs.Setting.{Setting}
 use Rattle.ac_widen.specs.Obligations.{Obligation, Obligations, BrokenBy, output, step, hull, none, more}
@@ -12,7 +12,7 @@ use Rattle.ac_widen.specs.Derivations.{EntryOf, StandsAt, Weighs, BrokenEarlier,
 use Rattle.ac_widen.specs.declared.derivation.Reason.{Reason}
 use Rattle.ac_widen.specs.declared.derivation.Reason.TheVariants.{Output, Step, Hull}
 use Rattle.ac_widen.specs.Claims.{IsClaimOf}
-use Rattle.ac_widen.specs.Paths.{StepsOn, path_entries, AreAt}
+use Rattle.ac_widen.specs.DerivationPaths.{StepsOn, path_entries, AreAt}
 use Rattle.ac_widen.proofs.Tests.{holds_or}
 use Rattle.ac_widen.proofs.Widening.{claim_broken}
 
@@ -37,7 +37,7 @@ each_append P (x ∷ xs) ys h g = (h.0, each_append P xs ys h.1 g)
 
 module _ {K : Type 0} (s : Setting K) (order : K → Order) where
   abbrev Shown : EntryOf K → Type 0
-  Shown e = Obligation s order e.key e.point
+  Shown e = Obligation s order e.positions e.point
 
   stands_obligation : (es : List (EntryOf K)) (i : ℕ) (k : K) (p : List ℤ) → Each Shown es → StandsAt es i k p → Obligation s order k p
   stands_obligation es i k p h a = rw (← a.2, ← a.3) (each_get Shown es i a.0 h a.1)
@@ -73,11 +73,11 @@ module _ {K : Type 0} (s : Setting K) (order : K → Order) where
   shown_after : (before es : List (EntryOf K)) → Each Shown before → Derives s order before es → Each Shown (before ++ es)
   shown_after before [] h d = each_append Shown before [] h tt
   shown_after before (e ∷ es) h d =
-      let more_ = each_append Shown before (e ∷ []) h (justified_obligation before e.key e.point e.reason h d.0, tt) in
+      let more_ = each_append Shown before (e ∷ []) h (justified_obligation before e.positions e.point e.reason h d.0, tt) in
       rw (sym (append_assoc before (e ∷ []) es)) (shown_after (before ++ e ∷ []) es more_ d.1)
 
   -- each entry of a derivation is an obligation
-  pub derived_obligation : (es : List (EntryOf K)) → IsDerivation s order es → Each (λ e. Obligation s order e.key e.point) es
+  pub derived_obligation : (es : List (EntryOf K)) → IsDerivation s order es → Each (λ e. Obligation s order e.positions e.point) es
   derived_obligation es d = shown_after [] es tt d
 
   derives_append : (before es fs : List (EntryOf K)) → Derives s order before es → Derives s order (before ++ es) fs → Derives s order before (es ++ fs)
@@ -89,14 +89,14 @@ module _ {K : Type 0} (s : Setting K) (order : K → Order) where
   derives_append before (e ∷ es) fs d f = (d.0, derives_append (before ++ e ∷ []) es fs d.1 (rw (sym (append_assoc before (e ∷ []) es)) at f))
 
   -- a derivation grows by a justified entry
-  pub one_more : (es : List (EntryOf K)) (e : EntryOf K) → IsDerivation s order es → Justified s order es e.key e.point e.reason → IsDerivation s order (es ++ e ∷ [])
+  pub one_more : (es : List (EntryOf K)) (e : EntryOf K) → IsDerivation s order es → Justified s order es e.positions e.point e.reason → IsDerivation s order (es ++ e ∷ [])
   one_more es e d j = derives_append [] es (e ∷ []) d (j, tt)
 
   path_derives : (es : List (EntryOf K)) (i : ℕ) (k : K) (p : List ℤ) (path : List (K × List ℤ)) → length es ≡ suc i → StandsAt es i k p → StepsOn s order k p path
       → Derives s order es (path_entries i path)
   path_derives es i k p [] l a d = tt
   path_derives es i k p (c ∷ cs) l a d =
-      let e : EntryOf K = record { key = c.0; point = c.1; reason = Step i } in (
+      let e : EntryOf K = record { positions = c.0; point = c.1; reason = Step i } in (
         (k, p, a, d.0),
         path_derives (es ++ e ∷ []) (suc i) c.0 c.1 cs (length-append es (e ∷ []) ∙ (omega (arith, l))) (e, rw (← l) (get_last es e []), refl, refl) d.1,
       )

@@ -4,12 +4,12 @@ use borrow.Author.Tests.{le-leb}
 use Rattle.std.specs.List.{filter}
 use Rattle.std.proofs.lemmas.Bool.Decides.{Decides-int_eq}
 use Rattle.std.proofs.lemmas.Int.{ints}
-use Rattle.ac_integers.proofs.Divisors.{divides-true, true-divides}
+use Rattle.ac_base.proofs.Divisors.{divides-true, true-divides}
 use Rattle.ac_forms.specs.Affine.{value_at}
 use Rattle.ac_forms.specs.Rows.{Holds}
 use Rattle.ac_forms.specs.declared.row.Row.{Row}
 use Rattle.ac_forms.specs.declared.row.Row.TheVariants.{Eq, Div, Ge}
-use Rattle.ac_forms.specs.Members.{IsAmong}
+use Rattle.ac_forms.specs.ListMembers.{IsAmong}
 use Rattle.ac_widen.specs.Narrowing.{is_met, narrowed}
 
 nonnegative : (v : ℤ) → (int_le (pos 0) v ≡ true) ↔ (pos 0 ≤ℤ v)

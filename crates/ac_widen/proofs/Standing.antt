@@ -9,7 +9,7 @@ use Rattle.ac_widen.specs.Obligations.{Obligation, Obligations, BrokenBy, HasMis
 use Rattle.ac_widen.specs.Claims.{IsClaimRow, IsFine, IsStart, Leads, once, then, Stand}
 use Rattle.ac_widen.proofs.Combining.{meets_combined}
 
--- where an obligation comes from: it is at a recurrence key, an output pair, or on the way from a start
+-- where an obligation comes from: it is at a recurrence pair, an output pair, or on the way from a start
 abbrev Comes : {K : Type 0} → (s : Setting K) → (K → Order) → (K → List Row) → K → List ℤ → Type 0
 Comes {K} s order claim k p = (s.recurrent k ≡ true) ⊎ ((s.recurrent k ≡ false) × (s.Output k p ⊎ ((i : K) × (o : List ℤ) × IsStart s claim i o × Leads s order i o k p)))
 
@@ -63,7 +63,7 @@ module _ {K : Type 0} (s : Setting K) (laws : IsLawful s) (order : K → Order) 
     known_each (none k) t = tt
     known_each (more k p ps m ms) t = ((known m).fine.0 t, known_each ms t)
 
-  -- each member at a recurrence key meets the claim there
+  -- each member at a recurrence pair meets the claim there
   pub members_meet : (k : K) (p : List ℤ) → Obligation s order k p → s.recurrent k ≡ true → Meets (claim k) p
   members_meet k p m t = (known m).fine.0 t
 

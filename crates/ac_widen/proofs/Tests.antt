@@ -1,13 +1,13 @@
 -- Whether a row holds at a point is decided.
 use Rattle.std.proofs.Common.{◌≡◌, ◌⊎◌, inl, inr, ℤ, pos, List, [], ◌∷◌, Bool, true, false, refl, arith, unsigned_abs}
 use Rattle.std.proofs.lemmas.Int.{ints, by_lt_z}
-use Rattle.ac_integers.specs.Multiple.{IsMultiple, divides}
-use Rattle.ac_integers.proofs.Divisors.{divides-true, divides-false}
+use Rattle.ac_base.specs.Multiple.{IsMultiple, divides}
+use Rattle.ac_base.proofs.Divisors.{divides-true, divides-false}
 use Rattle.ac_forms.specs.Affine.{value_at}
 use Rattle.ac_forms.specs.Rows.{Holds}
 use Rattle.ac_forms.specs.declared.row.Row.{Row}
 use Rattle.ac_forms.specs.declared.row.Row.TheVariants.{Eq, Div, Ge}
-use Rattle.ac_forms.specs.Members.{IsAmong}
+use Rattle.ac_forms.specs.ListMembers.{IsAmong}
 use Rattle.ac_widen.specs.Combinations.{Each}
 
 zero_or : (z : ℤ) → (z ≡ pos 0) ⊎ (¬ (z ≡ pos 0))

@@ -1,4 +1,4 @@
--- One round of the walk: the claims of what is kept, a found path, and a found member.
+-- One turn of the walk: the claims of what is kept, a found path, and a found member.
 use Rattle.std.proofs.Common.{◌≡◌, ◌⊎◌, ◌↔◌, inl, inr, ℕ, ◌+◌, ◌<◌, ◌≤◌, ℤ, pos, negsuc, List, [], ◌∷◌, ◌++◌, length, map, zip, true, refl, ap, sym, ◌∙◌, arith, length-append}
 use Rattle.std.proofs.lemmas.Int.{ints}
 use Rattle.ac_syntax.specs.declared.tree.Order.{Order}
@@ -6,14 +6,14 @@ use Rattle.ac_forms.specs.Affine.{Affine, value_at}
 use Rattle.ac_forms.specs.Rows.{Holds, Meets}
 use Rattle.ac_forms.specs.declared.row.Row.{Row}
 use Rattle.ac_forms.specs.declared.row.Row.TheVariants.{Eq, Ge}
-use Rattle.ac_forms.specs.Members.{IsAmong}
+use Rattle.ac_forms.specs.ListMembers.{IsAmong}
 use Rattle.ac_widen.specs.Combinations.{IsCombination, InHull, Each}
 use Rattle.ac_widen.specs.Setting.{Setting}
 use Rattle.ac_widen.specs.Claims.{IsClaimRow, IsClaimOf}
 use Rattle.ac_widen.specs.Derivations.{EntryOf, StandsAt, IsDerivation}
 use Rattle.ac_widen.specs.declared.derivation.Reason.TheVariants.{Output, Hull}
 use Rattle.ac_widen.specs.Narrowing.{narrowed}
-use Rattle.ac_widen.specs.Paths.{StepsOn, path_entries, AreAt}
+use Rattle.ac_widen.specs.DerivationPaths.{StepsOn, path_entries, AreAt}
 use Rattle.ac_widen.specs.Walks.{Kept, rows_with, rows_of, narrowed_by, IsKept, room_with, room_of, Adds, within, grown}
 use Rattle.ac_widen.proofs.Combining.{first_of_some}
 use Rattle.ac_widen.proofs.Deriving.{get_last, one_more, path_more, hull_justified, are_still_at}
@@ -90,17 +90,17 @@ module _ {K : Type 0} (s : Setting K) (es : List (EntryOf K)) (k : K) (c : Kept)
   -- a path from a point of the claim, with the weights of a combination
   pub advance : (order : K → Order) (p : List ℤ) (m : ℤ) (ws : List ℤ) (path : List (K × List ℤ)) → IsDerivation s order es → s.recurrent k ≡ true → s.Instance k p → length p ≡ s.width k → Meets (rows_of c) p
       → IsCombination p m ws c.members → StepsOn s order k p path
-      → IsDerivation s order ((es ++ record { key = k; point = p; reason = Hull m (zip c.members_at ws) } ∷ []) ++ path_entries (length es) path)
+      → IsDerivation s order ((es ++ record { positions = k; point = p; reason = Hull m (zip c.members_at ws) } ∷ []) ++ path_entries (length es) path)
   advance order p m ws path d t inst w meets comb steps =
-      let e : EntryOf K = record { key = k; point = p; reason = Hull m (zip c.members_at ws) } in
+      let e : EntryOf K = record { positions = k; point = p; reason = Hull m (zip c.members_at ws) } in
       let j = hull_justified s order es k c.members c.found c.members_at c.found_at (rows_of c) p m ws t inst w kept_claim is.members_stand is.found_stand meets comb in
       path_more s order (es ++ e ∷ []) (length es) k p path (one_more s order es e d j) (length-append es (e ∷ []) ∙ (omega arith)) (e, get_last es e [], refl, refl) steps
 
 -- a path from an output pair
 pub advance_output : {K : Type 0} (s : Setting K) (es : List (EntryOf K)) (order : K → Order) (k : K) (p : List ℤ) (path : List (K × List ℤ)) → IsDerivation s order es → s.Output k p → StepsOn s order k p path
-    → IsDerivation s order ((es ++ record { key = k; point = p; reason = Output } ∷ []) ++ path_entries (length es) path)
+    → IsDerivation s order ((es ++ record { positions = k; point = p; reason = Output } ∷ []) ++ path_entries (length es) path)
 advance_output {K} s es order k p path d o steps =
-    let e : EntryOf K = record { key = k; point = p; reason = Output } in
+    let e : EntryOf K = record { positions = k; point = p; reason = Output } in
     path_more s order (es ++ e ∷ []) (length es) k p path (one_more s order es e d o) (length-append es (e ∷ []) ∙ (omega arith)) (e, get_last es e [], refl, refl) steps
 
 -- a member

@@ -1,11 +1,11 @@
--- Claims: rows at each recurrence key. When they stand, and when they are the claims of found members.
+-- Claims: rows at each recurrence pair. When they stand, and when they are the claims of found members.
 use Rattle.std.specs.Prelude.{◌≡◌, ◌⊎◌, ℕ, ℤ, List, length, true, false}
 use Rattle.ac_syntax.specs.declared.tree.Order.{Order}
 use Rattle.ac_forms.specs.Affine.{Affine}
 use Rattle.ac_forms.specs.Rows.{Holds, Meets}
 use Rattle.ac_forms.specs.declared.row.Row.{Row}
 use Rattle.ac_forms.specs.declared.row.Row.TheVariants.{Eq}
-use Rattle.ac_forms.specs.Members.{IsAmong}
+use Rattle.ac_forms.specs.ListMembers.{IsAmong}
 use Rattle.ac_widen.specs.Combinations.{InHull, Each}
 use Rattle.ac_widen.specs.Setting.{Setting}
 
@@ -13,11 +13,11 @@ use Rattle.ac_widen.specs.Setting.{Setting}
 abbrev pub IsClaimRow : List Row → Row → Type 0
 IsClaimRow template r = ((f : Affine) × (r ≡ Eq f)) ⊎ (IsAmong r template ⊎ ((p : List ℤ) → ¬ (Holds r p)))
 
--- the pair meets the claim of its key, where that is a recurrence key, and is no mismatch
+-- the pair meets the claim of its positions, where that is a recurrence pair, and is no mismatch
 abbrev pub IsFine : {K : Type 0} → Setting K → (K → List Row) → K → List ℤ → Type 0
 IsFine s claim k p = (s.recurrent k ≡ true → Meets (claim k) p) × ¬ (s.Mismatch k p)
 
--- where a pair goes on to by one step or more, up to the next recurrence key
+-- where a pair goes on to by one step or more, up to the next recurrence pair
 pub data Leads {K : Type 0} (s : Setting K) (order : K → Order) (k : K) (p : List ℤ) : K → List ℤ → Type 0 where
   once : (j : K) (q : List ℤ) → s.Step (order k) k p j q → Leads s order k p j q
   then : (i : K) (o : List ℤ) (j : K) (q : List ℤ) → Leads s order k p i o → s.recurrent i ≡ false → s.Step (order i) i o j q → Leads s order k p j q

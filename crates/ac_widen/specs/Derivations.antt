@@ -4,7 +4,7 @@ use Rattle.ac_syntax.specs.declared.tree.Order.{Order}
 use Rattle.ac_syntax.specs.declared.tree.Position.{Position}
 use Rattle.ac_forms.specs.Rows.{Holds}
 use Rattle.ac_forms.specs.declared.row.Row.{Row}
-use Rattle.ac_forms.specs.Members.{IsAmong}
+use Rattle.ac_forms.specs.ListMembers.{IsAmong}
 use Rattle.ac_widen.specs.Combinations.{IsCombination}
 use Rattle.ac_widen.specs.Setting.{Setting}
 use Rattle.ac_widen.specs.declared.derivation.Entry.{Entry}
@@ -13,26 +13,26 @@ use Rattle.ac_widen.specs.declared.derivation.Reason.TheVariants.{Output, Step, 
 
 -- an entry: a pair of positions, a point, and why it stands
 pub record EntryOf (K : Type 0) : Type 0 where
-  pub key : K
+  pub positions : K
   pub point : List ℤ
   pub reason : Reason
 
 -- what an entry of the program stands for
 abbrev pub entry_of : Entry → EntryOf (Position × Position)
-entry_of e = record { key = (e.left, e.right); point = e.point; reason = e.reason }
+entry_of e = record { positions = (e.left, e.right); point = e.point; reason = e.reason }
 
--- entry i has that key and that point
+-- entry i has these positions and that point
 abbrev pub StandsAt : {K : Type 0} → List (EntryOf K) → ℕ → K → List ℤ → Type 0
-StandsAt {K} es i k p = (e : EntryOf K) × (slice_get es i ≡ Some e) × (e.key ≡ k) × (e.point ≡ p)
+StandsAt {K} es i k p = (e : EntryOf K) × (slice_get es i ≡ Some e) × (e.positions ≡ k) × (e.point ≡ p)
 
--- the weights stand at entries of the key with these points
+-- the weights stand at entries of the positions with these points
 abbrev pub Weighs : {K : Type 0} → List (EntryOf K) → K → List (ℕ × ℤ) → List (List ℤ) → Type 0
 Weighs es k [] [] = Unit {0}
 Weighs es k [] (p ∷ ps) = ⊥
 Weighs es k (w ∷ ws) [] = ⊥
 Weighs es k (w ∷ ws) (p ∷ ps) = StandsAt es w.0 k p × Weighs es k ws ps
 
--- each template row that q breaks is broken by an earlier entry of the key
+-- each template row that q breaks is broken by an earlier entry of the positions
 abbrev pub BrokenEarlier : {K : Type 0} → List (EntryOf K) → K → List Row → List ℤ → Type 0
 BrokenEarlier es k template q = (r : Row) → IsAmong r template → ¬ (Holds r q) → (i : ℕ) × (b : List ℤ) × StandsAt es i k b × ¬ (Holds r b)
 
@@ -50,7 +50,7 @@ Justified s order es k q (Hull m ws) = IsHullOf s es k q m ws
 -- each of the entries is justified by those before it
 abbrev pub Derives : {K : Type 0} → Setting K → (K → Order) → List (EntryOf K) → List (EntryOf K) → Type 0
 Derives s order before [] = Unit {0}
-Derives s order before (e ∷ es) = Justified s order before e.key e.point e.reason × Derives s order (before ++ e ∷ []) es
+Derives s order before (e ∷ es) = Justified s order before e.positions e.point e.reason × Derives s order (before ++ e ∷ []) es
 
 -- the list derives each of its entries
 abbrev pub IsDerivation : {K : Type 0} → Setting K → (K → Order) → List (EntryOf K) → Type 0

@@ -3,8 +3,8 @@ pub mod Setting
 pub mod Obligations
 pub mod Derivations
 pub mod Claims
-pub mod Refutations
+pub mod OrderRefutations
 pub mod Narrowing
-pub mod Paths
+pub mod DerivationPaths
 pub mod Walks
-pub mod Statements
+pub mod WideningLaws

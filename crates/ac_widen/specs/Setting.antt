@@ -1,9 +1,9 @@
--- What the method knows of the two programs: pairs, their steps, and what stands at a key.
+-- What the method knows of the two programs: pairs, their steps, and what stands at a pair of positions.
 use Rattle.std.specs.Prelude.{◌≡◌, ℕ, ℤ, List, length, Bool, true, false}
 use Rattle.ac_syntax.specs.declared.tree.Order.{Order}
 use Rattle.ac_forms.specs.declared.row.Row.{Row}
 
--- a key is a pair of positions, one in each program; a pair is a key with a point: a valuation and the instances of both positions
+-- the positions are a pair, one in each program; a pair is positions with a point: a valuation and the instances of both
 pub record Setting (K : Type 0) : Type 1 where
   -- the pairs from which all begins: an output against itself at one element and one valuation of the context
   pub Output : K → List ℤ → Type 0
@@ -16,7 +16,7 @@ pub record Setting (K : Type 0) : Type 1 where
   -- calls of one declared symbol on two arguments
   pub is_site : K → Bool
   pub template : K → List Row
-  -- how many numbers a point at the key has
+  -- how many numbers a point at the positions has
   pub width : K → ℕ
 
 -- what the laws of the method ask of it

@@ -1,18 +1,18 @@
--- The state of the walk under one order: what it keeps at each recurrence key beside the entries so far.
+-- The state of the walk under one order: what it keeps at each recurrence pair beside the entries so far.
 use Rattle.std.specs.Prelude.{◌≡◌, ◌↔◌, ℕ, suc, ◌+◌, ℤ, pos, ◌<◌, ◌≤◌, List, [], ◌∷◌, ◌++◌, length, map}
 use Rattle.ac_forms.specs.Affine.{Affine, value_at}
 use Rattle.ac_forms.specs.Rows.{Holds, Meets}
 use Rattle.ac_forms.specs.declared.row.Row.{Row}
 use Rattle.ac_forms.specs.declared.row.Row.TheVariants.{Eq}
 use Rattle.ac_forms.specs.NormalForm.{absurd_rows}
-use Rattle.ac_forms.specs.Members.{IsAmong}
+use Rattle.ac_forms.specs.ListMembers.{IsAmong}
 use Rattle.ac_widen.specs.Combinations.{InHull, Each}
 use Rattle.ac_widen.specs.Derivations.{EntryOf}
 use Rattle.ac_widen.specs.Narrowing.{narrowed}
-use Rattle.ac_widen.specs.Paths.{AreAt}
+use Rattle.ac_widen.specs.DerivationPaths.{AreAt}
 use Rattle.ac_widen.specs.Setting.{Setting}
 
--- at one recurrence key: the found members and the places of their entries, those that the hull keeps and the places of theirs, the
+-- at one recurrence pair: the found members and the places of their entries, those that the hull keeps and the places of theirs, the
 -- equalities of the hull, the template rows that all found members meet, and those of them that the claim has
 pub record Kept : Type 0 where
   pub found : List (List ℤ)
@@ -36,7 +36,7 @@ abbrev pub narrowed_by : List Row → List (List ℤ) → List Row
 narrowed_by rows [] = rows
 narrowed_by rows (p ∷ ps) = narrowed_by (narrowed rows p) ps
 
--- what is kept at the key is right for the entries
+-- what is kept at the positions is right for the entries
 pub record IsKept {K : Type 0} (s : Setting K) (es : List (EntryOf K)) (k : K) (c : Kept) : Type 0 where
   pub found_stand : AreAt es k c.found_at c.found
   pub members_stand : AreAt es k c.members_at c.members

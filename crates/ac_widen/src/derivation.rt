@@ -1,4 +1,4 @@
-use ac_items::Items;
+use ac_base::Items;
 use ac_syntax::tree::Position;
 
 /// Why an entry of a derivation stands.

@@ -3,7 +3,7 @@ ghost use Rattle.std.specs.Prelude.{◌≡◌, ◌++◌, ◌∷◌, [], codes, m
 ghost use Rattle.std.specs.List.{flat_map, join_by};
 ghost use Rattle.std.specs.Fmt.{signed_decimal};
 ghost use Rattle.ac_syntax.specs.Text as text;
-ghost use Rattle.ac_syntax.specs.Printing.{plus, continued, has_terms};
+ghost use Rattle.ac_syntax.specs.PrinterTerms.{plus, continued, has_terms};
 
 use crate::name::Name;
 use crate::tree::{Array, Comparison, Cond, IndexExpr, Rel};

@@ -8,7 +8,7 @@ use crate::name::Name;
 use crate::print::forms::{Scope, push_cond, push_subscripts};
 use crate::print::values::array_name;
 use crate::tree::{Array, Cond, IndexExpr, Kind, Slot};
-use ac_items::Items;
+use ac_base::Items;
 use std::alloc::AllocError;
 
 /// Adds the context line, unless the context has no comparison.

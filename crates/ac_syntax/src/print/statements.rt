@@ -2,13 +2,13 @@
 ghost use Rattle.std.specs.Prelude.{◌≡◌, ◌++◌, ◌∷◌, [], codes, map, slice_get, OnOk, IfOk};
 ghost use Rattle.std.specs.List.{flat_map, join_by};
 ghost use Rattle.ac_syntax.specs.Text as text;
-ghost use Rattle.ac_syntax.specs.Printing.{else_lines, loop_lines};
+ghost use Rattle.ac_syntax.specs.PrinterTerms.{else_lines, loop_lines};
 
 use crate::name::Name;
 use crate::print::forms::{Scope, push_cond, push_form};
 use crate::print::values::{push_cell, push_value};
 use crate::tree::{Cond, IndexExpr, Stmt, Value};
-use ac_items::Items;
+use ac_base::Items;
 use itoa::Buffer;
 use std::alloc::{AllocError, Global};
 

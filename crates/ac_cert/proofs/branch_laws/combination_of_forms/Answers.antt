@@ -1,4 +1,4 @@
-use Rattle.ac_choices.proofs.Keeping.{combination-value, combination-within}
+use Rattle.ac_omega_steps.proofs.Keeping.{combination-value, combination-within}
 use Rattle.ac_cert.proofs.branch_laws.combination_of_forms.Goals as goal
 
 pub returns-clause-value : goal.returns-clause-value

@@ -2,8 +2,8 @@ use Rattle.std.proofs.Common.{◌≡◌, ◌+◌, ◌∙◌, sym, ap, subst, Ok,
 use Rattle.ac_forms.specs.Rows.{IsWellMade}
 use Rattle.ac_forms.specs.declared.conj.Conj.{Conj}
 use Rattle.ac_cert.specs.Rules.{with_row, is_partition}
-use Rattle.ac_cert.specs.Faults.{fault_of, tree_fault, later, kids_fault, kids_size, size_of}
-use Rattle.ac_cert.specs.Stops.{Checked, Fails}
+use Rattle.ac_cert.specs.CertificateFaults.{fault_of, tree_fault, later, kids_fault, kids_size, size_of}
+use Rattle.ac_cert.specs.CheckStops.{Checked, Fails}
 use Rattle.ac_cert.proofs.Kids.{fault-at-split, count-at-split, fault-at-residue, count-at-residue}
 use Rattle.ac_cert.proofs.StepRules.{sides-made}
 use Rattle.ac_cert.proofs.Checks.{path-on, child-back, split-err, split-on, kids-on, kids-err, child-fits, child-made}

@@ -1,5 +1,5 @@
 use Rattle.std.proofs.Common.{◌≡◌, ◌≤◌, ◌-◌, ◌^◌, drop}
-use Rattle.ac_cert.specs.Faults.{later, kids_fault, kids_size}
+use Rattle.ac_cert.specs.CertificateFaults.{later, kids_fault, kids_size}
 use Rattle.ac_cert.proofs.check.+checks.Given as goal
 
 abbrev pub invariant-check_kids-loop-r : goal.invariant-check_kids-loop-r

@@ -1,6 +1,6 @@
 use Rattle.std.proofs.Common.{◌≡◌, None, subst}
 use Rattle.ac_forms.specs.declared.conj.Conj.{Conj}
-use Rattle.ac_cert.specs.Faults.{tree_fault}
+use Rattle.ac_cert.specs.CertificateFaults.{tree_fault}
 use Rattle.ac_cert.proofs.Soundness.{tree-covered, end-of_cover}
 use Rattle.ac_cert.proofs.check.check_tree.Goals as goal
 

@@ -1,7 +1,7 @@
 use Rattle.std.proofs.Common.{◌≡◌, drop}
 use Rattle.ac_forms.specs.Rows.{IsWellMade}
-use Rattle.ac_cert.specs.Accepted.{after_steps}
-use Rattle.ac_cert.specs.Faults.{Onward, later, path_fault}
+use Rattle.ac_cert.specs.AcceptedTrees.{after_steps}
+use Rattle.ac_cert.specs.CertificateFaults.{Onward, later, path_fault}
 use Rattle.ac_cert.proofs.check.walk.Given as goal
 
 abbrev pub invariant-loop-s : goal.invariant-loop-s

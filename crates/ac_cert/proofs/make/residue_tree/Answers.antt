@@ -1,4 +1,4 @@
-use Rattle.ac_integers.proofs.Bits.{read_back}
+use Rattle.ac_base.proofs.Bits.{read_back}
 use mir.Syntax.{w128}
 use mir.Val.{SFits}
 use Rattle.ac_cert.proofs.Making.{residue-accepted}

@@ -1,6 +1,6 @@
 use Rattle.std.proofs.Common.{unsigned_abs}
 use Rattle.ac_forms.proofs.Signs.{divides_by}
-use Rattle.ac_integers.proofs.Bits.{again_128}
+use Rattle.ac_base.proofs.Bits.{again_128}
 use Rattle.ac_cert.proofs.numbers.divides_number.Goals as goal
 
 pub returns : goal.returns

@@ -1,5 +1,5 @@
 use Rattle.std.proofs.Common.{◌≡◌, take}
-use Rattle.ac_integers.specs.Dot.{floored}
+use Rattle.ac_base.specs.Dot.{floored}
 use Rattle.ac_cert.proofs.numbers.quotients.Given as goal
 
 abbrev pub invariant-loop-coef : goal.invariant-loop-coef

@@ -1,6 +1,6 @@
 use Rattle.std.proofs.Common.{List, subst}
 use Rattle.ac_forms.specs.Affine.{Affine}
-use Rattle.ac_cert.specs.Accepted.{Accepts}
+use Rattle.ac_cert.specs.AcceptedTrees.{Accepts}
 use Rattle.ac_cert.specs.declared.types.Step.{Step}
 use Rattle.ac_cert.proofs.RowBranching.{Splits, StepsTo, eq-branch}
 use Rattle.ac_cert.proofs.row_branches.at_equality.Goals as goal

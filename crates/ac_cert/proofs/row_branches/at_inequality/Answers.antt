@@ -1,6 +1,6 @@
 use Rattle.std.proofs.Common.{subst}
 use Rattle.ac_forms.specs.Affine.{Affine}
-use Rattle.ac_cert.specs.Accepted.{Accepts}
+use Rattle.ac_cert.specs.AcceptedTrees.{Accepts}
 use Rattle.ac_cert.proofs.RowBranching.{Splits, ge-branch}
 use Rattle.ac_cert.proofs.row_branches.at_inequality.Goals as goal
 

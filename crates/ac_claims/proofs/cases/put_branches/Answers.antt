@@ -1,6 +1,6 @@
 use Rattle.std.proofs.Common.{◌++◌, ap}
 use Rattle.std.proofs.lemmas.Bool.{iff_false}
-use Rattle.ac_claims.specs.Entries.{dues}
+use Rattle.ac_claims.specs.StackEntries.{dues}
 use Rattle.ac_claims.specs.Machine.{Onto}
 use Rattle.ac_claims.proofs.BranchSteps.{back_again, not_nil}
 use Rattle.ac_claims.proofs.StackSteps.{settles_as}

@@ -1,6 +1,6 @@
 use Rattle.std.proofs.Common.{drop}
 use Rattle.std.specs.List.{flat_map}
-use Rattle.ac_claims.specs.Feeding.{Reaches}
+use Rattle.ac_claims.specs.CheckFeed.{Reaches}
 use Rattle.ac_claims.specs.ProofMachine.{items_of}
 use Rattle.ac_claims.proofs.check.+feeding.Given as goal
 

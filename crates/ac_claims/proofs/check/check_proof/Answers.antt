@@ -1,4 +1,4 @@
-use Rattle.ac_claims.specs.Judging.{state_of}
+use Rattle.ac_claims.specs.CheckState.{state_of}
 use Rattle.ac_claims.specs.Soundness.{pairing_of}
 use Rattle.ac_claims.proofs.FeedSteps.{whole_state, ok_answer, fault_answer, same_outputs}
 use Rattle.ac_claims.proofs.check.check_proof.Goals as goal

@@ -1,6 +1,6 @@
 use Rattle.std.proofs.Common.{drop}
 use Rattle.std.specs.List.{flat_map}
-use Rattle.ac_claims.specs.Feeding.{Reaches, of_claim}
+use Rattle.ac_claims.specs.CheckFeed.{Reaches, of_claim}
 use Rattle.ac_claims.proofs.check.feed_claims.Given as goal
 
 abbrev pub invariant-loop-claim : goal.invariant-loop-claim

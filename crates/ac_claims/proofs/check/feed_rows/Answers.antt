@@ -1,6 +1,6 @@
 use Rattle.std.proofs.Common.{sym, subst}
 use Rattle.ac_forms.proofs.Passes.{modulus_at}
-use Rattle.ac_claims.specs.Checking.{IsLine}
+use Rattle.ac_claims.specs.CheckKnowledge.{IsLine}
 use Rattle.ac_claims.proofs.check.feed_rows.Goals as goal
 
 pub feed-requires-clause-item : goal.feed-requires-clause-item

@@ -1,6 +1,6 @@
 use Rattle.std.proofs.Common.{drop}
 use Rattle.std.specs.List.{flat_map}
-use Rattle.ac_claims.specs.Feeding.{Reaches, of_row}
+use Rattle.ac_claims.specs.CheckFeed.{Reaches, of_row}
 use Rattle.ac_claims.proofs.check.feed_rows.Given as goal
 
 abbrev pub invariant-loop-row : goal.invariant-loop-row

@@ -1,6 +1,6 @@
 use Rattle.std.proofs.Common.{drop}
 use Rattle.std.specs.List.{flat_map}
-use Rattle.ac_claims.specs.Feeding.{Reaches, of_step}
+use Rattle.ac_claims.specs.CheckFeed.{Reaches, of_step}
 use Rattle.ac_claims.proofs.check.feed_steps.Given as goal
 
 abbrev pub invariant-loop-step : goal.invariant-loop-step

@@ -1,6 +1,6 @@
 use Rattle.std.proofs.Common.{drop}
 use Rattle.std.specs.List.{flat_map}
-use Rattle.ac_claims.specs.Feeding.{Reaches, of_tree}
+use Rattle.ac_claims.specs.CheckFeed.{Reaches, of_tree}
 use Rattle.ac_claims.proofs.check.feed_trees.Given as goal
 
 abbrev pub invariant-loop-tree : goal.invariant-loop-tree

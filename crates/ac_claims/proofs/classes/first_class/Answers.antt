@@ -2,7 +2,7 @@ use Rattle.std.proofs.Common.{◌≡◌, subst}
 use Rattle.std.specs.Prelude.{IfOk}
 use Rattle.ac_forms.specs.declared.row.Row.{Row}
 use Rattle.ac_cert.specs.Rules.{with_row}
-use Rattle.ac_paths.specs.Going.{at_rows}
+use Rattle.ac_claims_paths.specs.PathSteps.{at_rows}
 use Rattle.ac_claims.proofs.StackSteps.{row_result, row_all}
 use Rattle.ac_claims.proofs.classes.first_class.Goals as goal
 

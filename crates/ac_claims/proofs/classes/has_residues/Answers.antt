@@ -1,6 +1,6 @@
 use Rattle.std.proofs.Common.{FitsSigned, rules}
 use Rattle.std.specs.Int.{w128}
-use Rattle.ac_integers.proofs.Bits.{again_128}
+use Rattle.ac_base.proofs.Bits.{again_128}
 use Rattle.ac_claims.proofs.Residues.{class_low_at}
 use Rattle.ac_claims.proofs.classes.has_residues.Goals as goal
 

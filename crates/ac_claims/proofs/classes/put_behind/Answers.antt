@@ -2,9 +2,9 @@ use Rattle.std.proofs.Common.{◌≡◌, ℕ, ℤ, List, ◌∷◌, ◌++◌, ap
 use Rattle.std.specs.Prelude.{Result, Ok, Err, OnOk, ◌+ℤ◌, pos}
 use Rattle.std.specs.declared.alloc.AllocError.{AllocError}
 use Rattle.ac_cert.specs.Rules.{class}
-use Rattle.ac_paths.specs.Going.{at_rows}
-use Rattle.ac_paths.specs.declared.path.Path.{Path}
-use Rattle.ac_claims.specs.Entries.{AreClasses, classes_of}
+use Rattle.ac_claims_paths.specs.PathSteps.{at_rows}
+use Rattle.ac_claims_paths.specs.declared.path.Path.{Path}
+use Rattle.ac_claims.specs.StackEntries.{AreClasses, classes_of}
 use Rattle.ac_claims.specs.Machine.{Due, PlanAt}
 use Rattle.ac_claims.specs.declared.entry.Classes.{Classes}
 use Rattle.ac_claims.proofs.Residues.{behind_classes, first_taken}

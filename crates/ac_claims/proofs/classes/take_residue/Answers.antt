@@ -1,6 +1,6 @@
 use Rattle.std.proofs.Common.{◌≡◌, ◌++◌, pos, ap, ◌∙◌, refl, sym, subst}
-use Rattle.ac_paths.specs.Calls.{pairing}
-use Rattle.ac_claims.specs.Entries.{AreClasses, classes_of, dues}
+use Rattle.ac_claims_paths.specs.ModelCalls.{pairing}
+use Rattle.ac_claims.specs.StackEntries.{AreClasses, classes_of, dues}
 use Rattle.ac_claims.specs.Machine.{Onto}
 use Rattle.ac_claims.specs.declared.entry.Classes.{Classes}
 use Rattle.ac_claims.proofs.Residues.{residue_taken, are_classes}

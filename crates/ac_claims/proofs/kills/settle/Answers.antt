@@ -1,4 +1,4 @@
-use Rattle.ac_claims.specs.Entries.{dues}
+use Rattle.ac_claims.specs.StackEntries.{dues}
 use Rattle.ac_claims.proofs.KillSteps.{settled_some, settled_none, rows_moduli}
 use Rattle.ac_claims.proofs.StackSteps.{settles_as}
 use Rattle.ac_claims.proofs.kills.settle.Goals as goal

@@ -1,4 +1,4 @@
-use Rattle.ac_paths.specs.Calls.{pairing}
+use Rattle.ac_claims_paths.specs.ModelCalls.{pairing}
 use Rattle.ac_claims.proofs.DueForms.{side_moduli}
 use Rattle.ac_claims.proofs.kills.take_killed.Goals as goal
 

@@ -1,5 +1,5 @@
 use Rattle.std.proofs.Common.{sym, ◌∙◌}
-use Rattle.ac_paths.specs.Calls.{pairing}
+use Rattle.ac_claims_paths.specs.ModelCalls.{pairing}
 use Rattle.ac_claims.proofs.LineSteps.{made_opened}
 use Rattle.ac_claims.proofs.lines.take_claim.Goals as goal
 

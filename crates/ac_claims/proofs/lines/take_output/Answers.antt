@@ -1,5 +1,5 @@
 use Rattle.std.proofs.Common.{sym, subst}
-use Rattle.ac_paths.specs.Calls.{pairing}
+use Rattle.ac_claims_paths.specs.ModelCalls.{pairing}
 use Rattle.ac_claims.specs.Dues.{RowsHaveModuli}
 use Rattle.ac_claims.proofs.LineSteps.{front_moduli}
 use Rattle.ac_claims.proofs.lines.take_output.Goals as goal

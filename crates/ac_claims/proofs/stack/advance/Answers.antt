@@ -1,4 +1,4 @@
-use Rattle.ac_paths.specs.Calls.{pairing}
+use Rattle.ac_claims_paths.specs.ModelCalls.{pairing}
 use Rattle.ac_claims.proofs.Entering.{entry_formed, entry_entries, entry_due, entry_settles, settles_none}
 use Rattle.ac_claims.proofs.stack.advance.Goals as goal
 

@@ -1,5 +1,5 @@
 use Rattle.std.proofs.Common.{sym}
-use Rattle.ac_paths.specs.Calls.{pairing}
+use Rattle.ac_claims_paths.specs.ModelCalls.{pairing}
 use Rattle.ac_claims.proofs.Entering.{settles_at, branch_formed}
 use Rattle.ac_claims.proofs.stack.take_branch.Goals as goal
 

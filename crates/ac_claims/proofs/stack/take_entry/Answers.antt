@@ -1,6 +1,6 @@
 use Rattle.std.proofs.Common.{subst}
 use Rattle.ac_claims.specs.Dues.{AreDueFormed}
-use Rattle.ac_claims.specs.Entries.{HasDues, due_at}
+use Rattle.ac_claims.specs.StackEntries.{HasDues, due_at}
 use Rattle.ac_claims.specs.declared.entry.Awaited.{Awaited}
 use Rattle.ac_claims.proofs.Entering.{of_classes}
 use Rattle.ac_claims.proofs.stack.take_entry.Goals as goal

@@ -1,4 +1,4 @@
-use Rattle.ac_paths.specs.Calls.{pairing}
+use Rattle.ac_claims_paths.specs.ModelCalls.{pairing}
 use Rattle.ac_claims.proofs.Entering.{formed_last, ongoing_last, ongoing_front, last_goes_on, last_stops}
 use Rattle.ac_claims.proofs.stack.take_last.Goals as goal
 

@@ -1,6 +1,6 @@
 use Rattle.std.proofs.Common.{subst, sym}
-use Rattle.ac_paths.specs.Calls.{pairing}
-use Rattle.ac_paths.specs.declared.path.Path.{Path}
+use Rattle.ac_claims_paths.specs.ModelCalls.{pairing}
+use Rattle.ac_claims_paths.specs.declared.path.Path.{Path}
 use Rattle.ac_forms.specs.Rows.{IsWellMade}
 use Rattle.ac_claims.proofs.DueForms.{made_front}
 use Rattle.ac_claims.proofs.Entering.{side_settles}

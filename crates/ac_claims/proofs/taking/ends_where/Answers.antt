@@ -1,7 +1,7 @@
 use Rattle.std.proofs.Common.{List, ◌∙◌, ap, subst, Bool}
 use Rattle.ac_forms.specs.declared.row.Row.{Row}
-use Rattle.ac_paths.specs.Standing.{made_and_stand}
-use Rattle.ac_claims.specs.Entries.{Settles, dues}
+use Rattle.ac_claims_paths.specs.PathRows.{made_and_stand}
+use Rattle.ac_claims.specs.StackEntries.{Settles, dues}
 use Rattle.ac_claims.specs.Machine.{onto_if}
 use Rattle.ac_claims.proofs.KillSteps.{rows_moduli}
 use Rattle.ac_claims.proofs.taking.ends_where.Goals as goal

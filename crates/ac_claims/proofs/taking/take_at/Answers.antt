@@ -1,4 +1,4 @@
-use Rattle.ac_paths.specs.Calls.{pairing}
+use Rattle.ac_claims_paths.specs.ModelCalls.{pairing}
 use Rattle.ac_claims.proofs.StackSteps.{settles_as, take_other}
 use Rattle.ac_claims.proofs.taking.take_at.Goals as goal
 

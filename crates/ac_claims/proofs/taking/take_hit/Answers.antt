@@ -1,7 +1,7 @@
 use Rattle.std.proofs.Common.{Bool, subst}
 use Rattle.ac_cert.specs.declared.types.Rule.TheVariants as rule
-use Rattle.ac_paths.proofs.Moduli.{conj_moduli}
-use Rattle.ac_claims.specs.Entries.{Settles, dues}
+use Rattle.ac_claims_paths.proofs.Moduli.{conj_moduli}
+use Rattle.ac_claims.specs.StackEntries.{Settles, dues}
 use Rattle.ac_claims.specs.Machine.{onto_if}
 use Rattle.ac_claims.proofs.taking.take_hit.Goals as goal
 

@@ -1,8 +1,8 @@
 use Rattle.std.proofs.Common.{List, Option, subst}
 use Rattle.ac_cert.specs.declared.types.Rule.TheVariants as rule
 use Rattle.ac_forms.specs.declared.row.Row.{Row}
-use Rattle.ac_paths.specs.Standing.{made_and_stand}
-use Rattle.ac_claims.specs.Entries.{Settles, dues}
+use Rattle.ac_claims_paths.specs.PathRows.{made_and_stand}
+use Rattle.ac_claims.specs.StackEntries.{Settles, dues}
 use Rattle.ac_claims.specs.Machine.{onto_if}
 use Rattle.ac_claims.proofs.taking.take_number.Goals as goal
 

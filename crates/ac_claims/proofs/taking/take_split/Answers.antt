@@ -1,6 +1,6 @@
 use Rattle.std.proofs.Common.{◌≡◌, Some, ◌∙◌, sym}
 use Rattle.ac_cert.specs.Rules.{side_rows}
-use Rattle.ac_paths.specs.Calls.{pairing}
+use Rattle.ac_claims_paths.specs.ModelCalls.{pairing}
 use Rattle.ac_claims.proofs.StackSteps.{settles_as, split_taken, row_entries}
 use Rattle.ac_claims.proofs.taking.take_split.Goals as goal
 

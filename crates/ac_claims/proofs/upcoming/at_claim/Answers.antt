@@ -1,7 +1,7 @@
 use Rattle.std.proofs.Common.{length, refl, ◌∙◌}
 use Rattle.std.proofs.lemmas.Option.{slice_get_read}
-use Rattle.ac_paths.specs.Calls.{pairing}
-use Rattle.ac_claims.specs.Remaining.{next_in}
+use Rattle.ac_claims_paths.specs.ModelCalls.{pairing}
+use Rattle.ac_claims.specs.RemainingPlans.{next_in}
 use Rattle.ac_claims.proofs.UpcomingSteps.{at_claim_is}
 use Rattle.ac_claims.proofs.upcoming.at_claim.Goals as goal
 

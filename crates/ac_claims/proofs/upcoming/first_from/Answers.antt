@@ -1,5 +1,5 @@
 use Rattle.std.proofs.Common.{refl}
-use Rattle.ac_paths.specs.Calls.{pairing}
+use Rattle.ac_claims_paths.specs.ModelCalls.{pairing}
 use Rattle.ac_claims.proofs.UpcomingSteps.{settled_none}
 use Rattle.ac_claims.proofs.upcoming.first_from.Goals as goal
 

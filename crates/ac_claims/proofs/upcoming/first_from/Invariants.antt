@@ -1,5 +1,5 @@
 use Rattle.std.proofs.Common.{◌≡◌, drop}
-use Rattle.ac_paths.specs.Calls.{pairing}
+use Rattle.ac_claims_paths.specs.ModelCalls.{pairing}
 use Rattle.ac_claims.specs.ProofFaults.{due_from}
 use Rattle.ac_claims.proofs.upcoming.first_from.Given as goal
 

@@ -1,6 +1,6 @@
 use Rattle.std.proofs.Common.{sym, ◌∙◌, map}
-use Rattle.ac_flow.specs.Cases.{seen, conj_of_remainder}
-use Rattle.ac_flow.specs.Stops.{plain}
+use Rattle.ac_flow.specs.FlowCases.{seen, conj_of_remainder}
+use Rattle.ac_flow.specs.CaseStops.{plain}
 use Rattle.ac_flow.proofs.CaseSteps.{context_over, pieces_over, kills_over, wide_enough, wide_as, writings_as, same_length, case_is, cut_stop_case, kept_case, filled_case}
 use Rattle.ac_flow.proofs.casing.case_of.Goals as goal
 

@@ -1,4 +1,4 @@
-use Rattle.ac_flow.specs.Cases.{seen}
+use Rattle.ac_flow.specs.FlowCases.{seen}
 use Rattle.ac_flow.proofs.CaseSteps.{initial_filled}
 use Rattle.ac_flow.proofs.casing.initial_case.Goals as goal
 

@@ -1,6 +1,6 @@
 use Rattle.std.proofs.Common.{sym, refl, map}
-use Rattle.ac_flow.specs.Cases.{seen, conj_of_remainder}
-use Rattle.ac_flow.specs.Stops.{plain}
+use Rattle.ac_flow.specs.FlowCases.{seen, conj_of_remainder}
+use Rattle.ac_flow.specs.CaseStops.{plain}
 use Rattle.ac_flow.proofs.CaseSteps.{source_rows, source_is, source_stops, source_kept, filled_map}
 use Rattle.ac_flow.proofs.casing.source_case.Goals as goal
 

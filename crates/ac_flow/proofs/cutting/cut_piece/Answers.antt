@@ -1,8 +1,8 @@
 use Rattle.std.proofs.Common.{◌≡◌, ◌+◌, length, subst}
 use Rattle.std.specs.Prelude.{IfErr, OnOk}
 use Rattle.ac_forms.specs.declared.conj.Conj.{Conj}
-use Rattle.ac_kills.specs.Causes.{AreCutCases, CutStops, IfFull}
-use Rattle.ac_kills.specs.Cuts.{NoneMeet}
+use Rattle.ac_flow.specs.CutStops.{AreCutCases, CutStops, IfFull}
+use Rattle.ac_flow.specs.Cuts.{NoneMeet}
 use Rattle.ac_sets.specs.Unions.{ArePieces}
 use Rattle.ac_flow.proofs.CutSteps.{case_made}
 use Rattle.ac_flow.proofs.cutting.cut_piece.Goals as goal

@@ -1,5 +1,5 @@
 use Rattle.std.proofs.Common.{◌≡◌, ◌++◌, map}
-use Rattle.ac_flow.specs.Cases.{conj_of_remainder}
+use Rattle.ac_flow.specs.FlowCases.{conj_of_remainder}
 use Rattle.ac_flow.proofs.cutting.push_conjs.Given as goal
 
 abbrev pub invariant-loop-remainder : goal.invariant-loop-remainder

@@ -1,5 +1,5 @@
 use Rattle.std.proofs.Common.{◌≡◌, ◌++◌, map}
-use Rattle.ac_flow.specs.Cases.{remainder}
+use Rattle.ac_flow.specs.FlowCases.{remainder}
 use Rattle.ac_flow.proofs.cutting.push_remainders.Given as goal
 
 abbrev pub invariant-loop-conj : goal.invariant-loop-conj

@@ -1,4 +1,4 @@
-use Rattle.ac_paths.proofs.Branches.{in_left, in_right}
+use Rattle.ac_claims_paths.proofs.Branches.{in_left, in_right}
 use Rattle.ac_flow.specs.Readers.{reads_of_all, outputs_from, readers}
 use Rattle.ac_flow.proofs.FlowSteps.{stops_more, flows_of}
 use Rattle.ac_flow.proofs.flowing.flows.Goals as goal

@@ -1,6 +1,6 @@
 use Rattle.std.proofs.Common.{◌≡◌, ◌++◌}
 use Rattle.std.specs.List.{flat_map}
-use Rattle.ac_flow.specs.Cases.{conjs_of}
+use Rattle.ac_flow.specs.FlowCases.{conjs_of}
 use Rattle.ac_flow.proofs.reading.push_cases.Given as goal
 
 abbrev pub invariant-loop-case : goal.invariant-loop-case

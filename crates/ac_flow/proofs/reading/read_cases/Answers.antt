@@ -1,5 +1,5 @@
 use Rattle.std.proofs.Common.{◌∙◌, None}
-use Rattle.ac_flow.specs.Cases.{seen}
+use Rattle.ac_flow.specs.FlowCases.{seen}
 use Rattle.ac_flow.specs.Writings.{writings}
 use Rattle.ac_flow.proofs.ReadSteps.{start, next, done, done_within, source_full, initial_full, source_stop_behind}
 use Rattle.ac_flow.proofs.reading.read_cases.Goals as goal

@@ -1,4 +1,4 @@
-use Rattle.ac_flow.specs.Cases.{seen}
+use Rattle.ac_flow.specs.FlowCases.{seen}
 use Rattle.ac_flow.proofs.ReadSteps.{SoFar}
 use Rattle.ac_flow.proofs.reading.read_cases.Given as goal
 

@@ -1,6 +1,6 @@
 use Rattle.std.proofs.Common.{unsigned_abs}
 use Rattle.ac_forms.proofs.Signs.{divides_by}
-use Rattle.ac_integers.proofs.Bits.{again_128}
+use Rattle.ac_base.proofs.Bits.{again_128}
 use Rattle.ac_forms.proofs.normal.divides_out.Goals as goal
 
 pub returns-else-divisor-eq1 : goal.returns-else-divisor-eq1

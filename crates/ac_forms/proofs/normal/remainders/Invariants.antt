@@ -1,5 +1,5 @@
 use Rattle.std.proofs.Common.{◌≡◌, take}
-use Rattle.ac_integers.specs.Dot.{residues}
+use Rattle.ac_base.specs.Dot.{residues}
 use Rattle.ac_forms.proofs.normal.remainders.Given as goal
 
 abbrev pub invariant-loop-coef : goal.invariant-loop-coef

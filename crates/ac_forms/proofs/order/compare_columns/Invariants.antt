@@ -1,5 +1,5 @@
 use Rattle.std.proofs.Common.{◌≡◌, drop}
-use Rattle.ac_forms.specs.Orders.{columns_cmp}
+use Rattle.ac_forms.specs.FormOrder.{columns_cmp}
 use Rattle.ac_forms.proofs.order.compare_columns.Given as goal
 
 abbrev pub invariant-loop-column : goal.invariant-loop-column

@@ -1,5 +1,5 @@
 use Rattle.std.proofs.Common.{◌≡◌, drop}
-use Rattle.ac_forms.specs.Columns.{is_present}
+use Rattle.ac_forms.specs.RowColumns.{is_present}
 use Rattle.ac_forms.proofs.present.is_present.Given as goal
 
 abbrev pub invariant-loop-row : goal.invariant-loop-row

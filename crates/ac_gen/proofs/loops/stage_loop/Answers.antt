@@ -4,7 +4,7 @@ use Rattle.std.proofs.lemmas.Result.{IfOk-weaker}
 use Rattle.ac_syntax.specs.declared.tree.Rel.TheVariants.{NonNegative}
 use Rattle.ac_syntax.specs.declared.tree.Stmt.TheVariants as stmt
 use Rattle.ac_syntax.specs.declared.tree.Value.TheVariants as value
-use Rattle.ac_gen.specs.Loops as spec
+use Rattle.ac_gen.specs.PipelineLoops as spec
 use Rattle.ac_gen.proofs.Shifts.{shifted_is}
 use Rattle.ac_gen.proofs.loops.stage_loop.Goals as goal
 

@@ -1,7 +1,7 @@
 use Rattle.std.proofs.Common.{◌↔◌}
 use Rattle.ac_syntax.specs.declared.tree.Position.{Position}
-use Rattle.ac_forms.specs.Members.{IsAmong}
-use Rattle.ac_graph.specs.Recurring.{HasMark}
+use Rattle.ac_forms.specs.ListMembers.{IsAmong}
+use Rattle.ac_graph.specs.Recurrence.{HasMark}
 use Rattle.ac_graph.proofs.analysis.chosen.Given as goal
 
 abbrev pub invariant-loop-at : goal.invariant-loop-at

@@ -1,6 +1,6 @@
 use Rattle.std.proofs.Common.{sym, subst, List, ℕ}
 use Rattle.std.proofs.lemmas.Result.{IfOk-weaker}
-use Rattle.ac_graph.specs.Recurring.{AreFallingOutside}
+use Rattle.ac_graph.specs.Recurrence.{AreFallingOutside}
 use Rattle.ac_graph.specs.Ways.{IsGraph, AreFalling}
 use Rattle.ac_graph.proofs.RecurSteps.{graph_outside, falling_outside}
 use Rattle.ac_graph.proofs.analysis.ranks.Goals as goal

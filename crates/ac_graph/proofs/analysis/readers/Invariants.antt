@@ -1,5 +1,5 @@
 use Rattle.std.proofs.Common.{◌≡◌, take}
-use Rattle.ac_graph.specs.Recurring.{readers}
+use Rattle.ac_graph.specs.Recurrence.{readers}
 use Rattle.ac_graph.proofs.analysis.readers.Given as goal
 
 abbrev pub invariant-loop-at : goal.invariant-loop-at

@@ -1,6 +1,6 @@
 use Rattle.std.proofs.Common.{◌∙◌, sym, subst, List, Bool, ℕ}
 use Rattle.std.proofs.lemmas.Result.{IfOk-weaker}
-use Rattle.ac_graph.specs.Recurring.{AreMarkedBy, AreRecurring}
+use Rattle.ac_graph.specs.Recurrence.{AreMarkedBy, AreRecurring}
 use Rattle.ac_graph.specs.Ways.{IsGraph, IsWithin, AreCyclic}
 use Rattle.ac_graph.proofs.RecurSteps.{recurring_are, graph_within}
 use Rattle.ac_graph.proofs.analysis.recurring.Goals as goal

@@ -1,6 +1,6 @@
 use Rattle.std.proofs.Common.{rules, [], subst, List}
 use Rattle.ac_flow.specs.declared.types.Case.{Case}
-use Rattle.ac_graph.specs.Spreading.{IsMore, IsEdgeOf}
+use Rattle.ac_graph.specs.Reachability.{IsMore, IsEdgeOf}
 use Rattle.ac_graph.proofs.PlaceSteps.{read_step, edges_made}
 use Rattle.ac_graph.proofs.edges.edges.Goals as goal
 

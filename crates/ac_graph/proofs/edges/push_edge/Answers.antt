@@ -1,6 +1,6 @@
 use Rattle.std.proofs.Common.{◌≡◌, ◌∙◌, sym, subst, false, true}
 use Rattle.ac_syntax.specs.declared.tree.Position.{Position}
-use Rattle.ac_graph.specs.Spreading.{IsMore}
+use Rattle.ac_graph.specs.Reachability.{IsMore}
 use Rattle.ac_graph.proofs.PlaceSteps.{edge_pushed}
 use Rattle.ac_graph.proofs.edges.push_edge.Goals as goal
 

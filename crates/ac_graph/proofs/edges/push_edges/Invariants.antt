@@ -1,5 +1,5 @@
 use Rattle.std.proofs.Common.{take}
-use Rattle.ac_graph.specs.Spreading.{IsMore, IsEdgeOf}
+use Rattle.ac_graph.specs.Reachability.{IsMore, IsEdgeOf}
 use Rattle.ac_graph.proofs.edges.push_edges.Given as goal
 
 abbrev pub invariant-loop-case : goal.invariant-loop-case

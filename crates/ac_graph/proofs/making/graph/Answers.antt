@@ -1,7 +1,7 @@
 use Rattle.std.proofs.Common.{◌∙◌, ◌↔◌, sym, ap, subst, List, ℕ, length}
 use Rattle.ac_syntax.specs.declared.tree.Position.{Position}
-use Rattle.ac_forms.specs.Members.{IsAmong}
-use Rattle.ac_graph.specs.Moves.{dependences, starts_of}
+use Rattle.ac_forms.specs.ListMembers.{IsAmong}
+use Rattle.ac_graph.specs.PairMoves.{dependences, starts_of}
 use Rattle.ac_graph.specs.Ways.{IsGraph}
 use Rattle.ac_graph.proofs.GraphSteps.{graph_of, recurrent_are, ranks_are, recurring_at, marked_at, falling_at, reached_from}
 use Rattle.ac_graph.proofs.LawSteps.{calls_descend, edges_lead}

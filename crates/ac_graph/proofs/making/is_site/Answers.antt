@@ -1,7 +1,7 @@
 use Rattle.std.proofs.Common.{◌∙◌, sym, ap, option_map}
 use Rattle.ac_syntax.specs.Outputs.{swaps_of}
-use Rattle.ac_paths.proofs.CallSteps.{symbol_is}
-use Rattle.ac_graph.specs.Outlines.{called}
+use Rattle.ac_claims_paths.proofs.CallSteps.{symbol_is}
+use Rattle.ac_graph.specs.ProgramOutlines.{called}
 use Rattle.ac_graph.proofs.Linking.{call_linked}
 use Rattle.ac_graph.proofs.SiteSteps.{site_swaps, no_site}
 use Rattle.ac_graph.proofs.making.is_site.Goals as goal

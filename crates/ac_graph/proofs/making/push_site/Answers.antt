@@ -1,4 +1,4 @@
-use Rattle.ac_graph.specs.Moves.{IsSite}
+use Rattle.ac_graph.specs.PairMoves.{IsSite}
 use Rattle.ac_graph.proofs.SiteSteps.{sites_pushed}
 use Rattle.ac_graph.proofs.making.push_site.Goals as goal
 

@@ -1,6 +1,6 @@
 use Rattle.std.proofs.Common.{subst, List}
 use Rattle.ac_syntax.specs.declared.tree.Position.{Position}
-use Rattle.ac_graph.specs.Moves.{dependences, start_of, AreReached}
+use Rattle.ac_graph.specs.PairMoves.{dependences, start_of, AreReached}
 use Rattle.ac_graph.proofs.SiteSteps.{distinct_one, first_of}
 use Rattle.ac_graph.proofs.making.reachable_from.Goals as goal
 

@@ -1,4 +1,4 @@
-use Rattle.ac_graph.specs.Moves.{pairing_of}
+use Rattle.ac_graph.specs.PairMoves.{pairing_of}
 use Rattle.ac_graph.proofs.SiteSteps.{sites_start, sites_step, sites_end}
 use Rattle.ac_graph.proofs.making.sites.Goals as goal
 

@@ -1,9 +1,9 @@
 use Rattle.std.proofs.Common.{take, ◌↔◌}
 use Rattle.ac_syntax.specs.declared.tree.Site.{Site}
-use Rattle.ac_paths.specs.Going.{Pairing}
-use Rattle.ac_forms.specs.Members.{IsAmong}
-use Rattle.ac_graph.specs.Moves.{IsSite}
-use Rattle.ac_graph.specs.Outlines.{AreOutlinesOf}
+use Rattle.ac_claims_paths.specs.PathSteps.{Pairing}
+use Rattle.ac_forms.specs.ListMembers.{IsAmong}
+use Rattle.ac_graph.specs.PairMoves.{IsSite}
+use Rattle.ac_graph.specs.ProgramOutlines.{AreOutlinesOf}
 use Rattle.ac_graph.proofs.making.sites.Given as goal
 
 abbrev pub invariant-loop-at : goal.invariant-loop-at

@@ -1,5 +1,5 @@
 use Rattle.std.proofs.Common.{◌∙◌, ap, List, Bool, arith}
-use Rattle.ac_graph.specs.Marking.{is_marked}
+use Rattle.ac_graph.specs.NodeMarks.{is_marked}
 use Rattle.ac_graph.proofs.CycleSteps.{cycles_start, cycles_step, cycles_end}
 use Rattle.ac_graph.proofs.marks.cyclic.Goals as goal
 

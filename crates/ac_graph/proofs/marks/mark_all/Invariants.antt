@@ -1,5 +1,5 @@
 use Rattle.std.proofs.Common.{take}
-use Rattle.ac_graph.specs.Marking.{AreAdded}
+use Rattle.ac_graph.specs.NodeMarks.{AreAdded}
 use Rattle.ac_graph.proofs.marks.mark_all.Given as goal
 
 abbrev pub invariant-loop-node : goal.invariant-loop-node

@@ -1,5 +1,5 @@
 use Rattle.std.proofs.Common.{◌∙◌, sym, ap, subst, ℕ, List, Bool, length, arith}
-use Rattle.ac_graph.specs.Marking.{AreMatched}
+use Rattle.ac_graph.specs.NodeMarks.{AreMatched}
 use Rattle.ac_graph.proofs.MarkSteps.{nodes_fit, length_unmarked, unmarked_matched, item_at, found_below, spreading_begin, spreading_next, spreading_end}
 use Rattle.ac_graph.proofs.marks.marked.Goals as goal
 

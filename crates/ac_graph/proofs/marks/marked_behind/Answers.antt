@@ -1,6 +1,6 @@
 use Rattle.std.proofs.Common.{◌↔◌, ℕ, List}
 use Rattle.std.proofs.lemmas.Result.{IfOk-weaker}
-use Rattle.ac_forms.specs.Members.{IsAmong}
+use Rattle.ac_forms.specs.ListMembers.{IsAmong}
 use Rattle.ac_graph.specs.Ways.{IsMarked}
 use Rattle.ac_graph.proofs.CycleSteps.{nothing_behind, all_behind}
 use Rattle.ac_graph.proofs.marks.marked_behind.Goals as goal

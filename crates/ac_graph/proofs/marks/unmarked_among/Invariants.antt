@@ -1,5 +1,5 @@
 use Rattle.std.proofs.Common.{take, ◌↔◌, ℕ}
-use Rattle.ac_forms.specs.Members.{IsAmong}
+use Rattle.ac_forms.specs.ListMembers.{IsAmong}
 use Rattle.ac_graph.specs.Ways.{IsMarked}
 use Rattle.ac_graph.proofs.marks.unmarked_among.Given as goal
 

@@ -1,9 +1,9 @@
 use Rattle.std.proofs.Common.{◌∙◌, sym, ap, inl, [], option_map}
 use Rattle.std.proofs.lemmas.Result.{IfOk-weaker}
 use Rattle.ac_syntax.specs.Outputs.{swaps_of}
-use Rattle.ac_graph.specs.Moves.{ArgumentMove}
-use Rattle.ac_graph.specs.Outlines.{called}
-use Rattle.ac_graph.specs.Spreading.{IsMore, IsArgumentMoveOf}
+use Rattle.ac_graph.specs.PairMoves.{ArgumentMove}
+use Rattle.ac_graph.specs.ProgramOutlines.{called}
+use Rattle.ac_graph.specs.Reachability.{IsMore, IsArgumentMoveOf}
 use Rattle.ac_graph.proofs.Linking.{call_linked}
 use Rattle.ac_graph.proofs.MoveSteps.{argument_move, no_arguments}
 use Rattle.ac_graph.proofs.moves.argument_moves.Goals as goal

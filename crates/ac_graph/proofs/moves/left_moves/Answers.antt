@@ -1,6 +1,6 @@
 use Rattle.std.proofs.Common.{subst, List}
 use Rattle.ac_syntax.specs.declared.tree.Position.{Position}
-use Rattle.ac_graph.specs.Spreading.{IsMore, IsLeftOf}
+use Rattle.ac_graph.specs.Reachability.{IsMore, IsLeftOf}
 use Rattle.ac_graph.proofs.moves.left_moves.Goals as goal
 
 pub returns : goal.returns

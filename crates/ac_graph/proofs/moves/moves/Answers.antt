@@ -1,7 +1,7 @@
 use Rattle.std.proofs.Common.{[]}
 use Rattle.std.proofs.lemmas.Result.{IfOk-weaker}
-use Rattle.ac_graph.specs.Moves.{Moves, ArgumentMove}
-use Rattle.ac_graph.specs.Spreading.{IsMore, IsLeftOf, IsRightOf}
+use Rattle.ac_graph.specs.PairMoves.{Moves, ArgumentMove}
+use Rattle.ac_graph.specs.Reachability.{IsMore, IsLeftOf, IsRightOf}
 use Rattle.ac_graph.proofs.Linking.{reads, reads_not}
 use Rattle.ac_graph.proofs.MoveSteps.{left_alone, right_alone, calls_alone}
 use Rattle.ac_graph.proofs.moves.moves.Goals as goal

@@ -1,7 +1,7 @@
 use Rattle.std.proofs.Common.{◌≡◌, ◌∙◌, sym, true, rules}
 use Rattle.ac_syntax.specs.Outputs.{swaps_of}
-use Rattle.ac_paths.proofs.CallSteps.{symbol_is}
-use Rattle.ac_graph.specs.Outlines.{called}
+use Rattle.ac_claims_paths.proofs.CallSteps.{symbol_is}
+use Rattle.ac_graph.specs.ProgramOutlines.{called}
 use Rattle.ac_graph.proofs.MoveSteps.{calls_of_one}
 use Rattle.ac_graph.proofs.moves.moves_of_calls.Goals as goal
 

@@ -1,6 +1,6 @@
 use Rattle.std.proofs.Common.{◌∙◌, sym}
 use Rattle.ac_syntax.specs.Outputs.{swaps_of}
-use Rattle.ac_graph.specs.Outlines.{called}
+use Rattle.ac_graph.specs.ProgramOutlines.{called}
 use Rattle.ac_graph.proofs.MoveSteps.{met_kept, met_swapped}
 use Rattle.ac_graph.proofs.moves.push_arguments.Goals as goal
 

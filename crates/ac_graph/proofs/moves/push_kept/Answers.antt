@@ -1,8 +1,8 @@
 use Rattle.std.proofs.Common.{◌≡◌, ◌∙◌, sym, subst, ℕ, length, arith}
 use Rattle.std.proofs.lemmas.List.{length-map}
 use Rattle.ac_syntax.specs.declared.tree.Position.TheVariants.{Node}
-use Rattle.ac_graph.specs.Outlines.{called}
-use Rattle.ac_graph.specs.Spreading.{IsMore, IsKeptOf}
+use Rattle.ac_graph.specs.ProgramOutlines.{called}
+use Rattle.ac_graph.specs.Reachability.{IsMore, IsKeptOf}
 use Rattle.ac_graph.proofs.MoveSteps.{kept_step}
 use Rattle.ac_graph.proofs.moves.push_kept.Goals as goal
 

@@ -1,5 +1,5 @@
-use Rattle.ac_graph.specs.Outlines.{called}
-use Rattle.ac_graph.specs.Spreading.{IsMore, IsKeptOf}
+use Rattle.ac_graph.specs.ProgramOutlines.{called}
+use Rattle.ac_graph.specs.Reachability.{IsMore, IsKeptOf}
 use Rattle.ac_graph.proofs.moves.push_kept.Given as goal
 
 abbrev pub invariant-loop-k : goal.invariant-loop-k

@@ -1,5 +1,5 @@
 use Rattle.std.proofs.Common.{take}
-use Rattle.ac_graph.specs.Spreading.{IsMore, IsRightOf}
+use Rattle.ac_graph.specs.Reachability.{IsMore, IsRightOf}
 use Rattle.ac_graph.proofs.moves.push_right.Given as goal
 
 abbrev pub invariant-loop-at : goal.invariant-loop-at

@@ -1,6 +1,6 @@
 use Rattle.std.proofs.Common.{◌≡◌, ◌++◌, take}
 use Rattle.std.specs.List.{flat_map}
-use Rattle.ac_graph.specs.Outlines.{outlines}
+use Rattle.ac_graph.specs.ProgramOutlines.{outlines}
 use Rattle.ac_graph.proofs.outline.+statements.Given as goal
 
 abbrev pub invariant-with_statements-loop-stmt : goal.invariant-with_statements-loop-stmt

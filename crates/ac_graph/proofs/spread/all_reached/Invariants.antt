@@ -1,6 +1,6 @@
-use Rattle.ac_graph.specs.Moves.{Dependences}
-use Rattle.ac_graph.specs.Outlines.{AreEdgesOf}
-use Rattle.ac_graph.specs.Spreading.{IsReaching}
+use Rattle.ac_graph.specs.PairMoves.{Dependences}
+use Rattle.ac_graph.specs.ProgramOutlines.{AreEdgesOf}
+use Rattle.ac_graph.specs.Reachability.{IsReaching}
 use Rattle.ac_graph.proofs.spread.all_reached.Given as goal
 
 abbrev pub invariant-loop-at : goal.invariant-loop-at

@@ -1,6 +1,6 @@
 use Rattle.std.proofs.Common.{◌≡◌, subst, sym, Some, rules}
 use Rattle.std.specs.List.{slice_get}
-use Rattle.ac_forms.specs.Members.{IsAmong}
+use Rattle.ac_forms.specs.ListMembers.{IsAmong}
 use Rattle.ac_graph.proofs.Members.{in_at}
 use Rattle.ac_graph.proofs.PlaceSteps.{extends_known, extends_new, placed_last}
 use Rattle.ac_graph.proofs.spread.placed.Goals as goal

@@ -1,6 +1,6 @@
 use Rattle.std.proofs.Common.{take}
-use Rattle.ac_forms.specs.Members.{IsAmong}
-use Rattle.ac_graph.specs.Spreading.{Extends, ArePlaces}
+use Rattle.ac_forms.specs.ListMembers.{IsAmong}
+use Rattle.ac_graph.specs.Reachability.{Extends, ArePlaces}
 use Rattle.ac_graph.proofs.spread.places.Given as goal
 
 abbrev pub invariant-loop-at : goal.invariant-loop-at

@@ -1,5 +1,5 @@
 use Rattle.std.proofs.Common.{◌≡◌, map, ◌∙◌, ap}
-use Rattle.ac_hull.specs.Differences.{row_of}
+use Rattle.ac_hull.specs.ColumnDifferences.{row_of}
 use Rattle.ac_hull.proofs.Enough.{enough}
 use Rattle.ac_hull.proofs.claim.claim_rows.Goals as goal
 

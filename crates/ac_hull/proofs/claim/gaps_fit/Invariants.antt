@@ -1,6 +1,6 @@
 use Rattle.std.proofs.Common.{take}
 use Rattle.ac_widen.specs.Combinations.{Each}
-use Rattle.ac_hull.specs.Differences.{GapsFit}
+use Rattle.ac_hull.specs.ColumnDifferences.{GapsFit}
 use Rattle.ac_hull.proofs.claim.gaps_fit.Given as goal
 
 abbrev pub invariant-loop-point : goal.invariant-loop-point

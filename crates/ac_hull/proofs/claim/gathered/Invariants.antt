@@ -1,5 +1,5 @@
 use Rattle.std.proofs.Common.{◌+◌, []}
-use Rattle.ac_hull.specs.Inner.Gathering.{Gathers, OfFirsts}
+use Rattle.ac_hull.specs.HullInternals.Gathering.{Gathers, OfFirsts}
 use Rattle.ac_hull.proofs.claim.gathered.Given as goal
 
 abbrev pub invariant-loop-first : goal.invariant-loop-first

@@ -1,6 +1,6 @@
 use Rattle.std.proofs.Common.{◌+◌}
-use Rattle.ac_forms.specs.Members.{IsAmong}
-use Rattle.ac_hull.specs.Differences.{IsMetRow, IsThin}
+use Rattle.ac_forms.specs.ListMembers.{IsAmong}
+use Rattle.ac_hull.specs.ColumnDifferences.{IsMetRow, IsThin}
 use Rattle.ac_hull.proofs.Gatherings.{gathered_met, thin_gathered, ok_map}
 use Rattle.ac_hull.proofs.claim.kept_rows.Goals as goal
 

@@ -1,5 +1,5 @@
 use Rattle.std.proofs.Common.{arith, ◌≡◌, ◌+◌}
-use Rattle.ac_hull.specs.Inner.Gathering.{Gathers, OfPair}
+use Rattle.ac_hull.specs.HullInternals.Gathering.{Gathers, OfPair}
 use Rattle.ac_hull.proofs.Gatherings.{first_step}
 use Rattle.ac_hull.proofs.claim.with_first.Goals as goal
 

@@ -1,4 +1,4 @@
-use Rattle.ac_hull.specs.Inner.Gathering.{Gathers, OfFirst}
+use Rattle.ac_hull.specs.HullInternals.Gathering.{Gathers, OfFirst}
 use Rattle.ac_hull.proofs.claim.with_first.Given as goal
 
 abbrev pub invariant-loop-second : goal.invariant-loop-second

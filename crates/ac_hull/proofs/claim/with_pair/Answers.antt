@@ -1,7 +1,7 @@
 use Rattle.std.proofs.Common.{◌∙◌, ◌≡◌, ◌++◌, ap}
-use Rattle.ac_forms.specs.Members.{IsAmong}
-use Rattle.ac_hull.specs.Differences.{AllMeetRow, IsThin}
-use Rattle.ac_hull.specs.Inner.Gathering.{Gathers, OfPair}
+use Rattle.ac_forms.specs.ListMembers.{IsAmong}
+use Rattle.ac_hull.specs.ColumnDifferences.{AllMeetRow, IsThin}
+use Rattle.ac_hull.specs.HullInternals.Gathering.{Gathers, OfPair}
 use Rattle.ac_hull.proofs.Comparing.{each_from}
 use Rattle.ac_hull.proofs.Gatherings.{pair_gathered, ok_map}
 use Rattle.ac_hull.proofs.claim.with_pair.Goals as goal

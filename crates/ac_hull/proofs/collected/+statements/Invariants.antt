@@ -1,6 +1,6 @@
 use Rattle.std.proofs.Common.{◌≡◌, ◌++◌, take}
 use Rattle.std.specs.List.{flat_map}
-use Rattle.ac_hull.specs.Collected.{numbers_of_statement}
+use Rattle.ac_hull.specs.ProgramConstants.{numbers_of_statement}
 use Rattle.ac_hull.proofs.collected.+statements.Given as goal
 
 abbrev pub invariant-with_statements-loop-stmt : goal.invariant-with_statements-loop-stmt

@@ -1,6 +1,6 @@
 use Rattle.std.proofs.Common.{◌≡◌, ◌++◌, take}
 use Rattle.std.specs.List.{flat_map}
-use Rattle.ac_hull.specs.Collected.{numbers_of_value}
+use Rattle.ac_hull.specs.ProgramConstants.{numbers_of_value}
 use Rattle.ac_hull.proofs.collected.+values.Given as goal
 
 abbrev pub invariant-with_values-loop-value : goal.invariant-with_values-loop-value

@@ -1,6 +1,6 @@
 use Rattle.std.proofs.Common.{◌≡◌, ◌++◌, take}
 use Rattle.std.specs.List.{flat_map}
-use Rattle.ac_hull.specs.Collected.{numbers_of_form}
+use Rattle.ac_hull.specs.ProgramConstants.{numbers_of_form}
 use Rattle.ac_hull.proofs.collected.with_condition.Given as goal
 
 abbrev pub invariant-loop-part : goal.invariant-loop-part

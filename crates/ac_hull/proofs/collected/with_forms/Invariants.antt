@@ -1,5 +1,5 @@
 use Rattle.std.proofs.Common.{◌≡◌, ◌++◌, take}
-use Rattle.ac_hull.specs.Collected.{numbers_of_forms}
+use Rattle.ac_hull.specs.ProgramConstants.{numbers_of_forms}
 use Rattle.ac_hull.proofs.collected.with_forms.Given as goal
 
 abbrev pub invariant-loop-form : goal.invariant-loop-form

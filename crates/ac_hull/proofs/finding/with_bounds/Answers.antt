@@ -1,6 +1,6 @@
 use Rattle.std.proofs.Common.{rules, get_or, pos}
-use Rattle.ac_hull.specs.Differences.{bound}
-use Rattle.ac_hull.specs.Inner.Finding.{AddsRow}
+use Rattle.ac_hull.specs.ColumnDifferences.{bound}
+use Rattle.ac_hull.specs.HullInternals.Finding.{AddsRow}
 use Rattle.ac_hull.proofs.Findings.{bounds_step, bounds_end}
 use Rattle.ac_hull.proofs.finding.with_bounds.Goals as goal
 

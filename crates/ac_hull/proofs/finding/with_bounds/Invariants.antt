@@ -1,5 +1,5 @@
 use Rattle.std.proofs.Common.{take}
-use Rattle.ac_hull.specs.Inner.Finding.{AddsBounds}
+use Rattle.ac_hull.specs.HullInternals.Finding.{AddsBounds}
 use Rattle.ac_hull.proofs.finding.with_bounds.Given as goal
 
 abbrev pub invariant-loop-threshold : goal.invariant-loop-threshold

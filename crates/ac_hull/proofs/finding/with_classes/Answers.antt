@@ -1,6 +1,6 @@
 use Rattle.std.proofs.Common.{rules}
-use Rattle.ac_hull.specs.Differences.{class_of}
-use Rattle.ac_hull.specs.Inner.Finding.{AddsRow}
+use Rattle.ac_hull.specs.ColumnDifferences.{class_of}
+use Rattle.ac_hull.specs.HullInternals.Finding.{AddsRow}
 use Rattle.ac_hull.proofs.Findings.{classes_step, classes_end}
 use Rattle.ac_hull.proofs.finding.with_classes.Goals as goal
 

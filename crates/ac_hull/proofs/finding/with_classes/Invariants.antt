@@ -1,4 +1,4 @@
-use Rattle.ac_hull.specs.Inner.Finding.{AddsClasses}
+use Rattle.ac_hull.specs.HullInternals.Finding.{AddsClasses}
 use Rattle.ac_hull.proofs.finding.with_classes.Given as goal
 
 abbrev pub invariant-loop-class : goal.invariant-loop-class

@@ -1,5 +1,5 @@
 use Rattle.std.proofs.Common.{take}
-use Rattle.ac_hull.specs.Inner.Finding.{AddsModuli}
+use Rattle.ac_hull.specs.HullInternals.Finding.{AddsModuli}
 use Rattle.ac_hull.proofs.finding.with_moduli.Given as goal
 
 abbrev pub invariant-loop-modulus : goal.invariant-loop-modulus

@@ -1,7 +1,7 @@
 use Rattle.std.proofs.Common.{rules, pos, get_or, ◌≡◌, FitsSigned}
 use Rattle.std.specs.Int.{w128}
-use Rattle.ac_integers.proofs.Bits.{again_128}
-use Rattle.ac_hull.specs.Inner.Placing.{inserted}
+use Rattle.ac_base.proofs.Bits.{again_128}
+use Rattle.ac_hull.specs.HullInternals.Placing.{inserted}
 use Rattle.ac_hull.proofs.Placing.{first_step, first_end}
 use Rattle.ac_hull.proofs.first.first.Goals as goal
 

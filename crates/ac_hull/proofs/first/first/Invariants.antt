@@ -1,6 +1,6 @@
 use Rattle.std.proofs.Common.{take}
-use Rattle.ac_forms.specs.Members.{IsAmong}
-use Rattle.ac_hull.specs.First.{AreFirst}
+use Rattle.ac_forms.specs.ListMembers.{IsAmong}
+use Rattle.ac_hull.specs.SmallestIntegers.{AreFirst}
 use Rattle.ac_hull.proofs.first.first.Given as goal
 
 abbrev pub invariant-loop-candidate : goal.invariant-loop-candidate

@@ -1,6 +1,6 @@
 use Rattle.std.proofs.Common.{◌<◌, take}
 use Rattle.ac_widen.specs.Combinations.{Each}
-use Rattle.ac_hull.specs.First.{rank}
+use Rattle.ac_hull.specs.SmallestIntegers.{rank}
 use Rattle.ac_hull.proofs.first.place.Given as goal
 
 abbrev pub invariant-loop-at : goal.invariant-loop-at

@@ -1,8 +1,8 @@
 use Rattle.std.proofs.Common.{rules, ◌≡◌, length, slice_get, Some, true, false, Bool, arith, ◌<◌, ◌≤◌, take, ◌∙◌, ◌-◌, ap, vec_len}
 use Rattle.std.specs.Prelude.{IfSome, insert}
-use Rattle.ac_integers.proofs.Bits.{again_128}
+use Rattle.ac_base.proofs.Bits.{again_128}
 use Rattle.ac_widen.specs.Combinations.{Each}
-use Rattle.ac_hull.specs.First.{rank}
+use Rattle.ac_hull.specs.SmallestIntegers.{rank}
 use Rattle.ac_hull.proofs.Placing.{inserted_past, inserted_there, inserted_room, inserted_popped}
 use Rattle.ac_hull.proofs.first.with_number.Goals as goal
 use Rattle.ac_hull.proofs.first.with_number.Goals.{then-at-limit-via-then-at-limit, then-at-limit-via-else-at-limit+then-is_at, then-len-limit, else-len-limit}

@@ -1,6 +1,6 @@
 use Rattle.std.proofs.Common.{refl}
-use Rattle.ac_forms.specs.Members.{IsAmong}
-use Rattle.ac_hull.specs.Differences.{IsSum}
+use Rattle.ac_forms.specs.ListMembers.{IsAmong}
+use Rattle.ac_hull.specs.ColumnDifferences.{IsSum}
 use Rattle.ac_hull.specs.declared.difference.Difference.{Difference}
 use Rattle.ac_hull.proofs.Comparing.{no_true}
 use Rattle.ac_hull.proofs.Thinnings.{none_more, found_at}

@@ -1,5 +1,5 @@
 use Rattle.std.proofs.Common.{refl}
-use Rattle.ac_hull.specs.Differences.{IsSum}
+use Rattle.ac_hull.specs.ColumnDifferences.{IsSum}
 use Rattle.ac_hull.proofs.Comparing.{no_true}
 use Rattle.ac_hull.proofs.Thinnings.{none_more, found_at}
 use Rattle.ac_hull.proofs.thinning.is_sum_with.Goals as goal

@@ -1,5 +1,5 @@
 use Rattle.std.proofs.Common.{take}
-use Rattle.ac_hull.specs.Differences.{IsSum}
+use Rattle.ac_hull.specs.ColumnDifferences.{IsSum}
 use Rattle.ac_hull.proofs.Thinnings.{SomeAmong}
 use Rattle.ac_hull.proofs.thinning.is_sum_with.Given as goal
 

@@ -1,5 +1,5 @@
 use Rattle.std.proofs.Common.{refl}
-use Rattle.ac_hull.specs.Differences.{IsWeaker}
+use Rattle.ac_hull.specs.ColumnDifferences.{IsWeaker}
 use Rattle.ac_hull.proofs.Comparing.{no_true}
 use Rattle.ac_hull.proofs.Thinnings.{none_more, found_at}
 use Rattle.ac_hull.proofs.thinning.is_weaker_than_one.Goals as goal

@@ -1,5 +1,5 @@
 use Rattle.std.proofs.Common.{take}
-use Rattle.ac_hull.specs.Differences.{IsWeaker}
+use Rattle.ac_hull.specs.ColumnDifferences.{IsWeaker}
 use Rattle.ac_hull.proofs.Thinnings.{SomeAmong}
 use Rattle.ac_hull.proofs.thinning.is_weaker_than_one.Given as goal
 

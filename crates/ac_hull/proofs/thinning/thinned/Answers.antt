@@ -1,6 +1,6 @@
 use Rattle.std.proofs.Common.{◌≡◌, ◌++◌, ◌+◌, drop, rules, ◌∙◌, ap}
 use Rattle.ac_widen.proofs.Combining.{each_among}
-use Rattle.ac_hull.specs.Differences.{AllMeetRow}
+use Rattle.ac_hull.specs.ColumnDifferences.{AllMeetRow}
 use Rattle.ac_hull.proofs.Comparing.{no_true}
 use Rattle.ac_hull.proofs.Thinnings.{among_place, thin_start, thin_drop, thin_keep, thin_end, rest_all}
 use Rattle.ac_hull.proofs.thinning.thinned.Goals as goal

@@ -1,12 +1,12 @@
 use Rattle.std.proofs.Common.{◌≡◌, [], ◌++◌, ℕ, List, length, ap, sym, subst, ◌∙◌}
 use Rattle.ac_syntax.specs.Index.{point}
-use Rattle.ac_syntax.specs.Ready.{ReadyAll}
+use Rattle.ac_syntax.specs.ReadyPrograms.{ReadyAll}
 use Rattle.ac_syntax.specs.Sameness.{term}
 use Rattle.ac_instance.specs.declared.halt.Side.TheVariants.{Left, Right}
-use Rattle.ac_instance.specs.Answers.{in_outputs}
+use Rattle.ac_instance.specs.ComparisonAnswers.{in_outputs}
 use Rattle.ac_instance.specs.Events.{in_all, reached}
-use Rattle.ac_instance.specs.Kept.{leaf_in}
-use Rattle.ac_instance.specs.Steps.{IsDue, Advances}
+use Rattle.ac_instance.specs.KeptIds.{leaf_in}
+use Rattle.ac_instance.specs.MachineSteps.{IsDue, Advances}
 use Rattle.ac_instance.proofs.Happen.{due_before, due_after, advance}
 use Rattle.ac_instance.proofs.Outcomes.{ran_halts, from_start, answered}
 use Rattle.ac_instance.proofs.Values.{Holds-kept}

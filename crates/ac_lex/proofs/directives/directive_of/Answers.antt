@@ -1,6 +1,6 @@
 -- By the lemma on what follows the `#`.
 use Rattle.std.proofs.Common.{sym, subst, ◌∙◌, ap}
-use Rattle.ac_lex.specs.Reading.{IsOfKind, directive_of}
+use Rattle.ac_lex.specs.LexerModel.{IsOfKind, directive_of}
 use Rattle.ac_lex.proofs.DirectiveKinds.{kind_is, rest_is}
 use Rattle.ac_lex.proofs.directives.directive_of.Goals as goal
 

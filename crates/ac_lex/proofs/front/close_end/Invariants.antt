@@ -1,5 +1,5 @@
 use Rattle.std.proofs.Common.{◌≡◌, drop}
-use Rattle.ac_lex.specs.Reading.{close_end, plus}
+use Rattle.ac_lex.specs.LexerModel.{close_end, plus}
 use Rattle.ac_lex.proofs.front.close_end.Given as goal
 
 abbrev pub invariant-loop-n : goal.invariant-loop-n

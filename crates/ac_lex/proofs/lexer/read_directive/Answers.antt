@@ -1,8 +1,8 @@
 -- Each arm is one kind of directive.
 use Rattle.std.proofs.Common.{sym, subst}
-use Rattle.ac_lex.specs.Answers.{IsFaultBy}
+use Rattle.ac_lex.specs.LexerAnswers.{IsFaultBy}
 use Rattle.ac_lex.specs.Lexemes.{lexemes}
-use Rattle.ac_lex.specs.Reading.{DirectiveFaultAt}
+use Rattle.ac_lex.specs.LexerModel.{DirectiveFaultAt}
 use Rattle.ac_lex.proofs.ReadLemmas.{reads_skipped, reads_unknown}
 use Rattle.ac_lex.proofs.lexer.read_directive.Goals as goal
 

@@ -1,8 +1,8 @@
 -- Each arm is one case of what stands at the front.
 use Rattle.std.proofs.Common.{sym, subst}
-use Rattle.ac_lex.specs.Answers.{IsFaultBy}
+use Rattle.ac_lex.specs.LexerAnswers.{IsFaultBy}
 use Rattle.ac_lex.specs.Lexemes.{lexemes}
-use Rattle.ac_lex.specs.Reading.{ReadsPiece, PieceFaultAt}
+use Rattle.ac_lex.specs.LexerModel.{ReadsPiece, PieceFaultAt}
 use Rattle.ac_lex.proofs.ReadLemmas.{reads_nothing, reads_over, reads_text, reads_bad}
 use Rattle.ac_lex.proofs.lexer.read_piece.Goals as goal
 

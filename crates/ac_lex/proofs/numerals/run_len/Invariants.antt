@@ -1,5 +1,5 @@
 use Rattle.std.proofs.Common.{◌≡◌, ◌+◌, drop}
-use Rattle.ac_lex.specs.Reading.{run_len}
+use Rattle.ac_lex.specs.LexerModel.{run_len}
 use Rattle.ac_lex.proofs.numerals.run_len.Given as goal
 
 abbrev pub invariant-loop-n : goal.invariant-loop-n

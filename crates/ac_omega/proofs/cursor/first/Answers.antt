@@ -1,5 +1,5 @@
 use Rattle.std.proofs.Common.{rules}
-use Rattle.ac_integers.proofs.Bits.{again_128}
+use Rattle.ac_base.proofs.Bits.{again_128}
 use Rattle.ac_forms.specs.Fits.{Fits}
 use Rattle.ac_omega.proofs.Advances.{first-equal, first-residues, first-wide, first-drop, first-shadow}
 use Rattle.ac_omega.proofs.cursor.first.Goals as goal

@@ -1,5 +1,5 @@
 use Rattle.std.proofs.Common.{◌≡◌, drop}
-use Rattle.ac_refutations.specs.Alternatives.{splinters}
+use Rattle.ac_omega_certify.specs.Alternatives.{splinters}
 use Rattle.ac_omega.proofs.cursor.next_lower.Given as goal
 
 abbrev pub invariant-loop-i : goal.invariant-loop-i

@@ -1,5 +1,5 @@
 use Rattle.std.proofs.Common.{◌≡◌}
-use Rattle.ac_omega.specs.Searching.{columns_to}
+use Rattle.ac_omega.specs.WalkAnswers.{columns_to}
 use Rattle.ac_omega.proofs.decision.all_columns.Given as goal
 
 abbrev pub invariant-loop-z : goal.invariant-loop-z

@@ -1,4 +1,4 @@
-use Rattle.ac_omega.specs.Elimination.{elimination}
+use Rattle.ac_omega.specs.ColumnElimination.{elimination}
 use Rattle.ac_omega.proofs.Rows.{has-rows}
 use Rattle.ac_omega.proofs.Walks.{walk-enough}
 use Rattle.ac_omega.proofs.laws.walk_is_one.Goals as goal

@@ -1,4 +1,4 @@
-use Rattle.ac_omega.specs.Elimination.{elimination}
+use Rattle.ac_omega.specs.ColumnElimination.{elimination}
 use Rattle.ac_omega.proofs.Projecting.{gone-empty}
 use Rattle.ac_omega.proofs.Walks.{gone-between}
 use Rattle.ac_omega.proofs.laws.walk_without_a_point.Goals as goal

@@ -1,5 +1,5 @@
 use Rattle.std.proofs.Common.{sym}
-use Rattle.ac_refutations.specs.Alternatives.{alternatives_for}
+use Rattle.ac_omega_certify.specs.Alternatives.{alternatives_for}
 use Rattle.ac_omega.proofs.Gathering.{gathered_all}
 use Rattle.ac_omega.proofs.listing.listed.Goals as goal
 

@@ -1,7 +1,7 @@
 use Rattle.std.proofs.Common.{◌≡◌, length}
 use Rattle.ac_omega.specs.Cursors.{alternatives_left, IsSound}
-use Rattle.ac_refutations.specs.Alternatives.{alternatives_for, all_of}
-use Rattle.ac_refutations.proofs.GatheredChoices.{gathered}
+use Rattle.ac_omega_certify.specs.Alternatives.{alternatives_for, all_of}
+use Rattle.ac_omega_certify.proofs.GatheredChoices.{gathered}
 use Rattle.ac_omega.proofs.listing.listed.Given as goal
 
 abbrev pub invariant-choices : goal.invariant-choices

@@ -1,5 +1,5 @@
 use Rattle.std.proofs.Common.{sym, ◌∙◌}
-use Rattle.ac_choices.specs.Bounds.{lows, highs}
+use Rattle.ac_omega_steps.specs.Bounds.{lows, highs}
 use Rattle.ac_omega.proofs.Pairs.{pairs-below, pairs-above}
 use Rattle.ac_omega.proofs.ranking.are_unit_pairs.Goals as goal
 

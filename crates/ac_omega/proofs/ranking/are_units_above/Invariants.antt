@@ -1,6 +1,6 @@
 use Rattle.std.proofs.Common.{◌≡◌, drop}
-use Rattle.ac_choices.specs.Bounds.{highs}
-use Rattle.ac_omega.specs.Columns.{are_units}
+use Rattle.ac_omega_steps.specs.Bounds.{highs}
+use Rattle.ac_omega.specs.ColumnChoice.{are_units}
 use Rattle.ac_omega.proofs.ranking.are_units_above.Given as goal
 
 abbrev pub invariant-loop-row : goal.invariant-loop-row

@@ -1,5 +1,5 @@
 use Rattle.std.proofs.Common.{◌≡◌, drop}
-use Rattle.ac_omega.specs.Columns.{by_equality}
+use Rattle.ac_omega.specs.ColumnChoice.{by_equality}
 use Rattle.ac_omega.proofs.ranking.by_equality.Given as goal
 
 abbrev pub invariant-loop-row : goal.invariant-loop-row

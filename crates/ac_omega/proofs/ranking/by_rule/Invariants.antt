@@ -1,6 +1,6 @@
 use Rattle.std.proofs.Common.{◌≡◌, drop}
 use Rattle.std.specs.List.{filter}
-use Rattle.ac_omega.specs.Columns.{by_rule, least_from, precedes, key, passes}
+use Rattle.ac_omega.specs.ColumnChoice.{by_rule, least_from, precedes, key, passes}
 use Rattle.ac_omega.proofs.ranking.by_rule.Given as goal
 
 abbrev pub invariant-loop-z : goal.invariant-loop-z

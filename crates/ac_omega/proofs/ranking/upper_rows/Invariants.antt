@@ -1,5 +1,5 @@
 use Rattle.std.proofs.Common.{◌≡◌, ◌≤◌, ◌+◌, length, drop}
-use Rattle.ac_choices.specs.Bounds.{highs}
+use Rattle.ac_omega_steps.specs.Bounds.{highs}
 use Rattle.ac_omega.proofs.ranking.upper_rows.Given as goal
 
 abbrev pub invariant-loop-row : goal.invariant-loop-row

@@ -1,6 +1,6 @@
 use Rattle.std.proofs.Common.{◌≡◌, ◌<◌, drop}
 use Rattle.ac_forms.specs.Rows.{HaveModuli}
-use Rattle.ac_refutations.specs.Alternatives.{common_modulus}
+use Rattle.ac_omega_certify.specs.Alternatives.{common_modulus}
 use Rattle.ac_omega.proofs.scan.common_modulus.Given as goal
 
 abbrev pub invariant-loop-row : goal.invariant-loop-row

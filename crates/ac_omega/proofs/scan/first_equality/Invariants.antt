@@ -1,5 +1,5 @@
 use Rattle.std.proofs.Common.{◌≡◌, drop}
-use Rattle.ac_refutations.specs.Alternatives.{first_equality}
+use Rattle.ac_omega_certify.specs.Alternatives.{first_equality}
 use Rattle.ac_omega.proofs.scan.first_equality.Given as goal
 
 abbrev pub invariant-loop-i : goal.invariant-loop-i

@@ -1,5 +1,5 @@
 use Rattle.std.proofs.Common.{◌≡◌, drop}
-use Rattle.ac_refutations.specs.Alternatives.{has_divisibility}
+use Rattle.ac_omega_certify.specs.Alternatives.{has_divisibility}
 use Rattle.ac_omega.proofs.scan.has_divisibility.Given as goal
 
 abbrev pub invariant-loop-row : goal.invariant-loop-row

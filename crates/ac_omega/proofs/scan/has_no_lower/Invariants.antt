@@ -1,5 +1,5 @@
 use Rattle.std.proofs.Common.{◌≡◌, drop}
-use Rattle.ac_choices.specs.Bounds.{is_none, lows}
+use Rattle.ac_omega_steps.specs.Bounds.{is_none, lows}
 use Rattle.ac_omega.proofs.scan.has_no_lower.Given as goal
 
 abbrev pub invariant-loop-row : goal.invariant-loop-row

@@ -1,13 +1,13 @@
 use Rattle.std.proofs.Common.{◌≡◌, ◌<◌, Some, None, false, sym, arith, rules}
 use Rattle.ac_forms.proofs.Passes.{moduli_of}
-use Rattle.ac_choices.specs.Choices.{are_absurd}
-use Rattle.ac_omega.specs.Columns.{next_column}
+use Rattle.ac_omega_steps.specs.Choices.{are_absurd}
+use Rattle.ac_omega.specs.ColumnChoice.{next_column}
 use Rattle.ac_omega.specs.Maxima.{with_rows}
 use Rattle.ac_omega.specs.Within.{Bounds, HaveRisen, IsWithin}
-use Rattle.ac_omega.specs.Searching.{IsRefuted, with_choice_behind, with_refutation}
+use Rattle.ac_omega.specs.WalkAnswers.{IsRefuted, with_choice_behind, with_refutation}
 use Rattle.ac_omega.specs.Visits.{seen}
-use Rattle.ac_refutations.specs.Alternatives.{all_of, alternatives_for}
-use Rattle.ac_refutations.specs.declared.refutation.Refutation.TheVariants.{Absurd, Open}
+use Rattle.ac_omega_certify.specs.Alternatives.{all_of, alternatives_for}
+use Rattle.ac_omega_certify.specs.declared.refutation.Refutation.TheVariants.{Absurd, Open}
 use Rattle.ac_omega.proofs.Bounding.{rows-met, rows-risen, rows-on, no-less, risen-on, all-on, moduli-on}
 use Rattle.ac_omega.proofs.Legal.{tried-legal}
 use Rattle.ac_omega.proofs.Present.{next-within}

@@ -1,12 +1,12 @@
 use Rattle.std.proofs.Common.{◌≡◌, ℕ, ◌<◌, ◌≤◌, ◌-◌, ◌*◌, ◌+◌, length}
 use Rattle.std.specs.List.{AllByRecursion}
 use Rattle.ac_omega.specs.Cursors.{alternatives_left, IsSound}
-use Rattle.ac_omega.specs.Searching.{AreLegal, WantsRefutation}
+use Rattle.ac_omega.specs.WalkAnswers.{AreLegal, WantsRefutation}
 use Rattle.ac_omega.specs.Visits.{seen, tried}
 use Rattle.ac_omega.specs.Within.{HaveRisen, IsWithin}
-use Rattle.ac_refutations.specs.Refutations.{AreModuliWithin}
-use Rattle.ac_refutations.specs.Alternatives.{alternatives_for, all_of}
-use Rattle.ac_refutations.proofs.GatheredChoices.{gathered}
+use Rattle.ac_omega_certify.specs.Refutations.{AreModuliWithin}
+use Rattle.ac_omega_certify.specs.Alternatives.{alternatives_for, all_of}
+use Rattle.ac_omega_certify.proofs.GatheredChoices.{gathered}
 use Rattle.ac_omega.proofs.Refuting.{AreRefutedBehind}
 use Rattle.ac_omega.proofs.search.+searches.Given as goal
 

@@ -1,6 +1,6 @@
 use Rattle.std.proofs.Common.{◌≡◌, drop}
 use Rattle.std.specs.List.{list_any}
-use Rattle.ac_parse.specs.Assigned.{assigns}
+use Rattle.ac_parse.specs.AssignedArrays.{assigns}
 use Rattle.ac_parse.proofs.outputs.+assigns.Given as goal
 
 abbrev pub invariant-assigns_in-loop-statement : goal.invariant-assigns_in-loop-statement

@@ -1,7 +1,7 @@
 use Rattle.std.proofs.Common.{◌≡◌, ◌++◌, drop}
 use Rattle.std.specs.Prelude.{filter}
-use Rattle.ac_rules.specs.Numbers.{array_numbers}
-use Rattle.ac_parse.specs.Pairing.{outputs_of, is_output}
+use Rattle.ac_parse_rules.specs.DeclaredNumbers.{array_numbers}
+use Rattle.ac_parse.specs.ProgramPairs.{outputs_of, is_output}
 use Rattle.ac_parse.proofs.outputs.outputs.Given as goal
 
 abbrev pub invariant-loop-slot : goal.invariant-loop-slot

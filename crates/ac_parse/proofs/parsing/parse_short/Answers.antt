@@ -2,8 +2,8 @@ use Rattle.std.proofs.Common.{map, subst, sym}
 use Rattle.std.specs.Prelude.{IfErr}
 use Rattle.ac_lex.specs.Lexemes.{lexeme_of}
 use Rattle.ac_lex.specs.Tokens.{AreTokens}
-use Rattle.ac_parse.specs.Answers.{HasSourceFault}
-use Rattle.ac_parse.specs.Stages.{of_lexer}
+use Rattle.ac_parse.specs.ParseAnswers.{HasSourceFault}
+use Rattle.ac_parse.specs.TextFaults.{of_lexer}
 use Rattle.ac_parse.proofs.Composing.{converted, lexer_fault, text_told}
 use Rattle.ac_parse.proofs.parsing.parse_short.Goals as goal
 

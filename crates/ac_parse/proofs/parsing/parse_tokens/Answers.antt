@@ -1,8 +1,8 @@
 use Rattle.std.proofs.Common.{◌≡◌, map, ap, ◌∙◌}
 use Rattle.ac_lex.specs.Lexemes.{lexeme_of}
-use Rattle.ac_rules.specs.Files.{file_broken, program_of}
-use Rattle.ac_parse.specs.Answers.{IsOnlyProgram}
-use Rattle.ac_parse.specs.Stages.{of_grammar, of_rules, IsTokensAnswer}
+use Rattle.ac_parse_rules.specs.Files.{file_broken, program_of}
+use Rattle.ac_parse.specs.ParseAnswers.{IsOnlyProgram}
+use Rattle.ac_parse.specs.TextFaults.{of_grammar, of_rules, IsTokensAnswer}
 use Rattle.ac_parse.proofs.Composing.{converted, grammar_answer, rules_answer, program_answer, rules_only}
 use Rattle.ac_parse.proofs.Conditions.{file_conditions}
 use Rattle.ac_parse.proofs.parsing.parse_tokens.Goals as goal

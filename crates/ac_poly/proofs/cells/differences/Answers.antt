@@ -1,6 +1,6 @@
 use Rattle.std.proofs.Common.{rules, to_z, of_z}
 use Rattle.std.specs.Int.{w128}
-use Rattle.ac_integers.proofs.Bits.{again_128}
+use Rattle.ac_base.proofs.Bits.{again_128}
 use Rattle.ac_poly.proofs.Subtracting.{less_pushed}
 use Rattle.ac_poly.proofs.cells.differences.Goals as goal
 

@@ -1,10 +1,10 @@
 use Rattle.std.proofs.Common.{rules, arith, ◌≡◌, ◌≤◌, suc, ◌∙◌, inr, w64, FitsSigned, subst, length, IfOk}
 use Rattle.std.proofs.lemmas.Int.{to_z-of_z}
 use Rattle.ac_syntax.specs.declared.tree.Stmt.{the_lemmas}
-use Rattle.ac_syntax.specs.Ready.{ReadyAll}
+use Rattle.ac_syntax.specs.ReadyPrograms.{ReadyAll}
 use Rattle.ac_syntax.proofs.ReadyAt.{ready_for, ready_if}
 use Rattle.ac_poly.specs.Lower.{in_loop, where_holds, where_fails}
-use Rattle.ac_poly.specs.Numbers.{CanEnter, CanHold, CanFail}
+use Rattle.ac_poly.specs.LoweringRange.{CanEnter, CanHold, CanFail}
 use Rattle.ac_poly.proofs.Answering.{wide_not}
 use Rattle.ac_poly.proofs.Walks.{unknown, within, ready_within, few_within, ready_in_loop, walk_for, walk_if, walk_assign, walk_assign_wide, walk_if_err, count_in_loop, count_taken, count_other}
 use Rattle.ac_poly.proofs.walk.+lowering.Goals as goal

@@ -1,7 +1,7 @@
 use Rattle.std.proofs.Common.{rules, ◌≡◌, ◌++◌, ◌∷◌, [], None, Some, subst, sym, ap}
 use Rattle.std.proofs.lemmas.Result.{on_ok_weaker}
-use Rattle.ac_paths.specs.Calls.{pairing}
-use Rattle.ac_prooftext.specs.Lines.{Gave}
+use Rattle.ac_claims_paths.specs.ModelCalls.{pairing}
+use Rattle.ac_prooftext.specs.LinePrefixes.{Gave}
 use Rattle.ac_prooftext.proofs.Coursing.{with_item, without_item, took}
 use Rattle.ac_prooftext.proofs.checker.take_line.Goals as goal
 

@@ -1,6 +1,6 @@
 use Rattle.std.proofs.Common.{rules}
 use Rattle.std.proofs.lemmas.Result.{on_ok_weaker}
-use Rattle.ac_paths.specs.Calls.{pairing}
+use Rattle.ac_claims_paths.specs.ModelCalls.{pairing}
 use Rattle.ac_prooftext.proofs.Streams.{line_taken, all_taken, deep_taken}
 use Rattle.ac_prooftext.proofs.checker.take_piece.Goals as goal
 

@@ -1,6 +1,6 @@
 use Rattle.std.proofs.Common.{length}
-use Rattle.ac_paths.specs.Calls.{pairing}
-use Rattle.ac_claims.specs.Judging.{IsSteady}
+use Rattle.ac_claims_paths.specs.ModelCalls.{pairing}
+use Rattle.ac_claims.specs.CheckState.{IsSteady}
 use Rattle.ac_prooftext.proofs.Streams.{IsTaken}
 use Rattle.ac_prooftext.proofs.checker.take_piece.Given as goal
 

@@ -1,5 +1,5 @@
 use Rattle.std.proofs.Common.{rules, ◌≡◌, ◌+◌, ◌++◌, Some, subst, sym}
-use Rattle.ac_prooftext.specs.Texts.{IsNesting, lines_text, capped}
+use Rattle.ac_prooftext.specs.ProofTexts.{IsNesting, lines_text, capped}
 use Rattle.ac_prooftext.proofs.Judging.{incomplete, complete}
 use Rattle.ac_prooftext.proofs.depths.told.Goals as goal
 

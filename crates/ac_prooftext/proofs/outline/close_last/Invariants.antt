@@ -1,5 +1,5 @@
 use Rattle.std.proofs.Common.{◌≡◌, reverse, vec_len}
-use Rattle.ac_prooftext.specs.Outlines.{closed}
+use Rattle.ac_prooftext.specs.LineOrder.{closed}
 use Rattle.ac_prooftext.proofs.outline.close_last.Given as goal
 
 abbrev pub invariant-loop-left : goal.invariant-loop-left

@@ -1,5 +1,5 @@
 use Rattle.std.proofs.Common.{subst}
-use Rattle.ac_prooftext.specs.Building.{IsJoined, opened_of}
+use Rattle.ac_prooftext.specs.ProofAssembly.{IsJoined, opened_of}
 use Rattle.ac_prooftext.proofs.Joining.{goes_around}
 use Rattle.ac_prooftext.proofs.plan_reader.close.Goals as goal
 

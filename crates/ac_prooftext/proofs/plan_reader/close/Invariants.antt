@@ -1,6 +1,6 @@
 use Rattle.std.proofs.Common.{List, Option, length}
 use Rattle.ac_claims.specs.declared.types.Plan.{Plan}
-use Rattle.ac_prooftext.specs.Building.{Opened, Closes, inner}
+use Rattle.ac_prooftext.specs.ProofAssembly.{Opened, Closes, inner}
 use Rattle.ac_prooftext.proofs.plan_reader.close.Given as goal
 
 abbrev pub invariant-loop-branch : goal.invariant-loop-branch

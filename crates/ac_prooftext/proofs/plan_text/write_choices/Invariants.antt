@@ -1,6 +1,6 @@
 use Rattle.std.proofs.Common.{drop}
 use Rattle.std.specs.List.{flat_map}
-use Rattle.ac_claims.specs.Feeding.{of_choice}
+use Rattle.ac_claims.specs.CheckFeed.{of_choice}
 use Rattle.ac_prooftext.proofs.LineProgress.{Leads}
 use Rattle.ac_prooftext.proofs.plan_text.write_choices.Given as goal
 

@@ -1,6 +1,6 @@
 use Rattle.std.proofs.Common.{subst}
 use Rattle.std.proofs.lemmas.Result.{on_ok_weaker}
-use Rattle.ac_prooftext.specs.Lines.{Gave}
+use Rattle.ac_prooftext.specs.LinePrefixes.{Gave}
 use Rattle.ac_prooftext.proofs.ReadSteps.{with_item, without_item, took_by}
 use Rattle.ac_prooftext.proofs.read.read_line.Goals as goal
 

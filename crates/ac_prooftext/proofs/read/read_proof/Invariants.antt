@@ -1,8 +1,8 @@
 use Rattle.std.proofs.Common.{◌≡◌, ◌++◌, List, ℕ, length}
 use Rattle.std.specs.List.{AllByRecursion}
-use Rattle.ac_proofitems.specs.Words.{IsFree}
-use Rattle.ac_prooftext.specs.Building.{IsReading}
-use Rattle.ac_prooftext.specs.Texts.{lines_text}
+use Rattle.ac_prooftext_lines.specs.LineWords.{IsFree}
+use Rattle.ac_prooftext.specs.ProofAssembly.{IsReading}
+use Rattle.ac_prooftext.specs.ProofTexts.{lines_text}
 use Rattle.ac_prooftext.proofs.read.read_proof.Given as goal
 
 abbrev pub invariant-loop-line : goal.invariant-loop-line

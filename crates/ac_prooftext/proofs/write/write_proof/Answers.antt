@@ -1,7 +1,7 @@
 use Rattle.std.proofs.Common.{rules, ◌≡◌, subst, sym}
 use Rattle.std.specs.Prelude.{is_some}
 use Rattle.ac_claims.specs.ProofMachine.{lines_of}
-use Rattle.ac_prooftext.specs.Texts.{IsSpelling, deepest, proof_text}
+use Rattle.ac_prooftext.specs.ProofTexts.{IsSpelling, deepest, proof_text}
 use Rattle.ac_prooftext.proofs.Excluding.{spelled_proof}
 use Rattle.ac_prooftext.proofs.WriteSteps.{whole_text}
 use Rattle.ac_prooftext.proofs.write.write_proof.Goals as goal

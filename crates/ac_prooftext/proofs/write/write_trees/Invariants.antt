@@ -1,6 +1,6 @@
 use Rattle.std.proofs.Common.{drop}
 use Rattle.std.specs.List.{flat_map}
-use Rattle.ac_claims.specs.Feeding.{of_tree}
+use Rattle.ac_claims.specs.CheckFeed.{of_tree}
 use Rattle.ac_prooftext.proofs.LineProgress.{Leads}
 use Rattle.ac_prooftext.proofs.write.write_trees.Given as goal
 

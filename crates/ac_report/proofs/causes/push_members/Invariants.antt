@@ -1,6 +1,6 @@
 use Rattle.std.proofs.Common.{◌≡◌, ◌++◌, drop, codes}
 use Rattle.std.specs.List.{flat_map, join_by}
-use Rattle.ac_report.specs.Texts.{tuple_text}
+use Rattle.ac_report.specs.ReportTexts.{tuple_text}
 use Rattle.ac_report.proofs.causes.push_members.Given as goal
 
 abbrev pub invariant-loop-member : goal.invariant-loop-member

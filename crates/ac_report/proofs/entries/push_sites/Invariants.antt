@@ -1,6 +1,6 @@
 use Rattle.std.proofs.Common.{◌≡◌, ◌++◌, take}
 use Rattle.std.specs.List.{flat_map}
-use Rattle.ac_report.specs.Texts.{site_text}
+use Rattle.ac_report.specs.ReportTexts.{site_text}
 use Rattle.ac_report.proofs.entries.push_sites.Given as goal
 
 abbrev pub invariant-loop-site : goal.invariant-loop-site

@@ -1,6 +1,6 @@
 use Rattle.std.proofs.Common.{◌≡◌, ◌++◌, take}
 use Rattle.std.specs.List.{flat_map}
-use Rattle.ac_report.specs.Texts.{coordinate_text}
+use Rattle.ac_report.specs.ReportTexts.{coordinate_text}
 use Rattle.ac_report.proofs.verdicts.push_element.Given as goal
 
 abbrev pub invariant-loop-x : goal.invariant-loop-x

@@ -1,5 +1,5 @@
 use Rattle.std.proofs.Common.{◌≡◌, ◌++◌, map}
-use Rattle.ac_sets.specs.Differences.{further}
+use Rattle.ac_sets.specs.SetDifferences.{further}
 use Rattle.ac_sets.proofs.differences.push_outside.Given as goal
 
 abbrev pub invariant-loop-part : goal.invariant-loop-part

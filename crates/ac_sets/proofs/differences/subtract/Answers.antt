@@ -1,16 +1,16 @@
 use Rattle.std.proofs.Common.{◌≡◌, ℕ, ℤ, List, length, subst, sym, refl}
 use Rattle.ac_forms.specs.Negation.{HasExtension}
-use Rattle.ac_forms.specs.Pieces.{IsInSome, IsInOneAtMost}
+use Rattle.ac_forms.specs.PieceMembership.{IsInSome, IsInOneAtMost}
 use Rattle.ac_forms.specs.Rows.{AreRowsOver}
 use Rattle.ac_forms.specs.declared.conj.Conj.{Conj}
 use Rattle.ac_sets.specs.Unions.{ArePieces, AreFixed}
-use Rattle.ac_sets.specs.Differences.{outside}
+use Rattle.ac_sets.specs.SetDifferences.{outside}
 use Rattle.ac_sets.proofs.Outsides.{outside-points, outside-apart, outside-made, outside-fixed}
 use Rattle.ac_forms.specs.declared.row.Row.{Row}
 use Rattle.ac_cert.proofs.Soundness.{tree-covered}
-use Rattle.ac_sets.specs.Ends.{part_refusal, IsInPart}
+use Rattle.ac_sets.specs.DifferenceEnds.{part_refusal, IsInPart}
 use Rattle.ac_sets.specs.EndLaw.{part_sound}
-use Rattle.ac_sets.specs.Paths.{EndsStand}
+use Rattle.ac_sets.specs.DifferencePaths.{EndsStand}
 use Rattle.ac_sets.specs.declared.parts.Parts.{Parts}
 use Rattle.ac_sets.proofs.Standing.{start-stands}
 use Rattle.ac_sets.proofs.differences.subtract.Goals as goal

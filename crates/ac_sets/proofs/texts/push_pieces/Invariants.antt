@@ -1,6 +1,6 @@
 use Rattle.std.proofs.Common.{◌≡◌, ◌++◌, drop, codes}
 use Rattle.std.specs.List.{flat_map}
-use Rattle.ac_sets.specs.Texts.{rows_text, pieces_text}
+use Rattle.ac_sets.specs.SetTexts.{rows_text, pieces_text}
 use Rattle.ac_sets.proofs.texts.push_pieces.Given as goal
 
 abbrev pub invariant-loop-piece : goal.invariant-loop-piece

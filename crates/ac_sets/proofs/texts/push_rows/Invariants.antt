@@ -1,6 +1,6 @@
 use Rattle.std.proofs.Common.{◌≡◌, ◌++◌, drop, codes}
 use Rattle.std.specs.List.{flat_map}
-use Rattle.ac_sets.specs.Texts.{row_text, rows_text}
+use Rattle.ac_sets.specs.SetTexts.{row_text, rows_text}
 use Rattle.ac_sets.proofs.texts.push_rows.Given as goal
 
 abbrev pub invariant-loop-row : goal.invariant-loop-row

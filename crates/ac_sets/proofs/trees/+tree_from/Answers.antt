@@ -1,6 +1,6 @@
 use Rattle.std.proofs.Common.{◌-◌, length, take, drop, rules, subst}
 use Rattle.ac_forms.specs.Rows.{AreRowsOver}
-use Rattle.ac_sets.specs.Differences.{NegationsFit}
+use Rattle.ac_sets.specs.SetDifferences.{NegationsFit}
 use Rattle.ac_sets.proofs.Branches.{front-row, over-wider, div-made}
 use Rattle.ac_sets.proofs.trees.+tree_from.Goals as goal
 

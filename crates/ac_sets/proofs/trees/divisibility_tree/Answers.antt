@@ -1,4 +1,4 @@
-use Rattle.ac_cert.specs.Branches.{with_rest}
+use Rattle.ac_cert.specs.RowBranches.{with_rest}
 use Rattle.ac_sets.proofs.trees.divisibility_tree.Goals as goal
 
 pub returns : goal.returns

@@ -1,5 +1,5 @@
 use Rattle.std.proofs.Common.{ℕ, subst, arith}
-use Rattle.ac_cert.specs.Branches.{under, over_zero}
+use Rattle.ac_cert.specs.RowBranches.{under, over_zero}
 use Rattle.ac_sets.specs.declared.parts.Part.TheVariants.{Piece}
 use Rattle.ac_sets.proofs.Branches.{EndsAt}
 use Rattle.ac_sets.proofs.trees.equality_tree.Goals as goal

@@ -1,5 +1,5 @@
 use Rattle.std.proofs.Common.{arith}
-use Rattle.ac_cert.specs.Branches.{under}
+use Rattle.ac_cert.specs.RowBranches.{under}
 use Rattle.ac_sets.proofs.trees.inequality_tree.Goals as goal
 
 pub returns : goal.returns

@@ -1,5 +1,5 @@
 use Rattle.std.proofs.Common.{◌≡◌, refl}
-use Rattle.ac_sets.specs.Moves.{common_pieces}
+use Rattle.ac_sets.specs.SetIntersections.{common_pieces}
 use Rattle.ac_sets.specs.declared.unions.Union.{Union}
 use Rattle.ac_sets.proofs.Commons.{common-points, common-union, common-all_fixed}
 use Rattle.ac_sets.proofs.unions.intersect.Goals as goal

@@ -1,5 +1,5 @@
 use Rattle.std.proofs.Common.{◌≡◌, ◌++◌, take, map}
-use Rattle.ac_sets.specs.Moves.{common}
+use Rattle.ac_sets.specs.SetIntersections.{common}
 use Rattle.ac_sets.proofs.unions.push_common.Given as goal
 
 abbrev pub invariant-loop-other : goal.invariant-loop-other

@@ -1,5 +1,5 @@
 use Rattle.std.proofs.Common.{◌≡◌, take, sum_by}
-use Rattle.ac_syntax.specs.Nodes.{size}
+use Rattle.ac_syntax.specs.ValueNodes.{size}
 use Rattle.ac_syntax.proofs.count.+nodes.Given as goal
 
 abbrev pub invariant-nodes_in-loop-v : goal.invariant-nodes_in-loop-v

@@ -2,7 +2,7 @@ use Rattle.std.proofs.Common.{◌+◌, pos, drop, get_or, FitsSigned, to_z, w64,
 use Rattle.std.specs.Int.{w128}
 use Rattle.std.specs.Prelude.{option_and_then}
 use Rattle.std.proofs.lemmas.Int.{to_z-of_z}
-use Rattle.ac_syntax.specs.Checked.{summed}
+use Rattle.ac_syntax.specs.CheckedArithmetic.{summed}
 use Rattle.ac_syntax.proofs.Wide.{summed_step, summed_end}
 use Rattle.ac_syntax.proofs.evaluate.sum_products.Goals as goal
 

@@ -1,5 +1,5 @@
 use Rattle.std.proofs.Common.{◌≡◌, drop}
-use Rattle.ac_syntax.specs.Checked.{summed}
+use Rattle.ac_syntax.specs.CheckedArithmetic.{summed}
 use Rattle.ac_syntax.proofs.evaluate.sum_products.Given as goal
 
 abbrev pub invariant-loop-i : goal.invariant-loop-i

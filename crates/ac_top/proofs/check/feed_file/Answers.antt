@@ -1,8 +1,8 @@
 use Rattle.std.proofs.Common.{◌≡◌, ◌+◌, ◌++◌, [], replicate, Option, refl, sym, ap, subst, ◌∙◌, arith}
 use Rattle.ac_port.specs.Contents.{Contents}
-use Rattle.ac_port.specs.Counts.{Rose}
+use Rattle.ac_port.specs.CallCounts.{Rose}
 use Rattle.ac_top.specs.Reads.{AreRead, no_read, one_more}
-use Rattle.ac_top.specs.Stages.{IsFed, IsPartRead}
+use Rattle.ac_top.specs.RunStages.{IsFed, IsPartRead}
 use Rattle.ac_top.proofs.Reading.{front_begins, front_on, longer, stream_ends, stream_is_long, again, limit-is}
 use Rattle.ac_top.proofs.check.feed_file.Goals as goal
 

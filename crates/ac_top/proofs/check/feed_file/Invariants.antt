@@ -1,7 +1,7 @@
 use Rattle.std.proofs.Common.{◌≡◌, ◌≤◌, ◌-◌, ℕ, List, [], length, replicate}
-use Rattle.ac_paths.specs.Going.{Pairing}
-use Rattle.ac_prooftext.specs.Courses.{IsFed as Took, IsReady}
-use Rattle.ac_top.specs.Answers.{stream_limit}
+use Rattle.ac_claims_paths.specs.PathSteps.{Pairing}
+use Rattle.ac_prooftext.specs.CheckProgress.{IsFed as Took, IsReady}
+use Rattle.ac_top.specs.ProgramAnswers.{stream_limit}
 use Rattle.ac_top.specs.Reads.{AreRead}
 use Rattle.ac_top.proofs.Reading.{IsFront}
 use Rattle.ac_top.proofs.check.feed_file.Given as goal

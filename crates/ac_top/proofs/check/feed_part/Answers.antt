@@ -1,8 +1,8 @@
 use Rattle.std.proofs.Common.{◌≡◌, List, ℕ, length, IfSome, IsSomeAnd, ap, subst, sym, ◌∙◌, arith}
 use Rattle.std.specs.FinMap.{get}
 use Rattle.ac_port.specs.Contents.{part_of}
-use Rattle.ac_port.specs.Counts.{Rose}
-use Rattle.ac_top.specs.Stages.{IsPiece}
+use Rattle.ac_port.specs.CallCounts.{Rose}
+use Rattle.ac_top.specs.RunStages.{IsPiece}
 use Rattle.ac_top.proofs.check.feed_part.Goals as goal
 
 pub returns-clause-part : goal.returns-clause-part

@@ -1,9 +1,9 @@
 use Rattle.std.proofs.Common.{sym, ap, subst, ◌∙◌}
 use Rattle.std.proofs.lemmas.Result.{IfOk-weaker}
 use Rattle.ac_claims.specs.Soundness.{pairing_of}
-use Rattle.ac_top.specs.Answers.{CheckReports, proof_unread, tested}
+use Rattle.ac_top.specs.ProgramAnswers.{CheckReports, proof_unread, tested}
 use Rattle.ac_top.specs.Reports.{report as a_report}
-use Rattle.ac_top.specs.Stages.{written, IsFeeding}
+use Rattle.ac_top.specs.RunStages.{written, IsFeeding}
 use Rattle.ac_top.specs.declared.status.Status.TheVariants as status
 use Rattle.ac_top.proofs.check.report_check.Goals as goal
 

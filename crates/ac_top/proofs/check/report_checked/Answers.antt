@@ -1,11 +1,11 @@
 use Rattle.std.proofs.Common.{sym, ap, subst, ◌∙◌}
 use Rattle.std.specs.Prelude.{Ok, Err}
 use Rattle.ac_claims.specs.Soundness.{pairing_of}
-use Rattle.ac_prooftext.specs.Checks.{IsAnswer}
+use Rattle.ac_prooftext.specs.StreamChecks.{IsAnswer}
 use Rattle.ac_prooftext.specs.declared.types.CheckFault.TheVariants.{TooLong, TooDeep, Refused}
-use Rattle.ac_top.specs.Answers.{ProofReports, accepted, too_long, too_deep, not_valid}
+use Rattle.ac_top.specs.ProgramAnswers.{ProofReports, accepted, too_long, too_deep, not_valid}
 use Rattle.ac_top.specs.Reports.{report as a_report}
-use Rattle.ac_top.specs.Texts.{accepted_lines}
+use Rattle.ac_top.specs.ConsoleLines.{accepted_lines}
 use Rattle.ac_top.specs.declared.status.Status.TheVariants as status
 use Rattle.ac_top.proofs.check.report_checked.Goals as goal
 

@@ -1,5 +1,5 @@
 use Rattle.std.proofs.Common.{sym, subst}
-use Rattle.ac_top.specs.Flows.{FlowReports}
+use Rattle.ac_top.specs.FlowReports.{FlowReports}
 use Rattle.ac_top.specs.Reports.{report as a_report}
 use Rattle.ac_top.proofs.Flowing.{stop_status, context_report}
 use Rattle.ac_top.proofs.flows.report_context_stop.Goals as goal

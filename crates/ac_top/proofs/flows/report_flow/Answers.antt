@@ -1,11 +1,11 @@
 use Rattle.std.proofs.Common.{◌≡◌, List, ℕ, Option, [], sym, ap, subst, ◌∙◌}
 use Rattle.std.proofs.lemmas.Result.{IfOk-weaker}
 use Rattle.ac_port.specs.Contents.{Contents}
-use Rattle.ac_port.specs.Counts.{Rose}
-use Rattle.ac_top.specs.Answers.{OneFileReports, TextReports, Holds, file_unread, file_too_long, text_of_file}
+use Rattle.ac_port.specs.CallCounts.{Rose}
+use Rattle.ac_top.specs.ProgramAnswers.{OneFileReports, TextReports, Holds, file_unread, file_too_long, text_of_file}
 use Rattle.ac_top.specs.Reads.{Fails, no_read}
 use Rattle.ac_top.specs.Reports.{report as a_report}
-use Rattle.ac_top.specs.Stages.{written, IsSource}
+use Rattle.ac_top.specs.RunStages.{written, IsSource}
 use Rattle.ac_top.specs.declared.status.Status.TheVariants as status
 use Rattle.ac_top.proofs.flows.report_flow.Goals as goal
 

@@ -1,7 +1,7 @@
 use Rattle.std.proofs.Common.{subst}
 use Rattle.ac_poly.specs.Model.{HasContext}
 use Rattle.ac_flow.specs.Contexts.{ContextStops}
-use Rattle.ac_top.specs.Flows.{default_budget}
+use Rattle.ac_top.specs.FlowReports.{default_budget}
 use Rattle.ac_top.proofs.flows.report_model.Goals as goal
 
 pub report_context_stop-requires-clause-context : goal.report_context_stop-requires-clause-context

@@ -1,8 +1,8 @@
 use Rattle.std.proofs.Common.{sym, ap, subst, ◌∙◌}
 use Rattle.std.proofs.lemmas.Result.{IfOk-weaker}
-use Rattle.ac_top.specs.Answers.{TextReports, text_not_lowered, text_lowered}
+use Rattle.ac_top.specs.ProgramAnswers.{TextReports, text_not_lowered, text_lowered}
 use Rattle.ac_top.specs.Reports.{report as a_report}
-use Rattle.ac_top.specs.Stages.{written, IsLowering, said_by}
+use Rattle.ac_top.specs.RunStages.{written, IsLowering, said_by}
 use Rattle.ac_top.specs.declared.status.Status.TheVariants as status
 use Rattle.ac_top.proofs.flows.report_program.Goals as goal
 

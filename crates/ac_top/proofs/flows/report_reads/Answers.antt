@@ -1,5 +1,5 @@
 use Rattle.std.proofs.Common.{List, ℕ, sym, subst}
-use Rattle.ac_top.specs.Flows.{FlowReports}
+use Rattle.ac_top.specs.FlowReports.{FlowReports}
 use Rattle.ac_top.specs.Reports.{report as a_report}
 use Rattle.ac_top.specs.declared.status.Status.TheVariants as status
 use Rattle.ac_top.proofs.Flowing.{flow_report, stop_report}

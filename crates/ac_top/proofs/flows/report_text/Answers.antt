@@ -1,7 +1,7 @@
 use Rattle.std.proofs.Common.{sym, ap, subst, ◌∙◌}
-use Rattle.ac_top.specs.Answers.{TextReports, text_refused}
+use Rattle.ac_top.specs.ProgramAnswers.{TextReports, text_refused}
 use Rattle.ac_top.specs.Reports.{report as a_report}
-use Rattle.ac_top.specs.Stages.{IsParsed, said_by}
+use Rattle.ac_top.specs.RunStages.{IsParsed, said_by}
 use Rattle.ac_top.specs.declared.status.Status.TheVariants as status
 use Rattle.ac_top.proofs.flows.report_text.Goals as goal
 

@@ -1,5 +1,5 @@
 use Rattle.std.proofs.Common.{◌≡◌, ◌++◌, take}
-use Rattle.ac_top.specs.Generated.{all_found_text}
+use Rattle.ac_top.specs.GenReports.{all_found_text}
 use Rattle.ac_top.proofs.generated.push_all_found.Given as goal
 
 abbrev pub invariant-loop-outcome : goal.invariant-loop-outcome

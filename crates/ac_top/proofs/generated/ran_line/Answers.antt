@@ -1,6 +1,6 @@
 use Rattle.std.proofs.Common.{List, ℕ, [], ◌∷◌, ◌++◌, codes, decimal, ap, ◌∙◌}
-use Rattle.ac_top.specs.Generated.{all_found_text}
-use Rattle.ac_top.specs.Texts.{name_at}
+use Rattle.ac_top.specs.GenReports.{all_found_text}
+use Rattle.ac_top.specs.ConsoleLines.{name_at}
 use Rattle.ac_top.proofs.Lines.{ran_text}
 use Rattle.ac_top.proofs.generated.ran_line.Goals as goal
 

@@ -1,5 +1,5 @@
 use Rattle.std.proofs.Common.{ℕ, List, ◌++◌, ap, refl, ◌∙◌}
-use Rattle.ac_top.specs.Generated.{seed_line}
+use Rattle.ac_top.specs.GenReports.{seed_line}
 use Rattle.ac_top.proofs.generated.report_both.Goals as goal
 
 pub returns : goal.returns

@@ -1,7 +1,7 @@
 use Rattle.std.proofs.Common.{sym, subst}
 use Rattle.std.proofs.lemmas.Result.{IfOk-weaker}
-use Rattle.ac_top.specs.Generated.{GenReports, of_generated}
-use Rattle.ac_top.specs.Stages.{written}
+use Rattle.ac_top.specs.GenReports.{GenReports, of_generated}
+use Rattle.ac_top.specs.RunStages.{written}
 use Rattle.ac_top.proofs.Arities.{generated_arities}
 use Rattle.ac_top.proofs.generated.report_pair.Goals as goal
 

@@ -1,8 +1,8 @@
 use Rattle.std.proofs.Common.{Err, sym, ap, subst, ◌∙◌}
 use Rattle.std.proofs.lemmas.Result.{IfOk-weaker}
-use Rattle.ac_instance.specs.Answers.{IsAnswer}
-use Rattle.ac_top.specs.Generated.{at_1000, RunEnds, run_ended}
-use Rattle.ac_top.specs.Stages.{written}
+use Rattle.ac_instance.specs.ComparisonAnswers.{IsAnswer}
+use Rattle.ac_top.specs.GenReports.{at_1000, RunEnds, run_ended}
+use Rattle.ac_top.specs.RunStages.{written}
 use Rattle.ac_top.proofs.Generating.{halt_ends}
 use Rattle.ac_top.proofs.Instances.{equal_is_same}
 use Rattle.ac_top.proofs.generated.report_run.Goals as goal

@@ -1,5 +1,5 @@
 use Rattle.std.proofs.Common.{◌++◌, slice_index_or, ap, sym, ◌∙◌, arith}
-use Rattle.ac_top.specs.Texts.{name_at, outcome_line}
+use Rattle.ac_top.specs.ConsoleLines.{name_at, outcome_line}
 use Rattle.ac_top.proofs.Instances.{one_further_outcome}
 use Rattle.ac_top.proofs.halts.outcome_lines.Goals as goal
 

@@ -1,5 +1,5 @@
 use Rattle.std.proofs.Common.{◌≡◌, take}
-use Rattle.ac_top.specs.Texts.{outcome_lines}
+use Rattle.ac_top.specs.ConsoleLines.{outcome_lines}
 use Rattle.ac_top.proofs.halts.outcome_lines.Given as goal
 
 abbrev pub invariant-loop-at : goal.invariant-loop-at

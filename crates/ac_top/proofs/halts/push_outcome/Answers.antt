@@ -1,5 +1,5 @@
 use Rattle.std.proofs.Common.{◌++◌, [], ◌∷◌, codes, sym, ap, ◌∙◌}
-use Rattle.ac_top.specs.Texts.{element_text, outcome_line}
+use Rattle.ac_top.specs.ConsoleLines.{element_text, outcome_line}
 use Rattle.ac_top.proofs.Lines.{different_text}
 use Rattle.ac_top.proofs.halts.push_outcome.Goals as goal
 

@@ -1,6 +1,6 @@
 use Rattle.std.proofs.Common.{sym, subst}
-use Rattle.ac_top.specs.Answers.{AreRefused, first_not_lowered, second_not_lowered}
-use Rattle.ac_top.specs.Stages.{IsLowering, said_by}
+use Rattle.ac_top.specs.ProgramAnswers.{AreRefused, first_not_lowered, second_not_lowered}
+use Rattle.ac_top.specs.RunStages.{IsLowering, said_by}
 use Rattle.ac_top.proofs.Lowerings.{fits_left, fits_right}
 use Rattle.ac_top.proofs.lowering.lowered_pair.Goals as goal
 

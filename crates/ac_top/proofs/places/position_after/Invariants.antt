@@ -1,6 +1,6 @@
 use Rattle.std.proofs.Common.{◌≡◌, ◌+◌, ◌≤◌, ℕ, List, take, count_by, not}
 use Rattle.std.specs.List.{suffix_len}
-use Rattle.ac_top.specs.Places.{is_newline}
+use Rattle.ac_top.specs.TextPlaces.{is_newline}
 use Rattle.ac_top.proofs.places.position_after.Given as goal
 
 -- the line and the column of the next byte

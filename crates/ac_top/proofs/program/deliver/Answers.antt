@@ -2,11 +2,11 @@ use Rattle.std.proofs.Common.{List, ℕ, Err, refl, ap, subst, ◌∙◌}
 use Rattle.std.specs.Option.{option_map}
 use Rattle.std.specs.FinMap.{insert}
 use Rattle.ac_port.specs.Contents.{IsSameBut}
-use Rattle.ac_port.specs.Counts.{Rose}
-use Rattle.ac_top.specs.Answers.{Puts, only_put, proof_first, proof_fails, proof_wants}
+use Rattle.ac_port.specs.CallCounts.{Rose}
+use Rattle.ac_top.specs.ProgramAnswers.{Puts, only_put, proof_first, proof_fails, proof_wants}
 use Rattle.ac_top.specs.Reports.{report as a_report}
-use Rattle.ac_top.specs.Stages.{file_of}
-use Rattle.ac_top.specs.Texts.{write_fault_line}
+use Rattle.ac_top.specs.RunStages.{file_of}
+use Rattle.ac_top.specs.ConsoleLines.{write_fault_line}
 use Rattle.ac_top.specs.declared.status.Status.TheVariants as status
 use Rattle.ac_top.proofs.program.deliver.Goals as goal
 

@@ -1,6 +1,6 @@
 use Rattle.std.proofs.Common.{◌++◌, take, Err, ap, ◌∙◌}
 use Rattle.std.specs.Option.{option_map}
-use Rattle.ac_top.specs.Answers.{whole, part, nothing}
+use Rattle.ac_top.specs.ProgramAnswers.{whole, part, nothing}
 use Rattle.ac_top.proofs.program.put.Goals as goal
 
 pub returns-in-Ok : goal.returns-in-Ok

@@ -1,5 +1,5 @@
 use Rattle.std.proofs.Common.{refl}
-use Rattle.ac_top.specs.Answers.{nothing}
+use Rattle.ac_top.specs.ProgramAnswers.{nothing}
 use Rattle.ac_top.proofs.program.put_write_fault.Goals as goal
 
 pub returns-in-Err : goal.returns-in-Err

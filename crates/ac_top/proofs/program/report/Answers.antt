@@ -2,11 +2,11 @@ use Rattle.std.proofs.Common.{◌≡◌, ℕ, List, map, MatchOption, ap, sym, s
 use Rattle.std.specs.List.{AllByRecursion}
 use Rattle.std.specs.Str.{IsUtf8}
 use Rattle.std.proofs.lemmas.Result.{IfOk-weaker}
-use Rattle.ac_commands.specs.Commands.{spelled}
-use Rattle.ac_commands.proofs.Forms.{no_text}
-use Rattle.ac_top.specs.Answers.{Reports, no_form}
+use Rattle.ac_cli_args.specs.Commands.{spelled}
+use Rattle.ac_cli_args.proofs.Forms.{no_text}
+use Rattle.ac_top.specs.ProgramAnswers.{Reports, no_form}
 use Rattle.ac_top.specs.Reads.{Fails}
-use Rattle.ac_top.specs.Stages.{written}
+use Rattle.ac_top.specs.RunStages.{written}
 use Rattle.ac_top.proofs.program.report.Goals as goal
 
 pub report_texts-requires : goal.report_texts-requires

@@ -1,10 +1,10 @@
 use Rattle.std.proofs.Common.{sym, subst}
 use Rattle.std.proofs.lemmas.Result.{IfOk-weaker}
-use Rattle.ac_commands.specs.Commands.{asked_by}
-use Rattle.ac_commands.specs.Laws.{IsInRange}
-use Rattle.ac_top.specs.Answers.{CommandReports}
+use Rattle.ac_cli_args.specs.Commands.{asked_by}
+use Rattle.ac_cli_args.specs.UniqueCommands.{IsInRange}
+use Rattle.ac_top.specs.ProgramAnswers.{CommandReports}
 use Rattle.ac_top.specs.Reads.{Fails}
-use Rattle.ac_top.specs.Stages.{written}
+use Rattle.ac_top.specs.RunStages.{written}
 use Rattle.ac_top.proofs.program.report_command.Goals as goal
 
 pub report_files-requires-in-Instance : goal.report_files-requires-in-Instance

@@ -1,11 +1,11 @@
 use Rattle.std.proofs.Common.{ℕ, List, map, Option, MatchOption, refl, sym, subst}
 use Rattle.std.proofs.lemmas.Result.{IfOk-weaker}
-use Rattle.ac_commands.specs.Commands.{asked_by, HasForm, IsCommand}
-use Rattle.ac_commands.specs.declared.command.Command.{Command}
-use Rattle.ac_commands.proofs.Forms.{in_range, command_from}
-use Rattle.ac_top.specs.Answers.{Reports, no_form, of_command}
+use Rattle.ac_cli_args.specs.Commands.{asked_by, HasForm, IsCommand}
+use Rattle.ac_cli_args.specs.declared.command.Command.{Command}
+use Rattle.ac_cli_args.proofs.Forms.{in_range, command_from}
+use Rattle.ac_top.specs.ProgramAnswers.{Reports, no_form, of_command}
 use Rattle.ac_top.specs.Reads.{Fails}
-use Rattle.ac_top.specs.Stages.{written}
+use Rattle.ac_top.specs.RunStages.{written}
 use Rattle.ac_top.proofs.program.report_texts.Goals as goal
 
 -- what was found of these words

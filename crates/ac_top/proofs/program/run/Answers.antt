@@ -1,7 +1,7 @@
 use Rattle.std.proofs.Common.{refl}
-use Rattle.ac_port.specs.Counts.{Rose}
-use Rattle.ac_commands.specs.Commands.{spelled}
-use Rattle.ac_top.specs.Answers.{no_memory, kept}
+use Rattle.ac_port.specs.CallCounts.{Rose}
+use Rattle.ac_cli_args.specs.Commands.{spelled}
+use Rattle.ac_top.specs.ProgramAnswers.{no_memory, kept}
 use Rattle.ac_top.proofs.Delivering.{ends, leaves, tells_the_same, tells_different, no_writes}
 use Rattle.ac_top.proofs.program.run.Goals as goal
 

@@ -1,5 +1,5 @@
 use Rattle.std.proofs.Common.{◌≡◌, take}
-use Rattle.ac_top.specs.Texts.{accepted_lines}
+use Rattle.ac_top.specs.ConsoleLines.{accepted_lines}
 use Rattle.ac_top.proofs.proof_lines.accepted_lines.Given as goal
 
 abbrev pub invariant-loop-output : goal.invariant-loop-output

@@ -1,5 +1,5 @@
 use Rattle.std.proofs.Common.{◌≡◌, false, true, refl}
-use Rattle.ac_top.specs.Proving.{none_equal}
+use Rattle.ac_top.specs.ProveReports.{none_equal}
 use Rattle.ac_top.proofs.Files.{names_none, of_proof}
 use Rattle.ac_top.proofs.prove.named_file.Goals as goal
 

@@ -1,7 +1,7 @@
 use Rattle.std.proofs.Common.{None, IfOk, sym, subst}
 use Rattle.std.specs.Option.{option_map}
-use Rattle.ac_top.specs.Proving.{IsFileOf, no_name}
-use Rattle.ac_top.specs.Stages.{file_of}
+use Rattle.ac_top.specs.ProveReports.{IsFileOf, no_name}
+use Rattle.ac_top.specs.RunStages.{file_of}
 use Rattle.ac_top.proofs.prove.proof_file.Goals as goal
 
 pub returns-in-None : goal.returns-in-None

@@ -1,8 +1,8 @@
 use Rattle.std.proofs.Common.{sym, ap, subst, ◌∙◌}
 use Rattle.std.specs.Option.{option_map}
-use Rattle.ac_walk.specs.Causes.{IsEmptyAt}
+use Rattle.ac_walk.specs.UnknownCauses.{IsEmptyAt}
 use Rattle.ac_walk.specs.Verdicts.{IsStop}
-use Rattle.ac_top.specs.Proving.{ProveReports, empty_context}
+use Rattle.ac_top.specs.ProveReports.{ProveReports, empty_context}
 use Rattle.ac_top.specs.Reports.{report as a_report}
 use Rattle.ac_top.specs.declared.status.Status.TheVariants as status
 use Rattle.ac_top.proofs.prove.report_prove.Goals as goal

@@ -1,9 +1,9 @@
 use Rattle.std.proofs.Common.{ℕ, List, sym, ap, subst, ◌∙◌}
 use Rattle.std.specs.Option.{option_map}
 use Rattle.ac_report.specs.Layouts.{layout_of}
-use Rattle.ac_report.specs.Texts.{report_lines}
-use Rattle.ac_top.specs.Proving.{ProveReports, compared}
-use Rattle.ac_top.specs.Stages.{file_of}
+use Rattle.ac_report.specs.ReportTexts.{report_lines}
+use Rattle.ac_top.specs.ProveReports.{ProveReports, compared}
+use Rattle.ac_top.specs.RunStages.{file_of}
 use Rattle.ac_top.specs.Statuses.{status_of}
 use Rattle.ac_top.specs.declared.status.Status.{Status}
 use Rattle.ac_top.proofs.prove.report_proved.Goals as goal

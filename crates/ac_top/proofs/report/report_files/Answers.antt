@@ -1,12 +1,12 @@
 use Rattle.std.proofs.Common.{◌≡◌, IfSome, List, [], ◌∷◌, replicate, ℕ, Option, sym, ap, subst, ◌∙◌}
 use Rattle.std.proofs.lemmas.Result.{IfOk-weaker}
 use Rattle.ac_port.specs.Contents.{Contents, IsTooBig}
-use Rattle.ac_port.specs.Counts.{Rose}
+use Rattle.ac_port.specs.CallCounts.{Rose}
 use Rattle.ac_top.specs.Reports.{report as a_report}
-use Rattle.ac_top.specs.Answers.{SourceReports, FileReports, Holds, first_unread, first_too_long, second_unread, second_too_long, sources}
+use Rattle.ac_top.specs.ProgramAnswers.{SourceReports, FileReports, Holds, first_unread, first_too_long, second_unread, second_too_long, sources}
 use Rattle.ac_top.specs.declared.status.Status.TheVariants as status
 use Rattle.ac_top.specs.Reads.{AreRead, Fails, no_read, one_more}
-use Rattle.ac_top.specs.Stages.{written, IsSource, TaskReports}
+use Rattle.ac_top.specs.RunStages.{written, IsSource, TaskReports}
 use Rattle.ac_top.proofs.Reading.{fails_on, task_on, sources_on}
 use Rattle.ac_top.proofs.report.report_files.Goals as goal
 

@@ -1,7 +1,7 @@
 use Rattle.std.proofs.Common.{sym, subst}
 use Rattle.std.proofs.lemmas.Result.{IfOk-weaker}
-use Rattle.ac_top.specs.Answers.{SourceReports, refused, paired}
-use Rattle.ac_top.specs.Stages.{written, IsLoweringOf}
+use Rattle.ac_top.specs.ProgramAnswers.{SourceReports, refused, paired}
+use Rattle.ac_top.specs.RunStages.{written, IsLoweringOf}
 use Rattle.ac_top.proofs.Arities.{read_arities}
 use Rattle.ac_top.proofs.report.report_lowered.Goals as goal
 

@@ -1,6 +1,6 @@
 use Rattle.std.proofs.Common.{sym, subst}
-use Rattle.ac_top.specs.Answers.{SourceReports, refused}
-use Rattle.ac_top.specs.Stages.{IsPairingOf}
+use Rattle.ac_top.specs.ProgramAnswers.{SourceReports, refused}
+use Rattle.ac_top.specs.RunStages.{IsPairingOf}
 use Rattle.ac_top.proofs.report.report_sources.Goals as goal
 
 pub report_lowered-requires : goal.report_lowered-requires

@@ -1,5 +1,5 @@
 use Rattle.std.proofs.lemmas.Result.{IfOk-weaker}
-use Rattle.ac_top.specs.Stages.{written}
+use Rattle.ac_top.specs.RunStages.{written}
 use Rattle.ac_top.proofs.Lowerings.{judged}
 use Rattle.ac_top.proofs.Reading.{task_prove, task_check, task_instance}
 use Rattle.ac_top.proofs.report.report_task.Goals as goal

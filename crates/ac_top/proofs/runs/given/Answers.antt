@@ -1,6 +1,6 @@
 use Rattle.std.proofs.Common.{ℤ, List, [], IfOk, MatchOption, sym, subst}
 use Rattle.std.specs.Prelude.{option_map}
-use Rattle.ac_commands.specs.Valuations.{IsValuationWord}
+use Rattle.ac_cli_args.specs.Valuations.{IsValuationWord}
 use Rattle.ac_top.proofs.Instances.{IsFound}
 use Rattle.ac_top.proofs.runs.given.Goals as goal
 

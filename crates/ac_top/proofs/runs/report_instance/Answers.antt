@@ -1,10 +1,10 @@
 use Rattle.std.proofs.Common.{ap, sym, subst, ◌∙◌}
 use Rattle.std.specs.Prelude.{option_map}
 use Rattle.std.proofs.lemmas.Result.{IfOk-weaker}
-use Rattle.ac_instance.specs.Answers.{IsReadyAt}
+use Rattle.ac_instance.specs.ComparisonAnswers.{IsReadyAt}
 use Rattle.ac_top.specs.Reports.{report as a_report}
-use Rattle.ac_top.specs.Runs.{valuation_word, RunReports, InstanceReports, not_a_valuation, at_valuation}
-use Rattle.ac_top.specs.Stages.{written}
+use Rattle.ac_top.specs.InstanceReports.{valuation_word, RunReports, InstanceReports, not_a_valuation, at_valuation}
+use Rattle.ac_top.specs.RunStages.{written}
 use Rattle.ac_top.specs.declared.status.Status.TheVariants as status
 use Rattle.ac_top.proofs.Instances.{ready_at, as_many_values, IsFound}
 use Rattle.ac_top.proofs.runs.report_instance.Goals as goal

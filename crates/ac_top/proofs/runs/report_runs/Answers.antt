@@ -1,10 +1,10 @@
 use Rattle.std.proofs.Common.{length, Err, sym, ap, subst, ◌∙◌}
 use Rattle.std.proofs.lemmas.Result.{IfOk-weaker}
-use Rattle.ac_instance.specs.Answers.{compared, IsAnswer}
+use Rattle.ac_instance.specs.ComparisonAnswers.{compared, IsAnswer}
 use Rattle.ac_top.specs.Reports.{report as a_report}
-use Rattle.ac_top.specs.Runs.{status_of, RunReports, ran}
-use Rattle.ac_top.specs.Stages.{written}
-use Rattle.ac_top.specs.Texts.{outcome_lines}
+use Rattle.ac_top.specs.InstanceReports.{status_of, RunReports, ran}
+use Rattle.ac_top.specs.RunStages.{written}
+use Rattle.ac_top.specs.ConsoleLines.{outcome_lines}
 use Rattle.ac_top.proofs.Instances.{as_many_outcomes, equal_is_same, of_halt}
 use Rattle.ac_top.proofs.runs.report_runs.Goals as goal
 

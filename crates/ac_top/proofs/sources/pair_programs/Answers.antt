@@ -1,6 +1,6 @@
 use Rattle.std.proofs.Common.{sym, subst}
-use Rattle.ac_parse.specs.Pairing.{HasPairFault}
-use Rattle.ac_top.specs.Answers.{AreNoPair, signatures_differ, nothing_compared}
+use Rattle.ac_parse.specs.ProgramPairs.{HasPairFault}
+use Rattle.ac_top.specs.ProgramAnswers.{AreNoPair, signatures_differ, nothing_compared}
 use Rattle.ac_top.proofs.sources.pair_programs.Goals as goal
 
 pub returns-in_ok-signature_line-in-Err-Signature : goal.returns-in_ok-signature_line-in-Err-Signature

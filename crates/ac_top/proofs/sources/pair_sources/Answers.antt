@@ -2,8 +2,8 @@ use Rattle.std.proofs.Common.{List, ℕ, sym, subst}
 use Rattle.std.proofs.lemmas.Result.{IfOk-weaker}
 use Rattle.ac_syntax.specs.declared.tree.Program.{Program}
 use Rattle.ac_parse.specs.Program.{IsProgramOf}
-use Rattle.ac_top.specs.Answers.{AreRefused, first_refused, second_refused, no_pair}
-use Rattle.ac_top.specs.Stages.{IsPairing, IsPairingOf, IsParsed, IsRead, said_by}
+use Rattle.ac_top.specs.ProgramAnswers.{AreRefused, first_refused, second_refused, no_pair}
+use Rattle.ac_top.specs.RunStages.{IsPairing, IsPairingOf, IsParsed, IsRead, said_by}
 use Rattle.ac_top.specs.declared.sources.Paired.{Paired}
 use Rattle.ac_top.specs.declared.sources.Paired.TheVariants.{Together, Refused}
 use Rattle.ac_top.proofs.Pairs.{read_pair}

@@ -1,5 +1,5 @@
 use Rattle.std.proofs.Common.{◌≡◌, ◌++◌, take}
-use Rattle.ac_top.specs.Texts.{element_text}
+use Rattle.ac_top.specs.ConsoleLines.{element_text}
 use Rattle.ac_top.proofs.texts.push_element.Given as goal
 
 abbrev pub invariant-loop-x : goal.invariant-loop-x

@@ -5,13 +5,13 @@ use Rattle.std.proofs.lemmas.Result.{IfErr-weaker}
 use Rattle.ac_forms.specs.Renaming.{rows_renaming}
 use Rattle.ac_forms.specs.declared.row.Row.{Row}
 use Rattle.ac_claims.specs.declared.types.PlanNext.TheVariants.{Hit}
-use Rattle.ac_unfold.specs.Asked.{AreTargets}
-use Rattle.ac_unfold.specs.Cutting.{columns_there}
-use Rattle.ac_unfold.specs.Full.{FullUnder}
-use Rattle.ac_unfold.specs.Making.{judge_of, IsEndFor}
+use Rattle.ac_unfold.specs.UnfoldQuestions.{AreTargets}
+use Rattle.ac_unfold.specs.KillCuts.{columns_there}
+use Rattle.ac_unfold.specs.EndResults.{FullUnder}
+use Rattle.ac_unfold.specs.PlanResults.{judge_of, IsEndFor}
 use Rattle.ac_unfold.proofs.Matching.{claim_ends}
-use Rattle.ac_unfold.specs.Searching.{Adds, IsAt, IsPathAt, IsPathBreaking}
-use Rattle.ac_unfold.specs.Stops.{Follows, StopsStanding, StopsUnder}
+use Rattle.ac_unfold.specs.BrokenPathResults.{Adds, IsAt, IsPathAt, IsPathBreaking}
+use Rattle.ac_unfold.specs.UnfoldStops.{Follows, StopsStanding, StopsUnder}
 use Rattle.ac_unfold.proofs.Coming.{claim_broken, on_ok}
 use Rattle.ac_unfold.proofs.Full.{full_claim, full_hands}
 use Rattle.ac_unfold.proofs.Stopped.{claim_targets, followed_hands, followed_standing, hands_because, if_err}
@@ -38,9 +38,9 @@ returns-clause-broken c =
     let rows : Some c.in_ok-rows.rows ≡ rows_renaming (columns_there s q) c.in-Some.claim.now.rows = c.in_ok-rows.ensures.rows in
     let within : c.args.number < length s.claims.now = below c.args.number (length s.claims.now) (sym c.in-Some.ensures.lookup.0) in
     let there = slice_get_read s.claims.now (length s.claims.now) c.args.number c.in-Some.claim.now refl within c.in-Some.ensures.lookup.1 in
-    on_ok c.stand.result (Adds (IsPathBreaking n c.args.node.trail q.conj c.as_slice.result.now) (IsPathAt n c.args.node.trail q.conj) c.args.finds.now c.stand.new.finds) _
-    (λ h. claim_broken s c.args.node.trail q c.args.number c.in-Some.claim.now c.in_ok-rows.rows c.args.finds.now c.stand.new.finds c.requires there rows
-    (subst (λ (xs : List Row). Adds (IsPathBreaking n c.args.node.trail q.conj xs) (IsPathAt n c.args.node.trail q.conj) c.args.finds.now c.stand.new.finds) c.as_slice.ensures h)) c.stand.ensures.found
+    on_ok c.stand.result (Adds (IsPathBreaking n c.args.node.pair_path q.conj c.as_slice.result.now) (IsPathAt n c.args.node.pair_path q.conj) c.args.found_paths.now c.stand.new.found_paths) _
+    (λ h. claim_broken s c.args.node.pair_path q c.args.number c.in-Some.claim.now c.in_ok-rows.rows c.args.found_paths.now c.stand.new.found_paths c.requires there rows
+    (subst (λ (xs : List Row). Adds (IsPathBreaking n c.args.node.pair_path q.conj xs) (IsPathAt n c.args.node.pair_path q.conj) c.args.found_paths.now c.stand.new.found_paths) c.as_slice.ensures h)) c.stand.ensures.found
 
 pub returns-in_err-rows-clause-causes : goal.returns-in_err-rows-clause-causes
 returns-in_err-rows-clause-causes c =
@@ -71,13 +71,13 @@ returns-in_err-rows-clause-full c =
     let s = c.args.search.now in
     let v = c.args.node in
     let stop = c.in_err-rows.field-0.0 in
-    if_err (FullUnder s (IsAt s v.trail v.question) c.args.finds.now) c.from_residual.result stop c.from_residual.ensures.1
-    (full_hands s (IsAt s v.trail v.question) c.args.finds.now v.question.conj _ stop c.in_err-rows.ensures.causes)
+    if_err (FullUnder s (IsAt s v.pair_path v.question) c.args.found_paths.now) c.from_residual.result stop c.from_residual.ensures.1
+    (full_hands s (IsAt s v.pair_path v.question) c.args.found_paths.now v.question.conj _ stop c.in_err-rows.ensures.causes)
 
 pub returns-clause-full : goal.returns-clause-full
 returns-clause-full c =
     let v = c.args.node in
-    IfErr-weaker c.stand.result _ _ (full_claim c.args.search.now v.trail v.question c.args.number c.args.finds.now c.requires) c.stand.ensures.full
+    IfErr-weaker c.stand.result _ _ (full_claim c.args.search.now v.pair_path v.question c.args.number c.args.found_paths.now c.requires) c.stand.ensures.full
 
 -- ---- where no further path is found
 
@@ -88,4 +88,4 @@ returns-clause-stands c =
     let rows : Some c.in_ok-rows.rows ≡ rows_renaming (columns_there s q) c.in-Some.claim.now.rows = c.in_ok-rows.ensures.rows in
     let within : c.args.number < length s.claims.now = below c.args.number (length s.claims.now) (sym c.in-Some.ensures.lookup.0) in
     let there = slice_get_read s.claims.now (length s.claims.now) c.args.number c.in-Some.claim.now refl within c.in-Some.ensures.lookup.1 in
-    none_by c.stand.result s c.args.finds.now c.stand.new.finds _ _ (claim_stands s q c.args.number c.in-Some.claim.now c.as_slice.result.now c.requires there (ap Some c.as_slice.ensures ∙ rows)) c.stand.ensures.met
+    none_by c.stand.result s c.args.found_paths.now c.stand.new.found_paths _ _ (claim_stands s q c.args.number c.in-Some.claim.now c.as_slice.result.now c.requires there (ap Some c.as_slice.ensures ∙ rows)) c.stand.ensures.met

@@ -2,9 +2,9 @@ use Rattle.std.proofs.Common.{◌≡◌, ◌++◌, ℕ, List, Some, None, ap, �
 use Rattle.std.specs.Prelude.{IfErr, IfOk}
 use Rattle.ac_forms.specs.Renaming.{rows_renaming}
 use Rattle.ac_forms.specs.declared.row.Row.{Row}
-use Rattle.ac_paths.specs.Columns.{base, columns_of}
-use Rattle.ac_unfold.specs.Cutting.{columns_there}
-use Rattle.ac_unfold.specs.Stops.{HandsBack}
+use Rattle.ac_claims_paths.specs.PathColumns.{base, columns_of}
+use Rattle.ac_unfold.specs.KillCuts.{columns_there}
+use Rattle.ac_unfold.specs.UnfoldStops.{HandsBack}
 use Rattle.ac_unfold.proofs.claiming.rows_at.Goals as goal
 
 pub returns-clause-rows : goal.returns-clause-rows

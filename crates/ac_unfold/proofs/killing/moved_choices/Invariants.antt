@@ -1,5 +1,5 @@
 use Rattle.std.proofs.Common.{◌≡◌, map, take}
-use Rattle.ac_flow_laws.specs.Accepting.{behind}
+use Rattle.ac_flow.specs.KillAcceptance.{behind}
 use Rattle.ac_unfold.proofs.killing.moved_choices.Given as goal
 
 abbrev pub invariant-loop-choice : goal.invariant-loop-choice

@@ -1,6 +1,6 @@
 use Rattle.std.proofs.Common.{◌≡◌, ◌∙◌, length, option_map, sym, ap, arith}
 use Rattle.std.proofs.lemmas.Bool.Decides.{nat_tests}
-use Rattle.ac_paths.specs.Calls.{called, pairing}
+use Rattle.ac_claims_paths.specs.ModelCalls.{called, pairing}
 use Rattle.ac_unfold.proofs.Stopped.{two_calls}
 use Rattle.ac_unfold.proofs.kinds.are_calls.Goals as goal
 

@@ -1,6 +1,6 @@
 use Rattle.std.proofs.Common.{Some, inl, inr, sym, ◌∙◌}
-use Rattle.ac_unfold.specs.Making.{judge_of}
-use Rattle.ac_unfold.specs.Stops.{HandsTargets}
+use Rattle.ac_unfold.specs.PlanResults.{judge_of}
+use Rattle.ac_unfold.specs.UnfoldStops.{HandsTargets}
 use Rattle.ac_unfold.proofs.Matching.{forms_same, initial_ends}
 use Rattle.ac_unfold.proofs.Stopped.{cell_targets, hands_targets, if_err}
 use Rattle.ac_unfold.proofs.Unmatched.{cell_kind, other_cells}

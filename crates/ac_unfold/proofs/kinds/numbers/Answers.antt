@@ -1,6 +1,6 @@
 use Rattle.std.proofs.Common.{◌∷◌, [], Some, refl, sym, ◌∙◌}
-use Rattle.ac_unfold.specs.Making.{judge_of}
-use Rattle.ac_unfold.specs.Stops.{HandsTargets}
+use Rattle.ac_unfold.specs.PlanResults.{judge_of}
+use Rattle.ac_unfold.specs.UnfoldStops.{HandsTargets}
 use Rattle.ac_unfold.proofs.Matching.{forms_same, number_ends}
 use Rattle.ac_unfold.proofs.Stopped.{hands_targets, if_err, number_targets}
 use Rattle.ac_unfold.proofs.Unmatched.{number_kind}

@@ -1,5 +1,5 @@
-use Rattle.ac_refutations.specs.declared.strategy.Strategy.TheVariants.{Full}
-use Rattle.ac_unfold.specs.Causes.{IsTooCostly}
+use Rattle.ac_omega_certify.specs.declared.strategy.Strategy.TheVariants.{Full}
+use Rattle.ac_unfold.specs.UnfoldCauses.{IsTooCostly}
 use Rattle.ac_unfold.proofs.Spending.{spent_above}
 use Rattle.ac_unfold.proofs.laws.spent_exceeds_the_budget.Goals as goal
 

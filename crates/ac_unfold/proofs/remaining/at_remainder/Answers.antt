@@ -1,11 +1,11 @@
 use Rattle.std.proofs.Common.{◌≡◌, ◌-◌, ℕ, List, Some, None, length, ap, sym, ◌∙◌}
 use Rattle.ac_forms.specs.Renaming.{rows_renaming}
 use Rattle.ac_forms.specs.declared.row.Row.{Row}
-use Rattle.ac_paths.specs.Going.{at_rows, extended}
-use Rattle.ac_paths.specs.Killing.{case_columns}
-use Rattle.ac_leading.specs.Steps.{at_rest}
-use Rattle.ac_unfold.specs.Making.{judge_of}
-use Rattle.ac_unfold.specs.Stops.{HandsBack}
+use Rattle.ac_claims_paths.specs.PathSteps.{at_rows, extended}
+use Rattle.ac_claims_paths.specs.CopyKills.{case_columns}
+use Rattle.ac_widen_programs.specs.PairPathSteps.{at_rest}
+use Rattle.ac_unfold.specs.PlanResults.{judge_of}
+use Rattle.ac_unfold.specs.UnfoldStops.{HandsBack}
 use Rattle.ac_unfold.proofs.Coming.{rest_is}
 use Rattle.ac_unfold.proofs.Stopped.{hands_because, if_err, rest_none}
 use Rattle.ac_unfold.proofs.remaining.at_remainder.Goals as goal

@@ -2,9 +2,9 @@ use Rattle.std.proofs.Common.{◌≡◌, List, Some, None, sym}
 use Rattle.std.proofs.lemmas.Result.{IfErr-weaker, IfOk-weaker}
 use Rattle.ac_forms.specs.Renaming.{rows_renaming}
 use Rattle.ac_forms.specs.declared.row.Row.{Row}
-use Rattle.ac_unfold.specs.Asked.{kill_on}
-use Rattle.ac_unfold.specs.Making.{judge_of}
-use Rattle.ac_unfold.specs.Stops.{HandsBack}
+use Rattle.ac_unfold.specs.UnfoldQuestions.{kill_on}
+use Rattle.ac_unfold.specs.PlanResults.{judge_of}
+use Rattle.ac_unfold.specs.UnfoldStops.{HandsBack}
 use Rattle.ac_unfold.proofs.Stopped.{hands_because, kill_rows_on}
 use Rattle.ac_unfold.proofs.remaining.kill_rows.Goals as goal
 

@@ -1,6 +1,6 @@
 use Rattle.std.proofs.Common.{◌≡◌, None, sym}
 use Rattle.ac_forms.specs.Renaming.{rows_renaming}
-use Rattle.ac_paths.proofs.Moduli.{rows_none}
+use Rattle.ac_claims_paths.proofs.Moduli.{rows_none}
 use Rattle.ac_unfold.proofs.Stopped.{hands_because}
 use Rattle.ac_unfold.proofs.remaining.over_columns.Goals as goal
 

@@ -1,16 +1,16 @@
 use Rattle.std.proofs.Common.{◌≡◌, ℕ, List, sym, ap, ◌∙◌, subst, arith}
 use Rattle.ac_claims.specs.ProofFaults.{domain}
-use Rattle.ac_claims.specs.Remaining.{count_by}
+use Rattle.ac_claims.specs.RemainingPlans.{count_by}
 use Rattle.ac_claims.specs.declared.types.ClaimTree.{ClaimTree}
-use Rattle.ac_unfold.specs.Causes.{StopsUnfolding}
-use Rattle.ac_unfold.specs.Paths.{ArePlansOf}
-use Rattle.ac_plans.specs.Due.{pairs_of}
-use Rattle.ac_unfold.specs.Planned.{IsBrokenFrom}
+use Rattle.ac_unfold.specs.UnfoldCauses.{StopsUnfolding}
+use Rattle.ac_unfold.specs.UnfoldPaths.{ArePlansOf}
+use Rattle.ac_claims_plans.specs.DuePlans.{pairs_of}
+use Rattle.ac_unfold.specs.StartResults.{IsBrokenFrom}
 use Rattle.ac_unfold.proofs.Coming.{path_is_broken}
 use Rattle.ac_unfold.proofs.Full.{stops_unfolding}
 use Rattle.ac_unfold.proofs.Places.{memory_stops}
 use Rattle.ac_unfold.proofs.Results.{at_some}
-use Rattle.ac_unfold.proofs.Starts.{accepted_by, begun_none, heeded_by, lefts_more, lefts_none, stopped_by}
+use Rattle.ac_unfold.proofs.Starts.{accepted_by, begun_none, used_by_tabled, lefts_more, lefts_none, stopped_by}
 use Rattle.ac_unfold.proofs.Stopped.{if_err}
 use Rattle.ac_unfold.proofs.starting.claim_trees.Goals as goal
 
@@ -30,7 +30,7 @@ loop-left-preserved c = record {
 
 pub returns-clause-pieces : goal.returns-clause-pieces
 returns-clause-pieces c =
-    let s = c.args.setting.now in
+    let s = c.args.program_flows.now in
     let lefts = count_by (domain s.programs.left.now c.args.start.now.left) in
     let rights = count_by (domain s.programs.right.now c.args.start.now.right) in
     let e : c.loop-left.left ≡ c.in_ok-counts.counts.0 = omega arith in
@@ -40,36 +40,36 @@ returns-clause-pieces c =
 
 pub returns-clause-accepted : goal.returns-clause-accepted
 returns-clause-accepted c = λ settled cs numbered behind.
-    accepted_by c.search_of-search.result c.args.setting.now c.args.base c.args.claims.now c.args.tabled.now c.args.start.now c.loop-left.trees.items c.search_of-search.ensures.setting c.search_of-search.ensures.base c.search_of-search.ensures.claims
+    accepted_by c.search_of-search.result c.args.program_flows.now c.args.base c.args.claims.now c.args.tabled.now c.args.start.now c.loop-left.trees.items c.search_of-search.ensures.program_flows c.search_of-search.ensures.base c.search_of-search.ensures.claims
     c.search_of-search.ensures.tabled c.search_of-search.ensures.making c.loop-left.invariant.begun settled cs numbered behind
 
 pub returns-in-Some-clause-broken : goal.returns-in-Some-clause-broken
 returns-in-Some-clause-broken c =
     let s = c.search_of-search.result in
     let path = at_some c.in_ok-broken.broken c.in-Some.path (IsBrokenFrom s c.args.start.now) c.in-Some.is c.in_ok-broken.ensures.broken in
-    path_is_broken s c.args.setting.now c.args.start.now c.args.claims.now c.args.order.now c.in-Some.path path c.search_of-search.ensures.setting c.search_of-search.ensures.claims c.search_of-search.ensures.order
+    path_is_broken s c.args.program_flows.now c.args.start.now c.args.claims.now c.args.order.now c.in-Some.path path c.search_of-search.ensures.program_flows c.search_of-search.ensures.claims c.search_of-search.ensures.order
 
 pub returns-clause-stops : goal.returns-clause-stops
 returns-clause-stops c = λ g at.
-    stopped_by c.search_of-search.result c.args.setting.now c.args.order.now c.args.base c.args.claims.now c.args.tabled.now c.args.start.now c.loop-left.trees.items c.search_of-search.ensures.setting c.search_of-search.ensures.order c.search_of-search.ensures.base
+    stopped_by c.search_of-search.result c.args.program_flows.now c.args.order.now c.args.base c.args.claims.now c.args.tabled.now c.args.start.now c.loop-left.trees.items c.search_of-search.ensures.program_flows c.search_of-search.ensures.order c.search_of-search.ensures.base
     c.search_of-search.ensures.claims c.search_of-search.ensures.tabled c.search_of-search.ensures.making c.loop-left.invariant.begun g at
 
-pub returns-clause-heeds : goal.returns-clause-heeds
-returns-clause-heeds c = λ settled moduli.
-    heeded_by c.search_of-search.result c.args.setting.now c.args.tabled.now c.args.start.now c.loop-left.trees.items c.search_of-search.ensures.setting c.search_of-search.ensures.tabled c.search_of-search.ensures.making c.loop-left.invariant.begun settled moduli
+pub returns-clause-uses_tabled : goal.returns-clause-uses_tabled
+returns-clause-uses_tabled c = λ settled moduli.
+    used_by_tabled c.search_of-search.result c.args.program_flows.now c.args.tabled.now c.args.start.now c.loop-left.trees.items c.search_of-search.ensures.program_flows c.search_of-search.ensures.tabled c.search_of-search.ensures.making c.loop-left.invariant.begun settled moduli
 
 -- ---- why it stops
 
 pub returns-in_err-counts-clause-causes : goal.returns-in_err-counts-clause-causes
-returns-in_err-counts-clause-causes c = memory_stops c.from_residual.result c.in_err-counts.field-0.0 c.args.setting.now c.args.start.now c.args.claims.now c.args.order.now c.from_residual.ensures.1
+returns-in_err-counts-clause-causes c = memory_stops c.from_residual.result c.in_err-counts.field-0.0 c.args.program_flows.now c.args.start.now c.args.claims.now c.args.order.now c.from_residual.ensures.1
 
 pub returns-in_err-broken-clause-causes : goal.returns-in_err-broken-clause-causes
 returns-in_err-broken-clause-causes c =
     let s = c.search_of-search.result in
-    let setting = c.args.setting.now in
+    let program_flows = c.args.program_flows.now in
     let start = c.args.start.now in
     let claims = c.args.claims.now in
     let order = c.args.order.now in
     let stop = c.in_err-broken.field-0.0 in
-    if_err (StopsUnfolding setting start claims order) c.from_residual-in_err-broken.result stop c.from_residual-in_err-broken.ensures.1
-    (stops_unfolding s setting start claims order stop c.search_of-search.ensures.setting c.search_of-search.ensures.claims c.search_of-search.ensures.order c.search_of-search.ensures.budget c.in_err-broken.ensures.causes c.in_err-broken.ensures.full)
+    if_err (StopsUnfolding program_flows start claims order) c.from_residual-in_err-broken.result stop c.from_residual-in_err-broken.ensures.1
+    (stops_unfolding s program_flows start claims order stop c.search_of-search.ensures.program_flows c.search_of-search.ensures.claims c.search_of-search.ensures.order c.search_of-search.ensures.budget c.in_err-broken.ensures.causes c.in_err-broken.ensures.full)

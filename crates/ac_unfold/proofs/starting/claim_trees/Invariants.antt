@@ -1,5 +1,5 @@
-use Rattle.ac_unfold.specs.Begun.{AreBegun}
-use Rattle.ac_unfold.specs.Paths.{ArePlansOf}
+use Rattle.ac_unfold.specs.PiecePlans.{AreBegun}
+use Rattle.ac_unfold.specs.UnfoldPaths.{ArePlansOf}
 use Rattle.ac_unfold.proofs.Starts.{Lefts}
 use Rattle.ac_unfold.proofs.starting.claim_trees.Given as goal
 

@@ -1,6 +1,6 @@
 use Rattle.std.proofs.Common.{arith, refl}
-use Rattle.ac_unfold.specs.Full.{FullUnder}
-use Rattle.ac_unfold.specs.Searching.{IsFrom}
+use Rattle.ac_unfold.specs.EndResults.{FullUnder}
+use Rattle.ac_unfold.specs.BrokenPathResults.{IsFrom}
 use Rattle.ac_unfold.proofs.Coming.{broken_kept, broken_none, broken_then}
 use Rattle.ac_unfold.proofs.Full.{full_after}
 use Rattle.ac_unfold.proofs.Stopped.{if_err}
@@ -30,5 +30,5 @@ returns-in_err-_none-clause-full c =
     let s = c.args.search.now in
     let start = c.args.start.now in
     let stop = c.in_err-_none.field-0.0 in
-    if_err (FullUnder s (IsFrom start) c.args.finds.now) c.from_residual.result stop c.from_residual.ensures.1
-    (full_after s (IsFrom start) c.args.finds.now c.loop-right.finds stop c.loop-right.invariant.adds c.in_err-_none.ensures.full)
+    if_err (FullUnder s (IsFrom start) c.args.found_paths.now) c.from_residual.result stop c.from_residual.ensures.1
+    (full_after s (IsFrom start) c.args.found_paths.now c.loop-right.found_paths stop c.loop-right.invariant.adds c.in_err-_none.ensures.full)

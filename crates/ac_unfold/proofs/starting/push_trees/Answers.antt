@@ -1,9 +1,9 @@
 use Rattle.std.proofs.Common.{◌≡◌, ℕ, List, refl, sym, subst, arith}
 use Rattle.ac_claims.specs.declared.types.ClaimTree.{ClaimTree}
-use Rattle.ac_unfold.specs.Begun.{AreBegun, IsBegun}
-use Rattle.ac_unfold.specs.Full.{nothing_found, FullUnder}
-use Rattle.ac_unfold.specs.Paths.{ArePlansOf}
-use Rattle.ac_unfold.specs.Searching.{IsFrom}
+use Rattle.ac_unfold.specs.PiecePlans.{AreBegun, IsBegun}
+use Rattle.ac_unfold.specs.EndResults.{nothing_found, FullUnder}
+use Rattle.ac_unfold.specs.UnfoldPaths.{ArePlansOf}
+use Rattle.ac_unfold.specs.BrokenPathResults.{IsFrom}
 use Rattle.ac_unfold.proofs.Coming.{broken_none, broken_then, first_broken}
 use Rattle.ac_unfold.proofs.Full.{full_after}
 use Rattle.ac_unfold.proofs.PathSteps.{plans_more}
@@ -13,7 +13,7 @@ use Rattle.ac_unfold.proofs.Stopped.{if_err}
 use Rattle.ac_unfold.proofs.starting.push_trees.Goals as goal
 
 pub loop-right-init : goal.loop-right-init
-loop-right-init c = record { adds = broken_none c.args.search.now (IsFrom c.args.start.now) nothing_found _ c.new-finds.ensures; claim = c.requires.claim; rights = rights_none c.args.left c.args.trees.now.items; begun = λ h. h }
+loop-right-init c = record { adds = broken_none c.args.search.now (IsFrom c.args.start.now) nothing_found _ c.new-found_paths.ensures; claim = c.requires.claim; rights = rights_none c.args.left c.args.trees.now.items; begun = λ h. h }
 
 pub loop-right-preserved : goal.loop-right-preserved
 loop-right-preserved c =
@@ -49,7 +49,7 @@ pub returns-in_default-clause-broken : goal.returns-in_default-clause-broken
 returns-in_default-clause-broken c =
     let s = c.args.search.now in
     let start = c.args.start.now in
-    first_broken s start c.unfold_at.new.finds c.into_first.result (broken_then s (IsFrom start) nothing_found _ _ c.loop-right.invariant.adds c.in_ok-tree.ensures.broken) c.into_first.ensures
+    first_broken s start c.unfold_at.new.found_paths c.into_first.result (broken_then s (IsFrom start) nothing_found _ _ c.loop-right.invariant.adds c.in_ok-tree.ensures.broken) c.into_first.ensures
 
 -- ---- too many paths
 
@@ -59,4 +59,4 @@ returns-in_err-tree-clause-full c =
     let start = c.args.start.now in
     let stop = c.in_err-tree.field-0.0 in
     if_err (FullUnder s (IsFrom start) nothing_found) c.from_residual.result stop c.from_residual.ensures.1
-    (full_after s (IsFrom start) nothing_found c.loop-right.finds stop c.loop-right.invariant.adds c.in_err-tree.ensures.full)
+    (full_after s (IsFrom start) nothing_found c.loop-right.found_paths stop c.loop-right.invariant.adds c.in_err-tree.ensures.full)

@@ -1,5 +1,5 @@
 use Rattle.std.proofs.Common.{◌≡◌, drop}
-use Rattle.ac_unfold.specs.Flows.{flow_at}
+use Rattle.ac_unfold.specs.PositionFlow.{flow_at}
 use Rattle.ac_unfold.proofs.steps.flow_at.Given as goal
 
 abbrev pub invariant-loop-flow : goal.invariant-loop-flow

@@ -1,5 +1,5 @@
 use Rattle.std.proofs.Common.{◌≡◌, drop}
-use Rattle.ac_stopping.specs.Parts.{order_of}
+use Rattle.ac_unfold_plans.specs.ArgumentOrders.{order_of}
 use Rattle.ac_unfold.proofs.steps.order_at.Given as goal
 
 abbrev pub invariant-loop-choice : goal.invariant-loop-choice

@@ -1,6 +1,6 @@
 use Rattle.std.proofs.Common.{sym, subst, take}
 use Rattle.std.proofs.lemmas.List.{take_all}
-use Rattle.ac_unfold.specs.Making.{AreStanding, IsStanding}
+use Rattle.ac_unfold.specs.PlanResults.{AreStanding, IsStanding}
 use Rattle.ac_unfold.proofs.Results.{in_read, next_item}
 use Rattle.ac_unfold.proofs.Stops.{all_more}
 use Rattle.ac_unfold.proofs.Tabled.{all_fail}

@@ -1,5 +1,5 @@
 use Rattle.std.proofs.Common.{take}
-use Rattle.ac_unfold.specs.Making.{AreStanding}
+use Rattle.ac_unfold.specs.PlanResults.{AreStanding}
 use Rattle.ac_unfold.proofs.tabling.all_stand.Given as goal
 
 abbrev pub invariant-loop-row : goal.invariant-loop-row

@@ -1,5 +1,5 @@
 use Rattle.std.proofs.Common.{◌≡◌, ◌&&◌, true, false, sym, subst, ◌∙◌}
-use Rattle.ac_claims.specs.Ending.{same_position}
+use Rattle.ac_claims.specs.ProofEnds.{same_position}
 use Rattle.ac_claims.specs.declared.types.Claim.{Claim}
 use Rattle.ac_unfold.proofs.Clearing.{get_is, numbered}
 use Rattle.ac_unfold.proofs.Tabled.{all_missed, apart_fail, first_missed}

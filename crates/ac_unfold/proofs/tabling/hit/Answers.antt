@@ -4,8 +4,8 @@ use Rattle.std.proofs.lemmas.Option.{slice_get_read}
 use Rattle.ac_forms.specs.Renaming.{rows_renaming}
 use Rattle.ac_forms.specs.declared.row.Row.{Row}
 use Rattle.ac_claims.specs.declared.types.PlanNext.TheVariants.{Hit}
-use Rattle.ac_unfold.specs.Cutting.{columns_there}
-use Rattle.ac_unfold.specs.Making.{IsEndFor}
+use Rattle.ac_unfold.specs.KillCuts.{columns_there}
+use Rattle.ac_unfold.specs.PlanResults.{IsEndFor}
 use Rattle.ac_unfold.proofs.Matching.{tabled_ends}
 use Rattle.ac_unfold.proofs.Tabled.{freely_one, missed_by, missed_unmade}
 use Rattle.ac_unfold.proofs.tabling.hit.Goals as goal

@@ -1,7 +1,7 @@
 use Rattle.std.proofs.Common.{ℕ, sym, subst}
 use Rattle.std.specs.Prelude.{IfSome}
 use Rattle.ac_claims.specs.declared.types.PlanNext.TheVariants.{Hit}
-use Rattle.ac_unfold.specs.Making.{IsEndFor, IsMade}
+use Rattle.ac_unfold.specs.PlanResults.{IsEndFor, IsMade}
 use Rattle.ac_unfold.specs.declared.node.Node.{Node}
 use Rattle.ac_unfold.proofs.Tabled.{freely_all, standing_made}
 use Rattle.ac_unfold.proofs.tabling.hit_on.Goals as goal
@@ -22,8 +22,8 @@ stand-requires c =
 pub returns-in-Some-clause-made : goal.returns-in-Some-clause-made
 returns-in-Some-clause-made c =
     let s = c.args.search.now in
-    subst (λ (v : Node). IfSome c.in-Some.made (IsMade s v.placing v.question)) c.in_ok-again.ensures
-    (freely_all (IsMade s c.in_ok-again.again.placing c.in_ok-again.again.question) c.stand.result c.in_ok-asked.asked c.in-Some.made c.in-Some.is c.in_ok-asked.ensures.answered c.stand.ensures.made)
+    subst (λ (v : Node). IfSome c.in-Some.made (IsMade s v.embedding v.question)) c.in_ok-again.ensures
+    (freely_all (IsMade s c.in_ok-again.again.embedding c.in_ok-again.again.question) c.stand.result c.in_ok-asked.asked c.in-Some.made c.in-Some.is c.in_ok-asked.ensures.answered c.stand.ensures.made)
 
 pub returns-in-Some-clause-missed : goal.returns-in-Some-clause-missed
 returns-in-Some-clause-missed c = λ _. c.in_ok-standing.ensures.fails c.if-standing.false

@@ -1,11 +1,11 @@
 use Rattle.std.proofs.Common.{◌≤◌, length, take}
-use Rattle.ac_unfold.specs.Cutting.{AreMadeOn}
+use Rattle.ac_unfold.specs.KillCuts.{AreMadeOn}
 use Rattle.ac_unfold.proofs.Results.{AreCut}
 use Rattle.ac_unfold.proofs.Stepping.{ServeBranches}
 use Rattle.ac_unfold.proofs.Coming.{AddsCalls, AddsReads}
-use Rattle.ac_unfold.specs.Passing.{GoesWithin, IsOutsideKills}
-use Rattle.ac_unfold.specs.Searching.{AddsBroken, IsInCase}
-use Rattle.ac_unfold.specs.Stops.{CutsOn}
+use Rattle.ac_unfold.specs.KillTraversal.{GoesWithin, IsOutsideKills}
+use Rattle.ac_unfold.specs.BrokenPathResults.{AddsBroken, IsInCase}
+use Rattle.ac_unfold.specs.UnfoldStops.{CutsOn}
 use Rattle.ac_unfold.proofs.Unbroken.{BranchesStand, CasesStand, PiecesStand}
 use Rattle.ac_unfold.proofs.unfolding.+unfold.Given as goal
 
@@ -44,18 +44,18 @@ decreases-outsides l = l.room
 
 abbrev pub invariant-calls-loop-branch : goal.invariant-calls-loop-branch
 invariant-calls-loop-branch l = record {
-  serve : ServeBranches l.search l.node.placing l.node.question l.yielded l.cases.items;
-  adds : AddsCalls l.search l.node l.order l.yielded l.fn.finds l.finds;
-  kept : length l.fn.finds.paths ≤ length l.finds.paths;
-  stand : BranchesStand l.search l.node.question l.yielded l.fn.finds l.finds;
+  serve : ServeBranches l.search l.node.embedding l.node.question l.yielded l.cases.items;
+  adds : AddsCalls l.search l.node l.order l.yielded l.fn.found_paths l.found_paths;
+  kept : length l.fn.found_paths.paths ≤ length l.found_paths.paths;
+  stand : BranchesStand l.search l.node.question l.yielded l.fn.found_paths l.found_paths;
 }
 
 abbrev pub invariant-read-loop-branch : goal.invariant-read-loop-branch
 invariant-read-loop-branch l = record {
-  serve : ServeBranches l.search l.node.placing l.node.question l.yielded l.plans.items;
-  adds : AddsReads l.search l.node l.number l.yielded l.fn.finds l.finds;
-  kept : length l.fn.finds.paths ≤ length l.finds.paths;
-  stand : CasesStand l.search l.node.question l.flow l.number l.yielded l.fn.finds l.finds;
+  serve : ServeBranches l.search l.node.embedding l.node.question l.yielded l.plans.items;
+  adds : AddsReads l.search l.node l.number l.yielded l.fn.found_paths l.found_paths;
+  kept : length l.fn.found_paths.paths ≤ length l.found_paths.paths;
+  stand : CasesStand l.search l.node.question l.flow l.number l.yielded l.fn.found_paths l.found_paths;
 }
 
 abbrev pub invariant-cut-loop-row : goal.invariant-cut-loop-row
@@ -63,17 +63,17 @@ invariant-cut-loop-row l = record {
   cut : AreCut l.search l.case l.fn.node l.course (take l.row-index l.rows);
   within : GoesWithin l.fn.node l.course.node;
   cuts : CutsOn l.search l.case l.fn.node l.course.node;
-  adds : AddsBroken l.search (IsOutsideKills l.search l.case l.number l.fn.node.trail l.fn.node.question) l.fn.finds l.finds;
+  adds : AddsBroken l.search (IsOutsideKills l.search l.case l.number l.fn.node.pair_path l.fn.node.question) l.fn.found_paths l.found_paths;
 }
 
 abbrev pub invariant-outsides-loop-part : goal.invariant-outsides-loop-part
 invariant-outsides-loop-part l = record {
-  made : AreMadeOn l.search l.case l.node.placing l.node.question (take l.part-index l.parts) l.plans.items;
-  adds : AddsBroken l.search (IsOutsideKills l.search l.case l.number l.node.trail l.node.question) l.fn.finds l.finds;
+  made : AreMadeOn l.search l.case l.node.embedding l.node.question (take l.part-index l.parts) l.plans.items;
+  adds : AddsBroken l.search (IsOutsideKills l.search l.case l.number l.node.pair_path l.node.question) l.fn.found_paths l.found_paths;
 }
 
 abbrev pub invariant-remainders-loop-rest : goal.invariant-remainders-loop-rest
 invariant-remainders-loop-rest l = record {
-  adds : AddsBroken l.search (IsInCase l.search l.case l.node.trail l.node.question) l.fn.finds l.finds;
-  stand : PiecesStand l.search l.node.question (take l.rest-index l.case.pieces) l.fn.finds l.finds;
+  adds : AddsBroken l.search (IsInCase l.search l.case l.node.pair_path l.node.question) l.fn.found_paths l.found_paths;
+  stand : PiecesStand l.search l.node.question (take l.rest-index l.case.pieces) l.fn.found_paths l.found_paths;
 }

@@ -1,8 +1,8 @@
 use Rattle.std.proofs.Common.{ℕ, sym, subst}
 use Rattle.ac_poly.specs.declared.types.Model.{Model}
-use Rattle.ac_paths.specs.Going.{model_of}
-use Rattle.ac_unfold.specs.Cases.{AssumesCase}
-use Rattle.ac_unfold.specs.Making.{judge_of}
+use Rattle.ac_claims_paths.specs.PathSteps.{model_of}
+use Rattle.ac_unfold.specs.CaseBranches.{AssumesCase}
+use Rattle.ac_unfold.specs.PlanResults.{judge_of}
 use Rattle.ac_unfold.proofs.Results.{in_get}
 use Rattle.ac_unfold.proofs.unfolding.case_of.Goals as goal
 

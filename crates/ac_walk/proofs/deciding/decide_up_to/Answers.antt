@@ -1,9 +1,9 @@
 use Rattle.std.proofs.Common.{List, sym, subst}
-use Rattle.ac_match.specs.Orders.{IsNext}
+use Rattle.ac_match.specs.SiteOrders.{IsNext}
 use Rattle.ac_match.specs.declared.orders.Next.{Next}
 use Rattle.ac_match.specs.declared.orders.Refuted.{Refuted}
 use Rattle.ac_report.specs.declared.types.Cause.TheVariants.{SpentOrders}
-use Rattle.ac_walk.specs.Deciding.{IsDecision}
+use Rattle.ac_walk.specs.OutputDecisions.{IsDecision}
 use Rattle.ac_walk.specs.declared.deciding.Decision.TheVariants.{Unknown}
 use Rattle.ac_walk.proofs.Refuting.{spent_decides}
 use Rattle.ac_walk.proofs.deciding.decide_up_to.Goals as goal

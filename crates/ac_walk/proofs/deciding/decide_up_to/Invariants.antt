@@ -1,4 +1,4 @@
-use Rattle.ac_walk.specs.Deciding.{AreShown}
+use Rattle.ac_walk.specs.OutputDecisions.{AreShown}
 use Rattle.ac_walk.proofs.deciding.decide_up_to.Given as goal
 
 abbrev pub invariant-loop-order : goal.invariant-loop-order

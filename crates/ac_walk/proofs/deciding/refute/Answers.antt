@@ -1,6 +1,6 @@
 use Rattle.std.proofs.Common.{sym, subst}
-use Rattle.ac_match.specs.Orders.{OrdersOf}
-use Rattle.ac_walk.specs.Deciding.{AreShown}
+use Rattle.ac_match.specs.SiteOrders.{OrdersOf}
+use Rattle.ac_walk.specs.OutputDecisions.{AreShown}
 use Rattle.ac_walk.proofs.Refuting.{is_shown, more_shown}
 use Rattle.ac_walk.proofs.deciding.refute.Goals as goal
 

@@ -1,7 +1,7 @@
 use Rattle.std.proofs.Common.{subst, sym}
 use Rattle.ac_report.specs.declared.types.Cause.{Cause}
-use Rattle.ac_search.specs.Stops.{EndsEarly}
-use Rattle.ac_walk.specs.Deciding.{IsDecision}
+use Rattle.ac_walk.specs.SearchStops.{EndsEarly}
+use Rattle.ac_walk.specs.OutputDecisions.{IsDecision}
 use Rattle.ac_walk.specs.declared.deciding.Decision.TheVariants.{Unknown}
 use Rattle.ac_walk.proofs.Refuting.{early_decides}
 use Rattle.ac_walk.proofs.deciding.try_order.Goals as goal

@@ -1,7 +1,7 @@
 use Rattle.std.proofs.Common.{List, sym, subst}
 use Rattle.ac_match.specs.declared.orders.Refuted.{Refuted}
 use Rattle.ac_report.specs.declared.types.Cause.TheVariants.{Unmatched}
-use Rattle.ac_walk.specs.Deciding.{IsDecision}
+use Rattle.ac_walk.specs.OutputDecisions.{IsDecision}
 use Rattle.ac_walk.specs.declared.deciding.Decision.TheVariants.{Unknown}
 use Rattle.ac_walk.proofs.Refuting.{unmatched_decides}
 use Rattle.ac_walk.proofs.deciding.unmatched.Goals as goal

@@ -1,5 +1,5 @@
 use Rattle.std.proofs.Common.{ℤ, List, Option, IfSome, subst}
-use Rattle.ac_walk.specs.Deciding.{AreDifferent}
+use Rattle.ac_walk.specs.OutputDecisions.{AreDifferent}
 use Rattle.ac_walk.proofs.differing.difference_at.Goals as goal
 
 pub returns-in-Some : goal.returns-in-Some

@@ -1,8 +1,8 @@
 use Rattle.std.proofs.Common.{List, sym, subst}
-use Rattle.ac_search.proofs.Lists.{get_among}
-use Rattle.ac_search.specs.declared.types.Search.{Search}
+use Rattle.ac_walk.proofs.Lists.{get_among}
+use Rattle.ac_walk.specs.declared.search_types.Search.{Search}
 use Rattle.ac_syntax.specs.declared.tree.Position.{Position}
-use Rattle.ac_walk.specs.Deciding.{AreSame, IsDecision}
+use Rattle.ac_walk.specs.OutputDecisions.{AreSame, IsDecision}
 use Rattle.ac_walk.specs.declared.deciding.Decision.{Decision}
 use Rattle.ac_walk.proofs.Gathered.{different_said, unknown_said}
 use Rattle.ac_walk.proofs.Standing.{equal_said}
@@ -21,7 +21,7 @@ decide-requires-clause-search c =
         numbers = c.requires.basis.numbers;
         moduli = c.requires.basis.moduli;
         output = get_among b.pair.now.outputs c.args.number c.args.array c.requires.array;
-        stops = takes_all b _ c.requires.basis (subst (λ (keys : List (Position × Position)). AreSame keys b.graph.now.recurrent) (sym c.as_slice.ensures) c.in_ok-reach.ensures);
+        stops = takes_all b _ c.requires.basis (subst (λ (widening_points : List (Position × Position)). AreSame widening_points b.graph.now.recurrent) (sym c.as_slice.ensures) c.in_ok-reach.ensures);
       };
       output = c.requires.array;
       widening = widening b c.requires.basis;
@@ -30,27 +30,27 @@ decide-requires-clause-search c =
 pub decide-requires-clause-further : goal.decide-requires-clause-further
 decide-requires-clause-further c =
     let b = c.args.basis.now in
-    λ w is. takes_each b _ c.requires.basis (subst (λ (keys : List (Position × Position)). AreSame keys b.graph.now.recurrent) (sym c.as_slice.ensures) c.in_ok-reach.ensures) w is
+    λ w is. takes_each b _ c.requires.basis (subst (λ (widening_points : List (Position × Position)). AreSame widening_points b.graph.now.recurrent) (sym c.as_slice.ensures) c.in_ok-reach.ensures) w is
 
 pub returns-in-Stands : goal.returns-in-Stands
 returns-in-Stands c =
     let b = c.args.basis.now in
-    let s : Search = record { pair = b.pair; setting = b.setting; template = b.template; array = c.args.array; stops = c.as_slice.result; first = c.len.result; tabling = c.is_shared.result } in
+    let s : Search = record { pair = b.pair; program_flows = b.program_flows; template = b.template; array = c.args.array; stops = c.as_slice.result; first = c.len.result; tabling = c.is_shared.result } in
     let kept = (subst (λ (d : Decision). IsDecision s c.args.number d) c.in-Stands.is c.in_ok-part.ensures).kept in
     let made = c.in_ok-with_part-in-Stands.ensures in
-    equal_said b b.setting.now.budget kept.0 c.args.proof c.in_ok-with_part-in-Stands.field-0 c.in-Stands.part c.args.array c.len.result c.requires.basis c.len.ensures kept.1 made.longer made.accepted made.stops made.named c.requires.proof
+    equal_said b b.program_flows.now.budget kept.0 c.args.proof c.in_ok-with_part-in-Stands.field-0 c.in-Stands.part c.args.array c.len.result c.requires.basis c.len.ensures kept.1 made.longer made.accepted made.stops made.named c.requires.proof
 
 pub returns-in-Different : goal.returns-in-Different
 returns-in-Different c =
     let b = c.args.basis.now in
-    let s : Search = record { pair = b.pair; setting = b.setting; template = b.template; array = c.args.array; stops = c.as_slice.result; first = c.len.result; tabling = c.is_shared.result } in
+    let s : Search = record { pair = b.pair; program_flows = b.program_flows; template = b.template; array = c.args.array; stops = c.as_slice.result; first = c.len.result; tabling = c.is_shared.result } in
     let kept = (subst (λ (d : Decision). IsDecision s c.args.number d) c.in-Different.is c.in_ok-part.ensures).kept in
-    different_said b.setting.now.budget b.pair.now c.args.array c.args.proof c.in-Different.found.at c.in-Different.found.element (kept c.args.array c.requires.array) c.requires.proof
+    different_said b.program_flows.now.budget b.pair.now c.args.array c.args.proof c.in-Different.found.at c.in-Different.found.element (kept c.args.array c.requires.array) c.requires.proof
 
 pub returns : goal.returns
 returns c =
     let b = c.args.basis.now in
-    let s : Search = record { pair = b.pair; setting = b.setting; template = b.template; array = c.args.array; stops = c.as_slice.result; first = c.len.result; tabling = c.is_shared.result } in
+    let s : Search = record { pair = b.pair; program_flows = b.program_flows; template = b.template; array = c.args.array; stops = c.as_slice.result; first = c.len.result; tabling = c.is_shared.result } in
     let said = subst (λ (d : Decision). IsDecision s c.args.number d) c.in-Unknown.is c.in_ok-part.ensures in
-    let same = subst (λ (keys : List (Position × Position)). AreSame keys b.graph.now.recurrent) (sym c.as_slice.ensures) c.in_ok-reach.ensures in
-    unknown_said b.setting.now.budget b.pair.now c.args.array c.args.proof c.in-Unknown.cause (said.cause (λ w is. takes_each b _ c.requires.basis same w is)) (said.ends (λ w is. takes_each b _ c.requires.basis same w is)) c.requires.proof
+    let same = subst (λ (widening_points : List (Position × Position)). AreSame widening_points b.graph.now.recurrent) (sym c.as_slice.ensures) c.in_ok-reach.ensures in
+    unknown_said b.program_flows.now.budget b.pair.now c.args.array c.args.proof c.in-Unknown.cause (said.cause (λ w is. takes_each b _ c.requires.basis same w is)) (said.ends (λ w is. takes_each b _ c.requires.basis same w is)) c.requires.proof

@@ -1,4 +1,4 @@
-use Rattle.ac_rounds.proofs.Lists.{reread}
+use Rattle.ac_walk_state.proofs.LastItems.{reread}
 use Rattle.ac_walk.proofs.Widened.{in_pairs}
 use Rattle.ac_walk.proofs.pairs.is_among.Goals as goal
 

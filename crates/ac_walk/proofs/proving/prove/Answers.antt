@@ -2,8 +2,8 @@ use Rattle.std.proofs.Common.{◌≡◌, get_or, ap, true, subst}
 use Rattle.std.proofs.lemmas.Result.{IfOk-weaker}
 use Rattle.ac_poly.specs.declared.types.Model.{Model}
 use Rattle.ac_claims.specs.ProofFaults.{is_point}
-use Rattle.ac_parts.proofs.Points.{tested_points}
-use Rattle.ac_walk.specs.Causes.{left_model}
+use Rattle.ac_walk_state.proofs.ContextPoints.{tested_points}
+use Rattle.ac_walk.specs.UnknownCauses.{left_model}
 use Rattle.ac_walk.proofs.Causing.{has_valuation}
 use Rattle.ac_walk.proofs.proving.prove.Goals as goal
 

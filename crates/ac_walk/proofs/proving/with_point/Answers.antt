@@ -2,7 +2,7 @@ use Rattle.std.proofs.lemmas.Result.{IfOk-weaker}
 use Rattle.ac_walk.proofs.Causing.{of_left, of_right, has_flow}
 use Rattle.ac_walk.proofs.Flowing.{have_flows}
 use Rattle.ac_walk.proofs.Gathered.{searched_proved}
-use Rattle.ac_walk.specs.Causes.{left_model, right_model, searched}
+use Rattle.ac_walk.specs.UnknownCauses.{left_model, right_model, searched}
 use Rattle.ac_walk.proofs.proving.with_point.Goals as goal
 
 pub with_flows-requires-clause-flows : goal.with_flows-requires-clause-flows

@@ -3,7 +3,7 @@ use Rattle.ac_poly.specs.declared.types.Model.{Model}
 use Rattle.ac_flow.specs.Contexts.{ContextStops}
 use Rattle.ac_flow.specs.declared.types.ContextStop.{ContextStop}
 use Rattle.ac_flow.specs.declared.types.ContextStop.TheVariants.{EmptyContext}
-use Rattle.ac_walk.specs.Causes.{cause_of, context_cause_of}
+use Rattle.ac_walk.specs.UnknownCauses.{cause_of, context_cause_of}
 use Rattle.ac_walk.proofs.Causing.{of_context, same_overflow, same_spent}
 use Rattle.ac_walk.proofs.Contexts.{no_valuation}
 use Rattle.ac_walk.proofs.proving.without_point.Goals.{in-Overflow, in-Spent}

@@ -1,5 +1,5 @@
 use Rattle.std.proofs.Common.{◌-◌, ◌≤◌, length}
-use Rattle.ac_walk.specs.Causes.{AreUnknown, cause_of}
+use Rattle.ac_walk.specs.UnknownCauses.{AreUnknown, cause_of}
 use Rattle.ac_walk.proofs.unanswered.unknown_all.Given as goal
 
 abbrev pub invariant-loop-verdicts : goal.invariant-loop-verdicts

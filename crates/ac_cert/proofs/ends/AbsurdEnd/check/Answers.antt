@@ -1,6 +1,6 @@
 use Rattle.std.proofs.Common.{◌≡◌, Some, None, slice_get, true, false, sym, refl}
-use Rattle.ac_choices.proofs.Keeping.{row-made}
-use Rattle.ac_cert.specs.Ends.{is_absurd}
+use Rattle.ac_omega_steps.proofs.Keeping.{row-made}
+use Rattle.ac_cert.specs.AbsurdEnd.{is_absurd}
 use Rattle.ac_cert.proofs.ends.AbsurdEnd.check.Goals as goal
 
 pub is_absurd-requires : goal.is_absurd-requires

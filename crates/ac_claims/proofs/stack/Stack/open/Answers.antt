@@ -1,5 +1,5 @@
 use Rattle.std.proofs.Common.{◌++◌, ◌∷◌, ◌∙◌, ap}
-use Rattle.ac_claims.specs.Entries.{all_dues}
+use Rattle.ac_claims.specs.StackEntries.{all_dues}
 use Rattle.ac_claims.specs.Machine.{PlanAt}
 use Rattle.ac_claims.proofs.Entering.{all_dues_with}
 use Rattle.ac_claims.proofs.stack.Stack.open.Goals as goal

@@ -1,7 +1,7 @@
 use Rattle.std.proofs.Common.{subst, sym}
-use Rattle.ac_paths.specs.Calls.{pairing}
+use Rattle.ac_claims_paths.specs.ModelCalls.{pairing}
 use Rattle.ac_claims.specs.Dues.{AreDueFormed}
-use Rattle.ac_claims.specs.Entries.{all_dues}
+use Rattle.ac_claims.specs.StackEntries.{all_dues}
 use Rattle.ac_claims.proofs.DueForms.{taken_formed}
 use Rattle.ac_claims.proofs.stack.Stack.take.Goals as goal
 

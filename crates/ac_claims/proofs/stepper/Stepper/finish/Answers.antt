@@ -1,5 +1,5 @@
-use Rattle.ac_paths.specs.Calls.{pairing}
-use Rattle.ac_claims.specs.Judging.{state_of}
+use Rattle.ac_claims_paths.specs.ModelCalls.{pairing}
+use Rattle.ac_claims.specs.CheckState.{state_of}
 use Rattle.ac_claims.proofs.FeedSteps.{ok_answer, fault_answer}
 use Rattle.ac_claims.proofs.stepper.Stepper.finish.Goals as goal
 

@@ -1,7 +1,7 @@
 use Rattle.std.proofs.Common.{refl}
 use Rattle.ac_forms.proofs.Scales.{made_as}
 use Rattle.ac_forms.proofs.Times.{can_add_times}
-use Rattle.ac_integers.proofs.Bits.{again_128}
+use Rattle.ac_base.proofs.Bits.{again_128}
 use Rattle.ac_forms.proofs.form.Form.add_times.Goals as goal
 
 pub returns : goal.returns

@@ -1,4 +1,4 @@
-use Rattle.ac_integers.proofs.Bits.{again_128}
+use Rattle.ac_base.proofs.Bits.{again_128}
 use Rattle.ac_forms.proofs.Scales.{made_as, can_scale, scaled_is}
 use Rattle.ac_forms.proofs.form.Form.scale.Goals as goal
 

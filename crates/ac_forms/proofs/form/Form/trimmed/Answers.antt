@@ -1,6 +1,6 @@
 use Rattle.std.proofs.Common.{◌≡◌, ℤ, List, ◌+ℤ◌, ap, ◌∙◌}
 use Rattle.ac_forms.specs.Affine.{Affine, value_at}
-use Rattle.ac_forms.specs.Columns.{trimmed}
+use Rattle.ac_forms.specs.RowColumns.{trimmed}
 use Rattle.ac_forms.proofs.Trims.{dot-trim}
 use Rattle.ac_forms.proofs.form.Form.trimmed.Goals as goal
 

@@ -1,7 +1,7 @@
 use Rattle.std.proofs.Common.{◌≡◌, Some, sym, ◌∙◌, ap, rules, of_z}
 use Rattle.std.specs.Prelude.{slice_get}
 use Rattle.std.specs.Int.{w128}
-use Rattle.ac_hull.specs.Differences.{gap_of}
+use Rattle.ac_hull.specs.ColumnDifferences.{gap_of}
 use Rattle.ac_hull.proofs.Comparing.{among_at, first_among, not_constant, constant_of, each_whole}
 use Rattle.ac_hull.proofs.difference.Difference.is_constant.Goals as goal
 

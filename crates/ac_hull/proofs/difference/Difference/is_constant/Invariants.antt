@@ -1,6 +1,6 @@
 use Rattle.std.proofs.Common.{◌≡◌, take}
 use Rattle.ac_widen.specs.Combinations.{Each}
-use Rattle.ac_hull.specs.Differences.{gap_of}
+use Rattle.ac_hull.specs.ColumnDifferences.{gap_of}
 use Rattle.ac_hull.proofs.difference.Difference.is_constant.Given as goal
 
 abbrev pub invariant-loop-point : goal.invariant-loop-point

@@ -1,6 +1,6 @@
 use Rattle.std.proofs.Common.{◌+ℤ◌, take}
 use Rattle.ac_widen.specs.Combinations.{Each}
-use Rattle.ac_hull.specs.Differences.{HoldsWith, gap_of}
+use Rattle.ac_hull.specs.ColumnDifferences.{HoldsWith, gap_of}
 use Rattle.ac_hull.proofs.difference.Difference.is_met.Given as goal
 
 abbrev pub invariant-loop-point : goal.invariant-loop-point

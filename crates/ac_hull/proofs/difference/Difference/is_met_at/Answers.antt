@@ -1,7 +1,7 @@
 use Rattle.std.proofs.Common.{rules, FitsSigned}
 use Rattle.std.specs.Int.{w128}
-use Rattle.ac_integers.proofs.Bits.{again_128}
-use Rattle.ac_hull.specs.Differences.{gap_of}
+use Rattle.ac_base.proofs.Bits.{again_128}
+use Rattle.ac_hull.specs.ColumnDifferences.{gap_of}
 use Rattle.ac_hull.proofs.difference.Difference.is_met_at.Goals as goal
 
 pub returns-in-Some : goal.returns-in-Some

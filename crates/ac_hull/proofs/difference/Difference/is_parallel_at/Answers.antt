@@ -1,7 +1,7 @@
 use Rattle.std.proofs.Common.{◌↔◌, ◌-ℤ◌, ◌≤ℤ◌}
 use Rattle.std.specs.Prelude.{IsTrue}
-use Rattle.ac_integers.proofs.Bits.{again_128}
-use Rattle.ac_hull.specs.Differences.{gap_of}
+use Rattle.ac_base.proofs.Bits.{again_128}
+use Rattle.ac_hull.specs.ColumnDifferences.{gap_of}
 use Rattle.ac_hull.proofs.Comparing.{both_ways}
 use Rattle.ac_hull.proofs.difference.Difference.is_parallel_at.Goals as goal
 

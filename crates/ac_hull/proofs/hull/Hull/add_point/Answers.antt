@@ -1,8 +1,8 @@
 use Rattle.std.proofs.Common.{◌≡◌, [], length, Some, rules, sym, ap, ◌∙◌, refl, true, false}
 use Rattle.std.specs.Prelude.{slice_get}
 use Rattle.ac_widen.specs.Combinations.{InHull}
-use Rattle.ac_hull.specs.Fitting.{CanAdd, CanGrow}
-use Rattle.ac_hull.specs.Elimination.{next_line, minus, IsZero}
+use Rattle.ac_hull.specs.EliminationRange.{CanAdd, CanGrow}
+use Rattle.ac_hull.specs.FractionFreeElimination.{next_line, minus, IsZero}
 use Rattle.ac_hull.proofs.Hulls.{hull_content, hull_row, hull_can_grow, none_in}
 use Rattle.ac_forms.proofs.Stops.{wide_inside}
 use Rattle.ac_hull.proofs.Counts.{grown_law}

@@ -1,7 +1,7 @@
 use Rattle.std.proofs.Common.{◌≡◌, length, Some, rules, refl}
 use Rattle.std.specs.Prelude.{slice_get}
-use Rattle.ac_hull.specs.Elimination.{IsZero}
-use Rattle.ac_hull.specs.Fitting.{CanCombine, CanRead}
+use Rattle.ac_hull.specs.FractionFreeElimination.{IsZero}
+use Rattle.ac_hull.specs.EliminationRange.{CanCombine, CanRead}
 use Rattle.ac_hull.proofs.Hulls.{hull_content, hull_row}
 use Rattle.ac_forms.proofs.Stops.{wide_inside}
 use Rattle.ac_hull.proofs.Founds.{hull_long, hull_found, hull_can_combine, hull_combine_read}

@@ -1,6 +1,6 @@
 use Rattle.std.proofs.Common.{rules}
 use Rattle.ac_hull.proofs.Hulls.{growth_extension, grown_hull}
-use Rattle.ac_hull.specs.Inner.Keeping.{IsGrowth}
+use Rattle.ac_hull.specs.HullInternals.Keeping.{IsGrowth}
 use Rattle.ac_hull.proofs.hull.Hull.grow.Goals as goal
 
 pub extended-requires : goal.extended-requires

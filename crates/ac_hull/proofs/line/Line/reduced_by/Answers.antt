@@ -1,6 +1,6 @@
 use Rattle.std.proofs.Common.{rules, ◌≡◌, ℤ, List}
-use Rattle.ac_integers.proofs.Bits.{again_128}
-use Rattle.ac_hull.specs.Elimination.{column_of, pivot_of, entry}
+use Rattle.ac_base.proofs.Bits.{again_128}
+use Rattle.ac_hull.specs.FractionFreeElimination.{column_of, pivot_of, entry}
 use Rattle.ac_hull.proofs.Reductions.{reduced_made}
 use Rattle.ac_hull.proofs.line.Line.reduced_by.Goals as goal
 

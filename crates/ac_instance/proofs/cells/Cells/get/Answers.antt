@@ -1,5 +1,5 @@
 use Rattle.std.proofs.Common.{ap, ◌∙◌}
-use Rattle.ac_instance.specs.Kept.{cell_of, id_at}
+use Rattle.ac_instance.specs.KeptIds.{cell_of, id_at}
 use Rattle.ac_instance.proofs.Ids.{lookup_seen}
 use Rattle.ac_instance.proofs.cells.Cells.get.Goals as goal
 

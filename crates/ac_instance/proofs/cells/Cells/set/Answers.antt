@@ -1,6 +1,6 @@
 use Rattle.std.proofs.Common.{Some, if◌then◌else◌, ap, ◌∙◌, map}
 use Rattle.ac_syntax.specs.Algebra.{same_cell}
-use Rattle.ac_instance.specs.Kept.{cell_of, id_at}
+use Rattle.ac_instance.specs.KeptIds.{cell_of, id_at}
 use Rattle.ac_instance.proofs.Ids.{id_at-inserted, seen}
 use Rattle.ac_instance.proofs.cells.Cells.set.Goals as goal
 

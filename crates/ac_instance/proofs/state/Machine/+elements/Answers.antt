@@ -3,7 +3,7 @@ use Rattle.std.proofs.lemmas.Int.{to_z-of_z}
 use Rattle.std.proofs.lemmas.Result.{IfOk-weaker}
 use Rattle.ac_instance.specs.declared.halt.Side.TheVariants.{Left, Right}
 use Rattle.ac_instance.specs.Events.{natural, in_elements}
-use Rattle.ac_instance.specs.Kept.{leaf_in}
+use Rattle.ac_instance.specs.KeptIds.{leaf_in}
 use Rattle.ac_instance.specs.Least.{AgreeAt, IsLeast, beneath}
 use Rattle.ac_instance.proofs.Elements.{upto, elements_left, element_left, one_more_size, all_sizes, only_one, first_and_rest, nothing_there}
 use Rattle.ac_instance.proofs.Happen.{halts, goes_on, due_in_whole}

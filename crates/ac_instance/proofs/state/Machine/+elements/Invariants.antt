@@ -3,7 +3,7 @@ use Rattle.ac_syntax.specs.Algebra.{Cell}
 use Rattle.ac_syntax.specs.Term.{Term}
 use Rattle.ac_instance.specs.declared.halt.Side.TheVariants.{Left, Right}
 use Rattle.ac_instance.specs.Events.{in_elements}
-use Rattle.ac_instance.specs.Kept.{leaf_in, Holds}
+use Rattle.ac_instance.specs.KeptIds.{leaf_in, Holds}
 use Rattle.ac_instance.specs.Least.{AgreeAt, IsLeast}
 use Rattle.ac_instance.proofs.Elements.{upto, elements_left}
 use Rattle.ac_instance.proofs.Happen.{Continues}

@@ -4,7 +4,7 @@ use Rattle.std.proofs.lemmas.Int.{to_z-of_z}
 use Rattle.std.proofs.lemmas.List.{drop_all}
 use Rattle.ac_syntax.specs.Algebra.{Cell, run, value_of, store}
 use Rattle.ac_syntax.specs.Index.{Point, point, index_value, holds, comparison_holds}
-use Rattle.ac_syntax.specs.Ready.{ReadyAll, Ready}
+use Rattle.ac_syntax.specs.ReadyPrograms.{ReadyAll, Ready}
 use Rattle.ac_syntax.specs.Term.{Term, free}
 use Rattle.ac_syntax.specs.Trace.{trace, trace_all, assignments, each_turn}
 use Rattle.ac_syntax.specs.Turns.{inside, iterator_at, turns}
@@ -15,8 +15,8 @@ use Rattle.ac_syntax.proofs.Traces.{trace_for}
 use Rattle.ac_syntax.proofs.Walking.{walk_first, walk_next, walk_done}
 use Rattle.ac_instance.specs.declared.state.Machine.{Machine}
 use Rattle.ac_instance.specs.Events.{Event, event, evaluated, index, reached, in_value, in_test, in_all, in_stmt, in_loop}
-use Rattle.ac_instance.specs.Steps.{IsDue, Advances, Steps}
-use Rattle.ac_instance.specs.Kept.{cell, leaf_in, Holds}
+use Rattle.ac_instance.specs.MachineSteps.{IsDue, Advances, Steps}
+use Rattle.ac_instance.specs.KeptIds.{cell, leaf_in, Holds}
 use Rattle.ac_instance.proofs.Happen.{halts, begins, due_after, advance, steps_after, goes_on, ends, due_in_whole, drop_more, never_falls, counts_one}
 use Rattle.ac_instance.proofs.Values.{Holds-kept, Holds-after, on_ok}
 use Rattle.ac_instance.proofs.Turning.{later, turns_left, all_left, none_left, turn_parts, test_left, one_more, test_at, holds_at, body_at, ready_inside, ran_more, ran_one, in_for, in_if, in_assign}

@@ -2,14 +2,14 @@ use Rattle.std.proofs.Common.{◌≡◌, ◌+◌, ◌≤◌, ℕ, ℤ, List, dro
 use Rattle.std.specs.List.{flat_map, range_with_len}
 use Rattle.ac_syntax.specs.Algebra.{Cell, run}
 use Rattle.ac_syntax.specs.Index.{point}
-use Rattle.ac_syntax.specs.Ready.{ReadyAll}
+use Rattle.ac_syntax.specs.ReadyPrograms.{ReadyAll}
 use Rattle.ac_syntax.specs.Term.{Term, free}
 use Rattle.ac_syntax.specs.Trace.{trace_all}
 use Rattle.ac_syntax.specs.Turns.{Bounded, turns}
 use Rattle.ac_syntax.proofs.Walking.{Walking}
 use Rattle.ac_syntax.proofs.TurnEntries.{in_turn_of}
 use Rattle.ac_instance.specs.Events.{in_all, in_loop}
-use Rattle.ac_instance.specs.Kept.{leaf_in, Holds}
+use Rattle.ac_instance.specs.KeptIds.{leaf_in, Holds}
 use Rattle.ac_instance.proofs.Happen.{Continues}
 use Rattle.ac_instance.proofs.Turning.{turns_left}
 use Rattle.ac_instance.proofs.state.Machine.+runs.Given as goal

@@ -10,8 +10,8 @@ use Rattle.ac_terms.specs.Table.{StandsFor, StandForAll}
 use Rattle.ac_terms.proofs.Kept.{StandForAll-kept}
 use Rattle.ac_instance.specs.declared.state.Machine.{Machine}
 use Rattle.ac_instance.specs.Events.{Event, event, index, in_value}
-use Rattle.ac_instance.specs.Steps.{IsDue, Advances, Steps}
-use Rattle.ac_instance.specs.Kept.{cell, cell_of, leaf_in, Holds}
+use Rattle.ac_instance.specs.MachineSteps.{IsDue, Advances, Steps}
+use Rattle.ac_instance.specs.KeptIds.{cell, cell_of, leaf_in, Holds}
 use Rattle.ac_instance.proofs.Happen.{halts, begins, due_after, advance, steps_after, Continues, goes_on, due_in_whole, drop_more}
 use Rattle.ac_instance.proofs.Values.{term_number, term_access, in_number, in_access, in_call, value_first, StandForAll-push, Holds-kept}
 use Rattle.ac_instance.proofs.state.Machine.+values.Goals as goal

@@ -5,7 +5,7 @@ use Rattle.ac_syntax.specs.Index.{point}
 use Rattle.ac_syntax.specs.Term.{Term, terms, free}
 use Rattle.ac_terms.specs.Table.{StandForAll}
 use Rattle.ac_instance.specs.Events.{in_value}
-use Rattle.ac_instance.specs.Kept.{leaf_in, Holds}
+use Rattle.ac_instance.specs.KeptIds.{leaf_in, Holds}
 use Rattle.ac_instance.proofs.Happen.{Continues}
 use Rattle.ac_instance.proofs.state.Machine.+values.Given as goal
 

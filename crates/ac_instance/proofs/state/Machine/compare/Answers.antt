@@ -3,7 +3,7 @@ use Rattle.std.proofs.lemmas.Result.{IfOk-weaker}
 use Rattle.ac_syntax.specs.Index.{point, index_value}
 use Rattle.ac_instance.specs.Events.{index, in_elements}
 use Rattle.ac_instance.specs.Least.{AgreeAt, IsLeast, beneath, has_none_of}
-use Rattle.ac_instance.specs.Steps.{Advances, Steps}
+use Rattle.ac_instance.specs.MachineSteps.{Advances, Steps}
 use Rattle.ac_instance.proofs.Elements.{no_events, none_inside, sizes_of, whole}
 use Rattle.ac_instance.proofs.Happen.{halts, begins, due_in_whole, steps_after}
 use Rattle.ac_instance.proofs.state.Machine.compare.Goals as goal

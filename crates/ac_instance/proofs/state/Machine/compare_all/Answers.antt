@@ -3,11 +3,11 @@ use Rattle.std.proofs.lemmas.List.{take_more, take_all}
 use Rattle.ac_syntax.specs.Index.{point}
 use Rattle.ac_syntax.specs.Outputs.{extents_at}
 use Rattle.ac_instance.specs.declared.halt.Side.TheVariants.{Left, Right}
-use Rattle.ac_instance.specs.Answers.{in_outputs, AreOutcomes, outcome_of, IsOutcome}
+use Rattle.ac_instance.specs.ComparisonAnswers.{in_outputs, AreOutcomes, outcome_of, IsOutcome}
 use Rattle.ac_instance.specs.Events.{in_output}
-use Rattle.ac_instance.specs.Kept.{leaf_in}
+use Rattle.ac_instance.specs.KeptIds.{leaf_in}
 use Rattle.ac_instance.specs.Least.{AgreeAt, IsLeast, Looked, throughout}
-use Rattle.ac_instance.specs.Steps.{IsDue, Advances}
+use Rattle.ac_instance.specs.MachineSteps.{IsDue, Advances}
 use Rattle.ac_instance.proofs.Happen.{item_at, halts, goes_on, due_in_whole, drop_more}
 use Rattle.ac_instance.proofs.Outcomes.{one_more_outcome, as_outcome}
 use Rattle.ac_instance.proofs.Values.{Holds-kept}

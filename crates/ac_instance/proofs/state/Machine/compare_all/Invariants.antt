@@ -4,8 +4,8 @@ use Rattle.ac_syntax.specs.Index.{point}
 use Rattle.ac_syntax.specs.Outputs.{extents_at}
 use Rattle.ac_syntax.specs.Term.{Term}
 use Rattle.ac_instance.specs.declared.halt.Side.TheVariants.{Left, Right}
-use Rattle.ac_instance.specs.Answers.{in_outputs, AreOutcomes}
-use Rattle.ac_instance.specs.Kept.{leaf_in, Holds}
+use Rattle.ac_instance.specs.ComparisonAnswers.{in_outputs, AreOutcomes}
+use Rattle.ac_instance.specs.KeptIds.{leaf_in, Holds}
 use Rattle.ac_instance.specs.Least.{AgreeAt, throughout}
 use Rattle.ac_instance.proofs.Happen.{Continues}
 use Rattle.ac_instance.proofs.state.Machine.compare_all.Given as goal

@@ -1,5 +1,5 @@
 use Rattle.std.proofs.Common.{◌≡◌, ◌∷◌, [], ◌++◌}
-use Rattle.ac_match.specs.Inner.Numbers.{AreNumbered}
+use Rattle.ac_match.specs.MatchInternals.Numbers.{AreNumbered}
 use Rattle.ac_match.proofs.Numbering.{all_snoc}
 use Rattle.ac_match.proofs.orders.Orders.refute.Goals as goal
 

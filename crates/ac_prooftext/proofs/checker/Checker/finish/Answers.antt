@@ -1,5 +1,5 @@
 use Rattle.std.proofs.Common.{rules, ◌≡◌, ◌≤◌, ◌+◌, ◌∙◌, sym}
-use Rattle.ac_prooftext.specs.Texts.{capped}
+use Rattle.ac_prooftext.specs.ProofTexts.{capped}
 use Rattle.ac_prooftext.proofs.Answering.{too_deep, text_refused, answered}
 use Rattle.ac_prooftext.proofs.checker.Checker.finish.Goals as goal
 

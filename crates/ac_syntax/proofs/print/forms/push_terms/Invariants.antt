@@ -1,6 +1,6 @@
 use Rattle.std.proofs.Common.{◌≡◌, ◌++◌, drop}
 use Rattle.ac_syntax.specs.Text.{terms}
-use Rattle.ac_syntax.specs.Printing.{continued, has_terms}
+use Rattle.ac_syntax.specs.PrinterTerms.{continued, has_terms}
 use Rattle.ac_syntax.proofs.print.forms.push_terms.Given as goal
 
 abbrev pub invariant-loop-i : goal.invariant-loop-i

@@ -1,7 +1,7 @@
 use Rattle.std.proofs.Common.{◌≡◌, drop}
 use Rattle.std.specs.List.{list_all}
 use Rattle.ac_syntax.specs.Index.{point, comparison_holds, holds}
-use Rattle.ac_syntax.specs.Checked.{checked_holds}
+use Rattle.ac_syntax.specs.CheckedArithmetic.{checked_holds}
 use Rattle.ac_syntax.proofs.tree.Cond.holds.Given as goal
 
 abbrev pub invariant-loop-part : goal.invariant-loop-part

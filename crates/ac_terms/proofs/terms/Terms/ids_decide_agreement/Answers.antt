@@ -1,6 +1,6 @@
 use Rattle.std.proofs.Common.{subst}
 use Rattle.ac_terms.specs.Table.{Table}
-use Rattle.ac_terms.specs.Nodes.{AreApart}
+use Rattle.ac_terms.specs.TableNodes.{AreApart}
 use Rattle.ac_terms.proofs.Agreement.{ids_decide}
 use Rattle.ac_terms.proofs.terms.Terms.ids_decide_agreement.Goals as goal
 

@@ -1,6 +1,6 @@
 use Rattle.std.proofs.Common.{sym, subst, ◌∙◌}
 use Rattle.ac_terms.specs.Table.{Table}
-use Rattle.ac_terms.specs.Nodes.{AreApart}
+use Rattle.ac_terms.specs.TableNodes.{AreApart}
 use Rattle.ac_terms.proofs.Same.{ids-Decides}
 use Rattle.ac_terms.proofs.Agreement.{ids_decide}
 use Rattle.ac_terms.proofs.terms.Terms.same.Goals as goal

@@ -3,7 +3,7 @@ use Rattle.std.proofs.lemmas.List.{length-map}
 use Rattle.std.specs.Option.{option_map}
 use Rattle.std.proofs.lemmas.Option.{slice_get-map}
 use Rattle.ac_terms.specs.Table.{Table}
-use Rattle.ac_terms.specs.Nodes.{shape, AreApart}
+use Rattle.ac_terms.specs.TableNodes.{shape, AreApart}
 use Rattle.ac_terms.proofs.Same.{node_eq, node_eq-Decides}
 use Rattle.ac_terms.proofs.Places.{inserted_apart, inserted_kept}
 use Rattle.ac_terms.proofs.terms.Terms.store.Goals as goal

@@ -1,6 +1,0 @@
-use Rattle.std.proofs.Common.{◌≡◌, take, true}
-use Rattle.ac_affine.specs.Forms.{all_small}
-use Rattle.ac_affine.proofs.form.all_small.Given as goal
-
-abbrev pub invariant-loop-x : goal.invariant-loop-x
-invariant-loop-x l = all_small (take l.x-index l.xs) ≡ true

@@ -1,6 +1,0 @@
-use Rattle.std.proofs.Common.{◌≡◌, take, true}
-use Rattle.ac_affine.specs.Forms.{all_small}
-use Rattle.ac_affine.proofs.form.narrowed.Given as goal
-
-abbrev pub invariant-loop-x : goal.invariant-loop-x
-invariant-loop-x l = record { so_far : l.numbers ≡ take l.x-index l.xs; small : all_small l.numbers ≡ true }

@@ -1,6 +1,0 @@
-use Rattle.std.proofs.Common.{◌≡◌}
-use Rattle.ac_affine.specs.Forms.{unit}
-use Rattle.ac_affine.proofs.form.unit.Given as goal
-
-abbrev pub invariant-loop-j : goal.invariant-loop-j
-invariant-loop-j l = l.numbers ≡ unit l.j l.k

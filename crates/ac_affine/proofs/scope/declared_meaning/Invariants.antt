@@ -1,6 +1,0 @@
-use Rattle.std.proofs.Common.{◌≡◌, drop}
-use Rattle.ac_affine.specs.Meanings.{declared_meaning}
-use Rattle.ac_affine.proofs.scope.declared_meaning.Given as goal
-
-abbrev pub invariant-loop-entry : goal.invariant-loop-entry
-invariant-loop-entry l = declared_meaning (drop l.entry-index l.names) l.name ≡ declared_meaning l.names l.name

@@ -1,6 +1,0 @@
-use Rattle.std.proofs.Common.{◌≡◌, drop}
-use Rattle.ac_affine.specs.Meanings.{iterator_number}
-use Rattle.ac_affine.proofs.scope.iterator_number.Given as goal
-
-abbrev pub invariant-loop-k : goal.invariant-loop-k
-invariant-loop-k l = iterator_number (drop l.k l.iterators) l.name ≡ iterator_number l.iterators l.name

@@ -1,5 +1,0 @@
-use Rattle.ac_agreeing.proofs.Holding.{outputs_without_mismatch_agree}
-use Rattle.ac_agreeing.proofs.laws.outputs_without_mismatch_agree.Goals as goal
-
-pub returns : goal.returns
-returns c = outputs_without_mismatch_agree

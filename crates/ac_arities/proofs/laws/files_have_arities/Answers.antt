@@ -1,5 +1,0 @@
-use Rattle.ac_arities.proofs.Assigned.{files_have_arities}
-use Rattle.ac_arities.proofs.laws.files_have_arities.Goals as goal
-
-pub returns : goal.returns
-returns c = λ file h. files_have_arities file h

@@ -1,8 +1,0 @@
-use Rattle.std.proofs.Common.{subst, sym}
-use Rattle.ac_syntax.specs.declared.tree.Program.{Program}
-use Rattle.ac_arities.specs.Arities.{AllHaveArities}
-use Rattle.ac_arities.proofs.Assigned.{files_have_arities}
-use Rattle.ac_arities.proofs.laws.texts_have_arities.Goals as goal
-
-pub returns : goal.returns
-returns c = λ bytes program h. subst (λ (p : Program). AllHaveArities p.body) (sym h.is) (files_have_arities h.file h.rules)

@@ -1,0 +1,13 @@
+pub mod Ring
+pub mod Products
+pub mod Bits
+pub mod Dot
+pub mod Columns
+pub mod Multiples
+pub mod Divisors
+pub mod Floor
+pub mod Residues
+pub mod Contents
+pub mod Shadows
+pub mod Options
+pub mod Truths

@@ -1,0 +1,4 @@
+pub mod Dot
+pub mod Gcd
+pub mod Multiple
+pub mod formers

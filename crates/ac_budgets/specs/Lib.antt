@@ -1,3 +1,0 @@
-pub mod Models
-pub mod Programs
-pub mod Questions

@@ -1,9 +1,0 @@
-pub mod Sums
-pub mod Forms
-pub mod Conditions
-pub mod Values
-pub mod Statements
-pub mod Declarations
-pub mod Shapes
-pub mod Pragmas
-pub mod Programs

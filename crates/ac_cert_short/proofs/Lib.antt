@@ -1,0 +1,8 @@
+pub mod Accepting
+pub mod Views
+pub mod DraftNodes
+pub mod Agreeing
+pub mod PlacedNodes
+pub mod Counting
+pub mod Shapes
+pub mod PlacedMarks

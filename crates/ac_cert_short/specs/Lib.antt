@@ -1,0 +1,4 @@
+pub mod Units
+pub mod CertificateNodes
+pub mod Drafts
+pub mod DraftRelations

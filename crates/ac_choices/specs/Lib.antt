@@ -1,8 +1,0 @@
-pub mod Points
-pub mod Combination
-pub mod Bounds
-pub mod Choices
-pub mod LeftRows
-pub mod ChoiceFits
-pub mod Splinters
-pub mod Extremes

@@ -1,0 +1,16 @@
+pub mod RowNotes
+pub mod InstanceCoordinates
+pub mod ModelPositions
+pub mod PathColumns
+pub mod PathRows
+pub mod PathSteps
+pub mod CopyKills
+pub mod Executions
+pub mod OnPaths
+pub mod Pairs
+pub mod WellFormedPaths
+pub mod StepLaws
+pub mod OptionalRows
+pub mod ListExtension
+pub mod ModelCalls
+pub mod BranchPaths

@@ -1,0 +1,10 @@
+pub mod Embeddings
+pub mod PlanAcceptance
+pub mod BranchSides
+pub mod QuestionEmbedding
+pub mod QuestionPaths
+pub mod QuestionBranches
+pub mod QuestionPlans
+pub mod QuestionStarts
+pub mod QuestionCover
+pub mod DuePlans

@@ -1,4 +1,0 @@
-pub mod Placing
-pub mod Sourcing
-pub mod Stepping
-pub mod Mismatching

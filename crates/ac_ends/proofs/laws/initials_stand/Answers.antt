@@ -1,8 +1,0 @@
-use Rattle.ac_ends.proofs.Ending.{cells_equal, cells_plans}
-use Rattle.ac_ends.proofs.laws.initials_stand.Goals as goal
-
-pub returns-clause-initial : goal.returns-clause-initial
-returns-clause-initial c = cells_equal
-
-pub returns-clause-plan : goal.returns-clause-plan
-returns-clause-plan c = cells_plans

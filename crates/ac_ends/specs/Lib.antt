@@ -1,3 +1,0 @@
-pub mod Standing
-pub mod Ends
-pub mod Kills

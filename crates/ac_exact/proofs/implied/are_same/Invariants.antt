@@ -1,6 +1,0 @@
-use Rattle.std.proofs.Common.{◌≡◌, drop}
-use Rattle.ac_forms.specs.Orders.{columns_cmp}
-use Rattle.ac_exact.proofs.implied.are_same.Given as goal
-
-abbrev pub invariant-loop-column : goal.invariant-loop-column
-invariant-loop-column l = columns_cmp l.left l.right ≡ columns_cmp (drop l.column l.left) (drop l.column l.right)

@@ -1,7 +1,0 @@
-use Rattle.std.proofs.Common.{◌≡◌, drop}
-use Rattle.ac_choices.specs.Bounds.{rows_without}
-use Rattle.ac_exact.specs.Tests.{is_implied_by_one}
-use Rattle.ac_exact.proofs.implied.implying_row.Given as goal
-
-abbrev pub invariant-loop-i : goal.invariant-loop-i
-invariant-loop-i l = is_implied_by_one (rows_without l.z l.rows) l.wanted ≡ is_implied_by_one (rows_without l.z (drop l.i l.rows)) l.wanted

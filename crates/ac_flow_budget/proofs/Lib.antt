@@ -1,0 +1,17 @@
+pub mod Meant
+pub mod CellsRead
+pub mod CellsUsed
+pub mod Rows
+pub mod Renamed
+pub mod Shifted
+pub mod Named
+pub mod Levels
+pub mod Made
+pub mod Asked
+pub mod Readers
+pub mod Reading
+pub mod Stopping
+pub mod Lowered
+pub mod Bodies
+pub mod Answered
+pub mod Questions

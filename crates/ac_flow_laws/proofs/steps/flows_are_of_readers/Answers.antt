@@ -1,5 +1,0 @@
-use Rattle.ac_flow_laws.proofs.InPieces.{flows_of_readers}
-use Rattle.ac_flow_laws.proofs.steps.flows_are_of_readers.Goals as goal
-
-pub returns : goal.returns
-returns c = flows_of_readers

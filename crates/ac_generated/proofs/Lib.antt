@@ -1,4 +1,0 @@
-pub mod Faultless
-pub mod Numbers
-pub mod Loops
-pub mod Pairs

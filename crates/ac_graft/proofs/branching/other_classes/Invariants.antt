@@ -1,5 +1,0 @@
-use Rattle.ac_graft.proofs.Classes.{Classes}
-use Rattle.ac_graft.proofs.branching.other_classes.Given as goal
-
-abbrev pub invariant-loop-number : goal.invariant-loop-number
-invariant-loop-number l = Classes l.modulus l.form l.number l.outside

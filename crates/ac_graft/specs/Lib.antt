@@ -1,4 +1,0 @@
-pub mod Placings
-pub mod Plans
-pub mod Sides
-pub mod Standing

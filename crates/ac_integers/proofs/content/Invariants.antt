@@ -1,5 +1,0 @@
-use Rattle.ac_integers.proofs.Contents.{ContentHalfway}
-use Rattle.ac_integers.proofs.content.Given as goal
-
-abbrev pub invariant-loop-number : goal.invariant-loop-number
-invariant-loop-number l = ContentHalfway l.numbers l.divisor l.number-index

@@ -1,5 +1,0 @@
-use Rattle.ac_integers.proofs.Floor.{cut_both}
-use Rattle.ac_integers.proofs.cut_rule.Goals as goal
-
-pub returns : goal.returns
-returns c point = cut_both c.args.divisor c.args.coefs.now point c.args.constant c.requires.positive c.requires.divides

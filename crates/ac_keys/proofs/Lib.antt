@@ -1,9 +1,0 @@
-pub mod Among
-pub mod Hulls
-pub mod Reducing
-pub mod Standing
-pub mod Testing
-pub mod Weighing
-pub mod Members
-pub mod Widths
-pub mod Templates

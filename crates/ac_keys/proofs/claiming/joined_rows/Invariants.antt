@@ -1,6 +1,0 @@
-use Rattle.std.proofs.Common.{◌≡◌, ◌++◌, map, take}
-use Rattle.ac_forms.specs.declared.row.Row.TheVariants.{Eq}
-use Rattle.ac_keys.proofs.claiming.joined_rows.Given as goal
-
-abbrev pub invariant-loop-row : goal.invariant-loop-row
-invariant-loop-row l = l.rows ≡ map Eq l.fn.equalities ++ take l.row-index l.more

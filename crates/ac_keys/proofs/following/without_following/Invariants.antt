@@ -1,6 +1,0 @@
-use Rattle.std.proofs.Common.{take}
-use Rattle.ac_keys.specs.Following.{AreEnoughOn}
-use Rattle.ac_keys.proofs.following.without_following.Given as goal
-
-abbrev pub invariant-loop-row : goal.invariant-loop-row
-invariant-loop-row l = AreEnoughOn l.equalities (take l.row-index l.rows) l.left

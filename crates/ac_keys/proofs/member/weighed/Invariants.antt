@@ -1,5 +1,0 @@
-use Rattle.ac_keys.proofs.Weighing.{WeighHalfway}
-use Rattle.ac_keys.proofs.member.weighed.Given as goal
-
-abbrev pub invariant-loop-at : goal.invariant-loop-at
-invariant-loop-at l = WeighHalfway l.kept l.combination.weights l.weights l.at

@@ -1,5 +1,0 @@
-use Rattle.ac_kills.proofs.Remains.{CutHalfway}
-use Rattle.ac_kills.proofs.case.cut_case.Given as goal
-
-abbrev pub invariant-loop-found : goal.invariant-loop-found
-invariant-loop-found l = CutHalfway l.case l.kills l.room l.pieces l.found-index

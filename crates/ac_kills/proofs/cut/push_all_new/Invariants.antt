@@ -1,5 +1,0 @@
-use Rattle.ac_kills.proofs.Cutting.{NewHalfway}
-use Rattle.ac_kills.proofs.cut.push_all_new.Given as goal
-
-abbrev pub invariant-loop-row : goal.invariant-loop-row
-invariant-loop-row l = NewHalfway l.fn.rows l.rows l.more l.row-index

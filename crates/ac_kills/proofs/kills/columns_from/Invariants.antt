@@ -1,5 +1,0 @@
-use Rattle.ac_kills.proofs.Projections.{Ranged}
-use Rattle.ac_kills.proofs.kills.columns_from.Given as goal
-
-abbrev pub invariant-loop-z : goal.invariant-loop-z
-invariant-loop-z l = Ranged l.first l.z l.vars.items

@@ -1,9 +1,0 @@
-use Rattle.ac_leading.proofs.Calling.{orders_are_taken}
-use Rattle.ac_leading.proofs.Trails.{orders_may_change}
-use Rattle.ac_leading.proofs.laws.orders_are_chosen.Goals as goal
-
-pub returns-clause-taken : goal.returns-clause-taken
-returns-clause-taken c = orders_are_taken
-
-pub returns-clause-others : goal.returns-clause-others
-returns-clause-others c = orders_may_change

@@ -1,4 +1,0 @@
-pub mod Leading
-pub mod Steps
-pub mod Ends
-pub mod Broken

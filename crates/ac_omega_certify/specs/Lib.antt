@@ -1,0 +1,12 @@
+pub mod TreePathRows
+pub mod Leaves
+pub mod Alternatives
+pub mod SplinterCounts
+pub mod Refutations
+pub mod Descents
+pub mod RowRemainders
+pub mod Replacements
+pub mod ShadowRows
+pub mod ShadowSteps
+pub mod Residues
+pub mod ChoiceBranches

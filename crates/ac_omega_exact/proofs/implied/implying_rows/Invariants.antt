@@ -1,0 +1,7 @@
+use Rattle.std.proofs.Common.{◌≡◌, drop}
+use Rattle.ac_omega_steps.specs.Bounds.{rows_without}
+use Rattle.ac_omega_exact.specs.ExactnessTests.{is_implied_by_two}
+use Rattle.ac_omega_exact.proofs.implied.implying_rows.Given as goal
+
+abbrev pub invariant-loop-i : goal.invariant-loop-i
+invariant-loop-i l = is_implied_by_two (rows_without l.z l.rows) (rows_without l.z l.rows) l.wanted ≡ is_implied_by_two (rows_without l.z (drop l.i l.rows)) (rows_without l.z l.rows) l.wanted

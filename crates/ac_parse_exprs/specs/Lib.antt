@@ -1,0 +1,11 @@
+pub mod FaultOrder
+pub mod Meanings
+pub mod AffineForms
+pub mod IndexExpressions
+pub mod Comparisons
+pub mod WrittenValues
+pub mod FormValues
+pub mod Values
+pub mod Measures
+pub mod WrittenTerms
+pub mod ValueTerms

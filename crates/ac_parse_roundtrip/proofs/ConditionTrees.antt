@@ -1,0 +1,129 @@
+-- The trees of conditions and subscripts.
+use Rattle.std.specs.Prelude.{List, [], ◌∷◌, ◌++◌, length, codes, Some}
+use Rattle.std.specs.List.{flat_map, join_by, AllByRecursion}
+use Rattle.std.proofs.Common.{◌≡◌, ℕ, suc, ◌+◌, refl, sym, ap, subst, arith}
+use Rattle.ac_syntax.specs.declared.tree.IndexExpr.{IndexExpr}
+use Rattle.ac_syntax.specs.declared.tree.Rel.{Rel}
+use Rattle.ac_syntax.specs.declared.tree.Rel.TheVariants.{NonNegative, Zero}
+use Rattle.ac_syntax.specs.declared.tree.Comparison.{Comparison}
+use Rattle.ac_syntax.specs.declared.tree.Cond.{Cond}
+use Rattle.ac_syntax.specs.Text.{Scope}
+use Rattle.ac_syntax.proofs.Pairwise.{every_map}
+use Rattle.ac_lex.specs.Lexemes.{Lexeme}
+use Rattle.ac_parse_grammar.specs.declared.terminal.Terminal.TheVariants as t
+use Rattle.ac_parse_grammar.specs.declared.tree.Expr.{Expr}
+use Rattle.ac_parse_grammar.specs.declared.tree.Part.{Part}
+use Rattle.ac_parse_grammar.specs.Terminals.{terminal}
+use Rattle.ac_parse_grammar.specs.Operators.{relation_of}
+use Rattle.ac_parse_grammar.specs.Chains.{part_of}
+use Rattle.ac_parse_grammar.specs.Grammar as g
+use Rattle.ac_parse_grammar.specs.Grammar.{IsExpr, Subscripts, IsCond, IsPart}
+use Rattle.ac_parse_roundtrip.specs.Items.{Item, lexemes, space, mark, number, form, relation, comparison, cond, subscript, subscripts}
+use Rattle.ac_parse_roundtrip.specs.CanonicalTrees as tree
+use Rattle.ac_parse_roundtrip.specs.CanonicalTrees.{Each, IsFormTree, IsComparisonTree, IsConditionTree}
+use Rattle.ac_parse_roundtrip.specs.GrammarPrograms.{HasLiterals, HaveLiterals, HasSome, HasComparisons}
+use Rattle.ac_parse_roundtrip.proofs.ItemSequences.{after, lexemes-append, Reads}
+use Rattle.ac_parse_roundtrip.proofs.TokenTerminals.{mark_at, at_least_is, equal_is, and_is, open_bracket_is, close_bracket_is}
+use Rattle.ac_parse_roundtrip.proofs.PartSequences.{snoc, added_snoc, behind}
+use Rattle.ac_parse_roundtrip.proofs.FormTrees.{IsNamedScope, number_read, form_read, of_primary}
+
+relation_is : (at : ℕ) (r : Rel) → relation_of (terminal (mark_at at (relation r))) ≡ Some (tree.relation r)
+relation_is at NonNegative = ap relation_of (at_least_is at)
+relation_is at Zero = ap relation_of (equal_is at)
+
+-- one comparison alone
+data IsOnePart (room : ℕ) : List Lexeme → Part → Type 0 where
+  one : {ts : List Lexeme} {part : Part} → IsPart room ts (part ∷ []) → IsOnePart room ts part
+
+comparison_read : (room : ℕ) (scope : Scope) (c : Comparison) → IsNamedScope scope → HasLiterals c.form → Reads (IsOnePart (suc room)) (IsComparisonTree scope c) (comparison scope c)
+comparison_read room scope c named has = record {
+  at = λ at.
+      let left = (form_read room scope c.form named has).at at in
+      let sign = after at (form scope c.form) + 1 in
+      let right = (number_read (suc room) 0 (omega arith)).at (sign + length (relation c.rel) + 1) in
+      let part = part_of left.0 (tree.relation c.rel) right.0 in (
+        part,
+        subst (λ ts. IsOnePart (suc room) ts part) (sym (lexemes-append at (form scope c.form) (space ∷ mark (relation c.rel) ∷ space ∷ number 0 ∷ [])))
+            (one (g.comparison (mark_at sign (relation c.rel)) left.1 (relation_is sign c.rel) (of_primary right.1))),
+        record { left = left.2; relation = refl; right = right.2 },
+      );
+}
+
+-- and-signs and comparisons
+data IsAlso (room : ℕ) : List Lexeme → Part → Type 0 where
+  also : (sign : Lexeme) {us : List Lexeme} {part : Part} → terminal sign ≡ t.And → IsPart room us (part ∷ []) → IsAlso room (sign ∷ us) part
+
+abbrev and_items : List Item
+and_items = space ∷ mark (codes "&&") ∷ space ∷ []
+
+also_of : (room at : ℕ) (ts : List Lexeme) (part : Part) → IsOnePart room ts part → IsAlso room (mark_at at (codes "&&") ∷ ts) part
+also_of room at ts part (one p) = also (mark_at at (codes "&&")) (and_is at) p
+
+also_read : (room : ℕ) (scope : Scope) → IsNamedScope scope → (c : Comparison) → HasLiterals c.form → Reads (IsAlso (suc room)) (IsComparisonTree scope c) (and_items ++ comparison scope c)
+also_read room scope named c has = record {
+  at = λ at.
+      let place = at + 1 + 2 + 1 in
+      let x = (comparison_read room scope c named has).at place in
+      (x.0, also_of (suc room) (at + 1) (lexemes place (comparison scope c)) x.0 x.1, x.2);
+}
+
+also_step : (room : ℕ) (ts us : List Lexeme) (parts : List Part) (part : Part) → IsCond room ts parts → IsAlso room us part → IsCond room (ts ++ us) (snoc parts part)
+also_step room ts _ parts part r (also sign e p) = g.next_part sign r e p
+
+one_cond : (room : ℕ) (ts : List Lexeme) (part : Part) → IsOnePart room ts part → IsCond room ts (part ∷ [])
+one_cond room ts part (one p) = g.one_part p
+
+parts_read : (room : ℕ) (scope : Scope) (cs : List Comparison) → IsNamedScope scope → HasSome cs → HaveLiterals cs
+    → Reads (IsCond (suc room)) (Each (IsComparisonTree scope) cs) (join_by (comparison scope) and_items cs)
+parts_read room scope [] named some has = absurd some
+parts_read room scope (c ∷ cs) named some has = record {
+  at = λ at.
+      let first = (comparison_read room scope c named has.0).at at in
+      let is = comparison scope c in
+      let rest = flat_map (λ (d : Comparison). and_items ++ comparison scope d) cs in
+      let others = behind (IsCond (suc room)) (IsAlso (suc room)) snoc (also_step (suc room)) (IsComparisonTree scope) (λ d. and_items ++ comparison scope d) cs
+      (every_map (λ (d : Comparison). HasLiterals d.form) (λ d. Reads (IsAlso (suc room)) (IsComparisonTree scope d) (and_items ++ comparison scope d)) (also_read room scope named) cs has.1)
+      (lexemes at is) (first.0 ∷ []) (one_cond (suc room) (lexemes at is) first.0 first.1) (after at is) in
+      let parts = first.0 ∷ others.0 in (
+        parts,
+        subst (λ ts. IsCond (suc room) ts parts) (sym (lexemes-append at is rest))
+            (subst (λ ps. IsCond (suc room) (lexemes at is ++ lexemes (after at is) rest) ps) (added_snoc (first.0 ∷ []) others.0) others.1),
+        (first.2, others.2),
+      );
+}
+
+pub cond_read : (room : ℕ) (scope : Scope) (c : Cond) → IsNamedScope scope → HasComparisons c → Reads (IsCond (suc room)) (IsConditionTree scope c) (cond scope c)
+cond_read room scope c named has = parts_read room scope c.parts named has.some has.literals
+
+-- ---- subscripts
+
+-- an expression in brackets
+data IsBracketed (room : ℕ) : List Lexeme → Expr → Type 0 where
+  bracketed : (left right : Lexeme) {ts : List Lexeme} {a : Expr} → terminal left ≡ t.OpenBracket → IsExpr room ts a → terminal right ≡ t.CloseBracket
+      → IsBracketed room (left ∷ ts ++ right ∷ []) a
+
+bracketed_read : (room : ℕ) (scope : Scope) → IsNamedScope scope → (e : IndexExpr) → HasLiterals e → Reads (IsBracketed (suc room)) (IsFormTree scope e) (subscript scope e)
+bracketed_read room scope named e has = record {
+  at = λ at.
+      let x = (form_read room scope e named has).at (at + 1) in
+      let close = after (at + 1) (form scope e) in
+      let left = mark_at at (codes "[") in (
+        x.0,
+        subst (λ ts. IsBracketed (suc room) (left ∷ ts) x.0) (sym (lexemes-append (at + 1) (form scope e) (mark (codes "]") ∷ [])))
+            (bracketed left (mark_at close (codes "]")) (open_bracket_is at) x.1 (close_bracket_is close)),
+        x.2,
+      );
+}
+
+bracketed_step : (room : ℕ) (ts us : List Lexeme) (subs : List Expr) (a : Expr) → Subscripts (suc room) ts subs → IsBracketed room us a → Subscripts (suc room) (ts ++ us) (snoc subs a)
+bracketed_step room ts _ subs a r (bracketed left right at x close) = g.next_subscript left right r at x close
+
+pub subscripts_read : (room : ℕ) (scope : Scope) (subs : List IndexExpr) → IsNamedScope scope → AllByRecursion HasLiterals subs
+    → Reads (Subscripts (suc (suc room))) (Each (IsFormTree scope) subs) (subscripts scope subs)
+subscripts_read room scope subs named has = record {
+  at = λ at.
+      let x = behind (Subscripts (suc (suc room))) (IsBracketed (suc room)) snoc (bracketed_step (suc room)) (IsFormTree scope) (subscript scope) subs
+      (every_map HasLiterals (λ e. Reads (IsBracketed (suc room)) (IsFormTree scope e) (subscript scope e)) (bracketed_read room scope named) subs has)
+      [] [] g.no_subscript at in
+      (x.0, subst (λ trees. Subscripts (suc (suc room)) (lexemes at (subscripts scope subs)) trees) (added_snoc [] x.0) x.1, x.2);
+}

@@ -1,0 +1,15 @@
+pub mod Items
+pub mod ProgramWords
+pub mod CanonicalTrees
+pub mod GrammarPrograms
+pub mod TreeRoundTrip
+pub mod TokenSpelling
+pub mod ProgramNames
+pub mod PlaceErasure
+pub mod ColumnNames
+pub mod ReadableStatements
+pub mod CanonicalPrograms
+pub mod RuleRoundTrip
+pub mod NameCorrespondence
+pub mod Readability
+pub mod RoundTrip

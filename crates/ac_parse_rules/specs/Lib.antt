@@ -1,0 +1,6 @@
+pub mod Declarations
+pub mod Statements
+pub mod Files
+pub mod DeclaredNumbers
+pub mod LawsOfPrograms
+pub mod LawsOfNames

@@ -1,5 +1,0 @@
-use Rattle.ac_paths.proofs.Described.{models_have_moduli}
-use Rattle.ac_paths.proofs.laws.models_have_moduli.Goals as goal
-
-pub returns : goal.returns
-returns c = models_have_moduli

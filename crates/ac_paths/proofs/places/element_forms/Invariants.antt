@@ -1,5 +1,0 @@
-use Rattle.ac_paths.proofs.PlaceSteps.{Elements}
-use Rattle.ac_paths.proofs.places.element_forms.Given as goal
-
-abbrev pub invariant-loop-k : goal.invariant-loop-k
-invariant-loop-k l = Elements l.fn.params l.k l.forms

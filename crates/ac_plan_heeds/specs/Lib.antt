@@ -1,2 +1,0 @@
-pub mod Heeded
-pub mod Laws

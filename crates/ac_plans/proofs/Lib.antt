@@ -1,9 +1,0 @@
-pub mod Along
-pub mod Placed
-pub mod Branching
-pub mod Going
-pub mod Stepping
-pub mod Serving
-pub mod Starting
-pub mod Covering
-pub mod Sides

@@ -1,5 +1,0 @@
-use Rattle.ac_plans.proofs.Serving.{branches_give_plans}
-use Rattle.ac_plans.proofs.laws.branches_on_rows.Goals as goal
-
-pub returns : goal.returns
-returns c = branches_give_plans

@@ -1,8 +1,0 @@
-use Rattle.ac_plans.proofs.Serving.{served_have_plans, certificates_give_plans}
-use Rattle.ac_plans.proofs.laws.served_questions.Goals as goal
-
-pub returns-clause-served : goal.returns-clause-served
-returns-clause-served c = served_have_plans
-
-pub returns-clause-certified : goal.returns-clause-certified
-returns-clause-certified c = certificates_give_plans

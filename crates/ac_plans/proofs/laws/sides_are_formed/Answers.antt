@@ -1,5 +1,0 @@
-use Rattle.ac_plans.proofs.Sides.{sides_formed}
-use Rattle.ac_plans.proofs.laws.sides_are_formed.Goals as goal
-
-pub returns : goal.returns
-returns c = sides_formed

@@ -1,5 +1,0 @@
-use Rattle.ac_proofitems.proofs.Arms.{no_splinter}
-use Rattle.ac_proofitems.proofs.choices.splinter_choice.Goals as goal
-
-pub returns-in_default : goal.returns-in_default
-returns-in_default c = no_splinter c.args.words.now c.in_default.ensures

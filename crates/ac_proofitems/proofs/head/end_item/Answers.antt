@@ -1,6 +1,0 @@
-use Rattle.std.proofs.Common.{rules}
-use Rattle.ac_proofitems.proofs.HeadArms.{no_end}
-use Rattle.ac_proofitems.proofs.head.end_item.Goals as goal
-
-pub returns-else-is_done : goal.returns-else-is_done
-returns-else-is_done c = no_end c.args.words.now (search rules)

@@ -1,6 +1,0 @@
-use Rattle.std.proofs.Common.{rules}
-use Rattle.ac_proofitems.proofs.NodeArms.{no_number}
-use Rattle.ac_proofitems.proofs.nodes.number_item.Goals as goal
-
-pub returns-else-is_done : goal.returns-else-is_done
-returns-else-is_done c = no_number c.args.words.now (search rules)

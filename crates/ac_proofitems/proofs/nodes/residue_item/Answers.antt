@@ -1,6 +1,0 @@
-use Rattle.std.proofs.Common.{rules}
-use Rattle.ac_proofitems.proofs.NodeArms.{no_residue}
-use Rattle.ac_proofitems.proofs.nodes.residue_item.Goals as goal
-
-pub returns-in_default : goal.returns-in_default
-returns-in_default c = no_residue c.args.words.now (search rules)

@@ -1,0 +1,5 @@
+use Rattle.ac_prooftext_lines.proofs.Arms.{no_splinter}
+use Rattle.ac_prooftext_lines.proofs.choices.splinter_choice.Goals as goal
+
+pub returns-in_default : goal.returns-in_default
+returns-in_default c = no_splinter c.args.words.now c.in_default.ensures

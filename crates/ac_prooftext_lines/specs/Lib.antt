@@ -1,0 +1,5 @@
+pub mod LineWords
+pub mod Spelling
+pub mod Spellable
+pub mod ItemReaders
+pub mod UniqueItems

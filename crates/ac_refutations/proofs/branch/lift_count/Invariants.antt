@@ -1,9 +1,0 @@
-use Rattle.std.proofs.Common.{◌≡◌, ◌≤◌, take}
-use Rattle.ac_refutations.specs.Branches.{lift_count}
-use Rattle.ac_refutations.proofs.branch.lift_count.Given as goal
-
-abbrev pub invariant-loop-count : goal.invariant-loop-count
-invariant-loop-count l = record {
-  so_far : l.lifted ≡ lift_count (take l.count-index l.counts);
-  few : l.lifted ≤ l.count-index;
-}

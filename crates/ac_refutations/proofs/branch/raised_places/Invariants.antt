@@ -1,6 +1,0 @@
-use Rattle.std.proofs.Common.{◌≡◌, ◌++◌, drop}
-use Rattle.ac_refutations.specs.Branches.{raised_places}
-use Rattle.ac_refutations.proofs.branch.raised_places.Given as goal
-
-abbrev pub invariant-loop-i : goal.invariant-loop-i
-invariant-loop-i l = l.raised.items ++ raised_places l.z (drop l.i l.rows) (drop l.i l.counts) (drop l.i l.places) l.next ≡ raised_places l.z l.rows l.counts l.places l.first

@@ -1,5 +1,0 @@
-use Rattle.std.proofs.Common.{◌-◌, length}
-use Rattle.ac_refutations.proofs.choice_tree.+raised_from.Given as goal
-
-abbrev pub decreases-raised_from : goal.decreases-raised_from
-decreases-raised_from l = length l.rows.now - l.i

@@ -1,6 +1,0 @@
-use Rattle.ac_forms.specs.declared.normal.NormalRow.TheVariants.{Absurd}
-use Rattle.ac_refutations.proofs.LeftSearches.{Passed}
-use Rattle.ac_refutations.proofs.left_search.absurd_place.Given as goal
-
-abbrev pub invariant-loop-left : goal.invariant-loop-left
-invariant-loop-left l = Passed Absurd l.lefts l.left-index

@@ -1,5 +1,0 @@
-use Rattle.ac_refutations.proofs.LeftSearches.{PairPassed}
-use Rattle.ac_refutations.proofs.left_search.clash_places.Given as goal
-
-abbrev pub invariant-loop-left : goal.invariant-loop-left
-invariant-loop-left l = PairPassed l.lefts l.left-index

@@ -1,6 +1,0 @@
-use Rattle.ac_forms.specs.declared.normal.NormalRow.TheVariants.{Kept}
-use Rattle.ac_refutations.proofs.LeftSearches.{Passed}
-use Rattle.ac_refutations.proofs.left_search.place_of.Given as goal
-
-abbrev pub invariant-loop-left : goal.invariant-loop-left
-invariant-loop-left l = Passed (Kept l.row) l.lefts l.left-index

@@ -1,6 +1,0 @@
-use Rattle.std.proofs.Common.{take}
-use Rattle.ac_refutations.specs.Lefts.{AreLeftAt}
-use Rattle.ac_refutations.proofs.left_search.places_of.Given as goal
-
-abbrev pub invariant-loop-row : goal.invariant-loop-row
-invariant-loop-row l = AreLeftAt l.places.items (take l.row-index l.rows) l.lefts

@@ -1,5 +1,0 @@
-use Rattle.ac_refutations.proofs.ReplacedRows.{ReplacedSoFar}
-use Rattle.ac_refutations.proofs.path.Trail.keep_all_replaced.Given as goal
-
-abbrev pub invariant-loop-i : goal.invariant-loop-i
-invariant-loop-i l = ReplacedSoFar l.initial.self l.self l.z l.equality l.at l.i l.rows l.places l.initial.kept.rows.items l.initial.kept.places.items l.kept.rows.items l.kept.places.items

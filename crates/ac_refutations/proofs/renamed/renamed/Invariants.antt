@@ -1,5 +1,0 @@
-use Rattle.ac_refutations.proofs.Names.{Named}
-use Rattle.ac_refutations.proofs.renamed.renamed.Given as goal
-
-abbrev pub invariant-loop-k : goal.invariant-loop-k
-invariant-loop-k l = Named l.names l.columns l.form l.coefs.items l.k

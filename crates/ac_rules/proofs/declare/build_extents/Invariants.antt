@@ -1,6 +1,0 @@
-use Rattle.std.proofs.Common.{◌≡◌, take, map}
-use Rattle.ac_affine.specs.Comparisons.{index}
-use Rattle.ac_rules.proofs.declare.build_extents.Given as goal
-
-abbrev pub invariant-loop-extent : goal.invariant-loop-extent
-invariant-loop-extent l = l.built ≡ map (λ extent. index l.visible l.scope extent.size) (take l.extent-index l.extents)

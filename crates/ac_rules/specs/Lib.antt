@@ -1,6 +1,0 @@
-pub mod Declarations
-pub mod Statements
-pub mod Files
-pub mod Numbers
-pub mod LawsOfPrograms
-pub mod LawsOfNames

@@ -1,5 +1,0 @@
-use Rattle.ac_search.specs.Planning.{IsBegun}
-use Rattle.ac_search.proofs.planning.part_to.Given as goal
-
-abbrev pub invariant-loop-at : goal.invariant-loop-at
-invariant-loop-at l = IsBegun l.search l.order l.claims l.tabled l.at l.part

@@ -1,5 +1,0 @@
-use Rattle.ac_search.specs.Tabling.{IsTable}
-use Rattle.ac_search.proofs.tabling.fill.Given as goal
-
-abbrev pub invariant-loop-at : goal.invariant-loop-at
-invariant-loop-at l = IsTable l.search l.order l.fn.claims.items l.table

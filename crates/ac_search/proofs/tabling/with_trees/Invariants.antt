@@ -1,6 +1,0 @@
-use Rattle.std.proofs.Common.{◌≡◌, ◌++◌}
-use Rattle.ac_tables.specs.Tables.{all_trees}
-use Rattle.ac_search.proofs.tabling.with_trees.Given as goal
-
-abbrev pub invariant-loop-trees : goal.invariant-loop-trees
-invariant-loop-trees l = l.all.items ≡ l.fn.plans.items ++ all_trees l.yielded

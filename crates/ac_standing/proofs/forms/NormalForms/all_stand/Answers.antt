@@ -1,5 +1,0 @@
-use Rattle.ac_forms.proofs.Standings.{standing-meets}
-use Rattle.ac_standing.proofs.forms.NormalForms.all_stand.Goals as goal
-
-pub returns-clause-meets : goal.returns-clause-meets
-returns-clause-meets c = standing-meets c.standing.result c.args.rows.now c.args.wanted.now c.requires.rows c.requires.wanted c.standing.ensures.exact

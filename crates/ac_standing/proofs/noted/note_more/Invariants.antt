@@ -1,5 +1,0 @@
-use Rattle.ac_standing.proofs.Notes.{NotedSoFar}
-use Rattle.ac_standing.proofs.noted.note_more.Given as goal
-
-abbrev pub invariant-loop-at : goal.invariant-loop-at
-invariant-loop-at l = NotedSoFar l.noted.items l.rows l.at

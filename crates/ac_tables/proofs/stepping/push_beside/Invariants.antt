@@ -1,6 +1,0 @@
-use Rattle.std.proofs.Common.{◌≡◌, ◌++◌}
-use Rattle.ac_tables.specs.Questions.{beside_of}
-use Rattle.ac_tables.proofs.stepping.push_beside.Given as goal
-
-abbrev pub invariant-loop-right : goal.invariant-loop-right
-invariant-loop-right l = l.found ≡ l.fn.found ++ beside_of l.setting l.order l.claim l.right l.left

@@ -1,5 +1,0 @@
-use Rattle.ac_tables.proofs.Growing.{nothing_tabled}
-use Rattle.ac_tables.proofs.table.Table.new.Goals as goal
-
-pub returns-clause-valid : goal.returns-clause-valid
-returns-clause-valid c = λ setting. nothing_tabled setting c.args.base c.from.result c.from-2.result c.new.result c.new-2.result c.new.ensures c.new-2.ensures

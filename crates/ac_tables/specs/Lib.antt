@@ -1,9 +1,0 @@
-pub mod Behind
-pub mod Projected
-pub mod Questions
-pub mod Relations
-pub mod Tables
-pub mod Tabling
-pub mod Trees
-pub mod Tabled
-pub mod Thorough

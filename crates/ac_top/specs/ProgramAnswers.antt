@@ -1,0 +1,245 @@
+-- What the program answers: from its words and the files that they name to a status and a text.
+use Rattle.std.specs.Prelude.{◌≡◌, ◌≤◌, ℕ, List, [], ◌∷◌, ◌++◌, length, take, replicate, Option, Some, None, IfSome, IsSomeAnd, option_map, Ok, Err, Vec}
+use Rattle.std.specs.Global.{Global}
+use Rattle.std.specs.FinMap.{get, insert}
+use Rattle.std.specs.List.{Contains, AllByRecursion}
+use Rattle.ac_port.specs.Contents.{Contents, IsTooBig, IsSameBut}
+use Rattle.ac_cert.specs.declared.types.Rule.{Rule}
+use Rattle.ac_claims.specs.Soundness.{AreModels, pairing_of}
+use Rattle.ac_poly.specs.declared.types.Model.{Model}
+use Rattle.ac_prooftext.specs.StreamChecks.{IsAnswer}
+use Rattle.ac_prooftext.specs.declared.types.CheckFault.TheVariants.{TooLong, TooDeep, Refused}
+use Rattle.ac_poly.specs.LoweringFaults.{AreLowerable, IsFirstAll}
+use Rattle.ac_poly.specs.Lower.{outermost}
+use Rattle.ac_poly.specs.declared.types.LowerFault.{LowerFault}
+use Rattle.ac_syntax.specs.Outputs.{SameOutput}
+use Rattle.ac_syntax.specs.declared.tree.Program.{Program}
+use Rattle.ac_syntax.specs.declared.tree.Pair.{Pair}
+use Rattle.ac_parse.specs.ParseAnswers.{HasSourceFault}
+use Rattle.ac_parse.specs.Program.{IsProgramOf}
+use Rattle.ac_parse.specs.ProgramPairs.{IsPairOf, HasPairFault}
+use Rattle.ac_parse.specs.declared.faults.PairFault.TheVariants.{Signature, NoOutput}
+use Rattle.ac_parse.specs.declared.faults.SourceFault.{SourceFault}
+use Rattle.ac_cli_args.specs.Commands.{Asked, prove, check_of, instance_of, flow_of, gen_of, IsCommand, HasForm}
+use Rattle.ac_flow.specs.declared.types.Flow.{Flow}
+use Rattle.ac_top.specs.FlowReports.{FlowReports, IsFlowOf}
+use Rattle.ac_gen.specs.GeneratedPair.{IsGeneratedPair}
+use Rattle.ac_top.specs.GenReports.{GenReports}
+use Rattle.ac_top.specs.Reports.{Report, report, ProofFile}
+use Rattle.ac_top.specs.InstanceReports.{InstanceReports, IsTheSameAt}
+use Rattle.ac_top.specs.ProveReports.{ProveReports, ShowsEqual, HasDifference}
+use Rattle.ac_top.specs.ConsoleLines.{Complaint, complaint, lower_complaint, usage_line, read_fault_line, refusal_line, too_long_line, write_fault_line, signature_line, no_output_line, accepted_lines, rejected_line, rejected_too_long_line}
+use Rattle.ac_top.specs.declared.status.Status.{Status}
+use Rattle.ac_top.specs.declared.status.Status.TheVariants as status
+
+-- one more byte than a proof may have
+unfoldable pub stream_limit : ℕ
+stream_limit = 67108865
+
+-- the bytes of a proof file that are tested, where contents are told: all of them, or one more than a proof may have
+abbrev pub IsStream : Option Contents → List ℕ → List ℕ → Type 0
+IsStream files name stream = IfSome files (λ contents. IsSomeAnd (get contents name) (λ bytes. stream ≡ take stream_limit bytes))
+
+-- what is reported of the bytes of a proof of a pair; each output that it names is the same where it is accepted
+pub data ProofReports (pair : Pair) (stream : List ℕ) : Report → Type 0 where
+  accepted : (left right : Model) (outputs : Vec ℕ Global) → AreModels pair left right → IsAnswer (pairing_of pair left right) pair.outputs stream (Ok outputs) → AllByRecursion (SameOutput pair) outputs.items
+      → ProofReports pair stream (report status.Done (accepted_lines pair.left.arrays outputs.items))
+  too_long : (left right : Model) → AreModels pair left right → IsAnswer (pairing_of pair left right) pair.outputs stream (Err TooLong) → ProofReports pair stream (report status.Different rejected_too_long_line)
+  too_deep : (left right : Model) → AreModels pair left right → IsAnswer (pairing_of pair left right) pair.outputs stream (Err TooDeep) → ProofReports pair stream (report status.Different rejected_too_long_line)
+  not_valid : (left right : Model) (number : ℕ) (rule : Rule) → AreModels pair left right → IsAnswer (pairing_of pair left right) pair.outputs stream (Err (Refused number rule))
+      → ProofReports pair stream (report status.Different (rejected_line number rule))
+
+-- what `check` reports of a pair and a named proof file; `fails` says that in this run the read of a part of that file failed after
+-- so many others
+pub data CheckReports (files : Option Contents) (fails : ℕ → Type 0) (p : List ℕ) (pair : Pair) : Report → Type 0 where
+  proof_unread : (count : ℕ) → fails count → CheckReports files fails p pair (report status.ReadFault (read_fault_line p))
+  tested : (stream : List ℕ) (r : Report) → IsStream files p stream → ProofReports pair stream r → CheckReports files fails p pair r
+
+-- a text has a fault, of which this is said
+pub record HasComplaint (bytes : List ℕ) (said : Complaint) : Type 0 where
+  pub fault : SourceFault
+  pub has : HasSourceFault bytes fault
+  pub is_said : complaint fault ≡ Some said
+
+-- two programs are no pair: the line that says why
+pub data AreNoPair (left right : Program) : List ℕ → Type 0 where
+  signatures_differ : (number : ℕ) → HasPairFault left right (Signature number) → AreNoPair left right (signature_line number)
+  nothing_compared : HasPairFault left right NoOutput → AreNoPair left right no_output_line
+
+-- two texts have programs, and these are a pair
+pub record ArePaired (first second : List ℕ) (pair : Pair) : Type 0 where
+  pub left : Program
+  pub right : Program
+  pub is_left : IsProgramOf first left
+  pub is_right : IsProgramOf second right
+  pub is_pair : IsPairOf left right pair
+
+-- a program is lowered: each assignment has at most 16 pieces, and its numbers stay in 128 bits
+abbrev pub IsLowered : Program → Type 0
+IsLowered program = AreLowerable program.body 0 (outermost (length program.params)) (Unit {0})
+
+-- a program is not lowered: of the first assignment that has more pieces or a larger number this is said
+pub record IsNotLowered (program : Program) (said : Complaint) : Type 0 where
+  pub fault : LowerFault
+  pub is_first : IsFirstAll program.body 0 (outermost (length program.params)) (Unit {0}) fault
+  pub is_said : lower_complaint fault ≡ Some said
+
+-- both programs of a pair are lowered
+pub record AreLowered (pair : Pair) : Type 0 where
+  pub left : IsLowered pair.left
+  pub right : IsLowered pair.right
+
+-- two texts are refused: the line of the first that has no program, of their programs where these are no pair, or of the
+-- first whose program is not lowered
+pub data AreRefused (a b first second : List ℕ) : List ℕ → Type 0 where
+  first_refused : (said : Complaint) → HasComplaint first said → AreRefused a b first second (refusal_line a first said)
+  second_refused : (left : Program) (said : Complaint) → IsProgramOf first left → HasComplaint second said → AreRefused a b first second (refusal_line b second said)
+  no_pair : (left right : Program) (text : List ℕ) → IsProgramOf first left → IsProgramOf second right → AreNoPair left right text → AreRefused a b first second text
+  first_not_lowered : (pair : Pair) (said : Complaint) → ArePaired first second pair → IsNotLowered pair.left said → AreRefused a b first second (refusal_line a first said)
+  second_not_lowered : (pair : Pair) (said : Complaint) → ArePaired first second pair → IsLowered pair.left → IsNotLowered pair.right said
+      → AreRefused a b first second (refusal_line b second said)
+
+-- of the bytes of two files: why they are refused, or what is reported of their pair, whose programs are lowered
+pub data SourceReports (a b first second : List ℕ) (OfPair : Pair → Report → Type 0) : Report → Type 0 where
+  refused : (text : List ℕ) → AreRefused a b first second text → SourceReports a b first second OfPair (report status.Refused text)
+  paired : (pair : Pair) (r : Report) → ArePaired first second pair → AreLowered pair → OfPair pair r → SourceReports a b first second OfPair r
+
+-- the named file holds these bytes, where contents are told, and they are at most 65,536
+pub record Holds (files : Option Contents) (name bytes : List ℕ) : Type 0 where
+  pub told : IfSome files (λ contents. get contents name ≡ Some bytes)
+  pub short : length bytes ≤ 65536
+
+-- of two named files: why one has no bytes to read, or what is reported of the bytes of both; `fails` says that in this run the read
+-- of a name failed after those of others
+pub data FileReports (files : Option Contents) (fails : List (List ℕ) → List ℕ → Type 0) (a b : List ℕ) (OfPair : List ℕ → List ℕ → Pair → Report → Type 0) : Report → Type 0 where
+  first_unread : fails [] a → FileReports files fails a b OfPair (report status.ReadFault (read_fault_line a))
+  first_too_long : IfSome files (λ contents. IsTooBig contents a 65536) → FileReports files fails a b OfPair (report status.Refused (too_long_line a))
+  second_unread : (first : List ℕ) → Holds files a first → fails (a ∷ []) b → FileReports files fails a b OfPair (report status.ReadFault (read_fault_line b))
+  second_too_long : (first : List ℕ) → Holds files a first → IfSome files (λ contents. IsTooBig contents b 65536) → FileReports files fails a b OfPair (report status.Refused (too_long_line b))
+  sources : (first second : List ℕ) (r : Report) → Holds files a first → Holds files b second → SourceReports a b first second (OfPair first second) r → FileReports files fails a b OfPair r
+
+-- what `flow` reports of the text of a named file: why it is refused, or what is reported of its program, which is lowered
+pub data TextReports (a bytes : List ℕ) : Report → Type 0 where
+  text_refused : (said : Complaint) → HasComplaint bytes said → TextReports a bytes (report status.Refused (refusal_line a bytes said))
+  text_not_lowered : (program : Program) (said : Complaint) → IsProgramOf bytes program → IsNotLowered program said → TextReports a bytes (report status.Refused (refusal_line a bytes said))
+  text_lowered : (program : Program) (r : Report) → IsProgramOf bytes program → IsLowered program → FlowReports program r → TextReports a bytes r
+
+-- of a named file: why it has no bytes to read, or what is reported of its text; `fails` says that in this run the read of the file failed
+pub data OneFileReports (files : Option Contents) (fails : Type 0) (a : List ℕ) : Report → Type 0 where
+  file_unread : fails → OneFileReports files fails a (report status.ReadFault (read_fault_line a))
+  file_too_long : IfSome files (λ contents. IsTooBig contents a 65536) → OneFileReports files fails a (report status.Refused (too_long_line a))
+  text_of_file : (bytes : List ℕ) (r : Report) → Holds files a bytes → TextReports a bytes r → OneFileReports files fails a r
+
+-- what is reported of a command; `fails` says that in this run the read of a name failed after those of others
+abbrev pub CommandReports : Option Contents → (List (List ℕ) → List ℕ → Type 0) → Asked → Report → Type 0
+CommandReports files fails (prove a b budget proof) r = FileReports files fails a b (λ first second pair. ProveReports pair budget proof) r
+CommandReports files fails (check_of a b p) r = FileReports files fails a b (λ first second pair. CheckReports files (λ count. fails (a ∷ b ∷ replicate count p) p) p pair) r
+CommandReports files fails (instance_of a b at limit) r = FileReports files fails a b (λ first second pair. InstanceReports a b first second pair at limit) r
+CommandReports files fails (flow_of a) r = OneFileReports files (fails [] a) a r
+CommandReports files fails (gen_of seed stages) r = GenReports seed stages r
+
+-- what is reported of the words
+pub data Reports (words : List (List ℕ)) (files : Option Contents) (fails : List (List ℕ) → List ℕ → Type 0) : Report → Type 0 where
+  no_form : ¬ (HasForm words) → Reports words files fails (report status.Usage usage_line)
+  of_command : (asked : Asked) (r : Report) → IsCommand words asked → CommandReports files fails asked r → Reports words files fails r
+
+-- what becomes of a report: its text is put whole, or a put failed in this run, or memory ran out and nothing is put
+pub data Puts (r : Report) (failed : Type 0) (before now : Option (List ℕ)) : Status → Type 0 where
+  whole : now ≡ option_map (λ sent. sent ++ r.text) before → Puts r failed before now r.status
+  part : (count : ℕ) → failed → now ≡ option_map (λ sent. sent ++ take count r.text) before → Puts r failed before now status.WriteFault
+  nothing : now ≡ before → Puts r failed before now status.Memory
+
+-- the told contents with a file that was written
+abbrev pub with_file : ProofFile → Option Contents → Option Contents
+with_file file = option_map (λ contents. insert contents file.name file.bytes)
+
+-- what becomes of a report, by what the files hold before and after it, and what is put: where it has a file for a proof that is written first, and the
+-- text is put only then; `spoilt` says that a write failed in this run, and `failed` that a put did
+pub data Delivers (r : Report) (spoilt failed : Type 0) (files after : Option Contents) (before now : Option (List ℕ)) : Status → Type 0 where
+  only_put : (s : Status) → r.proof ≡ None → after ≡ files → Puts r failed before now s → Delivers r spoilt failed files after before now s
+  proof_first : (file : ProofFile) (s : Status) → r.proof ≡ Some file → after ≡ with_file file files → Puts r failed before now s → Delivers r spoilt failed files after before now s
+  proof_fails : (file : ProofFile) (s : Status) → r.proof ≡ Some file → spoilt → IsSameBut file.name files after → Puts (report status.WriteFault (write_fault_line file.name)) failed before now s
+      → Delivers r spoilt failed files after before now s
+  proof_wants : (file : ProofFile) → r.proof ≡ Some file → after ≡ files → now ≡ before → Delivers r spoilt failed files after before now status.Memory
+
+-- how a run ends: with the report of its words, or for want of memory, with nothing written and nothing put
+pub data Ends (words : List (List ℕ)) (files after : Option Contents) (fails : List (List ℕ) → List ℕ → Type 0) (spoilt failed : Type 0) (before now : Option (List ℕ)) : Status → Type 0 where
+  reported : (r : Report) (s : Status) → Reports words files fails r → Delivers r spoilt failed files after before now s → Ends words files after fails spoilt failed before now s
+  no_memory : after ≡ files → now ≡ before → Ends words files after fails spoilt failed before now status.Memory
+
+-- the files hold texts, these have programs, and the programs are a pair of which this holds
+pub record HoldAPair (files : Option Contents) (a b : List ℕ) (Is : Pair → Type 0) : Type 0 where
+  pub first : List ℕ
+  pub second : List ℕ
+  pub holds_first : Holds files a first
+  pub holds_second : Holds files b second
+  pub pair : Pair
+  pub are : ArePaired first second pair
+  pub is : Is pair
+
+-- each output of the pair is the same
+abbrev pub IsTheSame : Pair → Type 0
+IsTheSame pair = (output : ℕ) → Contains pair.outputs output → SameOutput pair output
+
+-- the bytes of a proof file are those of a proof of the pair that is accepted, and each output that it names is the same
+pub record AreAccepted (files : Option Contents) (p : List ℕ) (pair : Pair) : Type 0 where
+  pub stream : List ℕ
+  pub is_stream : IsStream files p stream
+  pub left : Model
+  pub right : Model
+  pub are_models : AreModels pair left right
+  pub outputs : Vec ℕ Global
+  pub is_checked : IsAnswer (pairing_of pair left right) pair.outputs stream (Ok outputs)
+  pub same : AllByRecursion (SameOutput pair) outputs.items
+
+-- the file holds the text of a program of which this holds
+pub record HoldsAProgram (files : Option Contents) (a : List ℕ) (Is : Program → Type 0) : Type 0 where
+  pub bytes : List ℕ
+  pub holds : Holds files a bytes
+  pub program : Program
+  pub is_program : IsProgramOf bytes program
+  pub is : Is program
+
+-- for `prove` each output is the same, for `check` each that the proof names, and for `instance` each is the same at the valuation; for
+-- `flow` each read has its sources; and for `gen` the output of the pair of the seed is the same
+abbrev pub AreTheSame : Option Contents → Asked → Type 0
+AreTheSame files (prove a b budget proof) = HoldAPair files a b IsTheSame
+AreTheSame files (check_of a b p) = HoldAPair files a b (AreAccepted files p)
+AreTheSame files (instance_of a b at limit) = HoldAPair files a b (λ pair. IsTheSameAt pair at)
+AreTheSame files (flow_of a) = HoldsAProgram files a (λ program. (flow : Flow) × IsFlowOf program flow)
+AreTheSame files (gen_of seed stages) = (pair : Pair) × IsGeneratedPair seed stages pair × IsTheSame pair
+
+-- where all is done, a command was asked, and what it compares is the same, or what it tells is so
+abbrev pub DoneMeansTheSame : List (List ℕ) → Option Contents → Status → Type 0
+DoneMeansTheSame words files s = s ≡ status.Done → (asked : Asked) × IsCommand words asked × AreTheSame files asked
+
+-- for `prove` and `gen` the terms of both programs do not agree in some element of an output, at some valuation of the context
+abbrev pub AreDifferent : Option Contents → Asked → Type 0
+AreDifferent files (prove a b budget proof) = HoldAPair files a b HasDifference
+AreDifferent files (check_of a b p) = Unit {0}
+AreDifferent files (instance_of a b at limit) = Unit {0}
+AreDifferent files (flow_of a) = Unit {0}
+AreDifferent files (gen_of seed stages) = (pair : Pair) × IsGeneratedPair seed stages pair × HasDifference pair
+
+-- where something is different, what the command that was asked compares is
+abbrev pub DifferentMeansDifferent : List (List ℕ) → Option Contents → Status → Type 0
+DifferentMeansDifferent words files s = s ≡ status.Different → (asked : Asked) → IsCommand words asked → AreDifferent files asked
+
+-- the words ask for a proof in this file, and these bytes show which outputs of the pair are equal
+pub record AsksFor (words : List (List ℕ)) (files : Option Contents) (file : ProofFile) : Type 0 where
+  pub a : List ℕ
+  pub b : List ℕ
+  pub budget : ℕ
+  pub is : IsCommand words (prove a b budget (Some file.name))
+  pub shows : HoldAPair files a b (λ pair. ShowsEqual pair file.bytes)
+
+-- what the files hold after a run: what they held before; but where the words ask for a proof and some output is equal its file holds such a proof, or
+-- anything where a write failed in this run
+pub data KeepsFiles (words : List (List ℕ)) (spoilt : Type 0) (files after : Option Contents) : Type 0 where
+  kept : after ≡ files → KeepsFiles words spoilt files after
+  proof_written : (file : ProofFile) → AsksFor words files file → after ≡ with_file file files → KeepsFiles words spoilt files after
+  proof_spoilt : (file : ProofFile) → AsksFor words files file → spoilt → IsSameBut file.name files after → KeepsFiles words spoilt files after
+
+-- the words ask for a file with a proof
+abbrev pub AskForAProof : List (List ℕ) → Type 0
+AskForAProof words = (a b : List ℕ) × (budget : ℕ) × (p : List ℕ) × IsCommand words (prove a b budget (Some p))

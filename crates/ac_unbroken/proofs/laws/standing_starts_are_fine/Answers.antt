@@ -1,5 +1,0 @@
-use Rattle.ac_unbroken.proofs.Fine.{standing_starts_are_fine}
-use Rattle.ac_unbroken.proofs.laws.standing_starts_are_fine.Goals as goal
-
-pub returns : goal.returns
-returns c = standing_starts_are_fine

@@ -1,9 +1,0 @@
-use Rattle.std.proofs.Common.{ap}
-use Rattle.ac_unfold.specs.Paths.{Found}
-use Rattle.ac_unfold.proofs.finding.Finds.into_paths.Goals as goal
-
-pub returns-clause-same : goal.returns-clause-same
-returns-clause-same c = ap (λ (f : Found). f.paths) c.self.view_is
-
-pub returns-clause-paths : goal.returns-clause-paths
-returns-clause-paths c = c.self.invariant.0

@@ -1,6 +1,0 @@
-use Rattle.std.proofs.Common.{◌≡◌, take}
-use Rattle.ac_unfold.specs.Ended.{places_along}
-use Rattle.ac_unfold.proofs.finding.places_along.Given as goal
-
-abbrev pub invariant-loop-entry : goal.invariant-loop-entry
-invariant-loop-entry l = l.places ≡ places_along (take l.entry-index l.path)

@@ -1,0 +1,11 @@
+pub mod PlanStops
+pub mod ProofDecisions
+pub mod RowsAlongPaths
+pub mod PlanEnds
+pub mod KillEnds
+pub mod TabledUse
+pub mod TabledUseRules
+pub mod ArgumentOrders
+pub mod AlikeBranches
+pub mod PairStops
+pub mod PlanStopRules

@@ -1,0 +1,9 @@
+pub mod StepQuestions
+pub mod ColumnProjection
+pub mod QuestionLists
+pub mod QuestionRelations
+pub mod Tables
+pub mod StartTraversal
+pub mod StartPlans
+pub mod TabledClaims
+pub mod TableCoverage

@@ -1,4 +1,0 @@
-pub mod Values
-pub mod Measures
-pub mod WrittenTerms
-pub mod Laws

@@ -1,0 +1,14 @@
+pub mod PairSetting
+pub mod LawfulPairs
+pub mod OutputAgreement
+pub mod PairPoints
+pub mod DerivationEntries
+pub mod PositionInstances
+pub mod FlowTargets
+pub mod ArgumentPairs
+pub mod PairMismatches
+pub mod PairSteps
+pub mod PairPaths
+pub mod PairPathSteps
+pub mod PairPathEnds
+pub mod BrokenPaths
