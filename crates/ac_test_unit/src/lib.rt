@@ -20,3 +20,5 @@ mod proofs;
 mod questions;
 #[cfg(test)]
 mod sets;
+#[cfg(test)]
+mod simplex;
