@@ -19,6 +19,8 @@ mod proofs;
 #[cfg(test)]
 mod questions;
 #[cfg(test)]
+mod rows;
+#[cfg(test)]
 mod sets;
 #[cfg(test)]
 mod simplex;

@@ -10,7 +10,6 @@ use ac_syntax::tree::{
     Array, Comparison, Cond, IndexExpr, Kind, Place, Program, Rel, Slot, Stmt, Symbol, Value,
 };
 use std::alloc::Global;
-use std::test::Fail;
 
 const HERE: Place = Place { at: 0 };
 
@@ -25,84 +24,139 @@ const TEXT: &[u8] = b"void f(int N, int A[1*N]) {
 }
 ";
 
-fn name(alloc: Global, text: &str) -> Result<Name, Fail> {
-    Ok(Name::new(text.as_bytes().to_vec(alloc)?).ok_or("a name")?)
+/// A vector of one item; none where there is no memory.
+fn one<T: Drop>(alloc: Global, item: T) -> Option<Vec<T>> {
+    let mut items = Vec::new(alloc);
+    items.push(item).ok()?;
+    Some(items)
+}
+
+/// A name; none where there is no memory, as in all that follows.
+fn name(alloc: Global, text: &[u8]) -> Option<Name> {
+    Name::new(Vec::from_slice(alloc, text).ok()?)
 }
 
 /// The form `konst + param N + iter i`.
-fn form(alloc: Global, konst: i64, param: i64, iter: i64) -> Result<IndexExpr, Fail> {
-    let params = vec![in alloc; param]?;
-    let iters = vec![in alloc; iter]?;
-    Ok(index_expr(konst, params, iters, HERE))
+fn form(alloc: Global, konst: i64, param: i64, iter: i64) -> Option<IndexExpr> {
+    let params = one(alloc, param)?;
+    Some(index_expr(konst, params, one(alloc, iter)?, HERE))
 }
 
-/// The condition that a form is at least 0.
-fn at_least(alloc: Global, form: IndexExpr) -> Result<Cond, Fail> {
+/// The condition that such a form is at least 0.
+fn at_least(alloc: Global, konst: i64, param: i64, iter: i64) -> Option<Cond> {
+    let form = form(alloc, konst, param, iter)?;
     let rel = Rel::NonNegative;
-    Ok(cond(vec![in alloc; Comparison { form, rel }]?))
+    Some(cond(one(alloc, Comparison { form, rel })?))
 }
 
-/// The assignment of a value to A[i].
-fn assigned(alloc: Global, value: Value) -> Result<Stmt, Fail> {
-    let subs = vec![in alloc; form(alloc, 0, 0, 1)?]?;
-    Ok(assign(0, subs, value, HERE))
+/// The subscripts of A[i + konst].
+fn subs(alloc: Global, konst: i64) -> Option<Vec<IndexExpr>> {
+    one(alloc, form(alloc, konst, 0, 1)?)
+}
+
+/// The statements that assign a value to A[i], and no other.
+fn assignments(alloc: Global, value: Value) -> Option<Vec<Stmt>> {
+    one(alloc, assign(0, subs(alloc, 0)?, value, HERE))
+}
+
+/// A[i + 1] and 1
+fn arguments(alloc: Global) -> Option<Vec<Value>> {
+    let mut values = one(alloc, access(0, subs(alloc, 1)?, HERE))?;
+    values.push(Value::Number(form(alloc, 1, 0, 0)?)).ok()?;
+    Some(values)
 }
 
 /// g(A[i + 1], 1)
-fn called(alloc: Global) -> Result<Value, Fail> {
-    let symbol = Symbol {
-        name: name(alloc, "g")?,
-        arity: 2,
-    };
-    let read = access(0, vec![in alloc; form(alloc, 1, 0, 1)?]?, HERE);
-    let one = Value::Number(form(alloc, 1, 0, 0)?);
-    Ok(call(symbol, vec![in alloc; read, one]?, HERE))
+fn call_of_two(alloc: Global) -> Option<Value> {
+    let args = arguments(alloc)?;
+    let name = name(alloc, b"g")?;
+    Some(call(Symbol { name, arity: 2 }, args, HERE))
+}
+
+/// The body of the loop over i: a branch.
+fn inner(alloc: Global) -> Option<Vec<Stmt>> {
+    let taken = assignments(alloc, call_of_two(alloc)?)?;
+    let other = assignments(alloc, Value::Number(form(alloc, 2, 0, 0)?))?;
+    one(
+        alloc,
+        branch(at_least(alloc, 2, 0, -1)?, taken, other, HERE),
+    )
 }
 
 /// The loop over i.
-fn body(alloc: Global) -> Result<Stmt, Fail> {
-    let two = Value::Number(form(alloc, 2, 0, 0)?);
-    let taken = vec![in alloc; assigned(alloc, called(alloc)?)?]?;
-    let other = vec![in alloc; assigned(alloc, two)?]?;
-    let split = branch(at_least(alloc, form(alloc, 2, 0, -1)?)?, taken, other, HERE);
+fn body(alloc: Global) -> Option<Stmt> {
+    let inner = inner(alloc)?;
     let start = form(alloc, 0, 0, 0)?;
-    let until = at_least(alloc, form(alloc, -1, 1, -1)?)?;
-    let inner = vec![in alloc; split]?;
-    Ok(for_loop(name(alloc, "i")?, start, until, 1, inner, HERE))
+    let until = at_least(alloc, -1, 1, -1)?;
+    Some(for_loop(name(alloc, b"i")?, start, until, 1, inner, HERE))
 }
 
 /// The array A[N].
-fn array(alloc: Global) -> Result<Array, Fail> {
-    let extent = index_expr(0, vec![in alloc; 1i64]?, Vec::new(alloc), HERE);
-    Ok(Array {
-        name: name(alloc, "A")?,
-        extents: Items::from(vec![in alloc; extent]?),
-        kind: Kind::Input,
+fn array(alloc: Global) -> Option<Array> {
+    let extent = index_expr(0, one(alloc, 1)?, Vec::new(alloc), HERE);
+    let extents = Items::from(one(alloc, extent)?);
+    let name = name(alloc, b"A")?;
+    let kind = Kind::Input;
+    Some(Array {
+        name,
+        extents,
+        kind,
     })
 }
 
-#[test]
-fn a_program_has_its_canonical_text(rt: HostRuntime) -> Result<(), Fail> {
-    let alloc = rt.alloc();
-    let program = Program {
-        name: name(alloc, "f")?,
-        params: Items::from(vec![in alloc; name(alloc, "N")?]?),
-        arrays: Items::from(vec![in alloc; array(alloc)?]?),
-        slots: Items::from_slice(alloc, &[Slot::Param(0), Slot::Array(0)])?,
-        body: Items::from(vec![in alloc; body(alloc)?]?),
+/// The function f of N and A, without both and without a body.
+fn empty(alloc: Global) -> Option<Program> {
+    let name = name(alloc, b"f")?;
+    let slots = Items::from_slice(alloc, &[Slot::Param(0), Slot::Array(0)]).ok()?;
+    Some(Program {
+        name,
+        params: Items::new(alloc),
+        arrays: Items::new(alloc),
+        slots,
+        body: Items::new(alloc),
         context: cond(Vec::new(alloc)),
         commutative: Items::new(alloc),
         outputs: None,
-    };
-    let printed = print_program(alloc, &program)?;
-    assert_eq!(rt; printed.as_slice(), TEXT);
-    assert_eq!(rt; assignments_in(program.body.as_slice()), Some(2));
-    Ok(())
+    })
+}
+
+/// Gives the program N, A and the loop.
+fn fill(alloc: Global, program: &mut Program) -> Option<()> {
+    program.params.push(name(alloc, b"N")?).ok()?;
+    program.arrays.push(array(alloc)?).ok()?;
+    program.body.push(body(alloc)?).ok()
+}
+
+/// Whether the canonical text of the program is this one, with two assignments.
+fn is_printed(alloc: Global, program: &Program) -> bool {
+    match print_program(alloc, program) {
+        Ok(printed) => {
+            printed.as_slice() == TEXT && matches!(assignments_in(program.body.as_slice()), Some(2))
+        }
+        Err(_) => false,
+    }
 }
 
 #[test]
-fn a_copy_of_a_value_is_equal(rt: HostRuntime) -> Result<(), Fail> {
-    let value = called(rt.alloc())?;
-    assert!(rt; copy_value(rt.alloc(), &value)? == value);
-    Ok(())
+fn a_program_has_its_canonical_text(rt: HostRuntime) {
+    let Some(mut program) = empty(rt.alloc()) else {
+        panic!(rt; "no memory");
+    };
+    assert!(rt; fill(rt.alloc(), &mut program).is_some() && is_printed(rt.alloc(), &program));
+}
+
+/// Whether a copy of the value is equal to it.
+fn is_copied(alloc: Global, value: &Value) -> bool {
+    match copy_value(alloc, value) {
+        Ok(copy) => copy == *value,
+        Err(_) => false,
+    }
+}
+
+#[test]
+fn a_copy_of_a_value_is_equal(rt: HostRuntime) {
+    match call_of_two(rt.alloc()) {
+        Some(value) => assert!(rt; is_copied(rt.alloc(), &value)),
+        None => panic!(rt; "no memory"),
+    }
 }

@@ -1,85 +1,100 @@
 //! Unions and differences of conjunctions over one column.
 
+use crate::rows::push_at_least;
 use ac_base::Items;
-use ac_forms::{Conj, Form, Row};
+use ac_forms::Conj;
 use ac_sets::{Union, intersect, subtract};
 use std::alloc::{AllocError, Global};
-use std::test::Fail;
 
 /// From `low` to `high`: `x - low >= 0` and `high - x >= 0`.
-fn range(alloc: Global, low: &i128, high: &i128) -> Result<Conj, AllocError> {
-    let below = Form::from_parts(alloc, low.wrapping_neg(), &[1])?;
-    let above = Form::from_parts(alloc, *high, &[-1])?;
+fn range(alloc: Global, low: i128, high: i128) -> Result<Conj, AllocError> {
     let mut rows = Items::new(alloc);
-    rows.push(Row::Ge(below))?;
-    rows.push(Row::Ge(above))?;
+    push_at_least(alloc, &mut rows, low.wrapping_neg(), &[1])?;
+    push_at_least(alloc, &mut rows, high, &[-1])?;
     Ok(Conj { columns: 1, rows })
 }
 
 /// The union of two ranges.
-fn ranges(alloc: Global, first: Conj, second: Conj) -> Result<Union, AllocError> {
+fn ranges(alloc: Global, first: (i128, i128), second: (i128, i128)) -> Result<Union, AllocError> {
     let mut pieces = Items::new(alloc);
-    pieces.push(first)?;
-    pieces.push(second)?;
+    pieces.push(range(alloc, first.0, first.1)?)?;
+    pieces.push(range(alloc, second.0, second.1)?)?;
     Ok(Union { visible: 1, pieces })
 }
 
-/// Whether the union, which is over one column, holds the number.
-fn holds(union: &Union, number: &i128) -> Option<bool> {
+/// Whether the answer of the union, which is over one column, on a number is this one.
+fn answers(union: &Union, number: i128, is_in: bool) -> bool {
     if !union.is_well_made() || !union.is_within(1) {
-        return None;
+        return false;
     }
-    union.contains(&[*number]).ok()
+    match union.contains(&[number]) {
+        Ok(answer) => answer == is_in,
+        Err(_) => false,
+    }
+}
+
+/// Whether the union holds each of the numbers, or none of them.
+fn answers_on_each(union: &Union, numbers: &[i128], is_in: bool) -> bool {
+    for number in numbers {
+        if !answers(union, *number, is_in) {
+            return false;
+        }
+    }
+    true
+}
+
+/// Whether what is common to the unions is in four pieces, holds 2, 3 and 10, and none of 1, 4, 9, 11 and 20.
+fn have_common_points(alloc: Global, first: &Union, second: &Union) -> bool {
+    if !first.is_well_made() || !second.is_well_made() || first.visible != second.visible {
+        return false;
+    }
+    match intersect(alloc, first, second) {
+        Ok(both) => {
+            both.visible == 1
+                && both.pieces.len() == 4
+                && answers_on_each(&both, &[2, 3, 10], true)
+                && answers_on_each(&both, &[1, 4, 9, 11, 20], false)
+        }
+        Err(_) => false,
+    }
 }
 
 #[test]
-fn common_points_are_in_both_unions(rt: HostRuntime) -> Result<(), Fail> {
-    let alloc = rt.alloc();
-    let first = ranges(alloc, range(alloc, &0, &3)?, range(alloc, &10, &12)?)?;
-    let second = ranges(alloc, range(alloc, &2, &10)?, range(alloc, &20, &30)?)?;
-    assert!(rt; first.is_well_made() && second.is_well_made());
-    assert!(rt; first.visible == second.visible);
-    let both = intersect(alloc, &first, &second)?;
-    assert_eq!(rt; both.visible, 1);
-    assert_eq!(rt; both.pieces.len(), 4);
-    for (number, is_in) in [
-        (1i128, false),
-        (2, true),
-        (3, true),
-        (4, false),
-        (9, false),
-        (10, true),
-        (11, false),
-        (20, false),
-    ] {
-        assert_eq!(rt; holds(&both, &number), Some(is_in), "at {number}");
-    }
-    Ok(())
-}
-
-#[test]
-fn a_difference_has_what_the_second_lacks(rt: HostRuntime) -> Result<(), Fail> {
-    let alloc = rt.alloc();
-    let first = range(alloc, &0, &9)?;
-    let second = range(alloc, &3, &5)?;
-    assert!(rt; first.is_well_made() && second.is_well_made());
-    assert!(rt; first.columns == second.columns);
-    let made = subtract(alloc, &first, &second).map_err(|_| "a difference")?;
-    let left = Union {
-        visible: 1,
-        pieces: made.pieces,
+fn common_points_are_in_both_unions(rt: HostRuntime) {
+    let Ok(first) = ranges(rt.alloc(), (0, 3), (10, 12)) else {
+        panic!(rt; "no memory");
     };
-    for (number, is_in) in [
-        (-1i128, false),
-        (0, true),
-        (2, true),
-        (3, false),
-        (5, false),
-        (6, true),
-        (9, true),
-        (10, false),
-    ] {
-        assert_eq!(rt; holds(&left, &number), Some(is_in), "at {number}");
+    let Ok(second) = ranges(rt.alloc(), (2, 10), (20, 30)) else {
+        panic!(rt; "no memory");
+    };
+    assert!(rt; have_common_points(rt.alloc(), &first, &second));
+}
+
+/// Whether the points of the first that the second lacks are those up to 2 and from 6 on.
+fn is_split(alloc: Global, first: &Conj, second: &Conj) -> bool {
+    if !first.is_well_made() || !second.is_well_made() || first.columns != second.columns {
+        return false;
     }
-    Ok(())
+    match subtract(alloc, first, second) {
+        Ok(made) => {
+            let left = Union {
+                visible: 1,
+                pieces: made.pieces,
+            };
+            answers_on_each(&left, &[0, 2, 6, 9], true)
+                && answers_on_each(&left, &[-1, 3, 5, 10], false)
+        }
+        Err(_) => false,
+    }
+}
+
+#[test]
+fn a_difference_has_what_the_second_lacks(rt: HostRuntime) {
+    let Ok(first) = range(rt.alloc(), 0, 9) else {
+        panic!(rt; "no memory");
+    };
+    let Ok(second) = range(rt.alloc(), 3, 5) else {
+        panic!(rt; "no memory");
+    };
+    assert!(rt; is_split(rt.alloc(), &first, &second));
 }
