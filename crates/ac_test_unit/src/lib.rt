@@ -13,6 +13,8 @@ mod hulls;
 #[cfg(test)]
 mod items;
 #[cfg(test)]
+mod legal;
+#[cfg(test)]
 mod programs;
 #[cfg(test)]
 mod proofs;

@@ -1,0 +1,80 @@
+-- The steps of a search through the choices for a part.
+use Rattle.std.proofs.Common.{◌≡◌, inl, inr, ℕ, zero, suc, ◌+◌, ◌<◌, List, [], ◌∷◌, ◌++◌, length, drop, take, get_or, sym, ap, ◌∙◌, subst, ℤ, Option, Some, None, IfSome, IfNone, arith}
+use Rattle.std.specs.List.{AllByRecursion}
+use Rattle.std.proofs.lemmas.List.{drop_more}
+use Rattle.ac_forms.specs.ListMembers.{IsAmong}
+use Rattle.ac_forms.specs.Rows.{AreRowsOver}
+use Rattle.ac_forms.specs.declared.row.Row.{Row}
+use Rattle.ac_legal.specs.declared.types.LegalStop.{LegalStop}
+use Rattle.ac_legal.specs.declared.types.LegalStop.TheVariants.{Overflow, Spent, Memory}
+use Rattle.ac_legal.specs.QuestionChoices.{Part, IsPartOver, ArePartsOver, HasNoPointFrom, IsPointFrom, StopsFrom, UnlessMemory}
+
+pub at_depth : (parts : List Part) (depth : ℕ) (o p : Part) → depth < length parts → o ≡ get_or parts depth o → o ≡ p → drop depth parts ≡ p ∷ drop (depth + 1) parts
+at_depth parts depth o p l a b = drop_more parts depth o l ∙ ap (λ (x : Part). x ∷ drop (depth + 1) parts) (sym a ∙ b)
+
+pub among_at : {A : Type 0} (xs : List A) (i : ℕ) (x : A) → i < length xs → x ≡ get_or xs i x → IsAmong x xs
+among_at [] i x l e = absurd (omega arith)
+among_at (y ∷ xs) zero x l e = inl e
+among_at (y ∷ xs) (suc i) x l e = inr (among_at xs i x (omega arith) e)
+
+all_at : {A : Type 0} (P : A → Type 0) (xs : List A) (i : ℕ) (x : A) → i < length xs → x ≡ get_or xs i x → AllByRecursion P xs → P x
+all_at P [] i x l e h = absurd (omega arith)
+all_at P (y ∷ xs) zero x l e h = subst P (sym e) h.0
+all_at P (y ∷ xs) (suc i) x l e h = all_at P xs i x (omega arith) e h.1
+
+pub both_over : (n : ℕ) (xs ys : List Row) → AreRowsOver n xs → AreRowsOver n ys → AreRowsOver n (xs ++ ys)
+both_over n [] ys h k = k
+both_over n (x ∷ xs) ys h k = (h.0, both_over n xs ys h.1 k)
+
+pub rows_over : (n depth index : ℕ) (front rows item : List Row) (parts : List Part) (o : Part) (choices : List (List Row))
+    → depth < length parts → o ≡ get_or parts depth o → o ≡ Some choices → index < length choices → item ≡ get_or choices index item → rows ≡ front ++ item
+    → AreRowsOver n front → ArePartsOver n parts → AreRowsOver n rows
+rows_over n depth index front rows item parts o choices l a b k e r h g =
+    let one : IsPartOver n (Some choices) = subst (IsPartOver n) b (all_at (IsPartOver n) parts depth o l a g) in
+    subst (AreRowsOver n) (sym r) (both_over n front item h (all_at (AreRowsOver n) choices index item k e one))
+
+pub point_step : (n depth index : ℕ) (front rows item : List Row) (parts : List Part) (o : Part) (choices : List (List Row)) (p : List ℤ)
+    → depth < length parts → o ≡ get_or parts depth o → o ≡ Some choices → index < length choices → item ≡ get_or choices index item → rows ≡ front ++ item
+    → IsPointFrom n rows (drop (depth + 1) parts) p → IsPointFrom n front (drop depth parts) p
+point_step n depth index front rows item parts o choices p l a b k e r h =
+    subst (λ (ps : List Part). IsPointFrom n front ps p) (sym (at_depth parts depth o (Some choices) l a b))
+    (item, among_at choices index item k e, subst (λ (q : List Row). IsPointFrom n q (drop (depth + 1) parts) p) r h)
+
+stop_of : (e : LegalStop) (P : Type 0) → P → UnlessMemory e P
+stop_of (Overflow q) P h = h
+stop_of (Spent q k) P h = h
+stop_of (Memory w) P h = tt
+
+pub unless_map : (e : LegalStop) (P Q : Type 0) → (P → Q) → UnlessMemory e P → UnlessMemory e Q
+unless_map (Overflow q) P Q f h = f h
+unless_map (Spent q k) P Q f h = f h
+unless_map (Memory w) P Q f h = tt
+
+pub stop_step : (budget n depth index : ℕ) (front rows item : List Row) (parts : List Part) (o : Part) (choices : List (List Row)) (e : LegalStop)
+    → depth < length parts → o ≡ get_or parts depth o → o ≡ Some choices → index < length choices → item ≡ get_or choices index item → rows ≡ front ++ item
+    → StopsFrom budget n rows (drop (depth + 1) parts) e → StopsFrom budget n front (drop depth parts) e
+stop_step budget n depth index front rows item parts o choices e l a b k i r h =
+    subst (λ (ps : List Part). StopsFrom budget n front ps e) (sym (at_depth parts depth o (Some choices) l a b))
+    (stop_of e ((choice : List Row) × IsAmong choice choices × StopsFrom budget n (front ++ choice) (drop (depth + 1) parts) e)
+    (item, among_at choices index item k i, subst (λ (q : List Row). StopsFrom budget n q (drop (depth + 1) parts) e) r h))
+
+-- one more choice without a point
+taken : {A : Type 0} (P : A → Type 0) (xs : List A) (i : ℕ) (x : A) → i < length xs → x ≡ get_or xs i x → ((y : A) → IsAmong y (take i xs) → P y) → P x → (y : A) → IsAmong y (take (suc i) xs) → P y
+taken P [] i x l e h k y m = absurd (omega arith)
+taken {A} P (z ∷ xs) zero x l e h k y m = elim m [ inl q ↦ subst P (e ∙ sym q) k | inr q ↦ absurd q ]
+taken {A} P (z ∷ xs) (suc i) x l e h k y m = elim m [ inl q ↦ h y (inl q) | inr q ↦ taken P xs i x (omega arith) e (λ w v. h w (inr v)) k y q ]
+
+pub some_of : {A : Type 0} (o : Option A) (x : A) (P : A → Type 0) → o ≡ Some x → IfSome o P → P x
+some_of o x P e h = subst (λ q. IfSome q P) e h
+
+pub none_of : {A : Type 0} (o : Option A) (P : Type 0) → o ≡ None → IfNone o P → P
+none_of o P e h = subst (λ q. IfNone q P) e h
+
+pub none_step : (n index : ℕ) (front rows item : List Row) (rest : List Part) (choices : List (List Row))
+    → index < length choices → item ≡ get_or choices index item → rows ≡ front ++ item
+    → ((choice : List Row) → IsAmong choice (take index choices) → HasNoPointFrom n (front ++ choice) rest) → HasNoPointFrom n rows rest
+    → (choice : List Row) → IsAmong choice (take (index + 1) choices) → HasNoPointFrom n (front ++ choice) rest
+none_step n index front rows item rest choices l e r h k =
+    let next : suc index ≡ index + 1 = omega arith in
+    subst (λ (j : ℕ). (choice : List Row) → IsAmong choice (take j choices) → HasNoPointFrom n (front ++ choice) rest) next
+    (taken (λ (choice : List Row). HasNoPointFrom n (front ++ choice) rest) choices index item l e h (subst (λ (q : List Row). HasNoPointFrom n q rest) r k))

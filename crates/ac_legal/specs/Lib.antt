@@ -1,0 +1,2 @@
+pub mod QuestionChoices
+pub mod ScheduleAnswers

@@ -1,0 +1,82 @@
+-- Questions that are made of one choice for each of several parts: their points, and when one of them stops a search.
+use Rattle.std.specs.Prelude.{ℕ, ◌≡◌, List, [], ◌∷◌, ◌++◌, length, ℤ, Option, Some, None}
+use Rattle.std.specs.List.{AllByRecursion}
+use Rattle.ac_forms.specs.ListMembers.{IsAmong}
+use Rattle.ac_forms.specs.Rows.{Meets, AreRowsOver}
+use Rattle.ac_forms.specs.declared.conj.Conj.{Conj}
+use Rattle.ac_forms.specs.declared.row.Row.{Row}
+use Rattle.ac_omega.specs.Decisions.{walk_of, IsWide, IsSpent}
+use Rattle.ac_omega.specs.Either.{StopsFinding}
+use Rattle.ac_omega_certify.specs.declared.strategy.Strategy.TheVariants.{Full, Economical}
+use Rattle.ac_legal_law.specs.OrderQuestions.{joined}
+use Rattle.ac_legal.specs.declared.types.LegalStop.{LegalStop}
+use Rattle.ac_legal.specs.declared.types.LegalStop.TheVariants.{Overflow, Spent, Memory}
+
+abbrev pub over : ℕ → List Row → Conj
+over columns rows = record { columns = columns; rows = rows }
+
+-- ---- one question
+
+abbrev pub HasNoPoint : ℕ → List Row → Type 0
+HasNoPoint columns rows = (p : List ℤ) → length p ≡ columns → Meets rows p → ⊥
+
+abbrev pub IsPointAt : ℕ → List Row → List ℤ → Type 0
+IsPointAt columns rows p = (length p ≡ columns) × Meets rows p
+
+-- the question stops its search: both walks stop, and of the full one a number leaves `i128`, or its cost exceeds the budget
+abbrev pub StopsOn : ℕ → ℕ → List Row → LegalStop → Type 0
+StopsOn budget columns rows (Overflow q) = (q ≡ over columns rows) × StopsFinding (over columns rows) (walk_of Economical budget (over columns rows)) × IsWide (over columns rows) (walk_of Full budget (over columns rows))
+StopsOn budget columns rows (Spent q k) = (q ≡ over columns rows) × StopsFinding (over columns rows) (walk_of Economical budget (over columns rows)) × IsSpent k (walk_of Full budget (over columns rows))
+StopsOn budget columns rows (Memory e) = Unit {0}
+
+-- ---- several
+
+-- the choices of a part, or none where they cannot be formed in `i128`
+abbrev pub Part : Type 0
+Part = Option (List (List Row))
+
+abbrev pub IsPartOver : ℕ → Part → Type 0
+IsPartOver columns None = Unit {0}
+IsPartOver columns (Some choices) = AllByRecursion (AreRowsOver columns) choices
+
+abbrev pub ArePartsOver : ℕ → List Part → Type 0
+ArePartsOver columns = AllByRecursion (IsPartOver columns)
+
+-- no question has a point, and each could be formed
+abbrev pub HasNoPointFrom : ℕ → List Row → List Part → Type 0
+HasNoPointFrom columns front [] = HasNoPoint columns front
+HasNoPointFrom columns front (None ∷ parts) = ⊥
+HasNoPointFrom columns front (Some choices ∷ parts) = (choice : List Row) → IsAmong choice choices → HasNoPointFrom columns (front ++ choice) parts
+
+-- one of the questions has the point
+abbrev pub IsPointFrom : ℕ → List Row → List Part → List ℤ → Type 0
+IsPointFrom columns front [] p = IsPointAt columns front p
+IsPointFrom columns front (None ∷ parts) p = ⊥
+IsPointFrom columns front (Some choices ∷ parts) p = (choice : List Row) × IsAmong choice choices × IsPointFrom columns (front ++ choice) parts p
+
+abbrev pub UnlessMemory : LegalStop → Type 0 → Type 0
+UnlessMemory (Overflow q) P = P
+UnlessMemory (Spent q k) P = P
+UnlessMemory (Memory e) P = Unit {0}
+
+-- what stops a search: a question, or a part that cannot be formed
+abbrev pub StopsFrom : ℕ → ℕ → List Row → List Part → LegalStop → Type 0
+StopsFrom budget columns front [] e = StopsOn budget columns front e
+StopsFrom budget columns front (None ∷ parts) e = UnlessMemory e (e ≡ Overflow (over columns front))
+StopsFrom budget columns front (Some choices ∷ parts) e = UnlessMemory e ((choice : List Row) × IsAmong choice choices × StopsFrom budget columns (front ++ choice) parts e)
+
+-- the part has these choices, if it could be formed
+abbrev pub IsPart : Part → List (List Row) → Type 0
+IsPart None choices = Unit {0}
+IsPart (Some made) choices = made ≡ choices
+
+abbrev pub AreParts : List Part → List (List (List Row)) → Type 0
+AreParts [] [] = Unit {0}
+AreParts [] (c ∷ cs) = ⊥
+AreParts (o ∷ os) [] = ⊥
+AreParts (o ∷ os) (c ∷ cs) = IsPart o c × AreParts os cs
+
+-- one choice for each
+abbrev pub all_joined : List (List (List Row)) → List (List Row)
+all_joined [] = [] ∷ []
+all_joined (c ∷ cs) = joined c (all_joined cs)

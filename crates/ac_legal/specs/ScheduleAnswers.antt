@@ -1,0 +1,91 @@
+-- What is decided of a schedule: that it keeps the order, or two instances between which it is broken, or what stops the search.
+use Rattle.std.specs.Prelude.{ℕ, ◌+◌, ◌≡◌, ◌++◌, List, [], ◌∷◌, map, length, ℤ, Some, slice_get}
+use Rattle.ac_forms.specs.Affine.{Affine}
+use Rattle.ac_forms.specs.PieceMembership.{IsInSome}
+use Rattle.ac_forms.specs.Renaming.{renamed, renamed_row}
+use Rattle.ac_forms.specs.Rows.{Meets}
+use Rattle.ac_forms.specs.declared.row.Row.{Row}
+use Rattle.ac_syntax.specs.ReadyPrograms.{ReadyProgram, FitParts}
+use Rattle.ac_syntax.specs.declared.tree.Cond.{Cond}
+use Rattle.ac_syntax.specs.declared.tree.Program.{Program}
+use Rattle.ac_poly.specs.Coordinates.{width, levels_before}
+use Rattle.ac_poly.specs.Model.{model_of}
+use Rattle.ac_poly.specs.declared.types.Model.{Model}
+use Rattle.ac_poly.specs.declared.types.StmtModel.{StmtModel}
+use Rattle.ac_legal_law.specs.BrokenOrders.{BreaksAt}
+use Rattle.ac_legal_law.specs.OrderQuestions.{first_columns, second_columns, clashes, late, order_questions}
+use Rattle.ac_legal_law.specs.Schedules.{forms_of, ScheduleKeepsOrder}
+use Rattle.ac_legal.specs.QuestionChoices.{Part, AreParts, StopsFrom}
+use Rattle.ac_legal.specs.declared.types.Legal.{Legal}
+use Rattle.ac_legal.specs.declared.types.Legal.TheVariants.{Kept, Broken}
+use Rattle.ac_legal.specs.declared.types.LegalStop.{LegalStop}
+
+-- behind the context: a piece of the first, one of the second, a level, the equalities of two cells, and a way to be late
+abbrev pub order_choices : Model → List (List Affine) → ℕ → StmtModel → ℕ → StmtModel → List (List (List Row))
+order_choices m times i s j u =
+    let ks = first_columns m.params s in
+    let ls = second_columns m.params s u in
+    map (map (renamed_row ks)) s.pieces
+    ∷ map (map (renamed_row ls)) u.pieces
+    ∷ levels_before m.params i s j u
+    ∷ clashes ks ls s u
+    ∷ late (map (renamed ks) (forms_of times i)) (map (renamed ls) (forms_of times j)) []
+    ∷ []
+
+-- the numbers of two assignments with their models
+pub record AreOf (m : Model) (i : ℕ) (s : StmtModel) (j : ℕ) (u : StmtModel) : Type 0 where
+  pub first : slice_get m.stmts i ≡ Some s
+  pub second : slice_get m.stmts j ≡ Some u
+
+-- no question of two assignments has a point
+abbrev pub NoneBetween : Model → List (List Affine) → ℕ → ℕ → Type 0
+NoneBetween m times i j = (s u : StmtModel) → AreOf m i s j u → (p : List ℤ) → length p ≡ m.params + (width s + width u) → IsInSome Meets (order_questions m times i s j u) p → ⊥
+
+-- one of their questions has the point
+pub record IsPointBetween (m : Model) (times : List (List Affine)) (i : ℕ) (s : StmtModel) (j : ℕ) (u : StmtModel) (p : List ℤ) : Type 0 where
+  pub long : length p ≡ m.params + (width s + width u)
+  pub meets : IsInSome Meets (order_questions m times i s j u) p
+
+-- the search through their questions stops
+pub record StopsBetween (budget : ℕ) (m : Model) (times : List (List Affine)) (i : ℕ) (s : StmtModel) (j : ℕ) (u : StmtModel) (e : LegalStop) : Type 0 where
+  pub parts : List Part
+  pub are : AreParts parts (order_choices m times i s j u)
+  pub stops : StopsFrom budget (m.params + (width s + width u)) m.context parts e
+
+-- a point of a question, as the valuation and the coordinates of two instances
+pub record IsPointOfTwo (m : Model) (times : List (List Affine)) (at : List ℤ) (i : ℕ) (xs : List ℤ) (j : ℕ) (ys : List ℤ) : Type 0 where
+  pub first : StmtModel
+  pub second : StmtModel
+  pub are : AreOf m i first j second
+  pub at_long : length at ≡ m.params
+  pub first_long : length xs ≡ width first
+  pub second_long : length ys ≡ width second
+  pub meets : IsInSome Meets (order_questions m times i first j second) (at ++ (xs ++ ys))
+
+abbrev pub IfKept : Legal → Type 0 → Type 0
+IfKept Kept P = P
+IfKept (Broken at first second) P = Unit {0}
+
+abbrev pub IfBroken : Legal → (List ℤ → ℕ → List ℤ → ℕ → List ℤ → Type 0) → Type 0
+IfBroken Kept P = Unit {0}
+IfBroken (Broken at first second) P = P at.items first.0 first.1.items second.0 second.1.items
+
+-- a point is cut into the valuation and the coordinates of two instances
+abbrev pub IsCutOf : List ℤ → ℕ → ℕ → ℕ → ℕ → List ℤ → ℕ → List ℤ → ℕ → List ℤ → Type 0
+IsCutOf point params width i j at a xs b ys = (point ≡ at ++ (xs ++ ys)) × (length at ≡ params) × (length xs ≡ width) × (a ≡ i) × (b ≡ j)
+
+-- the search through the questions of two of the assignments stops
+pub record SomeStops (budget : ℕ) (m : Model) (times : List (List Affine)) (e : LegalStop) : Type 0 where
+  pub i : ℕ
+  pub j : ℕ
+  pub first : StmtModel
+  pub second : StmtModel
+  pub are : AreOf m i first j second
+  pub stops : StopsBetween budget m times i first j second e
+
+-- whatever ready program the model is of
+abbrev pub KeepsForAll : Model → List (List Affine) → Type 0
+KeepsForAll m times = (p : Program) (context : Cond) → ReadyProgram p → FitParts (length p.params) 0 context.parts → m ≡ model_of p context → ScheduleKeepsOrder times p context
+
+abbrev pub BreaksForAll : Model → List (List Affine) → List ℤ → ℕ → List ℤ → ℕ → List ℤ → Type 0
+BreaksForAll m times at i xs j ys = (p : Program) (context : Cond) → ReadyProgram p → FitParts (length p.params) 0 context.parts → m ≡ model_of p context → BreaksAt p context times at i xs j ys

@@ -1,0 +1,146 @@
+//! Whether a schedule keeps the order.
+ghost use Rattle.std.specs.Prelude.{◌≡◌, ◌+◌, ◌-◌, ◌≤◌, ◌<◌, ℕ, Some, length, slice_get, IfOk, IfErr};
+ghost use Rattle.ac_legal.specs.QuestionChoices.{UnlessMemory};
+ghost use Rattle.ac_legal.specs.ScheduleAnswers.{AreOf, NoneBetween, IsPointBetween, IsPointOfTwo, IfKept, IfBroken, IsCutOf, SomeStops, KeepsForAll, BreaksForAll};
+ghost use Rattle.ac_flow.specs.Readers.{IsLowered, IsOver};
+
+use crate::between::{Two, between};
+use crate::types::{Legal, LegalStop, Schedule};
+use ac_flow::types::Limits;
+use ac_forms::column_after;
+use ac_poly::types::{Model, StmtModel};
+use ac_poly::width;
+use std::alloc::{AllocError, Global};
+
+/// The answer at a point of a question: its first numbers are the valuation, the next the coordinates of the first instance.
+fn broken(
+    alloc: Global,
+    params: usize,
+    behind: usize,
+    i: usize,
+    j: usize,
+    point: &[i128],
+) -> Result<Legal, AllocError>
+    requires first { params ≤ behind }
+    requires second { behind ≤ length point.now }
+    ensures some { IfOk result (λ l. IfKept l ⊥) }
+    ensures cut { IfOk result (λ l. IfBroken l (IsCutOf point.now params (behind - params) i j)) }
+{
+    let at = Vec::from_slice(alloc, &point[..params])?;
+    let first = Vec::from_slice(alloc, &point[params..behind])?;
+    let second = Vec::from_slice(alloc, &point[behind..])?;
+    Ok(Legal::Broken {
+        at,
+        first: (i, first),
+        second: (j, second),
+    })
+}
+
+/// The answer at a point of a question of two assignments.
+fn broken_at(
+    alloc: Global,
+    m: &Model,
+    order: &Schedule,
+    two: &Two<'_>,
+    point: &[i128],
+) -> Result<Legal, AllocError>
+    requires stmts { AreOf m.now two.now.i two.now.first.now two.now.j two.now.second.now }
+    requires point { IsPointBetween m.now order.now.times two.now.i two.now.first.now two.now.j two.now.second.now point.now }
+    ensures kept { IfOk result (λ l. IfKept l (NoneBetween m.now order.now.times two.now.i two.now.j)) }
+    ensures broken { IfOk result (λ l. IfBroken l (IsPointOfTwo m.now order.now.times)) }
+{
+    let behind = column_after(m.params, width(two.first))?;
+    broken(alloc, m.params, behind, two.i, two.j, point)
+}
+
+/// Two assignments: kept if no question of theirs has a point.
+fn compare(
+    alloc: Global,
+    budget: u64,
+    m: &Model,
+    order: &Schedule,
+    two: &Two<'_>,
+) -> Result<Legal, LegalStop>
+    requires first { two.now.i < length m.now.stmts }
+    requires second { two.now.j < length m.now.stmts }
+    requires stmts { AreOf m.now two.now.i two.now.first.now two.now.j two.now.second.now }
+    requires over { IsOver m.now }
+    ensures kept { IfOk result (λ l. IfKept l (NoneBetween m.now order.now.times two.now.i two.now.j)) }
+    ensures broken { IfOk result (λ l. IfBroken l (IsPointOfTwo m.now order.now.times)) }
+    ensures stops { IfErr result (λ e. UnlessMemory e (SomeStops budget m.now order.now.times e)) }
+{
+    match between(alloc, budget, m, order, two) {
+        Ok(None) => Ok(Legal::Kept),
+        Ok(Some(point)) => Ok(broken_at(alloc, m, order, two, point.as_slice())?),
+        Err(stop) => Err(stop),
+    }
+}
+
+/// An assignment as the first of two.
+fn from_first(
+    alloc: Global,
+    budget: u64,
+    m: &Model,
+    order: &Schedule,
+    i: usize,
+    first: &StmtModel,
+) -> Result<Legal, LegalStop>
+    requires within { i < length m.now.stmts }
+    requires first { slice_get m.now.stmts i ≡ Some first.now }
+    requires over { IsOver m.now }
+    ensures kept { IfOk result (λ l. IfKept l ((j : ℕ) → j < length m.now.stmts → NoneBetween m.now order.now.times i j)) }
+    ensures broken { IfOk result (λ l. IfBroken l (IsPointOfTwo m.now order.now.times)) }
+    ensures stops { IfErr result (λ e. UnlessMemory e (SomeStops budget m.now order.now.times e)) }
+{
+    let stmts = m.stmts.as_slice();
+    for j in 0..stmts.len() {
+        let two = Two {
+            i,
+            first,
+            j,
+            second: &stmts[j],
+        };
+        match compare(alloc, budget, m, order, &two) {
+            Ok(Legal::Kept) => {}
+            Ok(found) => return Ok(found),
+            Err(stop) => return Err(stop),
+        }
+    }
+    Ok(Legal::Kept)
+}
+
+/// All assignments.
+fn from_all(alloc: Global, budget: u64, m: &Model, order: &Schedule) -> Result<Legal, LegalStop>
+    requires { IsOver m.now }
+    ensures kept { IfOk result (λ l. IfKept l ((i j : ℕ) → i < length m.now.stmts → j < length m.now.stmts → NoneBetween m.now order.now.times i j)) }
+    ensures broken { IfOk result (λ l. IfBroken l (IsPointOfTwo m.now order.now.times)) }
+    ensures stops { IfErr result (λ e. UnlessMemory e (SomeStops budget m.now order.now.times e)) }
+{
+    let stmts = m.stmts.as_slice();
+    for i in 0..stmts.len() {
+        match from_first(alloc, budget, m, order, i, &stmts[i]) {
+            Ok(Legal::Kept) => {}
+            Ok(found) => return Ok(found),
+            Err(stop) => return Err(stop),
+        }
+    }
+    Ok(Legal::Kept)
+}
+
+/// Whether a schedule keeps the order of what conflicts in a program.
+///
+/// `Kept` comes only if at each valuation of the context the earlier of each two instances that conflict has the smaller time.
+/// `Broken` comes with a valuation and two instances of which that is not so. A stop comes only if a question stops its search.
+pub fn legal(
+    alloc: Global,
+    m: &Model,
+    order: &Schedule,
+    limits: &Limits,
+) -> Result<Legal, LegalStop>
+    requires { IsLowered m.now }
+    ensures kept { IfOk result (λ l. IfKept l (KeepsForAll m.now order.now.times)) }
+    ensures broken { IfOk result (λ l. IfBroken l (BreaksForAll m.now order.now.times)) }
+    ensures stops { IfErr result (λ e. UnlessMemory e (SomeStops limits.now.budget m.now order.now.times e)) }
+{
+    from_all(alloc, limits.budget, m, order)
+}
