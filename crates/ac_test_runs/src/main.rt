@@ -37,7 +37,7 @@
 //!   the case stay as they are, and no call fails there.
 //! - `relay NAME limit N` reads a file of at most N bytes and puts what it read; its answer ends with all that was put in the
 //!   case. `part NAME FROM ROOM` reads a part of a file, from a place on and of so many bytes at most. `write NAME WORD` writes a file. `get NAME` looks into a file without a read.
-//! - `code of` and a status asks for its exit code, and `equal outputs N` for the status of N equal outputs.
+//! - `code` and a status asks for its exit code, and `equal N` for the status of N equal outputs.
 //!
 //! Words are separated by blanks. A word in quotes may be empty and may hold blanks and the escapes `\n`, `\t`, `\"`, `\\` and
 //! `\xHH`. A line of none of these forms is answered by `= not understood`.
