@@ -36,6 +36,13 @@ pub struct Effort {
     pub cells: u32,
 }
 
+/// The effort that a search gives a question.
+pub const USUAL: Effort = Effort {
+    pivots: 200,
+    cuts: 20,
+    cells: 20_000,
+};
+
 /// The tree of a refutation, not checked yet.
 fn write_tree(
     alloc: Global,

@@ -29,4 +29,4 @@ mod system;
 mod tableau;
 mod vertex;
 
-pub use attempts::{Effort, Found, attempt};
+pub use attempts::{Effort, Found, USUAL, attempt};

@@ -4,16 +4,9 @@ use ac_base::Items;
 use ac_cert::types::Step;
 use ac_cert::{Absurd, Tree};
 use ac_forms::{Conj, Form, Row};
-use ac_simplex::{Effort, Found, attempt};
+use ac_simplex::{Effort, Found, USUAL, attempt};
 use std::alloc::{AllocError, Global};
 use std::test::Fail;
-
-/// The usual effort.
-const USUAL: Effort = Effort {
-    pivots: 200,
-    cuts: 20,
-    cells: 20_000,
-};
 
 /// No pivot and no cut.
 const NONE: Effort = Effort {
