@@ -223,6 +223,34 @@ pub struct Head<'a> {
     pub place: Place,
 }
 
+impl<'a> Head<'a> {
+    /// The head of these parts.
+    pub fn new(
+        typed: bool,
+        name: &'a Word,
+        start: &'a Expr,
+        cond: &'a [Part],
+        step: &'a Step,
+        place: Place,
+    ) -> Head<'a>
+        ensures typed { result.typed ≡ typed }
+        ensures name { result.name.now ≡ name.now }
+        ensures start { result.start.now ≡ start.now }
+        ensures cond { result.cond.now ≡ cond.now }
+        ensures step { result.step.now ≡ step.now }
+        ensures place { result.place ≡ place }
+    {
+        Head {
+            typed,
+            name,
+            start,
+            cond,
+            step,
+            place,
+        }
+    }
+}
+
 /// What is broken in a loop but for its body.
 pub fn check_head(
     alloc: Global,

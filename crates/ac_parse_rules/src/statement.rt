@@ -1,7 +1,11 @@
 ghost use Rattle.std.specs.Prelude.{◌≡◌, ◌++◌, ◌+◌, ◌<◌, map, nat_lt, length, slice_get, Some, None, MatchResult, IfOk};
 ghost use Rattle.ac_syntax.specs.ValueNodes.{size};
+ghost use Rattle.ac_syntax.specs.declared.tree.Stmt.TheVariants.{For, Assign};
 ghost use Rattle.ac_parse_exprs.specs.Comparisons.{first_of, index, condition};
-ghost use Rattle.ac_parse_rules.specs.Statements.{inside, target_rule, extra_nodes, assigned_value, assignment_broken, statement_broken, statements_broken, targets, all_targets, stmt, stmts};
+ghost use Rattle.ac_parse_exprs.specs.FaultOrder.{earlier};
+ghost use Rattle.ac_parse_exprs.specs.Meanings.{meaning};
+ghost use Rattle.ac_parse_exprs.specs.Values.{array_number};
+ghost use Rattle.ac_parse_rules.specs.Statements.{inside, in_start, head_broken, step_number, target_rule, extra_nodes, assigned_value, assignment_broken, statement_broken, statements_broken, targets, all_targets, stmt, stmts};
 
 use crate::loops::{Head, begin, check_head, inside};
 use ac_base::Items;
@@ -9,7 +13,7 @@ use ac_parse_exprs::fault::{Broken, Rule, Which, broken_where, earlier};
 use ac_parse_exprs::measure::{Measured, check_access, measure};
 use ac_parse_exprs::value::{apply, array_number, build_read, build_value};
 use ac_parse_exprs::{Entry, Meaning, Scope, build_condition, build_indices, check_condition};
-use ac_parse_grammar::tree::{Expr, Operator, Statement, Word};
+use ac_parse_grammar::tree::{Expr, Operator, Part, Statement, Word};
 use ac_syntax::tree::{Cond, Place, Stmt, Value};
 use std::alloc::{AllocError, Global};
 
@@ -47,18 +51,34 @@ fn check_assignment(
     names: &[Entry],
     scope: &Scope,
     target: &Word,
-    subs: &[Expr],
+    subs: &Items<Expr>,
     operator: Option<Operator>,
     value: &Expr,
 ) -> Result<Option<Broken>, AllocError>
     ensures { IfOk result (λ it. it ≡ assignment_broken names.now scope.now target.now subs.now operator value.now) }
 {
     let rule = target_rule(scope.meaning(names, &target.name), subs.len());
-    let left = check_access(alloc, names, scope, rule, target, subs)?;
+    let left = check_access(alloc, names, scope, rule, target, subs.as_slice())?;
     let right = measure(alloc, names, scope, value)?;
     let many = right.nodes() + extra_nodes(operator) > 64;
     let limit = broken_where(many, Rule::Limit(Which::Nodes), target.place);
     Ok(earlier(earlier(left, right.broken()), limit))
+}
+
+/// What is broken in a loop.
+#[cycle(check)]
+fn check_loop(
+    alloc: Global,
+    names: &[Entry],
+    scope: &Scope,
+    head: Head<'_>,
+    body: &[Statement],
+) -> Result<Option<Broken>, AllocError>
+    ensures { IfOk result (λ it. it ≡ earlier (head_broken names.now scope.now head.entry.typed head.entry.name.now head.entry.start.now head.entry.cond.now head.entry.step.now head.entry.place) (statements_broken names.now (inside scope.now head.entry.name.now.name) body.now)) }
+{
+    let inner = inside(alloc, scope, &head.name.name)?;
+    let rest = check_statements(alloc, names, &inner, body)?;
+    Ok(earlier(check_head(alloc, names, scope, head)?, rest))
 }
 
 /// What is broken in a statement.
@@ -82,17 +102,8 @@ fn check_statement(
             body,
             place,
         } => {
-            let inner = inside(alloc, scope, &name.name)?;
-            let rest = check_statements(alloc, names, &inner, body.as_slice())?;
-            let head = Head {
-                typed: *typed,
-                name,
-                start,
-                cond: cond.as_slice(),
-                step,
-                place: *place,
-            };
-            Ok(earlier(check_head(alloc, names, scope, head)?, rest))
+            let head = Head::new(*typed, name, start, cond.as_slice(), step, *place);
+            check_loop(alloc, names, scope, head, body.as_slice())
         }
         Statement::Branch {
             cond,
@@ -110,15 +121,7 @@ fn check_statement(
             subs,
             operator,
             value,
-        } => check_assignment(
-            alloc,
-            names,
-            scope,
-            target,
-            subs.as_slice(),
-            *operator,
-            value,
-        ),
+        } => check_assignment(alloc, names, scope, target, subs, *operator, value),
     }
 }
 
@@ -162,6 +165,56 @@ fn build_assigned(
     }
 }
 
+/// An assignment of the program.
+fn build_assignment(
+    alloc: Global,
+    names: &[Entry],
+    scope: &Scope,
+    target: &Word,
+    subs: &Items<Expr>,
+    operator: Option<Operator>,
+    value: &Expr,
+) -> Result<Stmt, AllocError>
+    ensures { IfOk result (λ it. it ≡ Assign (array_number (meaning names.now scope.now target.now.name)) (map (index names.now scope.now) subs.now) (assigned_value names.now scope.now target.now subs.now operator value.now) target.now.place) }
+{
+    let subs = subs.as_slice();
+    Ok(Stmt::Assign {
+        array: array_number(scope.meaning(names, &target.name)),
+        subs: build_indices(alloc, names, scope, subs)?,
+        value: build_assigned(alloc, names, scope, target, subs, operator, value)?,
+        place: target.place,
+    })
+}
+
+/// A loop of the program.
+#[cycle(build)]
+fn build_loop(
+    alloc: Global,
+    names: &[Entry],
+    scope: &Scope,
+    head: Head<'_>,
+    body: &[Statement],
+) -> Result<Stmt, AllocError>
+    ensures { IfOk result (λ it. it ≡ For head.entry.name.now.name (index names.now (in_start scope.now head.entry.typed head.entry.name.now.name) head.entry.start.now) (record { parts = condition names.now (inside scope.now head.entry.name.now.name) head.entry.cond.now }) (step_number head.entry.step.now) (stmts names.now (inside scope.now head.entry.name.now.name) body.now) head.entry.place) }
+{
+    let begun = begin(alloc, names, scope, head)?;
+    let body = build_statements(alloc, names, &begun.inner, body)?;
+    Ok(begun.with_body(body, head.place))
+}
+
+/// The condition of a branch of the program.
+fn build_guard(
+    alloc: Global,
+    names: &[Entry],
+    scope: &Scope,
+    cond: &[Part],
+) -> Result<Cond, AllocError>
+    ensures { IfOk result (λ it. it ≡ record { parts = condition names.now scope.now cond.now }) }
+{
+    let parts = build_condition(alloc, names, scope, cond)?;
+    Ok(Cond { parts })
+}
+
 /// A statement of the program.
 #[cycle(build)]
 #[tactic(auto, using(crate::proofs::Stepping::stating))]
@@ -183,17 +236,8 @@ fn build_statement(
             body,
             place,
         } => {
-            let head = Head {
-                typed: *typed,
-                name,
-                start,
-                cond: cond.as_slice(),
-                step,
-                place: *place,
-            };
-            let begun = begin(alloc, names, scope, head)?;
-            let body = build_statements(alloc, names, &begun.inner, body.as_slice())?;
-            Ok(begun.with_body(body, *place))
+            let head = Head::new(*typed, name, start, cond.as_slice(), step, *place);
+            build_loop(alloc, names, scope, head, body.as_slice())
         }
         Statement::Branch {
             cond,
@@ -201,9 +245,7 @@ fn build_statement(
             other,
             place,
         } => Ok(Stmt::If {
-            cond: Cond {
-                parts: build_condition(alloc, names, scope, cond.as_slice())?,
-            },
+            cond: build_guard(alloc, names, scope, cond.as_slice())?,
             taken: build_statements(alloc, names, scope, taken.as_slice())?,
             other: build_statements(alloc, names, scope, other.as_slice())?,
             place: *place,
@@ -213,20 +255,7 @@ fn build_statement(
             subs,
             operator,
             value,
-        } => Ok(Stmt::Assign {
-            array: array_number(scope.meaning(names, &target.name)),
-            subs: build_indices(alloc, names, scope, subs.as_slice())?,
-            value: build_assigned(
-                alloc,
-                names,
-                scope,
-                target,
-                subs.as_slice(),
-                *operator,
-                value,
-            )?,
-            place: target.place,
-        }),
+        } => build_assignment(alloc, names, scope, target, subs, *operator, value),
     }
 }
 
