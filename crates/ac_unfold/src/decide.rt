@@ -18,11 +18,12 @@ use crate::node::Node;
 use crate::types::{UnfoldStop, freely};
 use crate::witness::continued;
 use ac_cert::{Absurd, Tree};
-use ac_cert_short::{Reduction, refuting_sum, trim};
+use ac_cert_short::{Reduction, trim};
 use ac_claims::types::Plan;
 use ac_claims_plans::moved_plan;
 use ac_forms::{Conj, FormStop, NormalRow, Row, stands};
 use ac_omega::{Decided, Decision, Stop, settle, settle_point};
+use ac_simplex::{Found, USUAL, attempt};
 use std::alloc::{AllocError, Global};
 
 /// What a question comes to.
@@ -67,14 +68,17 @@ fn decide_with_plan(alloc: Global, node: &Node, budget: u64) -> Result<Answer, U
     if !node.question.conj.is_well_made() {
         return Err(UnfoldStop::Memory(AllocError));
     }
-    if let Some(tree) = refuting_sum(alloc, &node.question.conj)? {
-        let plan = plan_by(alloc, node, &tree)?;
-        return Ok(Answer::Empty(Some(plan)));
+    match attempt(alloc, &node.question.conj, USUAL)? {
+        Some(Found::Empty(tree)) => {
+            let plan = plan_by(alloc, node, &tree)?;
+            Ok(Answer::Empty(Some(plan)))
+        }
+        Some(Found::Point(point)) => Ok(Answer::Point(point)),
+        None => decide_by_elimination(alloc, node, budget),
     }
-    decide_by_elimination(alloc, node, budget)
 }
 
-/// The same, of a question whose equalities do not show it.
+/// The same, of a question that the attempt leaves open.
 fn decide_by_elimination(alloc: Global, node: &Node, budget: u64) -> Result<Answer, UnfoldStop>
     requires { IsWellMade node.now.question.conj }
     ensures shown { IfOk result IsShown }
@@ -106,6 +110,22 @@ pub(crate) fn decide_point(alloc: Global, conj: &Conj, budget: u64) -> Result<An
     if !conj.is_well_made() {
         return Err(UnfoldStop::Memory(AllocError));
     }
+    match attempt(alloc, conj, USUAL)? {
+        Some(Found::Empty(_)) => Ok(Answer::Empty(None)),
+        Some(Found::Point(point)) => Ok(Answer::Point(point)),
+        None => find_by_elimination(alloc, conj, budget),
+    }
+}
+
+/// The same, of rows that the attempt leaves open.
+fn find_by_elimination(alloc: Global, conj: &Conj, budget: u64) -> Result<Answer, UnfoldStop>
+    requires { IsWellMade conj.now }
+    ensures answer { (s : Embedding) (q : Path) → IfOk result (IsAnswer s q) }
+    ensures none { IfOk result (HasNone conj.now) }
+    ensures point { IfOk result (IsPointIn conj.now) }
+    ensures causes { IfErr result (StopsAsking budget conj.now) }
+    ensures full { IfErr result IsNeverFull }
+{
     match settle_point(alloc, conj, budget) {
         Ok(Decided::Empty(_)) => Ok(Answer::Empty(None)),
         Ok(Decided::Point(point)) => Ok(Answer::Point(point)),

@@ -2,7 +2,7 @@
 ghost use Rattle.std.specs.Prelude.{◌≡◌, ◌≤◌, ◌↔◌, ◌&&◌, ℤ, IfOk, IfSome, List, MatchOption, None, false, true};
 ghost use Rattle.ac_forms.specs.ListMembers.{IsAmong};
 ghost use Rattle.ac_forms.specs.Renaming.{picked};
-ghost use Rattle.ac_forms.specs.Rows.{Meets};
+ghost use Rattle.ac_forms.specs.Rows.{IsWellMade, Meets};
 ghost use Rattle.ac_omega_steps.specs.IntegerPoints.{IsPoint};
 ghost use Rattle.ac_claims_paths.specs.ModelCalls.{pairing};
 ghost use Rattle.ac_claims.specs.CheckKnowledge.{IsClaimMade};
@@ -23,6 +23,7 @@ use ac_claims_paths::path::Path;
 use ac_flow::{CutStop, kill_pieces};
 use ac_forms::{Conj, FormStop, Row, column_after, is_among, renamed_rows};
 use ac_omega::{Decided, Piece, Stop, settle_point};
+use ac_simplex::{Found, USUAL, attempt};
 use ac_unfold::types::ProgramFlows;
 use std::alloc::{AllocError, Global};
 
@@ -100,6 +101,19 @@ fn has_point(alloc: Global, conj: &Conj, budget: u64) -> Result<bool, AllocError
     if !conj.is_well_made() {
         return Ok(false);
     }
+    match attempt(alloc, conj, USUAL)? {
+        Some(Found::Point(_)) => Ok(true),
+        Some(Found::Empty(_)) => Ok(false),
+        None => has_point_by_elimination(alloc, conj, budget),
+    }
+}
+
+/// The same, of a conjunction that the attempt leaves open.
+fn has_point_by_elimination(alloc: Global, conj: &Conj, budget: u64) -> Result<bool, AllocError>
+    requires { IsWellMade conj.now }
+    ensures some { IfOk result (λ has. has ≡ true → (p : List ℤ) × IsPoint conj.now p) }
+    ensures none { IfOk result (λ has. has ≡ false → LacksPoint budget conj.now) }
+{
     match settle_point(alloc, conj, budget) {
         Ok(Decided::Point(_)) => Ok(true),
         Ok(Decided::Empty(_)) => Ok(false),
