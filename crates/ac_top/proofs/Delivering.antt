@@ -57,7 +57,7 @@ in_file pair vs proof name f file h is (whole_text g some text) e =
 
 shown : (pair : Pair) (budget : ℕ) (name : Option (List ℕ)) (file : ProofFile) (r : Report) → ProveReports pair budget name r → r.proof ≡ Some file → Shown pair name file
 shown pair budget name file r (empty_context stops h) e = absurd cc
-shown pair budget name file r (compared vs proof f h by is of) e = in_file pair vs proof name f file h is of e
+shown pair budget name file r (compared vs proof f h matched by is of) e = in_file pair vs proof name f file h is of e
 
 -- no other report has a file
 check_none : (files : Option Contents) (fails : ℕ → Type 0) (p : List ℕ) (pair : Pair) (file : ProofFile) (r : Report) → CheckReports files fails p pair r → r.proof ≡ Some file → ⊥
@@ -75,10 +75,10 @@ instance_none a b first second pair at limit file r (at_valuation params _ given
 instance_none a b first second pair at limit file r (at_valuation params _ given (ran events outcomes d all same)) e = absurd cc
 
 program_none : (program : Program) (file : ProofFile) (r : Report) → FlowReports program r → r.proof ≡ Some file → ⊥
-program_none program file r (no_valuation n) e = absurd cc
+program_none program file r (no_valuation s n) e = absurd cc
 program_none program file r (context_stopped stop text un n is) e = absurd cc
-program_none program file r (flow_stopped stop text n is) e = absurd cc
-program_none program file r (flowed flow is) e = absurd cc
+program_none program file r (flow_stopped stop text v n is) e = absurd cc
+program_none program file r (flowed flow v is) e = absurd cc
 
 text_none : (a bytes : List ℕ) (file : ProofFile) (r : Report) → TextReports a bytes r → r.proof ≡ Some file → ⊥
 text_none a bytes file r (text_refused said k) e = absurd cc

@@ -45,10 +45,10 @@ abbrev IsDone : Report → Type 0
 IsDone r = r.status ≡ status.Done
 
 done_flow : (program : Program) (r : Report) → FlowReports program r → r.status ≡ status.Done → (flow : Flow) × IsFlowOf program flow
-done_flow program r (no_valuation h) d = absurd cc
+done_flow program r (no_valuation s h) d = absurd cc
 done_flow program r (context_stopped stop text h k m) d = absurd cc
-done_flow program r (flow_stopped stop text h k) d = absurd cc
-done_flow program r (flowed flow is) d = (flow, is)
+done_flow program r (flow_stopped stop text v h k) d = absurd cc
+done_flow program r (flowed flow v is) d = (flow, is)
 
 done_text : (files : Option Contents) (a bytes : List ℕ) (r : Report) → Holds files a bytes → TextReports a bytes r → r.status ≡ status.Done → HoldsAProgram files a (λ program. (flow : Flow) × IsFlowOf program flow)
 done_text files a bytes r holds (text_refused said h) d = absurd cc

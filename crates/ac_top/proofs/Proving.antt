@@ -31,7 +31,7 @@ all_same pair (p ∷ os) (Equal ∷ vs) h none sure o (suc k, within, is) = all_
 
 pub done_prove : (pair : Pair) (budget : ℕ) (name : Option (List ℕ)) (r : Report) → ProveReports pair budget name r → r.status ≡ status.Done → IsTheSame pair
 done_prove pair budget name r (empty_context stops h) done = absurd cc
-done_prove pair budget name r (compared vs proof file h by is of) done = let q = quiet vs done in all_same pair pair.outputs vs h q.0 q.1
+done_prove pair budget name r (compared vs proof file h matched by is of) done = let q = quiet vs done in all_same pair pair.outputs vs h q.0 q.1
 
 -- where a verdict is different, some output has a difference
 some_different : (vs : List Verdict) → status_of vs ≡ status.Different → list_any is_different vs ≡ true
@@ -62,6 +62,6 @@ found pair (o ∷ os) (Equal ∷ vs) h some = further pair o os (found pair os v
 
 pub different_prove : (pair : Pair) (budget : ℕ) (name : Option (List ℕ)) (r : Report) → ProveReports pair budget name r → r.status ≡ status.Different → HasDifference pair
 different_prove pair budget name r (empty_context stops h) d = absurd cc
-different_prove pair budget name r (compared vs proof file h by is of) d =
+different_prove pair budget name r (compared vs proof file h matched by is of) d =
     let f = found pair pair.outputs vs h (some_different vs d) in
     record { output = f.output; among = f.among; params = f.params; element = f.element; is = f.is }

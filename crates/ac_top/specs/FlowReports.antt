@@ -14,6 +14,7 @@ use Rattle.ac_flow.specs.declared.types.FlowStop.{FlowStop}
 use Rattle.ac_report.specs.FlowTexts.{flow_lines}
 use Rattle.ac_report.specs.Layouts.{layout_of}
 use Rattle.ac_report.specs.ReportTexts.{context_stop_text, flow_stop_text}
+use Rattle.ac_walk.specs.UnknownCauses.{HasValuation}
 use Rattle.ac_top.specs.Reports.{Report, report}
 use Rattle.ac_top.specs.ConsoleLines.{empty_context_line}
 use Rattle.ac_top.specs.declared.status.Status.TheVariants as status
@@ -43,10 +44,10 @@ IsUnanswered (Overflow q) = Unit {0}
 IsUnanswered (Spent q cost) = Unit {0}
 IsUnanswered (Memory e) = ⊥
 
--- what is reported: that no valuation meets the context; that the question of the context, or one of the flow, is too wide or costs too
--- much, or that a read has too many pieces; or the lines of the flow
+-- what is reported: that no valuation meets the context, as its question shows; that this question is too wide or costs too much; or, where it has
+-- a valuation, that a question of the flow does so, or that a read has too many pieces; or the lines of the flow
 pub data FlowReports (program : Program) : Report → Type 0 where
-  no_valuation : ((params : List ℤ) → ¬ (IsValuationOf program params)) → FlowReports program (report status.Refused empty_context_line)
+  no_valuation : ContextStops default_budget (lowered program) EmptyContext → ((params : List ℤ) → ¬ (IsValuationOf program params)) → FlowReports program (report status.Refused empty_context_line)
   context_stopped : (stop : ContextStop) (text : List ℕ) → IsUnanswered stop → ContextStops default_budget (lowered program) stop → context_stop_text stop ≡ Some text → FlowReports program (report status.Stopped text)
-  flow_stopped : (stop : FlowStop) (text : List ℕ) → StopsAmong default_budget (lowered program) (readers (lowered program)) stop → flow_stop_text stop ≡ Some text → FlowReports program (report status.Stopped text)
-  flowed : (flow : Flow) → IsFlowOf program flow → FlowReports program (report status.Done (flow_lines (layout_of program) flow.reads))
+  flow_stopped : (stop : FlowStop) (text : List ℕ) → HasValuation default_budget (lowered program) → StopsAmong default_budget (lowered program) (readers (lowered program)) stop → flow_stop_text stop ≡ Some text → FlowReports program (report status.Stopped text)
+  flowed : (flow : Flow) → HasValuation default_budget (lowered program) → IsFlowOf program flow → FlowReports program (report status.Done (flow_lines (layout_of program) flow.reads))

@@ -4,6 +4,7 @@ ghost use Rattle.ac_syntax.specs.ReadyPrograms.{ReadyProgram};
 ghost use Rattle.ac_parse.specs.Program.{IsProgramOf};
 ghost use Rattle.ac_flow.specs.Contexts.{ContextStops};
 ghost use Rattle.ac_poly.specs.Model.{HasContext};
+ghost use Rattle.ac_walk.specs.UnknownCauses.{HasValuation};
 ghost use Rattle.ac_top.specs.ProgramAnswers.{TextReports, OneFileReports};
 ghost use Rattle.ac_top.specs.FlowReports.{FlowReports, lowered, default_budget};
 ghost use Rattle.ac_top.specs.Reads.{Fails};
@@ -62,6 +63,7 @@ fn report_context_stop(
 fn report_reads(alloc: Global, program: &Program, model: &Model) -> Result<Report, AllocError>
     requires program { ReadyProgram program.now }
     requires model { model.now ≡ lowered program.now }
+    requires valuation { HasValuation default_budget (lowered program.now) }
     ensures { IfOk result (λ r. FlowReports program.now (written r)) }
 {
     match flow(alloc, model, &LIMITS) {

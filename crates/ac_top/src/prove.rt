@@ -3,7 +3,7 @@ ghost use Rattle.std.specs.Prelude.{◌≡◌, Some, option_map, IfOk};
 ghost use Rattle.ac_claims.specs.Soundness as judge;
 ghost use Rattle.ac_syntax.specs.ExecutedCalls.{HaveArities};
 ghost use Rattle.ac_walk.specs.UnknownCauses.{IsAnswered};
-ghost use Rattle.ac_walk.specs.Verdicts.{AreVerdicts};
+ghost use Rattle.ac_walk.specs.Verdicts.{AreMatched, AreVerdicts};
 ghost use Rattle.ac_top.specs.ProveReports.{ProveReports, IsProofOf, IsFileOf};
 ghost use Rattle.ac_top.specs.RunStages.{file_of, models_of, written};
 
@@ -54,6 +54,7 @@ fn report_proved(
     name: Option<&[u8]>,
 ) -> Result<Report, AllocError>
     requires verdicts { AreVerdicts pair.now pair.now.outputs proved.now.verdicts }
+    requires matched { AreMatched pair.now pair.now.outputs proved.now.verdicts }
     requires answered { IsAnswered budget pair.now proved.now.verdicts }
     requires proof { IsProofOf pair.now proved.now.verdicts proved.now.proof }
     ensures { IfOk result (λ r. ProveReports pair.now budget (option_map (λ w. w.now) name.entry) (written r)) }

@@ -1,6 +1,7 @@
 use Rattle.std.proofs.Common.{subst}
 use Rattle.ac_poly.specs.Model.{HasContext}
 use Rattle.ac_flow.specs.Contexts.{ContextStops}
+use Rattle.ac_walk.specs.UnknownCauses.{HasValuation}
 use Rattle.ac_top.specs.FlowReports.{default_budget}
 use Rattle.ac_top.proofs.flows.report_model.Goals as goal
 
@@ -9,3 +10,7 @@ report_context_stop-requires-clause-context c = subst (HasContext c.args.program
 
 pub report_context_stop-requires-clause-stop : goal.report_context_stop-requires-clause-stop
 report_context_stop-requires-clause-stop c = subst (λ m. ContextStops default_budget m c.in-Err.stop) c.requires.model c.in-Err.ensures.stops
+
+pub report_reads-requires-clause-valuation : goal.report_reads-requires-clause-valuation
+report_reads-requires-clause-valuation c =
+    subst (HasValuation default_budget) c.requires.model (record { point = c.in-Ok._point.items; found = c.in-Ok.ensures.exact; each = c.in-Ok.ensures.point.0; meets = c.in-Ok.ensures.point.1 })

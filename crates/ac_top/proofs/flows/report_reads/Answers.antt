@@ -8,9 +8,9 @@ use Rattle.ac_top.proofs.flows.report_reads.Goals as goal
 pub returns-in_ok-flow_text-in-Ok : goal.returns-in_ok-flow_text-in-Ok
 returns-in_ok-flow_text-in-Ok c =
     let p = c.args.program.now in
-    subst (λ (t : List ℕ). FlowReports p (a_report status.Done t)) (sym c.in_ok-flow_text-in-Ok.ensures) (flow_report p c.args.model.now c.in-Ok.found c.requires.model c.in-Ok.ensures.cases c.in-Ok.ensures.sources)
+    subst (λ (t : List ℕ). FlowReports p (a_report status.Done t)) (sym c.in_ok-flow_text-in-Ok.ensures) (flow_report p c.args.model.now c.in-Ok.found c.requires.model c.requires.valuation c.in-Ok.ensures.cases c.in-Ok.ensures.sources)
 
 pub returns-in_ok-flow_stop_text-in-Err : goal.returns-in_ok-flow_stop_text-in-Err
 returns-in_ok-flow_stop_text-in-Err c =
     let p = c.args.program.now in
-    subst (FlowReports p) (sym c.stopped.ensures) (stop_report p c.args.model.now c.in-Err.stop c.in_ok-flow_stop_text-in-Err.field-0.items c.requires.model c.in-Err.ensures.stops c.in_ok-flow_stop_text-in-Err.ensures)
+    subst (FlowReports p) (sym c.stopped.ensures) (stop_report p c.args.model.now c.in-Err.stop c.in_ok-flow_stop_text-in-Err.field-0.items c.requires.model c.requires.valuation c.in-Err.ensures.stops c.in_ok-flow_stop_text-in-Err.ensures)
