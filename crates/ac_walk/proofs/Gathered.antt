@@ -19,7 +19,7 @@ use Rattle.ac_report.specs.declared.types.Cause.{Cause}
 use Rattle.ac_report.specs.declared.types.Verdict.{Verdict}
 use Rattle.ac_report.specs.declared.types.Verdict.TheVariants.{Different, Unknown}
 use Rattle.ac_walk.specs.UnknownCauses.{AreSearched, AreUnknown, EndsSearch, IsSearched, cause_of}
-use Rattle.ac_walk.specs.Verdicts.{IsCause, IsDifferentAt, IsVerdict, AreVerdicts, IsMatchedIf, AreMatched, if_equal, equal_outputs, named}
+use Rattle.ac_walk.specs.Verdicts.{OnEach, IsCause, IsDifferentAt, IsVerdict, AreVerdicts, IsMatchedIf, AreMatched, if_equal, equal_outputs, named}
 use Rattle.ac_walk.specs.VerdictCollection.{IsHeld, IsSaidOf, IsProvedOf, IsSearchedOf, IsValid}
 use Rattle.ac_walk.specs.declared.verdict_types.Proved.{Proved}
 
@@ -34,17 +34,11 @@ different_said budget pair output proof at element d h = record { verdict = d; m
 
 -- ---- one more
 
-more_verdicts : (pair : Pair) (os : List ℕ) (o : ℕ) (vs : List Verdict) (v : Verdict) → AreVerdicts pair os vs → IsVerdict pair o v → AreVerdicts pair (os ++ o ∷ []) (vs ++ v ∷ [])
-more_verdicts pair [] o [] v h k = (k, tt)
-more_verdicts pair [] o (w ∷ vs) v h k = absurd h
-more_verdicts pair (p ∷ os) o [] v h k = absurd h
-more_verdicts pair (p ∷ os) o (w ∷ vs) v h k = (h.0, more_verdicts pair os o vs v h.1 k)
-
-more_matched : (pair : Pair) (os : List ℕ) (o : ℕ) (vs : List Verdict) (v : Verdict) → AreMatched pair os vs → IsMatchedIf pair o v → AreMatched pair (os ++ o ∷ []) (vs ++ v ∷ [])
-more_matched pair [] o [] v h k = (k, tt)
-more_matched pair [] o (w ∷ vs) v h k = absurd h
-more_matched pair (p ∷ os) o [] v h k = absurd h
-more_matched pair (p ∷ os) o (w ∷ vs) v h k = (h.0, more_matched pair os o vs v h.1 k)
+more_on : (P : ℕ → Verdict → Type 0) (os : List ℕ) (o : ℕ) (vs : List Verdict) (v : Verdict) → OnEach P os vs → P o v → OnEach P (os ++ o ∷ []) (vs ++ v ∷ [])
+more_on P [] o [] v h k = (k, tt)
+more_on P [] o (w ∷ vs) v h k = absurd h
+more_on P (p ∷ os) o [] v h k = absurd h
+more_on P (p ∷ os) o (w ∷ vs) v h k = (h.0, more_on P os o vs v h.1 k)
 
 more_equal : (pair : Pair) (os : List ℕ) (o : ℕ) (vs : List Verdict) (v : Verdict) → AreVerdicts pair os vs → equal_outputs (os ++ o ∷ []) (vs ++ v ∷ []) ≡ equal_outputs os vs ++ if_equal o v
 more_equal pair [] o [] v h = append-nil (if_equal o v)
@@ -55,12 +49,6 @@ more_equal pair (p ∷ os) o (w ∷ vs) v h = ap (λ z. if_equal p w ++ z) (more
 take_next : (xs : List ℕ) (n x : ℕ) → slice_get xs n ≡ Some x → take (n + 1) xs ≡ take n xs ++ x ∷ []
 take_next xs n x e = take_more xs n x (slice_get_within xs n x e) ∙ ap (λ z. take n xs ++ z ∷ []) (get_or_from_slice_get xs n x x e)
 
-more_searched : (budget : ℕ) (pair : Pair) (os : List ℕ) (o : ℕ) (vs : List Verdict) (v : Verdict) → AreSearched budget pair os vs → IsSearched budget pair o v → AreSearched budget pair (os ++ o ∷ []) (vs ++ v ∷ [])
-more_searched budget pair [] o [] v h k = (k, tt)
-more_searched budget pair [] o (w ∷ vs) v h k = absurd h
-more_searched budget pair (p ∷ os) o [] v h k = absurd h
-more_searched budget pair (p ∷ os) o (w ∷ vs) v h k = (h.0, more_searched budget pair os o vs v h.1 k)
-
 -- the verdict on one more output
 pub one_more : (budget : ℕ) (pair : Pair) (number array : ℕ) (before after : Proved) (said : Verdict × Proof) → slice_get pair.outputs number ≡ Some array → IsSearchedOf budget pair (take number pair.outputs) before → IsSaidOf budget pair array before.proof said
     → after.verdicts ≡ before.verdicts ++ said.0 ∷ [] → after.proof ≡ said.1 → IsSearchedOf budget pair (take (number + 1) pair.outputs) after
@@ -68,9 +56,9 @@ one_more budget pair number array before after said at p s vs proof =
     let os = take number pair.outputs in
     let next : take (number + 1) pair.outputs ≡ os ++ array ∷ [] = take_next pair.outputs number array at in
     let grown : IsSearchedOf budget pair (os ++ array ∷ []) after = record {
-      verdicts = subst (AreVerdicts pair (os ++ array ∷ [])) (sym vs) (more_verdicts pair os array before.verdicts said.0 p.verdicts s.verdict);
-      matched = subst (AreMatched pair (os ++ array ∷ [])) (sym vs) (more_matched pair os array before.verdicts said.0 p.matched s.matched);
-      searched = subst (AreSearched budget pair (os ++ array ∷ [])) (sym vs) (more_searched budget pair os array before.verdicts said.0 p.searched s.searched);
+      verdicts = subst (AreVerdicts pair (os ++ array ∷ [])) (sym vs) (more_on (IsVerdict pair) os array before.verdicts said.0 p.verdicts s.verdict);
+      matched = subst (AreMatched pair (os ++ array ∷ [])) (sym vs) (more_on (IsMatchedIf pair) os array before.verdicts said.0 p.matched s.matched);
+      searched = subst (AreSearched budget pair (os ++ array ∷ [])) (sym vs) (more_on (IsSearched budget pair) os array before.verdicts said.0 p.searched s.searched);
       equal = ap named proof ∙ s.named_then ∙ ap (λ z. z ++ if_equal array said.0) p.equal ∙ sym (more_equal pair os array before.verdicts said.0 p.verdicts) ∙ ap (equal_outputs (os ++ array ∷ [])) (sym vs);
       valid = subst (IsValid pair) (sym proof) s.valid;
     } in

@@ -1,5 +1,5 @@
 -- Orders that a search refutes, and what it then says of the output.
-use Rattle.std.proofs.Common.{◌≡◌, ◌⊎◌, inl, inr, ℕ, ℤ, List, [], ◌∷◌, ◌++◌, Bool, Option, Some, None, subst, sym}
+use Rattle.std.proofs.Common.{◌≡◌, ◌⊎◌, inl, inr, ℕ, ℤ, List, [], ◌∷◌, ◌++◌, Bool, Option, Some, None, subst, sym, append_assoc}
 use Rattle.ac_syntax.specs.declared.tree.Order.{Order}
 use Rattle.ac_syntax.specs.declared.tree.Pair.{Pair}
 use Rattle.ac_syntax.specs.declared.tree.Position.{Position}
@@ -13,9 +13,12 @@ use Rattle.ac_widen_programs.specs.PairSetting.{point_width, setting}
 use Rattle.ac_widen_programs.specs.PairPoints.{choices_of}
 use Rattle.ac_widen_programs.specs.DerivationEntries.{entries_of}
 use Rattle.ac_match.specs.SiteOrders.{OrdersOf, IsNext}
-use Rattle.ac_match.specs.declared.orders.Next.TheVariants.{Done, Spent}
+use Rattle.ac_match.specs.declared.orders.Next.{Next}
+use Rattle.ac_match.specs.declared.orders.Next.TheVariants.{Order as Chosen, Done, Spent}
 use Rattle.ac_match.specs.declared.orders.Refuted.{Refuted}
-use Rattle.ac_walk_state.specs.UnmatchedOutputs.{IsUnmatched}
+use Rattle.ac_graph.specs.PairMoves.{AreSites, pairing_of}
+use Rattle.ac_walk_state.specs.PartialOrders.{AreOnce}
+use Rattle.ac_walk_state.specs.UnmatchedOutputs.{AreRefutedInTurn, AreRefutedUpTo, AreSitesOf, IsRefutedAfter}
 use Rattle.ac_report.specs.declared.types.Cause.{Cause}
 use Rattle.ac_report.specs.declared.types.Cause.TheVariants.{Unmatched, OverflowQuestion, OverflowHull, SpentQuestion, SpentPieces, SpentPaths, SpentOrders}
 use Rattle.ac_walk_state.specs.RecurrencePairs.{claim_of, positions}
@@ -24,10 +27,9 @@ use Rattle.ac_walk_state.specs.RecurrencePairStops.{AreTooLarge}
 use Rattle.ac_walk_state.proofs.Standing.{key_in}
 use Rattle.ac_walk_state.specs.Elements.{IsElementClaim}
 use Rattle.ac_walk_state.specs.OrderKnowledge.{IsWide, claims_of, pairs_of}
-use Rattle.ac_walk_state.specs.RefutedOrders.{AllRefuted}
 use Rattle.ac_walk_state.specs.declared.known.Known.{Known}
-use Rattle.ac_walk_state.proofs.LastItems.{among_map, each_in}
-use Rattle.ac_walk_state.proofs.Orders.{leaves_none, refutes_part}
+use Rattle.ac_walk_state.proofs.LastItems.{among_map, append_nil, each_in}
+use Rattle.ac_walk_state.proofs.Orders.{refutes_part}
 use Rattle.ac_walk.specs.OutputSearch.{AreTaken, IsFound, IsSearch, ShowMismatch, rows_at}
 use Rattle.ac_walk.specs.SearchStops.{AreTooLargeUnder, StopsSearch, StopsUnfoldingUnder}
 use Rattle.ac_walk.specs.StartPaths.{IsStartOf}
@@ -37,44 +39,61 @@ use Rattle.ac_walk.proofs.Programs.{lawful, numbers_are, template_is}
 use Rattle.ac_walk.proofs.Unfolded.{is_unfolding, unfolding_at}
 use Rattle.ac_walk_state.specs.SearchSetting.{Widening, IsWideningOf, searched}
 use Rattle.ac_unfold_plans.specs.ArgumentOrders.{order_of}
-use Rattle.ac_widen.specs.OrderRefutations.{IsPartOf, IsRefuted}
+use Rattle.ac_widen.specs.OrderRefutations.{IsPartOf}
 use Rattle.ac_widen.specs.declared.derivation.Derivation.{Derivation}
 use Rattle.ac_widen.specs.declared.derivation.Entry.{Entry}
 use Rattle.ac_unfold.specs.declared.types.UnfoldStop.{UnfoldStop}
 use Rattle.ac_unfold.specs.declared.types.UnfoldStop.TheVariants as unfolded
 use Rattle.ac_walk.specs.UnknownCauses.{EndsSearch}
-use Rattle.ac_walk.specs.OutputDecisions.{AreShown, GoesNoFurther, IsDecision, IsDifference, IsKept, IsOutputSearch, IsShown}
+use Rattle.ac_walk.specs.OutputDecisions.{AreShown, AreSitesAmong, GoesNoFurther, IsDecision, IsDifference, IsKept, IsOutputSearch, IsShown}
 use Rattle.ac_walk.specs.OutputStops.{UnfoldingStops}
-use Rattle.ac_walk.specs.Verdicts.{AreRefutedOrders, AreTooLargePoints, IsCause}
+use Rattle.ac_walk.specs.Verdicts.{AreTooLargePoints, IsCause}
 use Rattle.ac_walk.specs.declared.deciding.Decision.{Decision}
 use Rattle.ac_walk.specs.declared.deciding.Decision.TheVariants.{Stands, Different, Unknown}
 
+-- ---- sites
+
+pub once_among : (pair : Pair) (pairs : List (Position × Position)) (all made : List Site) → AreSites (pairing_of pair) pairs all → AreOnce all made → AreSitesAmong pair pairs made
+once_among pair pairs all made are once = record { sites_are = λ site. ((λ i. (are site).0 ((once.0 site).0 i)), (λ k. (once.0 site).1 ((are site).1 k))); once = once.1 }
+
 -- ---- refuted orders
 
--- in the setting of the search an order is refuted by entries that show a mismatch
-one_refuted : (s : Search) (w : Widening) → IsSearch s → IsWideningOf s.pair.now w → AreTaken s.stops.now w → (r : Refuted) → IsShown s r → IsRefuted (searched s.pair.now s.array w) (choices_of r.partial) (entries_of r.why.entries)
-one_refuted s w h is taken r shown =
+-- in the setting of the search a partial order is refuted by entries that show a mismatch, behind earlier ones
+one_refuted : (s : Search) (w : Widening) → IsSearch s → IsWideningOf s.pair.now w → AreTaken s.stops.now w → (sites : List Site) (earlier : List Refuted) (r : Refuted) → IsShown s sites earlier r → IsRefutedAfter (searched s.pair.now s.array w) sites earlier r
+one_refuted s w h is taken sites earlier r shown =
     let rows = λ (positions : Position × Position). template_rows (point_width s.pair.now positions) w.thresholds w.moduli in
     let found = shown.shown w is taken in
-    refutes_part (searched s.pair.now s.array w) (order_of shown.order) r.why.entries r.partial (lawful s w h is) found.0 found.1 (shown.part (s.array ∷ []) w.recurrent rows)
+    let part = shown.part (s.array ∷ []) w.recurrent rows in
+    record {
+      order = shown.order;
+      whole = shown.whole;
+      apart = shown.apart;
+      part = part;
+      refuted = refutes_part (searched s.pair.now s.array w) (order_of shown.order) r.why.entries r.partial (lawful s w h is) found.0 found.1 part;
+    }
 
-all_refuted : (s : Search) (w : Widening) → IsSearch s → IsWideningOf s.pair.now w → AreTaken s.stops.now w → (list : List Refuted) → AreShown s list → AllRefuted (searched s.pair.now s.array w) list
-all_refuted s w h is taken [] shown = tt
-all_refuted s w h is taken (r ∷ list) shown = (one_refuted s w h is taken r shown.0, all_refuted s w h is taken list shown.1)
+all_refuted : (s : Search) (w : Widening) → IsSearch s → IsWideningOf s.pair.now w → AreTaken s.stops.now w → (sites : List Site) (earlier list : List Refuted) → AreShown s sites earlier list → AreRefutedInTurn (searched s.pair.now s.array w) sites earlier list
+all_refuted s w h is taken sites earlier [] shown = tt
+all_refuted s w h is taken sites earlier (r ∷ list) shown = (one_refuted s w h is taken sites earlier r shown.0, all_refuted s w h is taken sites (earlier ++ r ∷ []) list shown.1)
 
--- a mismatch under an order, and the part of the order that its entries need
-pub is_shown : (s : Search) (order : List (Site × Order)) (why : Derivation) (partial : List (Site × Order)) (es : List Entry) → es ≡ why.entries → ShowMismatch s order why.entries
-    → ((outputs : List ℕ) (recurrent : Position × Position → Bool) (template : Position × Position → List Row) → IsPartOf (setting s.pair.now outputs recurrent template) (order_of order) (entries_of es) (choices_of partial)) → IsShown s (record { partial = partial; why = why })
-is_shown s order why partial es e shown part = record {
+-- a mismatch under an order that comes next, and the part of the order that its entries need
+pub is_shown : (s : Search) (o : OrdersOf) (order : List (Site × Order)) (why : Derivation) (partial : List (Site × Order)) (es : List Entry) → es ≡ why.entries → IsNext o (Chosen order) → ShowMismatch s order why.entries
+    → ((outputs : List ℕ) (recurrent : Position × Position → Bool) (template : Position × Position → List Row) → IsPartOf (setting s.pair.now outputs recurrent template) (order_of order) (entries_of es) (choices_of partial)) → IsShown s o.sites o.refuted (record { partial = partial; why = why })
+is_shown s o order why partial es e next shown part = record {
   order = order;
+  whole = next.0;
+  apart = next.1;
   shown = shown;
   part = λ outputs recurrent template. subst (λ (xs : List Entry). IsPartOf (setting s.pair.now outputs recurrent template) (order_of order) (entries_of xs) (choices_of partial)) e (part outputs recurrent template);
 }
 
 -- one more
-pub more_shown : (s : Search) (list : List Refuted) (r : Refuted) → AreShown s list → IsShown s r → AreShown s (list ++ r ∷ [])
-more_shown s [] r h k = (k, tt)
-more_shown s (q ∷ list) r h k = (h.0, more_shown s list r h.1 k)
+shown_behind : (s : Search) (sites : List Site) (earlier list : List Refuted) (r : Refuted) → AreShown s sites earlier list → IsShown s sites (earlier ++ list) r → AreShown s sites earlier (list ++ r ∷ [])
+shown_behind s sites earlier [] r h k = (subst (λ (before : List Refuted). IsShown s sites before r) (append_nil earlier) k, tt)
+shown_behind s sites earlier (q ∷ list) r h k = (h.0, shown_behind s sites (earlier ++ q ∷ []) list r h.1 (subst (λ (before : List Refuted). IsShown s sites before r) (append_assoc earlier (q ∷ []) list) k))
+
+pub more_shown : (s : Search) (sites : List Site) (list : List Refuted) (r : Refuted) → AreShown s sites [] list → IsShown s sites list r → AreShown s sites [] (list ++ r ∷ [])
+more_shown s sites list r h k = shown_behind s sites [] list r h k
 
 -- ---- decisions
 
@@ -84,22 +103,25 @@ kept_same s t number (Stands part) pair array first h = (h.0, subst (λ (n : ℕ
 kept_same s t number (Different found) pair array first h = subst (λ (p : Pair). IsDifference p number found) pair h
 kept_same s t number (Unknown why) pair array first h = tt
 
--- no order is left
-are_unmatched : (s : Search) (number : ℕ) (o : OrdersOf) → IsOutputSearch s number → AreShown s o.refuted → IsNext o Done → GoesNoFurther s → IsUnmatched s.pair.now s.array o.refuted
-are_unmatched s number o h shown done near = record {
+-- the partial orders are refuted in turn until that comes
+are_refuted : (s : Search) (number : ℕ) (o : OrdersOf) (next : Next) → IsOutputSearch s number → AreSitesOf s.pair.now s.array o.sites → AreShown s o.sites [] o.refuted → IsNext o next → GoesNoFurther s → AreRefutedUpTo s.pair.now s.array o.refuted next
+are_refuted s number o next h sites shown comes near = record {
+  sites = o.sites;
+  sites_are = sites;
   widening = h.widening;
-  unmatched = λ w is. leaves_none (searched s.pair.now s.array w) o (lawful s w h.search is) (all_refuted s w h.search is (near w is) o.refuted shown) done;
+  refuted = λ w is. all_refuted s w h.search is (near w is) o.sites [] o.refuted shown;
+  comes = comes;
 }
 
-pub unmatched_decides : (s : Search) (number : ℕ) (o : OrdersOf) → IsOutputSearch s number → AreShown s o.refuted → IsNext o Done → IsDecision s number (Unknown (Unmatched o.refuted))
-unmatched_decides s number o h shown done = record { kept = tt; ends = λ near. tt; cause = λ near. are_unmatched s number o h shown done near }
+-- no order is left
+pub unmatched_decides : (s : Search) (number : ℕ) (o : OrdersOf) → IsOutputSearch s number → AreSitesOf s.pair.now s.array o.sites → AreShown s o.sites [] o.refuted → IsNext o Done → IsDecision s number (Unknown (Unmatched o.refuted))
+unmatched_decides s number o h sites shown done = record { kept = tt; ends = λ near. tt; cause = λ near. are_refuted s number o Done h sites shown done near }
 
 -- too many are refuted
-are_refuted_orders : (s : Search) (number : ℕ) (list : List Refuted) → IsOutputSearch s number → AreShown s list → GoesNoFurther s → AreRefutedOrders s.pair.now s.array list
-are_refuted_orders s number list h shown near = record { widening = h.widening; refuted = λ w is. all_refuted s w h.search is (near w is) list shown }
+pub spent_decides : (s : Search) (number : ℕ) (o : OrdersOf) → IsOutputSearch s number → AreSitesOf s.pair.now s.array o.sites → AreShown s o.sites [] o.refuted → IsNext o Spent → IsDecision s number (Unknown (SpentOrders o.refuted))
+spent_decides s number o h sites shown spent = record { kept = tt; ends = λ near. tt; cause = λ near. are_refuted s number o Spent h sites shown spent near }
 
-pub spent_decides : (s : Search) (number : ℕ) (o : OrdersOf) → IsOutputSearch s number → AreShown s o.refuted → IsNext o Spent → IsDecision s number (Unknown (SpentOrders o.refuted))
-spent_decides s number o h shown spent = record { kept = tt; ends = λ near. tt; cause = λ near. (are_refuted_orders s number o.refuted h shown near, spent.0.1) }
+-- ---- early ends
 
 -- the search under an order ends early
 are_too_large : (s : Search) (number : ℕ) (order : List (Site × Order)) (points : List (List ℤ)) → IsOutputSearch s number → GoesNoFurther s → AreTooLargeUnder s order points → AreTooLargePoints s.pair.now s.array points

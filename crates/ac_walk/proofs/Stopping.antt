@@ -6,7 +6,7 @@ use Rattle.ac_syntax.specs.declared.tree.Position.{Position}
 use Rattle.ac_hull.specs.Templates.{template_rows}
 use Rattle.ac_widen_programs.specs.PairSetting.{point_width}
 use Rattle.ac_unfold_plans.specs.ProofDecisions.{IsStoppedProof}
-use Rattle.ac_unfold_plans.proofs.Deciding.{searches_say_equal, stopped_proofs_decide}
+use Rattle.ac_unfold_plans.proofs.Deciding.{stopped_proofs_decide}
 use Rattle.ac_walk_state.specs.SearchSetting.{Widening}
 use Rattle.ac_walk_state.proofs.Telling.{same_widening}
 use Rattle.ac_walk.specs.MatchedByProof.{StoppedProofsMatch}
@@ -21,9 +21,5 @@ stopped_proofs_match pair w order part proof output is stopped named = record {
   widening = (w, is);
   matched = λ v k.
       let there = subst (λ (x : Widening). IsStoppedProof pair order x.recurrent (rows_of pair x) part proof) (same_widening pair w v is k) stopped in
-      record {
-        order = order;
-        none = stopped_proofs_decide pair order v.recurrent (rows_of pair v) part proof there (output ∷ []) named;
-        equal = searches_say_equal pair order v.recurrent (rows_of pair v) part proof there (output ∷ []) named;
-      };
+      (order, stopped_proofs_decide pair order v.recurrent (rows_of pair v) part proof there (output ∷ []) named);
 }

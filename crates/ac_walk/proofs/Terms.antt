@@ -11,6 +11,7 @@ use Rattle.ac_hull.specs.Templates.{template_rows}
 use Rattle.ac_forms.specs.ListMembers.{IsAmong}
 use Rattle.ac_widen_programs.specs.PairSetting.{point_width}
 use Rattle.ac_walk_state.specs.UnmatchedOutputs.{IsUnmatched}
+use Rattle.ac_walk_state.proofs.Orders.{unmatched_have_mismatches}
 use Rattle.ac_match.specs.declared.orders.Refuted.{Refuted}
 use Rattle.ac_report.specs.declared.types.Cause.TheVariants.{Unmatched, OverflowQuestion, OverflowHull, SpentQuestion, SpentPieces, SpentPaths, SpentOrders}
 use Rattle.ac_report.specs.declared.types.Verdict.TheVariants.{Equal, Different, Unknown}
@@ -28,13 +29,13 @@ unmatched_differs : (pair : Pair) → IsPlain pair → (o : ℕ) (list : List Re
 unmatched_differs pair plain o list u t =
     let w = u.widening.0 in
     let is = u.widening.1 in
-    agreeing_terms_have_no_mismatch pair (o ∷ []) w.recurrent (λ widening_point. template_rows (point_width pair widening_point) w.thresholds w.moduli) (plain.recurs w is) plain.commutative (only (TermsAgree pair) o t) always ((u.unmatched w is).mismatch always)
+    agreeing_terms_have_no_mismatch pair (o ∷ []) w.recurrent (λ widening_point. template_rows (point_width pair widening_point) w.thresholds w.moduli) (plain.recurs w is) plain.commutative (only (TermsAgree pair) o t) always (unmatched_have_mismatches pair o list u w is always)
 
 pub verdicts_tell_terms : VerdictsTellTerms
 verdicts_tell_terms pair paired left right plain o outputs Equal verdict matched =
     let w = matched.widening.0 in
     let m = matched.matched w matched.widening.1 in
-    outputs_without_mismatch_agree pair (o ∷ []) w.recurrent (λ widening_point. template_rows (point_width pair widening_point) w.thresholds w.moduli) paired left right outputs m.order m.none o (inl refl)
+    outputs_without_mismatch_agree pair (o ∷ []) w.recurrent (λ widening_point. template_rows (point_width pair widening_point) w.thresholds w.moduli) paired left right outputs m.0 m.1 o (inl refl)
 verdicts_tell_terms pair paired left right plain o outputs (Different at element) verdict matched = λ t. verdict.1.1 (t at verdict.0 element verdict.1.0)
 verdicts_tell_terms pair paired left right plain o outputs (Unknown (Unmatched refuted)) verdict matched = unmatched_differs pair plain o refuted verdict
 verdicts_tell_terms pair paired left right plain o outputs (Unknown (OverflowQuestion question)) verdict matched = tt

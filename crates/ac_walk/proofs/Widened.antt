@@ -2,12 +2,15 @@
 use Rattle.std.proofs.Common.{◌≡◌, ◌<◌, ℕ, zero, suc, List, [], ◌∷◌, ◌++◌, inl, inr, length, get_or, sym, subst, ◌∙◌, arith}
 use Rattle.ac_forms.specs.ListMembers.{IsAmong}
 use Rattle.ac_syntax.specs.declared.tree.Position.{Position}
+use Rattle.ac_syntax.specs.declared.tree.Site.{Site}
+use Rattle.ac_graph.proofs.Stepping.{edges_sourced, left_flow, right_flow}
 use Rattle.ac_walk_state.specs.SearchSetting.{Widening, IsWideningOf}
 use Rattle.ac_walk_state.specs.GraphWidenings.{widening_of}
+use Rattle.ac_walk_state.specs.UnmatchedOutputs.{AreSitesOf, pair_at}
 use Rattle.ac_walk_state.proofs.Widening.{any_is, graph_recurs, graphs_widen, widenings_are_one}
 use Rattle.ac_walk.specs.OutputSearch.{AreTaken}
 use Rattle.ac_unfold_plans.specs.ArgumentOrders.{AreAll}
-use Rattle.ac_walk.specs.OutputDecisions.{AreSame}
+use Rattle.ac_walk.specs.OutputDecisions.{AreReachedSites, AreSame}
 use Rattle.ac_walk.specs.VerdictCollection.{IsBasis}
 use Rattle.ac_walk.specs.declared.outputs.Basis.{Basis}
 
@@ -30,6 +33,21 @@ takes_all b widening_points h same w is widening_point e =
 pub takes_each : (b : Basis) (widening_points : List (Position × Position)) → IsBasis b → AreSame widening_points b.graph.now.recurrent → (w : Widening) → IsWideningOf b.pair.now w → AreTaken widening_points w
 takes_each b widening_points h same w is widening_point i =
     graph_recurs b.pair.now b.program_flows.now.left_flow.now b.program_flows.now.right_flow.now b.graph.now b.template.now.thresholds b.template.now.moduli w h.flows h.graph h.numbers is widening_point ((same widening_point).0 i)
+
+-- the sites that moves along the graph's edges reach from an output are those of the output
+pub sites_of : (b : Basis) (array : ℕ) (sites : List Site) → IsBasis b → AreReachedSites b.pair.now b.graph.now array sites → AreSitesOf b.pair.now array sites
+sites_of b array sites h r =
+    let pair = b.pair.now in
+    let left = b.program_flows.now.left_flow.now in
+    let right = b.program_flows.now.right_flow.now in
+    record {
+      left_edges = b.graph.now.left_edges;
+      right_edges = b.graph.now.right_edges;
+      left_sources = edges_sourced pair.left pair.context left b.graph.now.left_edges (left_flow pair left right h.flows) h.graph.left_are;
+      right_sources = edges_sourced pair.right pair.context right b.graph.now.right_edges (right_flow pair left right h.flows) h.graph.right_are;
+      sites_are = λ site. ((λ i. let s = (r.among.sites_are site).0 i in ((r.reached (pair_at site)).0 s.0, s.1)), (λ k. (r.among.sites_are site).1 ((r.reached (pair_at site)).1 k.0, k.1)));
+      once = r.among.once;
+    }
 
 -- pairs among two lists
 among_left : (positions : Position × Position) (widening_points more : List (Position × Position)) → IsAmong positions widening_points → IsAmong positions (widening_points ++ more)

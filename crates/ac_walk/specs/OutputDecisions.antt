@@ -1,5 +1,5 @@
 -- What the search finds of an output.
-use Rattle.std.specs.Prelude.{◌≡◌, ◌↔◌, ℕ, ℤ, List, Bool, Some, slice_get}
+use Rattle.std.specs.Prelude.{◌≡◌, ◌↔◌, ℕ, ℤ, List, [], ◌∷◌, ◌++◌, map, Bool, Some, slice_get}
 use Rattle.ac_forms.specs.ListMembers.{IsAmong}
 use Rattle.ac_forms.specs.declared.row.Row.{Row}
 use Rattle.ac_syntax.specs.declared.tree.Order.{Order}
@@ -15,7 +15,10 @@ use Rattle.ac_walk.specs.OutputSearch.{AreTaken, IsFound, IsSearch, ShowMismatch
 use Rattle.ac_walk.specs.declared.search_types.Search.{Search}
 use Rattle.ac_widen_programs.specs.PairSetting.{setting}
 use Rattle.ac_unfold_plans.specs.ArgumentOrders.{order_of}
-use Rattle.ac_widen.specs.Combinations.{Each}
+use Rattle.ac_graph.specs.PairMoves.{AreDistinct, AreReached, AreSites, dependences, pairing_of, start_of}
+use Rattle.ac_graph.specs.declared.types.Graph.{Graph}
+use Rattle.ac_match.specs.SiteOrders.{ExtendsRefuted, IsOrderOf}
+use Rattle.ac_walk_state.specs.UnmatchedOutputs.{pair_at}
 use Rattle.ac_widen.specs.OrderRefutations.{IsPartOf}
 use Rattle.ac_walk.specs.UnknownCauses.{EndsSearch}
 use Rattle.ac_walk.specs.Verdicts.{IsCause, IsDifferentAt}
@@ -46,14 +49,18 @@ pub record IsOutputSearch (s : Search) (number : ℕ) : Type 0 where
 abbrev pub GoesNoFurther : Search → Type 0
 GoesNoFurther s = (w : Widening) → IsWideningOf s.pair.now w → AreTaken s.stops.now w
 
--- the entries show a mismatch under an order of which the choices are the part that the entries need
-pub record IsShown (s : Search) (r : Refuted) : Type 0 where
+-- behind earlier ones: the entries show a mismatch under an order of the sites that extends no earlier one, and the partial order is the part that they need
+pub record IsShown (s : Search) (sites : List Site) (earlier : List Refuted) (r : Refuted) : Type 0 where
   pub order : List (Site × Order)
+  pub whole : IsOrderOf sites order
+  pub apart : ¬ (ExtendsRefuted order earlier)
   pub shown : ShowMismatch s order r.why.entries
   pub part : (outputs : List ℕ) (recurrent : Position × Position → Bool) (template : Position × Position → List Row) → IsPartOf (setting s.pair.now outputs recurrent template) (order_of order) (entries_of r.why.entries) (choices_of r.partial)
 
-abbrev pub AreShown : Search → List Refuted → Type 0
-AreShown s list = Each (IsShown s) list
+-- so each of the list is, in turn
+abbrev pub AreShown : Search → List Site → List Refuted → List Refuted → Type 0
+AreShown s sites earlier [] = Unit {0}
+AreShown s sites earlier (r ∷ list) = IsShown s sites earlier r × AreShown s sites (earlier ++ r ∷ []) list
 
 -- ---- decisions
 
@@ -83,3 +90,16 @@ IsFurther s number (Decided decision) = IsDecision s number decision
 -- the same pairs are among both
 abbrev pub AreSame : List (Position × Position) → List (Position × Position) → Type 0
 AreSame pairs others = (positions : Position × Position) → IsAmong positions pairs ↔ IsAmong positions others
+
+-- ---- sites
+
+-- the sites among the pairs, each once
+pub record AreSitesAmong (pair : Pair) (pairs : List (Position × Position)) (sites : List Site) : Type 0 where
+  pub sites_are : AreSites (pairing_of pair) pairs sites
+  pub once : AreDistinct (map pair_at sites)
+
+-- those among the pairs that moves along the edges of a graph reach from the output
+pub record AreReachedSites (pair : Pair) (graph : Graph) (output : ℕ) (sites : List Site) : Type 0 where
+  pub pairs : List (Position × Position)
+  pub reached : AreReached (dependences pair graph.left_edges graph.right_edges) (start_of output ∷ []) pairs
+  pub among : AreSitesAmong pair pairs sites

@@ -1,6 +1,6 @@
 -- What stands before the search of a pair: the question of its context and the flows of both programs, at a budget; what is said of
 -- each output where one of them stops; and where the search on an output may end.
-use Rattle.std.specs.Prelude.{◌≡◌, ℕ, ℤ, List, [], ◌∷◌, length, Option, Some, None, option_map}
+use Rattle.std.specs.Prelude.{◌≡◌, ℕ, ℤ, List, length, Option, Some, None, option_map}
 use Rattle.std.specs.List.{AllByRecursion}
 use Rattle.ac_forms.specs.Rows.{Meets}
 use Rattle.ac_omega_certify.specs.declared.strategy.Strategy.TheVariants.{Full}
@@ -23,6 +23,7 @@ use Rattle.ac_report.specs.declared.types.Verdict.{Verdict}
 use Rattle.ac_report.specs.declared.types.Verdict.TheVariants.{Equal, Different, Unknown}
 use Rattle.ac_unfold.specs.declared.types.UnfoldStop.TheVariants as unfolded
 use Rattle.ac_walk.specs.OutputStops.{UnfoldingStops}
+use Rattle.ac_walk.specs.Verdicts.{OnEach}
 use Rattle.ac_walk.specs.declared.verdict_types.ProveStop.{ProveStop}
 use Rattle.ac_walk.specs.declared.verdict_types.ProveStop.TheVariants.{EmptyContext, Memory}
 
@@ -83,10 +84,7 @@ IsSearched budget pair output (Unknown why) = EndsSearch budget pair output why
 
 -- of each output with its verdict
 abbrev pub AreSearched : ℕ → Pair → List ℕ → List Verdict → Type 0
-AreSearched budget pair [] [] = Unit {0}
-AreSearched budget pair [] (v ∷ vs) = ⊥
-AreSearched budget pair (o ∷ os) [] = ⊥
-AreSearched budget pair (o ∷ os) (v ∷ vs) = IsSearched budget pair o v × AreSearched budget pair os vs
+AreSearched budget pair = OnEach (IsSearched budget pair)
 
 -- what the verdicts on a pair rest on: the question of its context stops, or else the flow of the first program, or else that of the
 -- second, and each output is unknown for this cause; or there are both flows, and the search on each output ends with its verdict

@@ -1,5 +1,5 @@
 -- What the search says of a pair, output by output, and the proof that it gives.
-use Rattle.std.specs.Prelude.{◌≡◌, ℕ, ◌≤◌, ℤ, List, [], ◌∷◌, ◌++◌, length, map, Some, true}
+use Rattle.std.specs.Prelude.{◌≡◌, ℕ, ℤ, List, [], ◌∷◌, ◌++◌, map, Some, true}
 use Rattle.ac_syntax.specs.Outputs.{IsValuation, SameOutput}
 use Rattle.ac_syntax.specs.declared.tree.Pair.{Pair}
 use Rattle.ac_instance.specs.ComparisonAnswers.{compared}
@@ -9,10 +9,9 @@ use Rattle.ac_claims_paths.specs.PathSteps.{Pairing}
 use Rattle.ac_claims.specs.ProofFaults.{IsValidProof}
 use Rattle.ac_claims.specs.Soundness.{pairing_of}
 use Rattle.ac_claims.specs.declared.types.Proof.{Proof}
-use Rattle.ac_match.specs.declared.orders.Refuted.{Refuted}
+use Rattle.ac_match.specs.declared.orders.Next.TheVariants.{Spent}
 use Rattle.ac_walk.specs.MatchedOutputs.{IsMatched}
-use Rattle.ac_walk_state.specs.UnmatchedOutputs.{IsUnmatched}
-use Rattle.ac_walk_state.specs.RefutedOrders.{AllRefuted}
+use Rattle.ac_walk_state.specs.UnmatchedOutputs.{AreRefutedUpTo, IsUnmatched}
 use Rattle.ac_walk_state.specs.SearchSetting.{Widening, IsWideningOf, searched}
 use Rattle.ac_widen_programs.specs.DerivationEntries.{entries_of}
 use Rattle.ac_walk_state.specs.RecurrencePairs.{WideningPointOf, positions}
@@ -33,11 +32,6 @@ use Rattle.ac_walk.specs.declared.verdict_types.ProveStop.TheVariants.{EmptyCont
 abbrev pub IsDifferentAt : Pair → ℕ → List ℤ → List ℤ → Type 0
 IsDifferentAt pair output at element = IsValuation pair at × IsLeast (compared pair at output) (Some element)
 
--- in the setting of the search on the output each of the partial orders is refuted by its derivation
-pub record AreRefutedOrders (pair : Pair) (output : ℕ) (list : List Refuted) : Type 0 where
-  pub widening : (w : Widening) × IsWideningOf pair w
-  pub refuted : (w : Widening) → IsWideningOf pair w → AllRefuted (searched pair output w) list
-
 -- in the setting of the search on the output, the points are members that a derivation under some order has at a recurrence pair, or those of
 -- their hull, and a point of that pair at which a number is too large
 pub record AreTooLargePoints (pair : Pair) (output : ℕ) (points : List (List ℤ)) : Type 0 where
@@ -51,8 +45,8 @@ pub record AreTooLargePoints (pair : Pair) (output : ℕ) (points : List (List �
   pub recurs : widening.recurrent (positions widening_point) ≡ true
   pub large : AreTooLarge pair widening.thresholds widening.moduli widening_point points
 
--- unmatched: in the setting of the search on the output each of the orders is refuted, and each order has a mismatch; overflow of a hull: a
--- number is too large at its points; spent: each of the orders is refuted there, and they are many
+-- unmatched: the partial orders are refuted in turn until each order of the output's sites extends one; spent orders: until there are too many;
+-- overflow of a hull: a number is too large at its points
 abbrev pub IsCause : Pair → ℕ → Cause → Type 0
 IsCause pair output (Unmatched refuted) = IsUnmatched pair output refuted
 IsCause pair output (OverflowQuestion question) = Unit {0}
@@ -60,7 +54,14 @@ IsCause pair output (OverflowHull points) = AreTooLargePoints pair output points
 IsCause pair output (SpentQuestion question cost) = Unit {0}
 IsCause pair output (SpentPieces position kept) = Unit {0}
 IsCause pair output (SpentPaths paths) = Unit {0}
-IsCause pair output (SpentOrders refuted) = AreRefutedOrders pair output refuted × (1024 ≤ length refuted)
+IsCause pair output (SpentOrders refuted) = AreRefutedUpTo pair output refuted Spent
+
+-- a fact for each output with its verdict, in order
+abbrev pub OnEach : (ℕ → Verdict → Type 0) → List ℕ → List Verdict → Type 0
+OnEach P [] [] = Unit {0}
+OnEach P [] (v ∷ vs) = ⊥
+OnEach P (o ∷ os) [] = ⊥
+OnEach P (o ∷ os) (v ∷ vs) = P o v × OnEach P os vs
 
 -- equal: the output is the same; different: at this valuation this is its least element whose terms do not agree; unknown: its
 -- cause is as it says
@@ -71,10 +72,7 @@ IsVerdict pair output (Unknown cause) = IsCause pair output cause
 
 -- one verdict for each output, in order
 abbrev pub AreVerdicts : Pair → List ℕ → List Verdict → Type 0
-AreVerdicts pair [] [] = Unit {0}
-AreVerdicts pair [] (v ∷ vs) = ⊥
-AreVerdicts pair (o ∷ os) [] = ⊥
-AreVerdicts pair (o ∷ os) (v ∷ vs) = IsVerdict pair o v × AreVerdicts pair os vs
+AreVerdicts pair = OnEach (IsVerdict pair)
 
 -- equal: in the setting of the search on the output some order of the sites has no mismatch
 abbrev pub IsMatchedIf : Pair → ℕ → Verdict → Type 0
@@ -84,10 +82,7 @@ IsMatchedIf pair output (Unknown cause) = Unit {0}
 
 -- of each output with its verdict
 abbrev pub AreMatched : Pair → List ℕ → List Verdict → Type 0
-AreMatched pair [] [] = Unit {0}
-AreMatched pair [] (v ∷ vs) = ⊥
-AreMatched pair (o ∷ os) [] = ⊥
-AreMatched pair (o ∷ os) (v ∷ vs) = IsMatchedIf pair o v × AreMatched pair os vs
+AreMatched pair = OnEach (IsMatchedIf pair)
 
 -- an output, if its verdict is Equal
 abbrev pub if_equal : ℕ → Verdict → List ℕ

@@ -1,9 +1,10 @@
 //! The search on one output over all orders of commutative arguments.
-ghost use Rattle.std.specs.Prelude.{◌≡◌, IfOk};
+ghost use Rattle.std.specs.Prelude.{◌≡◌, [], IfOk};
 ghost use Rattle.ac_match.specs.SiteOrders.{IsNext};
-ghost use Rattle.ac_match.specs.declared.orders.Next.TheVariants.{Done};
+ghost use Rattle.ac_match.specs.declared.orders.Next.TheVariants.{Done, Order as Chosen};
+ghost use Rattle.ac_walk_state.specs.UnmatchedOutputs.{AreSitesOf};
 ghost use Rattle.ac_walk.specs.OutputSearch.{ShowMismatch};
-ghost use Rattle.ac_walk.specs.OutputDecisions.{AreSame, AreShown, GoesNoFurther, IsDecision, IsFurther, IsKept, IsOutputSearch};
+ghost use Rattle.ac_walk.specs.OutputDecisions.{AreReachedSites, AreSame, AreShown, AreSitesAmong, GoesNoFurther, IsDecision, IsFurther, IsKept, IsOutputSearch};
 
 use crate::differing::{Difference, try_point, try_refuted};
 use crate::pairs::{common, joined, with_first};
@@ -17,7 +18,7 @@ use ac_graph::{reachable_from, sites};
 use ac_match::{Next, Orders};
 use ac_report::Cause;
 use ac_syntax::tree::{Order, Pair, Position, Site};
-use ac_walk_state::partial_of;
+use ac_walk_state::{distinct_sites, partial_of};
 use ac_walk_state::types::Part;
 use ac_widen::Derivation;
 use std::alloc::{AllocError, Global};
@@ -53,6 +54,18 @@ impl Reach {
 /// How many ways may lead to a pair before the search stops there as at a recurrence pair.
 const MOST_WAYS: u64 = 16;
 
+/// The sites among pairs, each once.
+fn sites_among(
+    alloc: Global,
+    pair: &Pair,
+    pairs: &[(Position, Position)],
+) -> Result<Items<Site>, AllocError>
+    ensures { IfOk result (AreSitesAmong pair.now pairs.now) }
+{
+    let all = sites(alloc, pair, pairs)?;
+    distinct_sites(alloc, all.as_slice())
+}
+
 /// What moves reach from an output.
 pub(crate) fn reach_of(
     alloc: Global,
@@ -60,9 +73,11 @@ pub(crate) fn reach_of(
     graph: &Graph,
     array: usize,
 ) -> Result<Reach, AllocError>
-    ensures { IfOk result (λ reach. AreSame reach.recurrent graph.now.recurrent) }
+    ensures recurrent { IfOk result (λ reach. AreSame reach.recurrent graph.now.recurrent) }
+    ensures sites { IfOk result (λ reach. AreReachedSites pair.now graph.now array reach.sites) }
 {
     let pairs = reachable_from(alloc, pair, graph, array)?;
+    let sites = sites_among(alloc, pair, pairs.as_slice())?;
     Ok(Reach {
         recurrent: with_first(alloc, graph.recurrent.as_slice(), pairs.as_slice())?,
         shared: common(
@@ -70,7 +85,7 @@ pub(crate) fn reach_of(
             pairs.as_slice(),
             shared(alloc, graph, MOST_WAYS)?.as_slice(),
         )?,
-        sites: sites(alloc, pair, pairs.as_slice())?,
+        sites,
     })
 }
 
@@ -94,9 +109,11 @@ fn refute(
     why: Derivation,
 ) -> Result<Further, AllocError>
     requires search { IsOutputSearch search.now number }
+    requires next { IsNext orders.old (Chosen order.now) }
     requires mismatch { ShowMismatch search.now order.now why.entries }
     ensures further { IfOk result (IsFurther search.now number) }
-    ensures shown { AreShown search.now orders.old.refuted → AreShown search.now orders.new.refuted }
+    ensures sites { orders.new.sites ≡ orders.old.sites }
+    ensures shown { AreShown search.now orders.old.sites [] orders.old.refuted → AreShown search.now orders.old.sites [] orders.new.refuted }
 {
     if let Some(last) = why.entries.as_slice().last() {
         let point = last.point.as_slice();
@@ -119,8 +136,10 @@ fn try_order(
     order: &[(Site, Order)],
 ) -> Result<Further, AllocError>
     requires search { IsOutputSearch search.now number }
+    requires next { IsNext orders.old (Chosen order.now) }
     ensures further { IfOk result (IsFurther search.now number) }
-    ensures shown { AreShown search.now orders.old.refuted → AreShown search.now orders.new.refuted }
+    ensures sites { orders.new.sites ≡ orders.old.sites }
+    ensures shown { AreShown search.now orders.old.sites [] orders.old.refuted → AreShown search.now orders.old.sites [] orders.new.refuted }
 {
     match walk(alloc, search, order) {
         Ok(Ended::Stands(part)) => Ok(Further::Decided(Decision::Stands(part))),
@@ -139,7 +158,8 @@ fn unmatched(
     tried: &mut Items<Items<i64>>,
 ) -> Result<Decision, AllocError>
     requires search { IsOutputSearch search.now number }
-    requires shown { AreShown search.now orders.refuted }
+    requires sites { AreSitesOf search.now.pair.now search.now.array orders.sites }
+    requires shown { AreShown search.now orders.sites [] orders.refuted }
     requires done { IsNext orders Done }
     ensures { IfOk result (IsDecision search.now number) }
 {
@@ -156,7 +176,8 @@ fn decide_up_to(
     number: usize,
     sites: &[Site],
 ) -> Result<Decision, AllocError>
-    requires { IsOutputSearch search.now number }
+    requires search { IsOutputSearch search.now number }
+    requires sites { AreSitesOf search.now.pair.now search.now.array sites.now }
     ensures { IfOk result (IsDecision search.now number) }
 {
     let sites = Items::from_slice(alloc, sites)?;
@@ -186,7 +207,8 @@ fn decide_further(
     number: usize,
     reach: &Reach,
 ) -> Result<Decision, AllocError>
-    requires { IsOutputSearch search.now number }
+    requires search { IsOutputSearch search.now number }
+    requires sites { AreSitesOf search.now.pair.now search.now.array reach.now.sites }
     ensures { IfOk result (IsKept search.now number) }
 {
     let stops = joined(alloc, search.stops, reach.shared.as_slice())?;
@@ -213,6 +235,7 @@ pub(crate) fn decide(
 ) -> Result<Decision, AllocError>
     requires search { IsOutputSearch search.now number }
     requires further { GoesNoFurther search.now }
+    requires sites { AreSitesOf search.now.pair.now search.now.array reach.now.sites }
     ensures { IfOk result (IsDecision search.now number) }
 {
     if reach.is_shared() {

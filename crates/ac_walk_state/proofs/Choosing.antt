@@ -7,7 +7,7 @@ use Rattle.ac_syntax.specs.declared.tree.Position.{Position}
 use Rattle.ac_syntax.specs.declared.tree.Site.{Site}
 use Rattle.ac_forms.specs.ListMembers.{IsAmong}
 use Rattle.ac_forms.specs.declared.row.Row.{Row}
-use Rattle.ac_graph.specs.PairMoves.{AreSites, pairing_of}
+use Rattle.ac_graph.specs.PairMoves.{AreDistinct, AreSites, pairing_of}
 use Rattle.ac_widen_programs.specs.PairSetting.{is_site_pair, setting}
 use Rattle.ac_widen_programs.proofs.Lawful.{sites_are_declared}
 use Rattle.ac_unfold_plans.specs.ArgumentOrders.{order_of}
@@ -19,12 +19,39 @@ use Rattle.ac_widen.specs.declared.derivation.Reason.{Reason}
 use Rattle.ac_widen.specs.declared.derivation.Reason.TheVariants.{Step}
 use Rattle.ac_widen_programs.specs.PairPoints.{choice_of as key_choice, choices_of}
 use Rattle.ac_widen_programs.specs.DerivationEntries.{entries_of}
-use Rattle.ac_walk_state.specs.PartialOrders.{AreChoices, AreSourcesOf, AreSteppedFrom, IsSource, HasSite, choice_of}
-use Rattle.ac_walk_state.proofs.LastItems.{among_front, among_last, among_map, among_more, get_map, in_read, map_among, map_get, next_item}
+use Rattle.ac_walk_state.specs.PartialOrders.{AreChoices, AreOnce, AreSourcesOf, AreSteppedFrom, IsSource, HasSite, choice_of}
+use Rattle.ac_walk_state.specs.UnmatchedOutputs.{pair_at}
+use Rattle.ac_walk_state.proofs.Making.{distinct_more}
+use Rattle.ac_walk_state.proofs.LastItems.{among_front, among_last, among_map, among_more, get_map, in_read, map-append, map_among, map_get, next_item}
 
 each_from : {A : Type 0} (P : A → Type 0) (xs : List A) → ((x : A) → IsAmong x xs → P x) → Each P xs
 each_from P [] h = tt
 each_from P (x ∷ xs) h = (h x (inl refl), each_from P xs (λ y k. h y (inr k)))
+
+-- ---- sites, each once
+
+pub none_once : AreOnce [] []
+none_once = ((λ site. ((λ k. k), (λ k. k))), (λ i j p e f. absurd cc))
+
+pub once_same : (sites made : List Site) (site : Site) → IsAmong site made → AreOnce sites made → AreOnce (sites ++ site ∷ []) made
+once_same sites made site there h = (
+  (λ s. ((λ k. among_front sites (site ∷ []) s ((h.0 s).0 k)), (λ k. elim (among_more s site sites k) [ inl j ↦ (h.0 s).1 j | inr same ↦ subst (λ (x : Site). IsAmong x made) (sym same) there ]))),
+  h.1,
+)
+
+-- a site is told by its pair of positions
+told : (site other : Site) → pair_at site ≡ pair_at other → site ≡ other
+told site other e = λ i. record { left = (e i).0; right = (e i).1 }
+
+pub once_more : (sites made : List Site) (site : Site) → ¬ (IsAmong site made) → AreOnce sites made → AreOnce (sites ++ site ∷ []) (made ++ site ∷ [])
+once_more sites made site none h =
+    let apart : ¬ (IsAmong (pair_at site) (map pair_at made)) = λ k. let m = map_among pair_at made (pair_at site) k in none (subst (λ (x : Site). IsAmong x made) (sym (told site m.0 m.2)) m.1) in (
+      (λ s. (
+        (λ k. elim (among_more s site made k) [ inl j ↦ among_front sites (site ∷ []) s ((h.0 s).0 j) | inr same ↦ subst (λ (x : Site). IsAmong x (sites ++ site ∷ [])) (sym same) (among_last site sites) ]),
+        (λ k. elim (among_more s site sites k) [ inl j ↦ among_front made (site ∷ []) s ((h.0 s).1 j) | inr same ↦ subst (λ (x : Site). IsAmong x (made ++ site ∷ [])) (sym same) (among_last site made) ]),
+      )),
+      subst AreDistinct (sym (map-append pair_at made (site ∷ []))) (distinct_more (map pair_at made) (pair_at site) h.1 apart),
+    )
 
 -- ---- choices
 

@@ -1,26 +1,25 @@
 -- Refuted orders, one of which each order of the sites extends.
-use Rattle.std.proofs.Common.{◌≡◌, inl, inr, List, [], ◌∷◌, map, refl, sym, ap, ◌∙◌}
+use Rattle.std.proofs.Common.{◌≡◌, inl, inr, List, [], ◌∷◌, ◌++◌, map, refl, sym, ap, ◌∙◌}
 use Rattle.ac_syntax.specs.declared.tree.Order.{Order}
 use Rattle.ac_syntax.specs.declared.tree.Position.{Position}
 use Rattle.ac_syntax.specs.declared.tree.Site.{Site}
 use Rattle.ac_match.specs.SiteOrders.{Extends as ExtendsSites, ExtendsRefuted, HasOrder, IsOrderOf}
 use Rattle.ac_match.specs.declared.orders.Refuted.{Refuted}
-use Rattle.ac_widen_programs.proofs.Lawful.{is-false}
 use Rattle.ac_widen.specs.Obligations.{HasMismatch}
-use Rattle.ac_widen.specs.OrderRefutations.{Extends, is_equal}
+use Rattle.ac_widen.specs.OrderRefutations.{Extends}
 use Rattle.ac_widen.specs.Setting.{Setting}
-use Rattle.ac_widen.proofs.Refuting.{equal_exactly, refuted, refuted_mismatch}
+use Rattle.ac_widen.proofs.Refuting.{refuted, refuted_mismatch}
 use Rattle.ac_widen_programs.specs.PairPoints.{choices_of}
 use Rattle.ac_widen_programs.specs.DerivationEntries.{entries_of}
-use Rattle.ac_walk_state.specs.RefutedOrders.{AllRefuted, LeavesNone, RefutesPart}
+use Rattle.ac_walk_state.specs.RefutedOrders.{RefutesPart}
+use Rattle.ac_walk_state.specs.SearchSetting.{searched}
+use Rattle.ac_walk_state.specs.UnmatchedByWidening.{UnmatchedHaveMismatches}
+use Rattle.ac_walk_state.specs.UnmatchedOutputs.{AreRefutedInTurn, pair_at}
 
 pub refutes_part : (s : Setting (Position × Position)) → RefutesPart s
 refutes_part s order es partial lawful d end part = refuted s lawful order (choices_of partial) (entries_of es) end.0 end.1 d part end.2 end.3
 
 -- ---- the orders of the sites that an order of the pairs gives
-
-abbrev pair_at : Site → Position × Position
-pair_at s = (s.left, s.right)
 
 abbrev chosen_by : (Position × Position → Order) → Site → Site × Order
 chosen_by order s = (s, order (pair_at s))
@@ -40,16 +39,11 @@ extends_choices order sites (c ∷ partial) h = (order_there order sites c.0 c.1
 
 -- ---- mismatches
 
-extended_mismatch : (s : Setting (Position × Position)) (order : Position × Position → Order) (sites : List Site) (list : List Refuted) → AllRefuted s list → ExtendsRefuted (map (chosen_by order) sites) list → HasMismatch s order
-extended_mismatch s order sites [] h x = absurd x
-extended_mismatch s order sites (r ∷ list) h (inl x) = refuted_mismatch s (choices_of r.partial) (entries_of r.why.entries) order h.0 (extends_choices order sites r.partial x)
-extended_mismatch s order sites (r ∷ list) h (inr x) = extended_mismatch s order sites list h.1 x
+extended_mismatch : (s : Setting (Position × Position)) (order : Position × Position → Order) (sites : List Site) (earlier list : List Refuted) → AreRefutedInTurn s sites earlier list → ExtendsRefuted (map (chosen_by order) sites) list → HasMismatch s order
+extended_mismatch s order sites earlier [] h x = absurd x
+extended_mismatch s order sites earlier (r ∷ list) h (inl x) = refuted_mismatch s (choices_of r.partial) (entries_of r.why.entries) order h.0.refuted (extends_choices order sites r.partial x)
+extended_mismatch s order sites earlier (r ∷ list) h (inr x) = extended_mismatch s order sites (earlier ++ r ∷ []) list h.1 x
 
-pub leaves_none : (s : Setting (Position × Position)) → LeavesNone s
-leaves_none s o lawful all next =
-    let mismatch : (order : Position × Position → Order) → HasMismatch s order = λ order. extended_mismatch s order o.sites o.refuted all (next (map (chosen_by order) o.sites) (of_sites order o.sites)) in
-    record {
-      refuted = all;
-      mismatch = mismatch;
-      none_equal = λ d. is-false (is_equal d) (λ t. let x = (equal_exactly s lawful d).0 t in x.1 (mismatch x.0));
-    }
+pub unmatched_have_mismatches : UnmatchedHaveMismatches
+unmatched_have_mismatches pair output list u w is order =
+    extended_mismatch (searched pair output w) order u.sites [] list (u.refuted w is) (u.comes (map (chosen_by order) u.sites) (of_sites order u.sites))

@@ -9,7 +9,15 @@ use Rattle.ac_widen.specs.declared.derivation.Reason.TheVariants.{Step}
 use Rattle.ac_widen.specs.OrderRefutations.{StepsFrom}
 use Rattle.ac_widen_programs.specs.DerivationEntries.{entries_of}
 use Rattle.ac_unfold_plans.specs.ArgumentOrders.{order_of}
+use Rattle.ac_graph.specs.PairMoves.{AreDistinct}
 use Rattle.ac_walk_state.specs.PathEnds.{entry_positions}
+use Rattle.ac_walk_state.specs.UnmatchedOutputs.{pair_at}
+
+-- ---- sites
+
+-- the same sites, each once
+abbrev pub AreOnce : List Site → List Site → Type 0
+AreOnce sites made = ((site : Site) → IsAmong site made ↔ IsAmong site sites) × AreDistinct (map pair_at made)
 
 -- ---- choices
 

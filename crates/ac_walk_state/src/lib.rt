@@ -44,6 +44,7 @@ mod points;
 mod proofs;
 mod recurrence_pair_laws;
 mod shaping;
+mod site_lists;
 mod template;
 pub mod types;
 mod unmatched_laws;
@@ -57,14 +58,15 @@ pub use growth::Growth;
 pub use hit_laws::{first_claims_accept, stops_are_cut};
 pub use hits::trees_hit_within;
 pub use known::Known;
-pub use order_laws::orders_are_unmatched;
+pub use order_laws::derivations_refute_parts;
 pub use partial::partial_of;
 pub use proofs::{empty_proof, with_part};
 pub use recurrence_pair_laws::{
     claims_are_of_members, reasons_justify, widening_points_stand_in_settings, widening_points_stay,
 };
 pub use shaping::heads;
+pub use site_lists::distinct_sites;
 pub use template::{Template, template_of};
-pub use unmatched_laws::one_widening_tells;
+pub use unmatched_laws::unmatched_have_mismatches;
 pub use widening_laws::{graphs_widen, widenings_are_one, widenings_recur};
 pub use widening_point::WideningPoint;

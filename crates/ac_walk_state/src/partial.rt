@@ -27,7 +27,7 @@ fn same_site(site: &Site, other: &Site) -> bool
 }
 
 /// Whether a site is among others.
-fn has_site(sites: &[Site], site: &Site) -> bool
+pub(crate) fn has_site(sites: &[Site], site: &Site) -> bool
     ensures { IsTrue result ↔ IsAmong site.now sites.now }
 {
     for other in sites {

@@ -1,7 +1,7 @@
 //! Unmatched outputs, in words: the function does nothing, and its contract is a fact about all pairs of programs.
-ghost use Rattle.ac_walk_state.specs.UnmatchedByWidening.{OneWideningTells};
+ghost use Rattle.ac_walk_state.specs.UnmatchedByWidening.{UnmatchedHaveMismatches};
 
-/// An output is unmatched exactly where it is so in the setting by one widening of its pair.
-pub fn one_widening_tells()
-    ensures { OneWideningTells }
+/// If an output is unmatched, each order has a mismatch in the setting of the search on it: the method has no proof.
+pub fn unmatched_have_mismatches()
+    ensures { UnmatchedHaveMismatches }
 {}

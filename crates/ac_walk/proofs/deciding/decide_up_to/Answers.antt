@@ -1,4 +1,4 @@
-use Rattle.std.proofs.Common.{List, sym, subst}
+use Rattle.std.proofs.Common.{List, [], sym, subst, ◌∙◌}
 use Rattle.ac_match.specs.SiteOrders.{IsNext}
 use Rattle.ac_match.specs.declared.orders.Next.{Next}
 use Rattle.ac_match.specs.declared.orders.Refuted.{Refuted}
@@ -12,5 +12,6 @@ pub returns-in-Spent : goal.returns-in-Spent
 returns-in-Spent c =
     let s = c.args.search.now in
     let o = c.loop-order.orders in
+    let h = c.loop-order.invariant in
     subst (λ (list : List Refuted). IsDecision s c.args.number (Unknown (SpentOrders list))) (sym c.into_refuted.ensures)
-    (spent_decides s c.args.number o c.requires c.loop-order.invariant (subst (λ (next : Next). IsNext o next) c.in-Spent.is c.in_ok-order.ensures))
+    (spent_decides s c.args.number o c.requires.search h.0 h.1 (subst (λ (next : Next). IsNext o next) c.in-Spent.is c.in_ok-order.ensures))

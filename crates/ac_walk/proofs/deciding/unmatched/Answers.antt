@@ -9,4 +9,4 @@ use Rattle.ac_walk.proofs.deciding.unmatched.Goals as goal
 pub returns-in-None : goal.returns-in-None
 returns-in-None c =
     let s = c.args.search.now in
-    subst (λ (list : List Refuted). IsDecision s c.args.number (Unknown (Unmatched list))) (sym c.into_refuted.ensures) (unmatched_decides s c.args.number c.args.orders c.requires.search c.requires.shown c.requires.done)
+    subst (λ (list : List Refuted). IsDecision s c.args.number (Unknown (Unmatched list))) (sym c.into_refuted.ensures) (unmatched_decides s c.args.number c.args.orders c.requires.search c.requires.sites c.requires.shown c.requires.done)

@@ -6,7 +6,7 @@ use Rattle.ac_walk.specs.OutputDecisions.{AreSame, IsDecision}
 use Rattle.ac_walk.specs.declared.deciding.Decision.{Decision}
 use Rattle.ac_walk.proofs.Gathered.{different_said, unknown_said}
 use Rattle.ac_walk.proofs.Standing.{equal_said}
-use Rattle.ac_walk.proofs.Widened.{takes_all, takes_each, widening}
+use Rattle.ac_walk.proofs.Widened.{sites_of, takes_all, takes_each, widening}
 use Rattle.ac_walk.proofs.outputs.verdict.Goals as goal
 
 pub decide-requires-clause-search : goal.decide-requires-clause-search
@@ -21,7 +21,7 @@ decide-requires-clause-search c =
         numbers = c.requires.basis.numbers;
         moduli = c.requires.basis.moduli;
         output = get_among b.pair.now.outputs c.args.number c.args.array c.requires.array;
-        stops = takes_all b _ c.requires.basis (subst (λ (widening_points : List (Position × Position)). AreSame widening_points b.graph.now.recurrent) (sym c.as_slice.ensures) c.in_ok-reach.ensures);
+        stops = takes_all b _ c.requires.basis (subst (λ (widening_points : List (Position × Position)). AreSame widening_points b.graph.now.recurrent) (sym c.as_slice.ensures) c.in_ok-reach.ensures.recurrent);
       };
       output = c.requires.array;
       widening = widening b c.requires.basis;
@@ -30,7 +30,10 @@ decide-requires-clause-search c =
 pub decide-requires-clause-further : goal.decide-requires-clause-further
 decide-requires-clause-further c =
     let b = c.args.basis.now in
-    λ w is. takes_each b _ c.requires.basis (subst (λ (widening_points : List (Position × Position)). AreSame widening_points b.graph.now.recurrent) (sym c.as_slice.ensures) c.in_ok-reach.ensures) w is
+    λ w is. takes_each b _ c.requires.basis (subst (λ (widening_points : List (Position × Position)). AreSame widening_points b.graph.now.recurrent) (sym c.as_slice.ensures) c.in_ok-reach.ensures.recurrent) w is
+
+pub decide-requires-clause-sites : goal.decide-requires-clause-sites
+decide-requires-clause-sites c = sites_of c.args.basis.now c.args.array c.in_ok-reach.reach.sites c.requires.basis c.in_ok-reach.ensures.sites
 
 pub returns-in-Stands : goal.returns-in-Stands
 returns-in-Stands c =
@@ -52,5 +55,5 @@ returns c =
     let b = c.args.basis.now in
     let s : Search = record { pair = b.pair; program_flows = b.program_flows; template = b.template; array = c.args.array; stops = c.as_slice.result; first = c.len.result; tabling = c.is_shared.result } in
     let said = subst (λ (d : Decision). IsDecision s c.args.number d) c.in-Unknown.is c.in_ok-part.ensures in
-    let same = subst (λ (widening_points : List (Position × Position)). AreSame widening_points b.graph.now.recurrent) (sym c.as_slice.ensures) c.in_ok-reach.ensures in
+    let same = subst (λ (widening_points : List (Position × Position)). AreSame widening_points b.graph.now.recurrent) (sym c.as_slice.ensures) c.in_ok-reach.ensures.recurrent in
     unknown_said b.program_flows.now.budget b.pair.now c.args.array c.args.proof c.in-Unknown.cause (said.cause (λ w is. takes_each b _ c.requires.basis same w is)) (said.ends (λ w is. takes_each b _ c.requires.basis same w is)) c.requires.proof
