@@ -18,8 +18,8 @@ use ac_graph::{reachable_from, sites};
 use ac_match::{Next, Orders};
 use ac_report::Cause;
 use ac_syntax::tree::{Order, Pair, Position, Site};
-use ac_walk_state::{distinct_sites, partial_of};
 use ac_walk_state::types::Part;
+use ac_walk_state::{distinct_sites, partial_of};
 use ac_widen::Derivation;
 use std::alloc::{AllocError, Global};
 
