@@ -90,7 +90,7 @@ is_shown s o order why partial es e next shown part = record {
 -- one more
 shown_behind : (s : Search) (sites : List Site) (earlier list : List Refuted) (r : Refuted) → AreShown s sites earlier list → IsShown s sites (earlier ++ list) r → AreShown s sites earlier (list ++ r ∷ [])
 shown_behind s sites earlier [] r h k = (subst (λ (before : List Refuted). IsShown s sites before r) (append_nil earlier) k, tt)
-shown_behind s sites earlier (q ∷ list) r h k = (h.0, shown_behind s sites (earlier ++ q ∷ []) list r h.1 (subst (λ (before : List Refuted). IsShown s sites before r) (append_assoc earlier (q ∷ []) list) k))
+shown_behind s sites earlier (q ∷ list) r h k = (h.0, shown_behind s sites (earlier ++ q ∷ []) list r h.1 (subst (λ (before : List Refuted). IsShown s sites before r) (sym (append_assoc earlier (q ∷ []) list)) k))
 
 pub more_shown : (s : Search) (sites : List Site) (list : List Refuted) (r : Refuted) → AreShown s sites [] list → IsShown s sites list r → AreShown s sites [] (list ++ r ∷ [])
 more_shown s sites list r h k = shown_behind s sites [] list r h k

@@ -7,22 +7,23 @@ use Rattle.ac_walk.proofs.Refuting.{kept_same}
 use Rattle.ac_walk.proofs.Widened.{all_further}
 use Rattle.ac_walk.proofs.deciding.decide_further.Goals as goal
 
-pub decide_up_to-requires : goal.decide_up_to-requires
-decide_up_to-requires c =
+pub decide_up_to-requires-clause-search : goal.decide_up_to-requires-clause-search
+decide_up_to-requires-clause-search c =
     let s = c.args.search.now in
+    let h = c.requires.search in
     record {
       search = record {
-        programs = c.requires.search.programs;
-        commutative = c.requires.search.commutative;
-        flows = c.requires.search.flows;
-        arities = c.requires.search.arities;
-        numbers = c.requires.search.numbers;
-        moduli = c.requires.search.moduli;
-        output = c.requires.search.output;
-        stops = λ w is. subst (λ (widening_points : List (Position × Position)). AreAll widening_points w.recurrent) (sym (c.as_slice-2.ensures ∙ c.in_ok-stops.ensures)) (all_further s.stops.now c.as_slice.result.now w (c.requires.search.stops w is));
+        programs = h.search.programs;
+        commutative = h.search.commutative;
+        flows = h.search.flows;
+        arities = h.search.arities;
+        numbers = h.search.numbers;
+        moduli = h.search.moduli;
+        output = h.search.output;
+        stops = λ w is. subst (λ (widening_points : List (Position × Position)). AreAll widening_points w.recurrent) (sym (c.as_slice-2.ensures ∙ c.in_ok-stops.ensures)) (all_further s.stops.now c.as_slice.result.now w (h.search.stops w is));
       };
-      output = c.requires.output;
-      widening = c.requires.widening;
+      output = h.output;
+      widening = h.widening;
     }
 
 pub returns : goal.returns
