@@ -5,6 +5,8 @@
 #![tactic(auto)]
 
 #[cfg(test)]
+mod assoc;
+#[cfg(test)]
 mod disk;
 #[cfg(test)]
 mod grammar;

@@ -1,0 +1,10 @@
+pub mod Passing
+pub mod Arranging
+pub mod Numbering
+pub mod Stating
+pub mod Mixing
+pub mod Gathering
+pub mod Faulting
+pub mod Faultless
+pub mod Standing
+pub mod Choosing
