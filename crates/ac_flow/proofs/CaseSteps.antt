@@ -315,12 +315,17 @@ unformed_not_full m w a (Memory e) P h = tt
 pub initial_wide : (m : Model) (r : Reads) (columns : ℕ) → columns ≡ m.params + r.count → columns ≡ case_width m.params (reading m r.position r.count None)
 initial_wide m r columns e = omega (arith, e)
 
-pub initial_is : (m : Model) (r : Reads) (columns : ℕ) (left : List Remainder) (kills : List (Conj × Kill)) (case : Case) → columns ≡ m.params + r.count → IsCaseOf m r None columns [] left kills → case ≡ record { source = None; piece = 0; level = 0; pieces = left; kills = kills } → IsInitialCase m r case
-initial_is m r columns left kills case e h c = subst (IsInitialCase m r) (sym c) (record { source = refl; piece = refl; level = refl; case_of = subst (λ n. IsCaseOf m r None n [] left kills) e h })
+pub initial_is : (m : Model) (r : Reads) (columns : ℕ) (rows : List Row) (left : List Remainder) (kills : List (Conj × Kill)) (case : Case) → columns ≡ m.params + r.count → rows ≡ [] → IsCaseOf m r None columns rows left kills
+    → case ≡ record { source = None; piece = 0; level = 0; pieces = left; kills = kills } → IsInitialCase m r case
+initial_is m r columns rows left kills case e f h c =
+    let none : IsCaseOf m r None columns [] left kills = subst (λ (xs : List Row). IsCaseOf m r None columns xs left kills) f h in
+    subst (IsInitialCase m r) (sym c) (record { source = refl; piece = refl; level = refl; case_of = subst (λ n. IsCaseOf m r None n [] left kills) e none })
 
-pub initial_stops : (budget : ℕ) (m : Model) (r : Reads) (columns : ℕ) (e : CutStop) → columns ≡ m.params + r.count → CaseStops budget m r None columns [] e → CaseStops budget m r None (m.params + r.count) [] e
-initial_stops budget m r columns x e h = subst (λ n. CaseStops budget m r None n [] x) e h
+pub initial_stops : (budget : ℕ) (m : Model) (r : Reads) (columns : ℕ) (rows : List Row) (e : CutStop) → columns ≡ m.params + r.count → rows ≡ [] → CaseStops budget m r None columns rows e → CaseStops budget m r None (m.params + r.count) [] e
+initial_stops budget m r columns rows x e f h = subst (λ n. CaseStops budget m r None n [] x) e (subst (λ (xs : List Row). CaseStops budget m r None columns xs x) f h)
 
-pub initial_filled : (budget : ℕ) (m : Model) (r : Reads) (columns room : ℕ) (e : CaseStop) → columns ≡ m.params + r.count → IfFilled e (λ kept. (length kept ≡ room + 1) × AllHavePoints kept × AreCutCasesOf budget m r None columns [] kept)
+pub initial_filled : (budget : ℕ) (m : Model) (r : Reads) (columns : ℕ) (rows : List Row) (room : ℕ) (e : CaseStop) → columns ≡ m.params + r.count → rows ≡ [] → IfFilled e (λ kept. (length kept ≡ room + 1) × AllHavePoints kept × AreCutCasesOf budget m r None columns rows kept)
     → IfFilled e (λ kept. (length kept ≡ room + 1) × AllHavePoints kept × AreCutCasesOf budget m r None (m.params + r.count) [] kept)
-initial_filled budget m r columns room x e h = subst (λ n. IfFilled x (λ kept. (length kept ≡ room + 1) × AllHavePoints kept × AreCutCasesOf budget m r None n [] kept)) e h
+initial_filled budget m r columns rows room x e f h =
+    subst (λ n. IfFilled x (λ kept. (length kept ≡ room + 1) × AllHavePoints kept × AreCutCasesOf budget m r None n [] kept)) e
+    (subst (λ (xs : List Row). IfFilled x (λ kept. (length kept ≡ room + 1) × AllHavePoints kept × AreCutCasesOf budget m r None columns xs kept)) f h)

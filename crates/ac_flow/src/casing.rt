@@ -12,7 +12,7 @@ ghost use Rattle.ac_flow.specs.CaseStops.{plain, IfFilled};
 ghost use Rattle.ac_flow.specs.Writings.{reading};
 
 use crate::case_kills::{found_kills, kills_of};
-use crate::cases::Reader;
+use crate::cases::{CaseRows, Reader};
 use crate::copies::{conj_of, unformed};
 use crate::cut::CutStop;
 use crate::cutting::cut_pieces;
@@ -22,7 +22,7 @@ use crate::writings::writings;
 use ac_base::Items;
 use ac_claims::types::Kill;
 use ac_claims_paths::path::{Assumed, CopyNumbers, Seat, Side};
-use ac_forms::{Conj, Row, column_after};
+use ac_forms::{Conj, column_after};
 use ac_poly::types::{Model, StmtModel};
 use ac_syntax::tree::Position;
 use std::alloc::{AllocError, Global};
@@ -62,7 +62,7 @@ fn kill_stop(stop: CutStop) -> CaseStop
     }
 }
 
-/// What is left of a case in each piece of its reader, with its kills.
+/// What is left of a case in each piece of its reader, with its kills: `own` has the rows of the source over its columns.
 fn case_of(
     alloc: Global,
     m: &Model,
@@ -70,18 +70,17 @@ fn case_of(
     room: usize,
     reader: &Reader,
     source: Option<Seat>,
-    columns: usize,
-    rows: &[Row],
+    own: &Conj,
 ) -> Result<Parts, CaseStop>
     requires read { CanRead m.now (seen reader.now) }
     requires own { reading m.now reader.now.position reader.now.count source ≡ with_own_columns m.now.params (reading m.now reader.now.position reader.now.count source) }
-    requires wide { columns ≡ case_width m.now.params (reading m.now reader.now.position reader.now.count source) }
-    requires rows { AreRowsOver columns rows.now }
-    ensures case { IfOk result (λ parts. IsCaseOf m.now (seen reader.now) source columns rows.now parts.left parts.kills) }
-    ensures stops { IfErr result (λ e. CaseStops budget m.now (seen reader.now) source columns rows.now (plain e)) }
-    ensures kept { IfOk result (λ parts. AreCutCasesOf budget m.now (seen reader.now) source columns rows.now (map conj_of_remainder parts.left)) }
+    requires wide { own.now.columns ≡ case_width m.now.params (reading m.now reader.now.position reader.now.count source) }
+    requires rows { AreRowsOver own.now.columns own.now.rows }
+    ensures case { IfOk result (λ parts. IsCaseOf m.now (seen reader.now) source own.now.columns own.now.rows parts.left parts.kills) }
+    ensures stops { IfErr result (λ e. CaseStops budget m.now (seen reader.now) source own.now.columns own.now.rows (plain e)) }
+    ensures kept { IfOk result (λ parts. AreCutCasesOf budget m.now (seen reader.now) source own.now.columns own.now.rows (map conj_of_remainder parts.left)) }
     ensures within { IfOk result (λ parts. length parts.left ≤ room) }
-    ensures full { IfErr result (λ e. IfFilled e (λ kept. (length kept ≡ room + 1) × AllHavePoints kept × AreCutCasesOf budget m.now (seen reader.now) source columns rows.now kept)) }
+    ensures full { IfErr result (λ e. IfFilled e (λ kept. (length kept ≡ room + 1) × AllHavePoints kept × AreCutCasesOf budget m.now (seen reader.now) source own.now.columns own.now.rows kept)) }
 {
     let assumed = reading(m, reader, source);
     let copies = writings(alloc, m, &reader.position, reader.array, &assumed.source)?;
@@ -89,20 +88,15 @@ fn case_of(
         Ok(found) => found,
         Err(stop) => return Err(kill_stop(stop)),
     };
-    let left = match cut_pieces(
-        alloc,
-        m,
-        budget,
-        room,
-        columns,
-        rows,
-        found.as_slice(),
-        reader.pieces,
-    ) {
+    let case = CaseRows {
+        own,
+        kills: found.as_slice(),
+    };
+    let left = match cut_pieces(alloc, m, budget, room, &case, reader.pieces) {
         Ok(left) => left,
         Err(stop) => return Err(stop),
     };
-    let kills = kills_of(alloc, columns, copies.as_slice(), found.as_slice())?;
+    let kills = kills_of(alloc, own.columns, copies.as_slice(), found.as_slice())?;
     Ok(Parts { left, kills })
 }
 
@@ -148,16 +142,7 @@ pub(crate) fn source_case(
         unreachable!()
     };
     let source = root(column_after(m.params, reader.count)?, numbers.stmt, stmt);
-    match case_of(
-        alloc,
-        m,
-        budget,
-        room,
-        reader,
-        Some(source),
-        own.columns,
-        own.rows.as_slice(),
-    ) {
+    match case_of(alloc, m, budget, room, reader, Some(source), &own) {
         Ok(parts) => Ok(Case {
             source: Some(numbers.stmt),
             piece: numbers.piece,
@@ -184,13 +169,15 @@ pub(crate) fn initial_case(
     ensures full { IfErr result (λ e. IfFilled e (λ kept. (length kept ≡ room + 1) × AllHavePoints kept × AreCutCasesOf budget m.now (seen reader.now) None (m.now.params + reader.now.count) [] kept)) }
 {
     let columns = column_after(m.params, reader.count)?;
-    match case_of(alloc, m, budget, room, reader, None, columns, &[]) {
-        Ok(Parts { left, kills }) => Ok(Case {
+    let rows = Items::new(alloc);
+    let own = Conj { columns, rows };
+    match case_of(alloc, m, budget, room, reader, None, &own) {
+        Ok(parts) => Ok(Case {
             source: None,
             piece: 0,
             level: 0,
-            pieces: left,
-            kills,
+            pieces: parts.left,
+            kills: parts.kills,
         }),
         Err(stop) => Err(stop),
     }

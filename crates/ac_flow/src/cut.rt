@@ -10,6 +10,7 @@ ghost use Rattle.ac_flow.specs.Cuts.{with_new, with_all_new, extended, row_parts
 use ac_base::Items;
 use ac_forms::{Conj, FormStop, Row, is_among};
 use ac_omega::{Decided, Stop, settle_point};
+use ac_simplex::{Found, USUAL, attempt};
 use std::alloc::{AllocError, AllocFailed, Global};
 
 /// Why cutting stops.
@@ -71,8 +72,24 @@ fn extended(alloc: Global, here: &Conj, columns: usize, more: &[Row]) -> Result<
     Ok(Conj { columns, rows })
 }
 
-/// Whether a conjunction has a point.
+/// Whether a conjunction has a point. The simplex method attempts it first, and what that leaves open is eliminated: a stop is
+/// the elimination's.
 pub(crate) fn has_point(alloc: Global, conj: &Conj, budget: u64) -> Result<bool, CutStop>
+    requires { IsWellMade conj.now }
+    ensures some { IfOk result (λ found. found ≡ true → HasPoint conj.now) }
+    ensures none { IfOk result (λ found. found ≡ false → HasPoint conj.now → ⊥) }
+    ensures stops { IfErr result (StopsOn budget conj.now) }
+    ensures full { IfErr result (λ e. IfFull e ⊥) }
+{
+    match attempt(alloc, conj, USUAL)? {
+        Some(Found::Point(_)) => Ok(true),
+        Some(Found::Empty(_)) => Ok(false),
+        None => has_point_by_elimination(alloc, conj, budget),
+    }
+}
+
+/// The same, of a conjunction that the attempt leaves open.
+fn has_point_by_elimination(alloc: Global, conj: &Conj, budget: u64) -> Result<bool, CutStop>
     requires { IsWellMade conj.now }
     ensures some { IfOk result (λ found. found ≡ true → HasPoint conj.now) }
     ensures none { IfOk result (λ found. found ≡ false → HasPoint conj.now → ⊥) }

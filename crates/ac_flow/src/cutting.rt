@@ -12,12 +12,12 @@ ghost use Rattle.ac_flow.specs.FlowStops.{PieceStops};
 ghost use Rattle.ac_flow.specs.CaseStops.{plain, IfFilled, IsStopOf};
 
 use crate::case::cut_case;
+use crate::cases::CaseRows;
 use crate::cut::CutStop;
 use crate::stop::CaseStop;
 use crate::types::Remainder;
 use ac_base::Items;
 use ac_forms::{Conj, Row};
-use ac_omega::Piece;
 use ac_poly::types::Model;
 use std::alloc::{AllocError, Global};
 
@@ -32,20 +32,17 @@ pub(crate) fn push_rows(out: &mut Items<Row>, alloc: Global, rows: &[Row]) -> Re
 }
 
 /// The rows of a case in a piece of its reader: the context, the piece, and the rows of the source.
-fn case_conj(
-    alloc: Global,
-    m: &Model,
-    columns: usize,
-    rows: &[Row],
-    piece: &[Row],
-) -> Result<Conj, AllocError>
-    ensures { IfOk result (λ conj. conj ≡ case_conj m.now columns rows.now piece.now) }
+fn case_conj(alloc: Global, m: &Model, own: &Conj, piece: &[Row]) -> Result<Conj, AllocError>
+    ensures { IfOk result (λ conj. conj ≡ case_conj m.now own.now.columns own.now.rows piece.now) }
 {
     let mut all = Items::new(alloc);
     push_rows(&mut all, alloc, m.context.as_slice())?;
     push_rows(&mut all, alloc, piece)?;
-    push_rows(&mut all, alloc, rows)?;
-    Ok(Conj { columns, rows: all })
+    push_rows(&mut all, alloc, own.rows.as_slice())?;
+    Ok(Conj {
+        columns: own.columns,
+        rows: all,
+    })
 }
 
 /// Adds what is left in a piece of the reader.
@@ -69,27 +66,25 @@ fn cut_piece(
     m: &Model,
     budget: u64,
     room: usize,
-    columns: usize,
-    rows: &[Row],
-    kills: &[Items<Piece>],
+    case: &CaseRows,
     piece: &[Row],
     kept: &mut Items<Conj>,
 ) -> Result<(), CutStop>
-    requires context { AreRowsOver columns m.now.context }
-    requires piece { AreRowsOver columns piece.now }
-    requires rows { AreRowsOver columns rows.now }
-    requires over { AllOver columns kills.now }
+    requires context { AreRowsOver case.now.own.now.columns m.now.context }
+    requires piece { AreRowsOver case.now.own.now.columns piece.now }
+    requires rows { AreRowsOver case.now.own.now.columns case.now.own.now.rows }
+    requires over { AllOver case.now.own.now.columns case.now.kills.now }
     requires empty { kept.old ≡ [] }
-    ensures cut { OnOk result (IsCut (case_conj m.now columns rows.now piece.now) kills.now kept.new) }
-    ensures stops { (ks : List (List Row)) → AllKillsOf ks kills.now → IfErr result (CutStops budget (case_conj m.now columns rows.now piece.now).rows ks) }
-    ensures asked { (ks : List (List Row)) → AllKillsOf ks kills.now → OnOk result (AreCutCases (case_conj m.now columns rows.now piece.now).rows ks kept.new) }
+    ensures cut { OnOk result (IsCut (case_conj m.now case.now.own.now.columns case.now.own.now.rows piece.now) case.now.kills.now kept.new) }
+    ensures stops { (ks : List (List Row)) → AllKillsOf ks case.now.kills.now → IfErr result (CutStops budget (case_conj m.now case.now.own.now.columns case.now.own.now.rows piece.now).rows ks) }
+    ensures asked { (ks : List (List Row)) → AllKillsOf ks case.now.kills.now → OnOk result (AreCutCases (case_conj m.now case.now.own.now.columns case.now.own.now.rows piece.now).rows ks kept.new) }
     ensures within { OnOk result (length kept.new ≤ room) }
-    ensures full { IfErr result (λ e. IfFull e ((length kept.new ≡ room + 1) × NoneMeet columns kept.new × ArePieces columns kept.new)) }
-    ensures filled { (ks : List (List Row)) → AllKillsOf ks kills.now → IfErr result (λ e. IfFull e (AreCutCases (case_conj m.now columns rows.now piece.now).rows ks kept.new)) }
+    ensures full { IfErr result (λ e. IfFull e ((length kept.new ≡ room + 1) × NoneMeet case.now.own.now.columns kept.new × ArePieces case.now.own.now.columns kept.new)) }
+    ensures filled { (ks : List (List Row)) → AllKillsOf ks case.now.kills.now → IfErr result (λ e. IfFull e (AreCutCases (case_conj m.now case.now.own.now.columns case.now.own.now.rows piece.now).rows ks kept.new)) }
     ensures have { AllHavePoints kept.new }
 {
-    let conj = case_conj(alloc, m, columns, rows, piece)?;
-    cut_case(alloc, budget, room, &conj, kills, kept)
+    let conj = case_conj(alloc, m, case.own, piece)?;
+    cut_case(alloc, budget, room, &conj, case.kills, kept)
 }
 
 /// Adds the conjunctions of what is left.
@@ -150,21 +145,19 @@ pub(crate) fn cut_pieces(
     m: &Model,
     budget: u64,
     room: usize,
-    columns: usize,
-    rows: &[Row],
-    kills: &[Items<Piece>],
+    case: &CaseRows,
     pieces: &[Items<Row>],
 ) -> Result<Items<Remainder>, CaseStop>
-    requires context { AreRowsOver columns m.now.context }
-    requires pieces { ArePiecesOver columns pieces.now }
-    requires rows { AreRowsOver columns rows.now }
-    requires over { AllOver columns kills.now }
-    ensures parts { IfOk result (AreParts m.now columns rows.now kills.now 0 pieces.now) }
-    ensures stops { (ks : List (List Row)) → AllKillsOf ks kills.now → IfErr result (λ e. PieceStops budget m.now columns rows.now pieces.now ks (plain e)) }
-    ensures groups { (ks : List (List Row)) → AllKillsOf ks kills.now → IfOk result (λ left. AreGroups m.now columns rows.now ks pieces.now (map conj_of_remainder left)) }
+    requires context { AreRowsOver case.now.own.now.columns m.now.context }
+    requires pieces { ArePiecesOver case.now.own.now.columns pieces.now }
+    requires rows { AreRowsOver case.now.own.now.columns case.now.own.now.rows }
+    requires over { AllOver case.now.own.now.columns case.now.kills.now }
+    ensures parts { IfOk result (AreParts m.now case.now.own.now.columns case.now.own.now.rows case.now.kills.now 0 pieces.now) }
+    ensures stops { (ks : List (List Row)) → AllKillsOf ks case.now.kills.now → IfErr result (λ e. PieceStops budget m.now case.now.own.now.columns case.now.own.now.rows pieces.now ks (plain e)) }
+    ensures groups { (ks : List (List Row)) → AllKillsOf ks case.now.kills.now → IfOk result (λ left. AreGroups m.now case.now.own.now.columns case.now.own.now.rows ks pieces.now (map conj_of_remainder left)) }
     ensures within { IfOk result (λ left. length left ≤ room) }
     ensures full { IfErr result (λ e. IfFilled e (λ kept. (length kept ≡ room + 1) × AllHavePoints kept)) }
-    ensures filled { (ks : List (List Row)) → AllKillsOf ks kills.now → IfErr result (λ e. IfFilled e (AreGroups m.now columns rows.now ks pieces.now)) }
+    ensures filled { (ks : List (List Row)) → AllKillsOf ks case.now.kills.now → IfErr result (λ e. IfFilled e (AreGroups m.now case.now.own.now.columns case.now.own.now.rows ks pieces.now)) }
 {
     let mut out = Items::new(alloc);
     for d in 0..pieces.len() {
@@ -175,9 +168,7 @@ pub(crate) fn cut_pieces(
             m,
             budget,
             left,
-            columns,
-            rows,
-            kills,
+            case,
             pieces[d].as_slice(),
             &mut group,
         ) {

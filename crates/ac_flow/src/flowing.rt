@@ -7,14 +7,14 @@ ghost use Rattle.ac_flow.specs.Writings.{over};
 ghost use Rattle.ac_flow.specs.Flows.{CasesAreSources};
 ghost use Rattle.ac_flow.specs.Readers.{IsLowered, read_at, reads_from, reads_of_all, elements_of, output_at, outputs_from, Grows, StopsAt, StopsAmong, IsContextOverflow, IsUnbounded, IsOver, AreFlows, readers};
 
-use crate::cases::Reader;
+use crate::cases::{Assignment, Reader};
 use crate::cutting::push_rows;
 use crate::reading::read_flow;
 use crate::types::{Flow, FlowStop, Limits, ReadFlow};
 use ac_base::Items;
 use ac_forms::{Conj, Form, FormStop, Row};
 use ac_poly::element_rows;
-use ac_poly::types::{Model, NodeModel, StmtModel};
+use ac_poly::types::{Model, NodeModel};
 use ac_syntax::tree::{Kind, Position};
 use std::alloc::{AllocError, Global};
 
@@ -44,21 +44,24 @@ fn push_node(
     alloc: Global,
     m: &Model,
     budget: u64,
-    s: usize,
+    assignment: &Assignment,
     k: usize,
-    stmt: &StmtModel,
     node: &NodeModel,
     out: &mut Items<ReadFlow>,
 ) -> Result<(), FlowStop>
     requires over { IsOver m.now }
-    requires stmt { slice_get m.now.stmts s ≡ Some stmt.now }
-    ensures grows { OnOk result (Grows m.now (read_at s k stmt.now node.now) out.old out.new) }
-    ensures stops { IfErr result (StopsAmong budget m.now (read_at s k stmt.now node.now)) }
+    requires stmt { slice_get m.now.stmts assignment.now.number ≡ Some assignment.now.stmt.now }
+    ensures grows { OnOk result (Grows m.now (read_at assignment.now.number k assignment.now.stmt.now node.now) out.old out.new) }
+    ensures stops { IfErr result (StopsAmong budget m.now (read_at assignment.now.number k assignment.now.stmt.now node.now)) }
 {
+    let stmt = assignment.stmt;
     match node {
         NodeModel::Read { array, subs: _ } => {
             let reader = Reader {
-                position: Position::Node { stmt: s, node: k },
+                position: Position::Node {
+                    stmt: assignment.number,
+                    node: k,
+                },
                 array: *array,
                 count: ac_poly::width(stmt),
                 pieces: stmt.pieces.as_slice(),
@@ -74,18 +77,17 @@ fn push_reads(
     alloc: Global,
     m: &Model,
     budget: u64,
-    s: usize,
-    stmt: &StmtModel,
+    assignment: &Assignment,
     out: &mut Items<ReadFlow>,
 ) -> Result<(), FlowStop>
     requires over { IsOver m.now }
-    requires stmt { slice_get m.now.stmts s ≡ Some stmt.now }
-    ensures grows { OnOk result (Grows m.now (reads_from s 0 stmt.now stmt.now.nodes) out.old out.new) }
-    ensures stops { IfErr result (StopsAmong budget m.now (reads_from s 0 stmt.now stmt.now.nodes)) }
+    requires stmt { slice_get m.now.stmts assignment.now.number ≡ Some assignment.now.stmt.now }
+    ensures grows { OnOk result (Grows m.now (reads_from assignment.now.number 0 assignment.now.stmt.now assignment.now.stmt.now.nodes) out.old out.new) }
+    ensures stops { IfErr result (StopsAmong budget m.now (reads_from assignment.now.number 0 assignment.now.stmt.now assignment.now.stmt.now.nodes)) }
 {
-    let nodes = stmt.nodes.as_slice();
+    let nodes = assignment.stmt.nodes.as_slice();
     for k in 0..nodes.len() {
-        match push_node(alloc, m, budget, s, k, stmt, &nodes[k], out) {
+        match push_node(alloc, m, budget, assignment, k, &nodes[k], out) {
             Ok(()) => {}
             Err(stop) => return Err(stop),
         }
@@ -106,7 +108,11 @@ fn push_all_reads(
 {
     let stmts = m.stmts.as_slice();
     for s in 0..stmts.len() {
-        match push_reads(alloc, m, budget, s, &stmts[s], out) {
+        let assignment = Assignment {
+            number: s,
+            stmt: &stmts[s],
+        };
+        match push_reads(alloc, m, budget, &assignment, out) {
             Ok(()) => {}
             Err(stop) => return Err(stop),
         }
@@ -266,8 +272,9 @@ fn flows(alloc: Global, m: &Model, budget: u64) -> Result<Items<ReadFlow>, FlowS
 ///
 /// `Overflow` only where a number of a question leaves `i128`: a case's rows with further rows from its kills, a copy whose
 /// coordinates are eliminated, or rows that cannot be formed, of which those before are shown. `Spent` only where the running
-/// cost of such a question exceeds the budget. Questions go to the economical elimination first, and to the full one where that
-/// stops; a stop is the full one's. `Pieces` only with 4,097 pieces of one read or output: each of them is the rows of a case in
+/// cost of such a question exceeds the budget. Whether a case's rows have a point is attempted by the simplex method first. What
+/// that leaves open, and each copy, goes to the economical elimination, and to the full one where that stops; a stop is the full
+/// one's. `Pieces` only with 4,097 pieces of one read or output: each of them is the rows of a case in
 /// a piece of the reader with further rows from the case's kills, has a point, and has none in common with the others of that
 /// case in that piece.
 pub fn flow(alloc: Global, m: &Model, limits: &Limits) -> Result<Flow, FlowStop>

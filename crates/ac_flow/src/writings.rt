@@ -4,6 +4,7 @@ ghost use Rattle.std.specs.List.{flat_map};
 ghost use Rattle.ac_claims_paths.specs.CopyKills.{assignment_at};
 ghost use Rattle.ac_flow.specs.Writings.{afters, levels_after, numbers_to, writing, writings_at, writings};
 
+use crate::cases::Assignment;
 use ac_base::Items;
 use ac_claims_paths::path::{CopyNumbers, Seat};
 use ac_claims_paths::places::levels_to;
@@ -141,14 +142,15 @@ fn push_stmt(
     reader: &Position,
     array: usize,
     source: &Option<Seat>,
-    u: usize,
-    stmt: &StmtModel,
+    assignment: &Assignment,
     out: &mut Items<CopyNumbers>,
 ) -> Result<(), AllocError>
-    requires place { u < length m.now.stmts }
-    requires stmt { slice_get m.now.stmts u ≡ Some stmt.now }
-    ensures { OnOk result (out.new ≡ out.old ++ writings_at m.now reader.now array source.now u stmt.now) }
+    requires place { assignment.now.number < length m.now.stmts }
+    requires stmt { slice_get m.now.stmts assignment.now.number ≡ Some assignment.now.stmt.now }
+    ensures { OnOk result (out.new ≡ out.old ++ writings_at m.now reader.now array source.now assignment.now.number assignment.now.stmt.now) }
 {
+    let u = assignment.number;
+    let stmt = assignment.stmt;
     if stmt.array != array {
         return Ok(());
     }
@@ -172,7 +174,11 @@ pub fn writings(
     let stmts = m.stmts.as_slice();
     let mut out = Items::new(alloc);
     for u in 0..stmts.len() {
-        push_stmt(alloc, m, reader, array, source, u, &stmts[u], &mut out)?;
+        let assignment = Assignment {
+            number: u,
+            stmt: &stmts[u],
+        };
+        push_stmt(alloc, m, reader, array, source, &assignment, &mut out)?;
     }
     Ok(out)
 }

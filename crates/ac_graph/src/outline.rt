@@ -1,13 +1,11 @@
 //! The nodes of the values that a program assigns, as far as pairs move by them.
-ghost use Rattle.std.specs.Prelude.{◌≡◌, ◌++◌, [], length, IfOk, OnOk};
+ghost use Rattle.std.specs.Prelude.{◌≡◌, ◌++◌, length, IfOk, OnOk};
 ghost use Rattle.std.specs.List.{flat_map};
-ghost use Rattle.ac_syntax.specs.ValueNodes.{size};
-ghost use Rattle.ac_poly.specs.LoweringSteps.{roots_of};
 ghost use Rattle.ac_graph.specs.ProgramOutlines.{outlined, outlined_all, outlines};
 
 use ac_base::Items;
+use ac_poly::roots_of;
 use ac_syntax::copy::copy_symbol;
-use ac_syntax::count;
 use ac_syntax::tree::{Stmt, Symbol, Value};
 use std::alloc::{AllocError, Global};
 
@@ -20,30 +18,6 @@ pub(crate) enum Outline {
     Read,
     /// A symbol applied to the nodes with these numbers.
     Call { symbol: Symbol, args: Items<usize> },
-}
-
-/// How many nodes a value has.
-fn size(value: &Value) -> Result<usize, AllocError>
-    ensures { IfOk result (λ count. count ≡ size value.now) }
-{
-    match count::nodes(value) {
-        None => Err(AllocError),
-        Some(count) => usize::try_from(count).map_err(|_wide| AllocError),
-    }
-}
-
-/// The numbers of values that stand one after another from `first` on.
-#[tactic(auto, using(ac_poly::proofs::NodeSteps::root_steps))]
-fn roots_of(alloc: Global, values: &[Value], first: usize) -> Result<Items<usize>, AllocError>
-    ensures { IfOk result (λ made. made ≡ roots_of values.now first) }
-{
-    let mut made = Items::new(alloc);
-    let mut at = first;
-    for value in values {
-        made.push(at)?;
-        at = at.checked_add(size(value)?).ok_or(AllocError)?;
-    }
-    Ok(made)
 }
 
 /// Adds the nodes of a value, which are numbered by their places in the list.

@@ -1,7 +1,7 @@
 ghost use Rattle.std.specs.Prelude.{◌≡◌, ◌<◌, ◌≤◌, ◌^◌, ◌-◌, ◌++◌, suc, List, [], ◌∷◌, Some, pos, ◌≤ℤ◌, unsigned_abs, length, false, drop, IfOk};
 ghost use Rattle.ac_forms.specs.Rows.{HaveModuli};
 ghost use Rattle.ac_omega_steps.specs.Bounds.{is_one_sided};
-ghost use Rattle.ac_omega.specs.Cursors.{kept_for, alternatives_left, IsSound, IsNext};
+ghost use Rattle.ac_omega.specs.Cursors.{kept_for, alternatives_left, splinters_at, IsSound, IsNext};
 ghost use Rattle.ac_omega_certify.specs.Alternatives.{residues_from, splinters_from, splinters, alternatives_for};
 
 use crate::needs::{kept_for, splinter_count};
@@ -10,6 +10,14 @@ use ac_forms::Row;
 use ac_omega_certify::Strategy;
 use ac_omega_steps::Choice;
 use std::alloc::{AllocError, Global};
+
+/// The splinters of a row: its number, how many it has, and which of them comes next.
+#[derive(Clone, Copy)]
+pub(crate) struct Splinters {
+    pub(crate) row: usize,
+    pub(crate) next: u128,
+    pub(crate) count: u128,
+}
 
 /// Where one stands among the choices for a column, which are made one at a time.
 #[derive(Drop)]
@@ -22,8 +30,8 @@ pub(crate) enum Cursor {
     Drop,
     /// At the shadow, before all splinters.
     Shadow,
-    /// `Splinter(kept, i, k, count)`: at the splinter k of the row i, which has that many, where this is kept for all rows.
-    Splinter(Option<i128>, usize, u128, u128),
+    /// At the next splinter of a row, where this is kept for all rows.
+    Splinter(Option<i128>, Splinters),
     /// `Lower(kept, i)`: before the splinters of the row i.
     Lower(Option<i128>, usize),
     /// At a number that leaves `i128`.
@@ -84,9 +92,7 @@ pub(crate) fn advance(
             Choice::Shadow(z),
             Cursor::Lower(kept_for(strategy, z, rows), 0),
         )),
-        Cursor::Splinter(kept, i, k, count) => {
-            next_splinter(alloc, strategy, z, rows, kept, *i, *k, *count)
-        }
+        Cursor::Splinter(kept, at) => next_splinter(alloc, strategy, z, rows, kept, at),
         Cursor::Lower(kept, i) => next_lower(alloc, strategy, z, rows, kept, *i),
         Cursor::Wide => Ok(Next::Wide),
         Cursor::End => Ok(Next::End),
@@ -117,24 +123,30 @@ fn next_splinter(
     z: usize,
     rows: &[Row],
     kept: &Option<i128>,
-    i: usize,
-    k: u128,
-    count: u128,
+    at: &Splinters,
 ) -> Result<Next, AllocError>
     requires kept { kept.now ≡ kept_for strategy z rows.now }
     requires sides { is_one_sided z rows.now ≡ false }
-    requires place { i < length rows.now }
-    requires small { count ≤ 2 ^ 127 }
-    ensures { IfOk result (λ next. IsNext strategy z rows.now next (splinters_from (count - k) z i k ++ splinters strategy z rows.now (suc i) (drop (suc i) rows.now))) }
+    requires place { at.now.row < length rows.now }
+    requires small { at.now.count ≤ 2 ^ 127 }
+    ensures { IfOk result (λ next. IsNext strategy z rows.now next (splinters_at strategy z rows.now at.now)) }
 {
-    if k < count {
+    let row = at.row;
+    let next = at.next;
+    let count = at.count;
+    if next < count {
+        let behind = Splinters {
+            row,
+            next: next + 1,
+            count,
+        };
         return Ok(Next::Try(
-            Choice::Splinter(z, i, k as i128),
-            Cursor::Splinter(*kept, i, k + 1, count),
+            Choice::Splinter(z, row, next as i128),
+            Cursor::Splinter(*kept, behind),
         ));
     }
     let _count = rows.len();
-    next_lower(alloc, strategy, z, rows, kept, i + 1)
+    next_lower(alloc, strategy, z, rows, kept, row + 1)
 }
 
 /// What comes next among the splinters of the rows from a place on.
@@ -178,8 +190,10 @@ fn first_splinter(
     requires small { count ≤ 2 ^ 127 }
     ensures { IsNext strategy z rows.now result (splinters_from count z i 0 ++ splinters strategy z rows.now (suc i) (drop (suc i) rows.now)) }
 {
-    Next::Try(
-        Choice::Splinter(z, i, 0),
-        Cursor::Splinter(*kept, i, 1, count),
-    )
+    let behind = Splinters {
+        row: i,
+        next: 1,
+        count,
+    };
+    Next::Try(Choice::Splinter(z, i, 0), Cursor::Splinter(*kept, behind))
 }

@@ -15,7 +15,7 @@ ghost use Rattle.ac_omega_certify.specs.declared.strategy.Strategy.TheVariants.{
 use crate::extent::{Maxima, are_large, with_rows};
 use crate::halt::Halt;
 use crate::pieces::{Stop, handed_back};
-use crate::search::{Aim, Walked, search};
+use crate::search::{Aim, Progress, Walk, Walked, search};
 use ac_base::Items;
 use ac_cert::{Absurd, Tree};
 use ac_forms::{Conj, FormStop};
@@ -70,21 +70,18 @@ fn search_all(
     ensures within { IfOk result (λ w. IfWalkedEmpty w (λ s r. IfSome r (λ x. IsWithin s x))) }
     ensures risen { IfOk result (λ w. IfWalkedEmpty w (λ s r. HaveRisen met s)) }
 {
-    let vars = all_columns(alloc, conj.columns)?;
-    let mut path = Items::new(alloc);
-    let mut pieces = Items::new(alloc);
-    search(
-        alloc,
+    let columns = all_columns(alloc, conj.columns)?;
+    let vars = columns.as_slice();
+    let task = Walk {
         strategy,
         aim,
-        &vars,
-        conj,
+        vars,
         budget,
-        0,
-        met,
-        &mut path,
-        &mut pieces,
-    )
+    };
+    let path = Items::new(alloc);
+    let pieces = Items::new(alloc);
+    let mut progress = Progress { path, pieces };
+    search(alloc, &task, conj, 0, met, &mut progress)
 }
 
 /// Whether the rows of a question, in order, can be evaluated in `i128` at one of its points; `Wide` exactly where not.

@@ -11,7 +11,7 @@ ghost use Rattle.ac_omega_certify.specs.declared.strategy.Strategy.TheVariants.{
 use crate::extent::Maxima;
 use crate::halt::Halt;
 use crate::piece::Piece;
-use crate::search::{Aim, search};
+use crate::search::{Aim, Progress, Walk, search};
 use ac_base::Items;
 use ac_forms::{Conj, FormStop};
 use ac_omega_certify::Strategy;
@@ -124,21 +124,20 @@ fn eliminated(
         factor: 0,
         number: 0,
     };
-    let mut path = Items::new(alloc);
-    let mut pieces = Items::new(alloc);
-    match search(
-        alloc,
+    let task = Walk {
         strategy,
-        Aim::ForPieces,
+        aim: Aim::ForPieces,
         vars,
-        rest,
         budget,
-        0,
-        none,
-        &mut path,
-        &mut pieces,
-    ) {
-        Ok(_) => Ok(pieces),
+    };
+    let path = Items::new(alloc);
+    let pieces = Items::new(alloc);
+    let mut progress = Progress { path, pieces };
+    match search(alloc, &task, rest, 0, none, &mut progress) {
+        Ok(_) => {
+            let Progress { pieces, .. } = progress;
+            Ok(pieces)
+        }
         Err(halt) => Err(handed_back(alloc, halt, conj)),
     }
 }

@@ -13,6 +13,7 @@ ghost use Rattle.ac_omega_certify.specs.Alternatives.{alternatives_for};
 ghost use Rattle.ac_omega.specs.Walk.{walk, lifted};
 ghost use Rattle.ac_omega.specs.Within.{Bounds, HaveRisen, IsWithin};
 ghost use Rattle.ac_omega_certify.specs.Refutations.{AreModuliWithin};
+ghost use Rattle.ac_omega_certify.specs.declared.refutation.Refutation.TheVariants.{Open};
 
 use crate::cursor::{Next, advance, first};
 use crate::extent::{Maxima, with_choice, with_rows};
@@ -34,6 +35,22 @@ pub(crate) enum Aim {
     ForRefutation,
     /// All conjunctions from which nothing is left to eliminate.
     ForPieces,
+}
+
+/// What a walk goes by: a strategy, what it is for, the columns that it eliminates, and its budget.
+#[derive(Clone, Copy)]
+pub(crate) struct Walk<'a> {
+    pub(crate) strategy: Strategy,
+    pub(crate) aim: Aim,
+    pub(crate) vars: &'a [usize],
+    pub(crate) budget: u64,
+}
+
+/// How far a walk has come: the choices on its path, and the pieces that it keeps.
+#[derive(Drop)]
+pub(crate) struct Progress {
+    pub(crate) path: Items<Choice>,
+    pub(crate) pieces: Items<Piece>,
 }
 
 /// What a walk comes to.
@@ -60,6 +77,23 @@ fn wanted(aim: Aim, refutation: Refutation) -> Option<Refutation>
         Aim::ForRefutation => Some(refutation),
         Aim::ForPoint | Aim::ForPieces => None,
     }
+}
+
+/// The refutation behind all choices for a column, where the walk is for one.
+fn open_refutation(
+    aim: Aim,
+    conj: Conj,
+    choices: Items<Choice>,
+    below: Items<Refutation>,
+) -> Option<Refutation>
+    ensures { result ≡ wanted aim (Open conj choices below) }
+{
+    let refutation = Refutation::Open {
+        conj,
+        choices,
+        below,
+    };
+    wanted(aim, refutation)
 }
 
 /// Adds a choice and the refutation of what it leaves, where there is one.
@@ -132,20 +166,20 @@ fn at_leaf(
     conj: Conj,
     cost: u64,
     met: Maxima,
-    path: &Items<Choice>,
-    pieces: &mut Items<Piece>,
+    progress: &mut Progress,
 ) -> Result<Walked, Halt>
-    ensures exact { Visits result pieces.new (at_leaf aim path.now conj cost met pieces.old) }
+    ensures exact { Visits result progress.new.pieces (at_leaf aim progress.old.path conj cost met progress.old.pieces) }
     ensures point { IfOk result (λ w. IfFound w (λ p. WantsPoint aim × (p ≡ replicate conj.columns (pos 0)))) }
     ensures gone { IfOk result (λ w. IfWalkedEmpty w (λ s r. (aim ≡ Aim.ForPieces) × (s ≡ met))) }
     ensures grown { IfOk result (λ w. HasGrown cost cost w) }
     ensures none { IfOk result (λ w. IfWalkedEmpty w (λ s r. r ≡ None)) }
+    ensures same_path { IfOk result (λ w. IfWalkedEmpty w (λ s r. progress.new.path ≡ progress.old.path)) }
 {
     match aim {
         Aim::ForPoint | Aim::ForRefutation => Ok(Walked::Found(zeros(alloc, conj.columns)?)),
         Aim::ForPieces => {
-            let choices = Items::from_slice(alloc, path.as_slice())?;
-            pieces.push(Piece {
+            let choices = Items::from_slice(alloc, progress.path.as_slice())?;
+            progress.pieces.push(Piece {
                 choices,
                 rest: conj,
             })?;
@@ -163,29 +197,26 @@ fn at_leaf(
 #[cycle(searches)]
 pub(crate) fn search(
     alloc: Global,
-    strategy: Strategy,
-    aim: Aim,
-    vars: &[usize],
+    task: &Walk,
     conj: Conj,
-    budget: u64,
     cost: u64,
     met: Maxima,
-    path: &mut Items<Choice>,
-    pieces: &mut Items<Piece>,
+    progress: &mut Progress,
 ) -> Result<Walked, Halt>
-    requires cost { cost ≤ budget }
+    requires cost { cost ≤ task.now.budget }
     requires made { IsWellMade conj }
     requires normal { IsNormal conj }
-    requires settle { SettleFor strategy aim conj.columns vars.now }
-    ensures exact { (n : ℕ) → budget < n + cost → Visits result pieces.new (walk (visiting strategy aim vars.now) n budget (path.old, conj) cost (seen met pieces.old)) }
+    requires settle { SettleFor task.now.strategy task.now.aim conj.columns task.now.vars.now }
+    ensures exact { (n : ℕ) → task.now.budget < n + cost → Visits result progress.new.pieces (walk (visiting task.now.strategy task.now.aim task.now.vars.now) n task.now.budget (progress.old.path, conj) cost (seen met progress.old.pieces)) }
     ensures point { IfOk result (λ w. IfFound w (λ p. IsPoint conj p)) }
-    ensures grown { IfOk result (λ w. HasGrown cost budget w) }
-    ensures same_path { IfOk result (λ w. IfWalkedEmpty w (λ s r. path.new ≡ path.old)) }
-    ensures told { IfOk result (λ w. IfWalkedEmpty w (λ s r. WantsRefutation aim → IsSome r)) }
+    ensures grown { IfOk result (λ w. HasGrown cost task.now.budget w) }
+    ensures same_path { IfOk result (λ w. IfWalkedEmpty w (λ s r. progress.new.path ≡ progress.old.path)) }
+    ensures told { IfOk result (λ w. IfWalkedEmpty w (λ s r. WantsRefutation task.now.aim → IsSome r)) }
     ensures refuted { IfOk result (λ w. IfWalkedEmpty w (λ s r. IfSome r (λ x. IsRefuted conj x))) }
     ensures within { IfOk result (λ w. IfWalkedEmpty w (λ s r. IfSome r (λ x. IsWithin s x))) }
     ensures risen { IfOk result (λ w. IfWalkedEmpty w (λ s r. HaveRisen met s)) }
 {
+    let budget = task.budget;
     let count = conj.rows.len() as u64;
     if count > budget - cost {
         return Err(Halt::Spent(cost.saturating_add(count)));
@@ -196,14 +227,12 @@ pub(crate) fn search(
         return Ok(Walked::Empty {
             cost: spent,
             maxima: all,
-            refutation: wanted(aim, Refutation::Absurd(conj)),
+            refutation: wanted(task.aim, Refutation::Absurd(conj)),
         });
     }
-    match next_column(alloc, strategy, vars, conj.rows.as_slice()) {
-        Ok(Some(z)) => by_column(
-            alloc, strategy, aim, vars, conj, z, budget, spent, all, path, pieces,
-        ),
-        Ok(None) => at_leaf(alloc, aim, conj, spent, all, path, pieces),
+    match next_column(alloc, task.strategy, task.vars, conj.rows.as_slice()) {
+        Ok(Some(z)) => by_column(alloc, task, conj, z, spent, all, progress),
+        Ok(None) => at_leaf(alloc, task.aim, conj, spent, all, progress),
         Err(want) => Err(Halt::Memory(want)),
     }
 }
@@ -212,29 +241,25 @@ pub(crate) fn search(
 #[cycle(searches)]
 fn by_column(
     alloc: Global,
-    strategy: Strategy,
-    aim: Aim,
-    vars: &[usize],
+    task: &Walk,
     conj: Conj,
     z: usize,
-    budget: u64,
     cost: u64,
     met: Maxima,
-    path: &mut Items<Choice>,
-    pieces: &mut Items<Piece>,
+    progress: &mut Progress,
 ) -> Result<Walked, Halt>
-    requires cost { cost ≤ budget }
+    requires cost { cost ≤ task.now.budget }
     requires made { IsWellMade conj }
-    requires settle { SettleFor strategy aim conj.columns vars.now }
+    requires settle { SettleFor task.now.strategy task.now.aim conj.columns task.now.vars.now }
     requires possible { are_absurd conj.rows ≡ false }
     requires column { z < conj.columns }
     requires within { Bounds met conj.rows }
-    requires legal { AreLegal (alternatives_for strategy z conj.rows) conj }
-    ensures exact { Tried result pieces.new strategy aim vars.now budget path.old conj (alternatives_for strategy z conj.rows) cost (seen met pieces.old) }
+    requires legal { AreLegal (alternatives_for task.now.strategy z conj.rows) conj }
+    ensures exact { Tried result progress.new.pieces task.now.strategy task.now.aim task.now.vars.now task.now.budget progress.old.path conj (alternatives_for task.now.strategy z conj.rows) cost (seen met progress.old.pieces) }
     ensures point { IfOk result (λ w. IfFound w (λ p. IsPoint conj p)) }
-    ensures grown { IfOk result (λ w. HasGrown cost budget w) }
-    ensures same_path { IfOk result (λ w. IfWalkedEmpty w (λ s r. path.new ≡ path.old)) }
-    ensures told { IfOk result (λ w. IfWalkedEmpty w (λ s r. WantsRefutation aim → IsSome r)) }
+    ensures grown { IfOk result (λ w. HasGrown cost task.now.budget w) }
+    ensures same_path { IfOk result (λ w. IfWalkedEmpty w (λ s r. progress.new.path ≡ progress.old.path)) }
+    ensures told { IfOk result (λ w. IfWalkedEmpty w (λ s r. WantsRefutation task.now.aim → IsSome r)) }
     ensures refuted { IfOk result (λ w. IfWalkedEmpty w (λ s r. IfSome r (λ x. IsRefuted conj x))) }
     ensures within { IfOk result (λ w. IfWalkedEmpty w (λ s r. IfSome r (λ x. IsWithin s x))) }
     ensures risen { IfOk result (λ w. IfWalkedEmpty w (λ s r. HaveRisen met s)) }
@@ -242,18 +267,16 @@ fn by_column(
     let rows = conj.rows.as_slice();
     let mut choices = Items::new(alloc);
     let mut below = Items::new(alloc);
-    let mut cursor = first(strategy, z, rows);
+    let mut cursor = first(task.strategy, z, rows);
     let mut spent = cost;
     let mut all = met;
     'choices: loop {
-        match advance(alloc, strategy, z, rows, &cursor) {
+        match advance(alloc, task.strategy, z, rows, &cursor) {
             Err(want) => return Err(Halt::Memory(want)),
             Ok(Next::End) => break,
             Ok(Next::Wide) => return Err(Halt::Wide),
             Ok(Next::Try(choice, next)) => {
-                match by_choice(
-                    alloc, strategy, aim, vars, &conj, &choice, budget, spent, all, path, pieces,
-                ) {
+                match by_choice(alloc, task, &conj, &choice, spent, all, progress) {
                     Ok(
                         Walked::Empty {
                             cost,
@@ -275,14 +298,7 @@ fn by_column(
     Ok(Walked::Empty {
         cost: spent,
         maxima: all,
-        refutation: wanted(
-            aim,
-            Refutation::Open {
-                conj,
-                choices,
-                below,
-            },
-        ),
+        refutation: open_refutation(task.aim, conj, choices, below),
     })
 }
 
@@ -290,26 +306,22 @@ fn by_column(
 #[cycle(searches)]
 fn by_choice(
     alloc: Global,
-    strategy: Strategy,
-    aim: Aim,
-    vars: &[usize],
+    task: &Walk,
     conj: &Conj,
     choice: &Choice,
-    budget: u64,
     cost: u64,
     met: Maxima,
-    path: &mut Items<Choice>,
-    pieces: &mut Items<Piece>,
+    progress: &mut Progress,
 ) -> Result<Walked, Halt>
-    requires cost { cost ≤ budget }
+    requires cost { cost ≤ task.now.budget }
     requires made { IsWellMade conj.now }
-    requires settle { SettleFor strategy aim conj.now.columns vars.now }
+    requires settle { SettleFor task.now.strategy task.now.aim conj.now.columns task.now.vars.now }
     requires legal { is_legal choice.now conj.now ≡ true }
-    ensures exact { Tried result pieces.new strategy aim vars.now budget path.old conj.now (Some choice.now ∷ []) cost (seen met pieces.old) }
+    ensures exact { Tried result progress.new.pieces task.now.strategy task.now.aim task.now.vars.now task.now.budget progress.old.path conj.now (Some choice.now ∷ []) cost (seen met progress.old.pieces) }
     ensures point { IfOk result (λ w. IfFound w (λ p. IsPoint conj.now p)) }
-    ensures grown { IfOk result (λ w. HasGrown cost budget w) }
-    ensures same_path { IfOk result (λ w. IfWalkedEmpty w (λ s r. path.new ≡ path.old)) }
-    ensures told { IfOk result (λ w. IfWalkedEmpty w (λ s r. WantsRefutation aim → IsSome r)) }
+    ensures grown { IfOk result (λ w. HasGrown cost task.now.budget w) }
+    ensures same_path { IfOk result (λ w. IfWalkedEmpty w (λ s r. progress.new.path ≡ progress.old.path)) }
+    ensures told { IfOk result (λ w. IfWalkedEmpty w (λ s r. WantsRefutation task.now.aim → IsSome r)) }
     ensures refuted { IfOk result (λ w. IfWalkedEmpty w (λ s r. IfSome r (λ x. IsRefutedBehind choice.now conj.now x))) }
     ensures within { IfOk result (λ w. IfWalkedEmpty w (λ s r. IfSome r (λ x. IsWithin s x))) }
     ensures moduli { IfOk result (λ w. IfWalkedEmpty w (λ s r. AreModuliWithin s.factor (choice.now ∷ []))) }
@@ -319,19 +331,8 @@ fn by_choice(
         Ok(rest) => rest,
         Err(stop) => return Err(stop),
     };
-    path.push(*choice)?;
-    match search(
-        alloc,
-        strategy,
-        aim,
-        vars,
-        rest,
-        budget,
-        cost,
-        with_choice(choice, met),
-        path,
-        pieces,
-    ) {
+    progress.path.push(*choice)?;
+    match search(alloc, task, rest, cost, with_choice(choice, met), progress) {
         Ok(
             Walked::Empty {
                 cost,
@@ -339,7 +340,7 @@ fn by_choice(
                 refutation,
             },
         ) => {
-            let _last = path.pop();
+            let _last = progress.path.pop();
             Ok(Walked::Empty {
                 cost,
                 maxima,

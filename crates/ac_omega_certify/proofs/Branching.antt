@@ -11,7 +11,7 @@ use Rattle.ac_omega_steps.specs.declared.choose.Choice.{Choice}
 use Rattle.ac_omega_steps.specs.Bounds.{is_low}
 use Rattle.ac_omega_steps.specs.Choices.{is_lower_row}
 use Rattle.ac_cert.specs.Rules.{class_row}
-use Rattle.ac_omega_certify.specs.ChoiceBranches.{lift_count, lifts, raised_places, IsAlong, AreAlong, with_rows, Stage, IsOn, IsClass, IsRaised, worth, IsSplintered, IsBranch, stage}
+use Rattle.ac_omega_certify.specs.ChoiceBranches.{lift_count, lifts, raised_places, IsAlong, AreAlong, with_rows, Stage, IsOn, IsClass, IsRaised, worth, IsSplintered, IsBranch}
 use Rattle.ac_omega_certify.specs.Descents.{StandOn, Carries, base_of, column_less, raised_rows}
 use Rattle.ac_omega_certify.specs.Leaves.{less}
 use Rattle.ac_omega_certify.specs.TreePathRows.{place_of, coef_of, Renames, StandsAt, Stand, IsOnto}
@@ -182,11 +182,6 @@ pub ok-as : {A : Type 0} {E : Type 0} (P Q : A → Type 0) (r : Result A E) → 
 ok-as P Q (Ok a) f h = f a h
 ok-as P Q (Err e) f h = tt
 
--- a branch of rows whatever the splinters of them
-pub branch-any : (b : Base) (ns ps : List ℕ) (rows rows' : List Row) (counts : List ℕ) (depth : ℕ) (h h' : Choice) {E : Type 0} (r : Result Branch E) → rows ≡ rows' → h' ≡ h → IfOk r (λ x. (counts : List ℕ) (depth : ℕ) → IsBranch (stage b ns ps rows counts depth) h x) → IfOk r (λ x. IsBranch (stage b ns ps rows' counts depth) h' x)
-branch-any b ns ps rows rows' counts depth h h' r e f k =
-    rw (f, ← e) (ok-as (λ (x : Branch). (counts : List ℕ) (depth : ℕ) → IsBranch (stage b ns ps rows counts depth) h x) (λ (x : Branch). IsBranch (stage b ns ps rows counts depth) h x) r (λ x g. g counts depth) k)
-
-pub branch-deep : (b : Base) (ns ps : List ℕ) (rows rows' : List Row) (counts : List ℕ) (depth : ℕ) (h h' : Choice) {E : Type 0} (r : Result Branch E) → rows ≡ rows' → h' ≡ h → IfOk r (λ x. (depth : ℕ) → IsBranch (stage b ns ps rows counts depth) h x) → IfOk r (λ x. IsBranch (stage b ns ps rows' counts depth) h' x)
-branch-deep b ns ps rows rows' counts depth h h' r e f k =
-    rw (f, ← e) (ok-as (λ (x : Branch). (depth : ℕ) → IsBranch (stage b ns ps rows counts depth) h x) (λ (x : Branch). IsBranch (stage b ns ps rows counts depth) h x) r (λ x g. g depth) k)
+-- the branch of a choice that is the same
+pub branch-as : (s : Stage) (h h' : Choice) {E : Type 0} (r : Result Branch E) → h' ≡ h → IfOk r (λ x. IsBranch s h x) → IfOk r (λ x. IsBranch s h' x)
+branch-as s h h' r e k = subst (λ (g : Choice). IfOk r (λ x. IsBranch s g x)) (sym e) k

@@ -20,7 +20,7 @@ use Rattle.ac_omega_steps.specs.Choices.{are_absurd, left_by}
 use Rattle.ac_omega_steps.specs.ChoiceFits.{choice_fits}
 use Rattle.ac_cert.specs.AbsurdEnd.{is_absurd}
 use Rattle.ac_cert.specs.CertificateFaults.{Refusal}
-use Rattle.ac_omega_certify.specs.ChoiceBranches.{counts_from, Stage, IsRefutedBy, IsBranch, IsTry, AreAlternatives, RefuteAll, EachIsWithin2To120, IsSettled, IsFirst}
+use Rattle.ac_omega_certify.specs.ChoiceBranches.{counts_from, conj_on, Stage, IsOn, IsRefutedBy, IsBranch, IsTry, AreAlternatives, RefuteAll, EachIsWithin2To120, IsSettled, IsFirst}
 use Rattle.ac_omega_certify.specs.Descents.{StandOn, Carries, Settles, base_of}
 use Rattle.ac_omega_certify.specs.Refutations.{conj_of, Refutes, AreWithin2To120, IsWithin2To120, IsRefutationOf}
 use Rattle.ac_omega_certify.specs.declared.branch.Branch.{Branch}
@@ -93,6 +93,26 @@ opened r c hs hs' rs rs' counts counts' n e eh er ec are en h m =
     let counted : counts' ≡ counts_from 0 (length c.rows) hs = ec ∙ are ∙ ap (λ (k : ℕ). counts_from 0 k hs') en ∙ ap (counts_from 0 (length c.rows)) eh in
     rw (eh, er)
     (record { made = g.0; within_2_to_120 = l.0; fan = choices_fan c counts' hs g.0 g.1 counted; refuted = g.2; each_is_within_2_to_120 = l.1; long = ap length counted ∙ counts-length 0 (length c.rows) hs })
+
+conj-same : (c : Conj) (n : ℕ) (rs : List Row) → n ≡ c.columns → rs ≡ c.rows → c ≡ record { columns = n; rows = rs }
+conj-same c n rs e f = rw (e, f) refl
+
+-- the same where the rows stand
+pub opened-on : (s : Stage) (r : Refutation) (c : Conj) (hs hs' : List Choice) (rs rs' : List Refutation) (counts : List ℕ) (n : ℕ) → r ≡ Open c hs rs → hs' ≡ hs → rs' ≡ rs → s.rows ≡ c.rows → s.counts ≡ counts → counts ≡ counts_from 0 n hs' → n ≡ length c.rows → length s.names ≡ (conj_of r).columns
+    → Refutes r → IsWithin2To120 r → Opened (conj_on s) hs' rs' s.counts
+opened-on s r c hs hs' rs rs' counts n e eh er el ec are en names h m =
+    let o : Opened c hs' rs' s.counts = opened r c hs hs' rs rs' counts s.counts n e eh er ec are en h m in
+    let same : c ≡ conj_on s = conj-same c (length s.names) s.rows (names ∙ ap (λ (d : Conj). d.columns) (open-conj r c hs rs e)) el in
+    subst (λ (d : Conj). Opened d hs' rs' s.counts) same o
+
+pub open-long : (r : Refutation) (c : Conj) (hs : List Choice) (rs : List Refutation) (rows : List Row) (ps : List ℕ) → r ≡ Open c hs rs → rows ≡ c.rows → length ps ≡ length (conj_of r).rows → length ps ≡ length rows
+open-long r c hs rs rows ps e el h = h ∙ ap (λ (d : Conj). length d.rows) (open-conj r c hs rs e) ∙ sym (ap (λ (xs : List Row). length xs) el)
+
+pub open-accepted : {E : Type 0} (s : Stage) (r : Refutation) (c : Conj) (hs : List Choice) (rs : List Refutation) (res : Result (Tree End) E) → r ≡ Open c hs rs → s.rows ≡ c.rows
+    → IfOk res (λ t. (d : Conj) → IsOn s d → Accepts t absurd_refusals d)
+    → IfOk res (λ t. (d : Conj) → StandOn s.base s.names (conj_of r).rows s.places d → Accepts t absurd_refusals d)
+open-accepted s r c hs rs res e el k =
+    subst (λ (xs : List Row). IfOk res (λ t. (d : Conj) → StandOn s.base s.names xs s.places d → Accepts t absurd_refusals d)) (el ∙ sym (ap (λ (d : Conj). d.rows) (open-conj r c hs rs e))) k
 
 -- ---- a choice and its refutation
 

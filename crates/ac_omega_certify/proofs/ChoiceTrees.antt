@@ -11,7 +11,7 @@ use Rattle.ac_omega_steps.specs.declared.choose.Choice.TheVariants as choice
 use Rattle.ac_cert.specs.declared.ends.Absurd.{Absurd}
 use Rattle.ac_cert.specs.declared.types.Tree.{Tree}
 use Rattle.ac_cert.specs.AcceptedTrees.{Accepts, AcceptsEach, absurd_refusals}
-use Rattle.ac_omega_certify.specs.ChoiceBranches.{Stage, stage, IsOn, AreRefutedBy, ServeLeaves, IsRaised, leaf_choices, residue_choices, AreResidues, AreAll}
+use Rattle.ac_omega_certify.specs.ChoiceBranches.{Stage, IsOn, AreRefutedBy, ServeLeaves, IsRaised, leaf_choices, residue_choices, AreResidues, AreAll}
 use Rattle.ac_omega_certify.specs.TreePathRows.{Renames}
 use Rattle.ac_omega_certify.specs.SplinterCounts.{Suffice}
 use Rattle.ac_omega_certify.proofs.Branching.{ok-as}
@@ -56,14 +56,14 @@ pub residues-long : (n z : ℕ) (m : ℤ) (hs : List Choice) (a : AreResidues n 
 residues-long n z m hs a = ap length a.all ∙ residue-count a.size z m 0
 
 pub residues-accepted : {E : Type 0} (s : Stage) (n z : ℕ) (m : ℤ) (hs : List Choice) (ts : List (Tree Absurd)) (res : Result (Tree Absurd) E) → AreResidues n z m hs → length ts ≡ length hs → AreRefutedBy s hs ts
-    → IfOk res (λ t. (places counts : List ℕ) (rows : List Row) (depth : ℕ) (c : Conj) → AreRefutedBy (stage s.base s.names places rows counts depth) (residue_choices (length ts) z m 0) ts → IsOn (stage s.base s.names places rows counts depth) c → Accepts t absurd_refusals c)
+    → IfOk res (λ t. (c : Conj) → AreRefutedBy s (residue_choices (length ts) z m 0) ts → IsOn s c → Accepts t absurd_refusals c)
     → IfOk res (λ t. (c : Conj) → IsOn s c → Accepts t absurd_refusals c)
 residues-accepted s n z m hs ts res a e served k =
     let size : a.size ≡ length ts = sym (e ∙ residues-long n z m hs a) in
     let all : hs ≡ residue_choices (length ts) z m 0 = a.all ∙ ap (λ (j : ℕ). residue_choices j z m 0) size in
     let here : AreRefutedBy s (residue_choices (length ts) z m 0) ts = subst (λ (gs : List Choice). AreRefutedBy s gs ts) all served in
-    ok-as (λ (t : Tree Absurd). (places counts : List ℕ) (rows : List Row) (depth : ℕ) (c : Conj) → AreRefutedBy (stage s.base s.names places rows counts depth) (residue_choices (length ts) z m 0) ts → IsOn (stage s.base s.names places rows counts depth) c → Accepts t absurd_refusals c)
-    (λ (t : Tree Absurd). (c : Conj) → IsOn s c → Accepts t absurd_refusals c) res (λ t h c on. h s.places s.counts s.rows s.depth c here on) k
+    ok-as (λ (t : Tree Absurd). (c : Conj) → AreRefutedBy s (residue_choices (length ts) z m 0) ts → IsOn s c → Accepts t absurd_refusals c)
+    (λ (t : Tree Absurd). (c : Conj) → IsOn s c → Accepts t absurd_refusals c) res (λ t h c on. h c here on) k
 
 -- ---- a shadow and its splinters
 

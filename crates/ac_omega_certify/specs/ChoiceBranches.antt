@@ -28,6 +28,7 @@ use Rattle.ac_omega_certify.specs.declared.descent.Base.{Base}
 use Rattle.ac_omega_certify.specs.declared.descent.Below.{Below}
 use Rattle.ac_omega_certify.specs.declared.descent.Below.TheVariants as below
 use Rattle.ac_omega_certify.specs.declared.refutation.Refutation.{Refutation}
+use Rattle.ac_omega_certify.specs.declared.stage.Stage as code
 
 -- how many of the choices are splinters of row i
 abbrev pub count_of : ℕ → List Choice → ℕ
@@ -97,6 +98,14 @@ pub record Stage : Type 0 where
 
 abbrev pub stage : Base → List ℕ → List ℕ → List Row → List ℕ → ℕ → Stage
 stage b ns ps rs counts depth = record { base = b; names = ns; places = ps; rows = rs; counts = counts; depth = depth }
+
+-- as the code has it
+abbrev pub seen : code.Stage → Stage
+seen s = stage s.base s.names.now s.places.now s.rows.now s.counts.now s.depth
+
+-- the conjunction of the rows
+abbrev pub conj_on : Stage → Conj
+conj_on s = record { columns = length s.names; rows = s.rows }
 
 -- the rows stand on the path
 abbrev pub IsOn : Stage → Conj → Type 0

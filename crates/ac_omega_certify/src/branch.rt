@@ -1,18 +1,19 @@
 //! Where the rows that a choice leaves stand.
-ghost use Rattle.std.specs.Prelude.{◌≡◌, ◌<◌, ◌≤ℤ◌, ◌<ℤ◌, pos, ℕ, List, [], ◌∷◌, true, length, slice_get, Some, ◌+◌, ◌++◌, cond, IfOk, IfSome};
-ghost use Rattle.ac_forms.specs.Rows.{AreRowsOver, IsWellMade};
+ghost use Rattle.std.specs.Prelude.{◌≡◌, ◌<◌, ◌≤ℤ◌, ◌<ℤ◌, pos, [], ◌∷◌, true, length, slice_get, Some, ◌+◌, ◌++◌, cond, IfOk, IfSome};
+ghost use Rattle.ac_forms.specs.Rows.{AreRowsOver};
 ghost use Rattle.ac_omega_steps.specs.Bounds.{only_bounds};
 ghost use Rattle.ac_omega_steps.specs.ChoiceFits.{choice_fits};
 ghost use Rattle.ac_omega_steps.specs.Choices.{is_equality_of, is_lower_row};
 ghost use Rattle.ac_omega_steps.specs.declared.choose.Choice.TheVariants.{Drop, Equal, Residue, Shadow, Splinter};
-ghost use Rattle.ac_omega_certify.specs.ChoiceBranches.{IsBranch, IsSplinterOf, IsTry, lift_count, place_after, raised_place, raised_places, stage};
+ghost use Rattle.ac_omega_certify.specs.ChoiceBranches.{IsBranch, IsSplinterOf, IsTry, lift_count, place_after, raised_place, raised_places, seen};
 ghost use Rattle.ac_omega_certify.specs.Refutations.{AreWithin2To120};
 ghost use Rattle.ac_omega_certify.specs.SplinterCounts.{Suffice};
 
 use crate::by_equality::{free_rows, splinter_rows};
 use crate::descent::{Base, Standing};
 use crate::path::TreePath;
-use ac_forms::{Conj, Row};
+use crate::stage::Stage;
+use ac_forms::Row;
 use ac_omega_steps::Choice;
 use std::alloc::{AllocError, Global};
 
@@ -25,22 +26,15 @@ pub(crate) struct Branch {
 }
 
 /// The branch without a column.
-fn drop_branch(
-    alloc: Global,
-    base: Base,
-    names: &[usize],
-    places: &[usize],
-    rows: &[Row],
-    z: usize,
-) -> Result<Branch, AllocError>
-    requires long { length places.now ≡ length rows.now }
-    requires made { AreRowsOver (length names.now) rows.now }
-    requires within_2_to_120 { AreWithin2To120 rows.now [] }
-    ensures { IfOk result (λ b. (counts : List ℕ) (depth : ℕ) → IsBranch (stage base names.now places.now rows.now counts depth) (Drop z) b) }
+fn drop_branch(alloc: Global, stage: &Stage, z: usize) -> Result<Branch, AllocError>
+    requires long { length stage.now.places.now ≡ length stage.now.rows.now }
+    requires made { AreRowsOver (length stage.now.names.now) stage.now.rows.now }
+    requires within_2_to_120 { AreWithin2To120 stage.now.rows.now [] }
+    ensures { IfOk result (IsBranch (seen stage.now) (Drop z)) }
 {
-    let standing = free_rows(alloc, z, rows, places)?;
-    let names = Vec::from_slice(alloc, names)?;
-    let tree_path = TreePath::behind(alloc, base);
+    let standing = free_rows(alloc, z, stage.rows, stage.places)?;
+    let names = Vec::from_slice(alloc, stage.names)?;
+    let tree_path = TreePath::behind(alloc, stage.base);
     Ok(Branch {
         tree_path,
         names,
@@ -49,25 +43,17 @@ fn drop_branch(
 }
 
 /// The branch where an equality replaces a column.
-fn equal_branch(
-    alloc: Global,
-    base: Base,
-    names: &[usize],
-    places: &[usize],
-    rows: &[Row],
-    z: usize,
-    i: usize,
-) -> Result<Branch, AllocError>
-    requires long { length places.now ≡ length rows.now }
-    requires made { AreRowsOver (length names.now) rows.now }
-    requires within_2_to_120 { AreWithin2To120 rows.now [] }
-    requires equality { is_equality_of z (slice_get rows.now i) ≡ true }
-    requires fits { choice_fits (Equal z i) rows.now ≡ true }
-    ensures { IfOk result (λ b. (counts : List ℕ) (depth : ℕ) → IsBranch (stage base names.now places.now rows.now counts depth) (Equal z i) b) }
+fn equal_branch(alloc: Global, stage: &Stage, z: usize, i: usize) -> Result<Branch, AllocError>
+    requires long { length stage.now.places.now ≡ length stage.now.rows.now }
+    requires made { AreRowsOver (length stage.now.names.now) stage.now.rows.now }
+    requires within_2_to_120 { AreWithin2To120 stage.now.rows.now [] }
+    requires equality { is_equality_of z (slice_get stage.now.rows.now i) ≡ true }
+    requires fits { choice_fits (Equal z i) stage.now.rows.now ≡ true }
+    ensures { IfOk result (IsBranch (seen stage.now) (Equal z i)) }
 {
-    let mut tree_path = TreePath::behind(alloc, base);
-    let standing = tree_path.show_equality(alloc, names, z, i, rows, places)?;
-    let names = Vec::from_slice(alloc, names)?;
+    let mut tree_path = TreePath::behind(alloc, stage.base);
+    let standing = tree_path.show_equality(alloc, stage, z, i)?;
+    let names = Vec::from_slice(alloc, stage.names)?;
     Ok(Branch {
         tree_path,
         names,
@@ -78,30 +64,28 @@ fn equal_branch(
 /// The branch of a residue of a column: that the modulus divides the column less r is the first row behind the path.
 fn residue_branch(
     alloc: Global,
-    base: Base,
-    names: &[usize],
-    places: &[usize],
-    rows: &[Row],
+    stage: &Stage,
     z: usize,
     m: i128,
     r: i128,
 ) -> Result<Branch, AllocError>
-    requires long { length places.now ≡ length rows.now }
-    requires column { z < length names.now }
-    requires made { AreRowsOver (length names.now) rows.now }
-    requires within_2_to_120 { AreWithin2To120 rows.now (Residue z m r ∷ []) }
+    requires long { length stage.now.places.now ≡ length stage.now.rows.now }
+    requires column { z < length stage.now.names.now }
+    requires made { AreRowsOver (length stage.now.names.now) stage.now.rows.now }
+    requires within_2_to_120 { AreWithin2To120 stage.now.rows.now (Residue z m r ∷ []) }
     requires modulus { pos 1 ≤ℤ m }
     requires low { pos 0 ≤ℤ r }
     requires high { r <ℤ m }
-    requires fits { choice_fits (Residue z m r) rows.now ≡ true }
-    ensures { IfOk result (λ b. (counts : List ℕ) (depth : ℕ) → IsBranch (stage base names.now places.now rows.now counts depth) (Residue z m r) b) }
+    requires fits { choice_fits (Residue z m r) stage.now.rows.now ≡ true }
+    ensures { IfOk result (IsBranch (seen stage.now) (Residue z m r)) }
 {
+    let base = stage.base;
     let Some(next) = base.rows.checked_add(1) else {
         return Err(AllocError);
     };
     let mut tree_path = TreePath::behind(alloc, Base { rows: next, ..base });
-    let standing = tree_path.show_residue(alloc, names, z, m, r, rows, places, base.rows)?;
-    let mut names = Vec::from_slice(alloc, names)?;
+    let standing = tree_path.show_residue(alloc, stage, z, m, r, base.rows)?;
+    let mut names = Vec::from_slice(alloc, stage.names)?;
     names[z] = base.columns;
     Ok(Branch {
         tree_path,
@@ -193,31 +177,24 @@ fn raised_places(
 }
 
 /// The branch of the dark shadow of a column: each lower row that has splinters stands beyond them, behind the path.
-fn shadow_branch(
-    alloc: Global,
-    base: Base,
-    names: &[usize],
-    places: &[usize],
-    rows: &[Row],
-    counts: &[usize],
-    z: usize,
-) -> Result<Branch, AllocError>
-    requires long { length places.now ≡ length rows.now }
-    requires counts { length counts.now ≡ length rows.now }
-    requires suffices { Suffice z rows.now rows.now counts.now }
-    requires made { AreRowsOver (length names.now) rows.now }
-    requires within_2_to_120 { AreWithin2To120 rows.now [] }
-    requires bounds { only_bounds z rows.now ≡ true }
-    requires fits { choice_fits (Shadow z) rows.now ≡ true }
-    ensures { IfOk result (λ b. (depth : ℕ) → IsBranch (stage base names.now places.now rows.now counts.now depth) (Shadow z) b) }
+fn shadow_branch(alloc: Global, stage: &Stage, z: usize) -> Result<Branch, AllocError>
+    requires long { length stage.now.places.now ≡ length stage.now.rows.now }
+    requires counts { length stage.now.counts.now ≡ length stage.now.rows.now }
+    requires suffices { Suffice z stage.now.rows.now stage.now.rows.now stage.now.counts.now }
+    requires made { AreRowsOver (length stage.now.names.now) stage.now.rows.now }
+    requires within_2_to_120 { AreWithin2To120 stage.now.rows.now [] }
+    requires bounds { only_bounds z stage.now.rows.now ≡ true }
+    requires fits { choice_fits (Shadow z) stage.now.rows.now ≡ true }
+    ensures { IfOk result (IsBranch (seen stage.now) (Shadow z)) }
 {
-    let raised = raised_places(alloc, z, rows, counts, places, base.rows)?;
-    let Some(end) = base.rows.checked_add(lift_count(counts)) else {
+    let base = stage.base;
+    let raised = raised_places(alloc, z, stage.rows, stage.counts, stage.places, base.rows)?;
+    let Some(end) = base.rows.checked_add(lift_count(stage.counts)) else {
         return Err(AllocError);
     };
     let mut tree_path = TreePath::behind(alloc, Base { rows: end, ..base });
-    let standing = tree_path.show_shadow(alloc, names, z, rows, places, counts, raised.as_slice())?;
-    let names = Vec::from_slice(alloc, names)?;
+    let standing = tree_path.show_shadow(alloc, stage, z, raised.as_slice())?;
+    let names = Vec::from_slice(alloc, stage.names)?;
     Ok(Branch {
         tree_path,
         names,
@@ -237,32 +214,28 @@ fn splinter_place(first: usize, lifted: usize, depth: u32) -> Option<usize>
 /// The branch of a splinter of a column: that the row i is worth k is the last row behind the path.
 fn splinter_branch(
     alloc: Global,
-    base: Base,
-    names: &[usize],
-    places: &[usize],
-    rows: &[Row],
-    counts: &[usize],
-    depth: u32,
+    stage: &Stage,
     z: usize,
     i: usize,
     k: i128,
 ) -> Result<Branch, AllocError>
-    requires long { length places.now ≡ length rows.now }
-    requires counts { length counts.now ≡ length rows.now }
-    requires made { AreRowsOver (length names.now) rows.now }
-    requires within_2_to_120 { AreWithin2To120 rows.now [] }
-    requires lower { IsSplinterOf z i k rows.now }
-    ensures { IfOk result (λ b. IsBranch (stage base names.now places.now rows.now counts.now depth) (Splinter z i k) b) }
+    requires long { length stage.now.places.now ≡ length stage.now.rows.now }
+    requires counts { length stage.now.counts.now ≡ length stage.now.rows.now }
+    requires made { AreRowsOver (length stage.now.names.now) stage.now.rows.now }
+    requires within_2_to_120 { AreWithin2To120 stage.now.rows.now [] }
+    requires lower { IsSplinterOf z i k stage.now.rows.now }
+    ensures { IfOk result (IsBranch (seen stage.now) (Splinter z i k)) }
 {
-    let (before, _after) = counts.split_at(i);
-    let Some(place) = splinter_place(base.rows, lift_count(before), depth) else {
+    let base = stage.base;
+    let (before, _after) = stage.counts.split_at(i);
+    let Some(place) = splinter_place(base.rows, lift_count(before), stage.depth) else {
         return Err(AllocError);
     };
     let Some(end) = place.checked_add(1) else {
         return Err(AllocError);
     };
-    let standing = splinter_rows(alloc, z, i, k, rows, places, place)?;
-    let names = Vec::from_slice(alloc, names)?;
+    let standing = splinter_rows(alloc, z, i, k, stage.rows, stage.places, place)?;
+    let names = Vec::from_slice(alloc, stage.names)?;
     let tree_path = TreePath::behind(alloc, Base { rows: end, ..base });
     Ok(Branch {
         tree_path,
@@ -272,33 +245,20 @@ fn splinter_branch(
 }
 
 /// The branch of a choice for a column.
-pub(crate) fn branch_of(
-    alloc: Global,
-    base: Base,
-    names: &[usize],
-    places: &[usize],
-    conj: &Conj,
-    counts: &[usize],
-    depth: u32,
-    choice: &Choice,
-) -> Result<Branch, AllocError>
-    requires long { length places.now ≡ length conj.now.rows }
-    requires names { length names.now ≡ conj.now.columns }
-    requires counts { length counts.now ≡ length conj.now.rows }
-    requires made { IsWellMade conj.now }
-    requires within_2_to_120 { AreWithin2To120 conj.now.rows (choice.now ∷ []) }
-    requires tried { IsTry conj.now.columns conj.now.rows counts.now choice.now }
-    requires fits { choice_fits choice.now conj.now.rows ≡ true }
-    ensures { IfOk result (λ b. IsBranch (stage base names.now places.now conj.now.rows counts.now depth) choice.now b) }
+pub(crate) fn branch_of(alloc: Global, stage: &Stage, choice: &Choice) -> Result<Branch, AllocError>
+    requires long { length stage.now.places.now ≡ length stage.now.rows.now }
+    requires counts { length stage.now.counts.now ≡ length stage.now.rows.now }
+    requires made { AreRowsOver (length stage.now.names.now) stage.now.rows.now }
+    requires within_2_to_120 { AreWithin2To120 stage.now.rows.now (choice.now ∷ []) }
+    requires tried { IsTry (length stage.now.names.now) stage.now.rows.now stage.now.counts.now choice.now }
+    requires fits { choice_fits choice.now stage.now.rows.now ≡ true }
+    ensures { IfOk result (IsBranch (seen stage.now) choice.now) }
 {
-    let rows = conj.rows.as_slice();
     match choice {
-        Choice::Drop(z) => drop_branch(alloc, base, names, places, rows, *z),
-        Choice::Equal(z, i) => equal_branch(alloc, base, names, places, rows, *z, *i),
-        Choice::Residue(z, m, r) => { residue_branch(alloc, base, names, places, rows, *z, *m, *r) }
-        Choice::Shadow(z) => shadow_branch(alloc, base, names, places, rows, counts, *z),
-        Choice::Splinter(z, i, k) => splinter_branch(
-            alloc, base, names, places, rows, counts, depth, *z, *i, *k,
-        ),
+        Choice::Drop(z) => drop_branch(alloc, stage, *z),
+        Choice::Equal(z, i) => equal_branch(alloc, stage, *z, *i),
+        Choice::Residue(z, m, r) => residue_branch(alloc, stage, *z, *m, *r),
+        Choice::Shadow(z) => shadow_branch(alloc, stage, *z),
+        Choice::Splinter(z, i, k) => splinter_branch(alloc, stage, *z, *i, *k),
     }
 }

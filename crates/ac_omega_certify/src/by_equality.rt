@@ -19,7 +19,8 @@ use crate::descent::{Base, Standing};
 use crate::kept::{keep, no_rows};
 use crate::path::TreePath;
 use crate::renamed::renamed;
-use crate::replaced::size;
+use crate::replaced::{Equality, size};
+use crate::stage::Stage;
 use ac_forms::{Form, Row};
 use std::alloc::{AllocError, Global};
 
@@ -147,79 +148,77 @@ fn behind<T>(items: &[T], at: usize) -> &[T]
 }
 
 impl TreePath {
-    /// The absolute value of the column's coefficient in the equality at a place divides the rest of its form: the place of
-    /// that row.
+    /// The absolute value of the column's coefficient in an equality divides the rest of its form: the place of that row.
     fn show_divided(
         &mut self,
         alloc: Global,
         names: &[usize],
-        z: usize,
-        equality: &Form,
-        at: usize,
+        equality: &Equality,
         rest: &Form,
     ) -> Result<usize, AllocError>
-        requires column { CanDivide z equality.now }
-        requires rest { rest.now ≡ without z equality.now }
+        requires column { CanDivide equality.now.column equality.now.form.now }
+        requires rest { rest.now ≡ without equality.now.column equality.now.form.now }
         ensures base { OnOk result (IsSameBase self.old self.new) }
-        ensures leads { IfOk result (λ i. (start path : Conj) → Reaches self.old start path → AreNames self.old.columns names.now → StandsAt names.now path at (Eq equality.now) → Leads self.new start path names.now i (Div (size_of (coef z equality.now)) rest.now)) }
+        ensures leads { IfOk result (λ i. (start path : Conj) → Reaches self.old start path → AreNames self.old.columns names.now → StandsAt names.now path equality.now.place (Eq equality.now.form.now) → Leads self.new start path names.now i (Div (size_of (coef equality.now.column equality.now.form.now)) rest.now)) }
     {
-        let size = size(z, equality);
+        let size = size(equality.column, equality.form);
         let form = renamed(alloc, names, self.columns, rest)?;
-        let zero = self.divide_zero(at, size)?;
+        let zero = self.divide_zero(equality.place, size)?;
         let place = self.reduce(zero, 1, size, form)?;
         Ok(place)
     }
 
-    /// Adds that row, of the equality at a place.
+    /// Adds that row.
     fn keep_divided(
         &mut self,
         alloc: Global,
         names: &[usize],
-        z: usize,
-        equality: &Form,
-        at: usize,
+        equality: &Equality,
         kept: &mut Standing,
     ) -> Result<(), AllocError>
-        requires column { CanDivide z equality.now }
+        requires column { CanDivide equality.now.column equality.now.form.now }
         ensures base { OnOk result (IsSameBase self.old self.new) }
-        ensures rows { OnOk result (kept.new.rows.items ≡ kept.old.rows.items ++ Div (size_of (coef z equality.now)) (without z equality.now) ∷ []) }
+        ensures rows { OnOk result (kept.new.rows.items ≡ kept.old.rows.items ++ Div (size_of (coef equality.now.column equality.now.form.now)) (without equality.now.column equality.now.form.now) ∷ []) }
         ensures long { OnOk result (length kept.old.places.items ≡ length kept.old.rows.items → length kept.new.places.items ≡ length kept.new.rows.items) }
-        ensures leads { OnOk result ((start path : Conj) → Reaches self.old start path → AreNames self.old.columns names.now → StandsAt names.now path at (Eq equality.now) → Stand names.now path kept.old.rows.items kept.old.places.items → LeadsAll self.new start path names.now kept.new.rows.items kept.new.places.items) }
+        ensures leads { OnOk result ((start path : Conj) → Reaches self.old start path → AreNames self.old.columns names.now → StandsAt names.now path equality.now.place (Eq equality.now.form.now) → Stand names.now path kept.old.rows.items kept.old.places.items → LeadsAll self.new start path names.now kept.new.rows.items kept.new.places.items) }
     {
-        let rest = without(alloc, z, equality)?;
-        let place = self.show_divided(alloc, names, z, equality, at, &rest)?;
-        let size = size(z, equality);
+        let rest = without(alloc, equality.column, equality.form)?;
+        let place = self.show_divided(alloc, names, equality, &rest)?;
+        let size = size(equality.column, equality.form);
         keep(kept, Row::Div(size, rest), place)?;
         Ok(())
     }
 
-    /// The rows in which the equality at a place replaces the column, and that its coefficient divides the rest of it.
+    /// The rows in which the equality with the number i replaces the column, and that its coefficient divides the rest of it.
     fn show_replacing(
         &mut self,
         alloc: Global,
-        names: &[usize],
+        stage: &Stage,
         z: usize,
         i: usize,
-        equality: &Form,
-        rows: &[Row],
-        places: &[usize],
+        form: &Form,
     ) -> Result<Standing, AllocError>
-        requires long { length places.now ≡ length rows.now }
-        requires within { i < length rows.now }
-        requires column { CanDivide z equality.now }
-        requires fits { CanReplaceAll z equality.now rows.now }
+        requires long { length stage.now.places.now ≡ length stage.now.rows.now }
+        requires within { i < length stage.now.rows.now }
+        requires column { CanDivide z form.now }
+        requires fits { CanReplaceAll z form.now stage.now.rows.now }
         ensures base { OnOk result (IsSameBase self.old self.new) }
         ensures long { IfOk result (λ s. length s.places.items ≡ length s.rows.items) }
-        ensures rows { IfOk result (λ s. s.rows.items ≡ by_equality z i (Some (Eq equality.now)) rows.now) }
-        ensures leads { IfOk result (λ s. (start path : Conj) → Reaches self.old start path → AreNames self.old.columns names.now → Stand names.now path rows.now places.now → slice_get rows.now i ≡ Some (Eq equality.now) → LeadsAll self.new start path names.now s.rows.items s.places.items) }
+        ensures rows { IfOk result (λ s. s.rows.items ≡ by_equality z i (Some (Eq form.now)) stage.now.rows.now) }
+        ensures leads { IfOk result (λ s. (start path : Conj) → Reaches self.old start path → AreNames self.old.columns stage.now.names.now → Stand stage.now.names.now path stage.now.rows.now stage.now.places.now → slice_get stage.now.rows.now i ≡ Some (Eq form.now) → LeadsAll self.new start path stage.now.names.now s.rows.items s.places.items) }
     {
-        let at = places[i];
+        let (rows, places) = (stage.rows, stage.places);
+        let equality = Equality {
+            column: z,
+            form,
+            place: places[i],
+        };
         let mut kept = no_rows(alloc);
         let (first, first_places) = (before(rows, i), before(places, i));
-        self.keep_all_replaced(alloc, z, equality, at, first, first_places, &mut kept)?;
+        self.keep_all_replaced(alloc, &equality, first, first_places, &mut kept)?;
         let (last, last_places) = (behind(rows, i), behind(places, i));
-        self.keep_all_replaced(alloc, z, equality, at, last, last_places, &mut kept)?;
-        self.keep_divided(alloc, names, z, equality, at, &mut kept)?;
+        self.keep_all_replaced(alloc, &equality, last, last_places, &mut kept)?;
+        self.keep_divided(alloc, stage.names, &equality, &mut kept)?;
         Ok(kept)
     }
 
@@ -227,25 +226,24 @@ impl TreePath {
     pub(crate) fn show_equality(
         &mut self,
         alloc: Global,
-        names: &[usize],
+        stage: &Stage,
         z: usize,
         i: usize,
-        rows: &[Row],
-        places: &[usize],
     ) -> Result<Standing, AllocError>
-        requires long { length places.now ≡ length rows.now }
-        requires made { AreRowsOver (length names.now) rows.now }
-        requires within_2_to_120 { AreWithin2To120 rows.now [] }
-        requires equality { is_equality_of z (slice_get rows.now i) ≡ true }
-        requires fits { equality_fits z i (slice_get rows.now i) rows.now ≡ true }
+        requires long { length stage.now.places.now ≡ length stage.now.rows.now }
+        requires made { AreRowsOver (length stage.now.names.now) stage.now.rows.now }
+        requires within_2_to_120 { AreWithin2To120 stage.now.rows.now [] }
+        requires equality { is_equality_of z (slice_get stage.now.rows.now i) ≡ true }
+        requires fits { equality_fits z i (slice_get stage.now.rows.now i) stage.now.rows.now ≡ true }
         ensures long { IfOk result (λ s. length s.places.items ≡ length s.rows.items) }
-        ensures rows { IfOk result (λ s. s.rows.items ≡ left_by (Equal z i) rows.now) }
+        ensures rows { IfOk result (λ s. s.rows.items ≡ left_by (Equal z i) stage.now.rows.now) }
         ensures up_to_2_to_122 { IfOk result (λ s. AreRowsUpTo2To122 s.rows.items) }
-        ensures carries { IfOk result (λ s. (start : Conj) → Carries self.old start names.now rows.now places.now → Carries self.new start names.now s.rows.items s.places.items) }
+        ensures carries { IfOk result (λ s. (start : Conj) → Carries self.old start stage.now.names.now stage.now.rows.now stage.now.places.now → Carries self.new start stage.now.names.now s.rows.items s.places.items) }
     {
+        let rows = stage.rows;
         match &rows[i] {
-            Row::Eq(equality) => {
-                let left = self.show_replacing(alloc, names, z, i, equality, rows, places)?;
+            Row::Eq(form) => {
+                let left = self.show_replacing(alloc, stage, z, i, form)?;
                 Ok(left)
             }
             Row::Div(_, _) | Row::Ge(_) => unreachable!(),

@@ -15,6 +15,7 @@ ghost use Rattle.ac_omega_certify.specs.TreePathRows.{IsSameBase, Leads, Reaches
 
 use crate::descent::Standing;
 use crate::path::TreePath;
+use crate::stage::Stage;
 use ac_cert::types::Step;
 use ac_forms::{Form, Row};
 use std::alloc::{AllocError, Global};
@@ -180,31 +181,29 @@ impl TreePath {
     pub(crate) fn show_residue(
         &mut self,
         alloc: Global,
-        names: &[usize],
+        stage: &Stage,
         z: usize,
         m: i128,
         r: i128,
-        rows: &[Row],
-        places: &[usize],
         class: usize,
     ) -> Result<Standing, AllocError>
-        requires long { length places.now ≡ length rows.now }
-        requires column { z < length names.now }
-        requires made { AreRowsOver (length names.now) rows.now }
-        requires within_2_to_120 { AreWithin2To120 rows.now (Residue z m r ∷ []) }
+        requires long { length stage.now.places.now ≡ length stage.now.rows.now }
+        requires column { z < length stage.now.names.now }
+        requires made { AreRowsOver (length stage.now.names.now) stage.now.rows.now }
+        requires within_2_to_120 { AreWithin2To120 stage.now.rows.now (Residue z m r ∷ []) }
         requires modulus { pos 1 ≤ℤ m }
         requires low { pos 0 ≤ℤ r }
         requires high { r <ℤ m }
-        requires fits { all_spread_fit z m r rows.now ≡ true }
+        requires fits { all_spread_fit z m r stage.now.rows.now ≡ true }
         ensures columns { OnOk result (self.new.columns ≡ self.old.columns + 1) }
         ensures long { IfOk result (λ s. length s.places.items ≡ length s.rows.items) }
-        ensures rows { IfOk result (λ s. s.rows.items ≡ left_by (Residue z m r) rows.now) }
+        ensures rows { IfOk result (λ s. s.rows.items ≡ left_by (Residue z m r) stage.now.rows.now) }
         ensures up_to_2_to_122 { IfOk result (λ s. AreRowsUpTo2To122 s.rows.items) }
-        ensures carries { IfOk result (λ s. (start : Conj) → Carries self.old start names.now (Div m (column_less (length names.now) z r) ∷ rows.now) (class ∷ places.now) → Carries self.new start (set names.now z self.old.columns) s.rows.items s.places.items) }
+        ensures carries { IfOk result (λ s. (start : Conj) → Carries self.old start stage.now.names.now (Div m (column_less (length stage.now.names.now) z r) ∷ stage.now.rows.now) (class ∷ stage.now.places.now) → Carries self.new start (set stage.now.names.now z self.old.columns) s.rows.items s.places.items) }
     {
-        let equality = self.show_class_quotient(alloc, names, z, m, r, class)?;
-        let places = self.take_each(alloc, z, equality, rows, places)?;
-        let rows = substitute_residue_rows(alloc, z, m, r, rows)?;
+        let equality = self.show_class_quotient(alloc, stage.names, z, m, r, class)?;
+        let places = self.take_each(alloc, z, equality, stage.rows, stage.places)?;
+        let rows = substitute_residue_rows(alloc, z, m, r, stage.rows)?;
         Ok(Standing { rows, places })
     }
 }

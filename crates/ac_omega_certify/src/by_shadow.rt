@@ -20,8 +20,17 @@ use crate::kept::keep;
 use crate::margins::{is_high, is_low};
 use crate::path::TreePath;
 use crate::shown_pair::{Bounded, Lower};
+use crate::stage::Stage;
 use ac_forms::Row;
 use std::alloc::{AllocError, Global};
+
+/// A row that may be a lower one of a column, its place, and its number of splinters.
+#[derive(Clone, Copy)]
+struct Candidate<'a> {
+    row: &'a Row,
+    own: usize,
+    count: usize,
+}
 
 impl TreePath {
     /// The row for the dark shadow of a lower row and a row at a place, if that is an upper one.
@@ -78,29 +87,27 @@ impl TreePath {
         Ok(())
     }
 
-    /// The rows for the dark shadows of a row at place `own`, if it is a lower one, and each upper row, in order. Less the
-    /// count it stands at one of the places `raised`, of which so many were used before; gives how many are then.
+    /// The rows for the dark shadows of a candidate, if it is a lower row, and each upper row, in order. Less its count it
+    /// stands at one of the places `raised`, of which so many were used before; gives how many are then.
     fn show_lower(
         &mut self,
         alloc: Global,
         bounded: &Bounded,
-        row: &Row,
-        own: usize,
-        count: usize,
+        candidate: &Candidate,
         raised: &[usize],
         used: usize,
         made: &mut Standing,
     ) -> Result<usize, AllocError>
         requires long { length bounded.now.places.now ≡ length bounded.now.rows.now }
-        requires within_2_to_120 { AreWithin2To120 (row.now ∷ bounded.now.rows.now) [] }
-        requires suffices { SufficesAt bounded.now.column bounded.now.rows.now row.now count }
-        requires raised { used + length (lows bounded.now.column (row.now ∷ [])) ≤ length raised.now }
-        ensures used { IfOk result (λ n. n ≡ used + length (lows bounded.now.column (row.now ∷ []))) }
-        ensures rows { IfOk result (λ _. made.new.rows.items ≡ made.old.rows.items ++ shown_rows bounded.now.column bounded.now.rows.now (row.now ∷ []) (count ∷ [])) }
+        requires within_2_to_120 { AreWithin2To120 (candidate.now.row.now ∷ bounded.now.rows.now) [] }
+        requires suffices { SufficesAt bounded.now.column bounded.now.rows.now candidate.now.row.now candidate.now.count }
+        requires raised { used + length (lows bounded.now.column (candidate.now.row.now ∷ [])) ≤ length raised.now }
+        ensures used { IfOk result (λ n. n ≡ used + length (lows bounded.now.column (candidate.now.row.now ∷ []))) }
+        ensures rows { IfOk result (λ _. made.new.rows.items ≡ made.old.rows.items ++ shown_rows bounded.now.column bounded.now.rows.now (candidate.now.row.now ∷ []) (candidate.now.count ∷ [])) }
         ensures long { IfOk result (λ _. length made.old.places.items ≡ length made.old.rows.items → length made.new.places.items ≡ length made.new.rows.items) }
-        ensures shows { IfOk result (λ _. (rest : List Row) (counts : List ℕ) → Continues self.old self.new made.old made.new (λ names path. Stand names path (raised_rows bounded.now.column (row.now ∷ rest) (count ∷ counts)) (drop used raised.now) × StandsAt names path own row.now × Stand names path bounded.now.rows.now bounded.now.places.now)) }
+        ensures shows { IfOk result (λ _. (rest : List Row) (counts : List ℕ) → Continues self.old self.new made.old made.new (λ names path. Stand names path (raised_rows bounded.now.column (candidate.now.row.now ∷ rest) (candidate.now.count ∷ counts)) (drop used raised.now) × StandsAt names path candidate.now.own candidate.now.row.now × Stand names path bounded.now.rows.now bounded.now.places.now)) }
     {
-        let Row::Ge(form) = row else {
+        let Row::Ge(form) = candidate.row else {
             return Ok(used);
         };
         if !is_low(bounded.column, form) {
@@ -108,8 +115,8 @@ impl TreePath {
         }
         let low = Lower {
             form,
-            own,
-            margin: count as i128,
+            own: candidate.own,
+            margin: candidate.count as i128,
             place: raised[used],
         };
         self.show_uppers(alloc, bounded, &low, made)?;
@@ -135,9 +142,12 @@ impl TreePath {
     {
         let mut used = 0;
         for i in 0..bounded.rows.len() {
-            let row = &bounded.rows[i];
-            let own = bounded.places[i];
-            used = self.show_lower(alloc, bounded, row, own, counts[i], raised, used, made)?;
+            let candidate = Candidate {
+                row: &bounded.rows[i],
+                own: bounded.places[i],
+                count: counts[i],
+            };
+            used = self.show_lower(alloc, bounded, &candidate, raised, used, made)?;
         }
         Ok(())
     }
@@ -148,32 +158,29 @@ impl TreePath {
     pub(crate) fn show_shadow(
         &mut self,
         alloc: Global,
-        names: &[usize],
+        stage: &Stage,
         z: usize,
-        rows: &[Row],
-        places: &[usize],
-        counts: &[usize],
         raised: &[usize],
     ) -> Result<Standing, AllocError>
-        requires long { length places.now ≡ length rows.now }
-        requires lows { length raised.now ≡ length (lows z rows.now) }
-        requires made { AreRowsOver (length names.now) rows.now }
-        requires within_2_to_120 { AreWithin2To120 rows.now [] }
-        requires bounds { only_bounds z rows.now ≡ true }
-        requires fits { choice_fits (Shadow z) rows.now ≡ true }
-        requires suffices { Suffice z rows.now rows.now counts.now }
+        requires long { length stage.now.places.now ≡ length stage.now.rows.now }
+        requires lows { length raised.now ≡ length (lows z stage.now.rows.now) }
+        requires made { AreRowsOver (length stage.now.names.now) stage.now.rows.now }
+        requires within_2_to_120 { AreWithin2To120 stage.now.rows.now [] }
+        requires bounds { only_bounds z stage.now.rows.now ≡ true }
+        requires fits { choice_fits (Shadow z) stage.now.rows.now ≡ true }
+        requires suffices { Suffice z stage.now.rows.now stage.now.rows.now stage.now.counts.now }
         ensures long { IfOk result (λ s. length s.places.items ≡ length s.rows.items) }
-        ensures rows { IfOk result (λ s. StandFor (length names.now) s.rows.items (left_by (Shadow z) rows.now)) }
+        ensures rows { IfOk result (λ s. StandFor (length stage.now.names.now) s.rows.items (left_by (Shadow z) stage.now.rows.now)) }
         ensures up_to_2_to_122 { IfOk result (λ s. AreRowsUpTo2To122 s.rows.items) }
-        ensures carries { IfOk result (λ s. (start : Conj) → Carries self.old start names.now (rows.now ++ raised_rows z rows.now counts.now) (places.now ++ raised.now) → Carries self.new start names.now s.rows.items s.places.items) }
+        ensures carries { IfOk result (λ s. (start : Conj) → Carries self.old start stage.now.names.now (stage.now.rows.now ++ raised_rows z stage.now.rows.now stage.now.counts.now) (stage.now.places.now ++ raised.now) → Carries self.new start stage.now.names.now s.rows.items s.places.items) }
     {
-        let mut made = free_rows(alloc, z, rows, places)?;
+        let mut made = free_rows(alloc, z, stage.rows, stage.places)?;
         let bounded = Bounded {
             column: z,
-            rows,
-            places,
+            rows: stage.rows,
+            places: stage.places,
         };
-        self.show_lowers(alloc, &bounded, counts, raised, &mut made)?;
+        self.show_lowers(alloc, &bounded, stage.counts, raised, &mut made)?;
         Ok(made)
     }
 }

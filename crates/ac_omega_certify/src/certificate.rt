@@ -5,7 +5,7 @@ ghost use Rattle.ac_forms.specs.Rows.{AreRowsOver, IsWellMade};
 ghost use Rattle.ac_forms.specs.RangeTests.{rows_fit};
 ghost use Rattle.ac_forms.specs.declared.conj.Conj.{Conj};
 ghost use Rattle.ac_cert.specs.AcceptedTrees.{Accepts, absurd_refusals};
-ghost use Rattle.ac_omega_certify.specs.ChoiceBranches.{EachIsWithin2To120, AreAlternatives, HasPlaces, IsSettled, RefuteAll, AreRefutedBy, stage};
+ghost use Rattle.ac_omega_certify.specs.ChoiceBranches.{EachIsWithin2To120, AreAlternatives, HasPlaces, IsSettled, RefuteAll, AreRefutedBy, conj_on, seen};
 ghost use Rattle.ac_omega_certify.specs.Descents.{AreRowsUpTo2To122, Carries, StandOn};
 ghost use Rattle.ac_omega_certify.specs.Refutations.{IsRefutationOf, IsWithin2To120, AreWithin2To120, Refutes, conj_of};
 
@@ -15,6 +15,7 @@ use crate::descent::{Base, Below};
 use crate::question::question_branch;
 use crate::refutation::Refutation;
 use crate::splinter_tree::depth_of;
+use crate::stage::Stage;
 use ac_cert::{Absurd, Tree, absurd_tree, behind_steps};
 use ac_forms::Conj;
 use ac_omega_steps::Choice;
@@ -43,15 +44,21 @@ fn certify_at(
             below,
         } => {
             let choices = choices.as_slice();
-            let counts = counts_of(alloc, choices, conj.rows.len())?;
-            let depth = depth_of(choices.len());
             let below = below.as_slice();
-            let trees = certify_each(
-                alloc, base, names, places, conj, &counts, depth, choices, below,
-            )?;
-            choice_tree(
-                alloc, base, names, places, conj, &counts, depth, choices, trees,
-            )
+            let rows = conj.rows.as_slice();
+            let counts = counts_of(alloc, choices, conj.rows.len())?;
+            let splinters = counts.as_slice();
+            let depth = depth_of(choices.len());
+            let stage = Stage {
+                base,
+                names,
+                places,
+                rows,
+                counts: splinters,
+                depth,
+            };
+            let trees = certify_each(alloc, &stage, choices, below)?;
+            choice_tree(alloc, &stage, choices, trees)
         }
     }
 }
@@ -60,29 +67,23 @@ fn certify_at(
 #[cycle(certifies)]
 fn certify_each(
     alloc: Global,
-    base: Base,
-    names: &[usize],
-    places: &[usize],
-    conj: &Conj,
-    counts: &[usize],
-    depth: u32,
+    stage: &Stage,
     choices: &[Choice],
     below: &[Refutation],
 ) -> Result<Vec<Tree<Absurd>>, AllocError>
-    requires long { length places.now ≡ length conj.now.rows }
-    requires names { length names.now ≡ conj.now.columns }
-    requires counts { length counts.now ≡ length conj.now.rows }
-    requires made { IsWellMade conj.now }
-    requires within_2_to_120 { AreWithin2To120 conj.now.rows choices.now }
-    requires tries { AreAlternatives conj.now.columns conj.now.rows counts.now choices.now }
-    requires refuted { RefuteAll conj.now choices.now below.now }
+    requires long { length stage.now.places.now ≡ length stage.now.rows.now }
+    requires counts { length stage.now.counts.now ≡ length stage.now.rows.now }
+    requires made { IsWellMade (conj_on (seen stage.now)) }
+    requires within_2_to_120 { AreWithin2To120 stage.now.rows.now choices.now }
+    requires tries { AreAlternatives (length stage.now.names.now) stage.now.rows.now stage.now.counts.now choices.now }
+    requires refuted { RefuteAll (conj_on (seen stage.now)) choices.now below.now }
     requires below { EachIsWithin2To120 below.now }
-    ensures served { IfOk result (λ ts. AreRefutedBy (stage base names.now places.now conj.now.rows counts.now depth) choices.now ts.items) }
+    ensures served { IfOk result (λ ts. AreRefutedBy (seen stage.now) choices.now ts.items) }
     ensures each { IfOk result (λ ts. length ts.items ≡ length choices.now) }
 {
     let mut trees = Vec::new(alloc);
     for j in 0..below.len() {
-        let branch = branch_of(alloc, base, names, places, conj, counts, depth, &choices[j])?;
+        let branch = branch_of(alloc, stage, &choices[j])?;
         let tree = beneath(alloc, branch, &below[j])?;
         trees.push(tree)?;
     }

@@ -35,6 +35,7 @@ mod shown_exact;
 mod shown_pair;
 mod shown_rows;
 mod splinter_tree;
+mod stage;
 mod start;
 mod strategy;
 

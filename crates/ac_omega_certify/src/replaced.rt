@@ -15,6 +15,14 @@ use crate::path::TreePath;
 use ac_forms::{Form, FormStop, Row};
 use std::alloc::{AllocError, Global};
 
+/// An equality that replaces a column, and the place where it stands.
+#[derive(Clone, Copy)]
+pub(crate) struct Equality<'a> {
+    pub(crate) column: usize,
+    pub(crate) form: &'a Form,
+    pub(crate) place: usize,
+}
+
 /// The absolute value of the column's coefficient.
 #[tactic(auto, using(ac_base::proofs::Bits::again_128, crate::proofs::Equated::opposite_fits))]
 pub(crate) fn size(z: usize, equality: &Form) -> i128
@@ -71,23 +79,22 @@ fn replaced_row(alloc: Global, z: usize, equality: &Form, row: &Row) -> Result<R
 }
 
 impl TreePath {
-    /// The row at a place where the equality at another replaces the column: its place.
+    /// The row at a place where an equality replaces its column: its place.
     fn show_replaced(
         &mut self,
         alloc: Global,
-        z: usize,
-        equality: &Form,
-        at: usize,
+        equality: &Equality,
         row: &Row,
         place: usize,
     ) -> Result<usize, AllocError>
-        requires column { CanDivide z equality.now }
-        requires fits { CanReplace z equality.now row.now }
+        requires column { CanDivide equality.now.column equality.now.form.now }
+        requires fits { CanReplace equality.now.column equality.now.form.now row.now }
         ensures base { OnOk result (IsSameBase self.old self.new) }
-        ensures leads { IfOk result (λ i. (start path : Conj) (names : List ℕ) → Reaches self.old start path → StandsAt names path place row.now → StandsAt names path at (Eq equality.now) → Leads self.new start path names i (replaced_row z equality.now row.now)) }
+        ensures leads { IfOk result (λ i. (start path : Conj) (names : List ℕ) → Reaches self.old start path → StandsAt names path place row.now → StandsAt names path equality.now.place (Eq equality.now.form.now) → Leads self.new start path names i (replaced_row equality.now.column equality.now.form.now row.now)) }
     {
-        let size = size(z, equality);
-        let factor = factor(z, equality, row.form());
+        let at = equality.place;
+        let size = size(equality.column, equality.form);
+        let factor = factor(equality.column, equality.form, row.form());
         match row {
             Row::Div(modulus, _) => {
                 let sum = self.show_replaced_divisibility(place, size, at, factor, *modulus)?;
@@ -100,51 +107,51 @@ impl TreePath {
         }
     }
 
-    /// Adds the row at a place where the equality at another replaces the column.
+    /// Adds the row at a place where an equality replaces its column.
     fn keep_replaced(
         &mut self,
         alloc: Global,
-        z: usize,
-        equality: &Form,
-        at: usize,
+        equality: &Equality,
         row: &Row,
         place: usize,
         kept: &mut Standing,
     ) -> Result<(), AllocError>
-        requires column { CanDivide z equality.now }
-        requires fits { CanReplace z equality.now row.now }
+        requires column { CanDivide equality.now.column equality.now.form.now }
+        requires fits { CanReplace equality.now.column equality.now.form.now row.now }
         ensures base { OnOk result (IsSameBase self.old self.new) }
-        ensures rows { OnOk result (kept.new.rows.items ≡ kept.old.rows.items ++ replaced_row z equality.now row.now ∷ []) }
+        ensures rows { OnOk result (kept.new.rows.items ≡ kept.old.rows.items ++ replaced_row equality.now.column equality.now.form.now row.now ∷ []) }
         ensures long { OnOk result (length kept.old.places.items ≡ length kept.old.rows.items → length kept.new.places.items ≡ length kept.new.rows.items) }
-        ensures leads { OnOk result ((start path : Conj) (names : List ℕ) → Reaches self.old start path → StandsAt names path place row.now → StandsAt names path at (Eq equality.now) → Stand names path kept.old.rows.items kept.old.places.items → LeadsAll self.new start path names kept.new.rows.items kept.new.places.items) }
+        ensures leads { OnOk result ((start path : Conj) (names : List ℕ) → Reaches self.old start path → StandsAt names path place row.now → StandsAt names path equality.now.place (Eq equality.now.form.now) → Stand names path kept.old.rows.items kept.old.places.items → LeadsAll self.new start path names kept.new.rows.items kept.new.places.items) }
     {
-        let sum = self.show_replaced(alloc, z, equality, at, row, place)?;
-        keep(kept, replaced_row(alloc, z, equality, row)?, sum)?;
+        let sum = self.show_replaced(alloc, equality, row, place)?;
+        keep(
+            kept,
+            replaced_row(alloc, equality.column, equality.form, row)?,
+            sum,
+        )?;
         Ok(())
     }
 
-    /// Adds rows at places where the equality at another place replaces the column.
+    /// Adds rows at places where an equality replaces its column.
     pub(crate) fn keep_all_replaced(
         &mut self,
         alloc: Global,
-        z: usize,
-        equality: &Form,
-        at: usize,
+        equality: &Equality,
         rows: &[Row],
         places: &[usize],
         kept: &mut Standing,
     ) -> Result<(), AllocError>
-        requires column { CanDivide z equality.now }
-        requires fits { CanReplaceAll z equality.now rows.now }
+        requires column { CanDivide equality.now.column equality.now.form.now }
+        requires fits { CanReplaceAll equality.now.column equality.now.form.now rows.now }
         requires places { length places.now ≡ length rows.now }
         requires long { length kept.old.places.items ≡ length kept.old.rows.items }
         ensures base { OnOk result (IsSameBase self.old self.new) }
-        ensures rows { OnOk result (kept.new.rows.items ≡ kept.old.rows.items ++ map (replaced_row z equality.now) rows.now) }
+        ensures rows { OnOk result (kept.new.rows.items ≡ kept.old.rows.items ++ map (replaced_row equality.now.column equality.now.form.now) rows.now) }
         ensures long { OnOk result (length kept.new.places.items ≡ length kept.new.rows.items) }
-        ensures leads { OnOk result ((start path : Conj) (names : List ℕ) → Reaches self.old start path → Stand names path rows.now places.now → StandsAt names path at (Eq equality.now) → Stand names path kept.old.rows.items kept.old.places.items → LeadsAll self.new start path names kept.new.rows.items kept.new.places.items) }
+        ensures leads { OnOk result ((start path : Conj) (names : List ℕ) → Reaches self.old start path → Stand names path rows.now places.now → StandsAt names path equality.now.place (Eq equality.now.form.now) → Stand names path kept.old.rows.items kept.old.places.items → LeadsAll self.new start path names kept.new.rows.items kept.new.places.items) }
     {
         for (i, row) in rows.iter().enumerate() {
-            self.keep_replaced(alloc, z, equality, at, row, places[i], kept)?;
+            self.keep_replaced(alloc, equality, row, places[i], kept)?;
         }
         Ok(())
     }

@@ -1,6 +1,5 @@
 -- How an unfolding comes to the questions of a search, and what is broken there.
-use Rattle.std.proofs.lemmas.List.{take-append-drop}
-use Rattle.std.proofs.Common.{◌≡◌, ◌⊎◌, inl, inr, ℕ, zero, suc, ◌+◌, ◌-◌, ◌≤◌, Bool, true, false, ℤ, List, [], ◌∷◌, ◌++◌, length, map, take, drop, Some, None, refl, sym, ap, ◌∙◌, subst, arith, append_assoc, append-nil}
+use Rattle.std.proofs.Common.{◌≡◌, ◌⊎◌, inl, inr, ℕ, zero, suc, ◌+◌, ◌-◌, ◌≤◌, Bool, true, false, ℤ, List, [], ◌∷◌, ◌++◌, length, map, Some, None, refl, sym, ap, ◌∙◌, subst, arith}
 use Rattle.std.specs.Prelude.{Result, Ok, Err, OnOk, slice_get, option_and_then, option_map}
 use Rattle.std.specs.List.{AllByRecursion, range_with_len}
 use Rattle.ac_forms.specs.Renaming.{picked, row_renaming, rows_renaming}
@@ -296,45 +295,15 @@ behind_call search pair_path q order bs b u of kind is i gone at =
 unfoldable pub AddsCalls : Search → Node → Order → List Branch → BrokenPathsOf → BrokenPathsOf → Type 0
 AddsCalls search node order found before after = (rest : List Branch) → Some (map (onto node.question) (found ++ rest)) ≡ branches (judge_of search) order node.question → AddsBroken search (IsPast search node.pair_path node.question) before after
 
-pub calls_none : (search : Search) (node : Node) (order : Order) (before after : BrokenPathsOf) → after ≡ before → AddsCalls search node order [] before after
-unfolding AddsCalls
-calls_none search node order before after e rest is = broken_none search (IsPast search node.pair_path node.question) before after e
-
 pub in_middle : (q : Path) (xs rest : List Branch) (b : Branch) → IsAmong (onto q b) (map (onto q) (xs ++ b ∷ rest))
 in_middle q [] rest b = inl refl
 in_middle q (x ∷ xs) rest b = inr (in_middle q xs rest b)
-
-pub calls_more : (search : Search) (node : Node) (order : Order) (found : List Branch) (b : Branch) (child : Node) (before now after : BrokenPathsOf) → IsKindThere search node.question (next.Calls order) → AddsCalls search node order found before now
-    → child.question ≡ onto node.question b → child.pair_path ≡ node.pair_path ++ (b.left, b.right) ∷ [] → AddsBroken search (IsAt search child.pair_path child.question) now after → AddsCalls search node order (found ++ b ∷ []) before after
-unfolding AddsCalls
-calls_more search node order found b child before now after kind h e f k rest is =
-    let all : Some (map (onto node.question) (found ++ b ∷ rest)) ≡ branches (judge_of search) order node.question = ap (λ (xs : List Branch). Some (map (onto node.question) xs)) (sym (append_assoc found (b ∷ []) rest)) ∙ is in
-    let there : (u : Unfolding) → IsOf search u → IsPast search node.pair_path node.question u → IsAt search child.pair_path child.question u = λ u of at.
-    subst (λ (x : List (Seat × Seat)). IsAt search x child.question u) (sym f) (subst (λ (x : Path). IsAt search (node.pair_path ++ (b.left, b.right) ∷ []) x u) (sym e)
-    (behind_call search node.pair_path node.question order (map (onto node.question) (found ++ b ∷ rest)) (onto node.question b) u of kind (sym all) (in_middle node.question found rest b) refl at)) in
-    broken_then search (IsPast search node.pair_path node.question) before now after (h (b ∷ rest) all) (broken_from search (IsPast search node.pair_path node.question) (IsAt search child.pair_path child.question) now after there k)
-
--- behind the first ones
-pub calls_some : (search : Search) (node : Node) (order : Order) (first found : List Branch) (n : ℕ) (before after : BrokenPathsOf) → AddsCalls search node order first before after → first ≡ take n found
-    → Some (map (onto node.question) found) ≡ branches (judge_of search) order node.question → AddsBroken search (IsPast search node.pair_path node.question) before after
-unfolding AddsCalls
-calls_some search node order first found n before after h e is =
-    h (drop n found) (ap (λ (xs : List Branch). Some (map (onto node.question) (xs ++ drop n found))) e ∙ ap (λ (xs : List Branch). Some (map (onto node.question) xs)) (take-append-drop n found) ∙ is)
-
-pub calls_all : (search : Search) (node : Node) (order : Order) (found : List Branch) (before after : BrokenPathsOf) → AddsCalls search node order found before after → Some (map (onto node.question) found) ≡ branches (judge_of search) order node.question
-    → AddsBroken search (IsPast search node.pair_path node.question) before after
-unfolding AddsCalls
-calls_all search node order found before after h is = h [] (ap (λ (xs : List Branch). Some (map (onto node.question) xs)) (append-nil found) ∙ is)
 
 -- ---- reads
 
 -- the same of a read or an output, and so many of its branches
 unfoldable pub AddsReads : Search → Node → ℕ → List Branch → BrokenPathsOf → BrokenPathsOf → Type 0
 AddsReads search node number found before after = (number ≡ length found) × ((rest : List Branch) → Some (map (onto node.question) (found ++ rest)) ≡ branches (judge_of search) Keep node.question → AddsBroken search (IsPast search node.pair_path node.question) before after)
-
-pub reads_none : (search : Search) (node : Node) (before after : BrokenPathsOf) → after ≡ before → AddsReads search node 0 [] before after
-unfolding AddsReads
-reads_none search node before after e = (refl, λ rest is. broken_none search (IsPast search node.pair_path node.question) before after e)
 
 get_middle : (q : Path) (xs rest : List Branch) (b : Branch) → slice_get (map (onto q) (xs ++ b ∷ rest)) (length xs) ≡ Some (onto q b)
 get_middle q [] rest b = refl
@@ -372,32 +341,6 @@ in_case search node side read case number found rest b u of kind among position 
       gone = refl;
     }
 
-pub reads_more : (search : Search) (node : Node) (side : Side) (read : ReadFlow) (case : Case) (number next_number : ℕ) (found : List Branch) (b : Branch) (child : Node) (before now after : BrokenPathsOf) → IsKindThere search node.question (next.Read side)
-    → IsAmong read (flow_on search.program_flows.now.left_flow.now search.program_flows.now.right_flow.now side).reads → read.position ≡ (seat_of node.question side).position → slice_get read.cases number ≡ Some case → AddsReads search node number found before now
-    → child.question ≡ onto node.question b → child.pair_path ≡ node.pair_path ++ (b.left, b.right) ∷ [] → next_number ≡ number + 1 → AddsBroken search (IsInCase search case child.pair_path child.question) now after → AddsReads search node next_number (found ++ b ∷ []) before after
-unfolding AddsReads
-reads_more search node side read case number next_number found b child before now after kind among position get h e f n k = (
-  n ∙ ap (λ (j : ℕ). j + 1) h.0 ∙ sym (length_last found b),
-  λ rest is.
-      let all : Some (map (onto node.question) (found ++ b ∷ rest)) ≡ branches (judge_of search) Keep node.question = ap (λ (xs : List Branch). Some (map (onto node.question) xs)) (sym (append_assoc found (b ∷ []) rest)) ∙ is in
-      let there : (u : Unfolding) → IsOf search u → IsPast search node.pair_path node.question u → IsInCase search case child.pair_path child.question u = λ u of at.
-      subst (λ (x : List (Seat × Seat)). IsInCase search case x child.question u) (sym f) (subst (λ (x : Path). IsInCase search case (node.pair_path ++ (b.left, b.right) ∷ []) x u) (sym e)
-      (in_case search node side read case number found rest b u of kind among position get h.0 all at)) in
-      broken_then search (IsPast search node.pair_path node.question) before now after (h.1 (b ∷ rest) all) (broken_from search (IsPast search node.pair_path node.question) (IsInCase search case child.pair_path child.question) now after there k),
-)
-
--- behind the first ones
-pub reads_some : (search : Search) (node : Node) (number : ℕ) (first found : List Branch) (n : ℕ) (before after : BrokenPathsOf) → AddsReads search node number first before after → first ≡ take n found
-    → Some (map (onto node.question) found) ≡ branches (judge_of search) Keep node.question → AddsBroken search (IsPast search node.pair_path node.question) before after
-unfolding AddsReads
-reads_some search node number first found n before after h e is =
-    h.1 (drop n found) (ap (λ (xs : List Branch). Some (map (onto node.question) (xs ++ drop n found))) e ∙ ap (λ (xs : List Branch). Some (map (onto node.question) xs)) (take-append-drop n found) ∙ is)
-
-pub reads_all : (search : Search) (node : Node) (number : ℕ) (found : List Branch) (before after : BrokenPathsOf) → AddsReads search node number found before after → Some (map (onto node.question) found) ≡ branches (judge_of search) Keep node.question
-    → AddsBroken search (IsPast search node.pair_path node.question) before after
-unfolding AddsReads
-reads_all search node number found before after h is = h.1 [] (ap (λ (xs : List Branch). Some (map (onto node.question) xs)) (append-nil found) ∙ is)
-
 -- ---- what is left of a case
 
 rest_keeps : (n : ℕ) (b : Path) (rest : Conj) (d : Path) → at_rest n b rest ≡ Some d → (d.gone ≡ b.gone) × (seats_of d ≡ seats_of b)
@@ -422,14 +365,6 @@ at_piece search case pair_path b d rest u of i e at =
         free = at.past.free;
       };
     }
-
-pub piece_broken : (search : Search) (case : Case) (node child next : Node) (rest : Remainder) (before now after : BrokenPathsOf) → AddsBroken search (IsInCase search case node.pair_path node.question) before now → IsAmong rest case.pieces
-    → at_rest (judge_of search).params node.question rest.conj ≡ Some child.question → child.pair_path ≡ node.pair_path → next.question ≡ child.question → next.pair_path ≡ child.pair_path → AddsBroken search (IsAt search next.pair_path next.question) now after
-    → AddsBroken search (IsInCase search case node.pair_path node.question) before after
-piece_broken search case node child next rest before now after h i e t q' t' k =
-    let there : (u : Unfolding) → IsOf search u → IsInCase search case node.pair_path node.question u → IsAt search next.pair_path next.question u = λ u of at.
-    subst (λ (x : List (Seat × Seat)). IsAt search x next.question u) (sym (t' ∙ t)) (subst (λ (x : Path). IsAt search node.pair_path x u) (sym q') (at_piece search case node.pair_path node.question child.question rest u of i e at)) in
-    broken_then search (IsInCase search case node.pair_path node.question) before now after h (broken_from search (IsInCase search case node.pair_path node.question) (IsAt search next.pair_path next.question) now after there k)
 
 -- ---- results
 

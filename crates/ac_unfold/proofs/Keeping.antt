@@ -130,14 +130,6 @@ cuts_more search cs s q course next row outside rows k o same placed can branch 
       standing = subst (λ (x : Path). AreStanding x.conj (rows ++ row ∷ [])) (sym same) (one_more_stands w.conj rows row (all_standing_side v.conj (inside_of row) rows k.standing) (standing_inside v.conj row can));
     }
 
-pub cuts_standing : (search : Search) (cs : List Claim) (s : Embedding) (q : Path) (course : Course) (row : Row) (rows : List Row) → Cuts search cs s q course rows → IsStanding course.node.question.conj row → Cuts search cs s q course (rows ++ row ∷ [])
-cuts_standing search cs s q course row rows k h = record {
-  leads = k.leads;
-  positions = k.positions;
-  formed = k.formed;
-  standing = one_more_stands course.node.question.conj rows row k.standing h;
-}
-
 -- ---- at the end
 
 -- the question of the node has no point
@@ -158,9 +150,6 @@ branch_more search course next row outside o same placed can branch sides = reco
   keeps = λ cs s q rows given k. keeps_more search cs s q course next row outside rows k o same placed can branch (sides.sides given.making (judge_of search) cs);
   beside = λ q b. beside_more search q course next row outside o (grown_same course.node.question next.node.question same) (all_anywhere_stop search course.node.question outside sides.stop) b;
 }
-
-pub cut_stays : (search : Search) (case : Case) (course : Course) (row : Row) → IsStanding course.node.question.conj row → CutsMore search case course row course
-cut_stays search case course row h = record { cuts = λ cs s q rows given assumed k. cuts_standing search cs s q course row rows k h; beside = λ q b. b }
 
 -- the case is still what is assumed
 case_goes : (g : Pairing) (q v : Path) (case : Case) → v ≡ at_rows q v.conj → IsCaseAt g q case → IsCaseAt g v case

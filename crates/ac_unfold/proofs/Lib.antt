@@ -25,6 +25,10 @@ pub mod Stopped
 pub mod Stops
 pub mod Tracing
 pub mod Unmatched
-pub mod Yielding
 pub mod Unbroken
 pub mod Tabled
+pub mod TaskRuns
+pub mod CallTasks
+pub mod ReadTasks
+pub mod KillTasks
+pub mod PairTasks

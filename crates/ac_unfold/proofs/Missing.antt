@@ -14,10 +14,6 @@ not_none o h e = let z : false ≡ true = sym (ap is_some e) ∙ h in absurd cc
 pub finds_shown : {A : Type 0} (search : Search) (o : Option A) (before after : BrokenPathsOf) → (search.making ≡ true → is_some o ≡ true) → FindsElse search o before after
 finds_shown search o before after h on e = absurd (not_none o (h on) e)
 
--- where something else is missing then, for which a path was found
-pub finds_by : {A B : Type 0} (search : Search) (o : Option A) (p : Option B) (before now after : BrokenPathsOf) → (o ≡ None → p ≡ None) → length before.paths ≤ length now.paths → FindsElse search p now after → FindsElse search o before after
-finds_by search o p before now after f l h on e = let k = h on (f e) in omega (arith, l, k)
-
 pub ended_finds : (res : Result (Option Plan) UnfoldStop) (search : Search) (o : Option Plan) (before after : BrokenPathsOf) → IfOk res (λ made. made ≡ None → o ≡ None) → (search.making ≡ true → is_some o ≡ true) → IfOk res (λ made. FindsElse search made before after)
 ended_finds (Ok made) search o before after f h = λ on e. absurd (not_none o (h on) (f e))
 ended_finds (Err e) search o before after f h = tt
@@ -26,11 +22,6 @@ ended_finds (Err e) search o before after f h = tt
 pub finds_after : {A : Type 0} (res : Result (Option A) UnfoldStop) (search : Search) (before now after : BrokenPathsOf) → now.paths ≡ before.paths → IfOk res (λ made. FindsElse search made now after) → IfOk res (λ made. FindsElse search made before after)
 finds_after (Ok made) search before now after e h = λ on none. let k = h on none in let l = ap length e in omega (arith, k, l)
 finds_after (Err stop) search before now after e h = tt
-
--- where no plans are made
-pub finds_off : (res : Result (Option Plan) UnfoldStop) (search : Search) (before after : BrokenPathsOf) → search.making ≡ false → IfOk res (λ made. FindsElse search made before after)
-finds_off (Ok made) search before after off = λ on. let z : true ≡ false = sym on ∙ off in absurd cc
-finds_off (Err e) search before after off = tt
 
 -- nothing stands behind the last item
 pub none_behind : {A : Type 0} (xs : List A) (n : ℕ) → slice_get xs n ≡ None → length xs ≤ n

@@ -42,7 +42,7 @@ use Rattle.ac_unfold.specs.declared.decide.Answer.TheVariants as answer
 use Rattle.ac_unfold.specs.declared.ends.Search.{Search}
 use Rattle.ac_unfold.specs.declared.node.Node.{Node}
 use Rattle.ac_unfold.specs.declared.types.UnfoldStop.{UnfoldStop}
-use Rattle.ac_unfold.proofs.Coming.{broken_by, broken_from, broken_then, params_are}
+use Rattle.ac_unfold.proofs.Coming.{broken_by, broken_from, params_are}
 use Rattle.ac_unfold.proofs.Failing.{outside_fails}
 use Rattle.ac_unfold.proofs.Growing.{grown_itself, grown_more, grown_on}
 use Rattle.ac_unfold.proofs.Results.{at_some}
@@ -59,12 +59,6 @@ pub grown_last : (q v : Path) → IsGrown q v → v.last ≡ q.last
 grown_last q v h = ap (λ (x : Path). x.last) h.is
 
 -- ---- nodes
-
-pub within_itself : (node next : Node) → next ≡ node → GoesWithin node next
-within_itself node next e = record { question = subst (λ (x : Node). IsGrown node.question x.question) (sym e) (grown_itself node.question); pair_path = ap (λ (x : Node). x.pair_path) e }
-
-pub within_more : (a b c : Node) → GoesWithin a b → GoesWithin b c → GoesWithin a c
-within_more a b c h k = record { question = grown_more a.question b.question c.question h.question k.question; pair_path = k.pair_path ∙ h.pair_path }
 
 pub within_part : (node next : Node) (part : Part) → next.question ≡ question_on node.question part → next.pair_path ≡ node.pair_path → GoesWithin node next
 within_part node next part e f = record { question = subst (IsGrown node.question) (sym e) (grown_on node.question part); pair_path = f }
@@ -151,36 +145,10 @@ outside_left search case pair_path q u of h p long meets =
 
 -- ---- what is added there
 
-pub start_broken : (search : Search) (case : Case) (node next : Node) (before after : BrokenPathsOf) → next.question ≡ node.question → next.pair_path ≡ node.pair_path → AddsBroken search (IsOutsideKills search case 0 next.pair_path next.question) before after
-    → AddsBroken search (IsInCase search case node.pair_path node.question) before after
-start_broken search case node next before after e f h =
-    broken_from search (IsInCase search case node.pair_path node.question) (IsOutsideKills search case 0 next.pair_path next.question) before after
-    (λ u of at. outside_within search case 0 node next u (within_same node next e f) (outside_start search case node.pair_path node.question u at)) h
-
-pub within_broken : (search : Search) (case : Case) (number : ℕ) (node next : Node) (before after : BrokenPathsOf) → GoesWithin node next → AddsBroken search (IsOutsideKills search case number next.pair_path next.question) before after
-    → AddsBroken search (IsOutsideKills search case number node.pair_path node.question) before after
-within_broken search case number node next before after w h =
-    broken_from search (IsOutsideKills search case number node.pair_path node.question) (IsOutsideKills search case number next.pair_path next.question) before after (λ u of at. outside_within search case number node next u w at) h
-
-pub next_broken : (search : Search) (case : Case) (number next : ℕ) (pair_path : List (Seat × Seat)) (q : Path) (before after : BrokenPathsOf) → next ≤ number + 1 → Misses search case number q → AddsBroken search (IsOutsideKills search case next pair_path q) before after
-    → AddsBroken search (IsOutsideKills search case number pair_path q) before after
-next_broken search case number next pair_path q before after l none h =
-    broken_from search (IsOutsideKills search case number pair_path q) (IsOutsideKills search case next pair_path q) before after (λ u of at. outside_next search case number next pair_path q u l none at) h
-
 -- fewer kills are passed too
 pub fewer_outside : (search : Search) (case : Case) (number next : ℕ) (pair_path : List (Seat × Seat)) (q : Path) (u : Unfolding) → next ≤ number → IsOutsideKills search case number pair_path q u → IsOutsideKills search case next pair_path q u
 fewer_outside search case number next pair_path q u l h =
     record { branch = h.branch; in_case = h.in_case; grown = h.grown; outside = λ p long meets a last. in_no_fewer case.kills number next (picked (case_columns (judge_of search).params a) p) l (h.outside p long meets a last) }
-
-pub fewer_broken : (search : Search) (case : Case) (number next : ℕ) (node opened : Node) (before after : BrokenPathsOf) → next ≤ number → opened.question ≡ node.question → opened.pair_path ≡ node.pair_path
-    → AddsBroken search (IsOutsideKills search case next opened.pair_path opened.question) before after → AddsBroken search (IsOutsideKills search case number node.pair_path node.question) before after
-fewer_broken search case number next node opened before after l e f h =
-    broken_from search (IsOutsideKills search case number node.pair_path node.question) (IsOutsideKills search case next opened.pair_path opened.question) before after
-    (λ u of at. outside_within search case next node opened u (within_same node opened e f) (fewer_outside search case number next node.pair_path node.question u l at)) h
-
-pub survivor_broken : (search : Search) (case : Case) (pair_path : List (Seat × Seat)) (q : Path) (before after : BrokenPathsOf) → AddsBroken search (IsAt search pair_path q) before after → AddsBroken search (IsOutsideKills search case (length case.kills) pair_path q) before after
-survivor_broken search case pair_path q before after h =
-    broken_from search (IsOutsideKills search case (length case.kills) pair_path q) (IsAt search pair_path q) before after (λ u of at. outside_all search case pair_path q u of at) h
 
 pub nothing_left : (search : Search) (case : Case) (pair_path : List (Seat × Seat)) (q : Path) (before after : BrokenPathsOf) → case.pieces ≡ [] → Adds (IsPathAt (judge_of search).params pair_path q.conj) IsNone before after
     → AddsBroken search (IsOutsideKills search case (length case.kills) pair_path q) before after
@@ -193,16 +161,6 @@ pub last_broken : (search : Search) (case : Case) (number : ℕ) (pair_path : Li
     → AddsBroken search (IsOutsideKills search case number pair_path q) before after
 last_broken search case number pair_path q before after l h =
     broken_from search (IsOutsideKills search case number pair_path q) (IsOutsideKills search case (length case.kills) pair_path q) before after (λ u of at. fewer_outside search case number (length case.kills) pair_path q u l at) h
-
--- on a side that misses the next kill
-pub side_broken : (search : Search) (case : Case) (number : ℕ) (node beside : Node) (parts : List Part) (part : Part) (before now after : BrokenPathsOf) → AddsBroken search (IsOutsideKills search case number node.pair_path node.question) before now
-    → SidesMiss search case number node.question parts → IsAmong part parts → beside.question ≡ question_on node.question part → beside.pair_path ≡ node.pair_path → AddsBroken search (IsOutsideKills search case (number + 1) beside.pair_path beside.question) now after
-    → AddsBroken search (IsOutsideKills search case number node.pair_path node.question) before after
-unfolding SidesMiss
-side_broken search case number node beside parts part before now after h miss i e f k =
-    let own : Misses search case number beside.question = subst (Misses search case number) (sym e) (miss part i) in
-    broken_then search (IsOutsideKills search case number node.pair_path node.question) before now after h
-    (within_broken search case number node beside now after (within_part node beside part e f) (next_broken search case number (number + 1) beside.pair_path beside.question now after (omega arith) own k))
 
 -- one more, where the numbers go so far
 pub most : (number next : ℕ) → next ≡ min (number + 1) (2 ^ 64 - 1) → next ≤ number + 1

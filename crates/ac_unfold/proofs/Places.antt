@@ -1,10 +1,9 @@
 -- Where an unfolding stops: what stops it at one place, as what stops it at the place from which it came.
 use Rattle.std.proofs.lemmas.List.{take-append-drop}
 use Rattle.std.proofs.Common.{◌≡◌, inl, inr, ℕ, List, [], ◌∷◌, ◌++◌, length, map, take, drop, Some, None, refl, sym, ap, ◌∙◌, subst}
-use Rattle.std.specs.Prelude.{Result, Ok, Err, IfErr, IsErrAnd, option_and_then, slice_get}
+use Rattle.std.specs.Prelude.{Result, Ok, Err, IfErr, IsErrAnd, slice_get}
 use Rattle.std.specs.declared.alloc.AllocError.{AllocError}
 use Rattle.ac_forms.specs.ListMembers.{IsAmong}
-use Rattle.ac_forms.specs.Renaming.{rows_renaming}
 use Rattle.ac_forms.specs.declared.conj.Conj.{Conj}
 use Rattle.ac_forms.specs.declared.row.Row.{Row}
 use Rattle.ac_syntax.specs.declared.tree.Order.{Order}
@@ -12,8 +11,6 @@ use Rattle.ac_syntax.specs.declared.tree.Order.TheVariants.{Keep}
 use Rattle.ac_syntax.specs.declared.tree.Site.{Site}
 use Rattle.ac_claims_paths.specs.BranchPaths.{onto}
 use Rattle.ac_claims_paths.specs.PathSteps.{Pairing, at_rows, branches, seat_of}
-use Rattle.ac_claims_paths.specs.CopyKills.{case_columns}
-use Rattle.ac_claims_paths.specs.declared.path.Assumed.{Assumed}
 use Rattle.ac_claims_paths.specs.declared.path.Branch.{Branch}
 use Rattle.ac_claims_paths.specs.declared.path.Path.{Path}
 use Rattle.ac_claims_paths.specs.declared.path.Side.{Side}
@@ -34,8 +31,6 @@ use Rattle.ac_widen_programs.proofs.Calling.{orders_are_taken}
 use Rattle.ac_unfold.specs.UnfoldQuestions.{kill_on, AreTargets, AreTwoCalls, GoesOn, IsCut, IsFollowed, LackKill, LacksNext}
 use Rattle.ac_unfold.specs.UnfoldCauses.{StopsUnfolding}
 use Rattle.ac_unfold.specs.PlanResults.{judge_of}
-use Rattle.ac_unfold.specs.KillTraversal.{GoesWithin}
-use Rattle.ac_unfold.specs.UnfoldPaths.{BrokenPathsOf}
 use Rattle.ac_unfold.specs.BrokenPathResults.{IsFrom, IsKindThere, IsOf}
 use Rattle.ac_unfold.specs.UnfoldStops.{AreKillsRows, AreKillsSides, CutsOn, Follows, FollowsCase, FollowsCut, FollowsOn, HandsBack, IsKillsRow, StopsAsking, StopsStanding, StopsUnder}
 use Rattle.ac_unfold.specs.RequiredRows.{CanStand}
@@ -45,13 +40,13 @@ use Rattle.ac_unfold.specs.declared.node.Node.{Node}
 use Rattle.ac_unfold.specs.declared.types.ProgramFlows.{ProgramFlows}
 use Rattle.ac_unfold.specs.declared.types.UnfoldStop.{UnfoldStop}
 use Rattle.ac_unfold.specs.declared.types.UnfoldStop.TheVariants.{Overflow, Spent, Paths, Memory}
-use Rattle.ac_unfold.proofs.Coming.{params_are, AddsReads}
+use Rattle.ac_unfold.proofs.Coming.{params_are}
 use Rattle.ac_unfold.proofs.Stopped.{followed_asking, followed_standing, if_err, stops_from}
 
 -- ---- results
 
 -- a result that stops at one place stops at each place that leads there
-err_from : {A : Type 0} (r : Result A UnfoldStop) (search : Search) (At There : Unfolding → Type 0) → ((u : Unfolding) → IsOf search u → At u → There u) → IfErr r (StopsUnder search There) → IfErr r (StopsUnder search At)
+pub err_from : {A : Type 0} (r : Result A UnfoldStop) (search : Search) (At There : Unfolding → Type 0) → ((u : Unfolding) → IsOf search u → At u → There u) → IfErr r (StopsUnder search There) → IfErr r (StopsUnder search At)
 err_from (Ok x) search At There f h = tt
 err_from (Err stop) search At There f h = stops_from search At There stop f h
 
@@ -72,7 +67,7 @@ abbrev Lacks : Search → Path → Unfolding → Type 0
 Lacks search q u = LacksNext u search.program_flows.now.left_flow.now search.program_flows.now.right_flow.now search.claims.now q
 
 -- where that is so, the question may be handed back
-handed : (search : Search) (At : Unfolding → Type 0) (q : Path) (Why : Type 0) (stop : UnfoldStop) → ((u : Unfolding) → IsOf search u → At u → Why → Lacks search q u) → HandsBack q.conj Why stop → StopsUnder search At stop
+pub handed : (search : Search) (At : Unfolding → Type 0) (q : Path) (Why : Type 0) (stop : UnfoldStop) → ((u : Unfolding) → IsOf search u → At u → Why → Lacks search q u) → HandsBack q.conj Why stop → StopsUnder search At stop
 handed search At q Why (Overflow c) f h = λ u of at. inr (record { path = q; is = h.0; lacks = f u of at h.1 })
 handed search At q Why (Spent c cost) f h = absurd h
 handed search At q Why (Paths found) f h = tt
@@ -81,21 +76,17 @@ handed search At q Why (Memory want) f h = tt
 -- ---- where no claim stands
 
 -- a path goes on from a question
-on_from : (search : Search) (q : Path) (u : Unfolding) → GoesOn search.claims.now q → Follows search q u → FollowsOn search q u
+pub on_from : (search : Search) (q : Path) (u : Unfolding) → GoesOn search.claims.now q → Follows search q u → FollowsOn search q u
 on_from search q u on follows = record { follows = follows; goes_on = on }
 
-pub past_stops : {A : Type 0} (r : Result A UnfoldStop) (search : Search) (q : Path) → GoesOn search.claims.now q → IfErr r (StopsUnder search (FollowsOn search q)) → IfErr r (StopsUnder search (Follows search q))
-past_stops r search q on h = err_from r search (Follows search q) (FollowsOn search q) (λ u of at. on_from search q u on at) h
+pub past_handed : (search : Search) (q : Path) (stop : UnfoldStop) → GoesOn search.claims.now q → StopsUnder search (FollowsOn search q) stop → StopsUnder search (Follows search q) stop
+past_handed search q stop on h = stops_from search (Follows search q) (FollowsOn search q) stop (λ u of at. on_from search q u on at) h
 
 -- ---- the branches so far
 
 -- these are the first ones of all, the last of them at the end
 all_found : (xs found : List Branch) (b : Branch) (n : ℕ) → xs ++ b ∷ [] ≡ take n found → (xs ++ b ∷ []) ++ drop n found ≡ found
 all_found xs found b n e = ap (λ (ys : List Branch). ys ++ drop n found) e ∙ take-append-drop n found
-
-in_middle : (q : Path) (xs rest : List Branch) (b : Branch) → IsAmong (onto q b) (map (onto q) ((xs ++ b ∷ []) ++ rest))
-in_middle q [] rest b = inl refl
-in_middle q (x ∷ xs) rest b = inr (in_middle q xs rest b)
 
 get_middle : (q : Path) (xs rest : List Branch) (b : Branch) → slice_get (map (onto q) ((xs ++ b ∷ []) ++ rest)) (length xs) ≡ Some (onto q b)
 get_middle q [] rest b = refl
@@ -104,7 +95,7 @@ get_middle q (x ∷ xs) rest b = get_middle q xs rest b
 -- ---- calls
 
 -- a path goes on to a branch of two calls
-call_follows : (search : Search) (q : Path) (order : Order) (bs : List Path) (b : Path) (u : Unfolding) → IsOf search u → IsKindThere search q (next.Calls order) → branches (judge_of search) order q ≡ Some bs → IsAmong b bs → FollowsOn search q u → Follows search b u
+pub call_follows : (search : Search) (q : Path) (order : Order) (bs : List Path) (b : Path) (u : Unfolding) → IsOf search u → IsKindThere search q (next.Calls order) → branches (judge_of search) order q ≡ Some bs → IsAmong b bs → FollowsOn search q u → Follows search b u
 unfolding IsKindThere
 call_follows search q order bs b u of kind is i at =
     let k = kind u of in
@@ -113,13 +104,6 @@ call_follows search q order bs b u of kind is i at =
     let same : order_of u q ≡ order = ap (order_at u.pair key) k.1 ∙ orders_are_taken u q order bs k.0 there in
     let taken : branches (pairing_of u.pair) (order_of u q) q ≡ Some bs = ap (λ (o : Order). branches (pairing_of u.pair) o q) same ∙ there in
     IsFollowed.call q b bs at.follows at.goes_on k.0 taken i
-
-pub branch_stops : (search : Search) (q child : Path) (order : Order) (xs found : List Branch) (b : Branch) (n : ℕ) (stop : UnfoldStop) → IsKindThere search q (next.Calls order) → xs ++ b ∷ [] ≡ take n found → Some (map (onto q) found) ≡ branches (judge_of search) order q → child ≡ onto q b
-    → StopsUnder search (Follows search child) stop → StopsUnder search (FollowsOn search q) stop
-branch_stops search q child order xs found b n stop kind first is e h =
-    let among : IsAmong (onto q b) (map (onto q) found) = subst (λ (ys : List Branch). IsAmong (onto q b) (map (onto q) ys)) (all_found xs found b n first) (in_middle q xs (drop n found) b) in
-    stops_from search (FollowsOn search q) (Follows search child) stop
-    (λ u of at. subst (λ (x : Path). Follows search x u) (sym e) (call_follows search q order (map (onto q) found) (onto q b) u of kind (sym is) among at)) h
 
 -- two calls have no branches in their order
 calls_lack : (search : Search) (q : Path) (order : Order) (u : Unfolding) → IsOf search u → IsKindThere search q (next.Calls order) → AreTwoCalls (judge_of search) q → branches (judge_of search) order q ≡ None → FollowsOn search q u → Lacks search q u
@@ -136,13 +120,8 @@ calls_stop search q order stop kind calls none h = handed search (FollowsOn sear
 
 -- ---- reads
 
--- the branches so far have numbers up to this one
-reads_count : (search : Search) (node : Node) (number : ℕ) (xs : List Branch) (before after : BrokenPathsOf) → AddsReads search node number xs before after → number ≡ length xs
-unfolding AddsReads
-reads_count search node number xs before after h = h.0
-
 -- a path goes on to the branch of a case with its number
-case_follows : (search : Search) (q : Path) (side : Side) (read : ReadFlow) (case : Case) (number : ℕ) (xs found : List Branch) (b : Branch) (n : ℕ) (u : Unfolding) → IsOf search u → IsKindThere search q (next.Read side)
+pub case_follows : (search : Search) (q : Path) (side : Side) (read : ReadFlow) (case : Case) (number : ℕ) (xs found : List Branch) (b : Branch) (n : ℕ) (u : Unfolding) → IsOf search u → IsKindThere search q (next.Read side)
     → IsAmong read (flow_on search.program_flows.now.left_flow.now search.program_flows.now.right_flow.now side).reads → read.position ≡ (seat_of q side).position → slice_get read.cases number ≡ Some case → number ≡ length xs → xs ++ b ∷ [] ≡ take n found
     → Some (map (onto q) found) ≡ branches (judge_of search) Keep q → FollowsOn search q u → FollowsCase search case (onto q b) u
 unfolding IsKindThere
@@ -166,13 +145,6 @@ case_follows search q side read case number xs found b n u of kind among positio
       };
     }
 
-pub case_stops : (search : Search) (node : Node) (child : Path) (side : Side) (read : ReadFlow) (case : Case) (number : ℕ) (xs found : List Branch) (b : Branch) (n : ℕ) (before after : BrokenPathsOf) (stop : UnfoldStop) → IsKindThere search node.question (next.Read side)
-    → IsAmong read (flow_on search.program_flows.now.left_flow.now search.program_flows.now.right_flow.now side).reads → read.position ≡ (seat_of node.question side).position → slice_get read.cases number ≡ Some case → AddsReads search node number xs before after
-    → xs ++ b ∷ [] ≡ take n found → Some (map (onto node.question) found) ≡ branches (judge_of search) Keep node.question → child ≡ onto node.question b → StopsUnder search (FollowsCase search case child) stop → StopsUnder search (FollowsOn search node.question) stop
-case_stops search node child side read case number xs found b n before after stop kind among position get adds first is e h =
-    stops_from search (FollowsOn search node.question) (FollowsCase search case child) stop
-    (λ u of at. subst (λ (x : Path). FollowsCase search case x u) (sym e) (case_follows search node.question side read case number xs found b n u of kind among position get (reads_count search node number xs before after adds) first is at)) h
-
 -- the branches of a read or an output are not formed
 read_lacks : (search : Search) (q : Path) (side : Side) (u : Unfolding) → IsOf search u → IsKindThere search q (next.Read side) → branches (judge_of search) Keep q ≡ None → FollowsOn search q u → Lacks search q u
 unfolding IsKindThere
@@ -184,14 +156,10 @@ read_stops search q side stop kind none h = handed search (FollowsOn search q) q
 -- ---- what is left of a case
 
 -- a path goes on at what is left of a case
-rest_follows : (search : Search) (case : Case) (b d : Path) (rest : Remainder) (u : Unfolding) → IsOf search u → IsAmong rest case.pieces → at_rest (judge_of search).params b rest.conj ≡ Some d → FollowsCase search case b u → Follows search d u
+pub rest_follows : (search : Search) (case : Case) (b d : Path) (rest : Remainder) (u : Unfolding) → IsOf search u → IsAmong rest case.pieces → at_rest (judge_of search).params b rest.conj ≡ Some d → FollowsCase search case b u → Follows search d u
 rest_follows search case b d rest u of i e at =
     let left : at_rest (params_of u) b rest.conj ≡ Some d = ap (λ (k : ℕ). at_rest k b rest.conj) (params_are search u of) ∙ e in
     IsFollowed.read at.side at.question b d case rest at.on.follows at.on.goes_on at.branch i left
-
-pub piece_stops : (search : Search) (case : Case) (b d child : Path) (rest : Remainder) (stop : UnfoldStop) → IsAmong rest case.pieces → at_rest (judge_of search).params b rest.conj ≡ Some d → child ≡ d → StopsUnder search (Follows search child) stop → StopsUnder search (FollowsCase search case b) stop
-piece_stops search case b d child rest stop i is e h =
-    stops_from search (FollowsCase search case b) (Follows search child) stop (λ u of at. subst (λ (x : Path). Follows search x u) (sym e) (rest_follows search case b d rest u of i is at)) h
 
 -- the rows of what is left are not formed
 rest_lacks : (search : Search) (case : Case) (b : Path) (rest : Remainder) (u : Unfolding) → IsOf search u → IsAmong rest case.pieces → FollowsCase search case b u → at_rest (judge_of search).params b rest.conj ≡ None → Lacks search b u
@@ -205,18 +173,11 @@ rest_stops search case b rest stop i h = handed search (FollowsCase search case 
 -- ---- a case cut by its kills
 
 -- at the branch of the case nothing is cut yet
-whole_cut : (search : Search) (case : Case) (b : Path) (u : Unfolding) → FollowsCase search case b u → FollowsCut search case b u
+pub whole_cut : (search : Search) (case : Case) (b : Path) (u : Unfolding) → FollowsCase search case b u → FollowsCut search case b u
 whole_cut search case b u at = record { branch = b; in_case = at; cut = IsCut.whole }
 
-pub enter_stops : {A : Type 0} (r : Result A UnfoldStop) (search : Search) (case : Case) (q v : Path) → v ≡ q → IfErr r (StopsUnder search (FollowsCut search case v)) → IfErr r (StopsUnder search (FollowsCase search case q))
-enter_stops r search case q v e h = err_from r search (FollowsCase search case q) (FollowsCut search case v) (λ u of at. subst (λ (x : Path). FollowsCut search case x u) (sym e) (whole_cut search case q u at)) h
-
--- at a node with the same question
-pub opened_stops : {A : Type 0} (r : Result A UnfoldStop) (search : Search) (case : Case) (q v : Path) → v ≡ q → IfErr r (StopsUnder search (FollowsCut search case v)) → IfErr r (StopsUnder search (FollowsCut search case q))
-opened_stops r search case q v e h = err_from r search (FollowsCut search case q) (FollowsCut search case v) (λ u of at. subst (λ (x : Path). FollowsCut search case x u) (sym e) at) h
-
 -- a path goes on at a case so cut
-cut_follows : (search : Search) (case : Case) (q : Path) (u : Unfolding) → IsOf search u → FollowsCut search case q u → Follows search q u
+pub cut_follows : (search : Search) (case : Case) (q : Path) (u : Unfolding) → IsOf search u → FollowsCut search case q u → Follows search q u
 cut_follows search case q u of at =
     let in_case = at.in_case in
     let cut : IsCut (params_of u) case at.branch q = subst (λ (k : ℕ). IsCut k case at.branch q) (sym (params_are search u of)) at.cut in
@@ -250,18 +211,6 @@ row_stops search case q row stop is unbranched h =
 pub kills_rows : (search : Search) (case : Case) (q : Path) (kill : Conj × Kill) (rows : List Row) → IsAmong kill case.kills → kill_on (judge_of search).params q kill.0 ≡ Some rows → AreKillsRows search case q rows
 kills_rows search case q kill rows i e = record { kill = kill; among = i; are = e }
 
--- one of them, with further rows and columns of the question
-pub kills_row : (search : Search) (case : Case) (node within : Node) (rows : List Row) (row : Row) → GoesWithin node within → AreKillsRows search case node.question rows → IsAmong row rows → IsKillsRow search case within.question row
-kills_row search case node within rows row w h i =
-    let last : within.question.last ≡ node.question.last = ap (λ (x : Path). x.last) w.question.is in
-    record {
-      kill = h.kill;
-      among = h.among;
-      rows = rows;
-      are = ap (option_and_then (λ (a : Assumed). rows_renaming (case_columns (judge_of search).params a) h.kill.0.rows)) last ∙ h.are;
-      row_among = i;
-    }
-
 -- where such a row does not hold
 pub kills_sides : (search : Search) (case : Case) (q : Path) (row : Row) (parts : Parts) (sides : List Part) → AreSides q.conj.columns row (Some parts) → sides ≡ parts.outside → IsKillsRow search case q row → AreKillsSides search case q sides
 kills_sides search case q row parts sides are e h = record { row = row; is = h; are = e ∙ ap (λ (x : Parts). x.outside) are.1 }
@@ -277,29 +226,11 @@ inside_cuts search case node within row parts h are e b done =
     let inside : parts.inside ≡ inside_of row = ap (λ (x : Parts). x.inside) are.1 in
     subst (IsCut (judge_of search).params case b) (sym e) (cut_side search case b node.question row parts.inside h (inl inside) done)
 
--- a node cuts nothing by itself
-pub cuts_itself : (search : Search) (case : Case) (node same : Node) → same ≡ node → CutsOn search case node same
-cuts_itself search case node same e b done = subst (λ (x : Node). IsCut (judge_of search).params case b x.question) (sym e) done
-
--- one cut after another
-pub cuts_more : (search : Search) (case : Case) (node within last : Node) → CutsOn search case node within → CutsOn search case within last → CutsOn search case node last
-cuts_more search case node within last f g b done = g b (f b done)
-
--- at what is cut on
-pub cut_stops : (search : Search) (case : Case) (node within : Node) (stop : UnfoldStop) → CutsOn search case node within → StopsUnder search (FollowsCut search case within.question) stop → StopsUnder search (FollowsCut search case node.question) stop
-cut_stops search case node within stop cuts h =
-    stops_from search (FollowsCut search case node.question) (FollowsCut search case within.question) stop (λ u of at. record { branch = at.branch; in_case = at.in_case; cut = cuts at.branch at.cut }) h
-
 -- on a side where a row of a kill does not hold
-side_cut : (search : Search) (case : Case) (q : Path) (parts : List Part) (part : Part) (u : Unfolding) → AreKillsSides search case q parts → IsAmong part parts → FollowsCut search case q u → FollowsCut search case (at_rows q (side_of q.conj part)) u
+pub side_cut : (search : Search) (case : Case) (q : Path) (parts : List Part) (part : Part) (u : Unfolding) → AreKillsSides search case q parts → IsAmong part parts → FollowsCut search case q u → FollowsCut search case (at_rows q (side_of q.conj part)) u
 side_cut search case q parts part u sides i at =
     let there : IsAmong part (outside_of q.conj.columns sides.row) = subst (IsAmong part) sides.are i in
     record { branch = at.branch; in_case = at.in_case; cut = cut_side search case at.branch q sides.row part sides.is (inr there) at.cut }
-
-pub side_stops : (search : Search) (case : Case) (q beside : Path) (parts : List Part) (part : Part) (stop : UnfoldStop) → AreKillsSides search case q parts → IsAmong part parts → beside ≡ at_rows q (side_of q.conj part) → StopsUnder search (FollowsCut search case beside) stop
-    → StopsUnder search (FollowsCut search case q) stop
-side_stops search case q beside parts part stop sides i e h =
-    stops_from search (FollowsCut search case q) (FollowsCut search case beside) stop (λ u of at. subst (λ (x : Path). FollowsCut search case x u) (sym e) (side_cut search case q parts part u sides i at)) h
 
 -- ---- starts
 

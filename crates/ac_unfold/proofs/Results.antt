@@ -5,16 +5,12 @@ use Rattle.std.specs.Prelude.{Result, Ok, Err, IfOk, IfSome, slice_get}
 use Rattle.ac_forms.specs.declared.row.Row.{Row}
 use Rattle.ac_claims_paths.specs.WellFormedPaths.{AllFormed, IsFormed}
 use Rattle.ac_claims_paths.specs.PathSteps.{Pairing, at_rows}
-use Rattle.ac_claims_paths.specs.CopyKills.{case_width}
 use Rattle.ac_forms.specs.ListMembers.{IsAmong}
 use Rattle.ac_claims_paths.specs.declared.path.Path.{Path}
 use Rattle.ac_claims.specs.declared.types.Claim.{Claim}
-use Rattle.ac_claims.specs.declared.types.Kill.{Kill}
 use Rattle.ac_claims.specs.declared.types.Plan.{Plan}
 use Rattle.ac_claims.specs.declared.types.PlanNext.{PlanNext}
-use Rattle.ac_claims.specs.declared.types.PlanNext.TheVariants.{Killed}
 use Rattle.ac_flow.specs.declared.types.Case.{Case}
-use Rattle.ac_flow.specs.KillAcceptance.{on_path}
 use Rattle.ac_claims_plans.specs.Embeddings.{advanced}
 use Rattle.ac_claims_plans.specs.BranchSides.{outside_of, on_side, AreSides}
 use Rattle.ac_claims_plans.specs.declared.branching.Part.{Part}
@@ -23,12 +19,10 @@ use Rattle.ac_claims_plans.specs.declared.embedding.Embedding.{Embedding}
 use Rattle.ac_claims_plans.specs.QuestionPaths.{IsPlanFor}
 use Rattle.ac_claims_plans.specs.QuestionPlans.{question_on, AreSidePlans}
 use Rattle.ac_unfold_plans.specs.PlanEnds.{IsEnd}
-use Rattle.ac_unfold_plans.specs.KillEnds.{IsKillAt, kill_on}
-use Rattle.ac_unfold_plans.proofs.Killing.{kills_plans}
-use Rattle.ac_unfold.specs.OpenBranches.{IsBehind, HasBranchMore}
-use Rattle.ac_unfold.specs.KillCuts.{AreMadeOn, CutsMore, IsKilled, IsKillThere}
-use Rattle.ac_unfold.specs.PlanResults.{judge_of, EndsWhere, IsCaseAt, IsEndFor, IsGiven, IsMade, IsMadeIn, IsPlanIn, IsRefuted}
-use Rattle.ac_unfold.specs.EndRows.{AreKept, AreRefutedOn, Cuts, IsEndedPlan, IsEndOf, KeepsMore, StopsBeside}
+use Rattle.ac_unfold.specs.OpenBranches.{HasBranchMore}
+use Rattle.ac_unfold.specs.KillCuts.{AreMadeOn}
+use Rattle.ac_unfold.specs.PlanResults.{judge_of, EndsWhere, IsCaseAt, IsEndFor, IsMade, IsMadeIn, IsPlanIn, IsRefuted}
+use Rattle.ac_unfold.specs.EndRows.{AreKept, AreRefutedOn, IsEndedPlan, IsEndOf, KeepsMore}
 use Rattle.ac_unfold.specs.SearchPlanStops.{EndsAnywhere, StopsIn}
 use Rattle.ac_unfold.specs.RequiredRows.{CanStand}
 use Rattle.ac_unfold.specs.declared.course.Course.{Course}
@@ -36,8 +30,7 @@ use Rattle.ac_unfold.specs.declared.ends.Search.{Search}
 use Rattle.ac_unfold.specs.declared.node.Node.{Node}
 use Rattle.ac_unfold.specs.declared.types.UnfoldStop.{UnfoldStop}
 use Rattle.ac_unfold.proofs.Growing.{grown_part}
-use Rattle.ac_unfold.proofs.Keeping.{branch_more, case_beside, cut_goes, cuts_start, keeps_start, refuted_end}
-use Rattle.ac_unfold.proofs.Matching.{rows_along}
+use Rattle.ac_unfold.proofs.Keeping.{branch_more, case_beside, keeps_start, refuted_end}
 use Rattle.ac_unfold.proofs.Stops.{all_more, anywhere_stops, behind_stops, beside_none, there_stops}
 
 -- ---- what stands in a list
@@ -75,26 +68,6 @@ refuted_in search case s q o h = made_in search case s q o (refuted_made search 
 pub all_refuted_made : (res : Result (Option Plan) UnfoldStop) (search : Search) (s : Embedding) (q : Path) → IfOk res (λ o. IfSome o (IsRefuted s q)) → IfOk res (λ o. IfSome o (IsMade search s q))
 all_refuted_made (Ok o) search s q h = refuted_made search s q o h
 all_refuted_made (Err e) search s q h = tt
-
-pub all_made_in : (res : Result (Option Plan) UnfoldStop) (search : Search) (case : Case) (s : Embedding) (q : Path) → IfOk res (λ o. IfSome o (IsMade search s q)) → IfOk res (λ o. IfSome o (IsMadeIn search case s q))
-all_made_in (Ok o) search case s q h = made_in search case s q o h
-all_made_in (Err e) search case s q h = tt
-
--- at a node with the same question
-pub same_made_in : (res : Result (Option Plan) UnfoldStop) (search : Search) (case : Case) (s z : Embedding) (q v : Path) → (v ≡ q) × (z ≡ s) → IfOk res (λ o. IfSome o (IsMadeIn search case z v)) → IfOk res (λ o. IfSome o (IsMadeIn search case s q))
-same_made_in res search case s z q v e h = subst (λ (x : Embedding). IfOk res (λ o. IfSome o (IsMadeIn search case x q))) e.1 (subst (λ (x : Path). IfOk res (λ o. IfSome o (IsMadeIn search case z x))) e.0 h)
-
-pub same_made : (res : Result (Option Plan) UnfoldStop) (search : Search) (s z : Embedding) (q v : Path) → (v ≡ q) × (z ≡ s) → IfOk res (λ o. IfSome o (IsMade search z v)) → IfOk res (λ o. IfSome o (IsMade search s q))
-same_made res search s z q v e h = subst (λ (x : Embedding). IfOk res (λ o. IfSome o (IsMade search x q))) e.1 (subst (λ (x : Path). IfOk res (λ o. IfSome o (IsMade search z x))) e.0 h)
-
-pub none_made : (res : Result (Option Plan) UnfoldStop) (search : Search) (case : Case) (s : Embedding) (q : Path) → IfOk res (λ o. o ≡ None) → IfOk res (λ o. IfSome o (IsMadeIn search case s q))
-none_made (Ok o) search case s q h = subst (λ (x : Option Plan). IfSome x (IsMadeIn search case s q)) (sym h) tt
-none_made (Err e) search case s q h = tt
-
-pub with_kill : (res : Result (Option Plan) UnfoldStop) (P : Type 0) (Q : Plan → Type 0) → IfOk res (λ o. IfSome o (λ t. P → Q t)) → P → IfOk res (λ o. IfSome o Q)
-with_kill (Ok (Some t)) P Q h p = h p
-with_kill (Ok None) P Q h p = tt
-with_kill (Err e) P Q h p = tt
 
 -- ---- rows that have to stand
 
@@ -142,14 +115,6 @@ branched search course next row outside parts sides a e r o q p can =
     branch_more search course next row outside o q (p ∙ ap (λ (x : Parts). advanced course.node.embedding x.inside.path_columns x.inside.path_rows) a.1) can a.0
     (subst (λ (ps : List Part). AreRefutedOn search course.node.embedding course.node.question ps outside) same r)
 
-pub cut_branched : (search : Search) (case : Case) (course next : Course) (row : Row) (outside : List Plan) (parts : Parts) (sides : List Part) → AreSides course.node.question.conj.columns row (Some parts) → sides ≡ parts.outside → AreMadeOn search case course.node.embedding course.node.question sides outside
-    → HasBranchMore course row outside next → next.node.question ≡ question_on course.node.question parts.inside → next.node.embedding ≡ on_side course.node.embedding parts.inside → CanStand course.node.question.conj.columns row → CutsMore search case course row next
-cut_branched search case course next row outside parts sides a e r o q p can =
-    let n = course.node.question.conj.columns in
-    let same : sides ≡ outside_of n row = e ∙ ap (λ (x : Parts). x.outside) a.1 in
-    cut_goes search case course next row outside o (q ∙ ap (λ (x : Parts). question_on course.node.question x.inside) a.1) (p ∙ ap (λ (x : Parts). on_side course.node.embedding x.inside) a.1) can a.0
-    (subst (λ (ps : List Part). AreMadeOn search case course.node.embedding course.node.question ps outside) same r)
-
 -- ---- sides
 
 pub sides_more : (g : Pairing) (cs : List Claim) (s : Embedding) (q : Path) (ps : List Part) (ts : List Plan) (p : Part) (t : Plan) → AreSidePlans g cs s q ps ts → IsPlanFor g cs (on_side s p) (question_on q p) t → AreSidePlans g cs s q (ps ++ p ∷ []) (ts ++ t ∷ [])
@@ -192,41 +157,3 @@ made_more search case s q ps ts p beside t h e f made = record {
 }
 
 -- ---- the rows of a kill
-
-pub record AreCut (search : Search) (case : Case) (node : Node) (course : Course) (rows : List Row) : Type 0 where
-  pub cuts : (cs : List Claim) → IsGiven search cs → IsCaseAt (judge_of search) node.question case → IsFormed (judge_of search).params node.question → Cuts search cs node.embedding node.question course rows
-  pub beside : StopsBeside search node.question course
-
-pub cut_none : (search : Search) (case : Case) (node : Node) (course : Course) → course.node ≡ node → course.branches.items ≡ [] → AreCut search case node course []
-cut_none search case node course e none = record { cuts = λ cs given assumed formed. cuts_start search cs node course e none formed; beside = beside_none search node course e none }
-
-pub cut_more : (search : Search) (case : Case) (node : Node) (course next : Course) (rows : List Row) (row : Row) → AreCut search case node course rows → CutsMore search case course row next → AreCut search case node next (rows ++ row ∷ [])
-cut_more search case node course next rows row h k = record { cuts = λ cs given assumed formed. k.cuts cs node.embedding node.question rows given assumed (h.cuts cs given assumed formed); beside = k.beside node.question h.beside }
-
-cut_plan : (search : Search) (case : Case) (node : Node) (course : Course) (rows : List Row) (kill : Kill) (end t : Plan) → AreCut search case node course rows → IsKilled search course.node kill end → IsBehind course.branches.items end t → IsKillThere search node.question case kill rows
-    → IsCaseAt (judge_of search) node.question case → IsPlanIn search node.embedding node.question t
-unfolding IsPlanIn
-cut_plan search case node course rows kill end t h killed behind there assumed cs given formed =
-    let g = judge_of search in
-    let k = h.cuts cs given assumed formed in
-    let v = course.node.question in
-    let a = assumed.assumed in
-    let last : v.last ≡ Some a = ap (λ (x : Path). x.last) k.positions ∙ assumed.is in
-    let at : IsKillAt g v a there.whole rows = record {
-      model = assumed.model;
-      reads = assumed.reader;
-      case = case;
-      is = record { flow = assumed.flow; is = assumed.flow_is; case_among = assumed.among; among = there.among };
-      last = last;
-      assumed = assumed.stands_for;
-      rows = sym (there.moved a assumed.is);
-    } in
-    let end_is : IsEnd (Killed (kill_on g course.node.embedding a there.whole.1)) end = subst (λ (x : Kill). IsEnd (Killed (on_path (case_width g.params a) course.node.embedding.next_column x)) end) (sym there.is) (killed.ends a last) in
-    k.leads end t (kills_plans g cs course.node.embedding v a there.whole rows end at (rows_along g.params course.node.embedding v rows k.formed.made k.standing) end_is) behind
-
-pub cut_made : (search : Search) (case : Case) (node : Node) (course : Course) (rows : List Row) (kill : Kill) (end t : Plan) → AreCut search case node course rows
-    → IsKilled search course.node kill end → IsBehind course.branches.items end t → IsKillThere search node.question case kill rows → IsMadeIn search case node.embedding node.question t
-cut_made search case node course rows kill end t h killed behind there = record {
-  plan = cut_plan search case node course rows kill end t h killed behind there;
-  stops = behind_stops search node.question course.branches.items end t h.beside.outside behind (anywhere_stops search node.question end.next killed.stops);
-}

@@ -1,6 +1,6 @@
 -- Plans for the branches of a step, one after the other.
 use Rattle.std.specs.Prelude.{IfSome}
-use Rattle.std.proofs.Common.{◌≡◌, ℕ, ◌+◌, ◌-◌, List, [], ◌∷◌, ◌++◌, map, length, Option, Some, None, true, false, refl, sym, ap, ◌∙◌, subst, arith, length-append}
+use Rattle.std.proofs.Common.{◌≡◌, ℕ, ◌+◌, ◌-◌, List, [], ◌∷◌, ◌++◌, map, length, Option, Some, None, refl, sym, ap, ◌∙◌, subst, arith, length-append}
 use Rattle.ac_syntax.specs.declared.tree.Order.{Order}
 use Rattle.ac_claims_paths.specs.BranchPaths.{onto}
 use Rattle.ac_claims_paths.specs.WellFormedPaths.{AllFormed, HasModuli, IsFormed}
@@ -85,9 +85,6 @@ unfolding IsPlanIn
 served_step search s q order found ts t serve step is formed cs given f =
     let g = judge_of search in
     step.follows g given.settled.left given.settled.right cs s q (map (onto q) found) f (sym is) (serve.serve cs given (formed given.settled.left given.settled.right f))
-
-pub serve_off : (search : Search) (s : Embedding) (q : Path) (bs : List Branch) (ts : List Plan) → search.making ≡ false → ServeBranches search s q bs ts
-serve_off search s q bs ts e = record { serve = λ cs given formed. let z : true ≡ false = sym given.making ∙ e in absurd cc; stop = record { stop = λ making g at. let z : true ≡ false = sym making ∙ e in absurd cc; use_tabled = λ making may_use_tabled. let z : true ≡ false = sym making ∙ e in absurd cc } }
 
 -- the plan of the step, where there is one and the step may be taken
 pub step_made : (search : Search) (s : Embedding) (q : Path) (order : Order) (found : List Branch) (ts : List Plan) (o : Option Plan) → ServeBranches search s q found ts → IfSome o (IsStep order ts) → Some (map (onto q) found) ≡ branches (judge_of search) order q

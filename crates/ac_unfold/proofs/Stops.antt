@@ -96,7 +96,7 @@ beside_more search q course next row outside o w all b =
           (all_more (λ (b : Open). AllByRecursion (λ (t : Plan). StopsIn search q t.next) b.outside.items) course.branches.items o.last b.outside here);
     }
 
-branches_in : (search : Search) (q : Path) (ts : List Plan) (x : PlanNext) → BranchesTo ts x → AllByRecursion (λ (t : Plan). StopsIn search q t.next) ts → StopsIn search q x
+pub branches_in : (search : Search) (q : Path) (ts : List Plan) (x : PlanNext) → BranchesTo ts x → AllByRecursion (λ (t : Plan). StopsIn search q t.next) ts → StopsIn search q x
 unfolding StopsIn
 branches_in search q ts x b all making = ((λ g at. branches_stop g (positions_at q) q.gone ts x b (each g at ts all)), (λ may_use_tabled. branches_use_tabled (judge_of search) search.tabled.now q ts x b (use_tabled may_use_tabled ts all)))
   where

@@ -62,7 +62,7 @@ use Rattle.ac_unfold.specs.Unfoldings.{IsUnfoldingOf}
 use Rattle.ac_unfold.specs.declared.ends.Search.{Search}
 use Rattle.ac_unfold.specs.declared.kinds.Next.TheVariants as next
 use Rattle.ac_unfold.specs.declared.types.ProgramFlows.{ProgramFlows}
-use Rattle.ac_unfold.proofs.Coming.{is_of, length_last, params_are}
+use Rattle.ac_unfold.proofs.Coming.{is_of, params_are}
 use Rattle.ac_unfold.proofs.Failing.{class_fails}
 use Rattle.ac_unfold.proofs.Results.{in_get}
 use Rattle.ac_unfold.proofs.Stopped.{targets_by}
@@ -87,10 +87,6 @@ not_more search before now after k l none = let n = none.none in omega (arith, n
 pub not_making : (search : Search) (before after : BrokenPathsOf) → search.making ≡ true → ¬ (FindsNone search before after)
 not_making search before after on none = let z : true ≡ false = sym on ∙ none.finding in absurd cc
 
-pub off_making : {T E : Type 0} (res : Result T E) (search : Search) (before after : BrokenPathsOf) (P : Type 0) → search.making ≡ true → OnOk res (FindsNone search before after → P)
-off_making (Ok x) search before after P on = λ none. absurd (not_making search before after on none)
-off_making (Err e) search before after P on = tt
-
 -- the same of the question where the paths are those of another time
 pub none_same : {T E : Type 0} (res : Result T E) (search : Search) (before now after : BrokenPathsOf) (P : Type 0) → now.paths ≡ before.paths → OnOk res (FindsNone search now after → P) → OnOk res (FindsNone search before after → P)
 none_same (Ok x) search before now after P e h = λ none. let l = ap length e in h (none_after search before now after (omega (arith, l)) none)
@@ -112,16 +108,6 @@ last_or (z ∷ xs) x y (inr i) = by (last_or xs x y i)
     by : IsAmong y xs ⊎ (y ≡ x) → IsAmong y (z ∷ xs) ⊎ (y ≡ x)
     by (inl j) = inl (inr j)
     by (inr e) = inr e
-
-get_last : {A : Type 0} (xs : List A) (x y : A) (n : ℕ) → slice_get (xs ++ x ∷ []) n ≡ Some y → (slice_get xs n ≡ Some y) ⊎ ((n ≡ length xs) × (y ≡ x))
-get_last [] x y zero e = inr (refl, sym (some-is x y e))
-get_last [] x y (suc n) e = absurd cc
-get_last (z ∷ xs) x y zero e = inl e
-get_last (z ∷ xs) x y (suc n) e = by (get_last xs x y n e)
-  where
-    by : (slice_get xs n ≡ Some y) ⊎ ((n ≡ length xs) × (y ≡ x)) → (slice_get xs n ≡ Some y) ⊎ ((suc n ≡ suc (length xs)) × (y ≡ x))
-    by (inl j) = inl j
-    by (inr k) = inr (ap suc k.0, k.1)
 
 in_map : {A B : Type 0} (F : A → B) (xs : List A) (y : B) → IsAmong y (map F xs) → (x : A) × IsAmong x xs × (y ≡ F x)
 in_map F [] y i = absurd i
@@ -244,27 +230,10 @@ match_stands search q rows goes targets h = λ u of. Stands.matches q (record { 
 
 -- ---- calls
 
--- the first branches stand, if no further path was found behind them
-unfoldable pub BranchesStand : Search → Path → List Branch → BrokenPathsOf → BrokenPathsOf → Type 0
-BranchesStand search q found before after = FindsNone search before after → (b : Branch) → IsAmong b found → StandsIn search (onto q b)
-
-pub branches_none : (search : Search) (q : Path) (before after : BrokenPathsOf) → BranchesStand search q [] before after
-unfolding BranchesStand
-branches_none search q before after = λ none b i. absurd i
-
-pub branches_more : (search : Search) (q child : Path) (found : List Branch) (b : Branch) (before now after : BrokenPathsOf) → length before.paths ≤ length now.paths → length now.paths ≤ length after.paths → BranchesStand search q found before now → child ≡ onto q b
-    → (FindsNone search now after → StandsIn search child) → BranchesStand search q (found ++ b ∷ []) before after
-unfolding BranchesStand
-branches_more search q child found b before now after k l h e stands = λ none x i. by none x (last_or found b x i)
-  where
-    by : FindsNone search before after → (x : Branch) → IsAmong x found ⊎ (x ≡ b) → StandsIn search (onto q x)
-    by none x (inl j) = h (none_before search before now after l none) x j
-    by none x (inr f) = subst (StandsIn search) (e ∙ ap (onto q) (sym f)) (stands (none_after search before now after k none))
-
-pub calls_stand : (search : Search) (q : Path) (order : Order) (found : List Branch) (before after : BrokenPathsOf) → IsKindThere search q (next.Calls order) → AreTwoCalls (judge_of search) q → GoesOn search.claims.now q → Some (map (onto q) found) ≡ branches (judge_of search) order q
-    → BranchesStand search q found before after → FindsNone search before after → StandsIn search q
-unfolding IsKindThere StandsIn BranchesStand
-calls_stand search q order found before after kind two goes is h none = λ u of.
+pub calls_stand : (search : Search) (q : Path) (order : Order) (found : List Branch) → IsKindThere search q (next.Calls order) → AreTwoCalls (judge_of search) q → GoesOn search.claims.now q → Some (map (onto q) found) ≡ branches (judge_of search) order q
+    → ((b : Branch) → IsAmong b found → StandsIn search (onto q b)) → StandsIn search q
+unfolding IsKindThere StandsIn
+calls_stand search q order found kind two goes is h = λ u of.
     let bs = map (onto q) found in
     let k = kind u of in
     let there : branches (pairing_of u.pair) order q ≡ Some bs = ap (λ (g : Pairing). branches g order q) of.programs ∙ sym is in
@@ -274,38 +243,17 @@ calls_stand search q order found before after kind two goes is h none = λ u of.
     Stands.calls q bs goes k.0 (subst (λ (g : Pairing). AreTwoCalls g q) (sym of.programs) two) taken
     (λ b i.
     let x = in_map (onto q) found b i in
-    subst (λ (y : Path). Stands u search.program_flows.now.left_flow.now search.program_flows.now.right_flow.now search.claims.now y) (sym x.2) (h none x.0 x.1 u of))
+    subst (λ (y : Path). Stands u search.program_flows.now.left_flow.now search.program_flows.now.right_flow.now search.claims.now y) (sym x.2) (h x.0 x.1 u of))
 
 -- ---- reads
-
--- the same of a read or an output, each branch with the case that has its number
-unfoldable pub CasesStand : Search → Path → ReadFlow → ℕ → List Branch → BrokenPathsOf → BrokenPathsOf → Type 0
-CasesStand search q read number found before after =
-    (number ≡ length found) × (FindsNone search before after → (n : ℕ) (b : Branch) → slice_get found n ≡ Some b → (case : Case) × (slice_get read.cases n ≡ Some case) × CaseStands search case (onto q b))
-
-pub cases_none : (search : Search) (q : Path) (read : ReadFlow) (before after : BrokenPathsOf) → CasesStand search q read 0 [] before after
-unfolding CasesStand
-cases_none search q read before after = (refl, λ none n b e. absurd cc)
-
-pub cases_more : (search : Search) (q child : Path) (read : ReadFlow) (case : Case) (number next_number : ℕ) (found : List Branch) (b : Branch) (before now after : BrokenPathsOf) → length before.paths ≤ length now.paths → length now.paths ≤ length after.paths → slice_get read.cases number ≡ Some case
-    → CasesStand search q read number found before now → child ≡ onto q b → next_number ≡ number + 1 → (FindsNone search now after → CaseStands search case child) → CasesStand search q read next_number (found ++ b ∷ []) before after
-unfolding CasesStand
-cases_more search q child read case number next_number found b before now after k l get h e m stands = (
-  m ∙ ap (λ (j : ℕ). j + 1) h.0 ∙ sym (length_last found b),
-  λ none n x f. by none n x (get_last found b x n f),
-)
-  where
-    by : FindsNone search before after → (n : ℕ) (x : Branch) → (slice_get found n ≡ Some x) ⊎ ((n ≡ length found) × (x ≡ b)) → (case : Case) × (slice_get read.cases n ≡ Some case) × CaseStands search case (onto q x)
-    by none n x (inl f) = h.1 (none_before search before now after l none) n x f
-    by none n x (inr f) = (case, ap (slice_get read.cases) (f.0 ∙ sym h.0) ∙ get, subst (CaseStands search case) (e ∙ ap (onto q) (sym f.1)) (stands (none_after search before now after k none)))
 
 left_question : (search : Search) (u : Unfolding) (q : Path) (b : Path) (x : Branch) (rest : Remainder) (z : StandsLeft search (onto q x) rest) → IsOf search u → b ≡ onto q x → at_rest (params_of u) b rest.conj ≡ Some z.question
 left_question search u q b x rest z of e = ap (λ (k : ℕ). at_rest k b rest.conj) (params_are search u of) ∙ ap (λ (y : Path). at_rest (judge_of search).params y rest.conj) e ∙ z.is
 
-pub reads_stand : (search : Search) (q : Path) (side : Side) (read : ReadFlow) (number : ℕ) (found : List Branch) (before after : BrokenPathsOf) → IsKindThere search q (next.Read side) → IsAmong read (flow_on search.program_flows.now.left_flow.now search.program_flows.now.right_flow.now side).reads → read.position ≡ (seat_of q side).position
-    → GoesOn search.claims.now q → Some (map (onto q) found) ≡ branches (judge_of search) Keep q → CasesStand search q read number found before after → FindsNone search before after → StandsIn search q
-unfolding IsKindThere StandsIn CasesStand CaseStands
-reads_stand search q side read number found before after kind among position goes is h none = λ u of.
+pub reads_stand : (search : Search) (q : Path) (side : Side) (read : ReadFlow) (found : List Branch) → IsKindThere search q (next.Read side) → IsAmong read (flow_on search.program_flows.now.left_flow.now search.program_flows.now.right_flow.now side).reads → read.position ≡ (seat_of q side).position
+    → GoesOn search.claims.now q → Some (map (onto q) found) ≡ branches (judge_of search) Keep q → ((n : ℕ) (b : Branch) → slice_get found n ≡ Some b → (case : Case) × (slice_get read.cases n ≡ Some case) × CaseStands search case (onto q b)) → StandsIn search q
+unfolding IsKindThere StandsIn CaseStands
+reads_stand search q side read found kind among position goes is h = λ u of.
     Stands.reads side q read (map (onto q) found) goes
     (record {
       reads = kind u of;
@@ -314,7 +262,7 @@ reads_stand search q side read number found before after kind among position goe
       are = ap (λ (g : Pairing). branches g Keep q) of.programs ∙ sym is;
       cases = λ n b e.
           let x = get_map (onto q) found n b e in
-          let y = h.1 none n x.0 x.1 in
+          let y = h n x.0 x.1 in
           record {
             case = y.0;
             is = y.1;
@@ -326,34 +274,13 @@ reads_stand search q side read number found before after kind among position goe
     })
     (λ d left.
     let x = get_map (onto q) found left.number left.branch left.branch_is in
-    let y = h.1 none left.number x.0 x.1 in
+    let y = h left.number x.0 x.1 in
     let same : left.case ≡ y.0 = some-is left.case y.0 (sym left.case_is ∙ y.1) in
     let z = y.2 left.rest (subst (λ (k : Case). IsAmong left.rest k.pieces) same left.among) in
     let there : z.question ≡ d = some-is z.question d (sym (left_question search u q left.branch x.0 left.rest z of x.2) ∙ left.is) in
     subst (λ (y : Path). Stands u search.program_flows.now.left_flow.now search.program_flows.now.right_flow.now search.claims.now y) there (z.stands u of))
 
 -- ---- what is left of a case
-
--- at the first ones of what is left, questions stand if no further path was found
-unfoldable pub PiecesStand : Search → Path → List Remainder → BrokenPathsOf → BrokenPathsOf → Type 0
-PiecesStand search b pieces before after = FindsNone search before after → (rest : Remainder) → IsAmong rest pieces → StandsLeft search b rest
-
-pub pieces_none : (search : Search) (b : Path) (before after : BrokenPathsOf) → PiecesStand search b [] before after
-unfolding PiecesStand
-pieces_none search b before after = λ none rest i. absurd i
-
-pub pieces_more : (search : Search) (b child : Path) (pieces more : List Remainder) (rest : Remainder) (before now after : BrokenPathsOf) → more ≡ pieces ++ rest ∷ [] → length before.paths ≤ length now.paths → length now.paths ≤ length after.paths → PiecesStand search b pieces before now
-    → at_rest (judge_of search).params b rest.conj ≡ Some child → (FindsNone search now after → StandsIn search child) → PiecesStand search b more before after
-unfolding PiecesStand
-pieces_more search b child pieces more rest before now after m k l h e stands = λ none x i. by none x (last_or pieces rest x (subst (IsAmong x) m i))
-  where
-    by : FindsNone search before after → (x : Remainder) → IsAmong x pieces ⊎ (x ≡ rest) → StandsLeft search b x
-    by none x (inl j) = h (none_before search before now after l none) x j
-    by none x (inr f) = subst (StandsLeft search b) (sym f) (record { question = child; is = e; stands = stands (none_after search before now after k none) })
-
-pub pieces_all : (search : Search) (case : Case) (b : Path) (pieces : List Remainder) (before after : BrokenPathsOf) → pieces ≡ case.pieces → PiecesStand search b pieces before after → FindsNone search before after → CaseStands search case b
-unfolding PiecesStand CaseStands
-pieces_all search case b pieces before after e h none = λ rest i. h none rest (subst (IsAmong rest) (sym e) i)
 
 -- ---- starts
 

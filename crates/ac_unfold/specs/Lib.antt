@@ -23,3 +23,4 @@ pub mod UnfoldStops
 pub mod RequiredRows
 pub mod UnbrokenStarts
 pub mod UnbrokenResults
+pub mod UnfoldTasks

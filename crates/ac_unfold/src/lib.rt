@@ -3,6 +3,7 @@
 #![tactic(auto)]
 
 mod breaks;
+mod calls;
 mod casing;
 mod claiming;
 mod course;
@@ -10,13 +11,16 @@ mod decide;
 mod ends;
 mod further;
 mod killing;
+mod kills;
 mod kinds;
 pub mod laws;
 mod node;
+mod reads;
 mod remaining;
 mod starting;
 pub mod steps;
 mod tabling;
+mod tasks;
 pub mod types;
 mod unfolding;
 mod witness;

@@ -32,7 +32,7 @@ use crate::decide::{Opened, open_question};
 use crate::ends::Search;
 use crate::node::Node;
 use crate::types::{Planned, ProgramFlows, UnfoldStop};
-use crate::unfolding::{MOST_DEEP, visit};
+use crate::unfolding::visit;
 use ac_base::Items;
 use ac_claims::domains::size_at;
 use ac_claims::starts::start_at;
@@ -96,7 +96,7 @@ fn unfold_at(
     let question = open_question(alloc, node, search.budget, search.making)?;
     match question {
         Opened::Empty(plan) => Ok(plan),
-        Opened::On(node) => visit(alloc, search, node, found_paths, MOST_DEEP),
+        Opened::On(node) => visit(alloc, search, node, found_paths),
     }
 }
 

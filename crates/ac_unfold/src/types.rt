@@ -48,8 +48,7 @@ pub enum UnfoldStop {
     /// 20,001 paths lead from one start to ends, each through later positions than the one before it, in the order of the dictionary:
     /// these paths, each at a point of its own.
     Paths(Items<Items<Entry>>),
-    /// There was no memory; or the unfolding goes more than 2,000 calls deep, for which no stack is set aside: two for a step of two
-    /// calls, four or five for one of a read, and more where kills are passed or cut.
+    /// There was no memory.
     Memory(AllocError),
 }
 

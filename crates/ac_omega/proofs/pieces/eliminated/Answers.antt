@@ -10,16 +10,16 @@ returns-in-Err-Wide-clause-exact c =
 
 pub returns-in-Ok-search-clause-exact : goal.returns-in-Ok-search-clause-exact
 returns-in-Ok-search-clause-exact c =
-    (first-answer c.args.strategy c.in-Ok-search.field-0 c.search.new.pieces c.args.vars.now c.args.budget c.args.conj.now c.in-Ok.rest _ c.new-path.result c.new-pieces.result c.requires c.in-Ok.ensures.exact.0 c.in-Ok.ensures.exact.1 c.new-path.ensures c.new-pieces.ensures c.in-Ok-search.ensures.exact).exact
+    (first-answer c.args.strategy c.in-Ok-search.field-0 c.search.new.progress.pieces c.args.vars.now c.args.budget c.args.conj.now c.in-Ok.rest _ c.new-path.result c.new-pieces.result c.requires c.in-Ok.ensures.exact.0 c.in-Ok.ensures.exact.1 c.new-path.ensures c.new-pieces.ensures c.in-Ok-search.ensures.exact).exact
 
 pub returns-in-Ok-search-clause-gone : goal.returns-in-Ok-search-clause-gone
 returns-in-Ok-search-clause-gone c =
-    (first-answer c.args.strategy c.in-Ok-search.field-0 c.search.new.pieces c.args.vars.now c.args.budget c.args.conj.now c.in-Ok.rest _ c.new-path.result c.new-pieces.result c.requires c.in-Ok.ensures.exact.0 c.in-Ok.ensures.exact.1 c.new-path.ensures c.new-pieces.ensures c.in-Ok-search.ensures.exact).gone
+    (first-answer c.args.strategy c.in-Ok-search.field-0 c.search.new.progress.pieces c.args.vars.now c.args.budget c.args.conj.now c.in-Ok.rest _ c.new-path.result c.new-pieces.result c.requires c.in-Ok.ensures.exact.0 c.in-Ok.ensures.exact.1 c.new-path.ensures c.new-pieces.ensures c.in-Ok-search.ensures.exact).gone
 
 pub returns-in-Ok-search-clause-projection : goal.returns-in-Ok-search-clause-projection
 returns-in-Ok-search-clause-projection c =
-    (first-answer c.args.strategy c.in-Ok-search.field-0 c.search.new.pieces c.args.vars.now c.args.budget c.args.conj.now c.in-Ok.rest _ c.new-path.result c.new-pieces.result c.requires c.in-Ok.ensures.exact.0 c.in-Ok.ensures.exact.1 c.new-path.ensures c.new-pieces.ensures c.in-Ok-search.ensures.exact).projection
+    (first-answer c.args.strategy c.in-Ok-search.field-0 c.search.new.progress.pieces c.args.vars.now c.args.budget c.args.conj.now c.in-Ok.rest _ c.new-path.result c.new-pieces.result c.requires c.in-Ok.ensures.exact.0 c.in-Ok.ensures.exact.1 c.new-path.ensures c.new-pieces.ensures c.in-Ok-search.ensures.exact).projection
 
-pub returns-clause-exact : goal.returns-clause-exact
-returns-clause-exact c =
-    first-back c.args.strategy c.handed_back-in-Err.result c.in-Err.halt c.search.new.pieces c.args.vars.now c.args.budget c.args.conj.now c.in-Ok.rest _ c.new-path.result c.new-pieces.result c.in-Ok.ensures.exact.0 c.in-Ok.ensures.exact.1 c.new-path.ensures c.new-pieces.ensures c.in-Err.ensures.exact c.handed_back-in-Err.ensures
+pub returns-in-Err-clause-exact : goal.returns-in-Err-clause-exact
+returns-in-Err-clause-exact c =
+    first-back c.args.strategy c.handed_back-in-Err.result c.in-Err.halt c.search.new.progress.pieces c.args.vars.now c.args.budget c.args.conj.now c.in-Ok.rest _ c.new-path.result c.new-pieces.result c.in-Ok.ensures.exact.0 c.in-Ok.ensures.exact.1 c.new-path.ensures c.new-pieces.ensures c.in-Err.ensures.exact c.handed_back-in-Err.ensures

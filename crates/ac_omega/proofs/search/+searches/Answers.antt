@@ -21,29 +21,29 @@ by_column-first-cursor-requires t c = rw c.as_slice-rows.ensures (moduli_of c.ar
 
 pub search-returns-then-count-budget-clause-exact : goal.search-returns-then-count-budget-clause-exact
 search-returns-then-count-budget-clause-exact t c = λ n l.
-    over-budget c.args.strategy c.args.aim c.args.vars.now n c.args.budget c.args.path.now c.args.conj c.args.cost c.saturating_add.result _ c.args.pieces.now c.requires.cost (omega (arith, c.len-count.ensures)) l (rw c.len-count.ensures at c.saturating_add.ensures)
+    over-budget c.args.task.now.strategy c.args.task.now.aim c.args.task.now.vars.now n c.args.task.now.budget c.args.progress.now.path c.args.conj c.args.cost c.saturating_add.result _ c.args.progress.now.pieces c.requires.cost (omega (arith, c.len-count.ensures)) l (rw c.len-count.ensures at c.saturating_add.ensures)
 
 pub search-next_column-requires : goal.search-next_column-requires
 search-next_column-requires t c = rw c.as_slice-3.ensures (moduli_of c.args.conj.columns c.args.conj.rows c.requires.made)
 
 pub search-returns-then-are_absurd-clause-exact : goal.search-returns-then-are_absurd-clause-exact
 search-returns-then-are_absurd-clause-exact t c = λ n l.
-    rw (c.len-count.ensures, c.with_rows-all.ensures, c.as_slice.ensures) (absurd-gone c.args.strategy c.args.aim c.args.vars.now n c.args.budget c.args.path.now c.args.conj c.args.cost _ (omega (arith, c.len-count.ensures)) l (sym (rw c.as_slice-2.ensures at c.if-are_absurd.ensures)))
+    rw (c.len-count.ensures, c.with_rows-all.ensures, c.as_slice.ensures) (absurd-gone c.args.task.now.strategy c.args.task.now.aim c.args.task.now.vars.now n c.args.task.now.budget c.args.progress.now.path c.args.conj c.args.cost _ (omega (arith, c.len-count.ensures)) l (sym (rw c.as_slice-2.ensures at c.if-are_absurd.ensures)))
 
 pub search-by_column-requires : goal.search-by_column-requires
 search-by_column-requires t c =
     let a : are_absurd c.args.conj.rows ≡ false = sym (rw c.as_slice-2.ensures at c.if-are_absurd.ensures) in
-    let o : next_column c.args.strategy c.args.vars.now c.args.conj.rows ≡ Some c.in-Ok-Some.z = sym (rw (c.as_slice-3.ensures, c.in-Ok-Some.field-0-is) at c.in-Ok-Some.ensures) in
-    let r = column-rows c.args.strategy c.args.vars.now c.args.conj.rows c.in-Ok-Some.z o in
-    let within : c.in-Ok-Some.z < c.args.conj.columns = next-within c.args.strategy c.args.vars.now c.args.conj c.in-Ok-Some.z c.requires.made o in
+    let o : next_column c.args.task.now.strategy c.args.task.now.vars.now c.args.conj.rows ≡ Some c.in-Ok-Some.z = sym (rw (c.as_slice-3.ensures, c.in-Ok-Some.field-0-is) at c.in-Ok-Some.ensures) in
+    let r = column-rows c.args.task.now.strategy c.args.task.now.vars.now c.args.conj.rows c.in-Ok-Some.z o in
+    let within : c.in-Ok-Some.z < c.args.conj.columns = next-within c.args.task.now.strategy c.args.task.now.vars.now c.args.conj c.in-Ok-Some.z c.requires.made o in
     let bound : Bounds c.with_rows-all.result c.args.conj.rows = rw (c.with_rows-all.ensures, c.as_slice.ensures) (rows-met c.args.conj.rows c.args.met) in
-    (omega (arith, c.len-count.ensures), (omega (arith, c.len-count.ensures), (c.requires.made, (c.requires.settle, (a, (within, (bound, λ h i. tried-legal c.args.strategy c.in-Ok-Some.z c.args.conj h c.requires.made within a i)))))))
+    (omega (arith, c.len-count.ensures), (omega (arith, c.len-count.ensures), (c.requires.made, (c.requires.settle, (a, (within, (bound, λ h i. tried-legal c.args.task.now.strategy c.in-Ok-Some.z c.args.conj h c.requires.made within a i)))))))
 
 pub search-returns-in-Ok-Some-clause-exact : goal.search-returns-in-Ok-Some-clause-exact
 search-returns-in-Ok-Some-clause-exact t c = λ n l.
     let a : are_absurd c.args.conj.rows ≡ false = sym (rw c.as_slice-2.ensures at c.if-are_absurd.ensures) in
-    let o : next_column c.args.strategy c.args.vars.now c.args.conj.rows ≡ Some c.in-Ok-Some.z = sym (rw (c.as_slice-3.ensures, c.in-Ok-Some.field-0-is) at c.in-Ok-Some.ensures) in
-    by-column c.args.strategy c.args.aim c.args.vars.now n c.args.budget c.args.path.now c.args.conj c.args.cost _ c.in-Ok-Some.z c.by_column.result c.by_column.new.pieces (omega (arith, c.len-count.ensures)) l a o (rw (c.len-count.ensures, c.with_rows-all.ensures, c.as_slice.ensures) at c.by_column.ensures.exact)
+    let o : next_column c.args.task.now.strategy c.args.task.now.vars.now c.args.conj.rows ≡ Some c.in-Ok-Some.z = sym (rw (c.as_slice-3.ensures, c.in-Ok-Some.field-0-is) at c.in-Ok-Some.ensures) in
+    by-column c.args.task.now.strategy c.args.task.now.aim c.args.task.now.vars.now n c.args.task.now.budget c.args.progress.now.path c.args.conj c.args.cost _ c.in-Ok-Some.z c.by_column.result c.by_column.new.progress.pieces (omega (arith, c.len-count.ensures)) l a o (rw (c.len-count.ensures, c.with_rows-all.ensures, c.as_slice.ensures) at c.by_column.ensures.exact)
 
 pub search-returns-in-Ok-Some-clause-risen : goal.search-returns-in-Ok-Some-clause-risen
 search-returns-in-Ok-Some-clause-risen t c =
@@ -53,22 +53,22 @@ search-returns-in-Ok-Some-clause-risen t c =
 pub search-returns-in-Ok-None-clause-exact : goal.search-returns-in-Ok-None-clause-exact
 search-returns-in-Ok-None-clause-exact t c = λ n l.
     let a : are_absurd c.args.conj.rows ≡ false = sym (rw c.as_slice-2.ensures at c.if-are_absurd.ensures) in
-    let o : next_column c.args.strategy c.args.vars.now c.args.conj.rows ≡ None = sym (rw (c.as_slice-3.ensures, c.in-Ok-None.field-0-is) at c.in-Ok-None.ensures) in
-    let w = leaf-found c.args.strategy c.args.aim c.args.vars.now n c.args.budget c.args.path.now c.args.conj c.args.cost (seen c.args.met c.args.pieces.now) (omega (arith, c.len-count.ensures)) l a o in
-    visits-as c.at_leaf.result c.at_leaf.new.pieces _ _ w (rw (c.len-count.ensures, c.with_rows-all.ensures, c.as_slice.ensures) at c.at_leaf.ensures.exact)
+    let o : next_column c.args.task.now.strategy c.args.task.now.vars.now c.args.conj.rows ≡ None = sym (rw (c.as_slice-3.ensures, c.in-Ok-None.field-0-is) at c.in-Ok-None.ensures) in
+    let w = leaf-found c.args.task.now.strategy c.args.task.now.aim c.args.task.now.vars.now n c.args.task.now.budget c.args.progress.now.path c.args.conj c.args.cost (seen c.args.met c.args.progress.now.pieces) (omega (arith, c.len-count.ensures)) l a o in
+    visits-as c.at_leaf.result c.at_leaf.new.progress.pieces _ _ w (rw (c.len-count.ensures, c.with_rows-all.ensures, c.as_slice.ensures) at c.at_leaf.ensures.exact)
 
 pub search-returns-in-Ok-None-clause-risen : goal.search-returns-in-Ok-None-clause-risen
 search-returns-in-Ok-None-clause-risen t c =
     let risen : HaveRisen c.args.met c.with_rows-all.result = rw (c.with_rows-all.ensures, c.as_slice.ensures) (rows-risen c.args.conj.rows c.args.met) in
-    leaf-risen c.at_leaf.result c.args.aim c.args.met c.with_rows-all.result risen c.at_leaf.ensures.gone
+    leaf-risen c.at_leaf.result c.args.task.now.aim c.args.met c.with_rows-all.result risen c.at_leaf.ensures.gone
 
 pub search-returns-then-are_absurd-clause-refuted : goal.search-returns-then-are_absurd-clause-refuted
 search-returns-then-are_absurd-clause-refuted t c =
-    rw c.wanted.ensures (if-wanted c.args.aim (Absurd c.args.conj) (λ x. IsRefuted c.args.conj x) (λ w. absurd-refutes c.args.conj c.requires.made (sym (rw c.as_slice-2.ensures at c.if-are_absurd.ensures))))
+    rw c.wanted.ensures (if-wanted c.args.task.now.aim (Absurd c.args.conj) (λ x. IsRefuted c.args.conj x) (λ w. absurd-refutes c.args.conj c.requires.made (sym (rw c.as_slice-2.ensures at c.if-are_absurd.ensures))))
 
 pub search-returns-then-are_absurd-clause-within : goal.search-returns-then-are_absurd-clause-within
 search-returns-then-are_absurd-clause-within t c =
-    rw c.wanted.ensures (if-wanted c.args.aim (Absurd c.args.conj) (λ x. IsWithin c.with_rows-all.result x) (λ w. rw (c.with_rows-all.ensures, c.as_slice.ensures) (absurd-within (with_rows c.args.conj.rows c.args.met) c.args.conj (rows-met c.args.conj.rows c.args.met))))
+    rw c.wanted.ensures (if-wanted c.args.task.now.aim (Absurd c.args.conj) (λ x. IsWithin c.with_rows-all.result x) (λ w. rw (c.with_rows-all.ensures, c.as_slice.ensures) (absurd-within (with_rows c.args.conj.rows c.args.met) c.args.conj (rows-met c.args.conj.rows c.args.met))))
 
 pub by_column-choices-init : goal.by_column-choices-init
 by_column-choices-init t c = record {
@@ -78,7 +78,7 @@ by_column-choices-init t c = record {
   legal = search rules;
   same_path = search rules;
   so_far = search rules;
-  tried = λ w. first-tried c.args.strategy c.args.z c.args.conj.rows c.as_slice-rows.result.now _ c.new-choices.result c.as_slice-rows.ensures c.first-cursor.ensures.value c.new-choices.ensures;
+  tried = λ w. first-tried c.args.task.now.strategy c.args.z c.args.conj.rows c.as_slice-rows.result.now _ c.new-choices.result c.as_slice-rows.ensures c.first-cursor.ensures.value c.new-choices.ensures;
   refuted = rw (c.new-choices.ensures, c.new-below.ensures) tt;
   within = rw c.new-below.ensures tt;
   moduli = rw c.new-choices.ensures tt;
@@ -103,7 +103,7 @@ by_column-choices-preserved t c =
       legal = search rules;
       same_path = search rules;
       so_far = search rules;
-      tried = next-tried c.args.aim hs c.keep.new.choices h r _ _ _ c.choices.invariant.tried (rw c.in-Ok-Try.field-0-is at c.in-Ok-Try.ensures).0 more (rw c.in-Ok-Empty.field-0-is at c.in-Ok-Empty.ensures.told);
+      tried = next-tried c.args.task.now.aim hs c.keep.new.choices h r _ _ _ c.choices.invariant.tried (rw c.in-Ok-Try.field-0-is at c.in-Ok-Try.ensures).0 more (rw c.in-Ok-Empty.field-0-is at c.in-Ok-Empty.ensures.told);
       refuted = rw (more, further) (refuted-more hs c.args.conj rs h r c.choices.invariant.refuted (rw c.in-Ok-Empty.field-0-is at c.in-Ok-Empty.ensures.refuted));
       within = rw further (within-more u rs r (all-on s u rs risen c.choices.invariant.within) (rw c.in-Ok-Empty.field-0-is at c.in-Ok-Empty.ensures.within));
       moduli = rw more (moduli-kept u.factor hs h r (moduli-on s u hs risen c.choices.invariant.moduli) (rw c.in-Ok-Empty.field-0-is at c.in-Ok-Empty.ensures.moduli));
@@ -112,18 +112,18 @@ by_column-choices-preserved t c =
 
 pub by_column-returns-clause-refuted : goal.by_column-returns-clause-refuted
 by_column-returns-clause-refuted t c =
-    rw c.wanted.ensures
-    (if-wanted c.args.aim (Open c.args.conj c.choices.choices c.choices.below) (λ x. IsRefuted c.args.conj x)
+    rw c.open_refutation.ensures
+    (if-wanted c.args.task.now.aim (Open c.args.conj c.choices.choices c.choices.below) (λ x. IsRefuted c.args.conj x)
     (λ w.
-    let all : all_of (alternatives_for c.args.strategy c.args.z c.args.conj.rows) ≡ Some c.choices.choices = last-tried c.choices.choices _ _ (c.choices.invariant.tried w) (rw c.in-Ok-End.field-0-is at c.in-Ok-End.ensures) in
+    let all : all_of (alternatives_for c.args.task.now.strategy c.args.z c.args.conj.rows) ≡ Some c.choices.choices = last-tried c.choices.choices _ _ (c.choices.invariant.tried w) (rw c.in-Ok-End.field-0-is at c.in-Ok-End.ensures) in
     open-refutes c.args.conj c.choices.choices c.choices.below c.requires.made
-    (record { possible = c.requires.possible; strategy = c.args.strategy; column = c.args.z; present = c.requires.column; all = all })
+    (record { possible = c.requires.possible; strategy = c.args.task.now.strategy; column = c.args.z; present = c.requires.column; all = all })
     c.choices.invariant.refuted))
 
 pub by_column-returns-clause-within : goal.by_column-returns-clause-within
 by_column-returns-clause-within t c =
-    rw c.wanted.ensures
-    (if-wanted c.args.aim (Open c.args.conj c.choices.choices c.choices.below) (λ x. IsWithin c.choices.all x)
+    rw c.open_refutation.ensures
+    (if-wanted c.args.task.now.aim (Open c.args.conj c.choices.choices c.choices.below) (λ x. IsWithin c.choices.all x)
     (λ w.
     open-within c.choices.all c.args.conj c.choices.choices c.choices.below
     (rows-on c.args.met c.choices.all c.args.conj.rows c.choices.invariant.risen c.requires.within)

@@ -11,24 +11,24 @@ use Rattle.ac_omega.proofs.Refuting.{AreRefutedBehind}
 use Rattle.ac_omega.proofs.search.+searches.Given as goal
 
 abbrev pub decreases-by_choice : goal.decreases-by_choice
-decreases-by_choice l = 3 * (l.budget - l.cost) + 1
+decreases-by_choice l = 3 * (l.task.now.budget - l.cost) + 1
 
 abbrev pub decreases-by_column : goal.decreases-by_column
-decreases-by_column l = 3 * (l.budget - l.cost) + 2
+decreases-by_column l = 3 * (l.task.now.budget - l.cost) + 2
 
 abbrev pub decreases-search : goal.decreases-search
-decreases-search l = 3 * (l.budget - l.cost)
+decreases-search l = 3 * (l.task.now.budget - l.cost)
 
 abbrev pub invariant-by_column-choices : goal.invariant-by_column-choices
 invariant-by_column-choices l = record {
   low : l.cost ≤ l.spent;
-  high : l.spent ≤ l.budget;
-  sound : IsSound l.strategy l.z l.rows l.cursor;
-  legal : AreLegal (alternatives_left l.strategy l.z l.rows l.cursor) l.fn.conj;
-  same_path : l.path ≡ l.initial.path;
-  so_far : (n : ℕ) → l.budget < n + l.cost → tried l.strategy l.aim l.vars n l.budget l.initial.path l.fn.conj (alternatives_for l.strategy l.z l.fn.conj.rows) l.cost (seen l.fn.met l.initial.pieces)
-      ≡ tried l.strategy l.aim l.vars n l.budget l.initial.path l.fn.conj (alternatives_left l.strategy l.z l.rows l.cursor) l.spent (seen l.all l.pieces);
-  tried : WantsRefutation l.aim → all_of (alternatives_for l.strategy l.z l.fn.conj.rows) ≡ gathered l.choices (alternatives_left l.strategy l.z l.rows l.cursor);
+  high : l.spent ≤ l.task.budget;
+  sound : IsSound l.task.strategy l.z l.rows l.cursor;
+  legal : AreLegal (alternatives_left l.task.strategy l.z l.rows l.cursor) l.fn.conj;
+  same_path : l.progress.path ≡ l.initial.progress.path;
+  so_far : (n : ℕ) → l.task.budget < n + l.cost → tried l.task.strategy l.task.aim l.task.vars.now n l.task.budget l.initial.progress.path l.fn.conj (alternatives_for l.task.strategy l.z l.fn.conj.rows) l.cost (seen l.fn.met l.initial.progress.pieces)
+      ≡ tried l.task.strategy l.task.aim l.task.vars.now n l.task.budget l.initial.progress.path l.fn.conj (alternatives_left l.task.strategy l.z l.rows l.cursor) l.spent (seen l.all l.progress.pieces);
+  tried : WantsRefutation l.task.aim → all_of (alternatives_for l.task.strategy l.z l.fn.conj.rows) ≡ gathered l.choices (alternatives_left l.task.strategy l.z l.rows l.cursor);
   refuted : AreRefutedBehind l.choices l.fn.conj l.below;
   within : AllByRecursion (IsWithin l.all) l.below;
   moduli : AreModuliWithin l.all.factor l.choices;
@@ -36,4 +36,4 @@ invariant-by_column-choices l = record {
 }
 
 abbrev pub decreases-by_column-choices : goal.decreases-by_column-choices
-decreases-by_column-choices l = length (alternatives_left l.strategy l.z l.rows l.cursor)
+decreases-by_column-choices l = length (alternatives_left l.task.strategy l.z l.rows l.cursor)

@@ -6,16 +6,16 @@ use Rattle.ac_omega_certify.proofs.ShownFor.{stand-same}
 use Rattle.ac_omega_certify.proofs.branch.drop_branch.Goals as goal
 
 pub free_rows-requires-clause-moduli : goal.free_rows-requires-clause-moduli
-free_rows-requires-clause-moduli c = moduli_of _ c.args.rows.now c.requires.made
+free_rows-requires-clause-moduli c = moduli_of _ c.args.stage.now.rows.now c.requires.made
 
 pub returns : goal.returns
-returns c = λ counts depth. record {
+returns c = record {
   names = ap length c.in_ok-names.ensures.items;
   long = c.in_ok-standing.ensures.long;
-  rows = stand-same (length c.args.names.now) _ _ (c.in_ok-standing.ensures.rows);
+  rows = stand-same (length c.args.stage.now.names.now) _ _ (c.in_ok-standing.ensures.rows);
   up_to_2_to_122 = c.in_ok-standing.ensures.up_to_2_to_122;
   carries = λ p d on is.
-      let here : StandOn c.args.base c.args.names.now c.args.rows.now c.args.places.now d = subst (StandOn c.args.base c.args.names.now c.args.rows.now c.args.places.now) (sym is) on in
-      carries-behind c.behind-tree_path.result c.args.base d _ _ _ c.behind-tree_path.ensures.steps c.behind-tree_path.ensures.base
-      (rw c.in_ok-names.ensures.items (c.in_ok-standing.ensures.stand c.args.base d c.args.names.now here));
+      let here : StandOn c.args.stage.now.base c.args.stage.now.names.now c.args.stage.now.rows.now c.args.stage.now.places.now d = subst (StandOn c.args.stage.now.base c.args.stage.now.names.now c.args.stage.now.rows.now c.args.stage.now.places.now) (sym is) on in
+      carries-behind c.behind-tree_path.result c.args.stage.now.base d _ _ _ c.behind-tree_path.ensures.steps c.behind-tree_path.ensures.base
+      (rw c.in_ok-names.ensures.items (c.in_ok-standing.ensures.stand c.args.stage.now.base d c.args.stage.now.names.now here));
 }

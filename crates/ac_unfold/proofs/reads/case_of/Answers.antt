@@ -4,7 +4,7 @@ use Rattle.ac_claims_paths.specs.PathSteps.{model_of}
 use Rattle.ac_unfold.specs.CaseBranches.{AssumesCase}
 use Rattle.ac_unfold.specs.PlanResults.{judge_of}
 use Rattle.ac_unfold.proofs.Results.{in_get}
-use Rattle.ac_unfold.proofs.unfolding.case_of.Goals as goal
+use Rattle.ac_unfold.proofs.reads.case_of.Goals as goal
 
 pub returns-clause-assumed : goal.returns-clause-assumed
 returns-clause-assumed c =
