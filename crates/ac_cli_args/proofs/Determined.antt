@@ -4,7 +4,8 @@ use Rattle.std.specs.Prelude.{codes}
 use Rattle.clap.specs.Words.{Row, Text, first_of, subcommand_of}
 use Rattle.ac_cli_args.specs.CommandLine.{command_line}
 use Rattle.ac_cli_args.specs.DecimalNumbers.{IsLimitOr, IsNumberIn, IsSeed, IsSize}
-use Rattle.ac_cli_args.specs.Commands.{Asked, prove, check_of, instance_of, flow_of, gen_of, Asks, AsksIn, HasNumber}
+use Rattle.ac_cli_args.specs.Commands.{Asked, prove, check_of, instance_of, flow_of, gen_of, legal_of, aprove_of, Asks, AsksIn, HasNumber}
+use Rattle.ac_cli_args.specs.SymbolLists.{HasSymbols}
 use Rattle.ac_cli_args.specs.Valuations.{given_to}
 use Rattle.ac_cli_args.specs.UniqueCommands.{HasOneCommand, HasOneValuation}
 use Rattle.ac_cli_args.proofs.Numerals.{number_is}
@@ -29,6 +30,10 @@ value_once : (o : Option Text) (a b : Text) → o ≡ Some a → o ≡ Some b �
 value_once None a b h k = absurd cc
 value_once (Some v) a b h k = let first : v ≡ a = cc in let second : v ≡ b = cc in sym first ∙ second
 
+symbols_once : (d : Option Text) (ns ms : List Text) → HasSymbols d ns → HasSymbols d ms → ns ≡ ms
+symbols_once None ns ms h k = absurd h
+symbols_once (Some d) ns ms h k = h.listed ∙ sym k.listed
+
 -- the first letter of a name
 abbrev letter : Text → ℕ
 letter [] = 0
@@ -45,6 +50,8 @@ asks_once name found (prove a b budget proof) (check_of a' b' p') h k = absurd (
 asks_once name found (prove a b budget proof) (instance_of a' b' at' limit') h k = absurd (true≢false (ap (λ n. nat_eq (letter n) 112) (sym h.0 ∙ k.0)))
 asks_once name found (prove a b budget proof) (flow_of a') h k = absurd (true≢false (ap (λ n. nat_eq (letter n) 112) (sym h.0 ∙ k.0)))
 asks_once name found (prove a b budget proof) (gen_of seed' size') h k = absurd (true≢false (ap (λ n. nat_eq (letter n) 112) (sym h.0 ∙ k.0)))
+asks_once name found (prove a b budget proof) (legal_of a' order') h k = absurd (true≢false (ap (λ n. nat_eq (letter n) 112) (sym h.0 ∙ k.0)))
+asks_once name found (prove a b budget proof) (aprove_of a' b' names') h k = absurd (true≢false (ap (λ n. nat_eq (letter n) 112) (sym h.0 ∙ k.0)))
 asks_once name found (check_of a b p) (prove a' b' budget' proof') h k = absurd (true≢false (ap (λ n. nat_eq (letter n) 99) (sym h.0 ∙ k.0)))
 asks_once name found (check_of a b p) (check_of a' b' p') h k =
     let first = value_once (first_of (codes "A") found) a a' h.1 k.1 in
@@ -54,6 +61,8 @@ asks_once name found (check_of a b p) (check_of a' b' p') h k =
 asks_once name found (check_of a b p) (instance_of a' b' at' limit') h k = absurd (true≢false (ap (λ n. nat_eq (letter n) 99) (sym h.0 ∙ k.0)))
 asks_once name found (check_of a b p) (flow_of a') h k = absurd (true≢false (ap (λ n. nat_eq (letter n) 99) (sym h.0 ∙ k.0)))
 asks_once name found (check_of a b p) (gen_of seed' size') h k = absurd (true≢false (ap (λ n. nat_eq (letter n) 99) (sym h.0 ∙ k.0)))
+asks_once name found (check_of a b p) (legal_of a' order') h k = absurd (true≢false (ap (λ n. nat_eq (letter n) 99) (sym h.0 ∙ k.0)))
+asks_once name found (check_of a b p) (aprove_of a' b' names') h k = absurd (true≢false (ap (λ n. nat_eq (letter n) 99) (sym h.0 ∙ k.0)))
 asks_once name found (instance_of a b at limit) (prove a' b' budget' proof') h k = absurd (true≢false (ap (λ n. nat_eq (letter n) 105) (sym h.0 ∙ k.0)))
 asks_once name found (instance_of a b at limit) (check_of a' b' p') h k = absurd (true≢false (ap (λ n. nat_eq (letter n) 105) (sym h.0 ∙ k.0)))
 asks_once name found (instance_of a b at limit) (instance_of a' b' at' limit') h k =
@@ -64,6 +73,8 @@ asks_once name found (instance_of a b at limit) (instance_of a' b' at' limit') h
     λ i. instance_of (first i) (second i) (word i) (number i)
 asks_once name found (instance_of a b at limit) (flow_of a') h k = absurd (true≢false (ap (λ n. nat_eq (letter n) 105) (sym h.0 ∙ k.0)))
 asks_once name found (instance_of a b at limit) (gen_of seed' size') h k = absurd (true≢false (ap (λ n. nat_eq (letter n) 105) (sym h.0 ∙ k.0)))
+asks_once name found (instance_of a b at limit) (legal_of a' order') h k = absurd (true≢false (ap (λ n. nat_eq (letter n) 105) (sym h.0 ∙ k.0)))
+asks_once name found (instance_of a b at limit) (aprove_of a' b' names') h k = absurd (true≢false (ap (λ n. nat_eq (letter n) 105) (sym h.0 ∙ k.0)))
 asks_once name found (flow_of a) (prove a' b' budget' proof') h k = absurd (true≢false (ap (λ n. nat_eq (letter n) 102) (sym h.0 ∙ k.0)))
 asks_once name found (flow_of a) (check_of a' b' p') h k = absurd (true≢false (ap (λ n. nat_eq (letter n) 102) (sym h.0 ∙ k.0)))
 asks_once name found (flow_of a) (instance_of a' b' at' limit') h k = absurd (true≢false (ap (λ n. nat_eq (letter n) 102) (sym h.0 ∙ k.0)))
@@ -71,6 +82,8 @@ asks_once name found (flow_of a) (flow_of a') h k =
     let first = value_once (first_of (codes "A") found) a a' h.1 k.1 in
     ap (λ file. flow_of file) first
 asks_once name found (flow_of a) (gen_of seed' size') h k = absurd (true≢false (ap (λ n. nat_eq (letter n) 102) (sym h.0 ∙ k.0)))
+asks_once name found (flow_of a) (legal_of a' order') h k = absurd (true≢false (ap (λ n. nat_eq (letter n) 102) (sym h.0 ∙ k.0)))
+asks_once name found (flow_of a) (aprove_of a' b' names') h k = absurd (true≢false (ap (λ n. nat_eq (letter n) 102) (sym h.0 ∙ k.0)))
 asks_once name found (gen_of seed size) (prove a' b' budget' proof') h k = absurd (true≢false (ap (λ n. nat_eq (letter n) 103) (sym h.0 ∙ k.0)))
 asks_once name found (gen_of seed size) (check_of a' b' p') h k = absurd (true≢false (ap (λ n. nat_eq (letter n) 103) (sym h.0 ∙ k.0)))
 asks_once name found (gen_of seed size) (instance_of a' b' at' limit') h k = absurd (true≢false (ap (λ n. nat_eq (letter n) 103) (sym h.0 ∙ k.0)))
@@ -79,6 +92,29 @@ asks_once name found (gen_of seed size) (gen_of seed' size') h k =
     let first = seed_once (first_of (codes "SEED") found) seed seed' h.1 k.1 in
     let second = size_once (first_of (codes "SIZE") found) size size' h.2 k.2 in
     λ i. gen_of (first i) (second i)
+asks_once name found (gen_of seed size) (legal_of a' order') h k = absurd (true≢false (ap (λ n. nat_eq (letter n) 103) (sym h.0 ∙ k.0)))
+asks_once name found (gen_of seed size) (aprove_of a' b' names') h k = absurd (true≢false (ap (λ n. nat_eq (letter n) 103) (sym h.0 ∙ k.0)))
+asks_once name found (legal_of a order) (prove a' b' budget' proof') h k = absurd (true≢false (ap (λ n. nat_eq (letter n) 108) (sym h.0 ∙ k.0)))
+asks_once name found (legal_of a order) (check_of a' b' p') h k = absurd (true≢false (ap (λ n. nat_eq (letter n) 108) (sym h.0 ∙ k.0)))
+asks_once name found (legal_of a order) (instance_of a' b' at' limit') h k = absurd (true≢false (ap (λ n. nat_eq (letter n) 108) (sym h.0 ∙ k.0)))
+asks_once name found (legal_of a order) (flow_of a') h k = absurd (true≢false (ap (λ n. nat_eq (letter n) 108) (sym h.0 ∙ k.0)))
+asks_once name found (legal_of a order) (gen_of seed' size') h k = absurd (true≢false (ap (λ n. nat_eq (letter n) 108) (sym h.0 ∙ k.0)))
+asks_once name found (legal_of a order) (legal_of a' order') h k =
+    let first = value_once (first_of (codes "A") found) a a' h.1 k.1 in
+    let second = value_once (first_of (codes "S") found) order order' h.2 k.2 in
+    λ i. legal_of (first i) (second i)
+asks_once name found (legal_of a order) (aprove_of a' b' names') h k = absurd (true≢false (ap (λ n. nat_eq (letter n) 108) (sym h.0 ∙ k.0)))
+asks_once name found (aprove_of a b names) (prove a' b' budget' proof') h k = absurd (true≢false (ap (λ n. nat_eq (letter n) 97) (sym h.0 ∙ k.0)))
+asks_once name found (aprove_of a b names) (check_of a' b' p') h k = absurd (true≢false (ap (λ n. nat_eq (letter n) 97) (sym h.0 ∙ k.0)))
+asks_once name found (aprove_of a b names) (instance_of a' b' at' limit') h k = absurd (true≢false (ap (λ n. nat_eq (letter n) 97) (sym h.0 ∙ k.0)))
+asks_once name found (aprove_of a b names) (flow_of a') h k = absurd (true≢false (ap (λ n. nat_eq (letter n) 97) (sym h.0 ∙ k.0)))
+asks_once name found (aprove_of a b names) (gen_of seed' size') h k = absurd (true≢false (ap (λ n. nat_eq (letter n) 97) (sym h.0 ∙ k.0)))
+asks_once name found (aprove_of a b names) (legal_of a' order') h k = absurd (true≢false (ap (λ n. nat_eq (letter n) 97) (sym h.0 ∙ k.0)))
+asks_once name found (aprove_of a b names) (aprove_of a' b' names') h k =
+    let first = value_once (first_of (codes "A") found) a a' h.1 k.1 in
+    let second = value_once (first_of (codes "B") found) b b' h.2 k.2 in
+    let third = symbols_once (first_of (codes "SYMBOLS") found) names names' h.3 k.3 in
+    λ i. aprove_of (first i) (second i) (third i)
 
 in_once : (met : Option (Text × List Row)) (asked other : Asked) → AsksIn met asked → AsksIn met other → asked ≡ other
 in_once None asked other h k = absurd h

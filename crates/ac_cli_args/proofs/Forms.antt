@@ -6,9 +6,11 @@ use Rattle.std.specs.Str.{IsUtf8}
 use Rattle.clap.specs.Words.{Row, Text, first_of, subcommand_of}
 use Rattle.ac_cli_args.specs.CommandLine.{command_line}
 use Rattle.ac_cli_args.specs.DecimalNumbers.{IsLimitOr, IsSeed, IsSize}
-use Rattle.ac_cli_args.specs.Commands.{Asked, prove, check_of, instance_of, flow_of, gen_of, Asks, AsksIn, HasNumber, IsSpelled, IsCommand, HasForm, asked_by}
+use Rattle.ac_cli_args.specs.Commands.{Asked, prove, check_of, instance_of, flow_of, gen_of, legal_of, aprove_of, Asks, AsksIn, HasNumber, IsSpelled, IsCommand, HasForm, asked_by}
+use Rattle.ac_cli_args.specs.SymbolLists.{FitsAName, HasSymbols}
 use Rattle.ac_cli_args.specs.UniqueCommands.{IsInRange, CommandsAreInRange}
 use Rattle.ac_cli_args.specs.declared.command.Command.{Command}
+use Rattle.ac_cli_args.proofs.SymbolWords.{symbols_fit}
 
 limit_in : (otherwise : ℕ) (d : Option (List ℕ)) (n : ℕ) → 1 ≤ otherwise → otherwise ≤ 1000000 → IsLimitOr otherwise d n → (1 ≤ n) × (n ≤ 1000000)
 limit_in otherwise None n low high h = (omega (arith, low, h), omega (arith, high, h))
@@ -22,12 +24,18 @@ size_in : (d : Option (List ℕ)) (n : ℕ) → HasNumber IsSize d n → (1 ≤ 
 size_in None n h = absurd h
 size_in (Some d) n h = (h.at_least, h.at_most)
 
+symbols_in : (d : Option Text) (names : List Text) → HasSymbols d names → AllByRecursion FitsAName names
+symbols_in None names h = absurd h
+symbols_in (Some d) names h = symbols_fit names h.symbols
+
 asks_in : (name : Text) (found : List Row) (asked : Asked) → Asks name found asked → IsInRange asked
 asks_in name found (prove a b budget proof) h = limit_in 50000 (first_of (codes "budget") found) budget (omega arith) (omega arith) h.3
 asks_in name found (check_of a b p) h = tt
 asks_in name found (instance_of a b at limit) h = limit_in 1000000 (first_of (codes "limit") found) limit (omega arith) (omega arith) h.4
 asks_in name found (flow_of a) h = tt
 asks_in name found (gen_of seed size) h = let k = size_in (first_of (codes "SIZE") found) size h.2 in (seed_in (first_of (codes "SEED") found) seed h.1, k.0, k.1)
+asks_in name found (legal_of a order) h = tt
+asks_in name found (aprove_of a b names) h = symbols_in (first_of (codes "SYMBOLS") found) names h.3
 
 met_in : (met : Option (Text × List Row)) (asked : Asked) → AsksIn met asked → IsInRange asked
 met_in None asked h = absurd h

@@ -1,4 +1,5 @@
 mod Values
+mod SymbolWords
 mod Reading
 mod Numerals
 mod Lists

@@ -1,4 +1,4 @@
--- The command line as the library clap reads it: five subcommands, each with the words that it must have and its options.
+-- The command line as the library clap reads it: its subcommands, each with the words that it must have and its options.
 use Rattle.std.specs.Prelude.{List, [], ◌∷◌, ◌++◌, true, false, Some, codes}
 use Rattle.clap.specs.Walk.{Rule, Text}
 use Rattle.clap.specs.Simple.{App, Shape, new_rule, new_shape}
@@ -38,13 +38,25 @@ flow_line = with_rules (new_shape (codes "flow")) (needed (codes "A") ∷ [])
 abbrev pub gen_line : Shape
 gen_line = with_rules (new_shape (codes "gen")) (needed (codes "SEED") ∷ needed (codes "SIZE") ∷ [])
 
+-- `legal A S`
+abbrev pub legal_line : Shape
+legal_line = with_rules (new_shape (codes "legal")) (needed (codes "A") ∷ needed (codes "S") ∷ [])
+
+-- `aprove A B SYMBOLS`
+abbrev pub aprove_line : Shape
+aprove_line = with_rules (of_two_files (codes "aprove")) (needed (codes "SYMBOLS") ∷ [])
+
 -- no program's name stands before the words, and a subcommand must
 abbrev pub bare_line : App
 bare_line = record { top = record (new_shape (codes "denmavoli")) { no_binary_name = true; subcommand_required = true }; subs = [] }
 
--- with these five subcommands
-abbrev pub command_line : App
-command_line = record {
+-- with the subcommands on pairs, flows and seeds
+abbrev pub first_commands : App
+first_commands = record {
   top = record bare_line.top { is_leaf = false };
   subs = prove_line ∷ check_line ∷ instance_line ∷ flow_line ∷ gen_line ∷ [];
 }
+
+-- with all subcommands
+abbrev pub command_line : App
+command_line = record first_commands { subs = first_commands.subs ++ legal_line ∷ aprove_line ∷ [] }

@@ -8,21 +8,24 @@ use Rattle.clap.specs.Simple.{subcommand_of}
 use Rattle.clap.specs.Walk.{Row, Text, first_of}
 use Rattle.ac_cli_args.specs.CommandLine.{command_line}
 use Rattle.ac_cli_args.specs.DecimalNumbers.{IsLimitOr, IsSeed, IsSize}
+use Rattle.ac_cli_args.specs.SymbolLists.{HasSymbols, listed_in}
 use Rattle.ac_cli_args.specs.declared.command.Command.{Command}
-use Rattle.ac_cli_args.specs.declared.command.Command.TheVariants.{Prove, Check, Instance, Flow, Gen}
+use Rattle.ac_cli_args.specs.declared.command.Command.TheVariants.{Prove, Check, Instance, Flow, Gen, Legal, Aprove}
 
 -- the bytes of the words
 abbrev pub spelled : List (Vec ℕ Global) → List Text
 spelled = map (λ word. word.items)
 
 -- what a command line asks for: names of files, with that of a proof for `check` and maybe for `prove`; a budget; the word that gives the
--- parameters their values, and a limit; a seed and a size
+-- parameters their values, and a limit; a seed and a size; the name of a file with an order; and for `aprove` the names of symbols
 pub data Asked : Type 0 where
   prove : Text → Text → ℕ → Option Text → Asked
   check_of : Text → Text → Text → Asked
   instance_of : Text → Text → Option Text → ℕ → Asked
   flow_of : Text → Asked
   gen_of : ℕ → ℕ → Asked
+  legal_of : Text → Text → Asked
+  aprove_of : Text → Text → List Text → Asked
 
 -- the argument with this id has this value
 abbrev pub Has : List Row → Text → Text → Type 0
@@ -44,6 +47,9 @@ Asks name found (instance_of a b at limit) =
 Asks name found (flow_of a) = (name ≡ codes "flow") × Has found (codes "A") a
 Asks name found (gen_of seed size) =
     (name ≡ codes "gen") × HasNumber IsSeed (first_of (codes "SEED") found) seed × HasNumber IsSize (first_of (codes "SIZE") found) size
+Asks name found (legal_of a order) = (name ≡ codes "legal") × Has found (codes "A") a × Has found (codes "S") order
+Asks name found (aprove_of a b names) =
+    (name ≡ codes "aprove") × Has found (codes "A") a × Has found (codes "B") b × HasSymbols (first_of (codes "SYMBOLS") found) names
 
 abbrev pub AsksIn : Option (Text × List Row) → Asked → Type 0
 AsksIn None asked = ⊥
@@ -70,3 +76,5 @@ asked_by (Check left right proof) = check_of left.now right.now proof.now
 asked_by (Instance left right at limit) = instance_of left.now right.now (option_map (λ w. w.now) at) limit
 asked_by (Flow file) = flow_of file.now
 asked_by (Gen seed size) = gen_of seed size
+asked_by (Legal file order) = legal_of file.now order.now
+asked_by (Aprove left right symbols) = aprove_of left.now right.now (listed_in symbols.now)

@@ -6,6 +6,7 @@ ghost use Rattle.ac_cli_args.specs.Commands.{Asked, Asks, spelled, asked_by, IsS
 
 use crate::line::command_line;
 use crate::numbers::{limit_or, seed, size};
+use crate::symbols::is_symbol_list;
 use clap::error::ErrorKind;
 use clap::{ArgMatches, Error};
 use std::alloc::{AllocError, Global};
@@ -42,6 +43,18 @@ pub enum Command<'a> {
     Gen {
         seed: u64,
         size: u32,
+    },
+    /// `legal A S`: tell whether the order that the file S gives the assignments of the file A keeps what they depend on.
+    Legal {
+        file: &'a [u8],
+        order: &'a [u8],
+    },
+    /// `aprove A B SYMBOLS`: compare the files A and B, with each symbol that the word SYMBOLS lists taken as associative and commutative
+    /// inside one assignment.
+    Aprove {
+        left: &'a [u8],
+        right: &'a [u8],
+        symbols: &'a [u8],
     },
 }
 
@@ -125,8 +138,42 @@ fn gen_of<'a>(found: &ArgMatches<'a>) -> Option<Command<'a>>
     Some(Command::Gen { seed, size })
 }
 
-/// What a subcommand asks for with the values that were found.
+/// What `legal` asks for with the values that were found.
+fn legal_of<'a>(found: &ArgMatches<'a>) -> Option<Command<'a>>
+    ensures { MatchOption result ((asked : Asked) → ¬ (Asks (codes "legal") (rows_of (found_of found.now)) asked)) (λ c. Asks (codes "legal") (rows_of (found_of found.now)) (asked_by c)) }
+{
+    let file = bytes(found, "A")?;
+    let order = bytes(found, "S")?;
+    Some(Command::Legal { file, order })
+}
+
+/// What `aprove` asks for with the values that were found.
+fn aprove_of<'a>(alloc: Global, found: &ArgMatches<'a>) -> Result<Option<Command<'a>>, AllocError>
+    ensures { IfOk result (λ command. MatchOption command ((asked : Asked) → ¬ (Asks (codes "aprove") (rows_of (found_of found.now)) asked)) (λ c. Asks (codes "aprove") (rows_of (found_of found.now)) (asked_by c))) }
+{
+    let Some(left) = bytes(found, "A") else {
+        return Ok(None);
+    };
+    let Some(right) = bytes(found, "B") else {
+        return Ok(None);
+    };
+    let Some(symbols) = bytes(found, "SYMBOLS") else {
+        return Ok(None);
+    };
+    if is_symbol_list(alloc, symbols)? {
+        Ok(Some(Command::Aprove {
+            left,
+            right,
+            symbols,
+        }))
+    } else {
+        Ok(None)
+    }
+}
+
+/// What a subcommand other than `aprove` asks for with the values that were found.
 fn asked_of<'a>(name: &str, found: &ArgMatches<'a>) -> Option<Command<'a>>
+    requires { ¬ (name.now ≡ codes "aprove") }
     ensures { MatchOption result ((asked : Asked) → ¬ (Asks name.now (rows_of (found_of found.now)) asked)) (λ c. Asks name.now (rows_of (found_of found.now)) (asked_by c)) }
 {
     if name == "prove" {
@@ -144,7 +191,24 @@ fn asked_of<'a>(name: &str, found: &ArgMatches<'a>) -> Option<Command<'a>>
     if name == "gen" {
         return gen_of(found);
     }
+    if name == "legal" {
+        return legal_of(found);
+    }
     None
+}
+
+/// What a subcommand asks for with the values that were found.
+fn asked_in<'a>(
+    alloc: Global,
+    name: &str,
+    found: &ArgMatches<'a>,
+) -> Result<Option<Command<'a>>, AllocError>
+    ensures { IfOk result (λ command. MatchOption command ((asked : Asked) → ¬ (Asks name.now (rows_of (found_of found.now)) asked)) (λ c. Asks name.now (rows_of (found_of found.now)) (asked_by c))) }
+{
+    if name == "aprove" {
+        return aprove_of(alloc, found);
+    }
+    Ok(asked_of(name, found))
 }
 
 /// Fails where memory was wanting in a parse; any other error refuses the words.
@@ -157,10 +221,12 @@ fn check_memory(error: &Error) -> Result<(), AllocError>
     Ok(())
 }
 
-/// What texts ask for; none exactly where clap refuses them for the five subcommands, help is asked for, or a number is out of its range.
+/// What texts ask for; none exactly where clap refuses them for the subcommands, help is asked for, a number is out of its range, or a word
+/// is no list of symbols.
 ///
 /// A budget and a limit are each a number from 1 to 1,000,000, a seed is one of 64 bits and a size one from 1 to 12, in digits
-/// without leading zeros. The options of a subcommand stand in any order that clap allows.
+/// without leading zeros. A list of symbols has from 1 to 8 different ones, joined by commas. The options of a subcommand stand in any order
+/// that clap allows.
 pub fn command_of<'a>(
     alloc: Global,
     texts: &'a [&'a str],
@@ -176,7 +242,7 @@ pub fn command_of<'a>(
         }
     };
     match found.subcommand() {
-        Some((name, inner)) => Ok(asked_of(name, inner)),
+        Some((name, inner)) => asked_in(alloc, name, inner),
         None => Ok(None),
     }
 }

@@ -6,7 +6,7 @@ pub fn words_are_determined()
     ensures valuation { HasOneValuation }
 {}
 
-/// The numbers of a command are in their ranges, also where none is given.
+/// The numbers of a command are in their ranges, also where none is given, and its symbols have as many bytes as a name may have.
 pub fn numbers_are_in_range()
     ensures { CommandsAreInRange }
 {}

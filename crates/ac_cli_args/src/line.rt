@@ -84,6 +84,26 @@ fn gen_line<'a>(alloc: Global) -> Result<Command<'a>, AllocError>
     Command::new(alloc, "gen").arg(seed)?.arg(size)
 }
 
+/// `legal A S`
+fn legal_line<'a>(alloc: Global) -> Result<Command<'a>, AllocError>
+    ensures shape { IfOk result (λ c. shape_of c ≡ spec.legal_line) }
+    ensures own { IfOk result (λ c. (out-Command c).has_globals ≡ false) }
+{
+    let file = needed(alloc, "A");
+    let order = needed(alloc, "S");
+    Command::new(alloc, "legal").arg(file)?.arg(order)
+}
+
+/// `aprove A B SYMBOLS`
+fn aprove_line<'a>(alloc: Global) -> Result<Command<'a>, AllocError>
+    ensures shape { IfOk result (λ c. shape_of c ≡ spec.aprove_line) }
+    ensures own { IfOk result (λ c. (out-Command c).has_globals ≡ false) }
+{
+    let files = of_two_files(alloc, "aprove")?;
+    let symbols = needed(alloc, "SYMBOLS");
+    files.arg(symbols)
+}
+
 /// The command line without its subcommands, on the words after the program's name.
 fn bare_line<'a>(alloc: Global) -> Command<'a>
     ensures { app_of result ≡ spec.bare_line }
@@ -93,9 +113,9 @@ fn bare_line<'a>(alloc: Global) -> Command<'a>
         .subcommand_required(true)
 }
 
-/// The command line with its five subcommands.
-pub fn command_line<'a>(alloc: Global) -> Result<Command<'a>, AllocError>
-    ensures { IfOk result (λ c. app_of c ≡ spec.command_line) }
+/// The command line with the subcommands on pairs, flows and seeds.
+fn first_commands<'a>(alloc: Global) -> Result<Command<'a>, AllocError>
+    ensures { IfOk result (λ c. app_of c ≡ spec.first_commands) }
 {
     let prove = prove_line(alloc)?;
     let check = check_line(alloc)?;
@@ -105,4 +125,14 @@ pub fn command_line<'a>(alloc: Global) -> Result<Command<'a>, AllocError>
     let line = line.subcommand(instance)?.subcommand(flow)?;
     let pair = gen_line(alloc)?;
     line.subcommand(pair)
+}
+
+/// The command line with its subcommands.
+pub fn command_line<'a>(alloc: Global) -> Result<Command<'a>, AllocError>
+    ensures { IfOk result (λ c. app_of c ≡ spec.command_line) }
+{
+    let line = first_commands(alloc)?;
+    let legal = legal_line(alloc)?;
+    let chains = aprove_line(alloc)?;
+    line.subcommand(legal)?.subcommand(chains)
 }

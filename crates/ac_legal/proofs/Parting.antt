@@ -1,5 +1,5 @@
 -- The parts of the questions of two assignments: their columns, and what a search through them tells.
-use Rattle.std.proofs.Common.{◌≡◌, ◌↔◌, inl, inr, ℕ, zero, suc, ◌+◌, ◌≤◌, List, [], ◌∷◌, ◌++◌, map, length, refl, sym, ◌∙◌, subst, ℤ, pos, negsuc, Option, Some, None, Bool, true, false, cond, ◌&&◌, ◌==◌, arith, Result, Ok, Err, IfOk, IfErr, IfSome, IfNone}
+use Rattle.std.proofs.Common.{append_assoc, ap, ◌≡◌, ◌↔◌, inl, inr, ℕ, zero, suc, ◌+◌, ◌≤◌, List, [], ◌∷◌, ◌++◌, map, length, refl, sym, ◌∙◌, subst, ℤ, pos, negsuc, Option, Some, None, Bool, true, false, cond, ◌&&◌, ◌==◌, arith, Result, Ok, Err, IfOk, IfErr, IfSome, IfNone}
 use Rattle.std.specs.Prelude.{slice_get, nat_lt}
 use Rattle.std.specs.List.{AllByRecursion, flat_map, range_with_len}
 use Rattle.ac_base.specs.Dot.{mix}
@@ -22,10 +22,42 @@ use Rattle.ac_legal_law.specs.Schedules.{forms_of}
 use Rattle.ac_legal_law.proofs.Choices.{in_joined}
 use Rattle.ac_legal.specs.declared.types.LegalStop.{LegalStop}
 use Rattle.ac_legal.specs.declared.types.LegalStop.TheVariants.{Overflow, Spent, Memory}
-use Rattle.ac_legal.specs.QuestionChoices.{Part, IsPart, AreParts, all_joined, IsPartOver, ArePartsOver, HasNoPointFrom, IsPointFrom, StopsFrom, UnlessMemory}
-use Rattle.ac_legal.specs.ScheduleAnswers.{AreOf, order_choices, NoneBetween, IsPointBetween, StopsBetween}
+use Rattle.ac_legal.specs.QuestionChoices.{Part, IsPart, IsPartOver, ArePartsOver, HasNoPointFrom, IsPointFrom, StopsFrom, UnlessMemory, over}
+use Rattle.ac_legal.specs.WideQuestions.{AreWideTimes, HaveWideCells}
+use Rattle.ac_legal.specs.ScheduleAnswers.{AreOf, AreParts, first_pieces, second_pieces, cells_of, first_times, second_times, lates_of, NoneBetween, IsPointBetween, StopsBetween, question_stops, cells_leave, times_leave}
 use Rattle.ac_flow.specs.Readers.{IsOver}
 use Rattle.ac_legal.proofs.Trying.{both_over}
+
+-- ---- the parts
+
+-- the choices for each part, behind the context
+abbrev pub order_choices : Model → List (List Affine) → ℕ → StmtModel → ℕ → StmtModel → List (List (List Row))
+order_choices m times i s j u = first_pieces m s ∷ second_pieces m s u ∷ levels_before m.params i s j u ∷ cells_of m s u ∷ lates_of m times i s j u ∷ []
+
+-- one choice for each
+abbrev pub all_joined : List (List (List Row)) → List (List Row)
+all_joined [] = [] ∷ []
+all_joined (c ∷ cs) = joined c (all_joined cs)
+
+-- the part has these choices, if it could be formed
+abbrev pub IsMade : Part → List (List Row) → Type 0
+IsMade None choices = Unit {0}
+IsMade (Some made) choices = made ≡ choices
+
+abbrev pub AreMade : List Part → List (List (List Row)) → Type 0
+AreMade [] [] = Unit {0}
+AreMade [] (c ∷ cs) = ⊥
+AreMade (o ∷ os) [] = ⊥
+AreMade (o ∷ os) (c ∷ cs) = IsMade o c × AreMade os cs
+
+one_made : (wide : Type 0) (o : Part) (c : List (List Row)) → IsPart wide o c → IsMade o c
+one_made wide None c h = tt
+one_made wide (Some made) c h = h
+
+pub made_of : (m : Model) (times : List (List Affine)) (i j : ℕ) (s u : StmtModel) (parts : List Part) → AreParts m times i s j u parts → AreMade parts (order_choices m times i s j u)
+made_of m times i j s u parts h =
+    subst (λ (os : List Part). AreMade os (order_choices m times i s j u)) (sym h.list)
+    (refl, (refl, (refl, (one_made (HaveWideCells (first_columns m.params s) (second_columns m.params s u) s u) h.cells (cells_of m s u) h.cells_are, (one_made (AreWideTimes (first_times m times i s) (second_times m times s j u)) h.lates (lates_of m times i s j u) h.lates_are, tt)))))
 
 -- ---- columns
 
@@ -126,17 +158,17 @@ choices_over m times i j s u o a =
       ),
     )
 
-one_over : (n : ℕ) (o : Part) (c : List (List Row)) → IsPart o c → AllByRecursion (AreRowsOver n) c → IsPartOver n o
+one_over : (n : ℕ) (o : Part) (c : List (List Row)) → IsMade o c → AllByRecursion (AreRowsOver n) c → IsPartOver n o
 one_over n None c h k = tt
 one_over n (Some made) c h k = subst (AllByRecursion (AreRowsOver n)) (sym h) k
 
-parts_over : (n : ℕ) (os : List Part) (cs : List (List (List Row))) → AreParts os cs → AllOver n cs → ArePartsOver n os
+parts_over : (n : ℕ) (os : List Part) (cs : List (List (List Row))) → AreMade os cs → AllOver n cs → ArePartsOver n os
 parts_over n [] [] h k = tt
 parts_over n [] (c ∷ cs) h k = absurd h
 parts_over n (o ∷ os) [] h k = absurd h
 parts_over n (o ∷ os) (c ∷ cs) h k = (one_over n o c h.0 k.0, parts_over n os cs h.1 k.1)
 
-pub asked_over : (m : Model) (times : List (List Affine)) (i j : ℕ) (s u : StmtModel) (parts : List Part) (n : ℕ) → n ≡ m.params + (width s + width u) → IsOver m → AreOf m i s j u → AreParts parts (order_choices m times i s j u)
+pub asked_over : (m : Model) (times : List (List Affine)) (i j : ℕ) (s u : StmtModel) (parts : List Part) (n : ℕ) → n ≡ m.params + (width s + width u) → IsOver m → AreOf m i s j u → AreMade parts (order_choices m times i s j u)
     → AreRowsOver n m.context × ArePartsOver n parts
 asked_over m times i j s u parts n e o a h =
     subst (λ (k : ℕ). AreRowsOver k m.context × ArePartsOver k parts) (sym e)
@@ -147,18 +179,23 @@ no_forms [] k h = refl
 no_forms (fs ∷ times) zero h = absurd cc
 no_forms (fs ∷ times) (suc k) h = no_forms times k h
 
-pub parts_listed : (m : Model) (times : List (List Affine)) (i j : ℕ) (s u : StmtModel) (k1 k2 k3 k4 k5 k6 : List ℕ) (q1 q2 : List (List Row)) (fs gs : List Affine) (own other : Part) (levels : List (List Row)) (cells late' : Part) (parts : List Part)
+pub parts_listed : (m : Model) (times : List (List Affine)) (i j : ℕ) (s u : StmtModel) (k1 k2 k3 k4 k5 k6 : List ℕ) (q1 q2 : List (List Row)) (fs gs : List Affine) (own other levels : List (List Row)) (cells lates : Part) (parts : List Part)
     → k1 ≡ first_columns m.params s → q1 ≡ s.pieces → k2 ≡ second_columns m.params s u → q2 ≡ u.pieces → k3 ≡ first_columns m.params s → k4 ≡ second_columns m.params s u
     → k5 ≡ first_columns m.params s → fs ≡ forms_of times i → k6 ≡ second_columns m.params s u → gs ≡ forms_of times j
-    → IsPart own (map (map (renamed_row k1)) q1) → IsPart other (map (map (renamed_row k2)) q2) → levels ≡ levels_before m.params i s j u
-    → IsPart cells (clashes k3 k4 s u) → IsPart late' (late (map (renamed k5) fs) (map (renamed k6) gs) []) → parts ≡ own ∷ other ∷ Some levels ∷ cells ∷ late' ∷ []
-    → AreParts parts (order_choices m times i s j u)
-parts_listed m times i j s u k1 k2 k3 k4 k5 k6 q1 q2 fs gs own other levels cells late' parts a1 b1 a2 b2 a3 a4 a5 f a6 g x y z v w e =
-    let x' = subst (λ (q : List ℕ × List (List Row)). IsPart own (map (map (renamed_row q.0)) q.1)) (λ t. (a1 t, b1 t)) x in
-    let y' = subst (λ (q : List ℕ × List (List Row)). IsPart other (map (map (renamed_row q.0)) q.1)) (λ t. (a2 t, b2 t)) y in
-    let v' = subst (λ (q : List ℕ × List ℕ). IsPart cells (clashes q.0 q.1 s u)) (λ t. (a3 t, a4 t)) v in
-    let w' = subst (λ (q : List ℕ × List ℕ × List Affine × List Affine). IsPart late' (late (map (renamed q.0) q.2) (map (renamed q.1) q.3) [])) (λ t. (a5 t, a6 t, f t, g t)) w in
-    subst (λ (os : List Part). AreParts os (order_choices m times i s j u)) (sym e) (x', (y', (z, (v', (w', tt)))))
+    → own ≡ map (map (renamed_row k1)) q1 → other ≡ map (map (renamed_row k2)) q2 → levels ≡ levels_before m.params i s j u
+    → IsPart (HaveWideCells k3 k4 s u) cells (clashes k3 k4 s u) → IsPart (AreWideTimes (map (renamed k5) fs) (map (renamed k6) gs)) lates (late (map (renamed k5) fs) (map (renamed k6) gs) [])
+    → parts ≡ Some own ∷ Some other ∷ Some levels ∷ cells ∷ lates ∷ []
+    → AreParts m times i s j u parts
+parts_listed m times i j s u k1 k2 k3 k4 k5 k6 q1 q2 fs gs own other levels cells lates parts a1 b1 a2 b2 a3 a4 a5 f a6 g x y z v w e =
+    let x' : own ≡ first_pieces m s = x ∙ (λ t. map (map (renamed_row (a1 t))) (b1 t)) in
+    let y' : other ≡ second_pieces m s u = y ∙ (λ t. map (map (renamed_row (a2 t))) (b2 t)) in
+    record {
+      cells = cells;
+      lates = lates;
+      list = e ∙ (λ t. Some (x' t) ∷ Some (y' t) ∷ Some (z t) ∷ cells ∷ lates ∷ []);
+      cells_are = subst (λ (q : List ℕ × List ℕ). IsPart (HaveWideCells q.0 q.1 s u) cells (clashes q.0 q.1 s u)) (λ t. (a3 t, a4 t)) v;
+      lates_are = subst (λ (q : List ℕ × List ℕ × List Affine × List Affine). IsPart (AreWideTimes (map (renamed q.0) q.2) (map (renamed q.1) q.3)) lates (late (map (renamed q.0) q.2) (map (renamed q.1) q.3) [])) (λ t. (a5 t, a6 t, f t, g t)) w;
+    }
 
 pub if_ok : {T E : Type 0} (r : Result T E) (P Q : T → Type 0) → ((x : T) → P x → Q x) → IfOk r P → IfOk r Q
 if_ok (Ok x) P Q f h = f x h
@@ -186,7 +223,7 @@ choice_of : (c : List (List Row)) (p : List ℤ) → IsInSome Meets c p → (q :
 choice_of [] p s = absurd s
 choice_of (x ∷ c) p s = elim s [ inl m ↦ (x, inl refl, m) | inr t ↦ (let r = choice_of c p t in (r.0, inr r.1, r.2)) ]
 
-none_there : (n : ℕ) (front : List Row) (os : List Part) (cs : List (List (List Row))) → AreParts os cs → HasNoPointFrom n front os → (p : List ℤ) → length p ≡ n → Meets front p → IsInSome Meets (all_joined cs) p → ⊥
+none_there : (n : ℕ) (front : List Row) (os : List Part) (cs : List (List (List Row))) → AreMade os cs → HasNoPointFrom n front os → (p : List ℤ) → length p ≡ n → Meets front p → IsInSome Meets (all_joined cs) p → ⊥
 none_there n front [] [] a h p l m s = h p l m
 none_there n front [] (c ∷ cs) a h p l m s = absurd a
 none_there n front (o ∷ os) [] a h p l m s = absurd a
@@ -196,7 +233,7 @@ none_there n front (Some made ∷ os) (c ∷ cs) a h p l m s =
     let q = choice_of c p parts.0 in
     none_there n (front ++ q.0) os cs a.1 (h q.0 (subst (λ (t : List (List Row)). IsAmong q.0 t) (sym a.0) q.1)) p l ((meets_append front q.0 p).1 (m, q.2)) parts.1
 
-point_there : (n : ℕ) (front : List Row) (os : List Part) (cs : List (List (List Row))) → AreParts os cs → (p : List ℤ) → IsPointFrom n front os p → (length p ≡ n) × Meets front p × IsInSome Meets (all_joined cs) p
+point_there : (n : ℕ) (front : List Row) (os : List Part) (cs : List (List (List Row))) → AreMade os cs → (p : List ℤ) → IsPointFrom n front os p → (length p ≡ n) × Meets front p × IsInSome Meets (all_joined cs) p
 point_there n front [] [] a p h = (h.0, h.1, inl tt)
 point_there n front [] (c ∷ cs) a p h = absurd a
 point_there n front (o ∷ os) [] a p h = absurd a
@@ -237,7 +274,7 @@ questions_are m times i j s u p =
 same_model : (m : Model) (k : ℕ) (s t : StmtModel) → slice_get m.stmts k ≡ Some s → slice_get m.stmts k ≡ Some t → s ≡ t
 same_model m k s t a b = let e : Some s ≡ Some t = sym a ∙ b in cc
 
-pub none_between : (m : Model) (times : List (List Affine)) (i j : ℕ) (s u : StmtModel) (parts : List Part) (n : ℕ) → AreOf m i s j u → n ≡ m.params + (width s + width u) → AreParts parts (order_choices m times i s j u)
+pub none_between : (m : Model) (times : List (List Affine)) (i j : ℕ) (s u : StmtModel) (parts : List Part) (n : ℕ) → AreOf m i s j u → n ≡ m.params + (width s + width u) → AreMade parts (order_choices m times i s j u)
     → HasNoPointFrom n m.context parts → NoneBetween m times i j
 none_between m times i j s u parts n of e are none t v o p l meets =
     let a = same_model m i t s o.first of.first in
@@ -245,17 +282,104 @@ none_between m times i j s u parts n of e are none t v o p l meets =
     let q = (questions_are m times i j s u p).0 (subst (λ (z : StmtModel × StmtModel). IsInSome Meets (order_questions m times i z.0 j z.1) p) (λ k. (a k, b k)) meets) in
     none_there n m.context parts (order_choices m times i s j u) are none p (l ∙ (λ k. m.params + (width (a k) + width (b k))) ∙ sym e) q.0 q.1
 
-pub point_between : (m : Model) (times : List (List Affine)) (i j : ℕ) (s u : StmtModel) (parts : List Part) (n : ℕ) (p : List ℤ) → n ≡ m.params + (width s + width u) → AreParts parts (order_choices m times i s j u)
+pub point_between : (m : Model) (times : List (List Affine)) (i j : ℕ) (s u : StmtModel) (parts : List Part) (n : ℕ) (p : List ℤ) → n ≡ m.params + (width s + width u) → AreMade parts (order_choices m times i s j u)
     → IsPointFrom n m.context parts p → IsPointBetween m times i s j u p
 point_between m times i j s u parts n p e are h =
     let r = point_there n m.context parts (order_choices m times i s j u) are p h in
     record { long = r.0 ∙ e; meets = (questions_are m times i j s u p).1 (r.1, r.2) }
 
-pub stops_between : (budget : ℕ) (m : Model) (times : List (List Affine)) (i j : ℕ) (s u : StmtModel) (parts : List Part) (n : ℕ) (e : LegalStop) → n ≡ m.params + (width s + width u) → AreParts parts (order_choices m times i s j u)
-    → StopsFrom budget n m.context parts e → StopsBetween budget m times i s j u e
-stops_between budget m times i j s u parts n e is are h = record { parts = parts; are = are; stops = subst (λ (k : ℕ). StopsFrom budget k m.context parts e) is h }
+-- ---- what stops
 
-pub unless_memory : (e : LegalStop) (P Q : Type 0) → (P → Q) → P → UnlessMemory e Q
-unless_memory (Overflow q) P Q f h = f h
-unless_memory (Spent q k) P Q f h = f h
-unless_memory (Memory w) P Q f h = tt
+among_left : {A : Type 0} (x : A) (xs ys : List A) → IsAmong x xs → IsAmong x (xs ++ ys)
+among_left x [] ys h = absurd h
+among_left x (y ∷ xs) ys h = elim h [ inl e ↦ inl e | inr k ↦ inr (among_left x xs ys k) ]
+
+among_right : {A : Type 0} (x : A) (xs ys : List A) → IsAmong x ys → IsAmong x (xs ++ ys)
+among_right x [] ys h = h
+among_right x (y ∷ xs) ys h = inr (among_right x xs ys h)
+
+among_front : (a b : List Row) (bs : List (List Row)) → IsAmong b bs → IsAmong (a ++ b) (map (λ (c : List Row). a ++ c) bs)
+among_front a b [] h = absurd h
+among_front a b (c ∷ bs) h = elim h [ inl e ↦ inl (ap (λ (t : List Row). a ++ t) e) | inr k ↦ inr (among_front a b bs k) ]
+
+among_joined : (a b : List Row) (xs bs : List (List Row)) → IsAmong a xs → IsAmong b bs → IsAmong (a ++ b) (joined xs bs)
+among_joined a b [] bs h k = absurd h
+among_joined a b (x ∷ xs) bs h k = elim h [
+  | inl e ↦ among_left (a ++ b) (map (λ (c : List Row). x ++ c) bs) (joined xs bs) (subst (λ (t : List Row). IsAmong (t ++ b) (map (λ (c : List Row). x ++ c) bs)) (sym e) (among_front x b bs k))
+  | inr m ↦ among_right (a ++ b) (map (λ (c : List Row). x ++ c) bs) (joined xs bs) (among_joined a b xs bs m k)
+]
+
+-- a stop other than want of memory
+abbrev IsRefusal : LegalStop → Type 0
+IsRefusal (Overflow q) = Unit {0}
+IsRefusal (Spent q k) = Unit {0}
+IsRefusal (Memory e) = ⊥
+
+peel : (e : LegalStop) (P : Type 0) → IsRefusal e → UnlessMemory e P → P
+peel (Overflow q) P r h = h
+peel (Spent q k) P r h = h
+peel (Memory w) P r h = absurd r
+
+module _ (budget : ℕ) (m : Model) (times : List (List Affine)) (i j : ℕ) (s u : StmtModel) (e : LegalStop) (refusal : IsRefusal e) where
+  -- behind a piece of each, a level, and the equalities of two cells
+  behind_cells : (lates : Part) → IsPart (AreWideTimes (first_times m times i s) (second_times m times s j u)) lates (lates_of m times i s j u) → (a b c d : List Row)
+      → IsAmong a (first_pieces m s) → IsAmong b (second_pieces m s u) → IsAmong c (levels_before m.params i s j u) → IsAmong d (cells_of m s u)
+      → StopsFrom budget (m.params + (width s + width u)) ((((m.context ++ a) ++ b) ++ c) ++ d) (lates ∷ []) e → StopsBetween budget m times i s j u e
+  behind_cells None wide a b c d x y z v h =
+      let rows : (((m.context ++ a) ++ b) ++ c) ++ d ≡ m.context ++ (a ++ (b ++ (c ++ d))) = append_assoc ((m.context ++ a) ++ b) c d ∙ append_assoc (m.context ++ a) b (c ++ d) ∙ append_assoc m.context a (b ++ (c ++ d)) in
+      let is : e ≡ Overflow (over (m.params + (width s + width u)) ((((m.context ++ a) ++ b) ++ c) ++ d)) = peel e _ refusal h in
+      subst (StopsBetween budget m times i s j u) (sym (is ∙ ap (λ (t : List Row). Overflow (over (m.params + (width s + width u)) t)) rows))
+      (times_leave (m.context ++ (a ++ (b ++ (c ++ d))))
+      (among_joined m.context (a ++ (b ++ (c ++ d))) (m.context ∷ []) (joined (first_pieces m s) (joined (second_pieces m s u) (joined (levels_before m.params i s j u) (cells_of m s u)))) (inl refl)
+      (among_joined a (b ++ (c ++ d)) (first_pieces m s) (joined (second_pieces m s u) (joined (levels_before m.params i s j u) (cells_of m s u))) x
+      (among_joined b (c ++ d) (second_pieces m s u) (joined (levels_before m.params i s j u) (cells_of m s u)) y
+      (among_joined c d (levels_before m.params i s j u) (cells_of m s u) z v))))
+      wide)
+  behind_cells (Some made) are a b c d x y z v h =
+      let k = peel e ((choice : List Row) × IsAmong choice made × StopsFrom budget (m.params + (width s + width u)) (((((m.context ++ a) ++ b) ++ c) ++ d) ++ choice) [] e) refusal h in
+      let f = k.0 in
+      let w : IsAmong f (lates_of m times i s j u) = subst (λ (t : List (List Row)). IsAmong f t) are k.1 in
+      let rows : ((((m.context ++ a) ++ b) ++ c) ++ d) ++ f ≡ m.context ++ (a ++ (b ++ (c ++ (d ++ f)))) =
+      append_assoc (((m.context ++ a) ++ b) ++ c) d f ∙ append_assoc ((m.context ++ a) ++ b) c (d ++ f) ∙ append_assoc (m.context ++ a) b (c ++ (d ++ f)) ∙ append_assoc m.context a (b ++ (c ++ (d ++ f))) in
+      question_stops e (m.context ++ (a ++ (b ++ (c ++ (d ++ f)))))
+      (among_joined m.context (a ++ (b ++ (c ++ (d ++ f)))) (m.context ∷ []) (joined (first_pieces m s) (joined (second_pieces m s u) (joined (levels_before m.params i s j u) (joined (cells_of m s u) (lates_of m times i s j u))))) (inl refl)
+      (among_joined a (b ++ (c ++ (d ++ f))) (first_pieces m s) (joined (second_pieces m s u) (joined (levels_before m.params i s j u) (joined (cells_of m s u) (lates_of m times i s j u)))) x
+      (among_joined b (c ++ (d ++ f)) (second_pieces m s u) (joined (levels_before m.params i s j u) (joined (cells_of m s u) (lates_of m times i s j u))) y
+      (among_joined c (d ++ f) (levels_before m.params i s j u) (joined (cells_of m s u) (lates_of m times i s j u)) z
+      (among_joined d f (cells_of m s u) (lates_of m times i s j u) v w)))))
+      (subst (λ (t : List Row). StopsFrom budget (m.params + (width s + width u)) t [] e) rows k.2)
+
+  -- behind a piece of each and a level
+  behind_levels : (cells lates : Part) → IsPart (HaveWideCells (first_columns m.params s) (second_columns m.params s u) s u) cells (cells_of m s u) → IsPart (AreWideTimes (first_times m times i s) (second_times m times s j u)) lates (lates_of m times i s j u)
+      → (a b c : List Row) → IsAmong a (first_pieces m s) → IsAmong b (second_pieces m s u) → IsAmong c (levels_before m.params i s j u)
+      → StopsFrom budget (m.params + (width s + width u)) (((m.context ++ a) ++ b) ++ c) (cells ∷ lates ∷ []) e → StopsBetween budget m times i s j u e
+  behind_levels None lates wide are a b c x y z h =
+      let rows : ((m.context ++ a) ++ b) ++ c ≡ m.context ++ (a ++ (b ++ c)) = append_assoc (m.context ++ a) b c ∙ append_assoc m.context a (b ++ c) in
+      let is : e ≡ Overflow (over (m.params + (width s + width u)) (((m.context ++ a) ++ b) ++ c)) = peel e _ refusal h in
+      subst (StopsBetween budget m times i s j u) (sym (is ∙ ap (λ (t : List Row). Overflow (over (m.params + (width s + width u)) t)) rows))
+      (cells_leave (m.context ++ (a ++ (b ++ c)))
+      (among_joined m.context (a ++ (b ++ c)) (m.context ∷ []) (joined (first_pieces m s) (joined (second_pieces m s u) (levels_before m.params i s j u))) (inl refl)
+      (among_joined a (b ++ c) (first_pieces m s) (joined (second_pieces m s u) (levels_before m.params i s j u)) x
+      (among_joined b c (second_pieces m s u) (levels_before m.params i s j u) y z)))
+      wide)
+  behind_levels (Some made) lates is are a b c x y z h =
+      let k = peel e ((choice : List Row) × IsAmong choice made × StopsFrom budget (m.params + (width s + width u)) ((((m.context ++ a) ++ b) ++ c) ++ choice) (lates ∷ []) e) refusal h in
+      behind_cells lates are a b c k.0 x y z (subst (λ (t : List (List Row)). IsAmong k.0 t) is k.1) k.2
+
+  stops_of : (parts : List Part) → AreParts m times i s j u parts → StopsFrom budget (m.params + (width s + width u)) m.context parts e → StopsBetween budget m times i s j u e
+  stops_of parts are h =
+      let n = m.params + (width s + width u) in
+      let h' : StopsFrom budget n m.context (Some (first_pieces m s) ∷ Some (second_pieces m s u) ∷ Some (levels_before m.params i s j u) ∷ are.cells ∷ are.lates ∷ []) e = subst (λ (os : List Part). StopsFrom budget n m.context os e) are.list h in
+      let p = peel e ((choice : List Row) × IsAmong choice (first_pieces m s) × StopsFrom budget n (m.context ++ choice) (Some (second_pieces m s u) ∷ Some (levels_before m.params i s j u) ∷ are.cells ∷ are.lates ∷ []) e) refusal h' in
+      let q = peel e ((choice : List Row) × IsAmong choice (second_pieces m s u) × StopsFrom budget n ((m.context ++ p.0) ++ choice) (Some (levels_before m.params i s j u) ∷ are.cells ∷ are.lates ∷ []) e) refusal p.2 in
+      let r = peel e ((choice : List Row) × IsAmong choice (levels_before m.params i s j u) × StopsFrom budget n (((m.context ++ p.0) ++ q.0) ++ choice) (are.cells ∷ are.lates ∷ []) e) refusal q.2 in
+      behind_levels are.cells are.lates are.cells_are are.lates_are p.0 q.0 r.0 p.1 q.1 r.1 r.2
+
+pub stops_between : (budget : ℕ) (m : Model) (times : List (List Affine)) (i j : ℕ) (s u : StmtModel) (parts : List Part) (n : ℕ) (e : LegalStop) → n ≡ m.params + (width s + width u) → AreParts m times i s j u parts
+    → StopsFrom budget n m.context parts e → UnlessMemory e (StopsBetween budget m times i s j u e)
+stops_between budget m times i j s u parts n e is are h = by e refl
+  where
+    by : (f : LegalStop) → f ≡ e → UnlessMemory f (StopsBetween budget m times i s j u f)
+    by (Overflow q) k = stops_of budget m times i j s u (Overflow q) tt parts are (subst (λ (x : ℕ × LegalStop). StopsFrom budget x.0 m.context parts x.1) (λ t. (is t, sym k t)) h)
+    by (Spent q c) k = stops_of budget m times i j s u (Spent q c) tt parts are (subst (λ (x : ℕ × LegalStop). StopsFrom budget x.0 m.context parts x.1) (λ t. (is t, sym k t)) h)
+    by (Memory w) k = tt

@@ -1,13 +1,15 @@
 -- The steps of a search through the choices for a part.
-use Rattle.std.proofs.Common.{◌≡◌, inl, inr, ℕ, zero, suc, ◌+◌, ◌<◌, List, [], ◌∷◌, ◌++◌, length, drop, take, get_or, sym, ap, ◌∙◌, subst, ℤ, Option, Some, None, IfSome, IfNone, arith}
+use Rattle.std.proofs.Common.{Bool, true, false, refl, ◌≤◌, MatchOption, ◌≡◌, inl, inr, ℕ, zero, suc, ◌+◌, ◌<◌, List, [], ◌∷◌, ◌++◌, length, drop, take, get_or, sym, ap, ◌∙◌, subst, ℤ, Option, Some, None, IfSome, IfNone, arith}
 use Rattle.std.specs.List.{AllByRecursion}
-use Rattle.std.proofs.lemmas.List.{drop_more}
+use Rattle.std.specs.Prelude.{nat_lt}
+use Rattle.std.proofs.lemmas.Bool.Decides.{nat_tests}
+use Rattle.std.proofs.lemmas.List.{drop_more, take_all}
 use Rattle.ac_forms.specs.ListMembers.{IsAmong}
 use Rattle.ac_forms.specs.Rows.{AreRowsOver}
 use Rattle.ac_forms.specs.declared.row.Row.{Row}
 use Rattle.ac_legal.specs.declared.types.LegalStop.{LegalStop}
 use Rattle.ac_legal.specs.declared.types.LegalStop.TheVariants.{Overflow, Spent, Memory}
-use Rattle.ac_legal.specs.QuestionChoices.{Part, IsPartOver, ArePartsOver, HasNoPointFrom, IsPointFrom, StopsFrom, UnlessMemory}
+use Rattle.ac_legal.specs.QuestionChoices.{Part, IsPartOver, ArePartsOver, HasNoPointFrom, IsPointFrom, StopsFrom, UnlessMemory, first_stop}
 
 pub at_depth : (parts : List Part) (depth : ℕ) (o p : Part) → depth < length parts → o ≡ get_or parts depth o → o ≡ p → drop depth parts ≡ p ∷ drop (depth + 1) parts
 at_depth parts depth o p l a b = drop_more parts depth o l ∙ ap (λ (x : Part). x ∷ drop (depth + 1) parts) (sym a ∙ b)
@@ -78,3 +80,56 @@ none_step n index front rows item rest choices l e r h k =
     let next : suc index ≡ index + 1 = omega arith in
     subst (λ (j : ℕ). (choice : List Row) → IsAmong choice (take j choices) → HasNoPointFrom n (front ++ choice) rest) next
     (taken (λ (choice : List Row). HasNoPointFrom n (front ++ choice) rest) choices index item l e h (subst (λ (q : List Row). HasNoPointFrom n q rest) r k))
+
+-- ---- the stop that is held
+
+pub held_on : (held : Option LegalStop) (P Q : Type 0) (R : LegalStop → Type 0) → (P → Q) → MatchOption held P R → MatchOption held Q R
+held_on None P Q R f h = f h
+held_on (Some e) P Q R f h = h
+
+pub held_stop : (held first : Option LegalStop) (e : LegalStop) (P Q : Type 0) (R : LegalStop → Type 0) → first ≡ first_stop held e → R e → MatchOption held P R → MatchOption first Q R
+held_stop held first e P Q R is k h = subst (λ (o : Option LegalStop). MatchOption o Q R) (sym is) (by held h)
+  where
+    by : (o : Option LegalStop) → MatchOption o P R → MatchOption (first_stop o e) Q R
+    by None m = k
+    by (Some f) m = m
+
+pub held_some : (held : Option LegalStop) (e : LegalStop) (P : Type 0) (R : LegalStop → Type 0) → held ≡ Some e → MatchOption held P R → R e
+held_some held e P R is h = subst (λ (o : Option LegalStop). MatchOption o P R) is h
+
+pub held_none : (held : Option LegalStop) (P : Type 0) (R : LegalStop → Type 0) → held ≡ None → MatchOption held P R → P
+held_none held P R is h = subst (λ (o : Option LegalStop). MatchOption o P R) is h
+
+pub stop_choice : (budget n index : ℕ) (front rows item : List Row) (rest : List Part) (choices : List (List Row)) (e : LegalStop)
+    → index < length choices → item ≡ get_or choices index item → rows ≡ front ++ item → StopsFrom budget n rows rest e
+    → (choice : List Row) × IsAmong choice choices × StopsFrom budget n (front ++ choice) rest e
+stop_choice budget n index front rows item rest choices e k i r h = (item, among_at choices index item k i, subst (λ (q : List Row). StopsFrom budget n q rest e) r h)
+
+pub stop_end : (budget n depth : ℕ) (front : List Row) (parts : List Part) (o : Part) (choices : List (List Row)) (e : LegalStop)
+    → depth < length parts → o ≡ get_or parts depth o → o ≡ Some choices → (choice : List Row) × IsAmong choice choices × StopsFrom budget n (front ++ choice) (drop (depth + 1) parts) e
+    → StopsFrom budget n front (drop depth parts) e
+stop_end budget n depth front parts o choices e l a b h =
+    subst (λ (ps : List Part). StopsFrom budget n front ps e) (sym (at_depth parts depth o (Some choices) l a b))
+    (stop_of e ((choice : List Row) × IsAmong choice choices × StopsFrom budget n (front ++ choice) (drop (depth + 1) parts) e) h)
+
+pub none_end : (n depth index : ℕ) (front : List Row) (parts : List Part) (o : Part) (choices : List (List Row))
+    → depth < length parts → o ≡ get_or parts depth o → o ≡ Some choices → length choices ≤ index
+    → ((choice : List Row) → IsAmong choice (take index choices) → HasNoPointFrom n (front ++ choice) (drop (depth + 1) parts)) → HasNoPointFrom n front (drop depth parts)
+none_end n depth index front parts o choices l a b k h =
+    subst (HasNoPointFrom n front) (sym (at_depth parts depth o (Some choices) l a b))
+    (λ choice m. h choice (subst (λ (xs : List (List Row)). IsAmong choice xs) (sym (take_all index choices k)) m))
+
+-- ---- one more assignment
+
+lt_true : (m n : ℕ) → nat_lt m n ≡ true → m < n
+lt_true m n h = grind (arith, nat_tests)
+
+lt_false : (m n : ℕ) → nat_lt m n ≡ false → n ≤ m
+lt_false m n h = grind (arith, nat_tests)
+
+pub one_more : (n : ℕ) (P : ℕ → Type 0) → ((k : ℕ) → k < n → P k) → P n → (k : ℕ) → k < n + 1 → P k
+one_more n P h p k l = by (nat_lt k n) refl
+  where
+    by : (b : Bool) → nat_lt k n ≡ b → P k
+    by true e = h k (lt_true k n e)
+    by false e = subst P (let low : n ≤ k = lt_false k n e in let same : n ≡ k = omega (arith, low, l) in same) p

@@ -39,6 +39,9 @@ pub if_kept : (l : Legal) (P Q : Type 0) → (P → Q) → IfKept l P → IfKept
 if_kept Kept P Q f h = f h
 if_kept (Broken at first second) P Q f h = tt
 
+pub kept_is : (l : Legal) (P : Type 0) → l ≡ Kept → IfKept l P → P
+kept_is l P e h = subst (λ (x : Legal). IfKept x P) e h
+
 pub point_of_two : (m : Model) (times : List (List Affine)) (i j : ℕ) (s u : StmtModel) (behind wide : ℕ) (p at xs ys : List ℤ) (a b : ℕ) → AreOf m i s j u → wide ≡ width s → behind ≡ m.params + wide → IsPointBetween m times i s j u p
     → IsCutOf p m.params (behind - m.params) i j at a xs b ys → IsPointOfTwo m times at a xs b ys
 point_of_two m times i j s u behind wide p at xs ys a b are w e h c =

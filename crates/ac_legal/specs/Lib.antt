@@ -1,2 +1,3 @@
 pub mod QuestionChoices
+pub mod WideQuestions
 pub mod ScheduleAnswers

@@ -1,6 +1,7 @@
 -- Questions that are made of one choice for each of several parts: their points, and when one of them stops a search.
 use Rattle.std.specs.Prelude.{ℕ, ◌≡◌, List, [], ◌∷◌, ◌++◌, length, ℤ, Option, Some, None}
 use Rattle.std.specs.List.{AllByRecursion}
+use Rattle.std.specs.declared.alloc.AllocError.{AllocError}
 use Rattle.ac_forms.specs.ListMembers.{IsAmong}
 use Rattle.ac_forms.specs.Rows.{Meets, AreRowsOver}
 use Rattle.ac_forms.specs.declared.conj.Conj.{Conj}
@@ -8,7 +9,6 @@ use Rattle.ac_forms.specs.declared.row.Row.{Row}
 use Rattle.ac_omega.specs.Decisions.{walk_of, IsWide, IsSpent}
 use Rattle.ac_omega.specs.Either.{StopsFinding}
 use Rattle.ac_omega_certify.specs.declared.strategy.Strategy.TheVariants.{Full, Economical}
-use Rattle.ac_legal_law.specs.OrderQuestions.{joined}
 use Rattle.ac_legal.specs.declared.types.LegalStop.{LegalStop}
 use Rattle.ac_legal.specs.declared.types.LegalStop.TheVariants.{Overflow, Spent, Memory}
 
@@ -54,6 +54,17 @@ IsPointFrom columns front [] p = IsPointAt columns front p
 IsPointFrom columns front (None ∷ parts) p = ⊥
 IsPointFrom columns front (Some choices ∷ parts) p = (choice : List Row) × IsAmong choice choices × IsPointFrom columns (front ++ choice) parts p
 
+-- the want of memory, if a stop is one
+abbrev pub want_of : LegalStop → Option AllocError
+want_of (Overflow q) = None
+want_of (Spent q k) = None
+want_of (Memory e) = Some e
+
+-- the first of two stops, of which the first may be missing
+abbrev pub first_stop : Option LegalStop → LegalStop → Option LegalStop
+first_stop None e = Some e
+first_stop (Some e) f = Some e
+
 abbrev pub UnlessMemory : LegalStop → Type 0 → Type 0
 UnlessMemory (Overflow q) P = P
 UnlessMemory (Spent q k) P = P
@@ -65,18 +76,7 @@ StopsFrom budget columns front [] e = StopsOn budget columns front e
 StopsFrom budget columns front (None ∷ parts) e = UnlessMemory e (e ≡ Overflow (over columns front))
 StopsFrom budget columns front (Some choices ∷ parts) e = UnlessMemory e ((choice : List Row) × IsAmong choice choices × StopsFrom budget columns (front ++ choice) parts e)
 
--- the part has these choices, if it could be formed
-abbrev pub IsPart : Part → List (List Row) → Type 0
-IsPart None choices = Unit {0}
-IsPart (Some made) choices = made ≡ choices
-
-abbrev pub AreParts : List Part → List (List (List Row)) → Type 0
-AreParts [] [] = Unit {0}
-AreParts [] (c ∷ cs) = ⊥
-AreParts (o ∷ os) [] = ⊥
-AreParts (o ∷ os) (c ∷ cs) = IsPart o c × AreParts os cs
-
--- one choice for each
-abbrev pub all_joined : List (List (List Row)) → List (List Row)
-all_joined [] = [] ∷ []
-all_joined (c ∷ cs) = joined c (all_joined cs)
+-- the part has these choices; where it cannot be formed, this holds
+abbrev pub IsPart : Type 0 → Part → List (List Row) → Type 0
+IsPart wide None choices = wide
+IsPart wide (Some made) choices = made ≡ choices

@@ -1,6 +1,7 @@
 -- What is decided of a schedule: that it keeps the order, or two instances between which it is broken, or what stops the search.
 use Rattle.std.specs.Prelude.{ℕ, ◌+◌, ◌≡◌, ◌++◌, List, [], ◌∷◌, map, length, ℤ, Some, slice_get}
 use Rattle.ac_forms.specs.Affine.{Affine}
+use Rattle.ac_forms.specs.ListMembers.{IsAmong}
 use Rattle.ac_forms.specs.PieceMembership.{IsInSome}
 use Rattle.ac_forms.specs.Renaming.{renamed, renamed_row}
 use Rattle.ac_forms.specs.Rows.{Meets}
@@ -13,24 +14,41 @@ use Rattle.ac_poly.specs.Model.{model_of}
 use Rattle.ac_poly.specs.declared.types.Model.{Model}
 use Rattle.ac_poly.specs.declared.types.StmtModel.{StmtModel}
 use Rattle.ac_legal_law.specs.BrokenOrders.{BreaksAt}
-use Rattle.ac_legal_law.specs.OrderQuestions.{first_columns, second_columns, clashes, late, order_questions}
+use Rattle.ac_legal_law.specs.OrderQuestions.{first_columns, second_columns, clashes, late, joined, order_questions}
 use Rattle.ac_legal_law.specs.Schedules.{forms_of, ScheduleKeepsOrder}
-use Rattle.ac_legal.specs.QuestionChoices.{Part, AreParts, StopsFrom}
+use Rattle.ac_legal.specs.QuestionChoices.{Part, IsPart, StopsOn, over}
+use Rattle.ac_legal.specs.WideQuestions.{HaveWideCells, AreWideTimes}
 use Rattle.ac_legal.specs.declared.types.Legal.{Legal}
 use Rattle.ac_legal.specs.declared.types.Legal.TheVariants.{Kept, Broken}
 use Rattle.ac_legal.specs.declared.types.LegalStop.{LegalStop}
+use Rattle.ac_legal.specs.declared.types.LegalStop.TheVariants.{Overflow}
 
--- behind the context: a piece of the first, one of the second, a level, the equalities of two cells, and a way to be late
-abbrev pub order_choices : Model → List (List Affine) → ℕ → StmtModel → ℕ → StmtModel → List (List (List Row))
-order_choices m times i s j u =
-    let ks = first_columns m.params s in
-    let ls = second_columns m.params s u in
-    map (map (renamed_row ks)) s.pieces
-    ∷ map (map (renamed_row ls)) u.pieces
-    ∷ levels_before m.params i s j u
-    ∷ clashes ks ls s u
-    ∷ late (map (renamed ks) (forms_of times i)) (map (renamed ls) (forms_of times j)) []
-    ∷ []
+-- ---- what a question of two assignments is made of, behind the context
+
+abbrev pub first_pieces : Model → StmtModel → List (List Row)
+first_pieces m s = map (map (renamed_row (first_columns m.params s))) s.pieces
+
+abbrev pub second_pieces : Model → StmtModel → StmtModel → List (List Row)
+second_pieces m s u = map (map (renamed_row (second_columns m.params s u))) u.pieces
+
+-- the equalities of two cells
+abbrev pub cells_of : Model → StmtModel → StmtModel → List (List Row)
+cells_of m s u = clashes (first_columns m.params s) (second_columns m.params s u) s u
+
+abbrev pub first_times : Model → List (List Affine) → ℕ → StmtModel → List Affine
+first_times m times i s = map (renamed (first_columns m.params s)) (forms_of times i)
+
+abbrev pub second_times : Model → List (List Affine) → StmtModel → ℕ → StmtModel → List Affine
+second_times m times s j u = map (renamed (second_columns m.params s u)) (forms_of times j)
+
+-- the ways to be late
+abbrev pub lates_of : Model → List (List Affine) → ℕ → StmtModel → ℕ → StmtModel → List (List Row)
+lates_of m times i s j u = late (first_times m times i s) (second_times m times s j u) []
+
+abbrev pub questions_width : Model → StmtModel → StmtModel → ℕ
+questions_width m s u = m.params + (width s + width u)
+
+-- ---- two assignments
 
 -- the numbers of two assignments with their models
 pub record AreOf (m : Model) (i : ℕ) (s : StmtModel) (j : ℕ) (u : StmtModel) : Type 0 where
@@ -46,11 +64,30 @@ pub record IsPointBetween (m : Model) (times : List (List Affine)) (i : ℕ) (s 
   pub long : length p ≡ m.params + (width s + width u)
   pub meets : IsInSome Meets (order_questions m times i s j u) p
 
--- the search through their questions stops
-pub record StopsBetween (budget : ℕ) (m : Model) (times : List (List Affine)) (i : ℕ) (s : StmtModel) (j : ℕ) (u : StmtModel) (e : LegalStop) : Type 0 where
-  pub parts : List Part
-  pub are : AreParts parts (order_choices m times i s j u)
-  pub stops : StopsFrom budget (m.params + (width s + width u)) m.context parts e
+-- the parts: pieces and levels can always be formed, cells and times unless a difference leaves `i128`
+pub record AreParts (m : Model) (times : List (List Affine)) (i : ℕ) (s : StmtModel) (j : ℕ) (u : StmtModel) (parts : List Part) : Type 0 where
+  pub cells : Part
+  pub lates : Part
+  pub list : parts ≡ Some (first_pieces m s) ∷ Some (second_pieces m s u) ∷ Some (levels_before m.params i s j u) ∷ cells ∷ lates ∷ []
+  pub cells_are : IsPart (HaveWideCells (first_columns m.params s) (second_columns m.params s u) s u) cells (cells_of m s u)
+  pub lates_are : IsPart (AreWideTimes (first_times m times i s) (second_times m times s j u)) lates (lates_of m times i s j u)
+
+-- the rows of their questions before the equalities of cells
+abbrev pub rows_before_cells : Model → ℕ → StmtModel → ℕ → StmtModel → List (List Row)
+rows_before_cells m i s j u = joined (m.context ∷ []) (joined (first_pieces m s) (joined (second_pieces m s u) (levels_before m.params i s j u)))
+
+-- and before the ways to be late
+abbrev pub rows_before_times : Model → ℕ → StmtModel → ℕ → StmtModel → List (List Row)
+rows_before_times m i s j u = joined (m.context ∷ []) (joined (first_pieces m s) (joined (second_pieces m s u) (joined (levels_before m.params i s j u) (cells_of m s u))))
+
+-- the search through their questions stops: at one of them, or where its cells or times cannot be formed, with the rows
+-- before these
+pub data StopsBetween (budget : ℕ) (m : Model) (times : List (List Affine)) (i : ℕ) (s : StmtModel) (j : ℕ) (u : StmtModel) : LegalStop → Type 0 where
+  question_stops : (e : LegalStop) (rows : List Row) → IsAmong rows (order_questions m times i s j u) → StopsOn budget (questions_width m s u) rows e → StopsBetween budget m times i s j u e
+  cells_leave : (rows : List Row) → IsAmong rows (rows_before_cells m i s j u) → HaveWideCells (first_columns m.params s) (second_columns m.params s u) s u
+      → StopsBetween budget m times i s j u (Overflow (over (questions_width m s u) rows))
+  times_leave : (rows : List Row) → IsAmong rows (rows_before_times m i s j u) → AreWideTimes (first_times m times i s) (second_times m times s j u)
+      → StopsBetween budget m times i s j u (Overflow (over (questions_width m s u) rows))
 
 -- a point of a question, as the valuation and the coordinates of two instances
 pub record IsPointOfTwo (m : Model) (times : List (List Affine)) (at : List ℤ) (i : ℕ) (xs : List ℤ) (j : ℕ) (ys : List ℤ) : Type 0 where

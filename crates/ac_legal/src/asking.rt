@@ -7,6 +7,7 @@ use crate::types::LegalStop;
 use ac_base::Items;
 use ac_forms::{Conj, Row};
 use ac_omega::{Decided, Stop, settle_point};
+use ac_simplex::{Found, USUAL, attempt};
 use std::alloc::{AllocError, Global};
 
 /// Adds copies of rows.
@@ -55,11 +56,25 @@ pub(crate) fn ask(
     ensures stops { IfErr result (StopsOn budget columns rows.now) }
 {
     let asked = question(alloc, columns, rows)?;
-    settle(alloc, budget, &asked)
+    decide(alloc, budget, &asked)
 }
 
-/// A point of a question.
-fn settle(alloc: Global, budget: u64, asked: &Conj) -> Result<Option<Vec<i128>>, LegalStop>
+/// A point of a question. The simplex method is tried first, and what it leaves open is eliminated.
+fn decide(alloc: Global, budget: u64, asked: &Conj) -> Result<Option<Vec<i128>>, LegalStop>
+    requires { IsWellMade asked.now }
+    ensures none { IfOk result (λ found. IfNone found (HasNoPoint asked.now.columns asked.now.rows)) }
+    ensures point { IfOk result (λ found. IfSome found (λ p. IsPointAt asked.now.columns asked.now.rows p.items)) }
+    ensures stops { IfErr result (StopsOn budget asked.now.columns asked.now.rows) }
+{
+    match attempt(alloc, asked, USUAL)? {
+        Some(Found::Empty(_)) => Ok(None),
+        Some(Found::Point(point)) => Ok(Some(point)),
+        None => eliminate(alloc, budget, asked),
+    }
+}
+
+/// A point of a question that the simplex method leaves open.
+fn eliminate(alloc: Global, budget: u64, asked: &Conj) -> Result<Option<Vec<i128>>, LegalStop>
     requires { IsWellMade asked.now }
     ensures none { IfOk result (λ found. IfNone found (HasNoPoint asked.now.columns asked.now.rows)) }
     ensures point { IfOk result (λ found. IfSome found (λ p. IsPointAt asked.now.columns asked.now.rows p.items)) }

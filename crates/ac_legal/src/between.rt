@@ -1,12 +1,13 @@
 //! The questions of two assignments.
-ghost use Rattle.std.specs.Prelude.{◌≡◌, ◌+◌, ◌<◌, ◌∷◌, [], ◌++◌, List, Some, map, length, slice_get, IfOk, IfErr, IfSome, IfNone};
-ghost use Rattle.ac_forms.specs.Renaming.{renamed, renamed_row};
-ghost use Rattle.ac_forms.specs.declared.row.Row.{Row};
+ghost use Rattle.std.specs.Prelude.{◌≡◌, ◌+◌, ◌<◌, ◌∷◌, [], Some, map, length, IfOk, IfErr, IfSome, IfNone};
+ghost use Rattle.ac_forms.specs.FormStops.{IfWide};
+ghost use Rattle.ac_forms.specs.Renaming.{renamed, AreDistinct};
 ghost use Rattle.ac_poly.specs.Coordinates.{width};
 ghost use Rattle.ac_legal_law.specs.OrderQuestions.{clashes, late};
 ghost use Rattle.ac_legal_law.specs.Schedules.{forms_of};
-ghost use Rattle.ac_legal.specs.QuestionChoices.{IsPart, AreParts, UnlessMemory};
-ghost use Rattle.ac_legal.specs.ScheduleAnswers.{AreOf, order_choices, NoneBetween, IsPointBetween, StopsBetween};
+ghost use Rattle.ac_legal.specs.QuestionChoices.{IsPart, UnlessMemory};
+ghost use Rattle.ac_legal.specs.ScheduleAnswers.{AreOf, AreParts, NoneBetween, IsPointBetween, StopsBetween};
+ghost use Rattle.ac_legal.specs.WideQuestions.{AreWideTimes, HaveWideCells};
 ghost use Rattle.ac_flow.specs.Readers.{IsOver};
 
 use crate::cells::clashes;
@@ -39,22 +40,7 @@ fn forms_at<'a>(order: &'a Schedule, number: usize) -> &'a [Form]
     }
 }
 
-/// The pieces of an assignment.
-fn piece_part(
-    alloc: Global,
-    columns: &[usize],
-    pieces: &[Items<Row>],
-) -> Result<Option<Items<Items<Row>>>, AllocError>
-    ensures { IfOk result (λ part. IsPart part (map (map (renamed_row columns.now)) pieces.now)) }
-{
-    match pieces_among(alloc, columns, pieces) {
-        Ok(choices) => Ok(Some(choices)),
-        Err(FormStop::Wide) => Ok(None),
-        Err(FormStop::Memory(want)) => Err(want),
-    }
-}
-
-/// The equalities of each two cells of which one is a target.
+/// The equalities of each two cells of which one is a target, as a part.
 fn cell_part(
     alloc: Global,
     columns: &[usize],
@@ -62,7 +48,9 @@ fn cell_part(
     others: &[usize],
     second: &StmtModel,
 ) -> Result<Option<Items<Items<Row>>>, AllocError>
-    ensures { IfOk result (λ part. IsPart part (clashes columns.now others.now first.now second.now)) }
+    requires distinct { AreDistinct columns.now }
+    requires others { AreDistinct others.now }
+    ensures { IfOk result (λ part. IsPart (HaveWideCells columns.now others.now first.now second.now) part (clashes columns.now others.now first.now second.now)) }
 {
     match clashes(alloc, columns, first, others, second) {
         Ok(choices) => Ok(Some(choices)),
@@ -79,14 +67,17 @@ fn lates(
     others: &[usize],
     other_times: &[Form],
 ) -> Result<Items<Items<Row>>, FormStop>
-    ensures { IfOk result (λ made. made ≡ late (map (renamed columns.now) times.now) (map (renamed others.now) other_times.now) []) }
+    requires distinct { AreDistinct columns.now }
+    requires others { AreDistinct others.now }
+    ensures value { IfOk result (λ made. made ≡ late (map (renamed columns.now) times.now) (map (renamed others.now) other_times.now) []) }
+    ensures wide { IfErr result (λ stop. IfWide stop (AreWideTimes (map (renamed columns.now) times.now) (map (renamed others.now) other_times.now))) }
 {
     let mine = forms_among(alloc, columns, times)?;
     let theirs = forms_among(alloc, others, other_times)?;
     late(alloc, mine.as_slice(), theirs.as_slice())
 }
 
-/// The same as a part.
+/// The same, as a part.
 fn time_part(
     alloc: Global,
     columns: &[usize],
@@ -94,7 +85,9 @@ fn time_part(
     others: &[usize],
     other_times: &[Form],
 ) -> Result<Option<Items<Items<Row>>>, AllocError>
-    ensures { IfOk result (λ part. IsPart part (late (map (renamed columns.now) times.now) (map (renamed others.now) other_times.now) [])) }
+    requires distinct { AreDistinct columns.now }
+    requires others { AreDistinct others.now }
+    ensures { IfOk result (λ part. IsPart (AreWideTimes (map (renamed columns.now) times.now) (map (renamed others.now) other_times.now)) part (late (map (renamed columns.now) times.now) (map (renamed others.now) other_times.now) [])) }
 {
     match lates(alloc, columns, times, others, other_times) {
         Ok(choices) => Ok(Some(choices)),
@@ -106,17 +99,17 @@ fn time_part(
 /// The five parts, in order.
 fn part_list(
     alloc: Global,
-    own: Option<Items<Items<Row>>>,
-    other: Option<Items<Items<Row>>>,
+    own: Items<Items<Row>>,
+    other: Items<Items<Row>>,
     levels: Items<Items<Row>>,
     cells: Option<Items<Items<Row>>>,
     times: Option<Items<Items<Row>>>,
 ) -> Result<Items<Option<Items<Items<Row>>>>, AllocError>
-    ensures { IfOk result (λ parts. parts ≡ own ∷ other ∷ Some levels ∷ cells ∷ times ∷ []) }
+    ensures { IfOk result (λ parts. parts ≡ Some own ∷ Some other ∷ Some levels ∷ cells ∷ times ∷ []) }
 {
     let mut parts = Items::new(alloc);
-    parts.push(own)?;
-    parts.push(other)?;
+    parts.push(Some(own))?;
+    parts.push(Some(other))?;
     parts.push(Some(levels))?;
     parts.push(cells)?;
     parts.push(times)?;
@@ -135,12 +128,12 @@ fn parts_of(
     requires second { two.now.j < length m.now.stmts }
     requires stmts { AreOf m.now two.now.i two.now.first.now two.now.j two.now.second.now }
     requires behind { behind ≡ m.now.params + width two.now.first.now }
-    ensures { IfOk result (λ parts. AreParts parts (order_choices m.now order.now.times two.now.i two.now.first.now two.now.j two.now.second.now)) }
+    ensures { IfOk result (AreParts m.now order.now.times two.now.i two.now.first.now two.now.j two.now.second.now) }
 {
     let mine = columns(alloc, m.params, m.params, width(two.first))?;
     let theirs = columns(alloc, m.params, behind, width(two.second))?;
-    let own = piece_part(alloc, mine.as_slice(), two.first.pieces.as_slice())?;
-    let other = piece_part(alloc, theirs.as_slice(), two.second.pieces.as_slice())?;
+    let own = pieces_among(alloc, mine.as_slice(), two.first.pieces.as_slice())?;
+    let other = pieces_among(alloc, theirs.as_slice(), two.second.pieces.as_slice())?;
     let levels = before(alloc, m, two.i, two.j)?;
     let cells = cell_part(
         alloc,

@@ -5,6 +5,7 @@ ghost use Rattle.ac_legal.specs.ScheduleAnswers.{AreOf, NoneBetween, IsPointBetw
 ghost use Rattle.ac_flow.specs.Readers.{IsLowered, IsOver};
 
 use crate::between::{Two, between};
+use crate::searching::first_stop;
 use crate::types::{Legal, LegalStop, Schedule};
 use ac_flow::types::Limits;
 use ac_forms::column_after;
@@ -76,7 +77,7 @@ fn compare(
     }
 }
 
-/// An assignment as the first of two.
+/// An assignment as the first of two. A stop is held until each other assignment is compared.
 fn from_first(
     alloc: Global,
     budget: u64,
@@ -93,6 +94,7 @@ fn from_first(
     ensures stops { IfErr result (λ e. UnlessMemory e (SomeStops budget m.now order.now.times e)) }
 {
     let stmts = m.stmts.as_slice();
+    let mut held = None;
     for j in 0..stmts.len() {
         let two = Two {
             i,
@@ -101,15 +103,21 @@ fn from_first(
             second: &stmts[j],
         };
         match compare(alloc, budget, m, order, &two) {
-            Ok(Legal::Kept) => {}
+            Ok(Legal::Kept) => continue,
             Ok(found) => return Ok(found),
-            Err(stop) => return Err(stop),
+            Err(stop) => {
+                held = first_stop(held, stop)?;
+                continue;
+            }
         }
     }
-    Ok(Legal::Kept)
+    match held {
+        Some(stop) => Err(stop),
+        None => Ok(Legal::Kept),
+    }
 }
 
-/// All assignments.
+/// All assignments. A stop is held until all are compared.
 fn from_all(alloc: Global, budget: u64, m: &Model, order: &Schedule) -> Result<Legal, LegalStop>
     requires { IsOver m.now }
     ensures kept { IfOk result (λ l. IfKept l ((i j : ℕ) → i < length m.now.stmts → j < length m.now.stmts → NoneBetween m.now order.now.times i j)) }
@@ -117,20 +125,28 @@ fn from_all(alloc: Global, budget: u64, m: &Model, order: &Schedule) -> Result<L
     ensures stops { IfErr result (λ e. UnlessMemory e (SomeStops budget m.now order.now.times e)) }
 {
     let stmts = m.stmts.as_slice();
+    let mut held = None;
     for i in 0..stmts.len() {
         match from_first(alloc, budget, m, order, i, &stmts[i]) {
-            Ok(Legal::Kept) => {}
+            Ok(Legal::Kept) => continue,
             Ok(found) => return Ok(found),
-            Err(stop) => return Err(stop),
+            Err(stop) => {
+                held = first_stop(held, stop)?;
+                continue;
+            }
         }
     }
-    Ok(Legal::Kept)
+    match held {
+        Some(stop) => Err(stop),
+        None => Ok(Legal::Kept),
+    }
 }
 
 /// Whether a schedule keeps the order of what conflicts in a program.
 ///
 /// `Kept` comes only if at each valuation of the context the earlier of each two instances that conflict has the smaller time.
-/// `Broken` comes with a valuation and two instances of which that is not so. A stop comes only if a question stops its search.
+/// `Broken` comes with a valuation and two instances of which that is not so. A stop comes only if a question stops both walks of
+/// its elimination, or cannot be formed. The other questions are asked all the same, so a broken pair is preferred to a stop.
 pub fn legal(
     alloc: Global,
     m: &Model,

@@ -1,7 +1,9 @@
 //! The ways in which one time isn't smaller than another.
-ghost use Rattle.std.specs.Prelude.{◌≡◌, ◌++◌, ◌∷◌, [], pos, negsuc, IfOk, if◌then◌else◌};
-ghost use Rattle.ac_forms.specs.Affine.{combined, shifted};
+ghost use Rattle.std.specs.Prelude.{◌≡◌, ◌++◌, ◌∷◌, [], pos, negsuc, IfOk, IfErr, if◌then◌else◌};
+ghost use Rattle.ac_forms.specs.Affine.{CanCombine, combined, shifted};
+ghost use Rattle.ac_forms.specs.FormStops.{IfWide, MadeIff};
 ghost use Rattle.ac_legal_law.specs.OrderQuestions.{late};
+ghost use Rattle.ac_legal.specs.WideQuestions.{AreWideTimes};
 
 use crate::asking::with_rows;
 use ac_base::Items;
@@ -19,7 +21,7 @@ fn with_row(alloc: Global, rows: &[Row], row: Row) -> Result<Items<Row>, AllocEr
 
 /// One form less another.
 fn less(alloc: Global, form: &Form, other: &Form) -> Result<Form, FormStop>
-    ensures { IfOk result (λ made. made ≡ combined (pos 1) form.now (negsuc 0) other.now) }
+    ensures { MadeIff result (CanCombine (pos 1) form.now (negsuc 0) other.now) (combined (pos 1) form.now (negsuc 0) other.now) }
 {
     form.combine(alloc, 1, other, -1)
 }
@@ -40,13 +42,14 @@ fn finish(
 }
 
 /// The first numbers are equal and the next of the first time is at least 1 more; or, where no more of the second are left,
-/// all are equal.
+/// all are equal. `Wide` only if a difference of two numbers, or 1 less, leaves `i128`.
 pub(crate) fn late(
     alloc: Global,
     times: &[Form],
     others: &[Form],
 ) -> Result<Items<Items<Row>>, FormStop>
-    ensures { IfOk result (λ made. made ≡ late times.now others.now []) }
+    ensures value { IfOk result (λ made. made ≡ late times.now others.now []) }
+    ensures wide { IfErr result (λ stop. IfWide stop (AreWideTimes times.now others.now)) }
 {
     let count = times.len().min(others.len());
     let mut made = Items::new(alloc);

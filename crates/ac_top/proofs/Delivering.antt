@@ -10,9 +10,12 @@ use Rattle.ac_claims.specs.declared.types.Proof.{Proof}
 use Rattle.ac_report.specs.declared.types.Verdict.{Verdict}
 use Rattle.ac_report.specs.declared.types.Verdict.TheVariants.{Equal, Different, Unknown}
 use Rattle.ac_walk.specs.Verdicts.{AreVerdicts, equal_outputs}
-use Rattle.ac_cli_args.specs.Commands.{prove, check_of, instance_of, flow_of, gen_of, IsCommand}
-use Rattle.ac_top.specs.ProgramAnswers.{FileReports, first_unread, first_too_long, second_unread, second_too_long, sources, TextReports, text_refused, text_not_lowered, text_lowered, OneFileReports, file_unread, file_too_long, text_of_file, Reports, no_form, of_command, CheckReports, proof_unread, tested, accepted, too_long, too_deep, not_valid, HoldAPair, Puts, whole, part, nothing, Delivers, only_put, proof_first, proof_fails, proof_wants, Ends, reported, DoneMeansTheSame, DifferentMeansDifferent, AsksFor, AskForAProof, KeepsFiles, kept, proof_written, proof_spoilt}
+use Rattle.ac_cli_args.specs.Commands.{prove, check_of, instance_of, flow_of, gen_of, legal_of, aprove_of, IsCommand}
+use Rattle.ac_top.specs.ProgramAnswers.{FileReports, PairReports, ChainReports, texts_unpaired, chain_fault, pair_not_lowered, pair_lowered, first_unread, first_too_long, second_unread, second_too_long, sources, TextReports, text_refused, text_not_lowered, text_lowered, OneFileReports, file_unread, file_too_long, text_of_file, OrderOfTextReports, program_refused, program_not_lowered, program_lowered, LegalReports, program_unread, program_too_long, order_unread, order_too_long, both_read, Reports, no_form, of_command, CheckReports, proof_unread, tested, accepted, too_long, too_deep, not_valid, HoldAPair, Puts, whole, part, nothing, Delivers, only_put, proof_first, proof_fails, proof_wants, Ends, reported, DoneMeansTheSame, DifferentMeansDifferent, AsksFor, AskForAProof, KeepsFiles, kept, proof_written, proof_spoilt}
 use Rattle.ac_top.specs.FlowReports.{FlowReports, no_valuation, context_stopped, flow_stopped, flowed}
+use Rattle.ac_forms.specs.Affine.{Affine}
+use Rattle.ac_top.specs.OrderReports.{OrderReports, OrderTextReports, order_refused, order_read}
+use Rattle.ac_top.specs.OrderReports as order
 use Rattle.ac_top.specs.ProveReports.{ProveReports, empty_context, compared, IsProofOf, IsFileOf, no_name, none_equal, whole_text, ShowsEqual}
 use Rattle.ac_top.specs.Reports.{Report, report as a_report, ProofFile}
 use Rattle.ac_top.specs.InstanceReports.{InstanceReports, not_a_valuation, at_valuation, outside, too_large, range, ran}
@@ -24,6 +27,7 @@ use Rattle.ac_top.specs.RunStages.{file_of, written}
 use Rattle.ac_top.specs.declared.report.ProofFile.{ProofFile as File}
 use Rattle.ac_top.specs.declared.report.Report.{Report as Written}
 use Rattle.ac_top.proofs.Generating.{generated_none}
+use Rattle.ac_top.proofs.ArrangedAnswers.{arranged_none}
 use Rattle.ac_top.proofs.Headline.{of_files, done, different}
 
 -- each output that is equal is the same
@@ -90,13 +94,49 @@ flow_none files fails a file r (file_unread h) e = absurd cc
 flow_none files fails a file r (file_too_long h) e = absurd cc
 flow_none files fails a file r (text_of_file bytes _ h k) e = text_none a bytes file r k e
 
+schedule_none : (program : Program) (times : List (List Affine)) (file : ProofFile) (r : Report) → OrderReports program times r → r.proof ≡ Some file → ⊥
+schedule_none program times file r (order.no_valuation s n) e = absurd cc
+schedule_none program times file r (order.context_stopped stop text un n is) e = absurd cc
+schedule_none program times file r (order.order_stopped stop text v n is) e = absurd cc
+schedule_none program times file r (order.kept v k) e = absurd cc
+schedule_none program times file r (order.broken at i xs j ys v b) e = absurd cc
+
+order_none : (program : Program) (spelled : List ℕ) (file : ProofFile) (r : Report) → OrderTextReports program spelled r → r.proof ≡ Some file → ⊥
+order_none program spelled file r (order_refused n h) e = absurd cc
+order_none program spelled file r (order_read times _ s h) e = schedule_none program times file r h e
+
+orders_none : (a bytes spelled : List ℕ) (file : ProofFile) (r : Report) → OrderOfTextReports a bytes spelled r → r.proof ≡ Some file → ⊥
+orders_none a bytes spelled file r (program_refused said k) e = absurd cc
+orders_none a bytes spelled file r (program_not_lowered program said k m) e = absurd cc
+orders_none a bytes spelled file r (program_lowered program _ k m h) e = order_none program spelled file r h e
+
+legal_none : (files : Option Contents) (fails : List (List ℕ) → List ℕ → Type 0) (a s : List ℕ) (file : ProofFile) (r : Report) → LegalReports files fails a s r → r.proof ≡ Some file → ⊥
+legal_none files fails a s file r (program_unread h) e = absurd cc
+legal_none files fails a s file r (program_too_long h) e = absurd cc
+legal_none files fails a s file r (order_unread bytes h k) e = absurd cc
+legal_none files fails a s file r (order_too_long bytes h k) e = absurd cc
+legal_none files fails a s file r (both_read bytes spelled _ h k m) e = orders_none a bytes spelled file r m e
+
+chains_none : (a b first second : List ℕ) (names : List (List ℕ)) (file : ProofFile) (r : Report) → ChainReports a b first second names r → r.proof ≡ Some file → ⊥
+chains_none a b first second names file r (texts_unpaired text why) e = absurd cc
+chains_none a b first second names file r (chain_fault pair fault text are is said) e = absurd cc
+chains_none a b first second names file r (pair_not_lowered pair text are none why) e = absurd cc
+chains_none a b first second names file r (pair_lowered pair _ are none low h) e = arranged_none names pair file r h e
+
+aprove_none : (files : Option Contents) (fails : List (List ℕ) → List ℕ → Type 0) (a b : List ℕ) (names : List (List ℕ)) (file : ProofFile) (r : Report) → FileReports files fails a b (λ first second. ChainReports a b first second names) r → r.proof ≡ Some file → ⊥
+aprove_none files fails a b names file r (first_unread h) e = absurd cc
+aprove_none files fails a b names file r (first_too_long h) e = absurd cc
+aprove_none files fails a b names file r (second_unread x h k) e = absurd cc
+aprove_none files fails a b names file r (second_too_long x h k) e = absurd cc
+aprove_none files fails a b names file r (sources x y _ h k m) e = chains_none a b x y names file r m e
+
 module _ (words : List (List ℕ)) (files : Option Contents) (fails : List (List ℕ) → List ℕ → Type 0) (file : ProofFile) where
   abbrev HasIt : Report → Type 0
   HasIt r = r.proof ≡ Some file
 
   -- of the reports of two files, one with a file is that of `prove`
   of_pair : (a b : List ℕ) (Is : Pair → Type 0) (OfPair : List ℕ → List ℕ → Pair → Report → Type 0) → ((first second : List ℕ) (pair : Pair) (r : Report) → OfPair first second pair r → HasIt r → Is pair)
-      → (r : Report) → FileReports files fails a b OfPair r → HasIt r → HoldAPair files a b Is
+      → (r : Report) → PairReports files fails a b OfPair r → HasIt r → HoldAPair files a b Is
   of_pair a b Is OfPair good r h e = of_files files a b Is HasIt (λ text k. absurd cc) (λ text k. absurd cc) fails OfPair good r h e
 
   asks_prove : (a b : List ℕ) (budget : ℕ) (name : Option (List ℕ)) → IsCommand words (prove a b budget name) → HoldAPair files a b (λ pair. Shown pair name file) → AsksFor words files file
@@ -119,10 +159,12 @@ module _ (words : List (List ℕ)) (files : Option Contents) (fails : List (List
       absurd ((of_pair a b (λ pair. ⊥) (λ first second pair. InstanceReports a b first second pair at limit) (λ first second pair u q k. instance_none a b first second pair at limit file u q k) s h e).is)
   asks r (of_command (flow_of a) s is h) e = absurd (flow_none files (fails [] a) a file s h e)
   asks r (of_command (gen_of seed stages) s is h) e = absurd (generated_none seed stages file s h e)
+  asks r (of_command (legal_of a t) s is h) e = absurd (legal_none files fails a t file s h e)
+  asks r (of_command (aprove_of a b names) s is h) e = absurd (aprove_none files fails a b names file s h e)
 
   -- of a report with a file no read failed, so it is one whatever is said of reads that fail
   module _ (also : List (List ℕ) → List ℕ → Type 0) where
-    files_too : (a b : List ℕ) (OfPair : List ℕ → List ℕ → Pair → Report → Type 0) (r : Report) → FileReports files fails a b OfPair r → HasIt r → FileReports files also a b OfPair r
+    files_too : (a b : List ℕ) (OfPair : List ℕ → List ℕ → Pair → Report → Type 0) (r : Report) → PairReports files fails a b OfPair r → HasIt r → PairReports files also a b OfPair r
     files_too a b OfPair r (first_unread h) e = absurd cc
     files_too a b OfPair r (first_too_long h) e = absurd cc
     files_too a b OfPair r (second_unread x h k) e = absurd cc
@@ -138,6 +180,8 @@ module _ (words : List (List ℕ)) (files : Option Contents) (fails : List (List
         absurd ((of_pair a b (λ pair. ⊥) (λ first second pair. InstanceReports a b first second pair at limit) (λ first second pair u q k. instance_none a b first second pair at limit file u q k) s h e).is)
     reports_too r (of_command (flow_of a) s is h) e = absurd (flow_none files (fails [] a) a file s h e)
     reports_too r (of_command (gen_of seed stages) s is h) e = absurd (generated_none seed stages file s h e)
+    reports_too r (of_command (legal_of a t) s is h) e = absurd (legal_none files fails a t file s h e)
+    reports_too r (of_command (aprove_of a b names) s is h) e = absurd (aprove_none files fails a b names file s h e)
 
 -- what a run leaves
 module _ (words : List (List ℕ)) (fails : List (List ℕ) → List ℕ → Type 0) (spoilt failed : Type 0) (files after : Option Contents) (before now : Option (List ℕ)) (r : Report) where

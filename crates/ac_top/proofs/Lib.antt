@@ -3,6 +3,10 @@ pub mod Files
 pub mod Flowing
 pub mod Proving
 pub mod Generating
+pub mod Orders
+pub mod ArrangedLowerings
+pub mod ArrangedPairs
+pub mod ArrangedAnswers
 pub mod Headline
 pub mod Delivering
 pub mod Extents

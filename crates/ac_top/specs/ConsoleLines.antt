@@ -23,7 +23,7 @@ abbrev pub line : List ℕ → List ℕ
 line text = text ++ 10 ∷ []
 
 abbrev pub usage_line : List ℕ
-usage_line = line (codes "usage: prove A B [--budget n] [--proof P] | check A B P | instance A B [--at N=5,M=3] [--limit n] | flow A | gen SEED SIZE")
+usage_line = line (codes "usage: prove A B [--budget n] [--proof P] | check A B P | instance A B [--at N=5,M=3] [--limit n] | flow A | gen SEED SIZE | legal A S | aprove A B SYMBOLS")
 
 abbrev pub read_fault_line : List ℕ → List ℕ
 read_fault_line name = line (name ++ codes ": read fault")
@@ -145,3 +145,15 @@ rejected_line number rule = line (codes "rejected at line " ++ decimal number ++
 -- a proof of too many bytes, or one that is nested too deep
 abbrev pub rejected_too_long_line : List ℕ
 rejected_too_long_line = line (codes "rejected: too long")
+
+-- an order that keeps what conflicts
+abbrev pub kept_line : List ℕ
+kept_line = line (codes "kept")
+
+-- the first line of the text of an order that is at fault
+abbrev pub order_fault_line : ℕ → List ℕ
+order_fault_line number = line (codes "order at line " ++ decimal number)
+
+-- the text of an order that has too many bytes
+abbrev pub order_too_long_line : List ℕ
+order_too_long_line = line (codes "order too long")

@@ -1,7 +1,12 @@
 pub mod GenReports
+pub mod ArrangementLines
+pub mod ArrangementReports
+pub mod ApartOutputs
 pub mod ProgramAnswers
+pub mod ArrangementStages
 pub mod Codes
 pub mod FlowReports
+pub mod OrderReports
 pub mod TextPlaces
 pub mod ProveReports
 pub mod Reads

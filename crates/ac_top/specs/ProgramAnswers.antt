@@ -1,5 +1,5 @@
 -- What the program answers: from its words and the files that they name to a status and a text.
-use Rattle.std.specs.Prelude.{◌≡◌, ◌≤◌, ℕ, List, [], ◌∷◌, ◌++◌, length, take, replicate, Option, Some, None, IfSome, IsSomeAnd, option_map, Ok, Err, Vec}
+use Rattle.std.specs.Prelude.{◌≡◌, ◌≤◌, ℕ, ℤ, List, [], ◌∷◌, ◌++◌, length, take, replicate, Option, Some, None, IfSome, IsSomeAnd, option_map, Ok, Err, Vec}
 use Rattle.std.specs.Global.{Global}
 use Rattle.std.specs.FinMap.{get, insert}
 use Rattle.std.specs.List.{Contains, AllByRecursion}
@@ -20,15 +20,24 @@ use Rattle.ac_parse.specs.Program.{IsProgramOf}
 use Rattle.ac_parse.specs.ProgramPairs.{IsPairOf, HasPairFault}
 use Rattle.ac_parse.specs.declared.faults.PairFault.TheVariants.{Signature, NoOutput}
 use Rattle.ac_parse.specs.declared.faults.SourceFault.{SourceFault}
-use Rattle.ac_cli_args.specs.Commands.{Asked, prove, check_of, instance_of, flow_of, gen_of, IsCommand, HasForm}
+use Rattle.ac_assoc.specs.ArrangementFaults.{fault_of}
+use Rattle.ac_assoc.specs.declared.types.AssocFault.{AssocFault}
+use Rattle.ac_cli_args.specs.Commands.{Asked, prove, check_of, instance_of, flow_of, gen_of, legal_of, aprove_of, IsCommand, HasForm}
 use Rattle.ac_flow.specs.declared.types.Flow.{Flow}
-use Rattle.ac_top.specs.FlowReports.{FlowReports, IsFlowOf}
+use Rattle.ac_top.specs.FlowReports.{FlowReports, IsFlowOf, lowered}
 use Rattle.ac_gen.specs.GeneratedPair.{IsGeneratedPair}
 use Rattle.ac_top.specs.GenReports.{GenReports}
+use Rattle.ac_forms.specs.Affine.{Affine}
+use Rattle.ac_legal_law.specs.BrokenOrders.{BreaksAt}
+use Rattle.ac_legal_law.specs.Schedules.{ScheduleKeepsOrder}
+use Rattle.ac_legal_text.specs.OrderTexts.{Spells}
+use Rattle.ac_top.specs.OrderReports.{OrderTextReports, ReordersToTheSame}
 use Rattle.ac_top.specs.Reports.{Report, report, ProofFile}
 use Rattle.ac_top.specs.InstanceReports.{InstanceReports, IsTheSameAt}
 use Rattle.ac_top.specs.ProveReports.{ProveReports, ShowsEqual, HasDifference}
-use Rattle.ac_top.specs.ConsoleLines.{Complaint, complaint, lower_complaint, usage_line, read_fault_line, refusal_line, too_long_line, write_fault_line, signature_line, no_output_line, accepted_lines, rejected_line, rejected_too_long_line}
+use Rattle.ac_top.specs.ArrangementLines.{fault_line}
+use Rattle.ac_top.specs.ArrangementReports.{ArrangedReports, AreSameUnderChains}
+use Rattle.ac_top.specs.ConsoleLines.{Complaint, complaint, lower_complaint, order_too_long_line, usage_line, read_fault_line, refusal_line, too_long_line, write_fault_line, signature_line, no_output_line, accepted_lines, rejected_line, rejected_too_long_line}
 use Rattle.ac_top.specs.declared.status.Status.{Status}
 use Rattle.ac_top.specs.declared.status.Status.TheVariants as status
 
@@ -89,12 +98,15 @@ pub record AreLowered (pair : Pair) : Type 0 where
   pub left : IsLowered pair.left
   pub right : IsLowered pair.right
 
--- two texts are refused: the line of the first that has no program, of their programs where these are no pair, or of the
--- first whose program is not lowered
+-- two texts are no pair: the line of the first that has no program, or of their programs
+pub data AreUnpaired (a b first second : List ℕ) : List ℕ → Type 0 where
+  first_refused : (said : Complaint) → HasComplaint first said → AreUnpaired a b first second (refusal_line a first said)
+  second_refused : (left : Program) (said : Complaint) → IsProgramOf first left → HasComplaint second said → AreUnpaired a b first second (refusal_line b second said)
+  no_pair : (left right : Program) (text : List ℕ) → IsProgramOf first left → IsProgramOf second right → AreNoPair left right text → AreUnpaired a b first second text
+
+-- two texts are refused: they are no pair, or the line of the first whose program is not lowered
 pub data AreRefused (a b first second : List ℕ) : List ℕ → Type 0 where
-  first_refused : (said : Complaint) → HasComplaint first said → AreRefused a b first second (refusal_line a first said)
-  second_refused : (left : Program) (said : Complaint) → IsProgramOf first left → HasComplaint second said → AreRefused a b first second (refusal_line b second said)
-  no_pair : (left right : Program) (text : List ℕ) → IsProgramOf first left → IsProgramOf second right → AreNoPair left right text → AreRefused a b first second text
+  unpaired : (text : List ℕ) → AreUnpaired a b first second text → AreRefused a b first second text
   first_not_lowered : (pair : Pair) (said : Complaint) → ArePaired first second pair → IsNotLowered pair.left said → AreRefused a b first second (refusal_line a first said)
   second_not_lowered : (pair : Pair) (said : Complaint) → ArePaired first second pair → IsLowered pair.left → IsNotLowered pair.right said
       → AreRefused a b first second (refusal_line b second said)
@@ -109,14 +121,27 @@ pub record Holds (files : Option Contents) (name bytes : List ℕ) : Type 0 wher
   pub told : IfSome files (λ contents. get contents name ≡ Some bytes)
   pub short : length bytes ≤ 65536
 
+-- what `aprove` reports of the bytes of two files: that they are no pair; the first fault of a chain of the pair; without one, that a program is
+-- not lowered; or what is reported of the pair, whose programs are lowered
+pub data ChainReports (a b first second : List ℕ) (names : List (List ℕ)) : Report → Type 0 where
+  texts_unpaired : (text : List ℕ) → AreUnpaired a b first second text → ChainReports a b first second names (report status.Refused text)
+  chain_fault : (pair : Pair) (fault : AssocFault) (text : List ℕ) → ArePaired first second pair → fault_of names pair ≡ Some fault → fault_line a b first second fault ≡ Some text
+      → ChainReports a b first second names (report status.Refused text)
+  pair_not_lowered : (pair : Pair) (text : List ℕ) → ArePaired first second pair → fault_of names pair ≡ None → AreRefused a b first second text → ChainReports a b first second names (report status.Refused text)
+  pair_lowered : (pair : Pair) (r : Report) → ArePaired first second pair → fault_of names pair ≡ None → AreLowered pair → ArrangedReports names pair r → ChainReports a b first second names r
+
 -- of two named files: why one has no bytes to read, or what is reported of the bytes of both; `fails` says that in this run the read
 -- of a name failed after those of others
-pub data FileReports (files : Option Contents) (fails : List (List ℕ) → List ℕ → Type 0) (a b : List ℕ) (OfPair : List ℕ → List ℕ → Pair → Report → Type 0) : Report → Type 0 where
-  first_unread : fails [] a → FileReports files fails a b OfPair (report status.ReadFault (read_fault_line a))
-  first_too_long : IfSome files (λ contents. IsTooBig contents a 65536) → FileReports files fails a b OfPair (report status.Refused (too_long_line a))
-  second_unread : (first : List ℕ) → Holds files a first → fails (a ∷ []) b → FileReports files fails a b OfPair (report status.ReadFault (read_fault_line b))
-  second_too_long : (first : List ℕ) → Holds files a first → IfSome files (λ contents. IsTooBig contents b 65536) → FileReports files fails a b OfPair (report status.Refused (too_long_line b))
-  sources : (first second : List ℕ) (r : Report) → Holds files a first → Holds files b second → SourceReports a b first second (OfPair first second) r → FileReports files fails a b OfPair r
+pub data FileReports (files : Option Contents) (fails : List (List ℕ) → List ℕ → Type 0) (a b : List ℕ) (OfTexts : List ℕ → List ℕ → Report → Type 0) : Report → Type 0 where
+  first_unread : fails [] a → FileReports files fails a b OfTexts (report status.ReadFault (read_fault_line a))
+  first_too_long : IfSome files (λ contents. IsTooBig contents a 65536) → FileReports files fails a b OfTexts (report status.Refused (too_long_line a))
+  second_unread : (first : List ℕ) → Holds files a first → fails (a ∷ []) b → FileReports files fails a b OfTexts (report status.ReadFault (read_fault_line b))
+  second_too_long : (first : List ℕ) → Holds files a first → IfSome files (λ contents. IsTooBig contents b 65536) → FileReports files fails a b OfTexts (report status.Refused (too_long_line b))
+  sources : (first second : List ℕ) (r : Report) → Holds files a first → Holds files b second → OfTexts first second r → FileReports files fails a b OfTexts r
+
+-- the same, where a pair is reported on as soon as its programs are lowered
+abbrev pub PairReports : Option Contents → (List (List ℕ) → List ℕ → Type 0) → (a b : List ℕ) → (List ℕ → List ℕ → Pair → Report → Type 0) → Report → Type 0
+PairReports files fails a b OfPair = FileReports files fails a b (λ first second. SourceReports a b first second (OfPair first second))
 
 -- what `flow` reports of the text of a named file: why it is refused, or what is reported of its program, which is lowered
 pub data TextReports (a bytes : List ℕ) : Report → Type 0 where
@@ -130,13 +155,31 @@ pub data OneFileReports (files : Option Contents) (fails : Type 0) (a : List ℕ
   file_too_long : IfSome files (λ contents. IsTooBig contents a 65536) → OneFileReports files fails a (report status.Refused (too_long_line a))
   text_of_file : (bytes : List ℕ) (r : Report) → Holds files a bytes → TextReports a bytes r → OneFileReports files fails a r
 
+-- what `legal` reports of the text of a named file and the text of a schedule: why the first is refused, or what is reported of its program, which
+-- is lowered, and of the second
+pub data OrderOfTextReports (a bytes spelled : List ℕ) : Report → Type 0 where
+  program_refused : (said : Complaint) → HasComplaint bytes said → OrderOfTextReports a bytes spelled (report status.Refused (refusal_line a bytes said))
+  program_not_lowered : (program : Program) (said : Complaint) → IsProgramOf bytes program → IsNotLowered program said → OrderOfTextReports a bytes spelled (report status.Refused (refusal_line a bytes said))
+  program_lowered : (program : Program) (r : Report) → IsProgramOf bytes program → IsLowered program → OrderTextReports program spelled r → OrderOfTextReports a bytes spelled r
+
+-- of two named files: why one has no bytes to read, or what is reported of the text of the first and the schedule of the second; `fails` says that in
+-- this run the read of a name failed after those of others
+pub data LegalReports (files : Option Contents) (fails : List (List ℕ) → List ℕ → Type 0) (a s : List ℕ) : Report → Type 0 where
+  program_unread : fails [] a → LegalReports files fails a s (report status.ReadFault (read_fault_line a))
+  program_too_long : IfSome files (λ contents. IsTooBig contents a 65536) → LegalReports files fails a s (report status.Refused (too_long_line a))
+  order_unread : (bytes : List ℕ) → Holds files a bytes → fails (a ∷ []) s → LegalReports files fails a s (report status.ReadFault (read_fault_line s))
+  order_too_long : (bytes : List ℕ) → Holds files a bytes → IfSome files (λ contents. IsTooBig contents s 65536) → LegalReports files fails a s (report status.Refused order_too_long_line)
+  both_read : (bytes spelled : List ℕ) (r : Report) → Holds files a bytes → Holds files s spelled → OrderOfTextReports a bytes spelled r → LegalReports files fails a s r
+
 -- what is reported of a command; `fails` says that in this run the read of a name failed after those of others
 abbrev pub CommandReports : Option Contents → (List (List ℕ) → List ℕ → Type 0) → Asked → Report → Type 0
-CommandReports files fails (prove a b budget proof) r = FileReports files fails a b (λ first second pair. ProveReports pair budget proof) r
-CommandReports files fails (check_of a b p) r = FileReports files fails a b (λ first second pair. CheckReports files (λ count. fails (a ∷ b ∷ replicate count p) p) p pair) r
-CommandReports files fails (instance_of a b at limit) r = FileReports files fails a b (λ first second pair. InstanceReports a b first second pair at limit) r
+CommandReports files fails (prove a b budget proof) r = PairReports files fails a b (λ first second pair. ProveReports pair budget proof) r
+CommandReports files fails (check_of a b p) r = PairReports files fails a b (λ first second pair. CheckReports files (λ count. fails (a ∷ b ∷ replicate count p) p) p pair) r
+CommandReports files fails (instance_of a b at limit) r = PairReports files fails a b (λ first second pair. InstanceReports a b first second pair at limit) r
 CommandReports files fails (flow_of a) r = OneFileReports files (fails [] a) a r
 CommandReports files fails (gen_of seed stages) r = GenReports seed stages r
+CommandReports files fails (legal_of a s) r = LegalReports files fails a s r
+CommandReports files fails (aprove_of a b names) r = FileReports files fails a b (λ first second. ChainReports a b first second names) r
 
 -- what is reported of the words
 pub data Reports (words : List (List ℕ)) (files : Option Contents) (fails : List (List ℕ) → List ℕ → Type 0) : Report → Type 0 where
@@ -200,26 +243,54 @@ pub record HoldsAProgram (files : Option Contents) (a : List ℕ) (Is : Program 
   pub is_program : IsProgramOf bytes program
   pub is : Is program
 
+-- the file holds the text of a schedule of the program that keeps the order of what conflicts, so that it reorders the program to the same
+pub record HoldsAKeptOrder (files : Option Contents) (s : List ℕ) (program : Program) : Type 0 where
+  pub spelled : List ℕ
+  pub holds : Holds files s spelled
+  pub times : List (List Affine)
+  pub spells : Spells (lowered program) spelled times
+  pub keeps : ScheduleKeepsOrder times program program.context
+  pub reorders : ReordersToTheSame times program
+
+-- the file holds the text of a schedule of the program; at a valuation its order is broken between two instances
+pub record HoldsABrokenOrder (files : Option Contents) (s : List ℕ) (program : Program) : Type 0 where
+  pub spelled : List ℕ
+  pub holds : Holds files s spelled
+  pub times : List (List Affine)
+  pub spells : Spells (lowered program) spelled times
+  pub at : List ℤ
+  pub first : ℕ
+  pub counters : List ℤ
+  pub second : ℕ
+  pub others : List ℤ
+  pub breaks : BreaksAt program program.context times at first counters second others
+
 -- for `prove` each output is the same, for `check` each that the proof names, and for `instance` each is the same at the valuation; for
--- `flow` each read has its sources; and for `gen` the output of the pair of the seed is the same
+-- `flow` each read has its sources; for `gen` the output of the pair of the seed is the same; for `legal` the order is kept, so that the program is
+-- reordered to the same; and for `aprove` each output is the same under chains
 abbrev pub AreTheSame : Option Contents → Asked → Type 0
 AreTheSame files (prove a b budget proof) = HoldAPair files a b IsTheSame
 AreTheSame files (check_of a b p) = HoldAPair files a b (AreAccepted files p)
 AreTheSame files (instance_of a b at limit) = HoldAPair files a b (λ pair. IsTheSameAt pair at)
 AreTheSame files (flow_of a) = HoldsAProgram files a (λ program. (flow : Flow) × IsFlowOf program flow)
 AreTheSame files (gen_of seed stages) = (pair : Pair) × IsGeneratedPair seed stages pair × IsTheSame pair
+AreTheSame files (legal_of a s) = HoldsAProgram files a (HoldsAKeptOrder files s)
+AreTheSame files (aprove_of a b names) = HoldAPair files a b (AreSameUnderChains names)
 
 -- where all is done, a command was asked, and what it compares is the same, or what it tells is so
 abbrev pub DoneMeansTheSame : List (List ℕ) → Option Contents → Status → Type 0
 DoneMeansTheSame words files s = s ≡ status.Done → (asked : Asked) × IsCommand words asked × AreTheSame files asked
 
--- for `prove` and `gen` the terms of both programs do not agree in some element of an output, at some valuation of the context
+-- for `prove` and `gen` the terms of both programs do not agree in some element of an output, at some valuation of the context; for `legal` the order
+-- is broken between two instances
 abbrev pub AreDifferent : Option Contents → Asked → Type 0
 AreDifferent files (prove a b budget proof) = HoldAPair files a b HasDifference
 AreDifferent files (check_of a b p) = Unit {0}
 AreDifferent files (instance_of a b at limit) = Unit {0}
 AreDifferent files (flow_of a) = Unit {0}
 AreDifferent files (gen_of seed stages) = (pair : Pair) × IsGeneratedPair seed stages pair × HasDifference pair
+AreDifferent files (legal_of a s) = HoldsAProgram files a (HoldsABrokenOrder files s)
+AreDifferent files (aprove_of a b names) = Unit {0}
 
 -- where something is different, what the command that was asked compares is
 abbrev pub DifferentMeansDifferent : List (List ℕ) → Option Contents → Status → Type 0

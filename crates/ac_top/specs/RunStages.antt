@@ -21,7 +21,7 @@ use Rattle.ac_syntax.specs.declared.tree.Pair.{Pair}
 use Rattle.ac_parse_rules.specs.DeclaredNumbers.{ListsItsParameters}
 use Rattle.ac_parse.specs.ProgramPairs.{IsPairOf}
 use Rattle.ac_parse.specs.Program.{IsProgramOf}
-use Rattle.ac_top.specs.ProgramAnswers.{AreLowered, AreNoPair, ArePaired, AreRefused, HasComplaint, Holds, IsLowered, IsNotLowered, IsStream, CheckReports}
+use Rattle.ac_top.specs.ProgramAnswers.{AreLowered, AreNoPair, ArePaired, AreRefused, AreUnpaired, HasComplaint, Holds, IsLowered, IsNotLowered, IsStream, CheckReports}
 use Rattle.ac_top.specs.Reads.{Fails}
 use Rattle.ac_top.specs.declared.lowering.Lowered.{Lowered}
 use Rattle.ac_top.specs.declared.lowering.Lowered.TheVariants.{Models}
@@ -96,7 +96,7 @@ pub record IsReadPair (pair : Pair) : Type 0 where
 -- the pair of two texts, or why they give none
 abbrev pub IsPairingOf : List ℕ → List ℕ → List ℕ → List ℕ → Paired → Type 0
 IsPairingOf a b first second (Together pair) = ArePaired first second pair × IsReadPair pair
-IsPairingOf a b first second (Refused text) = AreRefused a b first second text.items
+IsPairingOf a b first second (Refused text) = AreUnpaired a b first second text.items
 
 -- a program is lowered under a context, to this model, whose context has its meaning, or what is wrong with it
 abbrev pub IsLowering : Program → Cond → OneLowered → Type 0

@@ -12,24 +12,35 @@
 //! `prove` compares the outputs of a pair at all valuations of its context, by the search of `ac_walk` (`prove`), and writes the file for the
 //! proof of what is equal before the text is put (`program`). `check` tests such a file, `instance` runs both programs of a pair at one
 //! valuation, `flow` tells the sources of the reads of one file, and `gen` proves and runs a pair that it makes itself (`generated`).
+//! `legal` tells whether an order of the assignments of one file keeps what conflicts (`legality`).
+//!
+//! `aprove` compares the outputs of a pair in which some operators are taken as associative and commutative (`aprove`): each chain of
+//! such an operator is one call, and one order of its operands after another is tried (`arrangements`).
 //!
 //! The words of the command line are read by the library clap (`ac_cli_args`).
 #![tactic(auto)]
 
+pub mod apart_laws;
+mod aprove;
+mod arrangements;
 mod check;
+mod findings;
 mod flows;
 mod generated;
 mod halts;
+mod legality;
 mod lowering;
 mod places;
 mod program;
 mod proof_lines;
 mod prove;
 mod refusals;
+mod regrouped;
 mod report;
 mod runs;
 mod sources;
 pub mod status;
+mod stopping;
 mod texts;
 
 pub use ac_report::Verdict;

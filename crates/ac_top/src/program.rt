@@ -10,8 +10,10 @@ ghost use Rattle.ac_top.specs.Reports.{report as a_report};
 ghost use Rattle.ac_top.specs.RunStages.{written};
 ghost use Rattle.ac_top.specs.ConsoleLines as text;
 
+use crate::aprove::report_aprove;
 use crate::flows::report_flow;
 use crate::generated::report_generated;
+use crate::legality::report_legal;
 use crate::report::{Report, report_files};
 use crate::runs::Task;
 use crate::status::Status;
@@ -60,6 +62,12 @@ fn report_command<F: Files>(
         }
         Command::Flow { file } => report_flow(alloc, files, file),
         Command::Gen { seed, size } => report_generated(alloc, seed, size),
+        Command::Legal { file, order } => report_legal(alloc, files, file, order),
+        Command::Aprove {
+            left,
+            right,
+            symbols,
+        } => report_aprove(alloc, files, left, right, symbols),
     }
 }
 
@@ -144,11 +152,16 @@ fn deliver<F: Files, S: Sink>(alloc: Global, files: &mut F, out: &mut S, report:
 /// `check A B P` tests the proof file P against both, read in parts of 65,536 bytes, of at most 67,108,864 bytes in all and nested at most
 /// 10,000 deep; `instance A B [--at N=5,M=3] [--limit n]` runs both at one valuation; `flow A` tells where each read of a file has
 /// its value from; `gen SEED SIZE` makes a pair of that many stages from the seed, proves it with the default budget and runs it at N=1000.
+/// `legal A S` tells whether the order that the file S, of at most 65,536 bytes, gives the assignments of the file A keeps what conflicts;
+/// `aprove A B SYMBOLS` compares both files, with each of 1 to 8 symbols taken as associative and commutative inside one assignment.
 /// Options stand in any order that clap allows; any other words, and a request for help, are a faulty command line.
 ///
 /// Each output of the pair has a line of `prove`, `X equal`, `X different ..` or `X unknown ..`, and one of `instance`; of `check` each output
 /// that an accepted proof names has a line `X accepted`, and a proof that is not accepted the line that says which of its lines is refused by
-/// which rule. `gen` has the line that says which pair it is, the lines of `prove`, and one of the run.
+/// which rule. `gen` has the line that says which pair it is, the lines of `prove`, and one of the run. `legal` has a line `kept`, or one with two
+/// instances between which the order is broken. Where it says `kept`, each list of the trace's entries along which times never fall leaves the
+/// same state, in every cell, under every table and from all contents. Each output of `aprove` has a line, which says that it is the same under
+/// chains, or not known.
 ///
 /// A read fault of a file is answered only where the files' count of faults rose in the read of that file, and a write fault only
 /// where their count of write faults or the sink's count rose in this call.

@@ -1,7 +1,7 @@
 ghost use Rattle.std.specs.Prelude.{◌≡◌, ◌∷◌, replicate, IfOk};
 ghost use Rattle.ac_port.specs.CallCounts.{Rose};
 ghost use Rattle.ac_syntax.specs.ExecutedCalls.{HaveArities};
-ghost use Rattle.ac_top.specs.ProgramAnswers.{ArePaired, SourceReports, FileReports};
+ghost use Rattle.ac_top.specs.ProgramAnswers.{ArePaired, SourceReports, PairReports};
 ghost use Rattle.ac_top.specs.Reads.{Fails};
 ghost use Rattle.ac_top.specs.Reports.{report as a_report};
 ghost use Rattle.ac_top.specs.RunStages.{IsReadPair, IsSource, IsWithin, TaskReports, models_of, written};
@@ -163,7 +163,7 @@ pub fn report_files<F: Files>(
     task: &Task<'_>,
 ) -> Result<Report, AllocError>
     requires within { IsWithin task.now }
-    ensures report { IfOk result (λ r. FileReports (F.contents files.old) (Fails F.read_makes F.read_faults files.old files.new) a.now b.now (TaskReports task.now (F.contents files.old) (λ name count. Fails F.read_makes F.read_faults files.old files.new (a.now ∷ b.now ∷ replicate count name) name) a.now b.now) (written r)) }
+    ensures report { IfOk result (λ r. PairReports (F.contents files.old) (Fails F.read_makes F.read_faults files.old files.new) a.now b.now (TaskReports task.now (F.contents files.old) (λ name count. Fails F.read_makes F.read_faults files.old files.new (a.now ∷ b.now ∷ replicate count name) name) a.now b.now) (written r)) }
     ensures same { F.contents files.new ≡ F.contents files.old }
     ensures same_writes { F.write_faults files.new ≡ F.write_faults files.old }
 {

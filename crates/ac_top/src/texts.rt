@@ -7,7 +7,7 @@ use itoa::Buffer;
 use std::alloc::{AllocError, Global};
 
 const USAGE: &[u8] =
-    b"usage: prove A B [--budget n] [--proof P] | check A B P | instance A B [--at N=5,M=3] [--limit n] | flow A | gen SEED SIZE\n";
+    b"usage: prove A B [--budget n] [--proof P] | check A B P | instance A B [--at N=5,M=3] [--limit n] | flow A | gen SEED SIZE | legal A S | aprove A B SYMBOLS\n";
 
 /// The line for words that have none of the listed forms.
 pub fn usage_line(alloc: Global) -> Result<Vec<u8>, AllocError>
@@ -67,6 +67,28 @@ pub fn no_output_line(alloc: Global) -> Result<Vec<u8>, AllocError>
     ensures { IfOk result (λ bytes. bytes.items ≡ text.no_output_line) }
 {
     Vec::from_slice(alloc, b"no output\n")
+}
+
+/// The line for an order that keeps what conflicts.
+pub fn kept_line(alloc: Global) -> Result<Vec<u8>, AllocError>
+    ensures { IfOk result (λ bytes. bytes.items ≡ text.kept_line) }
+{
+    Vec::from_slice(alloc, b"kept\n")
+}
+
+/// The line for the text of an order, of which this line is at fault.
+pub fn order_fault_line(alloc: Global, number: u64) -> Result<Vec<u8>, AllocError>
+    ensures { IfOk result (λ bytes. bytes.items ≡ text.order_fault_line number) }
+{
+    let mut buffer = Buffer::new();
+    named_line(alloc, b"order at line ", buffer.format(number).as_bytes())
+}
+
+/// The line for the text of an order that has too many bytes.
+pub fn order_too_long_line(alloc: Global) -> Result<Vec<u8>, AllocError>
+    ensures { IfOk result (λ bytes. bytes.items ≡ text.order_too_long_line) }
+{
+    Vec::from_slice(alloc, b"order too long\n")
 }
 
 /// Adds the coordinates of an element, each in brackets.

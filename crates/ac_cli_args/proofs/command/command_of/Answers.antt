@@ -1,4 +1,5 @@
 use Rattle.std.proofs.Common.{◌≡◌, [], List, map, true, Some, sym, ap, ◌∙◌}
+use Rattle.std.proofs.lemmas.Result.{IfOk-weaker}
 use Rattle.clap.specs.Words.{Text, app_of, fault_of, found_of, is_simple, is_simple_and_free, rows_of, subcommand_of}
 use Rattle.ac_cli_args.specs.CommandLine.{command_line}
 use Rattle.ac_cli_args.proofs.Parsing.{is_plain, has_plain, has_fault, met_is, asked_from}
@@ -24,4 +25,4 @@ returns-in-Some c =
     let met : subcommand_of command_line words ≡ Some (name, rows) =
     sym (matches.1 ∙ ap (λ a. subcommand_of a words) line) ∙ met_is c.in-Ok.found name rows (sym c.in-Some.ensures.name) (sym c.in-Some.ensures.rows)
     in
-    asked_from words name rows taken met c.asked_of.result c.asked_of.ensures
+    IfOk-weaker c.asked_in.result _ _ (λ r h. asked_from words name rows taken met r h) c.asked_in.ensures

@@ -1,21 +1,22 @@
-use Rattle.std.proofs.Common.{◌≡◌, ◌∙◌, ap, ℕ, List, ◌++◌}
+use Rattle.std.proofs.Common.{◌≡◌, ◌∙◌, ap, sym, subst, ℕ, List, ◌++◌, ◌≤◌, ◌+◌, arith}
 use Rattle.std.specs.List.{range_with_len}
+use Rattle.ac_forms.specs.Renaming.{AreDistinct}
 use Rattle.ac_poly.specs.Coordinates.{width}
 use Rattle.ac_legal_law.specs.OrderQuestions.{first_columns, second_columns}
-use Rattle.ac_legal.specs.QuestionChoices.{Part, AreParts}
-use Rattle.ac_legal.specs.ScheduleAnswers.{order_choices}
+use Rattle.ac_legal.specs.QuestionChoices.{Part}
+use Rattle.ac_legal.specs.ScheduleAnswers.{AreParts}
 use Rattle.ac_legal.proofs.Parting.{parts_listed, if_ok}
 use Rattle.ac_legal.proofs.between.parts_of.Goals as goal
 
 pub returns : goal.returns
 returns c =
     let m = c.args.m.now in
-    let mine : c.in_ok-mine.mine ≡ first_columns m.params c.args.two.now.first.now = c.in_ok-mine.ensures ∙ ap (λ (n : ℕ). range_with_len 0 m.params ++ range_with_len m.params n) c.width.ensures in
+    let mine : c.in_ok-mine.mine ≡ first_columns m.params c.args.two.now.first.now = c.in_ok-mine.ensures.value ∙ ap (λ (n : ℕ). range_with_len 0 m.params ++ range_with_len m.params n) c.width.ensures in
     let theirs : c.in_ok-theirs.theirs ≡ second_columns m.params c.args.two.now.first.now c.args.two.now.second.now =
-    c.in_ok-theirs.ensures
+    c.in_ok-theirs.ensures.value
     ∙ ap (λ (n : ℕ). range_with_len 0 m.params ++ range_with_len c.args.behind n) c.width-2.ensures
     ∙ ap (λ (n : ℕ). range_with_len 0 m.params ++ range_with_len n (width c.args.two.now.second.now)) c.requires.behind in
-    if_ok c.part_list.result _ (λ (parts : List Part). AreParts parts (order_choices m c.args.order.now.times c.args.two.now.i c.args.two.now.first.now c.args.two.now.j c.args.two.now.second.now))
+    if_ok c.part_list.result _ (AreParts m c.args.order.now.times c.args.two.now.i c.args.two.now.first.now c.args.two.now.j c.args.two.now.second.now)
     (λ parts e.
     parts_listed m c.args.order.now.times c.args.two.now.i c.args.two.now.j c.args.two.now.first.now c.args.two.now.second.now
     c.as_slice.result.now c.as_slice-3.result.now c.as_slice-5.result.now c.as_slice-6.result.now c.as_slice-7.result.now c.as_slice-8.result.now

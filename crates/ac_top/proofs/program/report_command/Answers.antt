@@ -33,6 +33,19 @@ returns-in-Flow-clause-report g c =
     let Told = CommandReports (g.F.Files.contents c.args.files.now) (Fails g.F.Files.read_makes g.F.Files.read_faults c.args.files.now c.report_flow.new.files) in
     IfOk-weaker c.report_flow.result _ _ (λ r found. subst (λ d. Told (asked_by d) (written r)) (sym c.in-Flow.is) found) c.report_flow.ensures.report
 
+pub returns-in-Legal-clause-report : goal.returns-in-Legal-clause-report
+returns-in-Legal-clause-report g c =
+    let Told = CommandReports (g.F.Files.contents c.args.files.now) (Fails g.F.Files.read_makes g.F.Files.read_faults c.args.files.now c.report_legal.new.files) in
+    IfOk-weaker c.report_legal.result _ _ (λ r found. subst (λ d. Told (asked_by d) (written r)) (sym c.in-Legal.is) found) c.report_legal.ensures.report
+
+pub report_aprove-requires : goal.report_aprove-requires
+report_aprove-requires g c = subst (λ d. IsInRange (asked_by d)) c.in-Aprove.is c.requires
+
+pub returns-in-Aprove-clause-report : goal.returns-in-Aprove-clause-report
+returns-in-Aprove-clause-report g c =
+    let Told = CommandReports (g.F.Files.contents c.args.files.now) (Fails g.F.Files.read_makes g.F.Files.read_faults c.args.files.now c.report_aprove.new.files) in
+    IfOk-weaker c.report_aprove.result _ _ (λ r found. subst (λ d. Told (asked_by d) (written r)) (sym c.in-Aprove.is) found) c.report_aprove.ensures.report
+
 pub returns-in-Gen-clause-report : goal.returns-in-Gen-clause-report
 returns-in-Gen-clause-report g c =
     let Told = CommandReports (g.F.Files.contents c.args.files.now) (Fails g.F.Files.read_makes g.F.Files.read_faults c.args.files.now c.args.files.now) in

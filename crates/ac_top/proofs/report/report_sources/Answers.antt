@@ -1,5 +1,5 @@
 use Rattle.std.proofs.Common.{sym, subst}
-use Rattle.ac_top.specs.ProgramAnswers.{SourceReports, refused}
+use Rattle.ac_top.specs.ProgramAnswers.{SourceReports, refused, unpaired}
 use Rattle.ac_top.specs.RunStages.{IsPairingOf}
 use Rattle.ac_top.proofs.report.report_sources.Goals as goal
 
@@ -16,4 +16,4 @@ returns-in-Refused-clause-report g c =
     let right = c.args.right.now in
     let why = subst (IsPairingOf left.name.now right.name.now left.bytes.now right.bytes.now) c.in-Refused.is c.in_ok-pair.ensures in
     subst (SourceReports left.name.now right.name.now left.bytes.now right.bytes.now _)
-    (sym c.refused.ensures) (refused c.in-Refused.text.items why)
+    (sym c.refused.ensures) (refused c.in-Refused.text.items (unpaired c.in-Refused.text.items why))

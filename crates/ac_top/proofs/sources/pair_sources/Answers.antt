@@ -2,7 +2,7 @@ use Rattle.std.proofs.Common.{List, ℕ, sym, subst}
 use Rattle.std.proofs.lemmas.Result.{IfOk-weaker}
 use Rattle.ac_syntax.specs.declared.tree.Program.{Program}
 use Rattle.ac_parse.specs.Program.{IsProgramOf}
-use Rattle.ac_top.specs.ProgramAnswers.{AreRefused, first_refused, second_refused, no_pair}
+use Rattle.ac_top.specs.ProgramAnswers.{AreUnpaired, first_refused, second_refused, no_pair}
 use Rattle.ac_top.specs.RunStages.{IsPairing, IsPairingOf, IsParsed, IsRead, said_by}
 use Rattle.ac_top.specs.declared.sources.Paired.{Paired}
 use Rattle.ac_top.specs.declared.sources.Paired.TheVariants.{Together, Refused}
@@ -19,7 +19,7 @@ returns-in-Refused c =
     let left = c.args.left.now in
     let right = c.args.right.now in
     let why = subst (IsParsed left.bytes.now) c.in-Refused.is c.in_ok-program.ensures in
-    subst (AreRefused left.name.now right.name.now left.bytes.now right.bytes.now) (sym c.in_ok-refusal_line-in-Refused.ensures) (first_refused (said_by c.in-Refused.complaint) why)
+    subst (AreUnpaired left.name.now right.name.now left.bytes.now right.bytes.now) (sym c.in_ok-refusal_line-in-Refused.ensures) (first_refused (said_by c.in-Refused.complaint) why)
 
 pub returns-in-Refused-2 : goal.returns-in-Refused-2
 returns-in-Refused-2 c =
@@ -27,7 +27,7 @@ returns-in-Refused-2 c =
     let right = c.args.right.now in
     let made = subst (IsParsed left.bytes.now) c.in-Program.is c.in_ok-program.ensures in
     let why = subst (IsParsed right.bytes.now) c.in-Refused-2.is c.in_ok-program-2.ensures in
-    subst (AreRefused left.name.now right.name.now left.bytes.now right.bytes.now) (sym c.in_ok-refusal_line-in-Refused-2.ensures) (second_refused c.in-Program.program (said_by c.in-Refused-2.complaint) made.0 why)
+    subst (AreUnpaired left.name.now right.name.now left.bytes.now right.bytes.now) (sym c.in_ok-refusal_line-in-Refused-2.ensures) (second_refused c.in-Program.program (said_by c.in-Refused-2.complaint) made.0 why)
 
 pub returns : goal.returns
 returns c =

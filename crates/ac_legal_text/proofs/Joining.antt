@@ -1,0 +1,4 @@
+-- Pieces of a text, put together.
+use Rattle.std.proofs.Common.{append_assoc, append-nil}
+
+pub ruleset joins = (append_assoc, append-nil)

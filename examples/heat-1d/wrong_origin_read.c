@@ -1,0 +1,12 @@
+// heat-1d: T steps of the heat equation over a row; each step has a row of its own, whose ends are given.
+// Wrong: skewed and in tiles of 32 by 32 from the first turn of each strip, but the right neighbour is read one further to the right.
+// Different at [1][1] where T is 1 and N is 3 or more.
+void heat_1d(int T, int N, double A[T + 1][N]) {
+  int t, s, tt, st;
+  for (tt = 0; tt < T; tt += 32)
+    for (st = tt; st < tt + N + 30; st += 32)
+      for (t = tt; t < tt + 32 && t < T; t++)
+        for (s = st; s < st + 32 && s < t + N - 1; s++)
+          if (s > t)
+            A[t + 1][s - t] = 0.125 * (A[t][s - t + 2] - 2.0 * A[t][s - t] + A[t][s - t - 1]) + A[t][s - t];
+}
