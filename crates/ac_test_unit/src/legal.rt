@@ -7,7 +7,7 @@ use ac_base::Items;
 use ac_flow::types::Limits;
 use ac_forms::Form;
 use ac_legal::legal;
-use ac_legal::types::{Legal, LegalStop, Schedule};
+use ac_legal::types::{Legal, Schedule};
 use ac_parse::parse;
 use ac_poly::lower;
 use ac_poly::types::Model;
@@ -199,14 +199,14 @@ fn an_order_may_break_at_one_size(rt: HostRuntime) -> Result<(), Fail> {
 }
 
 #[test]
-fn no_budget_decides_nothing(rt: HostRuntime) -> Result<(), Fail> {
+fn simplex_needs_no_budget(rt: HostRuntime) -> Result<(), Fail> {
     let alloc = rt.alloc();
     let order = schedule(alloc, &[(0, &[0, 1])])?;
     let Some(model) = model(alloc, CHAIN) else {
         return Err("a model")?;
     };
     let limits = Limits { budget: 0 };
-    let stopped = legal(alloc, &model, &order, &limits);
-    assert!(rt; matches!(stopped, Err(LegalStop::Spent { .. })));
+    let found = legal(alloc, &model, &order, &limits);
+    assert!(rt; matches!(found, Ok(Legal::Kept)));
     Ok(())
 }
