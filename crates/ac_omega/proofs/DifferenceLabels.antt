@@ -76,28 +76,28 @@ still-each r [] ls h p q n g = tt
 still-each r (s ∷ rs) ls h p q n g = (still r s ls h p q.0 n.0 g.0, still-each r rs ls h p q.1 n.1 g.1)
 
 -- no more rows that are apart than labels
-pigeonhole : (rs : List Row) (ls : List Label) → Each IsPlain rs → AreApart rs → Each (λ s. SomeOf (Has s) ls) rs → length rs ≤ length ls
+pub pigeonhole : (rs : List Row) (ls : List Label) → Each IsPlain rs → AreApart rs → Each (λ s. SomeOf (Has s) ls) rs → length rs ≤ length ls
 pigeonhole [] ls p a h = omega arith
 pigeonhole (r ∷ rs) ls p a h =
     let t = pigeonhole rs (without r ls h.0) p.1 a.1 (still-each r rs ls h.0 p.0 p.1 a.0 h.1) in
     omega (arith, one-less r ls h.0)
 
 -- the labels over some columns
-somes : List ℕ → List (Option ℕ)
+pub somes : List ℕ → List (Option ℕ)
 somes [] = []
 somes (x ∷ xs) = Some x ∷ somes xs
 
-ends : List ℕ → List (Option ℕ)
+unfoldable pub ends : List ℕ → List (Option ℕ)
 ends vars = None ∷ somes vars
 
-label : ℕ → Option ℕ → Option ℕ → Label
+unfoldable pub label : ℕ → Option ℕ → Option ℕ → Label
 label k p q = record { kind = k; plus = p; minus = q }
 
 labels-of : ℕ → Option ℕ → List (Option ℕ) → List Label
 labels-of k p [] = []
 labels-of k p (q ∷ qs) = label k p q ∷ labels-of k p qs
 
-pairs : ℕ → List (Option ℕ) → List (Option ℕ) → List Label
+pub pairs : ℕ → List (Option ℕ) → List (Option ℕ) → List Label
 pairs k [] qs = []
 pairs k (p ∷ ps) qs = labels-of k p qs ++ pairs k ps qs
 
@@ -112,13 +112,13 @@ length-of k p (q ∷ qs) = ap suc (length-of k p qs)
 suc-times : (m n : ℕ) → suc m * n ≡ n + m * n
 suc-times m n = omega arith
 
-length-pairs : (k : ℕ) (ps qs : List (Option ℕ)) → length (pairs k ps qs) ≡ length ps * length qs
+pub length-pairs : (k : ℕ) (ps qs : List (Option ℕ)) → length (pairs k ps qs) ≡ length ps * length qs
 unfolding pairs
 length-pairs k [] qs = omega arith
 length-pairs k (p ∷ ps) qs =
     length-append (labels-of k p qs) (pairs k ps qs) ∙ ap (λ (n : ℕ). n + length (pairs k ps qs)) (length-of k p qs) ∙ ap (λ (n : ℕ). length qs + n) (length-pairs k ps qs) ∙ sym (suc-times (length ps) (length qs))
 
-length-somes : (vars : List ℕ) → length (somes vars) ≡ length vars
+pub length-somes : (vars : List ℕ) → length (somes vars) ≡ length vars
 unfolding somes
 length-somes [] = refl
 length-somes (x ∷ xs) = ap suc (length-somes xs)
@@ -149,7 +149,7 @@ some-label r k p q [] i h = absurd i
 some-label r k p q (e ∷ qs) (inl s) h = inl (rw s h)
 some-label r k p q (e ∷ qs) (inr i) h = inr (some-label r k p q qs i h)
 
-some-pair : (r : Row) (k : ℕ) (p q : Option ℕ) (ps qs : List (Option ℕ)) → SomeOf (λ e. e ≡ p) ps → SomeOf (λ e. e ≡ q) qs → Has r (label k p q) → SomeOf (Has r) (pairs k ps qs)
+pub some-pair : (r : Row) (k : ℕ) (p q : Option ℕ) (ps qs : List (Option ℕ)) → SomeOf (λ e. e ≡ p) ps → SomeOf (λ e. e ≡ q) qs → Has r (label k p q) → SomeOf (Has r) (pairs k ps qs)
 unfolding pairs
 some-pair r k p q [] qs i j h = absurd i
 some-pair r k p q (e ∷ ps) qs (inl s) j h = some-first (Has r) (labels-of k e qs) (pairs k ps qs) (rw s (some-label r k p q qs j h))
@@ -171,10 +171,10 @@ one-itself x = rw (eq-eqb x x refl) refl
 itself-gone : (c p q : ℤ) → c ≡ p -ℤ q → p ≡ q → c ≡ pos 0
 itself-gone c p q e f = omega (arith, ints)
 
-both-gone : (c : ℕ → ℤ) (d : IsDifference c) → d.plus ≡ d.minus → (j : ℕ) → c j ≡ pos 0
+pub both-gone : (c : ℕ → ℤ) (d : IsDifference c) → d.plus ≡ d.minus → (j : ℕ) → c j ≡ pos 0
 both-gone c d e j = itself-gone (c j) (one_in d.plus j) (one_in d.minus j) (d.is j) (ap (λ (o : Option ℕ). one_in o j) e)
 
-plus-gone : (c : ℕ → ℤ) (d : IsDifference c) (x : ℕ) → d.plus ≡ Some x → c x ≡ pos 0 → d.plus ≡ d.minus
+pub plus-gone : (c : ℕ → ℤ) (d : IsDifference c) (x : ℕ) → d.plus ≡ Some x → c x ≡ pos 0 → d.plus ≡ d.minus
 plus-gone c d x e z = elim (one-cases d.minus x) [
   | inl a ↦ e ∙ sym a.1
   | inr a ↦ absurd (apart (c x) (one_in d.plus x) (one_in d.minus x) (d.is x) z (ap (λ (o : Option ℕ). one_in o x) e ∙ one-itself x) a)
@@ -183,7 +183,7 @@ plus-gone c d x e z = elim (one-cases d.minus x) [
     apart : (c p q : ℤ) → c ≡ p -ℤ q → c ≡ pos 0 → p ≡ pos 1 → q ≡ pos 0 → ⊥
     apart c p q e f g h = omega (arith, ints)
 
-minus-gone : (c : ℕ → ℤ) (d : IsDifference c) (x : ℕ) → d.minus ≡ Some x → c x ≡ pos 0 → d.plus ≡ d.minus
+pub minus-gone : (c : ℕ → ℤ) (d : IsDifference c) (x : ℕ) → d.minus ≡ Some x → c x ≡ pos 0 → d.plus ≡ d.minus
 minus-gone c d x e z = elim (one-cases d.plus x) [
   | inl a ↦ a.1 ∙ sym e
   | inr a ↦ absurd (apart (c x) (one_in d.plus x) (one_in d.minus x) (d.is x) z a (ap (λ (o : Option ℕ). one_in o x) e ∙ one-itself x))
@@ -192,7 +192,7 @@ minus-gone c d x e z = elim (one-cases d.plus x) [
     apart : (c p q : ℤ) → c ≡ p -ℤ q → c ≡ pos 0 → p ≡ pos 0 → q ≡ pos 1 → ⊥
     apart c p q e f g h = omega (arith, ints)
 
-place : (vars : List ℕ) (o : Option ℕ) → SomeOf (λ e. e ≡ o) (ends vars) ⊎ ((x : ℕ) × (o ≡ Some x) × (is_among x vars ≡ false))
+pub place : (vars : List ℕ) (o : Option ℕ) → SomeOf (λ e. e ≡ o) (ends vars) ⊎ ((x : ℕ) × (o ≡ Some x) × (is_among x vars ≡ false))
 unfolding ends
 place vars None = inl (inl refl)
 place vars (Some x) = by (is_among x vars) refl
@@ -223,7 +223,7 @@ some-labels (Eq f) vars b h = some-first (Has (Eq f)) (pairs 0 (ends vars) (ends
 some-labels (Div m f) vars b h = absurd h
 some-labels (Ge f) vars b h = some-second (Has (Ge f)) (pairs 0 (ends vars) (ends vars)) (pairs 2 (ends vars) (ends vars)) (some-row (Ge f) 2 vars b refl h.0)
 
-each-plain : (vars : List ℕ) (b : ℕ) (rs : List Row) → Each (IsRow vars b) rs → Each IsPlain rs
+pub each-plain : (vars : List ℕ) (b : ℕ) (rs : List Row) → Each (IsRow vars b) rs → Each IsPlain rs
 each-plain vars b [] h = tt
 each-plain vars b (r ∷ rs) h = (plain-row vars b r h.0, each-plain vars b rs h.1)
 
@@ -239,6 +239,10 @@ joined-few vars b (r ∷ rs) h g =
     let n = pigeonhole (dedup alike (r ∷ rs)) (labels vars) (each-plain vars b (dedup alike (r ∷ rs)) all) (apart-dedup r rs (each-plain vars b (r ∷ rs) h) g) (each-labels vars b (dedup alike (r ∷ rs)) all) in
     omega (arith, n, length-labels vars)
 
+joined-apart : (vars : List ℕ) (b : ℕ) (rs : List Row) → Each (IsRow vars b) rs → Rising rs → AreApart (dedup alike rs)
+joined-apart vars b [] h g = tt
+joined-apart vars b (r ∷ rs) h g = apart-dedup r rs (each-plain vars b (r ∷ rs) h) g
+
 one-few : (n : ℕ) → 1 ≤ 2 * (suc n * suc n)
 one-few n = omega (arith, suc-times n (suc n))
 
@@ -249,3 +253,11 @@ normal-few vars b xs h = by (has_absurd xs) (has_clash (in_order (left_rows xs))
     by true u = one-few (length vars)
     by false true = one-few (length vars)
     by false false = joined-few vars b (in_order (left_rows xs)) (each-in_order (IsRow vars b) (left_rows xs) (each-left vars b xs h)) (rising-in_order (left_rows xs))
+
+pub normal-apart : (vars : List ℕ) (b : ℕ) (xs : List Row) → Each (IsRaw vars b) xs → AreApart (normal_form xs)
+normal-apart vars b xs h = by (has_absurd xs) (has_clash (in_order (left_rows xs)))
+  where
+    by : (t u : Bool) → AreApart (cond t absurd_rows (cond u absurd_rows (dedup alike (in_order (left_rows xs)))))
+    by true u = (tt, tt)
+    by false true = (tt, tt)
+    by false false = joined-apart vars b (in_order (left_rows xs)) (each-in_order (IsRow vars b) (left_rows xs) (each-left vars b xs h)) (rising-in_order (left_rows xs))

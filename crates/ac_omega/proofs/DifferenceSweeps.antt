@@ -19,19 +19,20 @@ use Rattle.ac_omega.specs.declared.piece.Piece.{Piece}
 use Rattle.ac_omega.specs.EliminationAnswers.{Eliminates, parts}
 use Rattle.ac_omega.specs.ColumnChoice.{next_column}
 use Rattle.ac_omega.specs.DifferenceRows.{AreDifferences, AreAllDifferences, StopsBelow}
+use Rattle.ac_omega.specs.ConjunctionCosts.{cost_of}
 use Rattle.ac_omega.specs.ColumnElimination.{eliminating, elimination, look_at, pieces_of}
 use Rattle.ac_omega.specs.Projection.{is_among}
 use Rattle.ac_omega.specs.Sweep.{Projected, Pieces, Spent, Wide, onward, into, sweeps, swept, sweep}
 use Rattle.ac_omega.specs.Walk.{Absurd}
 use Rattle.ac_omega.proofs.Nexts.{next-among}
-use Rattle.ac_omega.proofs.Rows.{column-rows}
+use Rattle.ac_omega.proofs.Rows.{column-cost}
 use Rattle.ac_omega.proofs.DifferenceRows.{IsRow, IsRaw, Each}
 use Rattle.ac_omega.proofs.DifferenceNormals.{rows-fit}
 use Rattle.ac_omega.proofs.DifferenceChoices.{leave, leave-within}
 use Rattle.ac_omega.proofs.DifferenceAlternatives.{OneChoice, one-choice}
 use Rattle.ac_omega.proofs.DifferenceNexts.{next-left, leave-less}
 use Rattle.ac_omega.proofs.DifferenceWalks.{cost, cost-step, cost-level, grown, grown-least, normal-standing}
-use Rattle.ac_omega.proofs.DifferencePaths.{Stage, stage-rows, after-one, next-stage, none-left, double-fits}
+use Rattle.ac_omega.proofs.DifferencePaths.{Stage, stage-cost, after-one, next-stage, none-left, double-fits}
 use Rattle.ac_omega.proofs.DifferenceQuestions.{below, length-below, question-raw, grown-upto, grown-sixty, cube-is}
 use Rattle.ac_omega_certify.specs.declared.strategy.Strategy.{Strategy}
 
@@ -99,13 +100,13 @@ going strategy cols f budget q d j = sweep (eliminating strategy cols) f budget 
 -- the choices, where there are some
 abbrev OpenComes : Strategy → ℕ → List ℕ → ℕ → ℕ → List Choice → Conj → ℕ → ℕ → Type 0
 OpenComes strategy budget cols m most path c fuel k =
-    (f z : ℕ) → fuel ≡ suc f → next_column strategy cols c.rows ≡ Some z → ComesTo budget m k most (sweeps (eliminating strategy cols) (going strategy cols f budget) path c (alternatives_for strategy z c.rows) (k + length c.rows))
+    (f z : ℕ) → fuel ≡ suc f → next_column strategy cols c.rows ≡ Some z → ComesTo budget m k most (sweeps (eliminating strategy cols) (going strategy cols f budget) path c (alternatives_for strategy z c.rows) (k + cost_of strategy cols c.rows))
 
 swept-comes : (strategy : Strategy) (top budget n m : ℕ) (cols vars : List ℕ) (b most : ℕ) (path : List Choice) (c : Conj) (f k : ℕ) → Stage top n m vars b c → b ≤ most
-    → ((z : ℕ) → next_column strategy cols c.rows ≡ Some z → ComesTo budget m k most (sweeps (eliminating strategy cols) (going strategy cols f budget) path c (alternatives_for strategy z c.rows) (k + length c.rows)))
-    → (t : Bool) (o : Option ℕ) → next_column strategy cols c.rows ≡ o → ComesTo budget m k most (swept (eliminating strategy cols) (going strategy cols f budget) path c (k + length c.rows) (cond t Absurd (look_at strategy c o)))
-swept-comes strategy top budget n m cols vars b most path c f k h l open-case true o e = (omega (arith, stage-rows top n m vars b c h, cost-level m), tt)
-swept-comes strategy top budget n m cols vars b most path c f k h l open-case false None e = (omega (arith, stage-rows top n m vars b c h, cost-level m), (are-differences vars b most c.rows h.standing.rows l, tt))
+    → ((z : ℕ) → next_column strategy cols c.rows ≡ Some z → ComesTo budget m k most (sweeps (eliminating strategy cols) (going strategy cols f budget) path c (alternatives_for strategy z c.rows) (k + cost_of strategy cols c.rows)))
+    → (t : Bool) (o : Option ℕ) → next_column strategy cols c.rows ≡ o → ComesTo budget m k most (swept (eliminating strategy cols) (going strategy cols f budget) path c (k + cost_of strategy cols c.rows) (cond t Absurd (look_at strategy c o)))
+swept-comes strategy top budget n m cols vars b most path c f k h l open-case true o e = (omega (arith, stage-cost strategy top n m cols vars b c h, cost-level m), tt)
+swept-comes strategy top budget n m cols vars b most path c f k h l open-case false None e = (omega (arith, stage-cost strategy top n m cols vars b c h, cost-level m), (are-differences vars b most c.rows h.standing.rows l, tt))
 swept-comes strategy top budget n m cols vars b most path c f k h l open-case false (Some z) e = open-case z e
 
 within-comes : (budget m k j most : ℕ) (t : Bool) (w : Projected Conj Choice) → nat_lt budget j ≡ t → j ≤ k + cost m → ComesTo budget m k most w → ComesTo budget m k most (cond t (Spent j) w)
@@ -117,7 +118,7 @@ sweep-stage : (strategy : Strategy) (top budget n m : ℕ) (cols vars : List ℕ
 unfolding sweep
 sweep-stage strategy top budget n m cols vars b most path c zero k h l e open-case = omega arith
 sweep-stage strategy top budget n m cols vars b most path c (suc f) k h l e open-case =
-    within-comes budget m k (k + length c.rows) most (nat_lt budget (k + length c.rows)) _ refl (omega (arith, stage-rows top n m vars b c h, cost-level m))
+    within-comes budget m k (k + cost_of strategy cols c.rows) most (nat_lt budget (k + cost_of strategy cols c.rows)) _ refl (omega (arith, stage-cost strategy top n m cols vars b c h, cost-level m))
     (swept-comes strategy top budget n m cols vars b most path c f k h l (λ z i. open-case f z refl i) (are_absurd c.rows) (next_column strategy cols c.rows) refl)
 
 -- the one choice
@@ -136,15 +137,15 @@ asked-grown z b most asked a l =
     omega (arith, u, l)
 
 choice-comes : (strategy : Strategy) (top budget n m : ℕ) (cols vars : List ℕ) (b most : ℕ) (path : List Choice) (c : Conj) (f z k : ℕ) → 121 * top < 2 ^ 127 → Stage top n (suc m) vars b c → (o : OneChoice strategy vars b z c.rows)
-    → ComesTo budget m (k + length c.rows) most (sweep (eliminating strategy cols) f budget (path ++ o.one ∷ []) (normal_conj (raw o.one c)) (k + length c.rows))
-    → ComesTo budget (suc m) k most (sweeps (eliminating strategy cols) (going strategy cols f budget) path c (alternatives_for strategy z c.rows) (k + length c.rows))
+    → ComesTo budget m (k + cost_of strategy cols c.rows) most (sweep (eliminating strategy cols) f budget (path ++ o.one ∷ []) (normal_conj (raw o.one c)) (k + cost_of strategy cols c.rows))
+    → ComesTo budget (suc m) k most (sweeps (eliminating strategy cols) (going strategy cols f budget) path c (alternatives_for strategy z c.rows) (k + cost_of strategy cols c.rows))
 choice-comes strategy top budget n m cols vars b most path c f z k room h o w =
     let fit = rows-fit (leave z vars) (b + b) (left_by o.one c.rows) (double-fits top n m vars b c h room) o.left in
-    let sum : k + length c.rows + cost m ≤ k + cost (suc m) = omega (arith, stage-rows top n (suc m) vars b c h, cost-step m) in
-    let y = comes-back budget m k (k + length c.rows) most _ sum w in
-    let one = one-swept strategy cols (going strategy cols f budget) path c (normal_conj (raw o.one c)) o.one (k + length c.rows) (after-one o.one c o.fits fit) in
+    let sum : k + cost_of strategy cols c.rows + cost m ≤ k + cost (suc m) = omega (arith, stage-cost strategy top n (suc m) cols vars b c h, cost-step m) in
+    let y = comes-back budget m k (k + cost_of strategy cols c.rows) most _ sum w in
+    let one = one-swept strategy cols (going strategy cols f budget) path c (normal_conj (raw o.one c)) o.one (k + cost_of strategy cols c.rows) (after-one o.one c o.fits fit) in
     let y1 = subst (λ (v : Projected Conj Choice). ComesTo budget (suc m) k most v) (sym one) y in
-    subst (λ (hs : Alternatives). ComesTo budget (suc m) k most (sweeps (eliminating strategy cols) (going strategy cols f budget) path c hs (k + length c.rows))) (sym o.tries) y1
+    subst (λ (hs : Alternatives). ComesTo budget (suc m) k most (sweeps (eliminating strategy cols) (going strategy cols f budget) path c hs (k + cost_of strategy cols c.rows))) (sym o.tries) y1
 
 sweep-comes : (strategy : Strategy) (top budget n m : ℕ) (cols vars asked : List ℕ) (b most : ℕ) (path : List Choice) (c : Conj) (fuel k : ℕ) → 121 * top < 2 ^ 127 → Stage top n m vars b c → AreAsked cols vars asked → grown (length asked) b ≤ most → budget < fuel + k
     → ComesTo budget m k most (sweep (eliminating strategy cols) fuel budget path c k)
@@ -156,7 +157,7 @@ sweep-comes strategy top budget n (suc m) cols vars asked b most path c fuel k r
     let o = one-choice strategy vars b z c.rows (double-fits top n m vars b c h room) h.standing.rows in
     let there = a.each z (next-among strategy cols c.rows z i) (next-left strategy vars cols b z c.rows h.standing.rows i) in
     choice-comes strategy top budget n m cols vars b most path c f z k room h o
-    (sweep-comes strategy top budget n m cols (leave z vars) (leave z asked) (b + b) most (path ++ o.one ∷ []) (normal_conj (raw o.one c)) f (k + length c.rows) room (next-stage strategy top n m cols vars b c z h i o) (asked-less z cols vars asked a) (asked-grown z b most asked there g) (omega (arith, column-rows strategy cols c.rows z i))))
+    (sweep-comes strategy top budget n m cols (leave z vars) (leave z asked) (b + b) most (path ++ o.one ∷ []) (normal_conj (raw o.one c)) f (k + cost_of strategy cols c.rows) room (next-stage strategy top n m cols vars b c z h i o) (asked-less z cols vars asked a) (asked-grown z b most asked there g) (omega (arith, column-cost strategy cols c.rows z i))))
 
 -- the question's walk
 grown-more : (n b c : ℕ) → b ≤ c → grown n b ≤ grown n c

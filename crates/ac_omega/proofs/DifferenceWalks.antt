@@ -1,5 +1,5 @@
 -- The walk over rows of differences: what it costs, which numbers it meets, and how far its points reach.
-use Rattle.std.proofs.Common.{◌≡◌, ℕ, zero, suc, ◌+◌, ◌*◌, ◌<◌, ◌≤◌, max, ℤ, pos, List, [], ◌∷◌, length, Option, Some, arith, refl, ap, mul-le-mul_left}
+use Rattle.std.proofs.Common.{◌≡◌, ℕ, zero, suc, ◌+◌, ◌*◌, ◌<◌, ◌≤◌, max, ℤ, pos, List, [], ◌∷◌, length, Option, Some, arith, refl, ap, subst, mul-le-mul_left}
 use Rattle.std.specs.Prelude.{unsigned_abs, replicate}
 use Rattle.ac_forms.specs.Affine.{Affine}
 use Rattle.ac_forms.specs.NormalForm.{normal_conj}
@@ -10,13 +10,14 @@ use Rattle.ac_omega.specs.Maxima.{Maxima, greatest_abs, with_form, with_rows}
 use Rattle.ac_omega.specs.Walk.{Walked, Empty, Found, Spent, Wide, behind}
 use Rattle.ac_omega.proofs.DifferenceRows.{IsOver, IsRow, IsRaw, Each, AreUnits, form-units}
 use Rattle.ac_omega.proofs.DifferenceNormals.{normal-each}
-use Rattle.ac_omega.proofs.DifferenceLabels.{normal-few}
+use Rattle.ac_omega.proofs.DifferenceCounts.{AreApart}
+use Rattle.ac_omega.proofs.DifferenceLabels.{normal-few, normal-apart}
 use Rattle.ac_omega.proofs.DifferenceFits.{unit-small}
 use Rattle.ac_omega.proofs.DifferencePoints.{AreWithin}
 
--- the rows over m columns, and those of all walks from there on
+-- the rows and the pairs over m columns, and those of all walks from there on
 unfoldable pub level : ℕ → ℕ
-level m = 2 * (suc m * suc m)
+level m = 2 * (suc m * suc m) + m * m
 
 unfoldable pub cost : ℕ → ℕ
 cost m = 2 * (suc m * (suc m * suc m))
@@ -27,19 +28,32 @@ suc-times m n = omega arith
 times-suc : (m n : ℕ) → m * suc n ≡ m + m * n
 times-suc m n = omega arith
 
-cubes : (x : ℕ) → suc x * suc x + x * (x * x) ≤ suc x * (suc x * suc x)
+times-sum : (m n k : ℕ) → m * (n + k) ≡ m * n + m * k
+times-sum m n k = omega arith
+
+-- where a product is a square and more, of which a part is a cube and a smaller square
+in-parts : (product square more cube less : ℕ) → product ≡ square + more → cube + less ≤ more → 2 * square + less + 2 * cube ≤ 2 * product
+in-parts product square more cube less e l = omega arith
+
+in-two : (product square more less : ℕ) → product ≡ square + more → less ≤ more → 2 * square + less ≤ 2 * product
+in-two product square more less e l = omega arith
+
+cubes : (x : ℕ) → 2 * (suc x * suc x) + x * x + 2 * (x * (x * x)) ≤ 2 * (suc x * (suc x * suc x))
 cubes x =
-    let a : suc x * (suc x * suc x) ≡ suc x * suc x + x * (suc x * suc x) = suc-times x (suc x * suc x) in
-    let b : x * x ≤ suc x * suc x = omega (arith, suc-times x (suc x), times-suc x x) in
-    omega (arith, a, mul-le-mul_left x b)
+    let l : x * x + x ≤ suc x * suc x = omega (arith, suc-times x (suc x), times-suc x x) in
+    let m : x * (x * x + x) ≤ x * (suc x * suc x) = mul-le-mul_left x l in
+    in-parts (suc x * (suc x * suc x)) (suc x * suc x) (x * (suc x * suc x)) (x * (x * x)) (x * x) (suc-times x (suc x * suc x)) (subst (λ (n : ℕ). n ≤ x * (suc x * suc x)) (times-sum x (x * x) x) m)
 
 pub cost-step : (m : ℕ) → level (suc m) + cost m ≤ cost (suc m)
 unfolding level cost
-cost-step m = omega (arith, cubes (suc m))
+cost-step m = cubes (suc m)
 
 pub cost-level : (m : ℕ) → level m ≤ cost m
 unfolding level cost
-cost-level m = omega (arith, suc-times m (suc m * suc m))
+cost-level m =
+    let l : m ≤ suc m * suc m = omega (arith, suc-times m (suc m)) in
+    let k : m * m ≤ m * (suc m * suc m) = mul-le-mul_left m l in
+    in-two (suc m * (suc m * suc m)) (suc m * suc m) (m * (suc m * suc m)) (m * m) (suc-times m (suc m * suc m)) k
 
 pub squares : (m n : ℕ) → m ≤ n → suc m * suc m ≤ suc n * suc n
 squares m n l =
@@ -60,9 +74,10 @@ grown-least (suc m) b = omega (arith, grown-least m (b + b))
 pub record Standing (vars : List ℕ) (b : ℕ) (c : Conj) : Type 0 where
   pub rows : Each (IsRow vars b) c.rows
   pub few : length c.rows ≤ 2 * (suc (length vars) * suc (length vars))
+  pub apart : AreApart c.rows
 
 pub normal-standing : (vars : List ℕ) (b : ℕ) (c : Conj) → 1 ≤ b → Each (IsRaw vars b) c.rows → Standing vars b (normal_conj c)
-normal-standing vars b c l h = record { rows = normal-each vars b c.rows l h; few = normal-few vars b c.rows h }
+normal-standing vars b c l h = record { rows = normal-each vars b c.rows l h; few = normal-few vars b c.rows h; apart = normal-apart vars b c.rows h }
 
 -- the greatest numbers met
 pub record AreSmall (top : ℕ) (s : Maxima) : Type 0 where

@@ -29,11 +29,11 @@ some-stays before y (x ∷ xs) e = by (before x y) (some-stays before x xs) (som
     by false f g e = g e
 
 -- the test fails at each
-AllFail : (ℕ → Bool) → List ℕ → Type 0
+unfoldable pub AllFail : (ℕ → Bool) → List ℕ → Type 0
 AllFail test [] = Unit {0}
 AllFail test (z ∷ zs) = (test z ≡ false) × AllFail test zs
 
-none-fail : (before : ℕ → ℕ → Bool) (test : ℕ → Bool) (zs : List ℕ) → least_from before None (filter test zs) ≡ None → AllFail test zs
+pub none-fail : (before : ℕ → ℕ → Bool) (test : ℕ → Bool) (zs : List ℕ) → least_from before None (filter test zs) ≡ None → AllFail test zs
 unfolding AllFail
 none-fail before test [] e = tt
 none-fail before test (x ∷ xs) e = by (test x) refl (none-fail before test xs) e

@@ -38,6 +38,7 @@ pub mod DifferenceFits
 pub mod DifferencePoints
 pub mod DifferenceAlternatives
 pub mod DifferenceNexts
+pub mod DifferencePairs
 pub mod DifferenceWalks
 pub mod DifferencePaths
 pub mod DifferenceQuestions
@@ -45,3 +46,4 @@ pub mod DifferenceStops
 pub mod Replays
 pub mod DifferenceSweeps
 pub mod Totals
+pub mod Charging

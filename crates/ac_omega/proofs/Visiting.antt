@@ -1,5 +1,5 @@
 -- The walk of all purposes is, for a point, the walk for a point, and for pieces the walk of all pieces.
-use Rattle.std.proofs.Common.{◌≡◌, ℕ, zero, suc, ◌+◌, nat_lt, ℤ, List, [], ◌∷◌, ◌++◌, append_assoc, append-nil, length, Option, Some, None, Result, Ok, Err, Bool, true, false, cond, refl, ◌∙◌, ap, sym, subst}
+use Rattle.std.proofs.Common.{◌≡◌, ℕ, zero, suc, ◌+◌, nat_lt, ℤ, List, [], ◌∷◌, ◌++◌, append_assoc, append-nil, Option, Some, None, Result, Ok, Err, Bool, true, false, cond, refl, ◌∙◌, ap, sym, subst}
 use Rattle.std.specs.Prelude.{option_map}
 use Rattle.ac_forms.specs.declared.conj.Conj.{Conj}
 use Rattle.ac_omega_steps.specs.ChoiceFits.{after_choice}
@@ -12,6 +12,7 @@ use Rattle.ac_omega.specs.declared.search.Aim.TheVariants.{ForPoint, ForRefutati
 use Rattle.ac_omega.specs.declared.search.Walked.{Walked}
 use Rattle.ac_omega.specs.declared.search.Walked.TheVariants as done
 use Rattle.ac_omega.specs.EliminationAnswers.{parts, saturated}
+use Rattle.ac_omega.specs.ConjunctionCosts.{cost_of}
 use Rattle.ac_omega.specs.ColumnElimination.{eliminating, elimination, look}
 use Rattle.ac_omega.specs.Maxima.{Maxima, with_rows, with_choice}
 use Rattle.ac_omega.specs.WalkAnswers.{Searches, WantsPoint, columns_to, lifted_to}
@@ -75,8 +76,8 @@ walk-seen : (strategy : Strategy) (aim : Aim) (vars : List ℕ) (ps : List Piece
 unfolding walk SameSeen
 walk-seen strategy aim vars ps zero b w q d k s = refl
 walk-seen strategy aim vars ps (suc n) b w q d k s =
-    if-seen ps (nat_lt b (k + length d.rows)) (k + length d.rows) _ _
-    (seen-at strategy aim vars ps (λ x j t. walk (visiting strategy aim vars) n b x j t) (λ e j t. walk (eliminating strategy vars) n b e j t) q d (k + length d.rows) (with_rows d.rows s) (look strategy vars d) w (walk-seen strategy aim vars ps n b w))
+    if-seen ps (nat_lt b (k + cost_of strategy vars d.rows)) (k + cost_of strategy vars d.rows) _ _
+    (seen-at strategy aim vars ps (λ x j t. walk (visiting strategy aim vars) n b x j t) (λ e j t. walk (eliminating strategy vars) n b e j t) q d (k + cost_of strategy vars d.rows) (with_rows d.rows s) (look strategy vars d) w (walk-seen strategy aim vars ps n b w))
 
 -- an answer of the walk for a point
 searches-as : (r : Result Walked Halt) (ps qs : List Piece) (w : def.Walked Maxima) → Visits r qs (as_seen ps w) → Searches r w
@@ -169,8 +170,8 @@ walk-swept : (strategy : Strategy) (vars : List ℕ) (n b : ℕ) → AreProjecte
 unfolding walk sweep IsProjected AreProjected
 walk-swept strategy vars zero b q d k t = refl
 walk-swept strategy vars (suc n) b q d k t =
-    if-swept t.pieces (nat_lt b (k + length d.rows)) (k + length d.rows) _ _
-    (swept-at strategy vars (λ x j u. walk (visiting strategy ForPieces vars) n b x j u) (λ p e j. sweep (eliminating strategy vars) n b p e j) q d (k + length d.rows) (with_rows d.rows t.maxima) t.pieces (look strategy vars d) (walk-swept strategy vars n b))
+    if-swept t.pieces (nat_lt b (k + cost_of strategy vars d.rows)) (k + cost_of strategy vars d.rows) _ _
+    (swept-at strategy vars (λ x j u. walk (visiting strategy ForPieces vars) n b x j u) (λ p e j. sweep (eliminating strategy vars) n b p e j) q d (k + cost_of strategy vars d.rows) (with_rows d.rows t.maxima) t.pieces (look strategy vars d) (walk-swept strategy vars n b))
 
 -- an answer of the walk of all pieces
 gone-swept : (k : ℕ) (s : Maxima) (ps : List Piece) (w : def.Walked Seen) (v : Projected Conj Choice) → w ≡ def.Empty k (seen s ps) → IsProjected w [] v → v ≡ Pieces (parts ps) k

@@ -1,5 +1,5 @@
 -- Elimination of columns as a method of a walk, and the pieces of a question.
-use Rattle.std.specs.Prelude.{ℕ, ◌+◌, cond, pos, List, [], length, replicate, Option, Some, None}
+use Rattle.std.specs.Prelude.{ℕ, ◌+◌, cond, pos, List, [], replicate, Option, Some, None}
 use Rattle.ac_forms.specs.NormalForm.{normal_conj}
 use Rattle.ac_forms.specs.RangeTests.{rows_fit}
 use Rattle.ac_forms.specs.declared.conj.Conj.{Conj}
@@ -7,6 +7,7 @@ use Rattle.ac_omega_steps.specs.declared.choose.Choice.{Choice}
 use Rattle.ac_omega_steps.specs.Choices.{are_absurd, lifted}
 use Rattle.ac_omega_steps.specs.ChoiceFits.{after_choice, lift_fits}
 use Rattle.ac_omega.specs.ColumnChoice.{next_column}
+use Rattle.ac_omega.specs.ConjunctionCosts.{cost_of}
 use Rattle.ac_omega.specs.Maxima.{Maxima, with_rows, with_choice}
 use Rattle.ac_omega.specs.Sweep.{Projected, into, sweep}
 use Rattle.ac_omega_certify.specs.Alternatives.{alternatives_for}
@@ -21,10 +22,9 @@ look_at s c None = Done (replicate c.columns (pos 0))
 abbrev pub look : Strategy → List ℕ → Conj → Node Choice
 look s vars c = cond (are_absurd c.rows) Absurd (look_at s c (next_column s vars c.rows))
 
--- a conjunction costs its rows
 abbrev pub eliminating : Strategy → List ℕ → Method Conj Choice Maxima
 eliminating s vars = record {
-  size = λ c. length c.rows;
+  size = λ c. cost_of s vars c.rows;
   look = λ c. look s vars c;
   step = λ c h. after_choice h c;
   lift = λ c h p. cond (lift_fits h c.rows p) (Some (lifted h c.rows p)) None;

@@ -4,6 +4,7 @@ pub mod Walk
 pub mod Sweep
 pub mod Maxima
 pub mod ColumnChoice
+pub mod ConjunctionCosts
 pub mod ColumnElimination
 pub mod EliminationAnswers
 pub mod Projection

@@ -1,5 +1,5 @@
 -- One walk for a point, for a refutation and for pieces: over conjunctions, each with the choices that led to it; it keeps the greatest numbers met and the pieces so far.
-use Rattle.std.specs.Prelude.{◌≡◌, ℕ, ◌+◌, ◌-◌, ◌<◌, ◌^◌, min, cond, pos, ℤ, List, [], ◌∷◌, ◌++◌, length, replicate, Some, None, option_map, Result, Ok, Err}
+use Rattle.std.specs.Prelude.{◌≡◌, ℕ, ◌+◌, ◌-◌, ◌<◌, ◌^◌, min, cond, pos, ℤ, List, [], ◌∷◌, ◌++◌, replicate, Some, None, option_map, Result, Ok, Err}
 use Rattle.ac_forms.specs.declared.conj.Conj.{Conj}
 use Rattle.ac_omega_steps.specs.Choices.{lifted}
 use Rattle.ac_omega_steps.specs.ChoiceFits.{after_choice, lift_fits}
@@ -12,6 +12,7 @@ use Rattle.ac_omega.specs.declared.search.Aim.TheVariants.{ForPoint, ForRefutati
 use Rattle.ac_omega.specs.declared.search.Walked.{Walked}
 use Rattle.ac_omega.specs.declared.search.Walked.TheVariants as done
 use Rattle.ac_omega.specs.ColumnElimination.{look}
+use Rattle.ac_omega.specs.ConjunctionCosts.{cost_of}
 use Rattle.ac_omega.specs.Maxima.{Maxima, with_rows, with_choice}
 use Rattle.ac_omega.specs.Walk.{Method, Node, Done, Absurd, Open}
 use Rattle.ac_omega.specs.Walk as def
@@ -52,7 +53,7 @@ pieces_at aim x ps (Open hs) = ps
 
 abbrev pub visiting : Strategy → Aim → List ℕ → Method (List Choice × Conj) Choice Seen
 visiting strategy aim vars = record {
-  size = λ x. length x.1.rows;
+  size = λ x. cost_of strategy vars x.1.rows;
   look = λ x. look_for aim (look strategy vars x.1);
   step = λ x h. option_map (λ d. (x.0 ++ h ∷ [], d)) (after_choice h x.1);
   lift = λ x h p. cond (lift_fits h x.1.rows p) (Some (lifted h x.1.rows p)) None;

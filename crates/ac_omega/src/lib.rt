@@ -1,6 +1,7 @@
 //! Elimination of integer columns: the Omega test (W. Pugh, 1991) with certificates, by all splinters or by those that are needed.
 #![tactic(auto)]
 
+mod cost;
 mod cursor;
 mod decision;
 pub mod differences;

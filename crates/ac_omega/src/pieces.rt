@@ -82,7 +82,8 @@ pub fn eliminate(
 ///
 /// The economical walk tries splinters only for pairs of a lower and an upper row whose dark shadow may lose a point, and where no
 /// column has a coefficient 1 or -1 in each of its pairs it takes one with the fewest splinters. There `Overflow` exactly also
-/// where a number of a pair's shadow or of its normal form leaves `i128`.
+/// where a number of a pair's shadow or of its normal form leaves `i128`. Its cost counts also each pair of a lower and an upper
+/// row that it forms for the next column, once and before it is formed.
 pub fn eliminate_by(
     alloc: Global,
     strategy: Strategy,

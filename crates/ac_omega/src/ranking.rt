@@ -60,7 +60,7 @@ fn count_upper(z: usize, row: &Row) -> usize
 }
 
 /// How many rows bound a column from below.
-fn lower_rows(z: usize, rows: &[Row]) -> usize
+pub(crate) fn lower_rows(z: usize, rows: &[Row]) -> usize
     ensures { result ≡ length (lows z rows.now) }
 {
     let mut count = 0;
@@ -71,7 +71,7 @@ fn lower_rows(z: usize, rows: &[Row]) -> usize
 }
 
 /// How many rows bound a column from above.
-fn upper_rows(z: usize, rows: &[Row]) -> usize
+pub(crate) fn upper_rows(z: usize, rows: &[Row]) -> usize
     ensures { result ≡ length (highs z rows.now) }
 {
     let mut count = 0;
@@ -212,7 +212,7 @@ fn better(rule: Rule, rows: &[Row], best: Option<usize>, z: usize) -> Option<usi
 }
 
 /// The first column by a rule.
-fn by_rule(rule: Rule, vars: &[usize], rows: &[Row]) -> Option<usize>
+pub(crate) fn by_rule(rule: Rule, vars: &[usize], rows: &[Row]) -> Option<usize>
     requires { HaveModuli rows.now }
     ensures { result ≡ by_rule rule vars.now rows.now }
 {
@@ -274,7 +274,7 @@ fn by_row(vars: &[usize], row: &Row) -> Option<usize>
 }
 
 /// The column that the first equality with one of the columns decides.
-fn by_equality(vars: &[usize], rows: &[Row]) -> Option<usize>
+pub(crate) fn by_equality(vars: &[usize], rows: &[Row]) -> Option<usize>
     ensures { result ≡ by_equality vars.now rows.now }
 {
     for row in rows {

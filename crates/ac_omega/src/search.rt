@@ -15,6 +15,7 @@ ghost use Rattle.ac_omega.specs.Within.{Bounds, HaveRisen, IsWithin};
 ghost use Rattle.ac_omega_certify.specs.Refutations.{AreModuliWithin};
 ghost use Rattle.ac_omega_certify.specs.declared.refutation.Refutation.TheVariants.{Open};
 
+use crate::cost::charged;
 use crate::cursor::{Next, advance, first};
 use crate::extent::{Maxima, with_choice, with_rows};
 use crate::halt::Halt;
@@ -216,12 +217,11 @@ pub(crate) fn search(
     ensures within { IfOk result (λ w. IfWalkedEmpty w (λ s r. IfSome r (λ x. IsWithin s x))) }
     ensures risen { IfOk result (λ w. IfWalkedEmpty w (λ s r. HaveRisen met s)) }
 {
-    let budget = task.budget;
-    let count = conj.rows.len() as u64;
-    if count > budget - cost {
-        return Err(Halt::Spent(cost.saturating_add(count)));
-    }
-    let spent = cost + count;
+    let rows = conj.rows.as_slice();
+    let spent = match charged(task.strategy, task.vars, rows, cost, task.budget) {
+        Ok(spent) => spent,
+        Err(over) => return Err(Halt::Spent(over)),
+    };
     let all = with_rows(conj.rows.as_slice(), met);
     if are_absurd(conj.rows.as_slice()) {
         return Ok(Walked::Empty {

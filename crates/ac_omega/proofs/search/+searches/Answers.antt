@@ -1,7 +1,8 @@
-use Rattle.std.proofs.Common.{◌≡◌, ◌<◌, Some, None, false, sym, arith, rules}
+use Rattle.std.proofs.Common.{◌≡◌, ◌+◌, ◌<◌, ◌≤◌, Some, None, false, sym, arith, rules}
 use Rattle.ac_forms.proofs.Passes.{moduli_of}
 use Rattle.ac_omega_steps.specs.Choices.{are_absurd}
 use Rattle.ac_omega.specs.ColumnChoice.{next_column}
+use Rattle.ac_omega.specs.ConjunctionCosts.{cost_of}
 use Rattle.ac_omega.specs.Maxima.{with_rows}
 use Rattle.ac_omega.specs.Within.{Bounds, HaveRisen, IsWithin}
 use Rattle.ac_omega.specs.WalkAnswers.{IsRefuted, with_choice_behind, with_refutation}
@@ -11,7 +12,7 @@ use Rattle.ac_omega_certify.specs.declared.refutation.Refutation.TheVariants.{Ab
 use Rattle.ac_omega.proofs.Bounding.{rows-met, rows-risen, rows-on, no-less, risen-on, all-on, moduli-on}
 use Rattle.ac_omega.proofs.Legal.{tried-legal}
 use Rattle.ac_omega.proofs.Present.{next-within}
-use Rattle.ac_omega.proofs.Rows.{column-rows}
+use Rattle.ac_omega.proofs.Rows.{column-cost}
 use Rattle.ac_omega.proofs.Refuting.{absurd-refutes, absurd-within, first-tried, next-tried, last-tried, open-refutes, open-within, risen-behind, refuted-more, within-more, moduli-kept, if-wanted, leaf-risen}
 use Rattle.ac_omega.proofs.Searches.{over-budget, absurd-gone, leaf-found, visits-as, by-column}
 use Rattle.ac_omega.proofs.search.+searches.Goals as goal
@@ -19,31 +20,41 @@ use Rattle.ac_omega.proofs.search.+searches.Goals as goal
 pub by_column-first-cursor-requires : goal.by_column-first-cursor-requires
 by_column-first-cursor-requires t c = rw c.as_slice-rows.ensures (moduli_of c.args.conj.columns c.args.conj.rows c.requires.made)
 
-pub search-returns-then-count-budget-clause-exact : goal.search-returns-then-count-budget-clause-exact
-search-returns-then-count-budget-clause-exact t c = λ n l.
-    over-budget c.args.task.now.strategy c.args.task.now.aim c.args.task.now.vars.now n c.args.task.now.budget c.args.progress.now.path c.args.conj c.args.cost c.saturating_add.result _ c.args.progress.now.pieces c.requires.cost (omega (arith, c.len-count.ensures)) l (rw c.len-count.ensures at c.saturating_add.ensures)
+pub search-charged-requires : goal.search-charged-requires
+search-charged-requires t c = rw c.as_slice-rows.ensures (moduli_of c.args.conj.columns c.args.conj.rows c.requires.made)
+
+pub search-returns-in-Err-clause-exact : goal.search-returns-in-Err-clause-exact
+search-returns-in-Err-clause-exact t c = λ n l.
+    let over = rw c.as_slice-rows.ensures at c.in-Err.ensures in
+    over-budget c.args.task.now.strategy c.args.task.now.aim c.args.task.now.vars.now n c.args.task.now.budget c.args.progress.now.path c.args.conj c.args.cost c.in-Err.over _ c.args.progress.now.pieces c.requires.cost over.0 l over.1
 
 pub search-next_column-requires : goal.search-next_column-requires
 search-next_column-requires t c = rw c.as_slice-3.ensures (moduli_of c.args.conj.columns c.args.conj.rows c.requires.made)
 
 pub search-returns-then-are_absurd-clause-exact : goal.search-returns-then-are_absurd-clause-exact
 search-returns-then-are_absurd-clause-exact t c = λ n l.
-    rw (c.len-count.ensures, c.with_rows-all.ensures, c.as_slice.ensures) (absurd-gone c.args.task.now.strategy c.args.task.now.aim c.args.task.now.vars.now n c.args.task.now.budget c.args.progress.now.path c.args.conj c.args.cost _ (omega (arith, c.len-count.ensures)) l (sym (rw c.as_slice-2.ensures at c.if-are_absurd.ensures)))
+    let paid : c.in-Ok.spent ≡ c.args.cost + cost_of c.args.task.now.strategy c.args.task.now.vars.now c.args.conj.rows = (rw c.as_slice-rows.ensures at c.in-Ok.ensures).0 in
+    let within : c.args.cost + cost_of c.args.task.now.strategy c.args.task.now.vars.now c.args.conj.rows ≤ c.args.task.now.budget = (rw c.as_slice-rows.ensures at c.in-Ok.ensures).1 in
+    rw (paid, c.with_rows-all.ensures, c.as_slice.ensures) (absurd-gone c.args.task.now.strategy c.args.task.now.aim c.args.task.now.vars.now n c.args.task.now.budget c.args.progress.now.path c.args.conj c.args.cost _ within l (sym (rw c.as_slice-2.ensures at c.if-are_absurd.ensures)))
 
 pub search-by_column-requires : goal.search-by_column-requires
 search-by_column-requires t c =
+    let paid : c.in-Ok.spent ≡ c.args.cost + cost_of c.args.task.now.strategy c.args.task.now.vars.now c.args.conj.rows = (rw c.as_slice-rows.ensures at c.in-Ok.ensures).0 in
+    let below : c.args.cost + cost_of c.args.task.now.strategy c.args.task.now.vars.now c.args.conj.rows ≤ c.args.task.now.budget = (rw c.as_slice-rows.ensures at c.in-Ok.ensures).1 in
     let a : are_absurd c.args.conj.rows ≡ false = sym (rw c.as_slice-2.ensures at c.if-are_absurd.ensures) in
     let o : next_column c.args.task.now.strategy c.args.task.now.vars.now c.args.conj.rows ≡ Some c.in-Ok-Some.z = sym (rw (c.as_slice-3.ensures, c.in-Ok-Some.field-0-is) at c.in-Ok-Some.ensures) in
-    let r = column-rows c.args.task.now.strategy c.args.task.now.vars.now c.args.conj.rows c.in-Ok-Some.z o in
+    let r = column-cost c.args.task.now.strategy c.args.task.now.vars.now c.args.conj.rows c.in-Ok-Some.z o in
     let within : c.in-Ok-Some.z < c.args.conj.columns = next-within c.args.task.now.strategy c.args.task.now.vars.now c.args.conj c.in-Ok-Some.z c.requires.made o in
     let bound : Bounds c.with_rows-all.result c.args.conj.rows = rw (c.with_rows-all.ensures, c.as_slice.ensures) (rows-met c.args.conj.rows c.args.met) in
-    (omega (arith, c.len-count.ensures), (omega (arith, c.len-count.ensures), (c.requires.made, (c.requires.settle, (a, (within, (bound, λ h i. tried-legal c.args.task.now.strategy c.in-Ok-Some.z c.args.conj h c.requires.made within a i)))))))
+    (omega (arith, paid, below, r), (omega (arith, paid, below), (c.requires.made, (c.requires.settle, (a, (within, (bound, λ h i. tried-legal c.args.task.now.strategy c.in-Ok-Some.z c.args.conj h c.requires.made within a i)))))))
 
 pub search-returns-in-Ok-Some-clause-exact : goal.search-returns-in-Ok-Some-clause-exact
 search-returns-in-Ok-Some-clause-exact t c = λ n l.
+    let paid : c.in-Ok.spent ≡ c.args.cost + cost_of c.args.task.now.strategy c.args.task.now.vars.now c.args.conj.rows = (rw c.as_slice-rows.ensures at c.in-Ok.ensures).0 in
+    let within : c.args.cost + cost_of c.args.task.now.strategy c.args.task.now.vars.now c.args.conj.rows ≤ c.args.task.now.budget = (rw c.as_slice-rows.ensures at c.in-Ok.ensures).1 in
     let a : are_absurd c.args.conj.rows ≡ false = sym (rw c.as_slice-2.ensures at c.if-are_absurd.ensures) in
     let o : next_column c.args.task.now.strategy c.args.task.now.vars.now c.args.conj.rows ≡ Some c.in-Ok-Some.z = sym (rw (c.as_slice-3.ensures, c.in-Ok-Some.field-0-is) at c.in-Ok-Some.ensures) in
-    by-column c.args.task.now.strategy c.args.task.now.aim c.args.task.now.vars.now n c.args.task.now.budget c.args.progress.now.path c.args.conj c.args.cost _ c.in-Ok-Some.z c.by_column.result c.by_column.new.progress.pieces (omega (arith, c.len-count.ensures)) l a o (rw (c.len-count.ensures, c.with_rows-all.ensures, c.as_slice.ensures) at c.by_column.ensures.exact)
+    by-column c.args.task.now.strategy c.args.task.now.aim c.args.task.now.vars.now n c.args.task.now.budget c.args.progress.now.path c.args.conj c.args.cost _ c.in-Ok-Some.z c.by_column.result c.by_column.new.progress.pieces within l a o (rw (paid, c.with_rows-all.ensures, c.as_slice.ensures) at c.by_column.ensures.exact)
 
 pub search-returns-in-Ok-Some-clause-risen : goal.search-returns-in-Ok-Some-clause-risen
 search-returns-in-Ok-Some-clause-risen t c =
@@ -52,10 +63,12 @@ search-returns-in-Ok-Some-clause-risen t c =
 
 pub search-returns-in-Ok-None-clause-exact : goal.search-returns-in-Ok-None-clause-exact
 search-returns-in-Ok-None-clause-exact t c = λ n l.
+    let paid : c.in-Ok.spent ≡ c.args.cost + cost_of c.args.task.now.strategy c.args.task.now.vars.now c.args.conj.rows = (rw c.as_slice-rows.ensures at c.in-Ok.ensures).0 in
+    let within : c.args.cost + cost_of c.args.task.now.strategy c.args.task.now.vars.now c.args.conj.rows ≤ c.args.task.now.budget = (rw c.as_slice-rows.ensures at c.in-Ok.ensures).1 in
     let a : are_absurd c.args.conj.rows ≡ false = sym (rw c.as_slice-2.ensures at c.if-are_absurd.ensures) in
     let o : next_column c.args.task.now.strategy c.args.task.now.vars.now c.args.conj.rows ≡ None = sym (rw (c.as_slice-3.ensures, c.in-Ok-None.field-0-is) at c.in-Ok-None.ensures) in
-    let w = leaf-found c.args.task.now.strategy c.args.task.now.aim c.args.task.now.vars.now n c.args.task.now.budget c.args.progress.now.path c.args.conj c.args.cost (seen c.args.met c.args.progress.now.pieces) (omega (arith, c.len-count.ensures)) l a o in
-    visits-as c.at_leaf.result c.at_leaf.new.progress.pieces _ _ w (rw (c.len-count.ensures, c.with_rows-all.ensures, c.as_slice.ensures) at c.at_leaf.ensures.exact)
+    let w = leaf-found c.args.task.now.strategy c.args.task.now.aim c.args.task.now.vars.now n c.args.task.now.budget c.args.progress.now.path c.args.conj c.args.cost (seen c.args.met c.args.progress.now.pieces) within l a o in
+    visits-as c.at_leaf.result c.at_leaf.new.progress.pieces _ _ w (rw (paid, c.with_rows-all.ensures, c.as_slice.ensures) at c.at_leaf.ensures.exact)
 
 pub search-returns-in-Ok-None-clause-risen : goal.search-returns-in-Ok-None-clause-risen
 search-returns-in-Ok-None-clause-risen t c =
