@@ -110,11 +110,11 @@ pub ruleset loop_steps = (reach_start, part_fed, parts_fed)
 pub ruleset then_steps = (feeds_then, feeds_none)
 
 -- the items of the parts of a proof, one list for each kind
-steps_flat : (ss : List Step) (rest : List Item) → step_items ss rest ≡ flat_map of_step ss ++ rest
+pub steps_flat : (ss : List Step) (rest : List Item) → step_items ss rest ≡ flat_map of_step ss ++ rest
 steps_flat [] rest = refl
 steps_flat (s ∷ ss) rest = ap (λ z. item.Step s ∷ z) (steps_flat ss rest)
 
-choices_flat : (xs : List Choice) (rest : List Item) → choice_items xs rest ≡ flat_map of_choice xs ++ rest
+pub choices_flat : (xs : List Choice) (rest : List Item) → choice_items xs rest ≡ flat_map of_choice xs ++ rest
 choices_flat [] rest = refl
 choices_flat (x ∷ xs) rest = ap (λ z. item.Choice x ∷ z) (choices_flat xs rest)
 
@@ -155,12 +155,12 @@ proof_flat p =
     ∙ ap (λ z. z ++ trees) (sym (append_assoc heads (item.Claims (length p.claims) ∷ claims) outputs)))
 
 -- steps and what stands behind them, in front of others
-behind : (ss : List Step) (x : PlanNext) → ((rest : List Item) → next_items x rest ≡ next_items x [] ++ rest) → (rest : List Item) → step_items ss (next_items x rest) ≡ step_items ss (next_items x []) ++ rest
+pub behind : (ss : List Step) (x : PlanNext) → ((rest : List Item) → next_items x rest ≡ next_items x [] ++ rest) → (rest : List Item) → step_items ss (next_items x rest) ≡ step_items ss (next_items x []) ++ rest
 behind [] x h rest = h rest
 behind (s ∷ ss) x h rest = ap (λ z. item.Step s ∷ z) (behind ss x h rest)
 
 mutual
-  next_before : (x : PlanNext) (rest : List Item) → next_items x rest ≡ next_items x [] ++ rest
+  pub next_before : (x : PlanNext) (rest : List Item) → next_items x rest ≡ next_items x [] ++ rest
   next_before (Split' f p s l q t r) rest =
       let last = step_items t (next_items r []) in
       ap (λ z. item.Split f ∷ z) (
@@ -184,9 +184,6 @@ mutual
       ∙ behind s t (next_before t) (row_items more [] ++ rest)
       ∙ sym (append_assoc (step_items s (next_items t [])) (row_items more []) rest)
       ∙ ap (λ z. z ++ rest) (sym (behind s t (next_before t) (row_items more [])))
-
-pub plan_flat : (t : Plan) → items_of t ≡ flat_map of_step t.steps ++ next_items t.next []
-plan_flat t = steps_flat t.steps (next_items t.next [])
 
 row_flat : {w : _} (all : Row_of-Plan w) → row_items all [] ≡ flat_map items_of (items-the_row-Plan w all)
 row_flat end_of-Plan = refl
@@ -214,19 +211,6 @@ at_kill x kill is =
 
 pub feeds_as : (xs ys : List Item) (old new : Stepper) → ys ≡ xs → Feeds xs old new → Feeds ys old new
 feeds_as xs ys old new e f = subst (λ (z : List Item). Feeds z old new) (sym e) f
-
-pub split_fed : (x : PlanNext) (f : Affine) (left right : Box Plan Global) (y : Item) (a b : Plan) (old m n new : Stepper) → x ≡ Split f left right → y ≡ item.Split f → a ≡ left.value → b ≡ right.value → Feeds (y ∷ []) old m → Feeds (items_of a) m n → Feeds (items_of b) n new → Feeds (next_items x []) old new
-split_fed x f left right y a b old m n new is e ea eb f1 f2 f3 =
-    feeds_as (((y ∷ []) ++ items_of a) ++ items_of b) (next_items x []) old new (at_split x f left right is ∙ sym (λ i. ((e i ∷ []) ++ items_of (ea i)) ++ items_of (eb i)))
-    (feeds_then old n new ((y ∷ []) ++ items_of a) (items_of b) (feeds_then old m n (y ∷ []) (items_of a) f1 f2) f3)
-
-pub plans_fed : (x : PlanNext) (y z : Item) (kids ps : List Plan) (old mid new : Stepper) → next_items x [] ≡ (y ∷ []) ++ flat_map items_of kids → z ≡ y → ps ≡ kids → Feeds (z ∷ []) old mid → Feeds (flat_map items_of ps) mid new → Feeds (next_items x []) old new
-plans_fed x y z kids ps old mid new is e ek f1 f2 =
-    feeds_as ((z ∷ []) ++ flat_map items_of ps) (next_items x []) old new (is ∙ sym (λ i. (e i ∷ []) ++ flat_map items_of (ek i))) (feeds_then old mid new (z ∷ []) (flat_map items_of ps) f1 f2)
-
-pub plan_fed : (t : Plan) (ss : List Step) (old mid new : Stepper) → ss ≡ t.steps → Feeds (flat_map of_step ss) old mid → Feeds (next_items t.next []) mid new → Feeds (items_of t) old new
-plan_fed t ss old mid new e f1 f2 =
-    feeds_as (flat_map of_step ss ++ next_items t.next []) (items_of t) old new (plan_flat t ∙ sym (ap (λ z. flat_map of_step z ++ next_items t.next []) e)) (feeds_then old mid new (flat_map of_step ss) (next_items t.next []) f1 f2)
 
 pub proof_fed : (p : Proof) (cs : List Claim) (os : List (ℕ × ℕ)) (ts : List ClaimTree) (old a b c new : Stepper) → cs ≡ p.claims → os ≡ p.outputs → ts ≡ p.trees.items → Feeds (item.Point p.point ∷ of_heads p.heads) old a → Feeds (item.Claims (length cs) ∷ flat_map of_claim cs) a b
     → Feeds (flat_map of_output os) b c → Feeds (flat_map of_tree ts ++ item.End ∷ []) c new → Feeds (lines_of p) old new

@@ -26,3 +26,5 @@ pub mod Entering
 pub mod BranchSteps
 pub mod FeedSteps
 pub mod AtPoints
+pub mod NodeSteps
+pub mod PlanDrops

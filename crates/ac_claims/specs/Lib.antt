@@ -16,3 +16,4 @@ pub mod CheckState
 pub mod StackEntries
 pub mod CheckFeed
 pub mod ProofPoint
+pub mod PlanNodes

@@ -7,7 +7,7 @@ ghost use Rattle.ac_claims.specs.CheckKnowledge.{IsLine};
 ghost use Rattle.ac_claims.specs.Dues.{RowsHaveModuli};
 ghost use Rattle.ac_claims.specs.CheckFeed.{Feeds, of_step, of_choice, of_row, of_claim, of_output, of_tree, of_heads, IsFirstFault};
 ghost use Rattle.ac_claims.specs.CheckState.{IsSteady};
-ghost use Rattle.ac_claims.specs.Machine.{next_items};
+ghost use Rattle.ac_claims.specs.PlanNodes.{own_items, node_items};
 ghost use Rattle.ac_claims.specs.ProofFaults.{proof_fault, IsValidProof};
 ghost use Rattle.ac_claims.specs.ProofMachine.{items_of, lines_of, AreSpelledTrees};
 ghost use Rattle.ac_claims.specs.Soundness.{ArePaired, AreModels, ClaimsHaveModuli, pairing_of};
@@ -17,6 +17,7 @@ use crate::copies::{
     left_item, point_item, residue_item, right_item, row_item, split_item, step_item,
 };
 use crate::item::Item;
+use crate::nodes::nodes;
 use crate::stepper::Stepper;
 use crate::types::{Claim, ClaimTree, Heads, Kill, Plan, PlanNext, Proof, ProofFault};
 use ac_cert::types::Step;
@@ -135,33 +136,18 @@ fn feed_kill(stepper: &mut Stepper, kill: &Kill) -> Result<(), AllocError>
     feed_choices(stepper, kill.choices.as_slice())
 }
 
-/// Feeds a plan.
-#[cycle(feeding)]
-fn feed_plan(alloc: Global, stepper: &mut Stepper, plan: &Plan) -> Result<(), AllocError>
-    requires { IsSteady stepper.old }
-    ensures { OnOk result (Feeds (items_of plan.now) stepper.old stepper.new) }
-{
-    feed_steps(alloc, stepper, plan.steps.as_slice())?;
-    feed_next(alloc, stepper, &plan.next)?;
-    Ok(())
-}
-
-/// Feeds what comes behind steps.
-#[cycle(feeding)]
+/// Feeds a branch without its plans, or an end.
 fn feed_next(alloc: Global, stepper: &mut Stepper, next: &PlanNext) -> Result<(), AllocError>
     requires { IsSteady stepper.old }
-    ensures { OnOk result (Feeds (next_items next.now []) stepper.old stepper.new) }
+    ensures { OnOk result (Feeds (own_items next.now) stepper.old stepper.new) }
 {
     match next {
-        PlanNext::Split(form, left, right) => {
+        PlanNext::Split(form, ..) => {
             feed(stepper, split_item(alloc, form)?)?;
-            feed_plan(alloc, stepper, left)?;
-            feed_plan(alloc, stepper, right)?;
             Ok(())
         }
-        PlanNext::Residue(modulus, form, children) => {
+        PlanNext::Residue(modulus, form, _) => {
             feed(stepper, residue_item(alloc, modulus, form)?)?;
-            feed_plans(alloc, stepper, children)?;
             Ok(())
         }
         PlanNext::Go { order, cases } => {
@@ -170,7 +156,6 @@ fn feed_next(alloc: Global, stepper: &mut Stepper, next: &PlanNext) -> Result<()
                 cases: cases.len(),
             };
             feed(stepper, item)?;
-            feed_plans(alloc, stepper, cases)?;
             Ok(())
         }
         PlanNext::Absurd(row) => feed(stepper, Item::Absurd(*row)),
@@ -184,15 +169,35 @@ fn feed_next(alloc: Global, stepper: &mut Stepper, next: &PlanNext) -> Result<()
     }
 }
 
-/// Feeds plans.
-#[cycle(feeding)]
-fn feed_plans(alloc: Global, stepper: &mut Stepper, plans: &[Plan]) -> Result<(), AllocError>
+/// Feeds a node of a plan.
+#[tactic(auto, using(crate::proofs::FeedSteps::then_steps))]
+fn feed_node(alloc: Global, stepper: &mut Stepper, node: &Plan) -> Result<(), AllocError>
     requires { IsSteady stepper.old }
-    ensures { OnOk result (Feeds (flat_map items_of plans.now) stepper.old stepper.new) }
+    ensures { OnOk result (Feeds (node_items node.now) stepper.old stepper.new) }
 {
-    for plan in plans {
-        feed_plan(alloc, stepper, plan)?;
+    feed_steps(alloc, stepper, node.steps.as_slice())?;
+    feed_next(alloc, stepper, &node.next)
+}
+
+/// Feeds nodes.
+#[tactic(auto, using(crate::proofs::FeedSteps::loop_steps))]
+fn feed_nodes(alloc: Global, stepper: &mut Stepper, nodes: &[&Plan]) -> Result<(), AllocError>
+    requires { IsSteady stepper.old }
+    ensures { OnOk result (Feeds (flat_map (λ node. node_items node.now) nodes.now) stepper.old stepper.new) }
+{
+    for node in nodes {
+        feed_node(alloc, stepper, *node)?;
     }
+    Ok(())
+}
+
+/// Feeds a plan.
+fn feed_plan(alloc: Global, stepper: &mut Stepper, plan: &Plan) -> Result<(), AllocError>
+    requires { IsSteady stepper.old }
+    ensures { OnOk result (Feeds (items_of plan.now) stepper.old stepper.new) }
+{
+    let all = nodes(alloc, plan)?;
+    feed_nodes(alloc, stepper, all.as_slice())?;
     Ok(())
 }
 
@@ -292,8 +297,7 @@ fn feed_proof(alloc: Global, stepper: &mut Stepper, proof: &Proof) -> Result<(),
 /// Each output that is answered is the same in both programs: for each valuation of the parameters that meets the context, at
 /// each element, for all contents of the arrays that agree on the inputs, and whatever the symbols stand for, as long as
 /// the commutative ones commute. The models are those of the pair's programs under its context, and the proof is spelled:
-/// a residue branch has as many children as its number says, and the modulus of a claim's row is at least 1. It recurses as
-/// deep as the plans have branches on a path: the depth is the caller's to bound.
+/// a residue branch has as many children as its number says, and the modulus of a claim's row is at least 1.
 pub fn check_proof(
     alloc: Global,
     pair: &Pair,

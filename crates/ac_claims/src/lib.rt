@@ -14,6 +14,7 @@ pub mod item;
 mod kills;
 pub mod laws;
 mod lines;
+pub mod nodes;
 mod outputs;
 mod parts;
 pub mod stack;

@@ -1,3 +1,6 @@
+ghost use Rattle.std.specs.Prelude.{◌<◌, ◌+◌, ◌*◌, IfSome};
+ghost use Rattle.ac_claims.specs.PlanNodes.{left_over, node_count, waiting, waiting_of};
+
 use ac_base::Items;
 use ac_cert::Rule;
 use ac_cert::types::Step;
@@ -5,6 +8,7 @@ use ac_forms::{Form, Row};
 use ac_omega_steps::Choice;
 use ac_syntax::tree::{Order, Position};
 use std::alloc::AllocError;
+use std::mem;
 
 /// A statement that two positions have equal values wherever some rows hold, over the parameters, the coordinates of the
 /// left position and those of the right one.
@@ -44,7 +48,6 @@ pub struct Plan {
 }
 
 /// A branch or an end of a plan.
-#[derive(Drop)]
 #[cycle(plan)]
 pub enum PlanNext {
     /// The form is at least 0 in the first child, and at most -1 in the second.
@@ -63,6 +66,98 @@ pub enum PlanNext {
     SameNumber,
     /// One initial cell of an input.
     SameInitial,
+}
+
+/// Goes behind the first of these plans: gives what comes behind it, and the others in front of the rest. Without a plan, takes
+/// the next one from the rest.
+fn enter(plans: Vec<Plan>, rest: PlanNext) -> Option<(PlanNext, PlanNext)>
+    ensures { IfSome result (λ next. left_over next.0 next.1 < 2 * (1 + node_count plans.items) + waiting rest) }
+{
+    let mut cases = plans;
+    if cases.is_empty() {
+        cases.destroy_empty();
+        return rest.take_next();
+    }
+    let next = mem::replace(&mut cases[0].next, rest);
+    let order = Order::Keep;
+    Some((next, PlanNext::Go { order, cases }))
+}
+
+/// Takes the last of the plans that wait in front of a rest, which stands in the place of the first.
+fn take_last(plans: Vec<Plan>) -> Option<(PlanNext, PlanNext)>
+    ensures { IfSome result (λ next. left_over next.0 next.1 < 2 + waiting_of plans.items) }
+{
+    let mut cases = plans;
+    let Some(plan) = cases.pop() else {
+        cases.destroy_empty();
+        return None;
+    };
+    let Plan { steps, next } = plan;
+    drop(steps);
+    if cases.is_empty() {
+        cases.destroy_empty();
+        return Some((PlanNext::SameNumber, next));
+    }
+    let order = Order::Keep;
+    Some((next, PlanNext::Go { order, cases }))
+}
+
+impl PlanNext {
+    /// Takes the next plan from a rest: gives what comes behind it, and the rest without it.
+    fn take_next(self) -> Option<(PlanNext, PlanNext)>
+        ensures { IfSome result (λ next. left_over next.0 next.1 < 2 + waiting self) }
+    {
+        match self {
+            PlanNext::Split(_, first, second) => {
+                let Plan { steps, next } = Box::into_inner(first);
+                drop(steps);
+                let Plan { steps, next: rest } = Box::into_inner(second);
+                drop(steps);
+                Some((next, rest))
+            }
+            PlanNext::Residue(_, _, children) => take_last(children),
+            PlanNext::Go { order: _, cases } => take_last(cases),
+            PlanNext::Absurd(_)
+            | PlanNext::Killed(_)
+            | PlanNext::Hit(_)
+            | PlanNext::SameNumber
+            | PlanNext::SameInitial => None,
+        }
+    }
+
+    /// Leaves a branch for one of its plans: gives what comes behind that, and the others in front of the rest, which stands in its
+    /// place. Lets go of an end, and takes the next plan from the rest.
+    fn leave(self, rest: PlanNext) -> Option<(PlanNext, PlanNext)>
+        ensures { IfSome result (λ next. left_over next.0 next.1 < left_over self rest) }
+    {
+        match self {
+            PlanNext::Split(form, first, second) => {
+                let mut second = second;
+                let next = mem::replace(&mut second.next, rest);
+                Some((next, PlanNext::Split(form, first, second)))
+            }
+            PlanNext::Residue(_, _, children) => enter(children, rest),
+            PlanNext::Go { order: _, cases } => enter(cases, rest),
+            PlanNext::Absurd(_)
+            | PlanNext::Killed(_)
+            | PlanNext::Hit(_)
+            | PlanNext::SameNumber
+            | PlanNext::SameInitial => rest.take_next(),
+        }
+    }
+}
+
+/// A plan may be too deep for a recursion, and there may be no memory for a list of what is left. So the plans that wait stay in
+/// their branches, where the rest stands in the place of the plan that is gone into.
+impl Drop for PlanNext {
+    fn drop(self) {
+        let mut at = self;
+        let mut rest = PlanNext::SameNumber;
+        while let Some((next, left)) = at.leave(rest) {
+            at = next;
+            rest = left;
+        }
+    }
 }
 
 /// A plan for a claim and a piece of each of its positions.

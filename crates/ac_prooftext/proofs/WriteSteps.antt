@@ -1,23 +1,18 @@
 -- A text to which the lines of a proof are added.
 use Rattle.std.proofs.Common.{◌≡◌, ℕ, ◌+◌, ◌<◌, ◌≤◌, List, [], ◌∷◌, ◌++◌, drop, length, get_or, refl, sym, ap, ◌∙◌, append_assoc, append-nil}
-use Rattle.std.specs.Prelude.{Box, Vec, is_some}
+use Rattle.std.specs.Prelude.{Vec, is_some}
 use Rattle.std.specs.List.{flat_map}
 use Rattle.std.specs.declared.alloc.Global.{Global}
 use Rattle.std.proofs.lemmas.List.{drop_all}
-use Rattle.ac_forms.specs.Affine.{Affine}
-use Rattle.ac_cert.specs.declared.types.Step.{Step}
 use Rattle.ac_omega_steps.proofs.Parts.{drop-at}
-use Rattle.ac_claims.specs.CheckFeed.{of_step, of_claim, of_output, of_tree, of_heads}
-use Rattle.ac_claims.specs.Machine.{next_items}
-use Rattle.ac_claims.specs.ProofMachine.{items_of, lines_of}
+use Rattle.ac_claims.specs.CheckFeed.{of_claim, of_output, of_tree, of_heads}
+use Rattle.ac_claims.specs.ProofMachine.{lines_of}
 use Rattle.ac_claims.specs.declared.item.Item.{Item}
 use Rattle.ac_claims.specs.declared.item.Item.TheVariants as item
 use Rattle.ac_claims.specs.declared.types.Claim.{Claim}
 use Rattle.ac_claims.specs.declared.types.ClaimTree.{ClaimTree}
-use Rattle.ac_claims.specs.declared.types.Plan.{Plan}
-use Rattle.ac_claims.specs.declared.types.PlanNext.{PlanNext, Split}
 use Rattle.ac_claims.specs.declared.types.Proof.{Proof}
-use Rattle.ac_claims.proofs.FeedSteps.{at_split, proof_flat, plan_flat}
+use Rattle.ac_claims.proofs.FeedSteps.{proof_flat}
 use Rattle.ac_prooftext_lines.specs.Spelling.{spelled}
 use Rattle.ac_prooftext.specs.ProofTexts.{ended, format_line, items_text, proof_text}
 use Rattle.ac_prooftext.specs.Writing.{Adds}
@@ -63,19 +58,6 @@ pub ruleset loop_steps = (lead_start, part_added, parts_added)
 
 pub adds_as : (xs ys : List Item) (old new : Vec ℕ Global) → ys ≡ xs → Adds xs old new → Adds ys old new
 adds_as xs ys old new e f = f ∙ ap (λ z. old.items ++ items_text z) (sym e)
-
-pub split_added : (x : PlanNext) (f : Affine) (left right : Box Plan Global) (a b : Plan) (old m n new : Vec ℕ Global) → x ≡ Split f left right → a ≡ left.value → b ≡ right.value → Adds (item.Split f ∷ []) old m → Adds (items_of a) m n → Adds (items_of b) n new → Adds (next_items x []) old new
-split_added x f left right a b old m n new is ea eb f1 f2 f3 =
-    adds_as (((item.Split f ∷ []) ++ items_of a) ++ items_of b) (next_items x []) old new (at_split x f left right is ∙ sym (λ i. ((item.Split f ∷ []) ++ items_of (ea i)) ++ items_of (eb i)))
-    (adds_then old n new ((item.Split f ∷ []) ++ items_of a) (items_of b) (adds_then old m n (item.Split f ∷ []) (items_of a) f1 f2) f3)
-
-pub plans_added : (x : PlanNext) (y z : Item) (kids ps : List Plan) (old mid new : Vec ℕ Global) → next_items x [] ≡ (y ∷ []) ++ flat_map items_of kids → z ≡ y → ps ≡ kids → Adds (z ∷ []) old mid → Adds (flat_map items_of ps) mid new → Adds (next_items x []) old new
-plans_added x y z kids ps old mid new is e ek f1 f2 =
-    adds_as ((z ∷ []) ++ flat_map items_of ps) (next_items x []) old new (is ∙ sym (λ i. (e i ∷ []) ++ flat_map items_of (ek i))) (adds_then old mid new (z ∷ []) (flat_map items_of ps) f1 f2)
-
-pub plan_added : (t : Plan) (ss : List Step) (old mid new : Vec ℕ Global) → ss ≡ t.steps → Adds (flat_map of_step ss) old mid → Adds (next_items t.next []) mid new → Adds (items_of t) old new
-plan_added t ss old mid new e f1 f2 =
-    adds_as (flat_map of_step ss ++ next_items t.next []) (items_of t) old new (plan_flat t ∙ sym (ap (λ z. flat_map of_step z ++ next_items t.next []) e)) (adds_then old mid new (flat_map of_step ss) (next_items t.next []) f1 f2)
 
 pub proof_added : (p : Proof) (cs : List Claim) (os : List (ℕ × ℕ)) (ts : List ClaimTree) (old a b c new : Vec ℕ Global) → cs ≡ p.claims → os ≡ p.outputs → ts ≡ p.trees.items → Adds (item.Point p.point ∷ of_heads p.heads) old a → Adds (item.Claims (length cs) ∷ flat_map of_claim cs) a b
     → Adds (flat_map of_output os) b c → Adds (flat_map of_tree ts ++ item.End ∷ []) c new → Adds (lines_of p) old new

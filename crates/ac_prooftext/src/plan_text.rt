@@ -2,18 +2,19 @@
 ghost use Rattle.std.specs.Prelude.{◌≡◌, ◌∷◌, [], length, OnOk};
 ghost use Rattle.std.specs.List.{flat_map};
 ghost use Rattle.ac_claims.specs.CheckFeed.{of_step, of_choice};
-ghost use Rattle.ac_claims.specs.Machine.{next_items};
+ghost use Rattle.ac_claims.specs.PlanNodes.{own_items, node_items};
 ghost use Rattle.ac_claims.specs.ProofMachine.{items_of};
 ghost use Rattle.ac_claims.specs.declared.item.Item.TheVariants as item;
 ghost use Rattle.ac_prooftext.specs.Writing.{Adds};
 
 use ac_cert::types::Step;
 use ac_claims::item::Item;
+use ac_claims::nodes::nodes;
 use ac_claims::types::{Kill, Plan, PlanNext};
 use ac_forms::Form;
 use ac_omega_steps::Choice;
 use ac_prooftext_lines::{push_choice, push_item, push_residue, push_split, push_step};
-use std::alloc::AllocError;
+use std::alloc::{AllocError, Global};
 
 /// Adds the line of an item.
 #[tactic(auto, using(crate::proofs::WriteSteps::line_steps))]
@@ -99,60 +100,52 @@ fn write_residue(text: &mut Vec<u8>, modulus: &i128, form: &Form) -> Result<(), 
     Ok(())
 }
 
-/// Adds the lines of a plan.
-#[cycle(writing)]
-pub fn write_plan(text: &mut Vec<u8>, plan: &Plan) -> Result<(), AllocError>
-    ensures { OnOk result (Adds (items_of plan.now) text.old text.new) }
-{
-    write_steps(text, plan.steps.as_slice())?;
-    write_next(text, &plan.next)?;
-    Ok(())
-}
-
-/// Adds the lines of what comes behind steps.
-#[cycle(writing)]
+/// Adds the line of a branch, without those of its plans, or the lines of an end.
 fn write_next(text: &mut Vec<u8>, next: &PlanNext) -> Result<(), AllocError>
-    ensures { OnOk result (Adds (next_items next.now []) text.old text.new) }
+    ensures { OnOk result (Adds (own_items next.now) text.old text.new) }
 {
     match next {
-        PlanNext::Split(form, left, right) => {
-            write_split(text, form)?;
-            write_plan(text, left)?;
-            write_plan(text, right)?;
-            Ok(())
-        }
-        PlanNext::Residue(modulus, form, children) => {
-            write_residue(text, modulus, form)?;
-            write_plans(text, children)?;
-            Ok(())
-        }
+        PlanNext::Split(form, ..) => write_split(text, form),
+        PlanNext::Residue(modulus, form, _) => write_residue(text, modulus, form),
         PlanNext::Go { order, cases } => {
             let item = Item::Go {
                 order: *order,
                 cases: cases.len(),
             };
-            write_line(text, &item)?;
-            write_plans(text, cases)?;
-            Ok(())
+            write_line(text, &item)
         }
         PlanNext::Absurd(row) => write_line(text, &Item::Absurd(*row)),
-        PlanNext::Killed(kill) => {
-            write_kill(text, kill)?;
-            Ok(())
-        }
+        PlanNext::Killed(kill) => write_kill(text, kill),
         PlanNext::Hit(claim) => write_line(text, &Item::Hit(*claim)),
         PlanNext::SameNumber => write_line(text, &Item::Number),
         PlanNext::SameInitial => write_line(text, &Item::Initial),
     }
 }
 
-/// Adds the lines of plans.
-#[cycle(writing)]
-fn write_plans(text: &mut Vec<u8>, plans: &[Plan]) -> Result<(), AllocError>
-    ensures { OnOk result (Adds (flat_map items_of plans.now) text.old text.new) }
+/// Adds the lines of a node of a plan, without those of the plans behind it.
+#[tactic(auto, using(crate::proofs::WriteSteps::then_steps))]
+fn write_node(text: &mut Vec<u8>, node: &Plan) -> Result<(), AllocError>
+    ensures { OnOk result (Adds (node_items node.now) text.old text.new) }
 {
-    for plan in plans {
-        write_plan(text, plan)?;
+    write_steps(text, node.steps.as_slice())?;
+    write_next(text, &node.next)
+}
+
+#[tactic(auto, using(crate::proofs::WriteSteps::loop_steps))]
+fn write_nodes(text: &mut Vec<u8>, nodes: &[&Plan]) -> Result<(), AllocError>
+    ensures { OnOk result (Adds (flat_map (λ node. node_items node.now) nodes.now) text.old text.new) }
+{
+    for node in nodes {
+        write_node(text, *node)?;
     }
+    Ok(())
+}
+
+/// Adds the lines of a plan.
+pub fn write_plan(alloc: Global, text: &mut Vec<u8>, plan: &Plan) -> Result<(), AllocError>
+    ensures { OnOk result (Adds (items_of plan.now) text.old text.new) }
+{
+    let all = nodes(alloc, plan)?;
+    write_nodes(text, all.as_slice())?;
     Ok(())
 }

@@ -31,7 +31,7 @@ fn read_line(
 /// proof: the first line that is missing, malformed or may not stand where it does, from 1, standing still at the last `u64`.
 ///
 /// It keeps the branches that are open in a list, and takes no room before the lines that need it. The plans are nested as
-/// deep as the text opens branches on a path, and so deep is letting go of the proof: `nesting` tells it before.
+/// deep as the text opens branches on a path: `nesting` tells it before.
 pub fn read_proof(alloc: Global, bytes: &[u8]) -> Result<Proof, TextFault>
     ensures proof { IfOk result (λ proof. IsSpelledProof proof × (bytes.now ≡ proof_text proof)) }
     ensures same { IfOk result (λ proof. (p : Proof) → IsSpelledProof p → bytes.now ≡ proof_text p → SameProof p proof) }

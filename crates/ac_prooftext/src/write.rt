@@ -71,7 +71,7 @@ fn write_outputs(text: &mut Vec<u8>, outputs: &[(usize, usize)]) -> Result<(), A
 }
 
 #[tactic(auto, using(crate::proofs::WriteSteps::then_steps))]
-fn write_tree(text: &mut Vec<u8>, tree: &ClaimTree) -> Result<(), AllocError>
+fn write_tree(alloc: Global, text: &mut Vec<u8>, tree: &ClaimTree) -> Result<(), AllocError>
     ensures { OnOk result (Adds (of_tree tree.now) text.old text.new) }
 {
     let item = Item::Tree {
@@ -80,15 +80,15 @@ fn write_tree(text: &mut Vec<u8>, tree: &ClaimTree) -> Result<(), AllocError>
         right_piece: tree.right_piece,
     };
     write_line(text, &item)?;
-    write_plan(text, &tree.tree)
+    write_plan(alloc, text, &tree.tree)
 }
 
 #[tactic(auto, using(crate::proofs::WriteSteps::loop_steps))]
-fn write_trees(text: &mut Vec<u8>, trees: &[ClaimTree]) -> Result<(), AllocError>
+fn write_trees(alloc: Global, text: &mut Vec<u8>, trees: &[ClaimTree]) -> Result<(), AllocError>
     ensures { OnOk result (Adds (flat_map of_tree trees.now) text.old text.new) }
 {
     for tree in trees {
-        write_tree(text, tree)?;
+        write_tree(alloc, text, tree)?;
     }
     Ok(())
 }
@@ -154,21 +154,21 @@ fn write_all_claims(text: &mut Vec<u8>, claims: &[Claim]) -> Result<(), AllocErr
 
 /// Adds the plans, and the end.
 #[tactic(auto, using(crate::proofs::WriteSteps::then_steps))]
-fn write_all_trees(text: &mut Vec<u8>, trees: &[ClaimTree]) -> Result<(), AllocError>
+fn write_all_trees(alloc: Global, text: &mut Vec<u8>, trees: &[ClaimTree]) -> Result<(), AllocError>
     ensures { OnOk result (Adds (flat_map of_tree trees.now ++ item.End ∷ []) text.old text.new) }
 {
-    write_trees(text, trees)?;
+    write_trees(alloc, text, trees)?;
     write_line(text, &Item::End)
 }
 
 /// Adds the lines of a proof behind the first.
-fn write_items(text: &mut Vec<u8>, proof: &Proof) -> Result<(), AllocError>
+fn write_items(alloc: Global, text: &mut Vec<u8>, proof: &Proof) -> Result<(), AllocError>
     ensures { OnOk result (Adds (lines_of proof.now) text.old text.new) }
 {
     write_head(text, proof)?;
     write_all_claims(text, proof.claims.as_slice())?;
     write_outputs(text, proof.outputs.as_slice())?;
-    write_all_trees(text, proof.trees.as_slice())?;
+    write_all_trees(alloc, text, proof.trees.as_slice())?;
     Ok(())
 }
 
@@ -187,14 +187,13 @@ fn write_format(text: &mut Vec<u8>, heads: &Option<Heads>) -> Result<(), AllocEr
 /// a 0, each modulus is at least 1, a residue branch has as many children as its modulus says, and the arrays of its outputs
 /// rise.
 ///
-/// It takes time and room in the length of the text, and recurses as deep as the plans have branches on a path: the depth is
-/// the caller's to bound.
+/// It takes time and room in the length of the text. The stack that it takes does not grow with the depth of the plans.
 pub fn write_proof(alloc: Global, proof: &Proof) -> Result<Vec<u8>, AllocError>
     ensures text { IfOk result (λ text. text.items ≡ proof_text proof.now) }
     ensures spelling { IfOk result (λ text. IsSpelledProof proof.now → IsSpelling text.items (deepest (is_some proof.now.heads) (lines_of proof.now))) }
 {
     let mut text = Vec::new(alloc);
     write_format(&mut text, &proof.heads)?;
-    write_items(&mut text, proof)?;
+    write_items(alloc, &mut text, proof)?;
     Ok(text)
 }
