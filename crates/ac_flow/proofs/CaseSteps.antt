@@ -153,6 +153,8 @@ case_is budget m r source columns rows a ws us vs found given given' left kills 
       made = f.made;
       found = found;
       killed = subst (λ n. AllKills n f.all found) (sym wide) f.killed;
+      budget = budget;
+      walked = all;
       parts = subst (λ (x : List (List Piece)). AreParts m columns rows x 0 r.pieces left) eg parts;
       are = k ∙ (λ j. kills_of columns ((ev ∙ ew) j) (eg' j));
     }

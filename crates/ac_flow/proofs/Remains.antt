@@ -219,6 +219,7 @@ cut_end case kills room pieces i h l = record {
   points = points;
   each = h.each;
   apart = h.apart;
+  asked = h.asked;
   cover = λ p e met. elim (some-kill-either kills p) [ inl some ↦ inr some | inr none ↦ inl ((points p e).1 (met, none)) ];
 }
   where

@@ -72,12 +72,13 @@ IsWalkOf budget first copy found =
     AreLeftBy Economical budget first copy found ⊎ (StopsEliminating (pieces_of Economical (columns_from first copy) budget copy) × AreLeftBy Fully budget first copy found)
 
 -- what is left of a case outside kill pieces: its points at which none of them holds. No two of the pieces have a point in
--- common, and each has one
+-- common, and each has one. The rows of each are the case's own, and further ones that the kill pieces give, none twice
 pub record IsCut (case : Conj) (kills : List (List Piece)) (pieces : List Conj) : Type 0 where
   pub made : ArePieces case.columns pieces
   pub points : (p : List ℤ) → length p ≡ case.columns → IsInSome HasExtension pieces p ↔ (Meets case.rows p × ¬ IsInSome (IsInSome MeetsRest) kills p)
   pub each : AllHavePoints pieces
   pub apart : NoneMeet case.columns pieces
+  pub asked : (rows : List (List Row)) → AllKillsOf rows kills → AreCutCases case.rows rows pieces
   pub cover : (p : List ℤ) → length p ≡ case.columns → Meets case.rows p → IsInSome HasExtension pieces p ⊎ IsInSome (IsInSome MeetsRest) kills p
 
 -- the elimination of a copy stops: the economical one, and so does the full one

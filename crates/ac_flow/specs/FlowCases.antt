@@ -90,12 +90,14 @@ pub record CanRead (m : Model) (r : Reads) : Type 0 where
   pub pieces : ArePiecesOver (m.params + r.count) r.pieces
 
 -- a case of what is assumed, over so many columns, with the rows of the source: what is left of it in each piece of the
--- reader, and its kills
+-- reader, and its kills, which are what the walk of each copy at some budget finds
 pub record IsCaseOf (m : Model) (r : Reads) (source : Option Seat) (columns : ℕ) (rows : List Row) (left : List Remainder) (kills : List (Conj × Kill)) : Type 0 where
   pub all : List Conj
   pub made : all_of (copies m (reading m r.position r.count source) r.array) ≡ Some all
   pub found : List (List Piece)
   pub killed : AllKills columns all found
+  pub budget : ℕ
+  pub walked : AllFound budget m (reading m r.position r.count source) (writings m r.position r.array source) found
   pub parts : AreParts m columns rows found 0 r.pieces left
   pub are : kills ≡ kills_of columns (writings m r.position r.array source) found
 
