@@ -1,5 +1,5 @@
 -- Plans behind branches on rows.
-use Rattle.std.proofs.Common.{◌≡◌, ℕ, ◌+◌, ◌≤◌, List, [], ◌∷◌, ◌++◌, length, Option, Some, refl, sym, ap, ◌∙◌, subst, append_assoc, arith}
+use Rattle.std.proofs.Common.{◌≡◌, List, [], ◌∷◌, ◌++◌, Option, Some, refl, sym, ap, ◌∙◌, subst, append_assoc}
 use Rattle.std.specs.Prelude.{Result, Ok, Err, IfOk, option_to_list}
 use Rattle.std.specs.declared.alloc.AllocError.{AllocError}
 use Rattle.ac_claims.specs.declared.types.Plan.{Plan}
@@ -25,39 +25,27 @@ behind_last (x ∷ bs) b end t h =
     record { plan = k.plan; behind = (h.0, k.behind, h.2); serves = k.serves }
 
 -- the branches that are still to be closed, and the plan that stands behind the others
-pub record Closing (all left : List Open) (done count : ℕ) (end t : Plan) : Type 0 where
+pub record Closing (all left : List Open) (end t : Plan) : Type 0 where
   pub rest : List Open
   pub are : all ≡ left ++ rest
-  pub many : done + length left ≡ count
   pub behind : IsBehind rest end t
 
-pub closing_start : (all : List Open) (count : ℕ) (end : Plan) → count ≡ length all → Closing all all 0 count end end
-closing_start all count end e = record { rest = []; are = nothing all; many = omega (arith, e); behind = refl }
+pub closing_start : (all : List Open) (end : Plan) → Closing all all end end
+closing_start all end = record { rest = []; are = nothing all; behind = refl }
   where
     nothing : (xs : List Open) → xs ≡ xs ++ []
     nothing [] = refl
     nothing (x ∷ xs) = ap (λ (ys : List Open). x ∷ ys) (nothing xs)
 
-pub closing_next : (all left next : List Open) (b : Open) (done count : ℕ) (end t u : Plan) → Closing all left done count end t → left ≡ next ++ b ∷ [] → IsBranched b t u → Closing all next (done + 1) count end u
-closing_next all left next b done count end t u h e s = record {
+pub closing_next : (all left next : List Open) (b : Open) (end t u : Plan) → Closing all left end t → left ≡ next ++ b ∷ [] → IsBranched b t u → Closing all next end u
+closing_next all left next b end t u h e s = record {
   rest = b ∷ h.rest;
   are = h.are ∙ ap (λ (xs : List Open). xs ++ h.rest) e ∙ append_assoc next (b ∷ []) h.rest;
-  many = omega (arith, h.many, ap length e, longer next);
   behind = (t, h.behind, s);
 }
-  where
-    longer : (xs : List Open) → length (xs ++ b ∷ []) ≡ length xs + 1
-    longer [] = refl
-    longer (x ∷ xs) = let k = longer xs in omega (arith, k)
 
 pub popped : (xs ys : List Open) (o : Option Open) (x : Open) → xs ≡ ys ++ option_to_list o → o ≡ Some x → xs ≡ ys ++ x ∷ []
 popped xs ys o x e is = e ∙ ap (λ z. ys ++ option_to_list z) is
 
-pub closing_end : (all left : List Open) (done count : ℕ) (end t : Plan) → Closing all left done count end t → count ≤ done → IsBehind all end t
-closing_end all left done count end t h l = let none : length left ≡ 0 = omega (arith, h.many, l) in subst (λ (xs : List Open). IsBehind xs end t) (sym (h.are ∙ ap (λ (xs : List Open). xs ++ h.rest) (empty left none))) h.behind
-  where
-    empty : (xs : List Open) → length xs ≡ 0 → xs ≡ []
-    empty [] e = refl
-    empty (x ∷ xs) e = absurd (omega (arith, e))
-
-pub ruleset closing_steps = (closing_start, closing_next, closing_end)
+pub closing_end : (all left : List Open) (end t : Plan) → Closing all left end t → left ≡ [] → IsBehind all end t
+closing_end all left end t h none = subst (λ (xs : List Open). IsBehind xs end t) (sym (h.are ∙ ap (λ (xs : List Open). xs ++ h.rest) none)) h.behind

@@ -59,7 +59,10 @@ visit_leads search node child order found b kind may is among k = record {
       subst (λ (x : List (Seat × Seat)). IsAt search x child.question u) (sym k.pair_path)
       (subst (λ (x : Path). IsAt search (node.pair_path ++ (b.left, b.right) ∷ []) x u) (sym k.question)
       (behind_call search node.pair_path node.question order found (onto node.question b) u of kind is among refl (is_past search node.pair_path node.question u may.unclaimed.none at)));
-  on = λ u of at. subst (λ (x : Path). Follows search x u) (sym k.question) (call_follows search node.question order found (onto node.question b) u of kind is among (on_from search node.question u may.unclaimed.none at));
+  on = λ u of at.
+      subst (λ (x : List (Seat × Seat)). Follows search x child.question u) (sym k.pair_path)
+      (subst (λ (x : Path). Follows search (node.pair_path ++ (b.left, b.right) ∷ []) x u) (sym k.question)
+      (call_follows search node.pair_path node.question order found (onto node.question b) u of kind is among (on_from search node.pair_path node.question u may.unclaimed.none at)));
   fits = tt;
 }
 

@@ -7,6 +7,7 @@ use Rattle.ac_forms.specs.Rows.{Holds, Meets, AreRowsOver, IsWellMade}
 use Rattle.ac_forms.specs.declared.conj.Conj.{Conj}
 use Rattle.ac_forms.specs.declared.row.Row.{Row}
 use Rattle.ac_forms.proofs.Distinct.{row_renaming-points}
+use Rattle.ac_omega_steps.specs.IntegerPoints.{IsPoint}
 use Rattle.ac_syntax.specs.declared.tree.Order.{Order}
 use Rattle.ac_syntax.specs.declared.tree.Order.TheVariants.{Keep}
 use Rattle.ac_base.proofs.Options.{bind-some, map-some, some-is}
@@ -50,12 +51,17 @@ use Rattle.ac_unfold.specs.EndResults.{nothing_found}
 use Rattle.ac_unfold.specs.PlanResults.{judge_of}
 use Rattle.ac_unfold.specs.UnfoldPaths.{BrokenPathsOf}
 use Rattle.ac_unfold.specs.StartResults.{IsBrokenFrom}
-use Rattle.ac_unfold.specs.BrokenPathResults.{Adds, AddsBroken, IsAt, IsFrom, IsInCase, IsKindThere, IsLeaf, IsOf, IsPast, IsPathAt, IsPathBreaking, Reached}
+use Rattle.ac_unfold.specs.BrokenPathResults.{Adds, AddsBroken, IsAt, IsFoundIn, IsFrom, IsInCase, IsKindThere, IsLeaf, IsOf, IsPast, IsPathAt, IsPathBreaking, Reached}
+use Rattle.ac_unfold.specs.FoundPaths.{IsFoundAt}
+use Rattle.ac_unfold.specs.UnfoldQuestions.{AreTargets, IsAskedAt, IsFollowed}
+use Rattle.ac_unfold.specs.UnfoldStops.{Follows}
+use Rattle.ac_unfold.specs.UnfoldTasks.{IsThere}
 use Rattle.ac_unfold.specs.declared.ends.Search.{Search}
 use Rattle.ac_unfold.specs.declared.kinds.Next.TheVariants as next
 use Rattle.ac_unfold.specs.declared.node.Node.{Node}
 use Rattle.ac_unfold.specs.declared.types.ProgramFlows.{ProgramFlows}
 use Rattle.ac_unfold.proofs.Adding.{adds_all, adds_all_ends, adds_kept}
+use Rattle.ac_unfold.proofs.Stopped.{around_asked}
 
 -- ---- what is added, one after the other
 
@@ -63,7 +69,7 @@ use Rattle.ac_unfold.proofs.Adding.{adds_all, adds_all_ends, adds_kept}
 pub broken_same : (search : Search) (At : Unfolding → Type 0) (before after : BrokenPathsOf) → after.paths ≡ before.paths → after.ended ≡ before.ended → AddsBroken search At before after
 unfolding AddsBroken
 broken_same search At before after e f =
-    (omega (arith, ap length e), λ u of at h. record { broken = subst (AllByRecursion (IsBroken u search.claims.now)) (sym e) h.broken; walked = subst (AllByRecursion (IsWalked u search.claims.now)) (sym f) h.walked })
+    (omega (arith, ap length e), λ u of at h. record { broken = subst (AllByRecursion (IsBroken u search.claims.now)) (sym e) h.broken; asked = subst (AllByRecursion (IsFoundIn search u)) (sym e) h.asked; walked = subst (AllByRecursion (IsWalked u search.claims.now)) (sym f) h.walked })
 
 pub broken_none : (search : Search) (At : Unfolding → Type 0) (before after : BrokenPathsOf) → after ≡ before → AddsBroken search At before after
 broken_none search At before after e = broken_same search At before after (ap (λ (f : BrokenPathsOf). f.paths) e) (ap (λ (f : BrokenPathsOf). f.ended) e)
@@ -79,11 +85,11 @@ broken_from search At Next before after f h = (h.0, λ u of at. h.1 u of (f u of
 
 -- by paths of one kind, and ends of another
 pub broken_by : (search : Search) (At : Unfolding → Type 0) (Kind Ends : List Entry → Type 0) (before after : BrokenPathsOf) → ((u : Unfolding) → IsOf search u → At u → (es : List Entry) → Kind es → IsBroken u search.claims.now es)
-    → ((u : Unfolding) → IsOf search u → At u → (es : List Entry) → Ends es → IsWalked u search.claims.now es) → Adds Kind Ends before after → AddsBroken search At before after
+    → ((u : Unfolding) → IsOf search u → At u → (es : List Entry) → Kind es → IsFoundIn search u es) → ((u : Unfolding) → IsOf search u → At u → (es : List Entry) → Ends es → IsWalked u search.claims.now es) → Adds Kind Ends before after → AddsBroken search At before after
 unfolding AddsBroken
-broken_by search At Kind Ends before after f g h = (
+broken_by search At Kind Ends before after f k g h = (
   adds_kept Kind Ends before after h,
-  λ u of at all. record { broken = adds_all Kind Ends (IsBroken u search.claims.now) before after (f u of at) h all.broken; walked = adds_all_ends Kind Ends (IsWalked u search.claims.now) before after (g u of at) h all.walked },
+  λ u of at all. record { broken = adds_all Kind Ends (IsBroken u search.claims.now) before after (f u of at) h all.broken; asked = adds_all Kind Ends (IsFoundIn search u) before after (k u of at) h all.asked; walked = adds_all_ends Kind Ends (IsWalked u search.claims.now) before after (g u of at) h all.walked },
 )
 
 -- no path is lost
@@ -108,8 +114,12 @@ is_past search pair_path q u none at = by q.gone refl
         let b = at.behind e in
         record { reached = at.reached; first = b.first; rest = b.between ++ seats_of q ∷ []; is = b.is; free = all_last search.claims.now b.between (seats_of q) b.free (none e) }
 
-pub broken_past : (search : Search) (pair_path : List (Seat × Seat)) (q : Path) (before after : BrokenPathsOf) → (q.gone ≡ true → HasNoClaim search.claims.now (seats_of q)) → AddsBroken search (IsPast search pair_path q) before after → AddsBroken search (IsAt search pair_path q) before after
-broken_past search pair_path q before after none h = broken_from search (IsAt search pair_path q) (IsPast search pair_path q) before after (λ u of at. is_past search pair_path q u none at) h
+-- it comes past the pair of a question that it follows
+abbrev pub IsPastThere : Search → List (Seat × Seat) → Path → Unfolding → Type 0
+IsPastThere search pair_path q = λ u. IsPast search pair_path q u × Follows search pair_path q u
+
+pub broken_past : (search : Search) (pair_path : List (Seat × Seat)) (q : Path) (before after : BrokenPathsOf) → (q.gone ≡ true → HasNoClaim search.claims.now (seats_of q)) → AddsBroken search (IsPastThere search pair_path q) before after → AddsBroken search (IsThere search pair_path q) before after
+broken_past search pair_path q before after none h = broken_from search (IsThere search pair_path q) (IsPastThere search pair_path q) before after (λ u of at. (is_past search pair_path q u none at.0, at.1)) h
 
 -- ---- a point of a question
 
@@ -130,6 +140,29 @@ path_broken search u pair_path q p first rest es of reached long meets is are en
       are = are ∙ ap (λ (n : ℕ). entries_at n p pair_path) (sym (params_are search u of)) ∙ ap (entries_at (params_of u) p) is;
       ends = ends;
     }
+
+-- the path of a pair path at a point of what is asked at its end
+path_found : (search : Search) (u : Unfolding) (pair_path : List (Seat × Seat)) (q : Path) (c : Conj) (p : List ℤ) (es : List Entry) → IsOf search u → Follows search pair_path q u → IsAskedAt (judge_of search) search.claims.now q c → IsPoint c p → es ≡ entries_at (judge_of search).params p pair_path
+    → IsFoundIn search u es
+path_found search u pair_path q c p es of follows asked there are = record {
+  pairs = pair_path;
+  path = q;
+  followed = follows;
+  question = c;
+  asked = subst (λ (g : Pairing). IsAskedAt g search.claims.now q c) (sym of.programs) asked;
+  point = p;
+  there = there;
+  are = are ∙ ap (λ (n : ℕ). entries_at n p pair_path) (sym (params_are search u of));
+}
+
+-- at a point of the question
+found_here : (search : Search) (u : Unfolding) (pair_path : List (Seat × Seat)) (q : Path) (es : List Entry) → IsOf search u → Follows search pair_path q u → IsPathAt (judge_of search).params pair_path q.conj es → IsFoundIn search u es
+found_here search u pair_path q es of follows x = path_found search u pair_path q q.conj x.point es of follows (IsAskedAt.here refl) x.there x.are
+
+-- where a row that has to stand does not
+found_breaking : (search : Search) (u : Unfolding) (pair_path : List (Seat × Seat)) (q : Path) (rows : List Row) (es : List Entry) → IsOf search u → Follows search pair_path q u → AreTargets (judge_of search) search.claims.now q (Some rows)
+    → IsPathBreaking (judge_of search).params pair_path q.conj rows es → IsFoundIn search u es
+found_breaking search u pair_path q rows es of follows targets x = path_found search u pair_path q x.asked x.point es of follows (around_asked (judge_of search) search.claims.now q rows x.asked targets x.asked_is) x.there x.are
 
 -- the same of a path to an end
 path_walked : (search : Search) (u : Unfolding) (pair_path : List (Seat × Seat)) (q : Path) (p : List ℤ) (first : Seat × Seat) (rest : List (Seat × Seat)) (es : List Entry) → IsOf search u → Reached search u pair_path q → q.conj.columns ≤ length p → Meets q.conj.rows p → pair_path ≡ first ∷ rest
@@ -156,20 +189,20 @@ leaf_walked search pair_path q u es leaf of at x =
 -- ---- mismatches
 
 pub mismatch_broken : (search : Search) (pair_path : List (Seat × Seat)) (q : Path) (before after : BrokenPathsOf) → IsKindThere search q next.Mismatch → IsLeaf (judge_of search) q
-    → Adds (IsPathAt (judge_of search).params pair_path q.conj) (IsPathAt (judge_of search).params pair_path q.conj) before after → AddsBroken search (IsPast search pair_path q) before after
+    → Adds (IsPathAt (judge_of search).params pair_path q.conj) (IsPathAt (judge_of search).params pair_path q.conj) before after → AddsBroken search (IsPastThere search pair_path q) before after
 unfolding IsKindThere
 mismatch_broken search pair_path q before after kind leaf h =
-    broken_by search (IsPast search pair_path q) (IsPathAt (judge_of search).params pair_path q.conj) (IsPathAt (judge_of search).params pair_path q.conj) before after
-    (λ u of at es x. let l = x.there.long in path_broken search u pair_path q x.point at.first at.rest es of at.reached (omega (arith, l)) x.there.meets at.is x.are (inl (record { free = at.free; nothing = kind u of x.point })))
-    (λ u of at es x. leaf_walked search pair_path q u es leaf of at x) h
+    broken_by search (IsPastThere search pair_path q) (IsPathAt (judge_of search).params pair_path q.conj) (IsPathAt (judge_of search).params pair_path q.conj) before after
+    (λ u of at es x. let l = x.there.long in path_broken search u pair_path q x.point at.0.first at.0.rest es of at.0.reached (omega (arith, l)) x.there.meets at.0.is x.are (inl (record { free = at.0.free; nothing = kind u of x.point })))
+    (λ u of at es x. found_here search u pair_path q es of at.1 x) (λ u of at es x. leaf_walked search pair_path q u es leaf of at.0 x) h
 
-pub match_broken : (search : Search) (pair_path : List (Seat × Seat)) (q : Path) (rows : List Row) (end : PlanNext) (before after : BrokenPathsOf) → IsKindThere search q (next.Match rows end) → IsLeaf (judge_of search) q
-    → Adds (IsPathBreaking (judge_of search).params pair_path q.conj rows) (IsPathAt (judge_of search).params pair_path q.conj) before after → AddsBroken search (IsPast search pair_path q) before after
+pub match_broken : (search : Search) (pair_path : List (Seat × Seat)) (q : Path) (rows : List Row) (end : PlanNext) (before after : BrokenPathsOf) → IsKindThere search q (next.Match rows end) → IsLeaf (judge_of search) q → AreTargets (judge_of search) search.claims.now q (Some rows)
+    → Adds (IsPathBreaking (judge_of search).params pair_path q.conj rows) (IsPathAt (judge_of search).params pair_path q.conj) before after → AddsBroken search (IsPastThere search pair_path q) before after
 unfolding IsKindThere
-match_broken search pair_path q rows end before after kind leaf h =
-    broken_by search (IsPast search pair_path q) (IsPathBreaking (judge_of search).params pair_path q.conj rows) (IsPathAt (judge_of search).params pair_path q.conj) before after
-    (λ u of at es x. path_broken search u pair_path q x.point at.first at.rest es of at.reached x.long x.meets at.is x.are (inl (record { free = at.free; nothing = kind u of x.point x.row x.among x.fails })))
-    (λ u of at es x. leaf_walked search pair_path q u es leaf of at x) h
+match_broken search pair_path q rows end before after kind leaf targets h =
+    broken_by search (IsPastThere search pair_path q) (IsPathBreaking (judge_of search).params pair_path q.conj rows) (IsPathAt (judge_of search).params pair_path q.conj) before after
+    (λ u of at es x. path_broken search u pair_path q x.point at.0.first at.0.rest es of at.0.reached x.long x.meets at.0.is x.are (inl (record { free = at.0.free; nothing = kind u of x.point x.row x.among x.fails })))
+    (λ u of at es x. found_breaking search u pair_path q rows es of at.1 targets x) (λ u of at es x. leaf_walked search pair_path q u es leaf of at.0 x) h
 
 -- ---- claims
 
@@ -207,10 +240,10 @@ claim_walked search pair_path q number u es there of at x =
 
 pub claim_broken : (search : Search) (pair_path : List (Seat × Seat)) (q : Path) (number : ℕ) (claim : Claim) (rows : List Row) (before after : BrokenPathsOf) → IsClaimBehind search q number → slice_get search.claims.now number ≡ Some claim
     → Some rows ≡ rows_renaming (base (judge_of search).params ++ (columns_of q.left ++ columns_of q.right)) claim.rows
-    → Adds (IsPathBreaking (judge_of search).params pair_path q.conj rows) (IsPathAt (judge_of search).params pair_path q.conj) before after → AddsBroken search (IsAt search pair_path q) before after
-claim_broken search pair_path q number claim rows before after there get made h =
-    broken_by search (IsAt search pair_path q) (IsPathBreaking (judge_of search).params pair_path q.conj rows) (IsPathAt (judge_of search).params pair_path q.conj) before after (λ u of at es x. by u of at es x (renamed_in ks claim.rows rows (sym made) x.row x.among))
-    (λ u of at es x. claim_walked search pair_path q number u es there of at x) h
+    → AreTargets (judge_of search) search.claims.now q (Some rows) → Adds (IsPathBreaking (judge_of search).params pair_path q.conj rows) (IsPathAt (judge_of search).params pair_path q.conj) before after → AddsBroken search (IsThere search pair_path q) before after
+claim_broken search pair_path q number claim rows before after there get made targets h =
+    broken_by search (IsThere search pair_path q) (IsPathBreaking (judge_of search).params pair_path q.conj rows) (IsPathAt (judge_of search).params pair_path q.conj) before after (λ u of at es x. by u of at.0 es x (renamed_in ks claim.rows rows (sym made) x.row x.among))
+    (λ u of at es x. found_breaking search u pair_path q rows es of at.1 targets x) (λ u of at es x. claim_walked search pair_path q number u es there of at.0 x) h
   where
     ks : List ℕ
     ks = base (judge_of search).params ++ (columns_of q.left ++ columns_of q.right)
@@ -268,10 +301,23 @@ is_begun search start left right path node u e made q t of from =
     not_both : (b : Bool) → b ≡ false → ¬ (b ≡ true)
     not_both b e f = let z : false ≡ true = sym e ∙ f in absurd cc
 
+pub start_follows : (search : Search) (start : Claim) (left right : ℕ) (path : Path) (u : Unfolding) → start_at (judge_of search) start left right ≡ Some path → IsOf search u → IsFrom start u → Follows search (seats_of path ∷ []) path u
+start_follows search start left right path u e of from =
+    let begins : start_at (pairing_of u.pair) u.claim left right ≡ Some path = ap (λ (c : Claim). start_at (pairing_of u.pair) c left right) from ∙ ap (λ (x : Pairing). start_at x start left right) of.programs ∙ e in
+    IsFollowed.start left right path begins
+
+pub begun_there : (search : Search) (start : Claim) (left right : ℕ) (path : Path) (node : Node) (u : Unfolding) → start_at (judge_of search) start left right ≡ Some path → IsWellMade path.conj → node.question ≡ path → node.pair_path ≡ seats_of path ∷ [] → IsOf search u → IsFrom start u
+    → IsThere search node.pair_path node.question u
+begun_there search start left right path node u e made q t of from =
+    let follows = start_follows search start left right path u e of from in (
+      is_begun search start left right path node u e made q t of from,
+      subst (λ (x : List (Seat × Seat)). Follows search x node.question u) (sym t) (subst (λ (x : Path). Follows search (seats_of path ∷ []) x u) (sym q) follows),
+    )
+
 pub begun_broken : (search : Search) (start : Claim) (left right : ℕ) (path : Path) (node next : Node) (before after : BrokenPathsOf) → start_at (judge_of search) start left right ≡ Some path → IsWellMade path.conj → node.question ≡ path → node.pair_path ≡ seats_of path ∷ []
-    → next.question ≡ node.question → next.pair_path ≡ node.pair_path → AddsBroken search (IsAt search next.pair_path next.question) before after → AddsBroken search (IsFrom start) before after
+    → next.question ≡ node.question → next.pair_path ≡ node.pair_path → AddsBroken search (IsThere search next.pair_path next.question) before after → AddsBroken search (IsFrom start) before after
 begun_broken search start left right path node next before after e made q t q' t' h =
-    broken_from search (IsFrom start) (IsAt search next.pair_path next.question) before after (λ u of from. is_begun search start left right path next u e made (q' ∙ q) (t' ∙ t) of from) h
+    broken_from search (IsFrom start) (IsThere search next.pair_path next.question) before after (λ u of from. begun_there search start left right path next u e made (q' ∙ q) (t' ∙ t) of from) h
 
 -- ---- calls
 
@@ -395,8 +441,16 @@ pub paths_broken : (search : Search) (program_flows : ProgramFlows) (start : Cla
     → search.order.now ≡ order → (u : Unfolding) → IsUnfoldingOf program_flows start order u → AllByRecursion (IsBroken u claims) found.paths
 unfolding AddsBroken
 paths_broken search program_flows start claims order found h s c o u is =
-    let sound = h.1 u (is_of search program_flows start order s o u is) is.claim (record { broken = tt; walked = tt }) in
+    let sound = h.1 u (is_of search program_flows start order s o u is) is.claim (record { broken = tt; asked = tt; walked = tt }) in
     subst (λ (x : List Claim). AllByRecursion (IsBroken u x) found.paths) c sound.broken
+
+pub paths_found : (search : Search) (program_flows : ProgramFlows) (start : Claim) (claims : List Claim) (order : List (Site × Order)) (found : BrokenPathsOf) → AddsBroken search (IsFrom start) nothing_found found → search.program_flows.now ≡ program_flows → search.claims.now ≡ claims
+    → search.order.now ≡ order → (u : Unfolding) → IsUnfoldingOf program_flows start order u → AllByRecursion (IsFoundAt u program_flows.left_flow.now program_flows.right_flow.now claims) found.paths
+unfolding AddsBroken
+paths_found search program_flows start claims order found h s c o u is =
+    let sound = h.1 u (is_of search program_flows start order s o u is) is.claim (record { broken = tt; asked = tt; walked = tt }) in
+    subst (λ (x : List Claim). AllByRecursion (IsFoundAt u program_flows.left_flow.now program_flows.right_flow.now x) found.paths) c
+    (subst (λ (x : ProgramFlows). AllByRecursion (IsFoundAt u x.left_flow.now x.right_flow.now search.claims.now) found.paths) s sound.asked)
 
 -- ---- plans
 
@@ -404,13 +458,19 @@ paths_broken search program_flows start claims order found h s c o u is =
 pub first_broken : (search : Search) (start : Claim) (found : BrokenPathsOf) (path : List Entry) → AddsBroken search (IsFrom start) nothing_found found → slice_get found.paths 0 ≡ Some path → IsBrokenFrom search start path
 unfolding AddsBroken
 first_broken search start found path h e u of from =
-    let sound = h.1 u of from (record { broken = tt; walked = tt }) in
-    first found.paths e sound.broken
+    let sound = h.1 u of from (record { broken = tt; asked = tt; walked = tt }) in
+    (first (IsBroken u search.claims.now) found.paths e sound.broken, first (IsFoundIn search u) found.paths e sound.asked)
   where
-    first : (xs : List (List Entry)) → slice_get xs 0 ≡ Some path → AllByRecursion (IsBroken u search.claims.now) xs → IsBroken u search.claims.now path
-    first [] is all = absurd cc
-    first (x ∷ xs) is all = subst (IsBroken u search.claims.now) (some-is x path is) all.0
+    first : (P : List Entry → Type 0) (xs : List (List Entry)) → slice_get xs 0 ≡ Some path → AllByRecursion P xs → P path
+    first P [] is all = absurd cc
+    first P (x ∷ xs) is all = subst P (some-is x path is) all.0
 
 pub path_is_broken : (search : Search) (program_flows : ProgramFlows) (start : Claim) (claims : List Claim) (order : List (Site × Order)) (path : List Entry) → IsBrokenFrom search start path → search.program_flows.now ≡ program_flows → search.claims.now ≡ claims → search.order.now ≡ order
     → (u : Unfolding) → IsUnfoldingOf program_flows start order u → IsBroken u claims path
-path_is_broken search program_flows start claims order path h s c o u is = subst (λ (x : List Claim). IsBroken u x path) c (h u (is_of search program_flows start order s o u is) is.claim)
+path_is_broken search program_flows start claims order path h s c o u is = subst (λ (x : List Claim). IsBroken u x path) c (h u (is_of search program_flows start order s o u is) is.claim).0
+
+pub path_is_found : (search : Search) (program_flows : ProgramFlows) (start : Claim) (claims : List Claim) (order : List (Site × Order)) (path : List Entry) → IsBrokenFrom search start path → search.program_flows.now ≡ program_flows → search.claims.now ≡ claims → search.order.now ≡ order
+    → (u : Unfolding) → IsUnfoldingOf program_flows start order u → IsFoundAt u program_flows.left_flow.now program_flows.right_flow.now claims path
+path_is_found search program_flows start claims order path h s c o u is =
+    subst (λ (x : List Claim). IsFoundAt u program_flows.left_flow.now program_flows.right_flow.now x path) c
+    (subst (λ (x : ProgramFlows). IsFoundAt u x.left_flow.now x.right_flow.now search.claims.now path) s (h u (is_of search program_flows start order s o u is) is.claim).1)

@@ -1,5 +1,5 @@
 -- Rows that fail at a point: in each part of a negation, and where no point meets them.
-use Rattle.std.proofs.Common.{◌≡◌, inl, inr, ℕ, zero, suc, ◌+◌, ◌-◌, ◌<◌, ◌≤◌, Bool, true, false, ℤ, pos, negsuc, neg_ℤ, ◌+ℤ◌, ◌*ℤ◌, ◌≤ℤ◌, cond, List, [], ◌∷◌, ◌++◌, length, map, take, drop, refl, sym, ap, ◌∙◌, subst, arith, append-nil, unsigned_abs}
+use Rattle.std.proofs.Common.{◌≡◌, inl, inr, ℕ, zero, suc, ◌+◌, ◌-◌, ◌<◌, ◌≤◌, Bool, true, false, ℤ, pos, negsuc, neg_ℤ, ◌+ℤ◌, ◌*ℤ◌, ◌≤ℤ◌, cond, List, [], ◌∷◌, ◌++◌, length, map, take, drop, refl, sym, ap, ◌∙◌, subst, arith, append-nil, unsigned_abs, ◌⊎◌}
 use Rattle.std.proofs.lemmas.Int.{ints}
 use Rattle.std.specs.List.{range_with_len}
 use Rattle.std.specs.Int.{◌∣◌}
@@ -19,10 +19,11 @@ use Rattle.ac_forms.specs.ListMembers.{IsAmong}
 use Rattle.ac_claims_paths.specs.declared.path.Seat.{Seat}
 use Rattle.ac_claims_paths.proofs.Moving.{meets-parts}
 use Rattle.ac_widen.specs.declared.derivation.Entry.{Entry}
-use Rattle.ac_claims_plans.specs.BranchSides.{has_few, one_row, outside_of, rest_side}
+use Rattle.ac_claims_plans.specs.BranchSides.{has_few, one_row, outside_of, rest_side, side_of}
 use Rattle.ac_claims_plans.specs.declared.branching.Part.{Part}
 use Rattle.ac_widen_programs.proofs.Picks.{front_and_rest, holds_front}
 use Rattle.ac_unfold.specs.UnfoldPaths.{BrokenPathsOf}
+use Rattle.ac_unfold.specs.UnfoldQuestions.{IsBesideRow}
 use Rattle.ac_unfold.specs.BrokenPathResults.{Adds, IsPathAt, IsPathBeside, IsPathBreaking}
 use Rattle.ac_unfold.proofs.Adding.{adds_by, adds_then}
 
@@ -114,15 +115,19 @@ breaking_beside Ends n pair_path c row parts before after over e h =
     by es x m =
         let f = outside_fails c.columns row x.part x.at.point over (subst (IsAmong x.part) e x.among) x.at.there.long m.1 in
         let l = x.at.there.long in
-        record { point = x.at.point; long = omega (arith, l); meets = m.0; row = row; among = inl refl; fails = record { over = over; fails = f.fails; exact = f.exact }; are = x.at.are }
+        record { point = x.at.point; long = omega (arith, l); meets = m.0; row = row; among = inl refl; fails = record { over = over; fails = f.fails; exact = f.exact }; asked = side_of c x.part; asked_is = inr (record { row = row; among = inl refl; side = record { part = x.part; among = subst (IsAmong x.part) e x.among; is = refl } }); there = x.at.there; are = x.at.are }
 
 pub breaking_absurd : (Ends : List Entry → Type 0) (n : ℕ) (pair_path : List (Seat × Seat)) (c : Conj) (row : Row) (before after : BrokenPathsOf) → IsRowOver c.columns row × ((p : List ℤ) → ¬ (Holds row p)) → Adds (IsPathAt n pair_path c) Ends before after → Adds (IsPathBreaking n pair_path c (row ∷ [])) Ends before after
 breaking_absurd Ends n pair_path c row before after none h =
     adds_by (IsPathAt n pair_path c) (IsPathBreaking n pair_path c (row ∷ [])) Ends before after
-    (λ es x. let l = x.there.long in record { point = x.point; long = omega (arith, l); meets = x.there.meets; row = row; among = inl refl; fails = record { over = none.0; fails = none.1 x.point; exact = λ f e. x.there.long }; are = x.are }) h
+    (λ es x. let l = x.there.long in record { point = x.point; long = omega (arith, l); meets = x.there.meets; row = row; among = inl refl; fails = record { over = none.0; fails = none.1 x.point; exact = λ f e. x.there.long }; asked = c; asked_is = inl refl; there = x.there; are = x.are }) h
 
 among_more : (n : ℕ) (pair_path : List (Seat × Seat)) (c : Conj) (rows more : List Row) (es : List Entry) → ((r : Row) → IsAmong r rows → IsAmong r more) → IsPathBreaking n pair_path c rows es → IsPathBreaking n pair_path c more es
-among_more n pair_path c rows more es f x = record { point = x.point; long = x.long; meets = x.meets; row = x.row; among = f x.row x.among; fails = x.fails; are = x.are }
+among_more n pair_path c rows more es f x = record { point = x.point; long = x.long; meets = x.meets; row = x.row; among = f x.row x.among; fails = x.fails; asked = x.asked; asked_is = asked x.asked_is; there = x.there; are = x.are }
+  where
+    asked : (x.asked ≡ c) ⊎ IsBesideRow c rows x.asked → (x.asked ≡ c) ⊎ IsBesideRow c more x.asked
+    asked (inl e) = inl e
+    asked (inr b) = inr (record { row = b.row; among = f b.row b.among; side = b.side })
 
 in_front : (xs ys : List Row) (r : Row) → IsAmong r xs → IsAmong r (xs ++ ys)
 in_front [] ys r i = absurd i

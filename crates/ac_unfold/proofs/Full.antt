@@ -20,13 +20,14 @@ use Rattle.ac_unfold.specs.PlanResults.{judge_of}
 use Rattle.ac_unfold.specs.UnfoldPaths.{BrokenPathsOf}
 use Rattle.ac_unfold.specs.BrokenPathResults.{AddsBroken, IsAt, IsFrom, IsLeaf, IsNone, IsOf, IsPast, IsPathAt, IsSound}
 use Rattle.ac_unfold.specs.UnfoldStops.{HandsBack, StopsUnder}
+use Rattle.ac_unfold.specs.UnfoldTasks.{IsThere}
 use Rattle.ac_unfold.specs.Unfoldings.{IsUnfoldingOf}
 use Rattle.ac_unfold.specs.declared.ends.Search.{Search}
 use Rattle.ac_unfold.specs.declared.node.Node.{Node}
 use Rattle.ac_unfold.specs.declared.types.ProgramFlows.{ProgramFlows}
 use Rattle.ac_unfold.specs.declared.types.UnfoldStop.{UnfoldStop}
 use Rattle.ac_unfold.specs.declared.types.UnfoldStop.TheVariants.{Overflow, Spent, Paths, Memory}
-use Rattle.ac_unfold.proofs.Coming.{claim_walked, is_begun, is_of, is_past, leaf_walked}
+use Rattle.ac_unfold.proofs.Coming.{begun_there, claim_walked, is_of, is_past, leaf_walked}
 use Rattle.ac_unfold.proofs.Stops.{all_more}
 
 -- ---- stops
@@ -91,9 +92,9 @@ full_end search pair_path q before none leaf stop h = full_past search pair_path
 
 -- where a claim starts
 pub full_begun : (search : Search) (start : Claim) (left right : ℕ) (path : Path) (node next : Node) (before : BrokenPathsOf) → start_at (judge_of search) start left right ≡ Some path → IsWellMade path.conj → node.question ≡ path → node.pair_path ≡ seats_of path ∷ [] → next.question ≡ node.question
-    → next.pair_path ≡ node.pair_path → (stop : UnfoldStop) → FullUnder search (IsAt search next.pair_path next.question) before stop → FullUnder search (IsFrom start) before stop
+    → next.pair_path ≡ node.pair_path → (stop : UnfoldStop) → FullUnder search (IsThere search next.pair_path next.question) before stop → FullUnder search (IsFrom start) before stop
 full_begun search start left right path node next before e made q t q' t' stop h =
-    full_from search (IsFrom start) (IsAt search next.pair_path next.question) before stop (λ u of from. is_begun search start left right path next u e made (q' ∙ q) (t' ∙ t) of from) h
+    full_from search (IsFrom start) (IsThere search next.pair_path next.question) before stop (λ u of from. begun_there search start left right path next u e made (q' ∙ q) (t' ∙ t) of from) h
 
 -- ---- calls and reads
 
@@ -107,7 +108,7 @@ stops_there : (search : Search) (At : Unfolding → Type 0) (u : Unfolding) (sto
 stops_there search At u (Overflow q) of at h k = h u of at
 stops_there search At u (Spent q cost) of at h k = h u of at
 stops_there search At u (Paths found) of at h k =
-    let sound : IsSound u search.claims.now nothing_found = record { broken = tt; walked = tt } in
+    let sound : IsSound search u nothing_found = record { broken = tt; asked = tt; walked = tt } in
     k u of at sound
 stops_there search At u (Memory want) of at h k = tt
 

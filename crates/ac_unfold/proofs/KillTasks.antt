@@ -12,12 +12,13 @@ use Rattle.ac_forms.specs.Renaming.{rows_renaming}
 use Rattle.ac_claims_paths.specs.CopyKills.{case_columns, case_width}
 use Rattle.ac_claims_paths.specs.declared.path.Assumed.{Assumed}
 use Rattle.ac_claims_paths.specs.declared.path.Path.{Path}
+use Rattle.ac_claims_paths.specs.declared.path.Seat.{Seat}
 use Rattle.ac_claims.specs.declared.types.Kill.{Kill}
 use Rattle.ac_claims.specs.declared.types.Plan.{Plan}
 use Rattle.ac_claims.specs.declared.types.PlanNext.TheVariants.{Killed}
 use Rattle.ac_flow.specs.declared.types.Case.{Case}
 use Rattle.ac_flow.specs.KillAcceptance.{on_path}
-use Rattle.ac_claims_plans.specs.BranchSides.{inside_of, outside_of, on_side, side_of, AreSides, CanBranch}
+use Rattle.ac_claims_plans.specs.BranchSides.{inside_of, outside_of, on_side, side_of, CanBranch}
 use Rattle.ac_claims_plans.specs.QuestionPaths.{IsPlanFor}
 use Rattle.ac_claims_plans.specs.QuestionPlans.{question_on}
 use Rattle.ac_claims_plans.specs.declared.branching.Part.{Part}
@@ -32,7 +33,8 @@ use Rattle.ac_unfold.specs.KillCuts.{AreMadeOn, IsKilled, IsKillThere}
 use Rattle.ac_unfold.specs.KillTraversal.{IsKillRow, IsOutsideKills, Misses, SidesMiss}
 use Rattle.ac_unfold.specs.PlanResults.{judge_of, AreStanding, IsCaseAt, IsMade, IsMadeIn, IsPlanIn, IsRefuted, IsStanding}
 use Rattle.ac_unfold.specs.RequiredRows.{CanStand}
-use Rattle.ac_unfold.specs.UnfoldStops.{AreKillsSides, FollowsCut, IsKillsRow}
+use Rattle.ac_unfold.specs.UnfoldQuestions.{IsNew}
+use Rattle.ac_unfold.specs.UnfoldStops.{AreNewSides, FollowsCut, IsKillsRow, NeverHolds}
 use Rattle.ac_unfold.specs.UnfoldTasks.{passed_row, AreBeside, ClosesBranch, Needs, IsBeside, IsBranch, IsCutAt, IsEndAt, IsNodeOn, IsSplit, LeadsTo, MakeAll, Makes, MakesOne, MovesOn, Unfolds}
 use Rattle.ac_unfold.specs.declared.ends.Search.{Search}
 use Rattle.ac_unfold.specs.declared.node.Node.{Node}
@@ -43,8 +45,8 @@ use Rattle.ac_unfold.proofs.Growing.{grown_part}
 use Rattle.ac_unfold.proofs.Keeping.{case_beside}
 use Rattle.ac_unfold.proofs.Matching.{rows_along}
 use Rattle.ac_unfold.proofs.Missing.{none_behind}
-use Rattle.ac_unfold.proofs.Passing.{fewer_outside, outside_all, outside_next, outside_within, parts_miss, rows_within, within_part, within_same}
-use Rattle.ac_unfold.proofs.Places.{cut_follows, inside_cuts, kills_sides, side_cut}
+use Rattle.ac_unfold.proofs.Passing.{fails_misses, fewer_outside, outside_all, outside_next, outside_within, parts_miss, rows_within, within_part, within_same}
+use Rattle.ac_unfold.proofs.Places.{cut_follows, inside_cut, kill_behind, outside_cut, row_behind}
 use Rattle.ac_unfold.proofs.Results.{at_some, made_more, made_none, refuted_in}
 use Rattle.ac_unfold.proofs.Sides.{all_standing_side, one_more_stands, standing_inside}
 use Rattle.ac_unfold.proofs.Stops.{anywhere_stops, branches_in, there_stops}
@@ -70,26 +72,29 @@ alone_moves search t u more e leads made holds plans = subst (λ (ts : List Task
 
 -- ---- a question that is opened
 
-pub opened_kills : (search : Search) (node next : Node) (case : Bor Case) (number : ℕ) (more : List Task) → more ≡ task.Kills next case number ∷ [] → next.question ≡ node.question → next.embedding ≡ node.embedding → next.pair_path ≡ node.pair_path → MovesOn search (task.Outside node case number) more
-opened_kills search node next case number more e q s p =
+pub opened_kills : (search : Search) (node next : Node) (case : Bor Case) (number : ℕ) (more : List Task) → more ≡ task.Kills next case number ∷ [] → is_some node.question.last ≡ true → next.question ≡ node.question → next.embedding ≡ node.embedding → next.pair_path ≡ node.pair_path → MovesOn search (task.Outside node case number) more
+opened_kills search node next case number more e assumes q s p =
     alone_moves search (task.Outside node case number) (task.Kills next case number) more e
     (record {
       at = λ u of at. outside_within search case.now number node next u (within_same node next q p) at;
-      on = λ u of at. subst (λ (x : Path). FollowsCut search case.now x u) (sym q) at;
-      fits = tt;
+      on = λ u of at. subst (λ (x : List (Seat × Seat)). FollowsCut search case.now number 0 x next.question u) (sym p) (subst (λ (x : Path). FollowsCut search case.now number 0 node.pair_path x u) (sym q) at);
+      fits = ap (λ (x : Path). is_some x.last) q ∙ assumes;
     })
     (λ before after one. subst (λ (z : Embedding). MakesOne (IsMadeIn search case.now z node.question) before after) s (subst (λ (x : Path). MakesOne (IsMadeIn search case.now next.embedding x) before after) q one))
     (λ finding all. tt)
 
 -- ---- the kills
 
-pub kill_passed : (search : Search) (node : Node) (case : Bor Case) (number next : ℕ) (more : List Task) → more ≡ task.Kills node case next ∷ [] → next ≤ number + 1 → Misses search case.now number node.question → MovesOn search (task.Kills node case number) more
-kill_passed search node case number next more e l miss =
+pub kill_passed : (search : Search) (node : Node) (case : Bor Case) (number next : ℕ) (more : List Task) → more ≡ task.Kills node case next ∷ [] → is_some node.question.last ≡ true → next ≡ number + 1 → Misses search case.now number node.question → MovesOn search (task.Kills node case number) more
+kill_passed search node case number next more e assumes n miss =
     alone_moves search (task.Kills node case number) (task.Kills node case next) more e
-    (record { at = λ u of at. outside_next search case.now number next node.pair_path node.question u l miss at; on = λ u of at. at; fits = tt }) (λ before after one. one) (λ finding all. tt)
+    (record { at = λ u of at. outside_next search case.now number next node.pair_path node.question u (omega (arith, n)) miss at; on = λ u of at. kill_behind search case.now number 0 next node.pair_path node.question u n at; fits = assumes })
+    (λ before after one. one) (λ finding all. tt)
 
-pub kill_cut : (search : Search) (at : CutAt) (more : List Task) → more ≡ task.Cut at ∷ [] → IsCutAt search at → MovesOn search (task.Kills at.node at.case at.number) more
-kill_cut search cut more e fits = alone_moves search (task.Kills cut.node cut.case cut.number) (task.Cut cut) more e (record { at = λ u of at. at; on = λ u of at. at; fits = fits }) (λ before after one. one) (λ finding all. tt)
+pub kill_cut : (search : Search) (at : CutAt) (more : List Task) → more ≡ task.Cut at ∷ [] → at.standing ≡ 0 → IsCutAt search at → MovesOn search (task.Kills at.node at.case at.number) more
+kill_cut search cut more e first fits =
+    alone_moves search (task.Kills cut.node cut.case cut.number) (task.Cut cut) more e
+    (record { at = λ u of at. at; on = λ u of at. subst (λ (k : ℕ). FollowsCut search cut.case.now cut.number k cut.node.pair_path cut.node.question u) (sym first) at; fits = fits }) (λ before after one. one) (λ finding all. tt)
 
 -- what is in none of them
 pub survivor_visited : (search : Search) (node : Node) (case : Bor Case) (number : ℕ) (more : List Task) → more ≡ task.Visit node ∷ [] → length case.now.kills ≤ number → MovesOn search (task.Kills node case number) more
@@ -97,7 +102,7 @@ survivor_visited search node case number more e l =
     alone_moves search (task.Kills node case number) (task.Visit node) more e
     (record {
       at = λ u of at. outside_all search case.now node.pair_path node.question u of (fewer_outside search case.now number (length case.now.kills) node.pair_path node.question u l at);
-      on = λ u of at. cut_follows search case.now node.question u of at;
+      on = λ u of at. cut_follows search case.now number 0 node.pair_path node.question u of at;
       fits = tt;
     })
     (λ before after one. record { plan = one.plan; kind = record { plan = λ assumed. one.kind.plan; stops = one.kind.stops }; is = one.is })
@@ -117,13 +122,25 @@ get_among [] i x e = absurd cc
 get_among (y ∷ xs) zero x e = inl (sym (some-is y x e))
 get_among (y ∷ xs) (suc i) x e = inr (get_among xs i x e)
 
+-- the question assumes a case
+pub cut_assumes : (search : Search) (cut : CutAt) → IsCutAt search cut → is_some cut.node.question.last ≡ true
+cut_assumes search cut h = by cut.node.question.last h.there.are
+  where
+    by : (o : Option Assumed) → option_and_then (λ (a : Assumed). rows_renaming (case_columns (judge_of search).params a) h.there.kill.0.rows) o ≡ Some cut.rows → is_some o ≡ true
+    by None e = absurd cc
+    by (Some a) e = refl
+
+-- the next row is one of the kill's
+pub row_its : (search : Search) (cut : CutAt) (row : Row) → IsCutAt search cut → slice_get cut.rows cut.standing ≡ Some row → IsKillsRow search cut.case.now cut.number cut.standing cut.node.question row
+row_its search cut row h get = record { rows = cut.rows; are = h.there; is = get }
+
 -- the next row stands
 pub row_passed : (search : Search) (cut : CutAt) (row : Row) (more : List Task) → more ≡ task.Cut (passed_row cut) ∷ [] → IsCutAt search cut → slice_get cut.rows cut.standing ≡ Some row → IsStanding cut.node.question.conj row → (plans : List Plan) → Unfolds search (task.Cut cut) more plans plans
 row_passed search cut row more e h get stands =
     alone_moves search (task.Cut cut) (task.Cut (passed_row cut)) more e
     (record {
       at = λ u of at. at;
-      on = λ u of at. at;
+      on = λ u of at. row_behind search cut.case.now cut.number cut.standing cut.node.pair_path cut.node.question u at;
       fits = record {
         numbered = h.numbered;
         there = h.there;
@@ -131,6 +148,18 @@ row_passed search cut row more e h get stands =
         stand = subst (AreStanding cut.node.question.conj) (sym (get_next cut.rows cut.standing row get)) (one_more_stands cut.node.question.conj (take cut.standing cut.rows) row h.stand stands);
       };
     })
+    (λ before after one. one) (λ finding all. tt)
+
+-- no point of the question meets the next row
+pub row_left : (search : Search) (cut : CutAt) (row : Row) (more : List Task) → more ≡ task.Kills cut.node cut.case (cut.number + 1) ∷ [] → IsCutAt search cut → slice_get cut.rows cut.standing ≡ Some row → NeverHolds cut.node.question.conj row → (plans : List Plan) → Unfolds search (task.Cut cut) more plans plans
+row_left search cut row more e h get never =
+    let case = cut.case.now in
+    let n = cut.number in
+    let q = cut.node.question in
+    let own : IsKillRow search case n q row = record { rows = cut.rows; are = h.numbered; among = get_among cut.rows cut.standing row get } in
+    let miss = fails_misses search case n q row own never in
+    alone_moves search (task.Cut cut) (task.Kills cut.node cut.case (n + 1)) more e
+    (record { at = λ u of at. outside_next search case n (n + 1) cut.node.pair_path q u (omega arith) miss at; on = λ u of at. kill_behind search case n cut.standing (n + 1) cut.node.pair_path q u refl at; fits = cut_assumes search cut h })
     (λ before after one. one) (λ finding all. tt)
 
 -- all rows stand
@@ -219,13 +248,14 @@ beside_more node side case number ps more ts p h m k = subst (λ (xs : List Part
     by (x ∷ xs) [] j = absurd j
     by (x ∷ xs) (u ∷ us) j = (j.0, by xs us j.1)
 
-besides_lead : (search : Search) (cut : CutAt) (next : ℕ) (all ps : List Part) (ts : List Task) → next ≤ cut.number + 1 → SidesMiss search cut.case.now cut.number cut.node.question all → AreKillsSides search cut.case.now cut.node.question all → ((p : Part) → IsAmong p ps → IsAmong p all)
-    → AreBeside cut.node cut.case.now next ps ts → AllByRecursion (LeadsTo search (task.Cut cut)) ts
+besides_lead : (search : Search) (cut : CutAt) (row : Row) (parts : Parts) (next : ℕ) (ps : List Part) (ts : List Task) → is_some cut.node.question.last ≡ true → next ≡ cut.number + 1 → SidesMiss search cut.case.now cut.number cut.node.question parts.outside
+    → IsKillsRow search cut.case.now cut.number cut.standing cut.node.question row → AreNewSides cut.node.question.conj row parts → ((p : Part) → IsAmong p ps → IsAmong p parts.outside) → AreBeside cut.node cut.case.now next ps ts
+    → AllByRecursion (LeadsTo search (task.Cut cut)) ts
 unfolding SidesMiss
-besides_lead search cut next all [] [] l miss sides among h = tt
-besides_lead search cut next all [] (t ∷ ts) l miss sides among h = absurd h
-besides_lead search cut next all (p ∷ ps) [] l miss sides among h = absurd h
-besides_lead search cut next all (p ∷ ps) (t ∷ ts) l miss sides among h =
+besides_lead search cut row parts next [] [] assumes e miss its sides among h = tt
+besides_lead search cut row parts next [] (t ∷ ts) assumes e miss its sides among h = absurd h
+besides_lead search cut row parts next (p ∷ ps) [] assumes e miss its sides among h = absurd h
+besides_lead search cut row parts next (p ∷ ps) (t ∷ ts) assumes e miss its sides among h =
     let k = beside_task cut.node cut.case.now next p t h.0 in
     let case = cut.case.now in
     let n = cut.number in
@@ -234,12 +264,14 @@ besides_lead search cut next all (p ∷ ps) (t ∷ ts) l miss sides among h =
     let one : LeadsTo search (task.Cut cut) (task.Outside k.side k.own k.from) = record {
       at = λ u of at.
           let within = outside_within search case n cut.node k.side u (within_part cut.node k.side p k.is.question k.is.pair_path) at in
-          let behind = outside_next search case n next k.side.pair_path k.side.question u l own within in
+          let behind = outside_next search case n next k.side.pair_path k.side.question u (omega (arith, e)) own within in
           subst (λ (x : Case). IsOutsideKills search x k.from k.side.pair_path k.side.question u) (sym k.same) (subst (λ (m : ℕ). IsOutsideKills search case m k.side.pair_path k.side.question u) (sym k.from_is) behind);
-      on = λ u of at. subst (λ (x : Case). FollowsCut search x k.side.question u) (sym k.same) (subst (λ (x : Path). FollowsCut search case x u) (sym k.is.question) (side_cut search case cut.node.question all p u sides i at));
-      fits = tt;
+      on = λ u of at.
+          let there = outside_cut search case n cut.standing next cut.node.pair_path k.side.pair_path cut.node.question k.side.question row parts p u e its sides i k.is.question k.is.pair_path at in
+          subst (λ (x : Case). FollowsCut search x k.from 0 k.side.pair_path k.side.question u) (sym k.same) (subst (λ (m : ℕ). FollowsCut search case m 0 k.side.pair_path k.side.question u) (sym k.from_is) there);
+      fits = ap (λ (x : Path). is_some x.last) k.is.question ∙ assumes;
     } in
-    (subst (LeadsTo search (task.Cut cut)) (sym k.task_is) one, besides_lead search cut next all ps ts l miss sides (λ x j. among x (inr j)) h.1)
+    (subst (LeadsTo search (task.Cut cut)) (sym k.task_is) one, besides_lead search cut row parts next ps ts assumes e miss its sides (λ x j. among x (inr j)) h.1)
 
 besides_make : (search : Search) (node : Node) (case : Case) (next : ℕ) (qs ps : List Part) (plans last : List Plan) (ts rest : List Task) → AreBeside node case next ps ts → AreMadeOn search case node.embedding node.question qs plans → MakeAll search (ts ++ rest) plans last
     → (all : List Plan) × AreMadeOn search case node.embedding node.question (qs ++ ps) all × MakeAll search rest all last
@@ -266,14 +298,16 @@ inside_fits search cut row parts inside h get can e k =
     let conj : v.conj ≡ side_of q.conj (inside_of row) = ap (λ (x : Path). x.conj) k.question ∙ ap (side_of q.conj) e in
     record {
       numbered = rows_within search cut.case.now cut.number q v cut.rows (grown_part q v parts.inside k.question) h.numbered;
-      there = record { kill = h.there.kill; among = h.there.among; are = ap (option_and_then (λ (a : Assumed). rows_renaming (case_columns (judge_of search).params a) h.there.kill.0.rows)) last ∙ h.there.are };
+      there = record { kill = h.there.kill; is = h.there.is; are = ap (option_and_then (λ (a : Assumed). rows_renaming (case_columns (judge_of search).params a) h.there.kill.0.rows)) last ∙ h.there.are };
       kill_there = record { whole = h.kill_there.whole; among = h.kill_there.among; is = h.kill_there.is; moved = λ a f. h.kill_there.moved a (sym last ∙ f) };
       stand = subst (AreStanding v.conj) (sym (get_next cut.rows cut.standing row get)) (subst (λ (c : Conj). AreStanding c (take cut.standing cut.rows ++ row ∷ [])) (sym conj) side);
     }
 
-pub split_unfolds : (search : Search) (cut : CutAt) (row : Row) (parts : Parts) (more : List Task) (before after : List Plan) → IsCutAt search cut → slice_get cut.rows cut.standing ≡ Some row → CanStand cut.node.question.conj.columns row
-    → AreSides cut.node.question.conj.columns row (Some parts) → IsSplit cut row parts more before after → Unfolds search (task.Cut cut) more before after
-split_unfolds search cut row parts more before after h get can are k =
+pub split_unfolds : (search : Search) (cut : CutAt) (row : Row) (parts : Parts) (more : List Task) (before after : List Plan) → IsCutAt search cut → slice_get cut.rows cut.standing ≡ Some row → AreNewSides cut.node.question.conj row parts → IsNew cut.node.question.conj (inside_of row)
+    → IsSplit cut row parts more before after → Unfolds search (task.Cut cut) more before after
+split_unfolds search cut row parts more before after h get new inward_new k =
+    let can = new.can in
+    let are = new.are in
     let q = cut.node.question in
     let case = cut.case.now in
     let n = q.conj.columns in
@@ -283,17 +317,16 @@ split_unfolds search cut row parts more before after h get can are k =
     let outside_are : parts.outside ≡ outside_of n row = ap (λ (x : Parts). x.outside) are.1 in
     let among = get_among cut.rows cut.standing row get in
     let own : IsKillRow search case cut.number q row = record { rows = cut.rows; are = h.numbered; among = among } in
-    let its : IsKillsRow search case q row = record { kill = h.there.kill; among = h.there.among; rows = cut.rows; are = h.there.are; row_among = among } in
+    let its = row_its search cut row h get in
     let miss = parts_miss search case cut.number q row parts parts.outside can.over are refl own in
-    let sides = kills_sides search case q row parts parts.outside are refl its in
     let inward : LeadsTo search (task.Cut cut) (task.Cut inner) = record {
       at = λ u of at. outside_within search case cut.number cut.node k.inside u (within_part cut.node k.inside parts.inside k.inside_is.question k.inside_is.pair_path) at;
-      on = λ u of at. record { branch = at.branch; in_case = at.in_case; cut = inside_cuts search case cut.node k.inside row parts its are k.inside_is.question at.branch at.cut };
+      on = λ u of at. inside_cut search case cut.number cut.standing cut.node.pair_path k.inside.pair_path q k.inside.question row parts u its new inward_new k.inside_is.question k.inside_is.pair_path at;
       fits = inside_fits search cut row parts k.inside h get can inside_is k.inside_is;
     } in
     let last_leads : LeadsTo search (task.Cut cut) (task.Branch cut.node.embedding row k.around) = record { at = λ u of at. tt; on = λ u of at. tt; fits = tt } in
     record {
-      lead = subst (AllByRecursion (LeadsTo search (task.Cut cut))) (sym k.more_is) (all_join (LeadsTo search (task.Cut cut)) k.sides behind (besides_lead search cut k.next parts.outside parts.outside k.sides k.next_most miss sides (λ p i. i) k.are) (inward, (last_leads, tt)));
+      lead = subst (AllByRecursion (LeadsTo search (task.Cut cut))) (sym k.more_is) (all_join (LeadsTo search (task.Cut cut)) k.sides behind (besides_lead search cut row parts k.next parts.outside k.sides (cut_assumes search cut h) k.next_is miss its new (λ p i. i) k.are) (inward, (last_leads, tt)));
       makes = λ making last run.
           let run' : MakeAll search (k.sides ++ behind) [] last = subst (λ (us : List Plan). MakeAll search (k.sides ++ behind) us last) k.none (subst (λ (ts : List Task). MakeAll search ts after last) k.more_is run) in
           let r = besides_make search cut.node case k.next [] parts.outside [] last k.sides behind k.are (made_none search case cut.node.embedding q) run' in
@@ -327,7 +360,3 @@ outside_empty search node case number o t more before after refuted is e f =
 -- a plan for the question is one in its case
 pub made_of_kills : (search : Search) (node : Node) (case : Bor Case) (number : ℕ) (before after : List Plan) → MakesOne (IsMade search node.embedding node.question) before after → Makes search (task.Kills node case number) before after
 made_of_kills search node case number before after one = record { plan = one.plan; kind = record { plan = λ assumed. one.kind.plan; stops = one.kind.stops }; is = one.is }
-
--- the next row is one of the kill's
-pub row_its : (search : Search) (cut : CutAt) (row : Row) → IsCutAt search cut → slice_get cut.rows cut.standing ≡ Some row → IsKillsRow search cut.case.now cut.node.question row
-row_its search cut row h get = record { kill = h.there.kill; among = h.there.among; rows = cut.rows; are = h.there.are; row_among = get_among cut.rows cut.standing row get }

@@ -15,7 +15,7 @@ use Rattle.ac_unfold.specs.BrokenPathResults.{AddsBroken}
 use Rattle.ac_unfold.specs.UnfoldPaths.{BrokenPathsOf}
 use Rattle.ac_unfold.specs.UnbrokenResults.{FindsNone}
 use Rattle.ac_unfold.specs.UnfoldStops.{HandsBack}
-use Rattle.ac_unfold.specs.UnfoldTasks.{onward_of, AreRests, At, Ends, Goes, Continues, Needs, IsStopFrom, LeadsTo, MakeAll, Makes, MakesOne, MovesOn, Unfolds}
+use Rattle.ac_unfold.specs.UnfoldTasks.{onward_of, AreRests, Ends, Goes, Continues, Needs, IsStopFrom, LeadsTo, MakeAll, Makes, MakesOne, MovesOn, Place, Unfolds}
 use Rattle.ac_unfold.specs.declared.ends.Search.{Search}
 use Rattle.ac_unfold.specs.declared.node.Node.{Node}
 use Rattle.ac_unfold.specs.declared.tasks.Task.{Task}
@@ -30,7 +30,7 @@ use Rattle.ac_unfold.proofs.Unbroken.{not_making}
 -- ---- ends
 
 ended_goes : (search : Search) (t : Task) (made : Result (Option Plan) UnfoldStop) (Kind : Plan → Type 0) (before after : List Plan) (old new : BrokenPathsOf) (goes : Option (Vec Task Global)) → Ends search made before after goes → ((ps qs : List Plan) → MakesOne Kind ps qs → Makes search t ps qs)
-    → IfOk made (λ o. FindsElse search o old new) → IfOk made (λ o. IfSome o Kind) → OnOk made (FindsNone search old new → Needs search t) → OnOk made (AddsBroken search (At search t) old new) → Goes search t before after old new goes
+    → IfOk made (λ o. FindsElse search o old new) → IfOk made (λ o. IfSome o Kind) → OnOk made (FindsNone search old new → Needs search t) → OnOk made (AddsBroken search (Place search t) old new) → Goes search t before after old new goes
 ended_goes search t (Ok (Some p)) Kind before after old new (Some more) ends makes missing kind holds broken = record {
   lead = subst (AllByRecursion (LeadsTo search t)) (sym ends.0) tt;
   makes = λ making last run. let e : last ≡ after = subst (λ (ts : List Task). MakeAll search ts after last) ends.0 run in makes before last (record { plan = p; kind = kind; is = e ∙ ends.1 });
@@ -48,7 +48,7 @@ ended_goes search t (Ok None) Kind before after old new None ends makes missing 
 ended_goes search t (Err stop) Kind before after old new goes ends makes missing kind holds broken = absurd ends
 
 pub all_ended : (search : Search) (t : Task) (res : Result (Option (Vec Task Global)) UnfoldStop) (made : Result (Option Plan) UnfoldStop) (Kind : Plan → Type 0) (before after : List Plan) (old new : BrokenPathsOf) → IfOk res (Ends search made before after) → ((ps qs : List Plan) → MakesOne Kind ps qs → Makes search t ps qs)
-    → IfOk made (λ o. FindsElse search o old new) → IfOk made (λ o. IfSome o Kind) → OnOk made (FindsNone search old new → Needs search t) → OnOk made (AddsBroken search (At search t) old new) → IfOk res (Goes search t before after old new)
+    → IfOk made (λ o. FindsElse search o old new) → IfOk made (λ o. IfSome o Kind) → OnOk made (FindsNone search old new → Needs search t) → OnOk made (AddsBroken search (Place search t) old new) → IfOk res (Goes search t before after old new)
 all_ended search t (Ok goes) made Kind before after old new ends makes missing kind holds broken = ended_goes search t made Kind before after old new goes ends makes missing kind holds broken
 all_ended search t (Err stop) made Kind before after old new ends makes missing kind holds broken = tt
 
@@ -63,7 +63,7 @@ ended_stops (Err (Memory want)) made P memory is h = memory want
 -- ---- further tasks
 
 pub unfolds_goes : (search : Search) (t : Task) (more : List Task) (before after : List Plan) (old new : BrokenPathsOf) → new ≡ old → Unfolds search t more before after → Continues search t more before after old new
-unfolds_goes search t more before after old new e h = record { lead = h.lead; makes = h.makes; holds = λ none all. h.holds none.finding all; broken = broken_none search (At search t) old new e }
+unfolds_goes search t more before after old new e h = record { lead = h.lead; makes = h.makes; holds = λ none all. h.holds none.finding all; broken = broken_none search (Place search t) old new e }
 
 pub onward_goes : (search : Search) (t : Task) (res : Result (Option (Vec Task Global)) UnfoldStop) (more : Result (Vec Task Global) UnfoldStop) (before after : List Plan) (old new : BrokenPathsOf) → res ≡ onward_of more → new ≡ old → IfOk more (λ m. Unfolds search t m.items before after) → IfOk res (Goes search t before after old new)
 onward_goes search t res (Ok more) before after old new e f h = subst (λ (r : Result (Option (Vec Task Global)) UnfoldStop). IfOk r (Goes search t before after old new)) (sym e) (unfolds_goes search t more.items before after old new f h)
@@ -132,4 +132,4 @@ pub tabled_goes : (search : Search) (node : Node) (res : Result (Option (Vec Tas
 tabled_goes search node res t o before after old new is making made e ends =
     let on : search.making ≡ true = at_some o t (λ plan. search.making ≡ true) is making in
     let kind : IsMade search node.embedding node.question t = at_some o t (IsMade search node.embedding node.question) is made in
-    all_ended search (task.Visit node) res (Ok (Some t)) (IsMade search node.embedding node.question) before after old new ends (λ ps qs one. one) (λ making none. absurd cc) kind (λ none. absurd (not_making search old new on none)) (broken_none search (At search (task.Visit node)) old new e)
+    all_ended search (task.Visit node) res (Ok (Some t)) (IsMade search node.embedding node.question) before after old new ends (λ ps qs one. one) (λ making none. absurd cc) kind (λ none. absurd (not_making search old new on none)) (broken_none search (Place search (task.Visit node)) old new e)

@@ -1,8 +1,7 @@
 -- A case outside its kills: at its branch, with further rows, behind one kill more, and where all of them are passed.
 use Rattle.std.proofs.Common.{◌≡◌, inl, inr, ℕ, zero, suc, ◌+◌, ◌≤◌, false, true, ℤ, List, [], ◌∷◌, ◌++◌, length, map, take, drop, Option, Some, None, refl, sym, ap, ◌∙◌, subst, arith}
 use Rattle.std.proofs.lemmas.List.{take_all}
-use Rattle.std.proofs.Math.Nat.{min-le_left}
-use Rattle.std.specs.Prelude.{◌-◌, ◌^◌, IfOk, IfSome, Ok, Result, min, slice_get}
+use Rattle.std.specs.Prelude.{IfOk, IfSome, Ok, Result, slice_get}
 use Rattle.ac_forms.specs.ListMembers.{IsAmong}
 use Rattle.ac_forms.specs.Renaming.{picked, rows_renaming}
 use Rattle.ac_forms.specs.Rows.{Holds, Meets, AreRowsOver, IsRowOver}
@@ -36,6 +35,7 @@ use Rattle.ac_unfold.specs.PlanResults.{judge_of}
 use Rattle.ac_unfold.specs.PlanGaps.{HasNone}
 use Rattle.ac_unfold.specs.KillTraversal.{AreApart, AreKillRows, GoesWithin, IsGrown, IsKillRow, IsOutsideKills, Misses, SidesMiss}
 use Rattle.ac_unfold.specs.UnfoldPaths.{BrokenPathsOf}
+use Rattle.ac_unfold.specs.UnfoldStops.{HasSide, NeverHolds}
 use Rattle.ac_unfold.specs.BrokenPathResults.{Adds, AddsBroken, IsAt, IsInCase, IsNone, IsOf, IsPathAt, Reached}
 use Rattle.ac_unfold.specs.declared.decide.Answer.{Answer}
 use Rattle.ac_unfold.specs.declared.decide.Answer.TheVariants as answer
@@ -154,6 +154,7 @@ pub nothing_left : (search : Search) (case : Case) (pair_path : List (Seat × Se
     → AddsBroken search (IsOutsideKills search case (length case.kills) pair_path q) before after
 nothing_left search case pair_path q before after none h =
     broken_by search (IsOutsideKills search case (length case.kills) pair_path q) (IsPathAt (judge_of search).params pair_path q.conj) IsNone before after
+    (λ u of at es x. let l = x.there.long in absurd (outside_left search case pair_path q u of at x.point (omega (arith, l)) x.there.meets none))
     (λ u of at es x. let l = x.there.long in absurd (outside_left search case pair_path q u of at x.point (omega (arith, l)) x.there.meets none)) (λ u of at es x. absurd x) h
 
 -- all kills are passed behind the last one
@@ -161,10 +162,6 @@ pub last_broken : (search : Search) (case : Case) (number : ℕ) (pair_path : Li
     → AddsBroken search (IsOutsideKills search case number pair_path q) before after
 last_broken search case number pair_path q before after l h =
     broken_from search (IsOutsideKills search case number pair_path q) (IsOutsideKills search case (length case.kills) pair_path q) before after (λ u of at. fewer_outside search case number (length case.kills) pair_path q u l at) h
-
--- one more, where the numbers go so far
-pub most : (number next : ℕ) → next ≡ min (number + 1) (2 ^ 64 - 1) → next ≤ number + 1
-most number next e = subst (λ (n : ℕ). n ≤ number + 1) (sym e) (min-le_left (number + 1) (2 ^ 64 - 1))
 
 -- ---- the rows of a kill
 
@@ -189,7 +186,7 @@ holds_among (r ∷ rows) row p (inl e) m = subst (λ (x : Row). Holds x p) (sym 
 holds_among (r ∷ rows) row p (inr i) m = holds_among rows row p i m.1
 
 -- a question where one of its rows fails misses it too
-fails_misses : (search : Search) (case : Case) (number : ℕ) (q : Path) (row : Row) → IsKillRow search case number q row → ((p : List ℤ) → q.conj.columns ≤ length p → Meets q.conj.rows p → ¬ (Holds row p)) → Misses search case number q
+pub fails_misses : (search : Search) (case : Case) (number : ℕ) (q : Path) (row : Row) → IsKillRow search case number q row → ((p : List ℤ) → q.conj.columns ≤ length p → Meets q.conj.rows p → ¬ (Holds row p)) → Misses search case number q
 unfolding AreApart
 fails_misses search case number q row h fails = apart_misses search case number q h.rows h.are (λ p long meets k. fails p long meets (holds_among h.rows row p h.among k))
 
@@ -210,7 +207,7 @@ part_over n (p ∷ ps) part h (inl e) = subst (λ (x : Part). AreRowsOver (n + x
 part_over n (p ∷ ps) part h (inr i) = part_over n ps part h.1 i
 
 -- the row fails at each point of a part, which may have further numbers
-part_fails : (n : ℕ) (row : Row) (part : Part) (p : List ℤ) → IsRowOver n row → IsAmong part (outside_of n row) → n + part.question_columns ≤ length p → Meets part.rows p → ¬ (Holds row p)
+pub part_fails : (n : ℕ) (row : Row) (part : Part) (p : List ℤ) → IsRowOver n row → IsAmong part (outside_of n row) → n + part.question_columns ≤ length p → Meets part.rows p → ¬ (Holds row p)
 part_fails n row part p over i long meets h =
     let k = n + part.question_columns in
     let rows = part_over n (outside_of n row) part (sides_formed 0 (bare n) row (bare_formed n) over).1 i in
@@ -227,6 +224,13 @@ parts_miss search case number q row parts sides over are e h part i =
     let there : IsAmong part (outside_of n row) = subst (IsAmong part) (e ∙ ap (λ (x : Parts). x.outside) are.1) i in
     let own : IsKillRow search case number v row = record { rows = h.rows; are = rows_within search case number q v h.rows (grown_on q part) h.are; among = h.among } in
     fails_misses search case number v row own (λ p long meets. part_fails n row part p over there long (meets-parts q.conj.rows part.rows p meets).1)
+
+-- a row does not hold where the question is on a side already where it does not
+pub side_never : (c : Conj) (row : Row) (parts : Parts) (sides : List Part) → IsRowOver c.columns row → AreSides c.columns row (Some parts) → sides ≡ parts.outside → HasSide c sides → NeverHolds c row
+side_never c row parts sides over are e h p long meets =
+    let there : IsAmong h.part (outside_of c.columns row) = subst (IsAmong h.part) (e ∙ ap (λ (x : Parts). x.outside) are.1) h.among in
+    let z = h.columns in
+    part_fails c.columns row h.part p over there (omega (arith, z, long)) (h.holds p meets)
 
 -- ---- rows that no point meets
 

@@ -1,7 +1,7 @@
 -- The tasks of the step of a read or an output, and of its cases.
 use Rattle.std.proofs.Common.{◌≡◌, inl, inr, ℕ, zero, suc, ◌+◌, true, false, List, [], ◌∷◌, ◌++◌, map, length, take, Some, Bor, refl, sym, ap, ◌∙◌, subst, arith, append_assoc, append-nil}
 use Rattle.std.proofs.Math.Seq.{take-append-add}
-use Rattle.std.specs.Prelude.{slice_get}
+use Rattle.std.specs.Prelude.{is_some, slice_get}
 use Rattle.std.specs.List.{AllByRecursion}
 use Rattle.ac_base.proofs.Options.{some-is}
 use Rattle.ac_forms.specs.ListMembers.{IsAmong}
@@ -83,9 +83,10 @@ case_leads search node side read number xs ys b t kind among position may count 
           (subst (λ (x : Path). IsInCase search k.case.now (node.pair_path ++ (b.left, b.right) ∷ []) x u) (sym k.is.question)
           (in_case search node side read k.case.now number xs ys b u of kind among position k.numbered count is (is_past search node.pair_path q u may.unclaimed.none at)));
       on = λ u of at.
-          subst (λ (x : Path). FollowsCase search k.case.now x u) (sym k.is.question)
-          (case_follows search q side read k.case.now number xs (xs ++ b ∷ ys) b (length xs + 1) u of kind among position k.numbered count first is (on_from search q u may.unclaimed.none at));
-      fits = tt;
+          subst (λ (x : List (Seat × Seat)). FollowsCase search k.case.now x k.child.question u) (sym k.is.pair_path)
+          (subst (λ (x : Path). FollowsCase search k.case.now (node.pair_path ++ (b.left, b.right) ∷ []) x u) (sym k.is.question)
+          (case_follows search node.pair_path q side read k.case.now number xs (xs ++ b ∷ ys) b (length xs + 1) u of kind among position k.numbered count first is (on_from search node.pair_path q u may.unclaimed.none at)));
+      fits = ap is_some k.assumed.is;
     })
 
 cases_lead : (search : Search) (node : Node) (side : Side) (read : ReadFlow) (number : ℕ) (xs ys : List Branch) (ts : List Task) → IsKindThere search node.question (next.Read side)
@@ -199,7 +200,7 @@ rests_lead search node case (r ∷ rs) (t ∷ ts) among h =
     let i = among r (inl refl) in
     let one : LeadsTo search (task.Case node case) (task.Rest k.left) = record {
       at = λ u of at. subst (λ (x : List (Seat × Seat)). IsAt search x k.left.question u) (sym k.pair_path) (at_piece search case.now node.pair_path node.question k.left.question r u of i k.question at);
-      on = λ u of at. rest_follows search case.now node.question k.left.question r u of i k.question at;
+      on = λ u of at. subst (λ (x : List (Seat × Seat)). Follows search x k.left.question u) (sym k.pair_path) (rest_follows search case.now node.pair_path node.question k.left.question r u of i k.question at);
       fits = tt;
     } in
     (subst (LeadsTo search (task.Case node case)) (sym k.task_is) one, rests_lead search node case rs ts (λ x j. among x (inr j)) h.1)
@@ -222,13 +223,13 @@ case_rests search node case more off h plans = record {
   holds = λ finding all r i. rests_hold search node case.now.pieces more h all r i;
 }
 
-pub case_outside : (search : Search) (node : Node) (case : Bor Case) (more : List Task) → search.making ≡ true → more ≡ task.Outside node case 0 ∷ [] → MovesOn search (task.Case node case) more
-case_outside search node case more on e plans = subst (λ (ts : List Task). Unfolds search (task.Case node case) ts plans plans) (sym e) (record {
+pub case_outside : (search : Search) (node : Node) (case : Bor Case) (more : List Task) → search.making ≡ true → is_some node.question.last ≡ true → more ≡ task.Outside node case 0 ∷ [] → MovesOn search (task.Case node case) more
+case_outside search node case more on assumes e plans = subst (λ (ts : List Task). Unfolds search (task.Case node case) ts plans plans) (sym e) (record {
   lead = (
     record {
       at = λ u of at. outside_start search case.now node.pair_path node.question u at;
-      on = λ u of at. whole_cut search case.now node.question u at;
-      fits = tt;
+      on = λ u of at. whole_cut search case.now node.pair_path node.question u at;
+      fits = assumes;
     },
     tt,
   );
@@ -242,7 +243,7 @@ pub opened_leads : (search : Search) (node child : Node) (more : List Task) → 
 opened_leads search node child more m e f = subst (AllByRecursion (LeadsTo search (task.Rest node))) (sym m) (
   record {
     at = λ u of at. subst (λ (x : List (Seat × Seat)). IsAt search x child.question u) (sym f) (subst (λ (x : Path). IsAt search node.pair_path x u) (sym e) at);
-    on = λ u of at. subst (λ (x : Path). Follows search x u) (sym e) at;
+    on = λ u of at. subst (λ (x : List (Seat × Seat)). Follows search x child.question u) (sym f) (subst (λ (x : Path). Follows search node.pair_path x u) (sym e) at);
     fits = tt;
   },
   tt,

@@ -46,6 +46,11 @@ in_get [] i x e = absurd cc
 in_get (y ∷ xs) zero x e = inl cc
 in_get (y ∷ xs) (suc i) x e = inr (in_get xs i x e)
 
+pub get_below : {A : Type 0} (xs : List A) (i : ℕ) (x : A) → slice_get xs i ≡ Some x → i < length xs
+get_below [] i x e = absurd cc
+get_below (y ∷ xs) zero x e = omega arith
+get_below (y ∷ xs) (suc i) x e = let l = get_below xs i x e in omega (arith, l)
+
 pub in_read : {A : Type 0} (xs : List A) (i : ℕ) (x : A) → i < length xs → x ≡ get_or xs i x → IsAmong x xs
 in_read [] i x l e = absurd (omega (arith, l))
 in_read (y ∷ xs) zero x l e = inl e

@@ -1,7 +1,8 @@
 -- The side of a branch where its row holds.
-use Rattle.std.proofs.Common.{◌≡◌, Bool, true, false, cond, List, [], ◌∷◌, ◌++◌, length, Some, refl, sym, subst, arith}
+use Rattle.std.proofs.Common.{◌≡◌, ◌&&◌, Bool, true, false, cond, List, [], ◌∷◌, ◌++◌, length, Some, refl, sym, ap, subst, arith}
 use Rattle.std.specs.Prelude.{slice_get}
-use Rattle.ac_forms.specs.Standing.{stands}
+use Rattle.ac_forms.specs.Rows.{AreRowsOver, IsRowOver, IsWellMade}
+use Rattle.ac_forms.specs.Standing.{all_stand, stands}
 use Rattle.ac_forms.specs.declared.conj.Conj.{Conj}
 use Rattle.ac_forms.specs.declared.row.Row.{Row}
 use Rattle.ac_forms.specs.declared.row.Row.TheVariants.{Eq, Div, Ge}
@@ -11,6 +12,7 @@ use Rattle.ac_claims_plans.specs.declared.branching.Part.{Part}
 use Rattle.ac_claims_plans.specs.QuestionCover.{HasPlaces}
 use Rattle.ac_unfold.specs.PlanResults.{IsStanding, AreStanding}
 use Rattle.ac_unfold.specs.RequiredRows.{CanStand}
+use Rattle.ac_unfold.specs.UnfoldQuestions.{IsNew}
 
 -- it has the row, at one place, and no further column
 pub record IsInside (r : Row) (p : Part) : Type 0 where
@@ -49,3 +51,11 @@ standing_inside c r k =
 pub one_more_stands : (c : Conj) (rs : List Row) (r : Row) → AreStanding c rs → IsStanding c r → AreStanding c (rs ++ r ∷ [])
 one_more_stands c [] r h k = (k, tt)
 one_more_stands c (x ∷ rs) r h k = (h.0, one_more_stands c rs r h.1 k)
+
+-- where a row does not stand yet, the side where it holds is new
+pub inside_new : (c : Conj) (r : Row) → (IsWellMade c → IsRowOver c.columns r → stands c.rows r ≡ false) → IsNew c (inside_of r)
+inside_new c r h zero made over =
+    let i = inside_is r in
+    let one : AreRowsOver c.columns (r ∷ []) = subst (AreRowsOver c.columns) i.rows over in
+    let alone : all_stand c.rows (r ∷ []) ≡ false = ap (λ (b : Bool). b && true) (h made one.0) in
+    subst (λ (rs : List Row). all_stand c.rows rs ≡ false) (sym i.rows) alone

@@ -23,6 +23,7 @@ use Rattle.ac_claims_paths.specs.CopyKills.{case_columns}
 use Rattle.ac_claims_paths.specs.ModelPositions.{call_at, initial_cell, number_at}
 use Rattle.ac_claims_paths.specs.declared.path.Assumed.{Assumed}
 use Rattle.ac_claims_paths.specs.declared.path.Path.{Path}
+use Rattle.ac_claims_paths.specs.declared.path.Seat.{Seat}
 use Rattle.ac_claims_paths.specs.declared.places.CallNode.{CallNode}
 use Rattle.ac_claims_paths.specs.declared.places.CellForms.{CellForms}
 use Rattle.ac_claims.specs.ProofEnds.{equal_cells}
@@ -34,11 +35,11 @@ use Rattle.ac_claims_plans.specs.declared.branching.Part.{Part}
 use Rattle.ac_graph.specs.PairMoves.{pairing_of}
 use Rattle.ac_widen_programs.specs.PairPaths.{Unfolding}
 use Rattle.ac_widen_programs.specs.PairPathSteps.{at_rest, columns_left, further, with_rest}
-use Rattle.ac_unfold.specs.UnfoldQuestions.{kill_on, AreTargets, AreTwoCalls, IsAsked, IsFollowed, LackTarget, LacksNext}
+use Rattle.ac_unfold.specs.UnfoldQuestions.{kill_on, AreNotFormed, AreTargets, AreTwoCalls, IsAsked, IsAskedAt, IsFollowed, IsOnSide, LacksNext}
 use Rattle.ac_unfold.specs.KillCuts.{IsClaimBehind}
 use Rattle.ac_unfold.specs.PlanResults.{judge_of}
 use Rattle.ac_unfold.specs.BrokenPathResults.{IsOf}
-use Rattle.ac_unfold.specs.UnfoldStops.{Follows, HandsBack, HandsTargets, IsAround, IsOnSide, StopsAmong, StopsAsking, StopsOutside, StopsStanding, StopsUnder}
+use Rattle.ac_unfold.specs.UnfoldStops.{Follows, HandsBack, HandsTargets, IsAround, StopsAmong, StopsAsking, StopsOutside, StopsStanding, StopsUnder}
 use Rattle.ac_unfold.specs.RequiredRows.{CanStand, IsRefused}
 use Rattle.ac_unfold.specs.declared.decide.Wanted.{Wanted}
 use Rattle.ac_unfold.specs.declared.decide.Wanted.TheVariants.{Absurd, Wide}
@@ -67,11 +68,11 @@ pub not_over : (n : ℕ) (r : Row) (b : Bool) → IsTrue b ↔ IsRowOver n r →
 not_over n r b h e over fits = let t : b ≡ true = h.1 over in absurd cc
 
 -- a row without a normal form over the columns is not formed
-pub row_refused : (n : ℕ) (row : Row) → (IsRowOver n row → ¬ NormalFits row) → LackTarget n (Some (row ∷ []))
+pub row_refused : (n : ℕ) (row : Row) → (IsRowOver n row → ¬ NormalFits row) → AreNotFormed n (Some (row ∷ []))
 row_refused n row h = (row, inl refl, λ over fits _. h over fits)
 
 -- nor is one without sides
-pub row_unbranched : (n : ℕ) (row : Row) → ¬ CanBranch row → LackTarget n (Some (row ∷ []))
+pub row_unbranched : (n : ℕ) (row : Row) → ¬ CanBranch row → AreNotFormed n (Some (row ∷ []))
 row_unbranched n row h = (row, inl refl, λ _ _. h)
 
 -- ---- questions
@@ -111,7 +112,7 @@ pub standing_side : (budget : ℕ) (c : Conj) (row : Row) (parts : List Part) (s
 standing_side budget c row parts stop e h = standing_beside budget c row stop (subst (λ (ps : List Part). StopsOutside budget c ps stop) e h)
 
 -- or a row is not formed
-pub standing_lacks : (budget : ℕ) (c : Conj) (rows : List Row) (stop : UnfoldStop) → HandsBack c (Unit {0}) stop → LackTarget c.columns (Some rows) → StopsStanding budget c rows stop
+pub standing_lacks : (budget : ℕ) (c : Conj) (rows : List Row) (stop : UnfoldStop) → HandsBack c (Unit {0}) stop → AreNotFormed c.columns (Some rows) → StopsStanding budget c rows stop
 standing_lacks budget c rows (Overflow q) h l = inr (h.0, l)
 standing_lacks budget c rows (Spent q cost) h l = absurd h
 standing_lacks budget c rows (Paths found) h l = tt
@@ -125,7 +126,7 @@ around_more : (c : Conj) (rows : List Row) (row : Row) (q : Conj) → IsAmong ro
 around_more c rows row q i (inl e) = inl e
 around_more c rows row q i (inr b) = inr (record { row = b.row; among = one_among rows row b.row i b.among; side = b.side })
 
-lacks_more : (n : ℕ) (rows : List Row) (row : Row) → IsAmong row rows → LackTarget n (Some (row ∷ [])) → LackTarget n (Some rows)
+lacks_more : (n : ℕ) (rows : List Row) (row : Row) → IsAmong row rows → AreNotFormed n (Some (row ∷ [])) → AreNotFormed n (Some rows)
 lacks_more n rows row i l = (l.0, one_among rows row l.0 i l.1, l.2)
 
 standing_more : (budget : ℕ) (c : Conj) (rows : List Row) (row : Row) (stop : UnfoldStop) → IsAmong row rows → StopsStanding budget c (row ∷ []) stop → StopsStanding budget c rows stop
@@ -216,42 +217,45 @@ two_calls g q a b l r same many = record {
 
 -- ---- where an unfolding stops
 
-asked_here : (u : Unfolding) (left right : Flow) (claims : List Claim) (q : Path) (c : Conj) → IsFollowed u left right claims q → c ≡ q.conj → IsAsked u left right claims c
-asked_here u left right claims q c at e = subst (λ (x : Conj). IsAsked u left right claims x) (sym e) (IsAsked.here q at)
+-- beside a question, where a row that has to stand does not
+pub around_asked : (g : Pairing) (claims : List Claim) (q : Path) (rows : List Row) (c : Conj) → AreTargets g claims q (Some rows) → IsAround q.conj rows c → IsAskedAt g claims q c
+around_asked g claims q rows c t (inl e) = IsAskedAt.here e
+around_asked g claims q rows c t (inr b) = IsAskedAt.beside rows t b
 
-asked_around : (u : Unfolding) (left right : Flow) (claims : List Claim) (q : Path) (rows : List Row) (c : Conj) → IsFollowed u left right claims q → AreTargets (pairing_of u.pair) claims q (Some rows) → IsAround q.conj rows c → IsAsked u left right claims c
-asked_around u left right claims q rows c at t (inl e) = asked_here u left right claims q c at e
-asked_around u left right claims q rows c at t (inr b) =
-    subst (λ (x : Conj). IsAsked u left right claims x) (sym b.side.is) (IsAsked.beside q rows b.row b.side.part at t b.among b.side.among)
+asked_here : (u : Unfolding) (left right : Flow) (claims : List Claim) (pairs : List (Seat × Seat)) (q : Path) (c : Conj) → IsFollowed u left right claims pairs q → c ≡ q.conj → IsAsked u left right claims c
+asked_here u left right claims pairs q c follows e = record { pairs = pairs; path = q; followed = follows; at = IsAskedAt.here e }
+
+asked_around : (u : Unfolding) (left right : Flow) (claims : List Claim) (pairs : List (Seat × Seat)) (q : Path) (rows : List Row) (c : Conj) → IsFollowed u left right claims pairs q → AreTargets (pairing_of u.pair) claims q (Some rows) → IsAround q.conj rows c → IsAsked u left right claims c
+asked_around u left right claims pairs q rows c follows t around = record { pairs = pairs; path = q; followed = follows; at = around_asked (pairing_of u.pair) claims q rows c t around }
 
 -- the rows by the programs of an unfolding
 pub targets_by : (search : Search) (u : Unfolding) (q : Path) (o : Option (List Row)) → IsOf search u → AreTargets (judge_of search) search.claims.now q o → AreTargets (pairing_of u.pair) search.claims.now q o
 targets_by search u q o of t = subst (λ (g : Pairing). AreTargets g search.claims.now q o) (sym of.programs) t
 
 -- it asks a question to which it follows a path
-pub followed_asking : (search : Search) (q : Path) (stop : UnfoldStop) → StopsAsking search.budget q.conj stop → StopsUnder search (Follows search q) stop
-followed_asking search q (Overflow c) h = λ u of at. inl (asked_here u search.program_flows.now.left_flow.now search.program_flows.now.right_flow.now search.claims.now q c at h.0, h.1)
-followed_asking search q (Spent c cost) h = λ u of at. (asked_here u search.program_flows.now.left_flow.now search.program_flows.now.right_flow.now search.claims.now q c at h.0, h.1)
-followed_asking search q (Paths found) h = tt
-followed_asking search q (Memory want) h = tt
+pub followed_asking : (search : Search) (pairs : List (Seat × Seat)) (q : Path) (stop : UnfoldStop) → StopsAsking search.budget q.conj stop → StopsUnder search (Follows search pairs q) stop
+followed_asking search pairs q (Overflow c) h = λ u of at. inl (asked_here u search.program_flows.now.left_flow.now search.program_flows.now.right_flow.now search.claims.now pairs q c at h.0, h.1)
+followed_asking search pairs q (Spent c cost) h = λ u of at. (asked_here u search.program_flows.now.left_flow.now search.program_flows.now.right_flow.now search.claims.now pairs q c at h.0, h.1)
+followed_asking search pairs q (Paths found) h = tt
+followed_asking search pairs q (Memory want) h = tt
 
 -- rows have to stand there
-pub followed_standing : (search : Search) (q : Path) (rows : List Row) (stop : UnfoldStop) → AreTargets (judge_of search) search.claims.now q (Some rows) → StopsStanding search.budget q.conj rows stop → StopsUnder search (Follows search q) stop
-followed_standing search q rows (Overflow c) t (inl h) =
-    λ u of at. inl (asked_around u search.program_flows.now.left_flow.now search.program_flows.now.right_flow.now search.claims.now q rows c at (targets_by search u q (Some rows) of t) h.0, h.1)
-followed_standing search q rows (Overflow c) t (inr h) =
-    λ u of at. inr (record { path = q; is = h.0; lacks = LacksNext.target q (Some rows) at (targets_by search u q (Some rows) of t) h.1 })
-followed_standing search q rows (Spent c cost) t h =
-    λ u of at. (asked_around u search.program_flows.now.left_flow.now search.program_flows.now.right_flow.now search.claims.now q rows c at (targets_by search u q (Some rows) of t) h.0, h.1)
-followed_standing search q rows (Paths found) t h = tt
-followed_standing search q rows (Memory want) t h = tt
+pub followed_standing : (search : Search) (pairs : List (Seat × Seat)) (q : Path) (rows : List Row) (stop : UnfoldStop) → AreTargets (judge_of search) search.claims.now q (Some rows) → StopsStanding search.budget q.conj rows stop → StopsUnder search (Follows search pairs q) stop
+followed_standing search pairs q rows (Overflow c) t (inl h) =
+    λ u of at. inl (asked_around u search.program_flows.now.left_flow.now search.program_flows.now.right_flow.now search.claims.now pairs q rows c at (targets_by search u q (Some rows) of t) h.0, h.1)
+followed_standing search pairs q rows (Overflow c) t (inr h) =
+    λ u of at. inr (record { path = q; is = h.0; lacks = LacksNext.target pairs q (Some rows) at (targets_by search u q (Some rows) of t) h.1 })
+followed_standing search pairs q rows (Spent c cost) t h =
+    λ u of at. (asked_around u search.program_flows.now.left_flow.now search.program_flows.now.right_flow.now search.claims.now pairs q rows c at (targets_by search u q (Some rows) of t) h.0, h.1)
+followed_standing search pairs q rows (Paths found) t h = tt
+followed_standing search pairs q rows (Memory want) t h = tt
 
 -- rows that have to stand there are not formed
-pub followed_hands : (search : Search) (q : Path) (stop : UnfoldStop) → HandsTargets search q stop → StopsUnder search (Follows search q) stop
-followed_hands search q (Overflow c) h = λ u of at. inr (record { path = q; is = h.0; lacks = LacksNext.target q None at (targets_by search u q None of h.1) tt })
-followed_hands search q (Spent c cost) h = absurd h
-followed_hands search q (Paths found) h = tt
-followed_hands search q (Memory want) h = tt
+pub followed_hands : (search : Search) (pairs : List (Seat × Seat)) (q : Path) (stop : UnfoldStop) → HandsTargets search q stop → StopsUnder search (Follows search pairs q) stop
+followed_hands search pairs q (Overflow c) h = λ u of at. inr (record { path = q; is = h.0; lacks = LacksNext.target pairs q None at (targets_by search u q None of h.1) tt })
+followed_hands search pairs q (Spent c cost) h = absurd h
+followed_hands search pairs q (Paths found) h = tt
+followed_hands search pairs q (Memory want) h = tt
 
 -- at one place, where it was at another
 pub stops_from : (search : Search) (At Next : Unfolding → Type 0) (stop : UnfoldStop) → ((u : Unfolding) → IsOf search u → At u → Next u) → StopsUnder search Next stop → StopsUnder search At stop

@@ -11,10 +11,11 @@ use Rattle.ac_claims_plans.specs.PlanAcceptance.{BranchesTo}
 use Rattle.ac_claims_plans.specs.declared.embedding.Embedding.{Embedding}
 use Rattle.ac_unfold.specs.PlanGaps.{FindsElse}
 use Rattle.ac_unfold.specs.PlanResults.{IsMade}
-use Rattle.ac_unfold.specs.BrokenPathResults.{AddsBroken, IsAt}
+use Rattle.ac_widen_programs.specs.PairPaths.{Unfolding}
+use Rattle.ac_unfold.specs.BrokenPathResults.{AddsBroken, IsOf}
 use Rattle.ac_unfold.specs.UnfoldPaths.{BrokenPathsOf}
 use Rattle.ac_unfold.specs.UnbrokenResults.{FindsNone, StandsIn}
-use Rattle.ac_unfold.specs.UnfoldTasks.{At, Breaks, ClosesBranch, Continues, Goes, Needs, IsBranch, IsLast, IsReady, LeadsTo, MakeAll, Makes, MakesOne}
+use Rattle.ac_unfold.specs.UnfoldTasks.{Breaks, ClosesBranch, Continues, Goes, Needs, IsBranch, IsLast, IsReady, LeadsTo, MakeAll, Makes, MakesOne, Place}
 use Rattle.ac_unfold.specs.declared.ends.Search.{Search}
 use Rattle.ac_unfold.specs.declared.node.Node.{Node}
 use Rattle.ac_unfold.specs.declared.tasks.Task.{Task}
@@ -102,6 +103,9 @@ leads_itself search t fits = record { at = λ u of x. x; on = λ u of x. x; fits
 leads_through : (search : Search) (a b c : Task) → LeadsTo search a b → LeadsTo search b c → LeadsTo search a c
 leads_through search a b c h k = record { at = λ u of x. k.at u of (h.at u of x); on = λ u of x. k.on u of (h.on u of x); fits = k.fits }
 
+pub place_leads : (search : Search) (a b : Task) → LeadsTo search a b → (u : Unfolding) → IsOf search u → Place search a u → Place search b u
+place_leads search a b h u of at = (h.at u of at.0, h.on u of at.1)
+
 -- ---- an unfolding under way
 
 -- these tasks are left of the visit of a node, with these plans and paths
@@ -109,7 +113,7 @@ pub record UnderWay (search : Search) (root : Node) (stack : List Task) (plans :
   pub makes : search.making ≡ true → (last : List Plan) → MakeAll search stack plans last → MakesOne (IsMade search root.embedding root.question) [] last
   pub holds : FindsNone search before now → AllByRecursion (Needs search) stack → StandsIn search root.question
   pub lead : AllByRecursion (LeadsTo search (task.Visit root)) stack
-  pub broken : AddsBroken search (IsAt search root.pair_path root.question) before now
+  pub broken : AddsBroken search (Place search (task.Visit root)) before now
 
 pub under_way : (search : Search) (root : Node) (plans : List Plan) (before now : BrokenPathsOf) → plans ≡ [] → now ≡ before → UnderWay search root (task.Visit root ∷ []) plans before now
 under_way search root plans before now none e = record {
@@ -118,7 +122,7 @@ under_way search root plans before now none e = record {
       subst (λ (ps : List Plan). MakesOne (IsMade search root.embedding root.question) ps last) none one;
   holds = λ none all. all.0;
   lead = (leads_itself search (task.Visit root) tt, tt);
-  broken = broken_none search (IsAt search root.pair_path root.question) before now e;
+  broken = broken_none search (Place search (task.Visit root)) before now e;
 }
 
 pub goes_under_way : (search : Search) (root : Node) (t : Task) (rest more : List Task) (plans made : List Plan) (before now new : BrokenPathsOf) → UnderWay search root (t ∷ rest) plans before now → Continues search t more plans made now new → UnderWay search root (more ++ rest) made before new
@@ -126,11 +130,11 @@ goes_under_way search root t rest more plans made before now new h g = record {
   makes = λ making last run. let k = make_split search more rest made last run in h.makes making last (k.0, g.makes making k.0 k.1, k.2);
   holds = λ none all.
       let k = all_split (Needs search) more rest all in
-      let early = broken_kept search (IsAt search root.pair_path root.question) before now h.broken in
-      let late = broken_kept search (At search t) now new g.broken in
+      let early = broken_kept search (Place search (task.Visit root)) before now h.broken in
+      let late = broken_kept search (Place search t) now new g.broken in
       h.holds (none_before search before now new late none) (g.holds (none_after search before now new early none) k.0, k.1);
   lead = all_join (LeadsTo search (task.Visit root)) more rest (all_map (LeadsTo search t) (LeadsTo search (task.Visit root)) (λ x k. leads_through search (task.Visit root) t x h.lead.0 k) more g.lead) h.lead.1;
-  broken = broken_then search (IsAt search root.pair_path root.question) before now new h.broken (broken_from search (IsAt search root.pair_path root.question) (At search t) now new h.lead.0.at g.broken);
+  broken = broken_then search (Place search (task.Visit root)) before now new h.broken (broken_from search (Place search (task.Visit root)) (Place search t) now new (place_leads search (task.Visit root) t h.lead.0) g.broken);
 }
 
 -- the next turn
@@ -148,8 +152,8 @@ top_leads search root tasks next t o plans before now h e f =
     (subst (AllByRecursion (LeadsTo search (task.Visit root))) top h.lead).0
 
 -- where a path is broken
-pub breaks_under_way : (search : Search) (root : Node) (t : Task) (before now new : BrokenPathsOf) → AddsBroken search (IsAt search root.pair_path root.question) before now → LeadsTo search (task.Visit root) t → Breaks search t now new → AddsBroken search (IsAt search root.pair_path root.question) before new
-breaks_under_way search root t before now new h k b = broken_then search (IsAt search root.pair_path root.question) before now new h (broken_from search (IsAt search root.pair_path root.question) (At search t) now new k.at b.broken)
+pub breaks_under_way : (search : Search) (root : Node) (t : Task) (before now new : BrokenPathsOf) → AddsBroken search (Place search (task.Visit root)) before now → LeadsTo search (task.Visit root) t → Breaks search t now new → AddsBroken search (Place search (task.Visit root)) before new
+breaks_under_way search root t before now new h k b = broken_then search (Place search (task.Visit root)) before now new h (broken_from search (Place search (task.Visit root)) (Place search t) now new (place_leads search (task.Visit root) t k) b.broken)
 
 -- ---- the plan that was made last
 
@@ -188,9 +192,9 @@ pub end_stands : (search : Search) (root : Node) (tasks : List Task) (plans : Li
 end_stands search root tasks plans before now h none found = h.holds found (subst (λ (ts : List Task). AllByRecursion (Needs search) (reverse ts)) (sym none) tt)
 
 -- a path is broken
-pub breaks_missing : (search : Search) (root : Node) (t : Task) (before now new : BrokenPathsOf) → AddsBroken search (IsAt search root.pair_path root.question) before now → Breaks search t now new → (o : Option Plan) → FindsElse search o before new
+pub breaks_missing : (search : Search) (root : Node) (t : Task) (before now new : BrokenPathsOf) → AddsBroken search (Place search (task.Visit root)) before now → Breaks search t now new → (o : Option Plan) → FindsElse search o before new
 breaks_missing search root t before now new h b o making none =
-    let k = broken_kept search (IsAt search root.pair_path root.question) before now h in
+    let k = broken_kept search (Place search (task.Visit root)) before now h in
     let l = b.found in
     omega (arith, k, l)
 

@@ -1,5 +1,5 @@
 -- What the functions of an unfolding promise of the broken paths that they add.
-use Rattle.std.specs.Prelude.{◌≡◌, ◌≤◌, ◌++◌, ℕ, false, true, List, [], ◌∷◌, ℤ, length, Some, None}
+use Rattle.std.specs.Prelude.{◌≡◌, ◌⊎◌, ◌≤◌, ◌++◌, ℕ, false, true, List, [], ◌∷◌, ℤ, length, Some, None}
 use Rattle.std.specs.List.{AllByRecursion}
 use Rattle.ac_forms.specs.Affine.{Affine}
 use Rattle.ac_forms.specs.Rows.{Holds, Meets, IsRowOver}
@@ -29,6 +29,8 @@ use Rattle.ac_widen_programs.specs.BrokenPaths.{HasNoClaim, IsBroken}
 use Rattle.ac_unfold.specs.UnfoldEnds.{IsWalked}
 use Rattle.ac_unfold.specs.PlanResults.{judge_of}
 use Rattle.ac_unfold.specs.UnfoldPaths.{BrokenPathsOf}
+use Rattle.ac_unfold.specs.UnfoldQuestions.{IsBesideRow}
+use Rattle.ac_unfold.specs.FoundPaths.{IsFoundAt}
 use Rattle.ac_unfold.specs.declared.decide.Answer.{Answer}
 use Rattle.ac_unfold.specs.declared.decide.Answer.TheVariants as answer
 use Rattle.ac_unfold.specs.declared.decide.Opened.{Opened}
@@ -76,7 +78,7 @@ pub record Fails (columns : ℕ) (r : Row) (p : List ℤ) : Type 0 where
   pub fails : ¬ (Holds r p)
   pub exact : (f : Affine) → r ≡ Eq f → length p ≡ columns
 
--- or where one of these fails
+-- or where one of these fails: at a point of the rows, or beside them where it does not hold
 pub record IsPathBreaking (params : ℕ) (pair_path : List (Seat × Seat)) (c : Conj) (rows : List Row) (es : List Entry) : Type 0 where
   pub point : List ℤ
   pub long : c.columns ≤ length point
@@ -84,6 +86,9 @@ pub record IsPathBreaking (params : ℕ) (pair_path : List (Seat × Seat)) (c : 
   pub row : Row
   pub among : IsAmong row rows
   pub fails : Fails c.columns row point
+  pub asked : Conj
+  pub asked_is : (asked ≡ c) ⊎ IsBesideRow c rows asked
+  pub there : IsPoint asked point
   pub are : es ≡ entries_at params point pair_path
 
 -- ---- questions
@@ -151,14 +156,19 @@ pub record IsInCase (search : Search) (case : Case) (pair_path : List (Seat × S
   pub pair_path_is : pair_path ≡ before ++ seats_of b ∷ []
   pub gone : b.gone ≡ true
 
--- the paths are broken, and the others lead to ends
-pub record IsSound (u : Unfolding) (claims : List Claim) (found : BrokenPathsOf) : Type 0 where
-  pub broken : AllByRecursion (IsBroken u claims) found.paths
-  pub walked : AllByRecursion (IsWalked u claims) found.ended
+-- the path is found by the unfolding
+abbrev pub IsFoundIn : Search → Unfolding → List Entry → Type 0
+IsFoundIn search u = IsFoundAt u search.program_flows.now.left_flow.now search.program_flows.now.right_flow.now search.claims.now
+
+-- the paths are broken, and found so; the others lead to ends
+pub record IsSound (search : Search) (u : Unfolding) (found : BrokenPathsOf) : Type 0 where
+  pub broken : AllByRecursion (IsBroken u search.claims.now) found.paths
+  pub asked : AllByRecursion (IsFoundIn search u) found.paths
+  pub walked : AllByRecursion (IsWalked u search.claims.now) found.ended
 
 -- no path is lost, and what is found stays sound in each unfolding of the search that is at this place
 unfoldable pub AddsBroken : Search → (Unfolding → Type 0) → BrokenPathsOf → BrokenPathsOf → Type 0
-AddsBroken search At before after = (length before.paths ≤ length after.paths) × ((u : Unfolding) → IsOf search u → At u → IsSound u search.claims.now before → IsSound u search.claims.now after)
+AddsBroken search At before after = (length before.paths ≤ length after.paths) × ((u : Unfolding) → IsOf search u → At u → IsSound search u before → IsSound search u after)
 
 -- ---- kinds
 

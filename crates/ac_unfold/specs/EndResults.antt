@@ -65,7 +65,7 @@ IsCounted (Memory want) = Unit {0}
 abbrev pub FullUnder : Search → (Unfolding → Type 0) → BrokenPathsOf → UnfoldStop → Type 0
 FullUnder search At before (Overflow q) = Unit {0}
 FullUnder search At before (Spent q cost) = Unit {0}
-FullUnder search At before (Paths found) = (u : Unfolding) → IsOf search u → At u → IsSound u search.claims.now before → AreTooMany u search.claims.now found
+FullUnder search At before (Paths found) = (u : Unfolding) → IsOf search u → At u → IsSound search u before → AreTooMany u search.claims.now found
 FullUnder search At before (Memory want) = Unit {0}
 
 -- ---- ends

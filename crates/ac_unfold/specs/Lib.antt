@@ -24,3 +24,4 @@ pub mod RequiredRows
 pub mod UnbrokenStarts
 pub mod UnbrokenResults
 pub mod UnfoldTasks
+pub mod FoundPaths

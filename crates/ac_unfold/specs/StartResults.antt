@@ -7,7 +7,7 @@ use Rattle.ac_claims.specs.declared.types.Claim.{Claim}
 use Rattle.ac_claims.specs.declared.types.ClaimTree.{ClaimTree}
 use Rattle.ac_widen_programs.specs.BrokenPaths.{IsBroken}
 use Rattle.ac_widen_programs.specs.PairPaths.{Unfolding}
-use Rattle.ac_unfold.specs.BrokenPathResults.{IsFrom, IsOf}
+use Rattle.ac_unfold.specs.BrokenPathResults.{IsFoundIn, IsFrom, IsOf}
 use Rattle.ac_unfold.specs.declared.ends.Search.{Search}
 use Rattle.ac_unfold.specs.declared.types.Planned.{Planned}
 use Rattle.ac_unfold.specs.declared.types.Planned.TheVariants.{Plans, Broken}
@@ -29,6 +29,6 @@ pub record HasDomains (g : Pairing) (c : Claim) : Type 0 where
   pub right : Domain
   pub right_is : domain g.right c.right ≡ Some right
 
--- the path is broken in each unfolding of the search from the claim on
+-- the path is broken, and found so, in each unfolding of the search from the claim on
 abbrev pub IsBrokenFrom : Search → Claim → List Entry → Type 0
-IsBrokenFrom search start path = (u : Unfolding) → IsOf search u → IsFrom start u → IsBroken u search.claims.now path
+IsBrokenFrom search start path = (u : Unfolding) → IsOf search u → IsFrom start u → IsBroken u search.claims.now path × IsFoundIn search u path

@@ -1,10 +1,11 @@
 -- The questions that an unfolding asks, and the rows that come next at them.
-use Rattle.std.specs.Prelude.{◌≡◌, ℕ, true, List, ◌∷◌, ◌++◌, length, Option, Some, None, option_and_then, slice_get}
+use Rattle.std.specs.Prelude.{◌≡◌, ◌+◌, ℕ, false, true, List, [], ◌∷◌, ◌++◌, length, Option, Some, None, option_and_then, slice_get}
 use Rattle.ac_forms.specs.Affine.{Affine}
 use Rattle.ac_forms.specs.ListMembers.{IsAmong}
 use Rattle.ac_forms.specs.NormalRows.{NormalFits}
 use Rattle.ac_forms.specs.Renaming.{rows_renaming}
-use Rattle.ac_forms.specs.Rows.{IsRowOver}
+use Rattle.ac_forms.specs.Rows.{AreRowsOver, IsRowOver, IsWellMade}
+use Rattle.ac_forms.specs.Standing.{all_stand}
 use Rattle.ac_forms.specs.declared.conj.Conj.{Conj}
 use Rattle.ac_forms.specs.declared.row.Row.{Row}
 use Rattle.ac_syntax.specs.declared.tree.Order.TheVariants.{Keep}
@@ -14,6 +15,7 @@ use Rattle.ac_claims_paths.specs.PathSteps.{Pairing, at_rows, branches, same_sym
 use Rattle.ac_claims_paths.specs.CopyKills.{case_columns}
 use Rattle.ac_claims_paths.specs.ModelPositions.{CallAt, call_at, initial_cell, number_at}
 use Rattle.ac_claims_paths.specs.declared.path.Path.{Path}
+use Rattle.ac_claims_paths.specs.declared.path.Seat.{Seat}
 use Rattle.ac_claims_paths.specs.declared.path.Side.{Side}
 use Rattle.ac_claims_paths.specs.declared.places.CellForms.{CellForms}
 use Rattle.ac_claims.specs.ProofEnds.{equal_cells, equal_numbers}
@@ -28,8 +30,7 @@ use Rattle.ac_claims_plans.specs.declared.branching.Part.{Part}
 use Rattle.ac_graph.specs.PairMoves.{pairing_of}
 use Rattle.ac_widen_programs.specs.BrokenPaths.{HasNoClaim}
 use Rattle.ac_widen_programs.specs.PairPaths.{Unfolding, params_of, positions_of, seats_of}
-use Rattle.ac_widen_programs.specs.PairPathSteps.{at_rest, flow_on, order_of, AreNoReaders, IsBranchOf, ReadsOn}
-use Rattle.ac_unfold.specs.RequiredRows.{CanStand}
+use Rattle.ac_widen_programs.specs.PairPathSteps.{at_rest, flow_on, onward, order_of, AreNoReaders, IsBranchOf, ReadsOn}
 
 -- ---- the paths of an unfolding
 
@@ -41,20 +42,33 @@ GoesOn claims q = q.gone ≡ true → HasNoClaim claims (seats_of q)
 abbrev pub kill_on : ℕ → Path → Conj → Option (List Row)
 kill_on params q kill = option_and_then (λ a. rows_renaming (case_columns params a) kill.rows) q.last
 
--- the branch of a case, cut by rows of its kills: each time it stays on one side of such a row, where the row holds or where it does not
-pub data IsCut (params : ℕ) (case : Case) (b : Path) : Path → Type 0 where
-  whole : IsCut params case b b
-  cut : (q : Path) (kill : Conj × Kill) (rows : List Row) (row : Row) (part : Part) → IsCut params case b q → IsAmong kill case.kills → kill_on params q kill.0 ≡ Some rows → IsAmong row rows → IsAmong part (inside_of row ∷ outside_of q.conj.columns row)
-      → IsCut params case b (at_rows q (side_of q.conj part))
+-- the row with a number of the kill with a number of a case, over the columns of the question
+abbrev pub row_at : ℕ → Case → ℕ → ℕ → Path → Option Row
+row_at params case kill row q = option_and_then (λ rows. slice_get rows row) (option_and_then (λ (k : Conj × Kill). kill_on params q k.0) (slice_get case.kills kill))
 
--- the paths that are followed, up to the first claim behind a step: from a start by branches of calls, and by the cases of a read or an output, at what is
--- left of a case or cut by its kills
-pub data IsFollowed (u : Unfolding) (left right : Flow) (claims : List Claim) : Path → Type 0 where
-  start : (i k : ℕ) (q : Path) → start_at (pairing_of u.pair) u.claim i k ≡ Some q → IsFollowed u left right claims q
-  call : (q b : Path) (bs : List Path) → IsFollowed u left right claims q → GoesOn claims q → AreNoReaders u q → branches (pairing_of u.pair) (order_of u q) q ≡ Some bs → IsAmong b bs → IsFollowed u left right claims b
-  read : (side : Side) (q b d : Path) (case : Case) (rest : Remainder) → IsFollowed u left right claims q → GoesOn claims q → IsBranchOf u (flow_on left right side) side q case b → IsAmong rest case.pieces → at_rest (params_of u) b rest.conj ≡ Some d
-      → IsFollowed u left right claims d
-  cut : (side : Side) (q b d : Path) (case : Case) → IsFollowed u left right claims q → GoesOn claims q → IsBranchOf u (flow_on left right side) side q case b → IsCut (params_of u) case b d → IsFollowed u left right claims d
+-- a side says something that the question does not: it has a column of its own, or not all of its rows stand among those of the question
+abbrev pub IsNew : Conj → Part → Type 0
+IsNew c part = part.question_columns ≡ 0 → IsWellMade c → AreRowsOver c.columns part.rows → all_stand c.rows part.rows ≡ false
+
+-- the branch of a case, cut by rows of its kills, by none twice: the kills are passed in their order, and so are the rows of each; so many kills, and so many rows of
+-- the next one. At a row the path may stay on a side that is new: where the row holds; or where it does not, and then the kill is passed
+pub data IsCut (params : ℕ) (case : Case) (b : Path) : ℕ → ℕ → Path → Type 0 where
+  whole : IsCut params case b 0 0 b
+  next_row : (kill row : ℕ) (q : Path) → IsCut params case b kill row q → IsCut params case b kill (row + 1) q
+  next_kill : (kill row : ℕ) (q : Path) → IsCut params case b kill row q → IsCut params case b (kill + 1) 0 q
+  inside : (kill row : ℕ) (q : Path) (r : Row) → IsCut params case b kill row q → row_at params case kill row q ≡ Some r → IsNew q.conj (inside_of r) → IsCut params case b kill (row + 1) (at_rows q (side_of q.conj (inside_of r)))
+  outside : (kill row : ℕ) (q : Path) (r : Row) (part : Part) → IsCut params case b kill row q → row_at params case kill row q ≡ Some r → IsAmong part (outside_of q.conj.columns r) → IsNew q.conj part
+      → IsCut params case b (kill + 1) 0 (at_rows q (side_of q.conj part))
+
+-- the paths that are followed, up to the first claim behind a step, each with the pairs from the start on: from a start by branches of calls, and by the cases of a
+-- read or an output, at what is left of a case or cut by its kills
+pub data IsFollowed (u : Unfolding) (left right : Flow) (claims : List Claim) : List (Seat × Seat) → Path → Type 0 where
+  start : (i k : ℕ) (q : Path) → start_at (pairing_of u.pair) u.claim i k ≡ Some q → IsFollowed u left right claims (seats_of q ∷ []) q
+  call : (pairs : List (Seat × Seat)) (q b : Path) (bs : List Path) → IsFollowed u left right claims pairs q → GoesOn claims q → AreNoReaders u q → branches (pairing_of u.pair) (order_of u q) q ≡ Some bs → IsAmong b bs → IsFollowed u left right claims (onward pairs b) b
+  read : (side : Side) (pairs : List (Seat × Seat)) (q b d : Path) (case : Case) (rest : Remainder) → IsFollowed u left right claims pairs q → GoesOn claims q → IsBranchOf u (flow_on left right side) side q case b → IsAmong rest case.pieces → at_rest (params_of u) b rest.conj ≡ Some d
+      → IsFollowed u left right claims (onward pairs b) d
+  cut : (side : Side) (pairs : List (Seat × Seat)) (q b d : Path) (case : Case) (kill row : ℕ) → IsFollowed u left right claims pairs q → GoesOn claims q → IsBranchOf u (flow_on left right side) side q case b → IsCut (params_of u) case b kill row d
+      → IsFollowed u left right claims (onward pairs b) d
 
 -- ---- rows that have to stand
 
@@ -78,29 +92,43 @@ pub record AreTwoCalls (g : Pairing) (q : Path) : Type 0 where
 
 -- ---- questions
 
--- those of the paths, and beside them, where a row that has to stand does not
-pub data IsAsked (u : Unfolding) (left right : Flow) (claims : List Claim) : Conj → Type 0 where
-  here : (q : Path) → IsFollowed u left right claims q → IsAsked u left right claims q.conj
-  beside : (q : Path) (rows : List Row) (row : Row) (part : Part) → IsFollowed u left right claims q → AreTargets (pairing_of u.pair) claims q (Some rows) → IsAmong row rows → IsAmong part (outside_of q.conj.columns row) → IsAsked u left right claims (side_of q.conj part)
+-- the conjunction on one of these sides of it
+pub record IsOnSide (c : Conj) (parts : List Part) (q : Conj) : Type 0 where
+  pub part : Part
+  pub among : IsAmong part parts
+  pub is : q ≡ side_of c part
+
+-- beside it, where one of the rows does not hold
+pub record IsBesideRow (c : Conj) (rows : List Row) (q : Conj) : Type 0 where
+  pub row : Row
+  pub among : IsAmong row rows
+  pub side : IsOnSide c (outside_of c.columns row) q
+
+-- at the end of a path: the path's own, or beside it, where a row that has to stand does not
+pub data IsAskedAt (g : Pairing) (claims : List Claim) (q : Path) (c : Conj) : Type 0 where
+  here : c ≡ q.conj → IsAskedAt g claims q c
+  beside : (rows : List Row) → AreTargets g claims q (Some rows) → IsBesideRow q.conj rows c → IsAskedAt g claims q c
+
+-- those of the paths
+pub record IsAsked (u : Unfolding) (left right : Flow) (claims : List Claim) (c : Conj) : Type 0 where
+  pub pairs : List (Seat × Seat)
+  pub path : Path
+  pub followed : IsFollowed u left right claims pairs path
+  pub at : IsAskedAt (pairing_of u.pair) claims path c
 
 -- ---- rows that are not formed
 
 -- one of the rows is not over so many columns, or its normal form or its negation leaves `i128`; or one of them is not there
-abbrev pub LackTarget : ℕ → Option (List Row) → Type 0
-LackTarget n None = Unit {0}
-LackTarget n (Some rows) = (row : Row) × IsAmong row rows × (IsRowOver n row → NormalFits row → ¬ CanBranch row)
-
--- the same, or no point meets it
-abbrev pub LackKill : ℕ → Option (List Row) → Type 0
-LackKill n None = Unit {0}
-LackKill n (Some rows) = (row : Row) × IsAmong row rows × (CanStand n row → ¬ CanBranch row)
+abbrev pub AreNotFormed : ℕ → Option (List Row) → Type 0
+AreNotFormed n None = Unit {0}
+AreNotFormed n (Some rows) = (row : Row) × IsAmong row rows × (IsRowOver n row → NormalFits row → ¬ CanBranch row)
 
 -- what comes next at a question of a path is not formed: rows that have to stand, those of the branches of a read or an output, those of what is left of a case,
 -- or those of a kill; or two calls have no branches in the order that is listed for them
 pub data LacksNext (u : Unfolding) (left right : Flow) (claims : List Claim) : Path → Type 0 where
-  target : (q : Path) (rows : Option (List Row)) → IsFollowed u left right claims q → AreTargets (pairing_of u.pair) claims q rows → LackTarget q.conj.columns rows → LacksNext u left right claims q
-  read : (q : Path) (side : Side) → IsFollowed u left right claims q → GoesOn claims q → ReadsOn u side q → branches (pairing_of u.pair) Keep q ≡ None → LacksNext u left right claims q
-  call : (q : Path) → IsFollowed u left right claims q → GoesOn claims q → AreNoReaders u q → AreTwoCalls (pairing_of u.pair) q → branches (pairing_of u.pair) (u.order (positions_of (seats_of q))) q ≡ None → LacksNext u left right claims q
-  rest : (side : Side) (q b : Path) (case : Case) (rest : Remainder) → IsFollowed u left right claims q → GoesOn claims q → IsBranchOf u (flow_on left right side) side q case b → IsAmong rest case.pieces → at_rest (params_of u) b rest.conj ≡ None → LacksNext u left right claims b
-  kill : (side : Side) (q b d : Path) (case : Case) (kill : Conj × Kill) → IsFollowed u left right claims q → GoesOn claims q → IsBranchOf u (flow_on left right side) side q case b → IsCut (params_of u) case b d → IsAmong kill case.kills
-      → LackKill d.conj.columns (kill_on (params_of u) d kill.0) → LacksNext u left right claims d
+  target : (pairs : List (Seat × Seat)) (q : Path) (rows : Option (List Row)) → IsFollowed u left right claims pairs q → AreTargets (pairing_of u.pair) claims q rows → AreNotFormed q.conj.columns rows → LacksNext u left right claims q
+  read : (pairs : List (Seat × Seat)) (q : Path) (side : Side) → IsFollowed u left right claims pairs q → GoesOn claims q → ReadsOn u side q → branches (pairing_of u.pair) Keep q ≡ None → LacksNext u left right claims q
+  call : (pairs : List (Seat × Seat)) (q : Path) → IsFollowed u left right claims pairs q → GoesOn claims q → AreNoReaders u q → AreTwoCalls (pairing_of u.pair) q → branches (pairing_of u.pair) (u.order (positions_of (seats_of q))) q ≡ None → LacksNext u left right claims q
+  rest : (side : Side) (pairs : List (Seat × Seat)) (q b : Path) (case : Case) (rest : Remainder) → IsFollowed u left right claims pairs q → GoesOn claims q → IsBranchOf u (flow_on left right side) side q case b → IsAmong rest case.pieces → at_rest (params_of u) b rest.conj ≡ None → LacksNext u left right claims b
+  kill : (side : Side) (pairs : List (Seat × Seat)) (q b d : Path) (case : Case) (number row : ℕ) (kill : Conj × Kill) → IsFollowed u left right claims pairs q → GoesOn claims q → IsBranchOf u (flow_on left right side) side q case b → IsCut (params_of u) case b number row d
+      → slice_get case.kills number ≡ Some kill → AreNotFormed d.conj.columns (kill_on (params_of u) d kill.0) → LacksNext u left right claims d

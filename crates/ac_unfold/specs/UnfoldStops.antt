@@ -1,24 +1,28 @@
 -- What the functions of an unfolding promise of their stops.
-use Rattle.std.specs.Prelude.{◌≡◌, ◌⊎◌, ℕ, List, Some, None}
+use Rattle.std.specs.Prelude.{◌≡◌, ◌⊎◌, ◌≤◌, ℕ, List, ℤ, length, Some, None, slice_get}
+use Rattle.std.specs.List.{AllByRecursion}
 use Rattle.ac_forms.specs.ListMembers.{IsAmong}
+use Rattle.ac_forms.specs.Rows.{Holds, Meets}
 use Rattle.ac_forms.specs.declared.conj.Conj.{Conj}
 use Rattle.ac_forms.specs.declared.row.Row.{Row}
 use Rattle.ac_claims_paths.specs.declared.path.Path.{Path}
+use Rattle.ac_claims_paths.specs.declared.path.Seat.{Seat}
 use Rattle.ac_claims_paths.specs.declared.path.Side.{Side}
 use Rattle.ac_claims.specs.declared.types.Kill.{Kill}
 use Rattle.ac_flow.specs.declared.types.Case.{Case}
-use Rattle.ac_claims_plans.specs.BranchSides.{outside_of, side_of}
+use Rattle.ac_claims_plans.specs.BranchSides.{AreSides}
 use Rattle.ac_claims_plans.specs.declared.branching.Part.{Part}
+use Rattle.ac_claims_plans.specs.declared.branching.Parts.{Parts}
 use Rattle.ac_widen_programs.specs.PairPaths.{Unfolding}
-use Rattle.ac_widen_programs.specs.PairPathSteps.{flow_on, IsBranchOf}
-use Rattle.ac_unfold.specs.UnfoldQuestions.{kill_on, AreTargets, AreTwoCalls, GoesOn, IsCut, IsFollowed, LackTarget}
+use Rattle.ac_widen_programs.specs.PairPathSteps.{flow_on, onward, IsBranchOf}
+use Rattle.ac_unfold.specs.UnfoldQuestions.{kill_on, AreNotFormed, AreTargets, AreTwoCalls, GoesOn, IsBesideRow, IsCut, IsFollowed, IsNew, IsOnSide}
 use Rattle.ac_unfold.specs.UnfoldCauses.{IsTooCostly, IsTooWide, IsStopOf}
 use Rattle.ac_unfold.specs.PlanResults.{judge_of}
+use Rattle.ac_unfold.specs.RequiredRows.{CanStand}
 use Rattle.ac_unfold.specs.BrokenPathResults.{IsOf}
 use Rattle.ac_unfold.specs.declared.ends.Search.{Search}
 use Rattle.ac_unfold.specs.declared.kinds.Next.{Next}
 use Rattle.ac_unfold.specs.declared.kinds.Next.TheVariants as next
-use Rattle.ac_unfold.specs.declared.node.Node.{Node}
 use Rattle.ac_unfold.specs.declared.types.UnfoldStop.{UnfoldStop}
 use Rattle.ac_unfold.specs.declared.types.UnfoldStop.TheVariants.{Overflow, Spent, Paths, Memory}
 
@@ -37,27 +41,16 @@ StopsAsking budget c stop = StopsAmong budget (λ q. q ≡ c) stop
 
 -- ---- rows that have to stand
 
--- the question on one of these sides of it
-pub record IsOnSide (c : Conj) (parts : List Part) (q : Conj) : Type 0 where
-  pub part : Part
-  pub among : IsAmong part parts
-  pub is : q ≡ side_of c part
-
 abbrev pub StopsOutside : ℕ → Conj → List Part → UnfoldStop → Type 0
 StopsOutside budget c parts stop = StopsAmong budget (IsOnSide c parts) stop
 
 -- the question, or beside it where one of the rows does not stand
-pub record IsBesideRow (c : Conj) (rows : List Row) (q : Conj) : Type 0 where
-  pub row : Row
-  pub among : IsAmong row rows
-  pub side : IsOnSide c (outside_of c.columns row) q
-
 abbrev pub IsAround : Conj → List Row → Conj → Type 0
 IsAround c rows q = (q ≡ c) ⊎ IsBesideRow c rows q
 
 -- one of these is too wide, or one of the rows is not formed; or one is too costly
 abbrev pub StopsStanding : ℕ → Conj → List Row → UnfoldStop → Type 0
-StopsStanding budget c rows (Overflow q) = (IsAround c rows q × IsTooWide budget q) ⊎ ((q ≡ c) × LackTarget c.columns (Some rows))
+StopsStanding budget c rows (Overflow q) = (IsAround c rows q × IsTooWide budget q) ⊎ ((q ≡ c) × AreNotFormed c.columns (Some rows))
 StopsStanding budget c rows (Spent q cost) = IsAround c rows q × IsTooCostly budget cost q
 StopsStanding budget c rows (Paths found) = Unit {0}
 StopsStanding budget c rows (Memory want) = Unit {0}
@@ -101,49 +94,56 @@ StopsUnder search At (Memory want) = Unit {0}
 -- ---- places
 
 -- it follows a path to the question
-abbrev pub Follows : Search → Path → Unfolding → Type 0
-Follows search q u = IsFollowed u search.program_flows.now.left_flow.now search.program_flows.now.right_flow.now search.claims.now q
+abbrev pub Follows : Search → List (Seat × Seat) → Path → Unfolding → Type 0
+Follows search pair_path q u = IsFollowed u search.program_flows.now.left_flow.now search.program_flows.now.right_flow.now search.claims.now pair_path q
 
 -- and goes on from there
-pub record FollowsOn (search : Search) (q : Path) (u : Unfolding) : Type 0 where
-  pub follows : Follows search q u
+pub record FollowsOn (search : Search) (pair_path : List (Seat × Seat)) (q : Path) (u : Unfolding) : Type 0 where
+  pub follows : Follows search pair_path q u
   pub goes_on : GoesOn search.claims.now q
 
 -- it goes on from a question to this branch of a case
-pub record FollowsCase (search : Search) (case : Case) (b : Path) (u : Unfolding) : Type 0 where
+pub record FollowsCase (search : Search) (case : Case) (pair_path : List (Seat × Seat)) (b : Path) (u : Unfolding) : Type 0 where
+  pub before : List (Seat × Seat)
   pub question : Path
-  pub on : FollowsOn search question u
+  pub on : FollowsOn search before question u
   pub side : Side
   pub branch : IsBranchOf u (flow_on search.program_flows.now.left_flow.now search.program_flows.now.right_flow.now side) side question case b
+  pub pair_path_is : pair_path ≡ onward before b
 
--- or to it, cut by kills of the case
-pub record FollowsCut (search : Search) (case : Case) (q : Path) (u : Unfolding) : Type 0 where
+-- or to it, cut by kills of the case; so many kills are passed, and so many rows of the next one
+pub record FollowsCut (search : Search) (case : Case) (number row : ℕ) (pair_path : List (Seat × Seat)) (q : Path) (u : Unfolding) : Type 0 where
   pub branch : Path
-  pub in_case : FollowsCase search case branch u
-  pub cut : IsCut (judge_of search).params case branch q
+  pub in_case : FollowsCase search case pair_path branch u
+  pub cut : IsCut (judge_of search).params case branch number row q
 
 -- ---- kills
 
--- the row is one of a kill of the case, over the columns of the question
-pub record IsKillsRow (search : Search) (case : Case) (q : Path) (row : Row) : Type 0 where
+-- these are the rows of the kill with the number, over the columns of the question
+pub record AreKillsRows (search : Search) (case : Case) (number : ℕ) (q : Path) (rows : List Row) : Type 0 where
   pub kill : Conj × Kill
-  pub among : IsAmong kill case.kills
+  pub is : slice_get case.kills number ≡ Some kill
+  pub are : kill_on (judge_of search).params q kill.0 ≡ Some rows
+
+-- the row with a number is one of them
+pub record IsKillsRow (search : Search) (case : Case) (number at : ℕ) (q : Path) (row : Row) : Type 0 where
   pub rows : List Row
-  pub are : kill_on (judge_of search).params q kill.0 ≡ Some rows
-  pub row_among : IsAmong row rows
+  pub are : AreKillsRows search case number q rows
+  pub is : slice_get rows at ≡ Some row
 
--- these are the rows of one
-pub record AreKillsRows (search : Search) (case : Case) (q : Path) (rows : List Row) : Type 0 where
-  pub kill : Conj × Kill
-  pub among : IsAmong kill case.kills
-  pub are : kill_on (judge_of search).params q kill.0 ≡ Some rows
+-- the row can stand, and these are its sides: each of those where it does not hold is new
+pub record AreNewSides (c : Conj) (row : Row) (parts : Parts) : Type 0 where
+  pub can : CanStand c.columns row
+  pub are : AreSides c.columns row (Some parts)
+  pub new : AllByRecursion (IsNew c) parts.outside
 
--- these are sides of the question where such a row does not hold
-pub record AreKillsSides (search : Search) (case : Case) (q : Path) (parts : List Part) : Type 0 where
-  pub row : Row
-  pub is : IsKillsRow search case q row
-  pub are : parts ≡ outside_of q.conj.columns row
+-- no point of the question meets the row
+abbrev pub NeverHolds : Conj → Row → Type 0
+NeverHolds c row = (p : List ℤ) → c.columns ≤ length p → Meets c.rows p → ¬ (Holds row p)
 
--- the second question is the first one cut by rows of kills, wherever the first one is the branch of the case so cut
-abbrev pub CutsOn : Search → Case → Node → Node → Type 0
-CutsOn search case node next = (b : Path) → IsCut (judge_of search).params case b node.question → IsCut (judge_of search).params case b next.question
+-- the question has the rows of one of these sides already
+pub record HasSide (c : Conj) (parts : List Part) : Type 0 where
+  pub part : Part
+  pub among : IsAmong part parts
+  pub columns : part.question_columns ≡ 0
+  pub holds : (p : List ℤ) → Meets c.rows p → Meets part.rows p

@@ -1,11 +1,13 @@
 -- The tasks of an unfolding: where each stands, which plans come of it, what has to stand with it, and by which tasks it goes on.
-use Rattle.std.specs.Prelude.{◌≡◌, ◌+◌, ◌<◌, ◌≤◌, ◌++◌, ◌∷◌, ℕ, true, false, List, [], length, take, Option, Some, None, Result, Ok, Err, Vec, slice_get}
+use Rattle.std.specs.Prelude.{◌≡◌, ◌+◌, ◌<◌, ◌++◌, ◌∷◌, ℕ, true, false, List, [], length, take, Option, Some, None, Result, Ok, Err, Vec, is_some, slice_get}
 use Rattle.std.specs.declared.alloc.Global.{Global}
 use Rattle.std.specs.List.{AllByRecursion}
 use Rattle.ac_forms.specs.declared.row.Row.{Row}
 use Rattle.ac_syntax.specs.declared.tree.Order.{Order}
 use Rattle.ac_claims_paths.specs.BranchPaths.{onto}
 use Rattle.ac_claims_paths.specs.declared.path.Branch.{Branch}
+use Rattle.ac_claims_paths.specs.declared.path.Path.{Path}
+use Rattle.ac_claims_paths.specs.declared.path.Seat.{Seat}
 use Rattle.ac_claims_paths.specs.declared.path.Side.{Side}
 use Rattle.ac_claims.specs.declared.types.Plan.{Plan}
 use Rattle.ac_flow.specs.declared.types.Case.{Case}
@@ -50,28 +52,37 @@ At search (task.Branch embedding row around) = λ u. Unit {0}
 
 -- and which questions it follows
 abbrev pub On : Search → Task → Unfolding → Type 0
-On search (task.Visit node) = Follows search node.question
-On search (task.Rest node) = Follows search node.question
-On search (task.Case node case) = FollowsCase search case.now node.question
-On search (task.Outside node case number) = FollowsCut search case.now node.question
-On search (task.Kills node case number) = FollowsCut search case.now node.question
-On search (task.Cut at) = FollowsCut search at.case.now at.node.question
+On search (task.Visit node) = Follows search node.pair_path node.question
+On search (task.Rest node) = Follows search node.pair_path node.question
+On search (task.Case node case) = FollowsCase search case.now node.pair_path node.question
+On search (task.Outside node case number) = FollowsCut search case.now number 0 node.pair_path node.question
+On search (task.Kills node case number) = FollowsCut search case.now number 0 node.pair_path node.question
+On search (task.Cut at) = FollowsCut search at.case.now at.number at.standing at.node.pair_path at.node.question
 On search (task.Step order around) = λ u. Unit {0}
 On search (task.Branch embedding row around) = λ u. Unit {0}
+
+-- both
+abbrev pub Place : Search → Task → Unfolding → Type 0
+Place search t = λ u. At search t u × On search t u
+
+-- an unfolding comes to the question of a visit, and follows it
+abbrev pub IsThere : Search → List (Seat × Seat) → Path → Unfolding → Type 0
+IsThere search pair_path q = λ u. IsAt search pair_path q u × Follows search pair_path q u
 
 -- the rows are those of the kill with the number, over the columns of the question, and the first ones stand there
 pub record IsCutAt (search : Search) (at : CutAt) : Type 0 where
   pub numbered : AreKillRows search at.case.now at.number at.node.question at.rows
-  pub there : AreKillsRows search at.case.now at.node.question at.rows
+  pub there : AreKillsRows search at.case.now at.number at.node.question at.rows
   pub kill_there : IsKillThere search at.node.question at.case.now at.kill.now at.rows
   pub stand : AreStanding at.node.question.conj (take at.standing at.rows)
 
+-- what is known of a task: a question of a case has assumed it
 abbrev pub IsReady : Search → Task → Type 0
 IsReady search (task.Visit node) = Unit {0}
 IsReady search (task.Rest node) = Unit {0}
-IsReady search (task.Case node case) = Unit {0}
-IsReady search (task.Outside node case number) = Unit {0}
-IsReady search (task.Kills node case number) = Unit {0}
+IsReady search (task.Case node case) = is_some node.question.last ≡ true
+IsReady search (task.Outside node case number) = is_some node.question.last ≡ true
+IsReady search (task.Kills node case number) = is_some node.question.last ≡ true
 IsReady search (task.Cut at) = IsCutAt search at
 IsReady search (task.Step order around) = Unit {0}
 IsReady search (task.Branch embedding row around) = Unit {0}
@@ -147,13 +158,13 @@ pub record Continues (search : Search) (t : Task) (more : List Task) (before aft
   pub lead : AllByRecursion (LeadsTo search t) more
   pub makes : search.making ≡ true → (last : List Plan) → MakeAll search more after last → Makes search t before last
   pub holds : FindsNone search old new → AllByRecursion (Needs search) more → Needs search t
-  pub broken : AddsBroken search (At search t) old new
+  pub broken : AddsBroken search (Place search t) old new
 
 -- where plans are made, it ends if a path is broken
 pub record Breaks (search : Search) (t : Task) (old new : BrokenPathsOf) : Type 0 where
   pub making : search.making ≡ true
   pub found : length old.paths < length new.paths
-  pub broken : AddsBroken search (At search t) old new
+  pub broken : AddsBroken search (Place search t) old new
 
 abbrev pub Goes : Search → Task → List Plan → List Plan → BrokenPathsOf → BrokenPathsOf → Option (Vec Task Global) → Type 0
 Goes search t before after old new None = Breaks search t old new
@@ -233,7 +244,7 @@ passed_row at = record { node = at.node; case = at.case; number = at.number; kil
 -- a branch on the next row: the parts of its negation, and the rows behind it where it holds
 pub record IsSplit (at : CutAt) (row : Row) (parts : Parts) (more : List Task) (before after : List Plan) : Type 0 where
   pub next : ℕ
-  pub next_most : next ≤ at.number + 1
+  pub next_is : next ≡ at.number + 1
   pub sides : List Task
   pub are : AreBeside at.node at.case.now next parts.outside sides
   pub inside : Node

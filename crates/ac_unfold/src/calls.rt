@@ -46,7 +46,7 @@ pub(crate) fn calls<'a>(
     requires calls { AreTwoCalls (judge_of search.now) node.now.question }
     requires may { MayStep search.now node.now.question order }
     ensures unfolds { IfOk result (λ more. Unfolds search.now (todo.Visit node.now) more.items plans.old.items plans.new.items) }
-    ensures causes { IfErr result (StopsUnder search.now (Follows search.now node.now.question)) }
+    ensures causes { IfErr result (StopsUnder search.now (Follows search.now node.now.pair_path node.now.question)) }
     ensures never { IfErr result IsNeverFull }
 {
     let Some(found) = branches(alloc, &search.program_flows.programs, order, &node.question)? else {

@@ -12,6 +12,7 @@ ghost use Rattle.ac_unfold.specs.PlanResults.{IsMade};
 ghost use Rattle.ac_unfold.specs.PlanGaps.{FindsElse};
 ghost use Rattle.ac_unfold.specs.KillCuts.{columns_there, IsClaimBehind, IsNumbered};
 ghost use Rattle.ac_unfold.specs.UnfoldStops.{Follows, HandsBack, StopsUnder};
+ghost use Rattle.ac_unfold.specs.UnfoldTasks.{IsThere};
 ghost use Rattle.ac_unfold.specs.UnbrokenResults.{FindsNone, StandsIn};
 
 use crate::breaks::BrokenPaths;
@@ -26,7 +27,7 @@ use ac_claims_paths::columns::columns_of_both;
 use ac_claims_paths::path::Path;
 use ac_forms::{Row, column_after};
 use ac_syntax::tree::Position;
-use std::alloc::{AllocError, Global};
+use std::alloc::Global;
 
 /// Whether a claim is of a pair.
 pub(crate) fn is_of(claim: &Claim, left: &Position, right: &Position) -> bool
@@ -93,12 +94,12 @@ pub(crate) fn at_claim(
     ensures missing { IfOk result (λ made. FindsElse search.now made found_paths.old found_paths.new) }
     ensures made { IfOk result (λ made. IfSome made (IsMade search.now node.embedding node.question)) }
     ensures stands { OnOk result (FindsNone search.now found_paths.old found_paths.new → StandsIn search.now node.question) }
-    ensures broken { OnOk result (AddsBroken search.now (IsAt search.now node.pair_path node.question) found_paths.old found_paths.new) }
-    ensures causes { IfErr result (StopsUnder search.now (Follows search.now node.question)) }
+    ensures broken { OnOk result (AddsBroken search.now (IsThere search.now node.pair_path node.question) found_paths.old found_paths.new) }
+    ensures causes { IfErr result (StopsUnder search.now (Follows search.now node.pair_path node.question)) }
     ensures full { IfErr result (FullUnder search.now (IsAt search.now node.pair_path node.question) found_paths.old) }
 {
     let Some(claim) = search.claims.get(number) else {
-        return Err(UnfoldStop::Memory(AllocError));
+        unreachable!();
     };
     let rows = rows_at(alloc, search, &node, claim)?;
     let hit = PlanNext::Hit(column_after(search.base, number)?);

@@ -103,13 +103,9 @@ impl Course {
             node: _,
             mut branches,
         } = self;
-        let count = branches.len();
         let mut plan = end;
-        for _number in 0..count {
-            match branches.pop() {
-                Some(last) => plan = behind(alloc, last, plan)?,
-                None => return Err(AllocError),
-            }
+        while let Some(last) = branches.pop() {
+            plan = behind(alloc, last, plan)?;
         }
         Ok(plan)
     }

@@ -7,7 +7,7 @@ ghost use Rattle.ac_claims_paths.specs.declared.path.Path.{Path};
 ghost use Rattle.ac_claims_plans.specs.declared.embedding.Embedding.{Embedding};
 ghost use Rattle.ac_unfold.specs.UnfoldCauses.{stop_of};
 ghost use Rattle.ac_unfold.specs.UnfoldStops.{StopsAsking};
-ghost use Rattle.ac_unfold.specs.RequiredRows.{CanStand, IsRefused, IsWanted};
+ghost use Rattle.ac_unfold.specs.RequiredRows.{IsRefused, IsWanted};
 ghost use Rattle.ac_unfold.specs.PlanResults.{IsAnswer, IsOpen, IsRefuted, IsStanding};
 ghost use Rattle.ac_unfold.specs.EndResults.{IsNeverFull};
 ghost use Rattle.ac_unfold.specs.PlanGaps.{HasNone, IsShown, IsShownOpen};
@@ -248,16 +248,5 @@ pub(crate) fn kind_of(alloc: Global, row: &Row, columns: usize) -> Result<Wanted
         Ok(_) => Ok(Wanted::Standing),
         Err(FormStop::Wide) => Ok(Wanted::Wide),
         Err(FormStop::Memory(want)) => Err(want),
-    }
-}
-
-/// Whether a row over so many columns stands where it is added.
-pub(crate) fn can_stand(alloc: Global, row: &Row, columns: usize) -> Result<bool, AllocError>
-    ensures can { IfOk result (λ can. can ≡ true → CanStand columns row.now) }
-    ensures cannot { IfOk result (λ can. can ≡ false → ¬ CanStand columns row.now) }
-{
-    match kind_of(alloc, row, columns)? {
-        Wanted::Standing => Ok(true),
-        Wanted::Absurd | Wanted::Wide => Ok(false),
     }
 }

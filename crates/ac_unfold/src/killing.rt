@@ -1,5 +1,5 @@
 //! The end at a killed place, with the choices of its copy behind the columns of the path.
-ghost use Rattle.std.specs.Prelude.{◌≡◌, IfOk, Some, map};
+ghost use Rattle.std.specs.Prelude.{◌≡◌, IfOk, Some, is_some, map, true};
 ghost use Rattle.ac_claims_paths.specs.CopyKills.{case_width};
 ghost use Rattle.ac_claims_paths.specs.declared.path.Assumed.{Assumed};
 ghost use Rattle.ac_flow.specs.KillAcceptance.{behind};
@@ -49,11 +49,12 @@ fn moved_choices(
 
 /// How many columns the case has that was assumed last.
 fn own_columns(search: &Search<'_>, last: &Option<Assumed>) -> Result<usize, AllocError>
+    requires { is_some last.now ≡ true }
     ensures { IfOk result (λ own. (a : Assumed) → last.now ≡ Some a → own ≡ case_width (judge_of search.now).params a) }
 {
     match last {
         Some(assumed) => case_width(search.params(), assumed),
-        None => Err(AllocError),
+        None => unreachable!(),
     }
 }
 
@@ -64,6 +65,7 @@ pub(crate) fn killed(
     node: &Node,
     kill: &Kill,
 ) -> Result<Plan, AllocError>
+    requires { is_some node.now.question.last ≡ true }
     ensures { IfOk result (IsKilled search.now node.now kill.now) }
 {
     let own = own_columns(search, &node.question.last)?;

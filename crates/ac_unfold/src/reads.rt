@@ -1,5 +1,5 @@
 //! The step of a read or an output, and its cases.
-ghost use Rattle.std.specs.Prelude.{◌≡◌, IfErr, IfOk, IfSome, Some, slice_get};
+ghost use Rattle.std.specs.Prelude.{◌≡◌, IfErr, IfOk, IfSome, Some, is_some, slice_get, true};
 ghost use Rattle.std.specs.List.{AllByRecursion};
 ghost use Rattle.ac_claims_paths.specs.PathSteps.{model_of};
 ghost use Rattle.ac_syntax.specs.declared.tree.Order.TheVariants.{Keep};
@@ -99,7 +99,7 @@ pub(crate) fn read<'a>(
     requires kind { IsKindThere search.now node.now.question (kind.Read side) }
     requires may { MayStep search.now node.now.question Keep }
     ensures unfolds { IfOk result (λ more. Unfolds search.now (todo.Visit node.now) more.items plans.old.items plans.new.items) }
-    ensures causes { IfErr result (StopsUnder search.now (Follows search.now node.now.question)) }
+    ensures causes { IfErr result (StopsUnder search.now (Follows search.now node.now.pair_path node.now.question)) }
     ensures never { IfErr result IsNeverFull }
 {
     let programs = &search.program_flows.programs;
@@ -121,8 +121,9 @@ pub(crate) fn enter<'a>(
     node: Node,
     case: &'a Case,
 ) -> Result<Vec<Task<'a>>, UnfoldStop>
+    requires { is_some node.question.last ≡ true }
     ensures moves { IfOk result (λ more. MovesOn search.now (todo.Case node case.entry) more.items) }
-    ensures causes { IfErr result (StopsUnder search.now (FollowsCase search.now case.now node.question)) }
+    ensures causes { IfErr result (StopsUnder search.now (FollowsCase search.now case.now node.pair_path node.question)) }
     ensures never { IfErr result IsNeverFull }
 {
     if search.making {
@@ -139,8 +140,9 @@ fn rests<'a>(
     node: &Node,
     case: &Case,
 ) -> Result<Vec<Task<'a>>, UnfoldStop>
+    requires { is_some node.now.question.last ≡ true }
     ensures rests { IfOk result (λ made. AreRests search.now node.now case.now.pieces made.items) }
-    ensures causes { IfErr result (StopsUnder search.now (FollowsCase search.now case.now node.now.question)) }
+    ensures causes { IfErr result (StopsUnder search.now (FollowsCase search.now case.now node.now.pair_path node.now.question)) }
     ensures never { IfErr result IsNeverFull }
 {
     let mut made = Vec::new(alloc);

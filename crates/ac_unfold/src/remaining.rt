@@ -1,5 +1,5 @@
 //! The rows of a case over the columns of a question: of what is left of it, and of its kills.
-ghost use Rattle.std.specs.Prelude.{◌≡◌, IfOk, None, Some, true, IfErr};
+ghost use Rattle.std.specs.Prelude.{◌≡◌, IfOk, None, Some, is_some, true, IfErr};
 ghost use Rattle.ac_forms.specs.Renaming.{rows_renaming};
 ghost use Rattle.ac_claims_paths.specs.CopyKills.{case_columns};
 ghost use Rattle.ac_claims_paths.specs.declared.path.Assumed.{Assumed};
@@ -45,12 +45,13 @@ pub(crate) fn at_remainder(
     node: &Node,
     rest: &Conj,
 ) -> Result<Node, UnfoldStop>
+    requires { is_some node.now.question.last ≡ true }
     ensures question { IfOk result (λ made. at_rest (judge_of search.now).params node.now.question rest.now ≡ Some made.question) }
     ensures pair_path { IfOk result (λ made. made.pair_path ≡ node.now.pair_path) }
     ensures causes { IfErr result (HandsBack node.now.question.conj (at_rest (judge_of search.now).params node.now.question rest.now ≡ None)) }
 {
     let Some(assumed) = &node.question.last else {
-        return Err(UnfoldStop::Memory(AllocError));
+        unreachable!();
     };
     let mut columns = case_columns(alloc, search.params(), assumed)?;
     let further = rest.columns.saturating_sub(columns.len());
@@ -72,12 +73,13 @@ pub(crate) fn kill_rows(
     node: &Node,
     kill: &Conj,
 ) -> Result<Items<Row>, UnfoldStop>
+    requires { is_some node.now.question.last ≡ true }
     ensures rows { IfOk result (λ made. (a : Assumed) → node.now.question.last ≡ Some a → Some made ≡ rows_renaming (case_columns (judge_of search.now).params a) kill.now.rows) }
     ensures there { IfOk result (λ made. kill_on (judge_of search.now).params node.now.question kill.now ≡ Some made) }
     ensures causes { IfErr result (HandsBack node.now.question.conj (kill_on (judge_of search.now).params node.now.question kill.now ≡ None)) }
 {
     let Some(assumed) = &node.question.last else {
-        return Err(UnfoldStop::Memory(AllocError));
+        unreachable!();
     };
     let columns = case_columns(alloc, search.params(), assumed)?;
     over_columns(

@@ -12,6 +12,7 @@ ghost use Rattle.ac_unfold_plans.specs.PairStops.{Stopped, StopsFrom};
 ghost use Rattle.ac_widen_programs.specs.PairPaths.{Unfolding};
 ghost use Rattle.ac_widen_programs.specs.BrokenPaths.{IsBroken};
 ghost use Rattle.ac_unfold.specs.UnfoldCauses.{StopsUnfolding};
+ghost use Rattle.ac_unfold.specs.FoundPaths.{IsFoundAt};
 ghost use Rattle.ac_unfold.specs.Unfoldings.{IsUnfoldingOf};
 ghost use Rattle.ac_unfold.specs.EndResults.{nothing_found, FullUnder};
 ghost use Rattle.ac_unfold.specs.PlanResults.{judge_of, IsGiven};
@@ -31,7 +32,7 @@ use crate::breaks::BrokenPaths;
 use crate::decide::{Opened, open_question};
 use crate::ends::Search;
 use crate::node::Node;
-use crate::types::{Planned, ProgramFlows, UnfoldStop};
+use crate::types::{NumberedClaims, Planned, ProgramFlows, UnfoldStop};
 use crate::unfolding::visit;
 use ac_base::Items;
 use ac_claims::domains::size_at;
@@ -144,7 +145,7 @@ fn find_beside(
 /// The start's pairs are the points of its rows, the context and a piece of each of its positions, over the parameters, the
 /// coordinates of the left position and those of the right one. A path ends at the first pair of a claim behind at least one
 /// step, or at a pair without a step. Each path has an entry for each of its pairs: the first has the reason `Output`, each
-/// other is a step from the one before it, by its number in the path; all are read off one point.
+/// other is a step from the one before it, by its number in the path. All are read off one point of a question that is asked there.
 pub fn broken_paths(
     alloc: Global,
     program_flows: &ProgramFlows<'_>,
@@ -155,6 +156,7 @@ pub fn broken_paths(
     ensures paths { IfOk result (AllByRecursion IsPath) }
     ensures stands { IfOk result (λ paths. paths ≡ [] → (u : Unfolding) → IsUnfoldingOf program_flows.now start.now order.now u → StartStands u program_flows.now.left_flow.now program_flows.now.right_flow.now claims.now) }
     ensures broken { IfOk result (λ paths. (u : Unfolding) → IsUnfoldingOf program_flows.now start.now order.now u → AllByRecursion (IsBroken u claims.now) paths) }
+    ensures found { IfOk result (λ paths. (u : Unfolding) → IsUnfoldingOf program_flows.now start.now order.now u → AllByRecursion (IsFoundAt u program_flows.now.left_flow.now program_flows.now.right_flow.now claims.now) paths) }
     ensures causes { IfErr result (StopsUnfolding program_flows.now start.now claims.now order.now) }
 {
     let search = search_of(program_flows, claims, &[], 0, order, false);
@@ -201,12 +203,12 @@ fn push_trees(
     Ok(None)
 }
 
-/// The plans of a start that stands, one for each pair of pieces in order: the start has the number `number` in the proof, the
-/// claims of the list have the numbers from `base` on, and the tabled ones those behind them. A judge of proofs accepts each plan where
-/// the start begins at its pieces, against whatever claims these are among with their numbers. It stops at pairs of the list's claims:
-/// behind its first step it neither goes on from such a pair nor ends there at a number or an initial cell. At a pair of a tabled
-/// claim it ends only where that claim's rows are known to stand, and goes on elsewhere; so no path fails there. And it uses the
-/// tabled claims: followed by its steps alone from the start on, it goes on from no path on which a hit on one of them would be accepted.
+/// The plans of a start that stands, one for each pair of pieces in order. The start has the number `number` in the proof. A judge of
+/// proofs accepts each plan where the start begins at its pieces, against whatever claims these are among with their numbers. It stops
+/// at pairs of the list's claims: behind its first step it neither goes on from such a pair nor ends there at a number or an initial
+/// cell. At a pair of a tabled claim it ends only where that claim's rows are known to stand, and goes on elsewhere; so no path fails
+/// there. And it uses the tabled claims: followed by its steps alone from the start on, it goes on from no path on which a hit on one
+/// of them would be accepted.
 ///
 /// Where the start does not stand, a concrete path on which it fails, as those of `broken_paths`.
 pub fn claim_trees(
@@ -214,21 +216,27 @@ pub fn claim_trees(
     program_flows: &ProgramFlows<'_>,
     number: usize,
     start: &Claim,
-    base: usize,
-    claims: &[Claim],
-    tabled: &[Claim],
+    claims: &NumberedClaims<'_>,
     order: &[(Site, Order)],
 ) -> Result<Planned, UnfoldStop>
-    ensures broken { IfOk result (IfBroken (λ path. (u : Unfolding) → IsUnfoldingOf program_flows.now start.now order.now u → IsBroken u claims.now path)) }
+    ensures broken { IfOk result (IfBroken (λ path. (u : Unfolding) → IsUnfoldingOf program_flows.now start.now order.now u → IsBroken u claims.now.claims.now path)) }
+    ensures found { IfOk result (IfBroken (λ path. (u : Unfolding) → IsUnfoldingOf program_flows.now start.now order.now u → IsFoundAt u program_flows.now.left_flow.now program_flows.now.right_flow.now claims.now.claims.now path)) }
     ensures domains { IfOk result (IfPlans (λ trees. HasDomains (pairing program_flows.now.programs) start.now)) }
     ensures claim { IfOk result (IfPlans (λ trees. ArePlansOf number trees)) }
     ensures pieces { IfOk result (IfPlans (λ trees. map pieces_of trees ≡ pairs_of (count_by (domain program_flows.now.programs.left.now start.now.left)) (count_by (domain program_flows.now.programs.right.now start.now.right)))) }
-    ensures accepted { IsSettled program_flows.now → IfOk result (IfPlans (λ trees. (cs : List Asked) → AreNumbered base claims.now cs → AreNumbered (base + length claims.now) tabled.now cs → AllByRecursion (StartsAccepted (pairing program_flows.now.programs) cs start.now) trees)) }
-    ensures uses_tabled { IsSettled program_flows.now → HaveClaimModuli tabled.now → IfOk result (IfPlans (AllByRecursion (UsesTabledFromStart (pairing program_flows.now.programs) tabled.now start.now))) }
-    ensures stops { IfOk result (IfPlans (λ trees. (g : Stopped) → IsStoppedAt program_flows.now order.now base claims.now tabled.now g → AllByRecursion (λ (t : Tree). StopsFrom g (claim_positions start.now) t.tree) trees)) }
-    ensures causes { IfErr result (StopsUnfolding program_flows.now start.now claims.now order.now) }
+    ensures accepted { IsSettled program_flows.now → IfOk result (IfPlans (λ trees. (cs : List Asked) → AreNumbered claims.now.base claims.now.claims.now cs → AreNumbered (claims.now.base + length claims.now.claims.now) claims.now.tabled.now cs → AllByRecursion (StartsAccepted (pairing program_flows.now.programs) cs start.now) trees)) }
+    ensures uses_tabled { IsSettled program_flows.now → HaveClaimModuli claims.now.tabled.now → IfOk result (IfPlans (AllByRecursion (UsesTabledFromStart (pairing program_flows.now.programs) claims.now.tabled.now start.now))) }
+    ensures stops { IfOk result (IfPlans (λ trees. (g : Stopped) → IsStoppedAt program_flows.now order.now claims.now.base claims.now.claims.now claims.now.tabled.now g → AllByRecursion (λ (t : Tree). StopsFrom g (claim_positions start.now) t.tree) trees)) }
+    ensures causes { IfErr result (StopsUnfolding program_flows.now start.now claims.now.claims.now order.now) }
 {
-    let search = search_of(program_flows, claims, tabled, base, order, true);
+    let search = search_of(
+        program_flows,
+        claims.claims,
+        claims.tabled,
+        claims.base,
+        order,
+        true,
+    );
     let counts = pieces(alloc, program_flows, start)?;
     let mut trees = Vec::new(alloc);
     for left in 0..counts.0 {

@@ -1,6 +1,6 @@
 //! Hits on tabled claims: what was proved before of the pairs that a path comes to.
-ghost use Rattle.std.specs.Prelude.{◌≡◌, ◌+◌, IfOk, IfSome, None, false, length, true};
-ghost use Rattle.ac_forms.specs.Rows.{AreRowsOver, IsWellMade};
+ghost use Rattle.std.specs.Prelude.{◌≡◌, ◌+◌, ℤ, IfOk, IfSome, List, None, false, length, true};
+ghost use Rattle.ac_forms.specs.Rows.{AreRowsOver, IsWellMade, Meets};
 ghost use Rattle.ac_forms.specs.Standing.{all_stand};
 ghost use Rattle.ac_claims.specs.declared.types.PlanNext.TheVariants.{Hit};
 ghost use Rattle.ac_unfold_plans.specs.TabledUse.{HaveClaimModuli, PassesNone};
@@ -20,8 +20,9 @@ use ac_forms::{Conj, Row, column_after};
 use std::alloc::{AllocError, Global};
 
 /// Whether each of some rows stands among those of a question.
-fn all_stand(alloc: Global, conj: &Conj, rows: &[Row]) -> Result<bool, AllocError>
+pub(crate) fn all_stand(alloc: Global, conj: &Conj, rows: &[Row]) -> Result<bool, AllocError>
     ensures stand { IfOk result (λ all. all ≡ true → AreStanding conj.now rows.now) }
+    ensures holds { IfOk result (λ all. all ≡ true → (p : List ℤ) → Meets conj.now.rows p → Meets rows.now p) }
     ensures fails { IfOk result (λ all. all ≡ false → IsWellMade conj.now → AreRowsOver conj.now.columns rows.now → all_stand conj.now.rows rows.now ≡ false) }
 {
     for row in rows {

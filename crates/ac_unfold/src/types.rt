@@ -5,7 +5,7 @@ ghost use Rattle.ac_unfold.specs.declared.types.UnfoldStop.{UnfoldStop as Stop};
 ghost use Rattle.ac_unfold.specs.declared.types.UnfoldStop.TheVariants.{Memory};
 
 use ac_base::Items;
-use ac_claims::types::ClaimTree;
+use ac_claims::types::{Claim, ClaimTree};
 use ac_claims_paths::path::Programs;
 use ac_flow::types::Flow;
 use ac_forms::Conj;
@@ -21,6 +21,14 @@ pub struct ProgramFlows<'a> {
     pub right_flow: &'a Flow,
     /// The greatest running cost of a question.
     pub budget: u64,
+}
+
+/// Claims at which plans may end. In a proof those of the list have the numbers from the base on, and the tabled ones those behind them.
+#[derive(Clone, Copy)]
+pub struct NumberedClaims<'a> {
+    pub base: usize,
+    pub claims: &'a [Claim],
+    pub tabled: &'a [Claim],
 }
 
 /// What comes of the plans of a start.

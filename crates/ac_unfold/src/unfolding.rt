@@ -6,7 +6,7 @@ ghost use Rattle.ac_unfold.specs.PlanGaps.{FindsElse};
 ghost use Rattle.ac_unfold.specs.BrokenPathResults.{AddsBroken, IsAt};
 ghost use Rattle.ac_unfold.specs.UnfoldStops.{Follows, StopsUnder};
 ghost use Rattle.ac_unfold.specs.UnbrokenResults.{FindsNone, StandsIn};
-ghost use Rattle.ac_unfold.specs.UnfoldTasks.{At, IsReady, Goes, On};
+ghost use Rattle.ac_unfold.specs.UnfoldTasks.{At, IsReady, IsThere, Goes, On};
 ghost use Rattle.ac_unfold.specs.declared.tasks.Task.TheVariants as todo;
 
 use crate::breaks::BrokenPaths;
@@ -33,7 +33,7 @@ fn unfold_pair<'a>(
     found_paths: &mut BrokenPaths,
 ) -> Result<Option<Vec<Task<'a>>>, UnfoldStop>
     ensures goes { IfOk result (Goes search.now (todo.Visit node) plans.old.items plans.new.items found_paths.old found_paths.new) }
-    ensures causes { IfErr result (StopsUnder search.now (Follows search.now node.question)) }
+    ensures causes { IfErr result (StopsUnder search.now (Follows search.now node.pair_path node.question)) }
     ensures full { IfErr result (FullUnder search.now (IsAt search.now node.pair_path node.question) found_paths.old) }
 {
     if let Some(number) = claim_of(search, &node.question) {
@@ -108,9 +108,9 @@ pub(crate) fn visit<'a>(
     ensures missing { IfOk result (λ made. FindsElse search.now made found_paths.old found_paths.new) }
     ensures made { IfOk result (λ made. IfSome made (IsMade search.now node.embedding node.question)) }
     ensures stands { OnOk result (FindsNone search.now found_paths.old found_paths.new → StandsIn search.now node.question) }
-    ensures broken { OnOk result (AddsBroken search.now (IsAt search.now node.pair_path node.question) found_paths.old found_paths.new) }
-    ensures causes { IfErr result (StopsUnder search.now (Follows search.now node.question)) }
-    ensures full { IfErr result (FullUnder search.now (IsAt search.now node.pair_path node.question) found_paths.old) }
+    ensures broken { OnOk result (AddsBroken search.now (IsThere search.now node.pair_path node.question) found_paths.old found_paths.new) }
+    ensures causes { IfErr result (StopsUnder search.now (Follows search.now node.pair_path node.question)) }
+    ensures full { IfErr result (FullUnder search.now (IsThere search.now node.pair_path node.question) found_paths.old) }
 {
     let mut tasks = Vec::new(alloc);
     tasks.push(Task::Visit(node))?;

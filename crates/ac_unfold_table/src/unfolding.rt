@@ -6,6 +6,7 @@ ghost use Rattle.ac_unfold_plans.specs.PlanStops.{claim_positions};
 ghost use Rattle.ac_widen_programs.specs.BrokenPaths.{IsBroken};
 ghost use Rattle.ac_widen_programs.specs.PairPaths.{Unfolding};
 ghost use Rattle.ac_unfold.specs.UnfoldCauses.{StopsUnfolding};
+ghost use Rattle.ac_unfold.specs.FoundPaths.{IsFoundAt};
 ghost use Rattle.ac_unfold.specs.StartResults.{IfBroken, IfPlans};
 ghost use Rattle.ac_unfold.specs.Unfoldings.{IsUnfoldingOf};
 ghost use Rattle.ac_unfold_table.specs.TabledClaims.{AddsTabled, AreTabled};
@@ -23,7 +24,7 @@ use ac_claims::types::Claim;
 use ac_claims_paths::places::call_at;
 use ac_forms::column_after;
 use ac_unfold::claim_trees;
-use ac_unfold::types::{Planned, ProgramFlows, UnfoldStop, freely};
+use ac_unfold::types::{NumberedClaims, Planned, ProgramFlows, UnfoldStop, freely};
 use std::alloc::{AllocError, Global};
 
 /// How deep the pairs behind a start are gone through, in calls: two for each step.
@@ -49,18 +50,15 @@ fn planned(
     ensures trees { IfOk result (IfPlans (AreTreesOf program_flows.now table.now.base table.now.claims table.now.tabled table.now.order number start.now)) }
     ensures use_tabled { IfOk result (IfPlans (UseTabled program_flows.now table.now.tabled start.now)) }
     ensures broken { IfOk result (IfBroken (λ path. (u : Unfolding) → IsUnfoldingOf program_flows.now start.now table.now.order u → IsBroken u table.now.claims path)) }
+    ensures found { IfOk result (IfBroken (λ path. (u : Unfolding) → IsUnfoldingOf program_flows.now start.now table.now.order u → IsFoundAt u program_flows.now.left_flow.now program_flows.now.right_flow.now table.now.claims path)) }
     ensures causes { IfErr result (StopsUnfolding program_flows.now start.now table.now.claims table.now.order) }
 {
-    claim_trees(
-        alloc,
-        program_flows,
-        number,
-        start,
-        table.base(),
-        table.claims(),
-        table.tabled(),
-        table.order(),
-    )
+    let claims = NumberedClaims {
+        base: table.base(),
+        claims: table.claims(),
+        tabled: table.tabled(),
+    };
+    claim_trees(alloc, program_flows, number, start, &claims, table.order())
 }
 
 /// The number of the next claim that is tabled.
@@ -174,6 +172,7 @@ pub fn unfold(
     ensures trees { IfOk result (IfPlans (AreTreesOf program_flows.now table.new.base table.new.claims table.new.tabled table.new.order number start.now)) }
     ensures use_tabled { IfOk result (IfPlans (UseTabled program_flows.now table.new.tabled start.now)) }
     ensures broken { IfOk result (IfBroken (λ path. (u : Unfolding) → IsUnfoldingOf program_flows.now start.now table.new.order u → IsBroken u table.new.claims path)) }
+    ensures found { IfOk result (IfBroken (λ path. (u : Unfolding) → IsUnfoldingOf program_flows.now start.now table.new.order u → IsFoundAt u program_flows.now.left_flow.now program_flows.now.right_flow.now table.new.claims path)) }
     ensures causes { IfErr result (StopsUnfolding program_flows.now start.now table.new.claims table.new.order) }
     ensures kept { Grows table.old table.new }
     ensures valid { AreTabled program_flows.now table.old → AreTabled program_flows.now table.new }

@@ -22,8 +22,8 @@ pub returns-in_default-clause-causes : goal.returns-in_default-clause-causes
 returns-in_default-clause-causes c =
     let s = c.args.search.now in
     let q = c.args.node.now.question in
-    past_handed s q c.too_wide.result c.requires.may.unclaimed.none
-    (calls_stop s q c.args.order c.too_wide.result c.requires.kind c.requires.calls (sym (subst (λ (o : Option (List Branch)). all_onto q o ≡ branches (judge_of s) c.args.order q) c.in_default.is c.in_ok-found.ensures.value)) c.too_wide.ensures)
+    past_handed s c.args.node.now.pair_path q c.too_wide.result c.requires.may.unclaimed.none
+    (calls_stop s c.args.node.now.pair_path q c.args.order c.too_wide.result c.requires.kind c.requires.calls (sym (subst (λ (o : Option (List Branch)). all_onto q o ≡ branches (judge_of s) c.args.order q) c.in_default.is c.in_ok-found.ensures.value)) c.too_wide.ensures)
 
 pub returns-in_default-clause-never : goal.returns-in_default-clause-never
 returns-in_default-clause-never c = handed_never c.args.node.now.question.conj (Unit {0}) c.too_wide.result c.too_wide.ensures

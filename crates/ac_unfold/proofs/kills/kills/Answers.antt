@@ -10,13 +10,13 @@ pub survivor-requires : goal.survivor-requires
 survivor-requires c = none_behind c.args.case.now.kills c.args.number (search rules)
 
 pub next_kill-requires : goal.next_kill-requires
-next_kill-requires c = sym c.in-Some.ensures.value
+next_kill-requires c = record { kill = sym c.in-Some.ensures.value; assumes = c.requires }
 
 pub returns-clause-goes : goal.returns-clause-goes
 returns-clause-goes c = onward_moves c.args.search.now (task.Kills c.args.node c.args.case c.args.number) c.onward.result c.next_kill.result c.args.plans.now.items _ _ c.onward.ensures refl c.next_kill.ensures.moves
 
 pub returns-clause-causes : goal.returns-clause-causes
-returns-clause-causes c = onward_stops c.onward.result c.next_kill.result (StopsUnder c.args.search.now (FollowsCut c.args.search.now c.args.case.now c.args.node.question)) c.onward.ensures c.next_kill.ensures.causes
+returns-clause-causes c = onward_stops c.onward.result c.next_kill.result (StopsUnder c.args.search.now (FollowsCut c.args.search.now c.args.case.now c.args.number 0 c.args.node.pair_path c.args.node.question)) c.onward.ensures c.next_kill.ensures.causes
 
 pub returns-clause-full : goal.returns-clause-full
 returns-clause-full c =

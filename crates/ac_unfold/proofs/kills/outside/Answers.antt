@@ -11,7 +11,7 @@ returns-in_ok-more-in-On c =
     let n = c.args.node in
     let opened = subst (λ (x : Opened). IsOpen n.embedding n.question x) c.in-On.is c.in_ok-question.ensures.open in
     let kept = subst (λ (x : Opened). KeepsPairPath n x) c.in-On.is c.in_ok-question.ensures.pair_path in
-    opened_kills c.args.search.now n c.in-On.node c.args.case c.args.number c.in_ok-more-in-On.more.items c.in_ok-more-in-On.ensures opened.0 opened.1 kept c.args.plans.now.items
+    opened_kills c.args.search.now n c.in-On.node c.args.case c.args.number c.in_ok-more-in-On.more.items c.in_ok-more-in-On.ensures c.requires opened.0 opened.1 kept c.args.plans.now.items
 
 pub returns-in_default : goal.returns-in_default
 returns-in_default c = outside_shown c.args.search.now c.args.node c.args.case c.args.number c.in-Empty.made c.new.result.items c.args.plans.now.items (subst IsShownOpen c.in-Empty.is (c.in_ok-question.ensures.shown refl)) c.in_default.is

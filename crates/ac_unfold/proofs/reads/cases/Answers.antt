@@ -4,6 +4,7 @@ use Rattle.std.proofs.lemmas.Iterator.Consumers.{YieldsList-end}
 use Rattle.std.specs.Vec.Iter.{into_iter_len}
 use Rattle.ac_claims_paths.specs.declared.path.Branch.{Branch}
 use Rattle.ac_unfold.specs.UnfoldTasks.{AreCases}
+use Rattle.ac_unfold.specs.declared.tasks.Task.{Task}
 use Rattle.ac_unfold.specs.declared.tasks.Task.TheVariants as task
 use Rattle.ac_unfold.proofs.ReadTasks.{cases_more, cases_none}
 use Rattle.ac_unfold.proofs.Stepping.{map_itself}
@@ -18,7 +19,7 @@ loop-branch-preserved c =
     let n = c.args.node.now in
     let f = c.args.flow.now in
     let number : c.len.result ≡ 0 + length c.loop-branch.made.items = search rules in
-    subst (AreCases s n c.args.side f 0 (c.loop-branch.yielded ++ c.in-Some.branch ∷ [])) (sym c.in_ok-push.ensures.items)
+    subst (AreCases s n c.args.side f 0 (c.loop-branch.yielded ++ c.in-Some.branch ∷ [])) (sym {A = List Task} c.in_ok-push.ensures.items)
     (cases_more s n c.args.side f 0 c.len.result c.loop-branch.yielded c.loop-branch.made.items c.in-Some.branch (task.Case c.in_ok-child.child c.in-Some-case_of.case) c.loop-branch.invariant number
     (record { question = c.in_ok-child.ensures.question; embedding = c.in_ok-child.ensures.embedding; pair_path = c.in_ok-child.ensures.pair_path }, c.in-Some-case_of.ensures.assumed, c.in-Some-case_of.ensures.number))
 

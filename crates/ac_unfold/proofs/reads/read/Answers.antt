@@ -23,7 +23,7 @@ pub returns-in_default-clause-causes : goal.returns-in_default-clause-causes
 returns-in_default-clause-causes c =
     let s = c.args.search.now in
     let q = c.args.node.now.question in
-    past_handed s q c.too_wide.result c.requires.may.unclaimed.none (read_stops s q c.args.side c.too_wide.result c.requires.kind (sym (subst (λ (o : Option (List Branch)). all_onto q o ≡ branches (judge_of s) Keep q) c.in_default.is c.in_ok-found.ensures.value)) c.too_wide.ensures)
+    past_handed s c.args.node.now.pair_path q c.too_wide.result c.requires.may.unclaimed.none (read_stops s c.args.node.now.pair_path q c.args.side c.too_wide.result c.requires.kind (sym (subst (λ (o : Option (List Branch)). all_onto q o ≡ branches (judge_of s) Keep q) c.in_default.is c.in_ok-found.ensures.value)) c.too_wide.ensures)
 
 pub returns-in_default-clause-never : goal.returns-in_default-clause-never
 returns-in_default-clause-never c = handed_never c.args.node.now.question.conj (Unit {0}) c.too_wide.result c.too_wide.ensures

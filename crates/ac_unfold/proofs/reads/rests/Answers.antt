@@ -42,7 +42,7 @@ returns-in_err-left-clause-causes c =
     let r = c.rest-item.result in
     let among : IsAmong r k.pieces = subst (λ (xs : List Remainder). IsAmong r xs) c.as_slice-rest-items.ensures (in_read c.as_slice-rest-items.result.now c.loop-rest.rest-index r c.loop-rest-test.true c.rest-item.is) in
     let stop = c.in_err-left.field-0.0 in
-    if_err (StopsUnder s (FollowsCase s k q)) c.from_residual.result stop c.from_residual.ensures.1 (rest_stops s k q r stop among c.in_err-left.ensures.causes)
+    if_err (StopsUnder s (FollowsCase s k c.args.node.now.pair_path q)) c.from_residual.result stop c.from_residual.ensures.1 (rest_stops s k c.args.node.now.pair_path q r stop among c.in_err-left.ensures.causes)
 
 pub returns-in_err-left-clause-never : goal.returns-in_err-left-clause-never
 returns-in_err-left-clause-never c =

@@ -1,4 +1,5 @@
-use Rattle.std.proofs.Common.{◌≡◌, ◌-◌, ℕ, List, Some, None, length, ap, sym, ◌∙◌}
+use Rattle.std.proofs.Common.{◌≡◌, ◌-◌, ℕ, List, Some, None, length, ap, sym, ◌∙◌, true, false}
+use Rattle.std.specs.Prelude.{is_some}
 use Rattle.ac_forms.specs.Renaming.{rows_renaming}
 use Rattle.ac_forms.specs.declared.row.Row.{Row}
 use Rattle.ac_claims_paths.specs.PathSteps.{at_rows, extended}
@@ -38,3 +39,6 @@ returns-in_err-rows-clause-causes c =
     if_err (HandsBack q.conj (at_rest n q rest ≡ None)) c.from_residual-in_err-rows.result stop c.from_residual-in_err-rows.ensures.1
     (hands_because q.conj (rows_renaming c.as_slice-2.result.now c.as_slice.result.now ≡ None) (at_rest n q rest ≡ None) stop
     (λ e. rest_none n q rest a own c.push_range.new.list more c.in-Some.is (c.in_ok-columns.ensures ∙ ap (λ (k : ℕ). case_columns k a) c.params.ensures) many c.in_ok-push_range.ensures (sym same ∙ e)) c.in_err-rows.ensures.causes)
+
+pub unreachable-requires : goal.unreachable-requires
+unreachable-requires c = let z : false ≡ true = sym (ap is_some c.in_default.is) ∙ c.requires in absurd cc

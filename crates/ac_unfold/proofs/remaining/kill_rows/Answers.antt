@@ -1,5 +1,6 @@
-use Rattle.std.proofs.Common.{◌≡◌, List, Some, None, sym}
+use Rattle.std.proofs.Common.{◌≡◌, List, Some, None, sym, true, false, ap, ◌∙◌}
 use Rattle.std.proofs.lemmas.Result.{IfErr-weaker, IfOk-weaker}
+use Rattle.std.specs.Prelude.{is_some}
 use Rattle.ac_forms.specs.Renaming.{rows_renaming}
 use Rattle.ac_forms.specs.declared.row.Row.{Row}
 use Rattle.ac_unfold.specs.UnfoldQuestions.{kill_on}
@@ -26,3 +27,6 @@ returns-clause-causes c =
     (λ stop h. hands_because q.conj (rows_renaming c.as_slice-2.result.now c.as_slice.result.now ≡ None) (kill_on n q kill ≡ None) stop
     (λ e. kill_rows_on n c.params.result q kill c.in-Some.assumed c.in_ok-columns.columns c.as_slice-2.result.now c.as_slice.result.now None c.in-Some.is c.in_ok-columns.ensures c.params.ensures c.as_slice-2.ensures c.as_slice.ensures e) h)
     c.over_columns.ensures.causes
+
+pub unreachable-requires : goal.unreachable-requires
+unreachable-requires c = let z : false ≡ true = sym (ap is_some c.in_default.is) ∙ c.requires in absurd cc

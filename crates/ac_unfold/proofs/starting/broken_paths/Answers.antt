@@ -4,8 +4,9 @@ use Rattle.ac_widen.specs.declared.derivation.Entry.{Entry}
 use Rattle.ac_widen_programs.specs.BrokenPaths.{IsBroken}
 use Rattle.ac_unfold.specs.UnfoldCauses.{StopsUnfolding}
 use Rattle.ac_unfold.specs.EndResults.{nothing_found}
+use Rattle.ac_unfold.specs.FoundPaths.{IsFoundAt}
 use Rattle.ac_unfold.specs.BrokenPathResults.{IsFrom}
-use Rattle.ac_unfold.proofs.Coming.{broken_kept, broken_none, broken_then, paths_broken}
+use Rattle.ac_unfold.proofs.Coming.{broken_kept, broken_none, broken_then, paths_broken, paths_found}
 use Rattle.ac_unfold.proofs.Full.{full_after, stops_unfolding}
 use Rattle.ac_unfold.proofs.Places.{memory_stops}
 use Rattle.ac_unfold.proofs.Stopped.{if_err}
@@ -30,6 +31,13 @@ returns-clause-broken c = λ u is.
     let s = c.search_of-search.result in
     let broken = paths_broken s c.args.program_flows.now c.args.start.now c.args.claims.now c.args.order.now c.loop-left.found_paths c.loop-left.invariant.adds c.search_of-search.ensures.program_flows c.search_of-search.ensures.claims c.search_of-search.ensures.order u is in
     subst (λ (xs : List (List Entry)). AllByRecursion (IsBroken u c.args.claims.now) xs) (sym c.into_paths.ensures.same) broken
+
+pub returns-clause-found : goal.returns-clause-found
+returns-clause-found c = λ u is.
+    let s = c.search_of-search.result in
+    let flows = c.args.program_flows.now in
+    let found = paths_found s flows c.args.start.now c.args.claims.now c.args.order.now c.loop-left.found_paths c.loop-left.invariant.adds c.search_of-search.ensures.program_flows c.search_of-search.ensures.claims c.search_of-search.ensures.order u is in
+    subst (λ (xs : List (List Entry)). AllByRecursion (IsFoundAt u flows.left_flow.now flows.right_flow.now c.args.claims.now) xs) (sym c.into_paths.ensures.same) found
 
 -- ---- why it stops
 

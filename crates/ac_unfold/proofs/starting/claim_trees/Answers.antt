@@ -6,7 +6,7 @@ use Rattle.ac_unfold.specs.UnfoldCauses.{StopsUnfolding}
 use Rattle.ac_unfold.specs.UnfoldPaths.{ArePlansOf}
 use Rattle.ac_claims_plans.specs.DuePlans.{pairs_of}
 use Rattle.ac_unfold.specs.StartResults.{IsBrokenFrom}
-use Rattle.ac_unfold.proofs.Coming.{path_is_broken}
+use Rattle.ac_unfold.proofs.Coming.{path_is_broken, path_is_found}
 use Rattle.ac_unfold.proofs.Full.{stops_unfolding}
 use Rattle.ac_unfold.proofs.Places.{memory_stops}
 use Rattle.ac_unfold.proofs.Results.{at_some}
@@ -40,35 +40,41 @@ returns-clause-pieces c =
 
 pub returns-clause-accepted : goal.returns-clause-accepted
 returns-clause-accepted c = λ settled cs numbered behind.
-    accepted_by c.search_of-search.result c.args.program_flows.now c.args.base c.args.claims.now c.args.tabled.now c.args.start.now c.loop-left.trees.items c.search_of-search.ensures.program_flows c.search_of-search.ensures.base c.search_of-search.ensures.claims
+    accepted_by c.search_of-search.result c.args.program_flows.now c.args.claims.now.base c.args.claims.now.claims.now c.args.claims.now.tabled.now c.args.start.now c.loop-left.trees.items c.search_of-search.ensures.program_flows c.search_of-search.ensures.base c.search_of-search.ensures.claims
     c.search_of-search.ensures.tabled c.search_of-search.ensures.making c.loop-left.invariant.begun settled cs numbered behind
 
 pub returns-in-Some-clause-broken : goal.returns-in-Some-clause-broken
 returns-in-Some-clause-broken c =
     let s = c.search_of-search.result in
     let path = at_some c.in_ok-broken.broken c.in-Some.path (IsBrokenFrom s c.args.start.now) c.in-Some.is c.in_ok-broken.ensures.broken in
-    path_is_broken s c.args.program_flows.now c.args.start.now c.args.claims.now c.args.order.now c.in-Some.path path c.search_of-search.ensures.program_flows c.search_of-search.ensures.claims c.search_of-search.ensures.order
+    path_is_broken s c.args.program_flows.now c.args.start.now c.args.claims.now.claims.now c.args.order.now c.in-Some.path path c.search_of-search.ensures.program_flows c.search_of-search.ensures.claims c.search_of-search.ensures.order
+
+pub returns-in-Some-clause-found : goal.returns-in-Some-clause-found
+returns-in-Some-clause-found c =
+    let s = c.search_of-search.result in
+    let path = at_some c.in_ok-broken.broken c.in-Some.path (IsBrokenFrom s c.args.start.now) c.in-Some.is c.in_ok-broken.ensures.broken in
+    path_is_found s c.args.program_flows.now c.args.start.now c.args.claims.now.claims.now c.args.order.now c.in-Some.path path c.search_of-search.ensures.program_flows c.search_of-search.ensures.claims c.search_of-search.ensures.order
 
 pub returns-clause-stops : goal.returns-clause-stops
 returns-clause-stops c = λ g at.
-    stopped_by c.search_of-search.result c.args.program_flows.now c.args.order.now c.args.base c.args.claims.now c.args.tabled.now c.args.start.now c.loop-left.trees.items c.search_of-search.ensures.program_flows c.search_of-search.ensures.order c.search_of-search.ensures.base
+    stopped_by c.search_of-search.result c.args.program_flows.now c.args.order.now c.args.claims.now.base c.args.claims.now.claims.now c.args.claims.now.tabled.now c.args.start.now c.loop-left.trees.items c.search_of-search.ensures.program_flows c.search_of-search.ensures.order c.search_of-search.ensures.base
     c.search_of-search.ensures.claims c.search_of-search.ensures.tabled c.search_of-search.ensures.making c.loop-left.invariant.begun g at
 
 pub returns-clause-uses_tabled : goal.returns-clause-uses_tabled
 returns-clause-uses_tabled c = λ settled moduli.
-    used_by_tabled c.search_of-search.result c.args.program_flows.now c.args.tabled.now c.args.start.now c.loop-left.trees.items c.search_of-search.ensures.program_flows c.search_of-search.ensures.tabled c.search_of-search.ensures.making c.loop-left.invariant.begun settled moduli
+    used_by_tabled c.search_of-search.result c.args.program_flows.now c.args.claims.now.tabled.now c.args.start.now c.loop-left.trees.items c.search_of-search.ensures.program_flows c.search_of-search.ensures.tabled c.search_of-search.ensures.making c.loop-left.invariant.begun settled moduli
 
 -- ---- why it stops
 
 pub returns-in_err-counts-clause-causes : goal.returns-in_err-counts-clause-causes
-returns-in_err-counts-clause-causes c = memory_stops c.from_residual.result c.in_err-counts.field-0.0 c.args.program_flows.now c.args.start.now c.args.claims.now c.args.order.now c.from_residual.ensures.1
+returns-in_err-counts-clause-causes c = memory_stops c.from_residual.result c.in_err-counts.field-0.0 c.args.program_flows.now c.args.start.now c.args.claims.now.claims.now c.args.order.now c.from_residual.ensures.1
 
 pub returns-in_err-broken-clause-causes : goal.returns-in_err-broken-clause-causes
 returns-in_err-broken-clause-causes c =
     let s = c.search_of-search.result in
     let program_flows = c.args.program_flows.now in
     let start = c.args.start.now in
-    let claims = c.args.claims.now in
+    let claims = c.args.claims.now.claims.now in
     let order = c.args.order.now in
     let stop = c.in_err-broken.field-0.0 in
     if_err (StopsUnfolding program_flows start claims order) c.from_residual-in_err-broken.result stop c.from_residual-in_err-broken.ensures.1

@@ -53,7 +53,9 @@ returns-in-On-clause-causes c =
     let n = c.in_ok-node.node in
     let starts : start_at (judge_of s) c.args.start.now c.args.left c.args.right ≡ Some c.in-Some.path = sym c.in_ok-path.ensures ∙ c.in-Some.is in
     let opened = subst (λ (x : Opened). IsOpen n.embedding n.question x) c.in-On.is c.in_ok-question.ensures.open in
-    begun_stops c.visit.result s c.args.start.now c.args.left c.args.right c.in-Some.path n c.in-On.node starts c.in_ok-node.ensures.question opened.0 c.visit.ensures.causes
+    let made : IsWellMade c.in-Some.path.conj = search rules in
+    let kept = subst (λ (x : Opened). KeepsPairPath n x) c.in-On.is c.in_ok-question.ensures.pair_path in
+    begun_stops c.visit.result s c.args.start.now c.args.left c.args.right c.in-Some.path n c.in-On.node starts made c.in_ok-node.ensures.question c.in_ok-node.ensures.pair_path opened.0 kept c.visit.ensures.causes
 
 -- ---- too many paths
 

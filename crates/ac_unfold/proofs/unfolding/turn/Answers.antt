@@ -41,6 +41,15 @@ returns-in_ok-more-in-Outside-clause-goes c =
 pub returns-in-Kills-clause-goes : goal.returns-in-Kills-clause-goes
 returns-in-Kills-clause-goes c = subst (λ (t : Task). IfOk c.kills.result (Goes c.args.search.now t c.args.plans.now.items c.kills.new.plans.items c.args.found_paths.now c.kills.new.found_paths)) (sym c.in-Kills.is) c.kills.ensures.goes
 
+pub enter-requires : goal.enter-requires
+enter-requires c = subst (IsReady c.args.search.now) c.in-Case.is c.requires
+
+pub outside-requires : goal.outside-requires
+outside-requires c = subst (IsReady c.args.search.now) c.in-Outside.is c.requires
+
+pub kills-requires : goal.kills-requires
+kills-requires c = subst (IsReady c.args.search.now) c.in-Kills.is c.requires
+
 pub cut-requires : goal.cut-requires
 cut-requires c = subst (IsReady c.args.search.now) c.in-Cut.is c.requires
 

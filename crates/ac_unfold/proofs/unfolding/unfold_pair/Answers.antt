@@ -31,7 +31,7 @@ returns-in-Some-clause-goes c =
     all_ended s (task.Visit n) c.ended.result r (IsMade s n.embedding n.question) c.args.plans.now.items c.ended.new.plans.items c.args.found_paths.now c.at_claim-made.new.found_paths c.ended.ensures.ends (λ ps qs one. one) c.at_claim-made.ensures.missing c.at_claim-made.ensures.made c.at_claim-made.ensures.stands c.at_claim-made.ensures.broken
 
 pub returns-in-Some-clause-causes : goal.returns-in-Some-clause-causes
-returns-in-Some-clause-causes c = ended_stops c.ended.result c.at_claim-made.result (StopsUnder c.args.search.now (Follows c.args.search.now c.args.node.question)) (λ want. tt) c.ended.ensures.stops c.at_claim-made.ensures.causes
+returns-in-Some-clause-causes c = ended_stops c.ended.result c.at_claim-made.result (StopsUnder c.args.search.now (Follows c.args.search.now c.args.node.pair_path c.args.node.question)) (λ want. tt) c.ended.ensures.stops c.at_claim-made.ensures.causes
 
 pub returns-in-Some-clause-full : goal.returns-in-Some-clause-full
 returns-in-Some-clause-full c =
@@ -47,7 +47,7 @@ returns-in-Some-tabled-clause-goes c =
     tabled_goes s n c.ended-in-Some-tabled.result c.in-Some-tabled.plan c.in_ok-tabled.tabled c.args.plans.now.items c.ended-in-Some-tabled.new.plans.items c.args.found_paths.now c.args.found_paths.now c.in-Some-tabled.is c.in_ok-tabled.ensures.making c.in_ok-tabled.ensures.made refl c.ended-in-Some-tabled.ensures.ends
 
 pub returns-in-Some-tabled-clause-causes : goal.returns-in-Some-tabled-clause-causes
-returns-in-Some-tabled-clause-causes c = ended_stops c.ended-in-Some-tabled.result (Ok (Some c.in-Some-tabled.plan)) (StopsUnder c.args.search.now (Follows c.args.search.now c.args.node.question)) (λ want. tt) c.ended-in-Some-tabled.ensures.stops tt
+returns-in-Some-tabled-clause-causes c = ended_stops c.ended-in-Some-tabled.result (Ok (Some c.in-Some-tabled.plan)) (StopsUnder c.args.search.now (Follows c.args.search.now c.args.node.pair_path c.args.node.question)) (λ want. tt) c.ended-in-Some-tabled.ensures.stops tt
 
 pub returns-in-Some-tabled-clause-full : goal.returns-in-Some-tabled-clause-full
 returns-in-Some-tabled-clause-full c =
@@ -61,7 +61,7 @@ returns-in_err-next-clause-causes c =
     let s = c.args.search.now in
     let q = c.args.node.question in
     let stop = c.in_err-next.field-0.0 in
-    if_err (StopsUnder s (Follows s q)) c.from_residual-in_err-next.result stop c.from_residual-in_err-next.ensures.1 (followed_hands s q stop c.in_err-next.ensures.causes)
+    if_err (StopsUnder s (Follows s c.args.node.pair_path q)) c.from_residual-in_err-next.result stop c.from_residual-in_err-next.ensures.1 (followed_hands s c.args.node.pair_path q stop c.in_err-next.ensures.causes)
 
 pub returns-in_err-next-clause-full : goal.returns-in_err-next-clause-full
 returns-in_err-next-clause-full c =
@@ -85,7 +85,7 @@ pub returns-in-Read-clause-goes : goal.returns-in-Read-clause-goes
 returns-in-Read-clause-goes c = onward_goes c.args.search.now (task.Visit c.args.node) c.onward.result c.read.result c.args.plans.now.items c.read.new.plans.items _ _ c.onward.ensures refl c.read.ensures.unfolds
 
 pub returns-in-Read-clause-causes : goal.returns-in-Read-clause-causes
-returns-in-Read-clause-causes c = onward_stops c.onward.result c.read.result (StopsUnder c.args.search.now (Follows c.args.search.now c.args.node.question)) c.onward.ensures c.read.ensures.causes
+returns-in-Read-clause-causes c = onward_stops c.onward.result c.read.result (StopsUnder c.args.search.now (Follows c.args.search.now c.args.node.pair_path c.args.node.question)) c.onward.ensures c.read.ensures.causes
 
 pub returns-in-Read-clause-full : goal.returns-in-Read-clause-full
 returns-in-Read-clause-full c =
@@ -106,7 +106,7 @@ pub returns-in-Calls-clause-goes : goal.returns-in-Calls-clause-goes
 returns-in-Calls-clause-goes c = onward_goes c.args.search.now (task.Visit c.args.node) c.onward-in-Calls.result c.calls.result c.args.plans.now.items c.calls.new.plans.items _ _ c.onward-in-Calls.ensures refl c.calls.ensures.unfolds
 
 pub returns-in-Calls-clause-causes : goal.returns-in-Calls-clause-causes
-returns-in-Calls-clause-causes c = onward_stops c.onward-in-Calls.result c.calls.result (StopsUnder c.args.search.now (Follows c.args.search.now c.args.node.question)) c.onward-in-Calls.ensures c.calls.ensures.causes
+returns-in-Calls-clause-causes c = onward_stops c.onward-in-Calls.result c.calls.result (StopsUnder c.args.search.now (Follows c.args.search.now c.args.node.pair_path c.args.node.question)) c.onward-in-Calls.ensures c.calls.ensures.causes
 
 pub returns-in-Calls-clause-full : goal.returns-in-Calls-clause-full
 returns-in-Calls-clause-full c =
@@ -133,14 +133,14 @@ returns-in-Match-clause-goes c =
     let ends = subst (λ (x : Next). IsEndOfSteps s q x) c.in-Match.is c.in_ok-next.ensures.ends in
     all_ended s (task.Visit v) c.ended-in-Match.result r (IsMade s v.embedding q) c.args.plans.now.items c.ended-in-Match.new.plans.items c.args.found_paths.now c.stand-made.new.found_paths c.ended-in-Match.ensures.ends (λ ps qs one. one) c.stand-made.ensures.missing c.stand-made.ensures.made
     (none_by r s c.args.found_paths.now c.stand-made.new.found_paths _ _ (match_stands s q c.as_slice.result.now none targets) c.stand-made.ensures.met)
-    (on_ok r _ _ (λ h. broken_past s v.pair_path q _ _ none (match_broken s v.pair_path q c.as_slice.result.now c.in-Match.end _ _ there ends h)) c.stand-made.ensures.found)
+    (on_ok r _ _ (λ h. broken_past s v.pair_path q _ _ none (match_broken s v.pair_path q c.as_slice.result.now c.in-Match.end _ _ there ends targets h)) c.stand-made.ensures.found)
 
 pub returns-in-Match-clause-causes : goal.returns-in-Match-clause-causes
 returns-in-Match-clause-causes c =
     let s = c.args.search.now in
     let q = c.args.node.question in
-    ended_stops c.ended-in-Match.result c.stand-made.result (StopsUnder s (Follows s q)) (λ want. tt) c.ended-in-Match.ensures.stops
-    (match_stops c.stand-made.result s q c.as_slice.result.now
+    ended_stops c.ended-in-Match.result c.stand-made.result (StopsUnder s (Follows s c.args.node.pair_path q)) (λ want. tt) c.ended-in-Match.ensures.stops
+    (match_stops c.stand-made.result s c.args.node.pair_path q c.as_slice.result.now
     (subst (λ (rows : List Row). AreTargets (judge_of s) s.claims.now q (Some rows)) (sym c.as_slice.ensures) (subst (λ (x : Next). IsMatchOf s q x) c.in-Match.is c.in_ok-next.ensures.targets)) c.stand-made.ensures.causes)
 
 pub returns-in-Match-clause-full : goal.returns-in-Match-clause-full
@@ -169,7 +169,7 @@ pub returns-clause-causes : goal.returns-clause-causes
 returns-clause-causes c =
     let s = c.args.search.now in
     let q = c.args.node.question in
-    ended_stops c.ended-in-Mismatch.result c.mismatch-made.result (StopsUnder s (Follows s q)) (λ want. tt) c.ended-in-Mismatch.ensures.stops (asking_stops c.mismatch-made.result s q c.mismatch-made.ensures.causes)
+    ended_stops c.ended-in-Mismatch.result c.mismatch-made.result (StopsUnder s (Follows s c.args.node.pair_path q)) (λ want. tt) c.ended-in-Mismatch.ensures.stops (asking_stops c.mismatch-made.result s c.args.node.pair_path q c.mismatch-made.ensures.causes)
 
 pub returns-clause-full : goal.returns-clause-full
 returns-clause-full c =

@@ -2,9 +2,8 @@ use Rattle.std.proofs.Common.{◌≡◌, ◌∷◌, [], List, None, arith, refl,
 use Rattle.std.proofs.lemmas.Grind.{common_steps}
 use Rattle.std.specs.Prelude.{reverse}
 use Rattle.ac_unfold.specs.EndResults.{FullUnder}
-use Rattle.ac_unfold.specs.BrokenPathResults.{IsAt}
 use Rattle.ac_unfold.specs.UnfoldStops.{Follows, StopsUnder}
-use Rattle.ac_unfold.specs.UnfoldTasks.{At, Breaks, Goes, On}
+use Rattle.ac_unfold.specs.UnfoldTasks.{At, Breaks, Goes, IsThere, On}
 use Rattle.ac_unfold.specs.declared.tasks.Task.{Task}
 use Rattle.ac_unfold.specs.declared.tasks.Task.TheVariants as task
 use Rattle.ac_unfold.proofs.Full.{full_after, full_from}
@@ -72,17 +71,18 @@ returns-in_default-goes-clause-broken c =
 pub returns-in_err-goes-clause-causes : goal.returns-in_err-goes-clause-causes
 returns-in_err-goes-clause-causes c =
     let s = c.args.search.now in
-    let q = c.args.node.question in
+    let n = c.args.node in
+    let q = n.question in
     let stop = c.in_err-goes.field-0.0 in
     let leads = top_leads s c.args.node c.loop-turn.tasks.items c.pop.new.self.items c.in-Some.task c.pop.result c.loop-turn.plans.items c.args.found_paths.now c.loop-turn.found_paths c.loop-turn.invariant c.pop.ensures.items c.in-Some.is in
-    if_err (StopsUnder s (Follows s q)) c.from_residual-in_err-goes.result stop c.from_residual-in_err-goes.ensures.1 (stops_from s (Follows s q) (On s c.in-Some.task) stop leads.on c.in_err-goes.ensures.causes)
+    if_err (StopsUnder s (Follows s n.pair_path q)) c.from_residual-in_err-goes.result stop c.from_residual-in_err-goes.ensures.1 (stops_from s (Follows s n.pair_path q) (On s c.in-Some.task) stop leads.on c.in_err-goes.ensures.causes)
 
 pub returns-in_err-goes-clause-full : goal.returns-in_err-goes-clause-full
 returns-in_err-goes-clause-full c =
     let s = c.args.search.now in
     let n = c.args.node in
-    let There = IsAt s n.pair_path n.question in
+    let There = IsThere s n.pair_path n.question in
     let stop = c.in_err-goes.field-0.0 in
     let leads = top_leads s n c.loop-turn.tasks.items c.pop.new.self.items c.in-Some.task c.pop.result c.loop-turn.plans.items c.args.found_paths.now c.loop-turn.found_paths c.loop-turn.invariant c.pop.ensures.items c.in-Some.is in
     if_err (FullUnder s There c.args.found_paths.now) c.from_residual-in_err-goes.result stop c.from_residual-in_err-goes.ensures.1
-    (full_after s There c.args.found_paths.now c.loop-turn.found_paths stop c.loop-turn.invariant.broken (full_from s There (At s c.in-Some.task) c.loop-turn.found_paths stop leads.at c.in_err-goes.ensures.full))
+    (full_after s There c.args.found_paths.now c.loop-turn.found_paths stop c.loop-turn.invariant.broken (full_from s There (At s c.in-Some.task) c.loop-turn.found_paths stop (λ u of at. leads.at u of at.0) c.in_err-goes.ensures.full))
