@@ -7,11 +7,11 @@ use ac_widen::Entry;
 /// Why an output is neither shown equal nor different.
 #[derive(Drop)]
 pub enum Cause {
-    /// Each order of commutative arguments meets a mismatch: the refuted partial orders, each with what derives a mismatch.
+    /// Each order of commutative arguments extends a refuted one: the refuted partial orders, each with what derives a mismatch.
     Unmatched(Items<Refuted>),
-    /// A number of this question leaves `i128`.
+    /// A number of this question's elimination leaves `i128` or is too large for a certificate, or a row that comes next at it is not formed.
     OverflowQuestion(Conj),
-    /// A number of the hull of these members leaves `i128`.
+    /// A number leaves `i128` as the last of these members is taken beside the others.
     OverflowHull(Items<Items<i128>>),
     /// The running cost of a question exceeds the budget.
     SpentQuestion {
@@ -29,7 +29,7 @@ pub enum Cause {
     },
     /// 20,001 paths from one start to ends: each as entries from that start on.
     SpentPaths(Items<Items<Entry>>),
-    /// So many partial orders are refuted that no further one is tried.
+    /// So many partial orders are refuted that no further one is tried, though some order extends none of them.
     SpentOrders(Items<Refuted>),
 }
 

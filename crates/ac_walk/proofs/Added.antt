@@ -105,7 +105,7 @@ module _ (s : Search) (order : List (Site × Order)) (claims tabled : List Claim
       ap (λ (n : ℕ). slice_get (before ++ output ∷ (claims ++ tabled)) n) place ∙ get_behind before (output ∷ (claims ++ tabled)) (suc (length claims + i)) ∙ get_behind claims tabled i ∙ e
 
   -- the recurrence pairs are among those up to which the plans go, and their claims are all of these
-  stopped : (output : Claim) (base : ℕ) (w : Widening) → base ≡ s.first + 1 → IsWideningOf s.pair.now w
+  stopped : (output : Claim) (base : ℕ) (w : Widening) → base ≡ s.first + 1 → IsWideningOf s.pair.now s.array w
       → IsStoppedAt s.program_flows.now order base claims tabled (record { pair = s.pair.now; order = order_of order; recurrent = w.recurrent; part = in_part s.first (length (output ∷ (claims ++ tabled))) })
   stopped output base w b v =
       let count : length (output ∷ (claims ++ tabled)) ≡ length claims + length tabled + 1 = (let n = length-append claims tabled in omega (arith, n)) in
@@ -141,7 +141,7 @@ module _ (s : Search) (order : List (Site × Order)) (claims tabled : List Claim
         → ArePlansFor s order claims tabled start number base trees → ArePlanned (programs_of s.pair.now) (before ++ output ∷ (claims ++ tabled)) s.first own plans → ArePlanned (programs_of s.pair.now) (before ++ output ∷ (claims ++ tabled)) s.first (own ++ start ∷ []) (plans ++ trees)
     one_added own plans output before number base trees len n b e p before_planned = planned_more (programs_of s.pair.now) (before ++ output ∷ (claims ++ tabled)) s.first own plans start trees before_planned (planned output before (length own) number base trees len n b e p)
 
-    pub stays : (plans : List ClaimTree) (output : Claim) (before : List Claim) (k number base : ℕ) (trees : List ClaimTree) (w : Widening) → length before ≡ s.first → number ≡ s.first + k → base ≡ s.first + 1 → slice_get (output ∷ (claims ++ tabled)) k ≡ Some start → IsWideningOf s.pair.now w
+    pub stays : (plans : List ClaimTree) (output : Claim) (before : List Claim) (k number base : ℕ) (trees : List ClaimTree) (w : Widening) → length before ≡ s.first → number ≡ s.first + k → base ≡ s.first + 1 → slice_get (output ∷ (claims ++ tabled)) k ≡ Some start → IsWideningOf s.pair.now s.array w
         → ArePlansFor s order claims tabled start number base trees
         → AllByRecursion (TreeStops s.pair.now (order_of order) w.recurrent (in_part s.first (length (output ∷ (claims ++ tabled)))) (before ++ output ∷ (claims ++ tabled))) plans
         → AllByRecursion (TreeStops s.pair.now (order_of order) w.recurrent (in_part s.first (length (output ∷ (claims ++ tabled)))) (before ++ output ∷ (claims ++ tabled))) (plans ++ trees)

@@ -12,39 +12,56 @@ use Rattle.ac_flow.specs.declared.types.Flow.{Flow}
 use Rattle.ac_graph.specs.PairMoves.{pairing_of}
 use Rattle.ac_widen_programs.specs.BrokenPaths.{HasNoClaim}
 use Rattle.ac_widen_programs.specs.PairPaths.{Unfolding}
-use Rattle.ac_unfold.specs.UnfoldQuestions.{AreTargets, GoesOn, IsAsked, IsFollowed, LacksNext}
+use Rattle.ac_unfold.specs.UnfoldQuestions.{AreTargets, GoesOn, IsAsked, IsAskedAt, IsFollowed, LacksNext}
+use Rattle.ac_unfold.specs.FoundPaths.{IsFoundAt}
 use Rattle.ac_unfold.specs.UnfoldCauses.{IsStopOf}
 use Rattle.ac_unfold.specs.UnfoldEnds.{AreTooMany, EndsAtClaimed, EndsWithoutStep, IsWalked}
 use Rattle.ac_unfold.specs.declared.types.UnfoldStop.{UnfoldStop}
 use Rattle.ac_unfold.specs.declared.types.UnfoldStop.TheVariants as found
 use Rattle.ac_walk.proofs.Lists.{all_map}
-use Rattle.ac_walk.proofs.Planned.{none_there}
+use Rattle.ac_walk.proofs.SameClaims.{none_there}
 
 module _ (u : Unfolding) (left right : Flow) (cs ds : List Claim) (onto : (c : Claim) → IsAmong c cs → IsAmong c ds) (back : (c : Claim) → IsAmong c ds → IsAmong c cs) where
   goes_there : (q : Path) → GoesOn cs q → GoesOn ds q
   goes_there q h = λ gone c i l r. h gone c (back c i) l r
 
-  followed_there : (q : Path) → IsFollowed u left right cs q → IsFollowed u left right ds q
-  followed_there q (IsFollowed.start i k q' e) = IsFollowed.start i k q' e
-  followed_there q (IsFollowed.call q' b bs f g n e i) = IsFollowed.call q' b bs (followed_there q' f) (goes_there q' g) n e i
-  followed_there q (IsFollowed.read side q' b d case r f g of i e) = IsFollowed.read side q' b d case r (followed_there q' f) (goes_there q' g) of i e
-  followed_there q (IsFollowed.cut side q' b d case f g of k) = IsFollowed.cut side q' b d case (followed_there q' f) (goes_there q' g) of k
+  followed_there : (pairs : List (Seat × Seat)) (q : Path) → IsFollowed u left right cs pairs q → IsFollowed u left right ds pairs q
+  followed_there pairs q (IsFollowed.start i k q' e) = IsFollowed.start i k q' e
+  followed_there pairs q (IsFollowed.call t q' b bs f g n e i) = IsFollowed.call t q' b bs (followed_there t q' f) (goes_there q' g) n e i
+  followed_there pairs q (IsFollowed.read side t q' b d case r f g of i e) = IsFollowed.read side t q' b d case r (followed_there t q' f) (goes_there q' g) of i e
+  followed_there pairs q (IsFollowed.cut side t q' b d case n r f g of k) = IsFollowed.cut side t q' b d case n r (followed_there t q' f) (goes_there q' g) of k
 
   targets_there : (g : Pairing) (q : Path) (rows : Option (List Row)) → AreTargets g cs q rows → AreTargets g ds q rows
   targets_there g q rows (AreTargets.claim c gone i l r) = AreTargets.claim c gone (onto c i) l r
   targets_there g q rows (AreTargets.numbers f h a b) = AreTargets.numbers f h a b
   targets_there g q rows (AreTargets.cells c d a b e k) = AreTargets.cells c d a b e k
 
+  asked_at : (g : Pairing) (q : Path) (c : Conj) → IsAskedAt g cs q c → IsAskedAt g ds q c
+  asked_at g q c (IsAskedAt.here e) = IsAskedAt.here e
+  asked_at g q c (IsAskedAt.beside rows t b) = IsAskedAt.beside rows (targets_there g q (Some rows) t) b
+
   asked_there : (c : Conj) → IsAsked u left right cs c → IsAsked u left right ds c
-  asked_there c (IsAsked.here q f) = IsAsked.here q (followed_there q f)
-  asked_there c (IsAsked.beside q rows row part f t i k) = IsAsked.beside q rows row part (followed_there q f) (targets_there (pairing_of u.pair) q (Some rows) t) i k
+  asked_there c a = record { pairs = a.pairs; path = a.path; followed = followed_there a.pairs a.path a.followed; at = asked_at (pairing_of u.pair) a.path c a.at }
+
+  -- so is a path that it finds
+  pub found_there : (path : List Entry) → IsFoundAt u left right cs path → IsFoundAt u left right ds path
+  found_there path f = record {
+    pairs = f.pairs;
+    path = f.path;
+    followed = followed_there f.pairs f.path f.followed;
+    question = f.question;
+    asked = asked_at (pairing_of u.pair) f.path f.question f.asked;
+    point = f.point;
+    there = f.there;
+    are = f.are;
+  }
 
   lacks_there : (q : Path) → LacksNext u left right cs q → LacksNext u left right ds q
-  lacks_there q (LacksNext.target q' rows f t l) = LacksNext.target q' rows (followed_there q' f) (targets_there (pairing_of u.pair) q' rows t) l
-  lacks_there q (LacksNext.read q' side f g r e) = LacksNext.read q' side (followed_there q' f) (goes_there q' g) r e
-  lacks_there q (LacksNext.call q' f g n t e) = LacksNext.call q' (followed_there q' f) (goes_there q' g) n t e
-  lacks_there q (LacksNext.rest side q' b case r f g of i e) = LacksNext.rest side q' b case r (followed_there q' f) (goes_there q' g) of i e
-  lacks_there q (LacksNext.kill side q' b d case k f g of c i l) = LacksNext.kill side q' b d case k (followed_there q' f) (goes_there q' g) of c i l
+  lacks_there q (LacksNext.target t q' rows f w l) = LacksNext.target t q' rows (followed_there t q' f) (targets_there (pairing_of u.pair) q' rows w) l
+  lacks_there q (LacksNext.read t q' side f g r e) = LacksNext.read t q' side (followed_there t q' f) (goes_there q' g) r e
+  lacks_there q (LacksNext.call t q' f g n w e) = LacksNext.call t q' (followed_there t q' f) (goes_there q' g) n w e
+  lacks_there q (LacksNext.rest side t q' b case r f g of i e) = LacksNext.rest side t q' b case r (followed_there t q' f) (goes_there q' g) of i e
+  lacks_there q (LacksNext.kill side t q' b d case n r k f g of c i l) = LacksNext.kill side t q' b d case n r k (followed_there t q' f) (goes_there q' g) of c i l
 
   ends_reached : (rest : List (Seat × Seat)) (q : Path) → EndsAtClaimed cs rest q ⊎ EndsWithoutStep u cs rest q → EndsAtClaimed ds rest q ⊎ EndsWithoutStep u ds rest q
   ends_reached rest q (inl h) = inl (record {

@@ -1,9 +1,9 @@
 -- Why outputs are unknown where the search does not begin.
-use Rattle.std.proofs.Common.{◌≡◌, ℕ, ℤ, List, length, Option, sym, ap, subst, ◌∙◌}
-use Rattle.ac_forms.specs.Rows.{Meets}
+use Rattle.std.proofs.Common.{◌≡◌, ◌⊎◌, inl, inr, ℕ, ℤ, List, length, Option, sym, ap, subst, ◌∙◌}
+use Rattle.ac_forms.specs.Rows.{CanTest, Meets}
 use Rattle.ac_forms.specs.declared.conj.Conj.{Conj}
 use Rattle.ac_omega_certify.specs.declared.strategy.Strategy.TheVariants.{Full}
-use Rattle.ac_omega.specs.Decisions.{walk_of, EndsAt}
+use Rattle.ac_omega.specs.Decisions.{walk_of, EndsAt, IsLarge, IsSpent, IsWide}
 use Rattle.ac_syntax.specs.declared.tree.Pair.{Pair}
 use Rattle.ac_poly.specs.declared.types.Model.{Model}
 use Rattle.ac_flow.specs.Contexts.{ContextStops}
@@ -35,6 +35,31 @@ of_left budget pair m stop vs is valuation stops h = left_stopped stop valuation
 
 pub has_valuation : (budget : ℕ) (m n : Model) (p : List ℤ) → m ≡ n → EndsAt p (over m.params m.context) (walk_of Full budget (over m.params m.context)) → length p ≡ m.params → Meets m.context p → HasValuation budget n
 has_valuation budget m n p is found each meets = subst (HasValuation budget) is (record { point = p; found = found; each = each; meets = meets })
+
+-- a question with a point is neither too wide nor too costly
+apart_from : (budget : ℕ) (q : Conj) (p : List ℤ) → EndsAt p q (walk_of Full budget q) → IsWide q (walk_of Full budget q) ⊎ IsLarge (walk_of Full budget q) → ⊥
+apart_from budget q p (f, t) (inl (inl e)) = absurd cc
+apart_from budget q p (f, t) (inl (inr (r, e, n))) = let same : p ≡ r = cc in n (subst (CanTest q.rows) same t)
+apart_from budget q p (f, t) (inr (k, s, e, l)) = absurd cc
+
+unspent : (budget : ℕ) (q : Conj) (p : List ℤ) (cost : ℕ) → EndsAt p q (walk_of Full budget q) → IsSpent cost (walk_of Full budget q) → ⊥
+unspent budget q p cost (f, t) (j, e, l) = absurd cc
+
+-- so there is no valuation where the question of the context stops
+stops_in : (budget : ℕ) (m n : Model) (stop same : ContextStop) → m ≡ n → stop ≡ same → ContextStops budget m stop → ContextStops budget n same
+stops_in budget m n stop same is e h = subst (ContextStops budget n) e (subst (λ (k : Model). ContextStops budget k stop) is h)
+
+pub none_too_wide : (budget : ℕ) (m n : Model) (stop : ContextStop) (q : Conj) → m ≡ n → stop ≡ context.Overflow q → ContextStops budget m stop → ¬ (HasValuation budget n)
+none_too_wide budget m n stop q is e h v =
+    let there = stops_in budget m n stop (context.Overflow q) is e h in
+    let c = over n.params n.context in
+    apart_from budget c v.point v.found (subst (λ (x : Conj). IsWide x (walk_of Full budget x) ⊎ IsLarge (walk_of Full budget x)) there.0 there.1)
+
+pub none_too_costly : (budget : ℕ) (m n : Model) (stop : ContextStop) (q : Conj) (cost : ℕ) → m ≡ n → stop ≡ context.Spent q cost → ContextStops budget m stop → ¬ (HasValuation budget n)
+none_too_costly budget m n stop q cost is e h v =
+    let there = stops_in budget m n stop (context.Spent q cost) is e h in
+    let c = over n.params n.context in
+    unspent budget c v.point cost v.found (subst (λ (x : Conj). IsSpent cost (walk_of Full budget x)) there.0 there.1)
 
 pub has_flow : (m n : Model) (f : Flow) → m ≡ n → AreFlows m (readers m) f.reads → CasesAreSources m f → HasFlow n
 has_flow m n f is cases sources = subst HasFlow is (record { flow = f; cases = cases; sources = sources })

@@ -1,6 +1,6 @@
 -- Elements that differ at a valuation.
 use Rattle.std.proofs.Common.{◌≡◌, ℕ, zero, suc, ℤ, List, [], ◌∷◌, length, Bool, true, false, ◌&&◌, if◌then◌else◌, Option, None, Some, IfOk, IfSome, Result, Ok, Err, refl, sym, ap, subst, ◌∙◌}
-use Rattle.std.specs.Prelude.{option_and_then, option_map, slice_get}
+use Rattle.std.specs.Prelude.{MatchOption, option_and_then, option_map, slice_get}
 use Rattle.std.specs.List.{list_all}
 use Rattle.std.specs.declared.alloc.AllocError.{AllocError}
 use Rattle.ac_syntax.specs.CheckedArithmetic.{checked_value, checked_holds}
@@ -13,10 +13,13 @@ use Rattle.ac_claims.specs.Soundness.{ArePaired}
 use Rattle.ac_instance.specs.ComparisonAnswers.{IsReadyAt, IsAnswer, IsOutcome, everything, in_context, due, AreOutcomes, compared}
 use Rattle.ac_instance.specs.Events.{reached}
 use Rattle.ac_instance.specs.Least.{Looked, IsLeast}
+use Rattle.ac_instance.specs.MachineSteps.{IsDue}
+use Rattle.ac_instance.specs.declared.halt.Halt.{Halt}
 use Rattle.ac_instance.specs.declared.halt.Outcome.{Outcome}
-use Rattle.ac_instance.specs.declared.halt.Outcome.TheVariants.{Different}
+use Rattle.ac_instance.specs.declared.halt.Outcome.TheVariants.{Equal, Different}
 use Rattle.ac_instance.specs.declared.halt.Ran.{Ran}
 use Rattle.ac_walk.specs.OutputDecisions.{AreDifferent}
+use Rattle.ac_walk.specs.TriedValuations.{NumberShowsNone}
 
 -- a valuation with a number for each parameter is one at which both programs may run
 pub ready_at : (pair : Pair) (params : List ℤ) → ArePaired pair → length params ≡ length pair.left.params → IsReadyAt pair params
@@ -65,9 +68,40 @@ pub differs : (pair : Pair) (params : List ℤ) (limit number : ℕ) (ran : Ran)
 differs pair params limit number ran e count h at = λ output is.
     (record { each = count; context = exact_holds (point params []) pair.context.parts (within_context pair params limit ran.events h.0) }, outcome_at (compared pair params) pair.outputs ran.outcomes number output e h.1 is at)
 
-pub found_differs : (pair : Pair) (params : List ℤ) (limit number : ℕ) (ran : Ran) (outcomes : List Outcome) (r : Result (Option (List ℤ)) AllocError) → outcomes ≡ ran.outcomes → ArePaired pair → length params ≡ length pair.left.params → (IsReadyAt pair params → IsAnswer pair params limit (Ok ran))
-    → IfOk r (λ found. IfSome found (λ e. slice_get outcomes number ≡ Some (Different e))) → IfOk r (λ found. IfSome found (AreDifferent pair number params))
-found_differs pair params limit number ran outcomes (Err want) same t count answer h = tt
-found_differs pair params limit number ran outcomes (Ok None) same t count answer h = tt
-found_differs pair params limit number ran outcomes (Ok (Some e)) same t count answer h =
-    differs pair params limit number ran e count (answer (ready_at pair params t count)) (subst (λ os. slice_get os number ≡ Some (Different e)) same h)
+-- an outcome that names no element is that all terms agree
+equal_at : (looked : ℕ → Looked) (os : List ℕ) (rs : List Outcome) (n o : ℕ) → AreOutcomes looked os rs → slice_get os n ≡ Some o → ((e : List ℤ) → ¬ (slice_get rs n ≡ Some (Different e))) → IsLeast (looked o) None
+equal_at looked [] rs n o h a none = absurd cc
+equal_at looked (p ∷ os) [] n o h a none = absurd h
+equal_at looked (p ∷ os) (Equal ∷ rs) zero o h a none = let is : p ≡ o = cc in subst (λ q. IsLeast (looked q) None) is h.0
+equal_at looked (p ∷ os) (Different e ∷ rs) zero o h a none = absurd (none e refl)
+equal_at looked (p ∷ os) (r ∷ rs) (suc n) o h a none = equal_at looked os rs n o h.1 a none
+
+-- no number of events is due where a run halts
+abbrev pub HaltsAll : Halt → Type 0
+HaltsAll halt = (d : Result ℕ Halt) (events : ℕ) → IsDue d halt → ¬ (d ≡ Ok events)
+
+-- what the runs at a valuation tell of the output with a number
+abbrev pub Tells : Pair → ℕ → List ℤ → Option (List ℤ) → Type 0
+Tells pair number params found = MatchOption found (NumberShowsNone pair number params) (AreDifferent pair number params)
+
+pub outcomes_tell : (pair : Pair) (params : List ℤ) (number : ℕ) (ran : Ran) (outcomes : List Outcome) (r : Result (Option (List ℤ)) AllocError) → outcomes ≡ ran.outcomes → ArePaired pair → length params ≡ length pair.left.params → (IsReadyAt pair params → IsAnswer pair params 1000000 (Ok ran))
+    → IfOk r (λ found. MatchOption found ((e : List ℤ) → ¬ (slice_get outcomes number ≡ Some (Different e))) (λ e. slice_get outcomes number ≡ Some (Different e))) → IfOk r (Tells pair number params)
+outcomes_tell pair params number ran outcomes (Err want) same t count answer h = tt
+outcomes_tell pair params number ran outcomes (Ok None) same t count answer h = λ output is v events d.
+    equal_at (compared pair params) pair.outputs ran.outcomes number output (answer (ready_at pair params t count)).1 is (subst (λ (os : List Outcome). (e : List ℤ) → ¬ (slice_get os number ≡ Some (Different e))) same h)
+outcomes_tell pair params number ran outcomes (Ok (Some e)) same t count answer h =
+    differs pair params 1000000 number ran e count (answer (ready_at pair params t count)) (subst (λ (os : List Outcome). slice_get os number ≡ Some (Different e)) same h)
+
+pub halts_tell : (pair : Pair) (params : List ℤ) (number : ℕ) (halt : Halt) (r : Result (Option (List ℤ)) AllocError) → ArePaired pair → length params ≡ length pair.left.params → (IsReadyAt pair params → IsAnswer pair params 1000000 (Err halt))
+    → IfOk r (λ found. found ≡ None) → IfOk r (λ found. HaltsAll halt) → IfOk r (Tells pair number params)
+halts_tell pair params number halt (Err want) t count answer none halts = tt
+halts_tell pair params number halt (Ok None) t count answer none halts = λ output is v events d. absurd (halts (due pair params 1000000) events (answer (ready_at pair params t count)) d)
+halts_tell pair params number halt (Ok (Some e)) t count answer none halts = absurd cc
+
+-- no valuation has another number of numbers
+pub others_tell : (pair : Pair) (params : List ℤ) (number : ℕ) → ¬ (length params ≡ length pair.left.params) → NumberShowsNone pair number params
+others_tell pair params number other = λ output is v. absurd (other v.each)
+
+-- a halt is no number of events
+pub halts_all : (halt h : Halt) → halt ≡ h → ((d : Result ℕ Halt) → IsDue d h → d ≡ Err h) → HaltsAll halt
+halts_all halt h is only d events k e = let halted : d ≡ Err h = only d (subst (IsDue d) is k) in absurd cc

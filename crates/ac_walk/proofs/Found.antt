@@ -40,7 +40,8 @@ use Rattle.ac_walk_state.specs.declared.types.Part.{Part}
 use Rattle.ac_walk.specs.PartConstruction.{HaveClaims, IsBegun, IsPartly, IsPlanned, IsPlannedTo}
 use Rattle.ac_walk.proofs.ApartClaims.{AreApart}
 use Rattle.ac_walk.specs.Ranks.{AreClaimsAt, AreRanks}
-use Rattle.ac_walk.specs.OutputSearch.{IsFound, IsKnownUnder, IsSearch, rows_at}
+use Rattle.ac_walk.specs.FoundMembers.{rows_at}
+use Rattle.ac_walk.specs.OutputSearch.{IsFound, IsKnownUnder, IsSearch}
 use Rattle.ac_walk.specs.declared.planning.Planning.{Planning}
 use Rattle.ac_walk.specs.declared.planning.Planning.TheVariants as planning
 use Rattle.ac_walk.specs.declared.search_types.Search.{Search}
@@ -57,7 +58,7 @@ have_claims s order known numbers claims k r a widening_point i =
     (claim_of of.0, key_has_claim known.widening_points.items numbers claims of.0 r a of.1, sym of.2)
 
 -- the rows of a claim are claim rows
-key_rows : (s : Search) (order : List (Site × Order)) (known : Known) (w : Widening) (widening_point : WideningPointOf) → IsSearch s → IsKnownUnder s order known → IsWideningOf s.pair.now w → IsAmong widening_point known.widening_points.items
+key_rows : (s : Search) (order : List (Site × Order)) (known : Known) (w : Widening) (widening_point : WideningPointOf) → IsSearch s → IsKnownUnder s order known → IsWideningOf s.pair.now s.array w → IsAmong widening_point known.widening_points.items
     → Each (IsClaimRow (rows_at s.pair.now w (positions widening_point))) (claim_of widening_point).rows
 key_rows s order known w widening_point is k v i =
     let right : IsWideningPoint s.template.now (entries_of known.entries) widening_point = each_among (IsWideningPoint s.template.now (entries_of known.entries)) widening_point known.widening_points.items k.right.widening_points i in
@@ -73,7 +74,7 @@ one_key known i j widening_point other a b e = let c : slice_get known.widening_
 -- ---- the output
 
 -- an output is no recurrence pair
-no_output : (s : Search) (w : Widening) (c : Claim) → IsSearch s → IsWideningOf s.pair.now w → c.left ≡ Output s.array → c.right ≡ Output s.array → ¬ (w.recurrent (claim_positions c) ≡ true)
+no_output : (s : Search) (w : Widening) (c : Claim) → IsSearch s → IsWideningOf s.pair.now s.array w → c.left ≡ Output s.array → c.right ≡ Output s.array → ¬ (w.recurrent (claim_positions c) ≡ true)
 no_output s w c is v l r e = by ((recurring s w is v).recur (claim_positions c) e).root
   where
     by : IsRoot c.left ⊎ IsRoot c.right → ⊥
@@ -105,7 +106,7 @@ parts_of_all s order all part partly =
 -- the plans of the part, by its own claims
 record IsOwn (s : Search) (order : List (Site × Order)) (part : Part) : Type 0 where
   planned : (before : List Claim) → length before ≡ s.first → ArePlanned (programs_of s.pair.now) (before ++ part.claims.items) s.first part.claims.items part.trees.items
-  stops : (before : List Claim) → length before ≡ s.first → (w : Widening) → IsWideningOf s.pair.now w
+  stops : (before : List Claim) → length before ≡ s.first → (w : Widening) → IsWideningOf s.pair.now s.array w
       → AllByRecursion (TreeStops s.pair.now (order_of order) w.recurrent (in_part s.first (length part.claims.items)) (before ++ part.claims.items)) part.trees.items
 
 -- where all claims are there
@@ -165,13 +166,13 @@ module _ (s : Search) (order : List (Site × Order)) (known : Known) (numbers : 
       by (inl e) = inl e
       by (inr m) = inr (among_both claims tabled c m)
 
-  not_output : (w : Widening) (output : Claim) → IsElementClaim s.pair.now s.array output → IsWideningOf s.pair.now w → ¬ (w.recurrent (claim_positions output) ≡ true)
+  not_output : (w : Widening) (output : Claim) → IsElementClaim s.pair.now s.array output → IsWideningOf s.pair.now s.array w → ¬ (w.recurrent (claim_positions output) ≡ true)
   not_output w output e v = no_output s w output is v e.left_is e.right_is
 
-  not_tabled : (w : Widening) (c : Claim) → IsWideningOf s.pair.now w → IsAmong c tabled → ¬ (w.recurrent (claim_positions c) ≡ true)
+  not_tabled : (w : Widening) (c : Claim) → IsWideningOf s.pair.now s.array w → IsAmong c tabled → ¬ (w.recurrent (claim_positions c) ≡ true)
   not_tabled w c v i recurs = apart c i (claim_positions c) (is.stops w v (claim_positions c) recurs) refl
 
-  alone : (count : ℕ) (part : Part) (b : IsBegun s order claims tabled count part) (w : Widening) → IsWideningOf s.pair.now w → (c d : Claim) → IsAmong c part.claims.items → IsAmong d part.claims.items → w.recurrent (claim_positions c) ≡ true → claim_positions c ≡ claim_positions d → c ≡ d
+  alone : (count : ℕ) (part : Part) (b : IsBegun s order claims tabled count part) (w : Widening) → IsWideningOf s.pair.now s.array w → (c d : Claim) → IsAmong c part.claims.items → IsAmong d part.claims.items → w.recurrent (claim_positions c) ≡ true → claim_positions c ≡ claim_positions d → c ≡ d
   alone count part b w v c d i j recurs same = by (among_own count part b c i) (among_own count part b d j)
     where
       other_recurs : w.recurrent (claim_positions d) ≡ true
@@ -190,7 +191,7 @@ module _ (s : Search) (order : List (Site × Order)) (known : Known) (numbers : 
           let other_place : slice_get (pairs_of known) other.0 ≡ Some (positions of.1.0) = get_map positions known.widening_points.items other.0 other.1.0 other.1.1 ∙ ap Some (sym one) in
           of.1.2 ∙ ap claim_of (one_key known of.0 other.0 of.1.0 other.1.0 of.1.1 other.1.1 (k.right.distinct of.0 other.0 (positions of.1.0) place other_place)) ∙ sym other.1.2
 
-  rows : (count : ℕ) (part : Part) (b : IsBegun s order claims tabled count part) (w : Widening) → IsWideningOf s.pair.now w → (c : Claim) → IsAmong c part.claims.items → w.recurrent (claim_positions c) ≡ true → Each (IsClaimRow (rows_at s.pair.now w (claim_positions c))) c.rows
+  rows : (count : ℕ) (part : Part) (b : IsBegun s order claims tabled count part) (w : Widening) → IsWideningOf s.pair.now s.array w → (c : Claim) → IsAmong c part.claims.items → w.recurrent (claim_positions c) ≡ true → Each (IsClaimRow (rows_at s.pair.now w (claim_positions c))) c.rows
   rows count part b w v c i recurs = by (among_own count part b c i)
     where
       by : (c ≡ b.output) ⊎ (IsAmong c claims ⊎ IsAmong c tabled) → Each (IsClaimRow (rows_at s.pair.now w (claim_positions c))) c.rows

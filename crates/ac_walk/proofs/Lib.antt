@@ -3,7 +3,9 @@ pub mod ApartClaims
 pub mod Lists
 pub mod Programs
 pub mod Unfolded
+pub mod Members
 pub mod Rounds
+pub mod SameClaims
 pub mod Asked
 pub mod Ranked
 pub mod Added
@@ -12,6 +14,8 @@ pub mod Planned
 pub mod Stopped
 pub mod Tabled
 pub mod Elements
+pub mod Trying
+pub mod Samples
 pub mod Gathered
 pub mod Contexts
 pub mod Flowing

@@ -6,12 +6,9 @@ use Rattle.ac_forms.specs.ListMembers.{IsAmong}
 use Rattle.ac_forms.specs.Rows.{AreRowsOver}
 use Rattle.ac_syntax.specs.declared.tree.Order.{Order}
 use Rattle.ac_syntax.specs.declared.tree.Site.{Site}
-use Rattle.ac_claims_paths.specs.declared.path.Path.{Path}
-use Rattle.ac_claims_paths.specs.declared.path.Seat.{Seat}
 use Rattle.ac_claims.specs.declared.types.Claim.{Claim}
 use Rattle.ac_widen.specs.declared.derivation.Entry.{Entry}
 use Rattle.ac_widen.proofs.Combining.{each_among}
-use Rattle.ac_widen_programs.specs.BrokenPaths.{EndsBroken, HasNoClaim, IsBroken}
 use Rattle.ac_widen_programs.specs.PairPaths.{Unfolding}
 use Rattle.ac_widen_programs.specs.PairSetting.{point_width}
 use Rattle.ac_unfold_plans.specs.PlanStops.{claim_positions}
@@ -24,34 +21,12 @@ use Rattle.ac_walk_state.specs.declared.types.Part.{Part}
 use Rattle.ac_walk.specs.PartConstruction.{AddsNext, IsBegun, IsBrokenBy}
 use Rattle.ac_walk.specs.Ranks.{AreClaimsAt, AreRanks}
 use Rattle.ac_walk.specs.OutputSearch.{IsKnownUnder}
-use Rattle.ac_walk.specs.StartPaths.{AreBrokenFrom}
+use Rattle.ac_walk.specs.StartPaths.{AreBrokenFrom, IsPathFound}
 use Rattle.ac_walk.specs.declared.search_types.Search.{Search}
-use Rattle.ac_walk.proofs.Lists.{all_map, among_map, get_among, get_front, get_some}
+use Rattle.ac_walk.proofs.Asked.{found_there}
+use Rattle.ac_walk.proofs.SameClaims.{broken_there}
+use Rattle.ac_walk.proofs.Lists.{among_map, get_among, get_front, get_some}
 use Rattle.ac_walk.proofs.Ranked.{claim_of_key, claim_there, key_has_claim}
-
--- ---- the same claims in another order
-
-module _ (u : Unfolding) (cs ds : List Claim) (onto : (c : Claim) → IsAmong c cs → IsAmong c ds) (back : (c : Claim) → IsAmong c ds → IsAmong c cs) where
-  pub none_there : (s : Seat × Seat) → HasNoClaim cs s → HasNoClaim ds s
-  none_there s h c i l r = h c (back c i) l r
-
-  ends_there : (rest : List (Seat × Seat)) (q : Path) (p : List _) → EndsBroken u cs rest q p → EndsBroken u ds rest q p
-  ends_there rest q p (inl h) = inl (record { free = all_map (HasNoClaim cs) (HasNoClaim ds) rest none_there h.free; nothing = h.nothing })
-  ends_there rest q p (inr h) = inr (record {
-    between = h.between;
-    rest_is = h.rest_is;
-    free = all_map (HasNoClaim cs) (HasNoClaim ds) h.between none_there h.free;
-    claim = h.claim;
-    among = onto h.claim h.among;
-    left_is = h.left_is;
-    right_is = h.right_is;
-    row = h.row;
-    row_among = h.row_among;
-    fails = h.fails;
-  })
-
-  pub broken_there : (path : List Entry) → IsBroken u cs path → IsBroken u ds path
-  broken_there path b = record { first = b.first; rest = b.rest; question = b.question; point = b.point; comes = b.comes; are = b.are; ends = ends_there b.rest b.question b.point b.ends }
 
 -- ---- broken paths
 
@@ -71,8 +46,14 @@ module _ (s : Search) (order : List (Site × Order)) (known : Known) (numbers : 
       let of = among_map claim_of known.widening_points.items c i in
       subst (λ (x : Claim). IsAmong x claims) (sym of.2) (key_has_claim known.widening_points.items numbers claims of.0 ranks at of.1)
 
-  one_path : (start : Claim) (path : List Entry) → IsBrokenBy s order claims start path → (u : Unfolding) → IsUnfoldingOf s.program_flows.now start order u → AllByRecursion (IsBroken u (claims_of known)) (path ∷ [])
-  one_path start path b u of = (broken_there u claims (claims_of known) to_known from_known path (b u of), tt)
+  one_path : (start : Claim) (path : List Entry) → IsBrokenBy s order claims start path → (u : Unfolding) → IsUnfoldingOf s.program_flows.now start order u → AllByRecursion (IsPathFound s.program_flows.now u (claims_of known)) (path ∷ [])
+  one_path start path b u of = (
+    record {
+      broken = broken_there u claims (claims_of known) to_known from_known path (b u of).broken;
+      found = found_there u s.program_flows.now.left_flow.now s.program_flows.now.right_flow.now claims (claims_of known) to_known from_known path (b u of).found;
+    },
+    tt,
+  )
 
   pub broken_output : (output : Claim) (path : List Entry) → IsElementClaim s.pair.now s.array output → IsBrokenBy s order claims output path → AreBrokenFrom s order known None (path ∷ [])
   broken_output output path is b = record { claim = output; start = is; broken = one_path output path b }

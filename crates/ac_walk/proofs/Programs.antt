@@ -30,19 +30,19 @@ programs_are s h = λ i. record {
 pub pairing_is : (s : Search) → IsSearch s → pairing_of s.pair.now ≡ pairing s.program_flows.now.programs
 pairing_is s h = programs_are s h
 
-pub recurring : (s : Search) (w : Widening) → IsSearch s → IsWideningOf s.pair.now w → AreRecurring s.pair.now w.recurrent
-recurring s w h is = widenings_recur s.pair.now s.program_flows.now.left_flow.now s.program_flows.now.right_flow.now w h.flows is
+pub recurring : (s : Search) (w : Widening) → IsSearch s → IsWideningOf s.pair.now s.array w → AreRecurring s.pair.now w.recurrent
+recurring s w h is = widenings_recur s.pair.now s.array s.program_flows.now.left_flow.now s.program_flows.now.right_flow.now w h.flows is
 
-pub lawful : (s : Search) (w : Widening) → IsSearch s → IsWideningOf s.pair.now w → IsLawful (searched s.pair.now s.array w)
+pub lawful : (s : Search) (w : Widening) → IsSearch s → IsWideningOf s.pair.now s.array w → IsLawful (searched s.pair.now s.array w)
 lawful s w h is = pairs_are_a_setting s.pair.now (s.array ∷ []) w.recurrent (λ widening_point. template_rows (point_width s.pair.now widening_point) w.thresholds w.moduli) (recurring s w h is)
 
 -- the thresholds and moduli with which it widens are those of the template
-pub numbers_are : (s : Search) (w : Widening) → IsSearch s → IsWideningOf s.pair.now w → (w.thresholds ≡ s.template.now.thresholds) × (w.moduli ≡ s.template.now.moduli)
+pub numbers_are : (s : Search) (w : Widening) → IsSearch s → IsWideningOf s.pair.now s.array w → (w.thresholds ≡ s.template.now.thresholds) × (w.moduli ≡ s.template.now.moduli)
 numbers_are s w h is = (
   first_is_one 64 (λ x. IsAmong x (threshold_candidates s.pair.now)) w.thresholds s.template.now.thresholds is.thresholds_are h.numbers.thresholds_are,
   first_is_one 8 (λ m. IsAmong m (modulus_candidates s.pair.now)) w.moduli s.template.now.moduli is.moduli_are h.numbers.moduli_are,
 )
 
 -- and the template rows
-pub template_is : (s : Search) (w : Widening) → IsSearch s → IsWideningOf s.pair.now w → (widening_point : Position × Position) → IsTemplateAt (searched s.pair.now s.array w) widening_point s.template.now
+pub template_is : (s : Search) (w : Widening) → IsSearch s → IsWideningOf s.pair.now s.array w → (widening_point : Position × Position) → IsTemplateAt (searched s.pair.now s.array w) widening_point s.template.now
 template_is s w h is widening_point = let e = numbers_are s w h is in λ i. template_rows (point_width s.pair.now widening_point) (e.0 i) (e.1 i)

@@ -23,19 +23,20 @@ use Rattle.ac_report.specs.declared.types.Cause.{Cause}
 use Rattle.ac_report.specs.declared.types.Cause.TheVariants.{Unmatched, OverflowQuestion, OverflowHull, SpentQuestion, SpentPieces, SpentPaths, SpentOrders}
 use Rattle.ac_walk_state.specs.RecurrencePairs.{claim_of, positions}
 use Rattle.ac_walk_state.specs.RecurrencePairInvariant.{IsWideningPoint, IsWideningPointIn}
-use Rattle.ac_walk_state.specs.RecurrencePairStops.{AreTooLarge}
 use Rattle.ac_walk_state.proofs.Standing.{key_in}
 use Rattle.ac_walk_state.specs.Elements.{IsElementClaim}
 use Rattle.ac_walk_state.specs.OrderKnowledge.{IsWide, claims_of, pairs_of}
 use Rattle.ac_walk_state.specs.declared.known.Known.{Known}
 use Rattle.ac_walk_state.proofs.LastItems.{among_map, append_nil, each_in}
 use Rattle.ac_walk_state.proofs.Orders.{refutes_part}
-use Rattle.ac_walk.specs.OutputSearch.{AreTaken, IsFound, IsSearch, ShowMismatch, rows_at}
+use Rattle.ac_walk.specs.FoundMembers.{rows_at}
+use Rattle.ac_walk.specs.OutputSearch.{AreTaken, IsFound, IsSearch, ShowMismatch}
 use Rattle.ac_walk.specs.SearchStops.{AreTooLargeUnder, StopsSearch, StopsUnfoldingUnder}
 use Rattle.ac_walk.specs.StartPaths.{IsStartOf}
 use Rattle.ac_walk.specs.declared.search_types.Search.{Search}
 use Rattle.ac_walk.proofs.Lists.{get_among}
-use Rattle.ac_walk.proofs.Programs.{lawful, numbers_are, template_is}
+use Rattle.ac_walk.proofs.Members.{are_known, start_is}
+use Rattle.ac_walk.proofs.Programs.{lawful}
 use Rattle.ac_walk.proofs.Unfolded.{is_unfolding, unfolding_at}
 use Rattle.ac_walk_state.specs.SearchSetting.{Widening, IsWideningOf, searched}
 use Rattle.ac_unfold_plans.specs.ArgumentOrders.{order_of}
@@ -46,7 +47,7 @@ use Rattle.ac_unfold.specs.declared.types.UnfoldStop.{UnfoldStop}
 use Rattle.ac_unfold.specs.declared.types.UnfoldStop.TheVariants as unfolded
 use Rattle.ac_walk.specs.UnknownCauses.{EndsSearch}
 use Rattle.ac_walk.specs.OutputDecisions.{AreShown, AreSitesAmong, GoesNoFurther, IsDecision, IsDifference, IsKept, IsOutputSearch, IsShown}
-use Rattle.ac_walk.specs.OutputStops.{UnfoldingStops}
+use Rattle.ac_walk.specs.OutputStops.{IsOrderOfSites, UnfoldingStops}
 use Rattle.ac_walk.specs.Verdicts.{AreTooLargePoints, IsCause}
 use Rattle.ac_walk.specs.declared.deciding.Decision.{Decision}
 use Rattle.ac_walk.specs.declared.deciding.Decision.TheVariants.{Stands, Different, Unknown}
@@ -59,7 +60,7 @@ once_among pair pairs all made are once = record { sites_are = λ site. ((λ i. 
 -- ---- refuted orders
 
 -- in the setting of the search a partial order is refuted by entries that show a mismatch, behind earlier ones
-one_refuted : (s : Search) (w : Widening) → IsSearch s → IsWideningOf s.pair.now w → AreTaken s.stops.now w → (sites : List Site) (earlier : List Refuted) (r : Refuted) → IsShown s sites earlier r → IsRefutedAfter (searched s.pair.now s.array w) sites earlier r
+one_refuted : (s : Search) (w : Widening) → IsSearch s → IsWideningOf s.pair.now s.array w → AreTaken s.stops.now w → (sites : List Site) (earlier : List Refuted) (r : Refuted) → IsShown s sites earlier r → IsRefutedAfter (searched s.pair.now s.array w) sites earlier r
 one_refuted s w h is taken sites earlier r shown =
     let rows = λ (positions : Position × Position). template_rows (point_width s.pair.now positions) w.thresholds w.moduli in
     let found = shown.shown w is taken in
@@ -72,7 +73,7 @@ one_refuted s w h is taken sites earlier r shown =
       refuted = refutes_part (searched s.pair.now s.array w) (order_of shown.order) r.why.entries r.partial (lawful s w h is) found.0 found.1 part;
     }
 
-all_refuted : (s : Search) (w : Widening) → IsSearch s → IsWideningOf s.pair.now w → AreTaken s.stops.now w → (sites : List Site) (earlier list : List Refuted) → AreShown s sites earlier list → AreRefutedInTurn (searched s.pair.now s.array w) sites earlier list
+all_refuted : (s : Search) (w : Widening) → IsSearch s → IsWideningOf s.pair.now s.array w → AreTaken s.stops.now w → (sites : List Site) (earlier list : List Refuted) → AreShown s sites earlier list → AreRefutedInTurn (searched s.pair.now s.array w) sites earlier list
 all_refuted s w h is taken sites earlier [] shown = tt
 all_refuted s w h is taken sites earlier (r ∷ list) shown = (one_refuted s w h is taken sites earlier r shown.0, all_refuted s w h is taken sites (earlier ++ r ∷ []) list shown.1)
 
@@ -125,23 +126,21 @@ spent_decides s number o h sites shown spent = record { kept = tt; ends = λ nea
 
 -- the search under an order ends early
 are_too_large : (s : Search) (number : ℕ) (order : List (Site × Order)) (points : List (List ℤ)) → IsOutputSearch s number → GoesNoFurther s → AreTooLargeUnder s order points → AreTooLargePoints s.pair.now s.array points
-are_too_large s number order points h near (known, under, widening_point, among, large) =
+are_too_large s number order points h near under =
     let w = h.widening.0 in
     let is = h.widening.1 in
-    let ns = numbers_are s w h.search is in
-    let at : IsAmong (positions widening_point) (pairs_of known) = among_map positions known.widening_points.items widening_point among in
+    let at = under w is (near w is) in
     record {
       widening = w;
       is_widening = is;
       order = order_of order;
-      entries = known.entries;
-      derived = under.derived w is (near w is);
-      widening_point = widening_point;
-      right =
-          key_in (searched s.pair.now s.array w) s.template.now (entries_of known.entries) widening_point (each_in (IsWideningPoint s.template.now (entries_of known.entries)) known.widening_points.items widening_point under.right.widening_points among)
-          (each_in (IsWide s.pair.now) known.widening_points.items widening_point under.right.widths among) (template_is s w h.search is (positions widening_point));
-      recurs = near w is (positions widening_point) ((under.pairs (positions widening_point)).0 at);
-      large = subst (λ (ts : List ℤ). AreTooLarge s.pair.now ts w.moduli widening_point points) (sym ns.0) (subst (λ (ms : List ℤ). AreTooLarge s.pair.now s.template.now.thresholds ms widening_point points) (sym ns.1) large);
+      left_flow = s.program_flows.now.left_flow.now;
+      right_flow = s.program_flows.now.right_flow.now;
+      flows = h.search.flows;
+      positions = at.0;
+      recurs = near w is at.0 at.1;
+      large = at.2;
+      found = at.3;
     }
 
 early_cause : (s : Search) (number : ℕ) (order : List (Site × Order)) (why : Cause) → IsOutputSearch s number → GoesNoFurther s → StopsSearch s order why → IsCause s.pair.now s.array why
@@ -153,47 +152,36 @@ early_cause s number order (SpentPieces position kept) is near h = tt
 early_cause s number order (SpentPaths paths) is near h = tt
 early_cause s number order (SpentOrders refuted) is near h = absurd h
 
--- a start of what is known is the claim of the output, or one of the claims
-start_is : (s : Search) (known : Known) (from : Option ℕ) (claim : Claim) → IsStartOf s known from claim → IsElementClaim s.pair.now s.array claim ⊎ IsAmong claim (claims_of known)
-start_is s known (Some at) claim h = inr (subst (λ (c : Claim). IsAmong c (claims_of known)) (sym h.2) (among_map claim_of known.widening_points.items h.0 (get_among known.widening_points.items at h.0 h.1)))
-start_is s known None claim h = inl h
-
 -- an unfolding of what is known stops so in the setting of the search
-unfolding_stops : (s : Search) (number : ℕ) (order : List (Site × Order)) (stop : UnfoldStop) → IsOutputSearch s number → GoesNoFurther s → StopsUnfoldingUnder s order stop → UnfoldingStops s.program_flows.now.budget s.pair.now s.array stop
-unfolding_stops s number order stop h near under =
+unfolding_stops : (s : Search) (number : ℕ) (order : List (Site × Order)) (stop : UnfoldStop) → IsOutputSearch s number → GoesNoFurther s → IsOrderOfSites s.pair.now s.array (order_of order) → StopsUnfoldingUnder s order stop → UnfoldingStops s.program_flows.now.budget s.pair.now s.array stop
+unfolding_stops s number order stop h near of under =
     let w = h.widening.0 in
     let is = h.widening.1 in
     let known = under.known in
-    let k = under.is_known in
     record {
       widening = w;
       is_widening = is;
       order = order_of order;
-      entries = known.entries;
-      derived = k.derived w is (near w is);
-      widening_points = known.widening_points.items;
-      right = each_from (IsWideningPointIn (searched s.pair.now s.array w) (entries_of known.entries)) known.widening_points.items
-          (λ widening_point among.
-          key_in (searched s.pair.now s.array w) s.template.now (entries_of known.entries) widening_point (each_in (IsWideningPoint s.template.now (entries_of known.entries)) known.widening_points.items widening_point k.right.widening_points among)
-          (each_in (IsWide s.pair.now) known.widening_points.items widening_point k.right.widths among) (template_is s w h.search is (positions widening_point)));
-      recur = λ widening_point. ((λ i. near w is widening_point ((k.pairs widening_point).0 i)), λ e. (k.pairs widening_point).1 (h.search.stops w is widening_point e));
-      distinct = k.right.distinct;
-      start = under.claim;
-      starts = start_is s known under.from under.claim under.start;
+      of_sites = of;
       left_flow = s.program_flows.now.left_flow.now;
       right_flow = s.program_flows.now.right_flow.now;
       flows = h.search.flows;
+      widening_points = known.widening_points.items;
+      known = are_known s order h.search w is (near w is) known under.is_known;
+      found = under.is_known.found w is (near w is);
+      start = under.claim;
+      starts = start_is s order h.search w is (near w is) known under.from under.claim under.start;
       stops = under.stops (unfolding_at s order under.claim w) (is_unfolding s order h.search under.claim w.recurrent (rows_at s.pair.now w));
     }
 
-early_ends : (s : Search) (number : ℕ) (order : List (Site × Order)) (why : Cause) → IsOutputSearch s number → GoesNoFurther s → StopsSearch s order why → EndsSearch s.program_flows.now.budget s.pair.now s.array why
-early_ends s number order (Unmatched refuted) is near h = absurd h
-early_ends s number order (OverflowQuestion question) is near h = unfolding_stops s number order (unfolded.Overflow question) is near h
-early_ends s number order (OverflowHull members) is near h = tt
-early_ends s number order (SpentQuestion question cost) is near h = unfolding_stops s number order (unfolded.Spent question cost) is near h
-early_ends s number order (SpentPieces position kept) is near h = absurd h
-early_ends s number order (SpentPaths paths) is near h = unfolding_stops s number order (unfolded.Paths paths) is near h
-early_ends s number order (SpentOrders refuted) is near h = absurd h
+early_ends : (s : Search) (number : ℕ) (order : List (Site × Order)) (why : Cause) → IsOutputSearch s number → GoesNoFurther s → IsOrderOfSites s.pair.now s.array (order_of order) → StopsSearch s order why → EndsSearch s.program_flows.now.budget s.pair.now s.array why
+early_ends s number order (Unmatched refuted) is near of h = absurd h
+early_ends s number order (OverflowQuestion question) is near of h = unfolding_stops s number order (unfolded.Overflow question) is near of h
+early_ends s number order (OverflowHull members) is near of h = tt
+early_ends s number order (SpentQuestion question cost) is near of h = unfolding_stops s number order (unfolded.Spent question cost) is near of h
+early_ends s number order (SpentPieces position kept) is near of h = absurd h
+early_ends s number order (SpentPaths paths) is near of h = unfolding_stops s number order (unfolded.Paths paths) is near of h
+early_ends s number order (SpentOrders refuted) is near of h = absurd h
 
-pub early_decides : (s : Search) (number : ℕ) (order : List (Site × Order)) (why : Cause) → IsOutputSearch s number → StopsSearch s order why → IsDecision s number (Unknown why)
-early_decides s number order why is h = record { kept = tt; ends = λ near. early_ends s number order why is near h; cause = λ near. early_cause s number order why is near h }
+pub early_decides : (s : Search) (number : ℕ) (order : List (Site × Order)) (why : Cause) → IsOutputSearch s number → IsOrderOfSites s.pair.now s.array (order_of order) → StopsSearch s order why → IsDecision s number (Unknown why)
+early_decides s number order why is of h = record { kept = tt; ends = λ near. early_ends s number order why is near of h; cause = λ near. early_cause s number order why is near h }

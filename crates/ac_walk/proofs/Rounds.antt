@@ -22,6 +22,7 @@ use Rattle.ac_walk_state.specs.declared.growth.Growth.TheVariants.{Grown, Mismat
 use Rattle.ac_walk.specs.OutputSearch.{IsKnownUnder, IsSearch, ShowMismatch}
 use Rattle.ac_walk.specs.StartPaths.{AreBrokenFrom}
 use Rattle.ac_walk.specs.declared.search_types.Search.{Search}
+use Rattle.ac_walk.proofs.Members.{found_after, none_known}
 use Rattle.ac_walk.proofs.Programs.{pairing_is}
 use Rattle.ac_walk.proofs.Unfolded.{are_paths, plain_unfolding, unfolding_at, widened}
 
@@ -35,12 +36,14 @@ known_after s order known from paths (Grown next) is k b h = record {
   right = (h (plain_unfolding s order b.claim) (are_paths s order is known from paths k b _ _)).is_known;
   pairs = subst (λ (ps : List (Position × Position)). (positions : Position × Position) → IsAmong positions ps ↔ IsAmong positions s.stops.now) (sym (h (plain_unfolding s order b.claim) (are_paths s order is known from paths k b _ _)).pairs) k.pairs;
   derived = λ w v taken. (h (unfolding_at s order b.claim w) (are_paths s order is known from paths k b _ _)).derivation (widened s order is known b.claim w k v taken) (k.derived w v taken);
+  found = λ w v taken. found_after s order is w v taken known from paths k b next (h (plain_unfolding s order b.claim) (are_paths s order is known from paths k b _ _)).members;
 }
 known_after s order known from paths (Mismatch entries) is k b h = tt
 known_after s order known from paths (Nothing next) is k b h = record {
   right = (h (plain_unfolding s order b.claim) (are_paths s order is known from paths k b _ _)).is_known;
   pairs = subst (λ (ps : List (Position × Position)). (positions : Position × Position) → IsAmong positions ps ↔ IsAmong positions s.stops.now) (sym (h (plain_unfolding s order b.claim) (are_paths s order is known from paths k b _ _)).pairs) k.pairs;
   derived = λ w v taken. (h (unfolding_at s order b.claim w) (are_paths s order is known from paths k b _ _)).derivation (widened s order is known b.claim w k v taken) (k.derived w v taken);
+  found = λ w v taken. found_after s order is w v taken known from paths k b next (h (plain_unfolding s order b.claim) (are_paths s order is known from paths k b _ _)).members;
 }
 
 pub mismatch_after : (s : Search) (order : List (Site × Order)) (known : Known) (from : Option ℕ) (paths : List (List Entry)) (growth : Growth) → IsSearch s → IsKnownUnder s order known → AreBrokenFrom s order known from paths → IsGrowthFor s known from paths growth
@@ -58,4 +61,5 @@ first_known s order known is none pairs right = record {
   right = right s.pair.now s.template.now (pairing_is s is);
   pairs = pairs;
   derived = λ w v taken. subst (λ (es : List Entry). IsDerivation (searched s.pair.now s.array w) (order_of order) (entries_of es)) (sym none) tt;
+  found = λ w v taken k p among m. absurd (none_known s.pair.now s.template.now known k p none (right s.pair.now s.template.now (pairing_is s is)) among m);
 }

@@ -18,11 +18,12 @@ use Rattle.ac_walk_state.specs.PartExtension.{NamesWithPart, StaysAccepted, Stop
 use Rattle.ac_walk_state.specs.ProofParts.{IsLonger, IsPartFor, in_part}
 use Rattle.ac_walk_state.specs.declared.types.Part.{Part}
 use Rattle.ac_report.specs.declared.types.Verdict.TheVariants.{Equal}
-use Rattle.ac_walk.specs.OutputSearch.{IsFound, rows_at}
+use Rattle.ac_walk.specs.FoundMembers.{rows_at}
+use Rattle.ac_walk.specs.OutputSearch.{IsFound}
 use Rattle.ac_walk_state.proofs.Widening.{widenings_recur}
 use Rattle.ac_walk.specs.VerdictCollection.{IsBasis, IsSaidOf, IsValid}
 use Rattle.ac_walk.specs.declared.outputs.Basis.{Basis}
-use Rattle.ac_walk.proofs.Widened.{widening}
+use Rattle.ac_walk_state.specs.SearchSetting.{Widening, IsWideningOf}
 
 own_models : (pair : Pair) → AreModels pair (model_of pair.left pair.context) (model_of pair.right pair.context)
 own_models pair = record { left_is = refl; right_is = refl }
@@ -39,35 +40,36 @@ is_same b proof longer part array h l valid =
     last_same pair proof.outputs array (length proof.claims) (subst (λ (os : List (ℕ × ℕ)). AllByRecursion (λ (o : ℕ × ℕ). SameOutput pair o.0) os) l.outputs all)
 
 -- and where the part stops, some order has no mismatch
-is_matched : (b : Basis) (order : Position × Position → Order) (proof longer : Proof) (part : Part) (array : ℕ) → IsBasis b → IsFound b.pair.now order array (length proof.claims) part → IsPartFor (programs_of b.pair.now) b.pair.now.outputs array proof.claims part → StopsWithPart proof part array longer → NamesWithPart proof part array longer
+is_matched : (b : Basis) (array : ℕ) (own_widening : (w : Widening) × IsWideningOf b.pair.now array w) (order : Position × Position → Order) (proof longer : Proof) (part : Part) → IsBasis b → IsFound b.pair.now order array (length proof.claims) part → IsPartFor (programs_of b.pair.now) b.pair.now.outputs array proof.claims part → StopsWithPart proof part array longer → NamesWithPart proof part array longer
     → IsValid b.pair.now proof → IsValid b.pair.now longer → IsMatched b.pair.now array
-is_matched b order proof longer part array h found fits stops names before valid =
+is_matched b array own_widening order proof longer part h found fits stops names before valid =
     let pair = b.pair.now in
-    let w = (widening b h).0 in
-    let is = (widening b h).1 in
+    let w = own_widening.0 in
+    let is = own_widening.1 in
     let own = in_part (length proof.claims) (length part.claims.items) in
     let stopped : IsStoppedProof pair order w.recurrent (rows_at pair w) own longer = record {
       left = model_of pair.left pair.context;
       right = model_of pair.right pair.context;
       models = own_models pair;
       moduli = valid.moduli;
-      recurring = widenings_recur pair b.program_flows.now.left_flow.now b.program_flows.now.right_flow.now w h.flows is;
+      recurring = widenings_recur pair array b.program_flows.now.left_flow.now b.program_flows.now.right_flow.now w h.flows is;
       valid = valid.valid;
       stops = stops pair order w.recurrent (rows_at pair w) pair.outputs before fits (found.stops proof.claims refl w is);
     } in
     stopped_proofs_match pair w order own longer array is stopped (names (programs_of pair) pair.outputs fits)
 
-pub equal_said : (b : Basis) (budget : ℕ) (order : Position × Position → Order) (proof longer : Proof) (part : Part) (array first : ℕ) → IsBasis b → first ≡ length proof.claims → IsFound b.pair.now order array first part → IsLonger proof part array longer → StaysAccepted proof part array longer → StopsWithPart proof part array longer → NamesWithPart proof part array longer
+pub equal_said : (b : Basis) (budget array : ℕ) (own_widening : (w : Widening) × IsWideningOf b.pair.now array w) (order : Position × Position → Order) (proof longer : Proof) (part : Part) (first : ℕ) → IsBasis b → first ≡ length proof.claims → IsFound b.pair.now order array first part → IsLonger proof part array longer → StaysAccepted proof part array longer → StopsWithPart proof part array longer → NamesWithPart proof part array longer
     → IsValid b.pair.now proof → IsSaidOf budget b.pair.now array proof (Equal, longer)
-equal_said b budget order proof longer part array first h e f l stays stops names valid =
+equal_said b budget array own_widening order proof longer part first h e f l stays stops names valid =
     let pair = b.pair.now in
     let found : IsFound pair order array (length proof.claims) part = subst (λ (n : ℕ). IsFound pair order array n part) e f in
     let fits = found.is_part proof.claims refl in
     let after : IsValid pair longer = stays (programs_of pair) pair.outputs valid fits in
     record {
       verdict = is_same b proof longer part array h l after;
-      matched = is_matched b order proof longer part array h found fits stops names valid after;
+      matched = is_matched b array own_widening order proof longer part h found fits stops names valid after;
       searched = tt;
+      tried = tt;
       named_then = ap (map (λ (o : ℕ × ℕ). o.0)) l.outputs ∙ map-append (λ (o : ℕ × ℕ). o.0) proof.outputs ((array, length proof.claims) ∷ []);
       valid = after;
     }

@@ -1,5 +1,5 @@
 -- Stops of hulls and of unfoldings.
-use Rattle.std.proofs.Common.{◌≡◌, ◌↔◌, ◌<◌, ℕ, List, Option, Some, None, length, ap, subst, sym, ◌∙◌}
+use Rattle.std.proofs.Common.{◌≡◌, ◌↔◌, ◌<◌, ℕ, ℤ, List, Option, Some, None, length, ap, subst, sym, ◌∙◌}
 use Rattle.std.specs.Prelude.{slice_get, IfSome}
 use Rattle.ac_forms.specs.ListMembers.{IsAmong}
 use Rattle.ac_syntax.specs.declared.tree.Order.{Order}
@@ -16,7 +16,8 @@ use Rattle.ac_unfold.specs.UnfoldCauses.{StopsUnfolding}
 use Rattle.ac_unfold.specs.declared.types.UnfoldStop.{UnfoldStop}
 use Rattle.ac_unfold.specs.declared.types.UnfoldStop.TheVariants as found
 use Rattle.ac_walk_state.specs.OrderKnowledge.{claims_of}
-use Rattle.ac_walk_state.specs.GrowthStops.{StopsBehind}
+use Rattle.ac_walk_state.specs.RecurrencePairStops.{CanTake}
+use Rattle.ac_walk_state.specs.GrowthStops.{StopsGrowth}
 use Rattle.ac_walk_state.specs.declared.known.Known.{Known}
 use Rattle.ac_walk_state.specs.Elements.{IsElementClaim}
 use Rattle.ac_walk.specs.Ranks.{AreClaimsAt, AreRanks}
@@ -27,25 +28,31 @@ use Rattle.ac_walk.specs.declared.stops.Stop.{Stop}
 use Rattle.ac_walk.specs.declared.stops.Stop.TheVariants.{Early, Memory}
 use Rattle.ac_walk.specs.declared.search_types.Search.{Search}
 use Rattle.ac_walk.proofs.Asked.{stops_of_same_claims}
+use Rattle.ac_walk.proofs.Members.{found_beside}
 use Rattle.ac_walk.proofs.Planned.{from_known, to_known}
-use Rattle.ac_walk.proofs.Unfolded.{are_paths, is_start, plain_unfolding, unfolding_at, widened}
+use Rattle.ac_walk.proofs.Programs.{numbers_are}
+use Rattle.ac_walk.proofs.Unfolded.{are_paths, is_start, unfolding_at, widened}
 
 -- ---- hulls
 
--- what is known where a growth stops
-known_there : (s : Search) (order : List (Site × Order)) (known : Known) (from : Option ℕ) (paths : List (List Entry)) (stop : HullStop) → IsSearch s → IsKnownUnder s order known → AreBrokenFrom s order known from paths
-    → (h : StopsBehind s.template.now known from paths stop) → IsKnownUnder s order h.known
-known_there s order known from paths stop is k b h = record {
-  right = (h.behind (plain_unfolding s order b.claim) (are_paths s order is known from paths k b _ _)).is_known;
-  pairs = subst (λ (ps : List (Position × Position)). (positions : Position × Position) → IsAmong positions ps ↔ IsAmong positions s.stops.now) (sym (h.behind (plain_unfolding s order b.claim) (are_paths s order is known from paths k b _ _)).pairs) k.pairs;
-  derived = λ w v taken. (h.behind (unfolding_at s order b.claim w) (are_paths s order is known from paths k b _ _)).derivation (widened s order is known b.claim w k v taken) (k.derived w v taken);
-}
-
 pub hull_ends : (s : Search) (order : List (Site × Order)) (known : Known) (from : Option ℕ) (paths : List (List Entry)) (stop : HullStop) → IsSearch s → IsKnownUnder s order known → AreBrokenFrom s order known from paths
-    → StopsBehind s.template.now known from paths stop → EndsEarly s order (of_hull stop)
-hull_ends s order known from paths (hull.Overflow points) is k b h =
-    let at = h.stops (plain_unfolding s order b.claim) (are_paths s order is known from paths k b _ _) in
-    (h.known, known_there s order known from paths (hull.Overflow points) is k b h, at.0, at.1, at.2)
+    → StopsGrowth s.template.now known from paths stop → EndsEarly s order (of_hull stop)
+hull_ends s order known from paths (hull.Overflow points) is k b h = λ w v taken.
+    let at = h (unfolding_at s order b.claim w) (are_paths s order is known from paths k b _ _) (widened s order is known b.claim w k v taken) (k.derived w v taken) in
+    let ns = numbers_are s w is v in
+    let members = at.2.members in
+    let point = at.2.point in (
+      at.0,
+      (k.pairs at.0).0 at.1,
+      record {
+        members = members;
+        point = point;
+        points_are = at.2.points_are;
+        owed = at.2.owed;
+        large = λ can. at.2.large (subst (λ (ts : List ℤ). CanTake ts s.template.now.moduli members point) ns.0 (subst (λ (ms : List ℤ). CanTake w.thresholds ms members point) ns.1 can));
+      },
+      found_beside s order is w v taken known from paths k b at.0 members point at.3,
+    )
 hull_ends s order known from paths (hull.Memory want) is k b h = tt
 
 -- ---- unfoldings

@@ -15,11 +15,11 @@ use Rattle.ac_walk.specs.MatchedByProof.{StoppedProofsMatch}
 abbrev rows_of : Pair → Widening → Position × Position → List Row
 rows_of pair w key = template_rows (point_width pair key) w.thresholds w.moduli
 
--- a pair has one widening
+-- an output has one widening
 pub stopped_proofs_match : StoppedProofsMatch
 stopped_proofs_match pair w order part proof output is stopped named = record {
   widening = (w, is);
   matched = λ v k.
-      let there = subst (λ (x : Widening). IsStoppedProof pair order x.recurrent (rows_of pair x) part proof) (same_widening pair w v is k) stopped in
+      let there = subst (λ (x : Widening). IsStoppedProof pair order x.recurrent (rows_of pair x) part proof) (same_widening pair output w v is k) stopped in
       (order, stopped_proofs_decide pair order v.recurrent (rows_of pair v) part proof there (output ∷ []) named);
 }

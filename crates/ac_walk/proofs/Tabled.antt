@@ -20,6 +20,7 @@ use Rattle.ac_walk_state.specs.PartStops.{TreeStops}
 use Rattle.ac_walk_state.specs.declared.types.Part.{Part}
 use Rattle.ac_unfold.specs.UnfoldCauses.{StopsUnfolding}
 use Rattle.ac_unfold.specs.StartResults.{IfBroken}
+use Rattle.ac_unfold.specs.FoundPaths.{IsFoundAt}
 use Rattle.ac_unfold.specs.Unfoldings.{IsUnfoldingOf}
 use Rattle.ac_unfold.specs.declared.types.Planned.{Planned}
 use Rattle.ac_unfold.specs.declared.types.Planned.TheVariants.{Broken}
@@ -35,12 +36,14 @@ use Rattle.ac_walk.specs.PartConstruction.{HaveClaims, IsBegun, IsBrokenBy}
 use Rattle.ac_walk.proofs.ApartClaims.{AreApart}
 use Rattle.ac_walk.specs.OutputSearch.{IsSearch}
 use Rattle.ac_walk.specs.SearchStops.{EndsEarlyBy}
+use Rattle.ac_walk.specs.StartPaths.{IsPathFound}
 use Rattle.ac_walk.specs.SearchTables.{IsTable}
 use Rattle.ac_walk.specs.declared.stops.Stop.{Stop}
 use Rattle.ac_walk.specs.declared.search_types.Search.{Search}
 use Rattle.ac_walk.proofs.Added.{one_added, settled, stays, ArePlansFor}
 use Rattle.ac_walk.proofs.Lists.{among_both, get_behind}
 use Rattle.ac_walk.proofs.Programs.{programs_are}
+use Rattle.ac_walk.proofs.SameClaims.{path_found}
 
 -- ---- tables
 
@@ -103,7 +106,7 @@ module _ (s : Search) (order : List (Site × Order)) (claims tabled : List Claim
       (subst (λ (xs : List ClaimTree). ArePlanned (programs_of s.pair.now) (first ++ output ∷ (claims ++ tabled)) s.first ((own ++ before) ++ c ∷ []) xs)
       (append_assoc plans (all_trees done) ts ∙ ap (λ (xs : List ClaimTree). plans ++ xs) (sym (trees_last done ts)) ∙ ap (λ (xs : List (List ClaimTree)). plans ++ all_trees xs) (sym trees_are)) next)
 
-  stops_behind : (first : List Claim) → length first ≡ s.first → (w : Widening) → IsWideningOf s.pair.now w → (some : List Claim) (trees : List (List ClaimTree)) (rest : List Claim) → IsTabled s.program_flows.now base claims order some trees → some ++ rest ≡ tabled
+  stops_behind : (first : List Claim) → length first ≡ s.first → (w : Widening) → IsWideningOf s.pair.now s.array w → (some : List Claim) (trees : List (List ClaimTree)) (rest : List Claim) → IsTabled s.program_flows.now base claims order some trees → some ++ rest ≡ tabled
       → AllByRecursion (TreeStops s.pair.now (order_of order) w.recurrent (in_part s.first (length (output ∷ (claims ++ tabled)))) (first ++ output ∷ (claims ++ tabled))) plans
       → AllByRecursion (TreeStops s.pair.now (order_of order) w.recurrent (in_part s.first (length (output ∷ (claims ++ tabled)))) (first ++ output ∷ (claims ++ tabled))) (plans ++ all_trees trees)
   stops_behind first len w v some trees rest none whole p =
@@ -191,11 +194,12 @@ kept_order : (base : ℕ) (claims : List Claim) (order : List (Site × Order)) (
 kept_order base claims order old new e kept = kept.order ∙ ap (λ (t : TableOf). t.order) e
 
 pub broken_alone : (program_flows : ProgramFlows) (start : Claim) (base : ℕ) (claims : List Claim) (order : List (Site × Order)) (old new : TableOf) (made : Planned) (path : List Entry) (paths : List (List Entry)) → old ≡ new_table base claims order → Grows old new → made ≡ Broken path → paths ≡ path ∷ []
-    → IfBroken (λ es. (u : Unfolding) → IsUnfoldingOf program_flows start new.order u → IsBroken u new.claims es) made → (u : Unfolding) → IsUnfoldingOf program_flows start order u → AllByRecursion (IsBroken u claims) paths
-broken_alone program_flows start base claims order old new made path paths e kept is one h u of =
-    let there = subst (IfBroken (λ es. (v : Unfolding) → IsUnfoldingOf program_flows start new.order v → IsBroken v new.claims es)) is h in
-    let broken = there u (subst (λ (o : List (Site × Order)). IsUnfoldingOf program_flows start o u) (sym (kept_order base claims order old new e kept)) of) in
-    subst (AllByRecursion (IsBroken u claims)) (sym one) (subst (λ (cs : List Claim). IsBroken u cs path) (kept_claims base claims order old new e kept) broken, tt)
+    → IfBroken (λ es. (u : Unfolding) → IsUnfoldingOf program_flows start new.order u → IsBroken u new.claims es) made
+    → IfBroken (λ es. (u : Unfolding) → IsUnfoldingOf program_flows start new.order u → IsFoundAt u program_flows.left_flow.now program_flows.right_flow.now new.claims es) made → (u : Unfolding) → IsUnfoldingOf program_flows start order u
+    → AllByRecursion (IsPathFound program_flows u claims) paths
+broken_alone program_flows start base claims order old new made path paths e kept is one h f u of =
+    let there = path_found program_flows start new.order new.claims made path is h f u (subst (λ (o : List (Site × Order)). IsUnfoldingOf program_flows start o u) (sym (kept_order base claims order old new e kept)) of) in
+    subst (AllByRecursion (IsPathFound program_flows u claims)) (sym one) (subst (λ (cs : List Claim). IsPathFound program_flows u cs path) (kept_claims base claims order old new e kept) there, tt)
 
 pub stops_kept : (program_flows : ProgramFlows) (start : Claim) (base : ℕ) (claims : List Claim) (order : List (Site × Order)) (old new : TableOf) (stop : UnfoldStop) → old ≡ new_table base claims order → Grows old new → StopsUnfolding program_flows start new.claims new.order stop
     → StopsUnfolding program_flows start claims order stop

@@ -25,22 +25,22 @@ only P o h k (inr f) = elim f [ ]
 always : Position × Position → Order
 always widening_point = Keep
 
-unmatched_differs : (pair : Pair) → IsPlain pair → (o : ℕ) (list : List Refuted) → IsUnmatched pair o list → ¬ (TermsAgree pair o)
-unmatched_differs pair plain o list u t =
+unmatched_differs : (pair : Pair) (o : ℕ) → IsPlain pair o → (list : List Refuted) → IsUnmatched pair o list → ¬ (TermsAgree pair o)
+unmatched_differs pair o plain list u t =
     let w = u.widening.0 in
     let is = u.widening.1 in
     agreeing_terms_have_no_mismatch pair (o ∷ []) w.recurrent (λ widening_point. template_rows (point_width pair widening_point) w.thresholds w.moduli) (plain.recurs w is) plain.commutative (only (TermsAgree pair) o t) always (unmatched_have_mismatches pair o list u w is always)
 
 pub verdicts_tell_terms : VerdictsTellTerms
-verdicts_tell_terms pair paired left right plain o outputs Equal verdict matched =
+verdicts_tell_terms pair paired left right o plain outputs Equal verdict matched =
     let w = matched.widening.0 in
     let m = matched.matched w matched.widening.1 in
     outputs_without_mismatch_agree pair (o ∷ []) w.recurrent (λ widening_point. template_rows (point_width pair widening_point) w.thresholds w.moduli) paired left right outputs m.0 m.1 o (inl refl)
-verdicts_tell_terms pair paired left right plain o outputs (Different at element) verdict matched = λ t. verdict.1.1 (t at verdict.0 element verdict.1.0)
-verdicts_tell_terms pair paired left right plain o outputs (Unknown (Unmatched refuted)) verdict matched = unmatched_differs pair plain o refuted verdict
-verdicts_tell_terms pair paired left right plain o outputs (Unknown (OverflowQuestion question)) verdict matched = tt
-verdicts_tell_terms pair paired left right plain o outputs (Unknown (OverflowHull members)) verdict matched = tt
-verdicts_tell_terms pair paired left right plain o outputs (Unknown (SpentQuestion question cost)) verdict matched = tt
-verdicts_tell_terms pair paired left right plain o outputs (Unknown (SpentPieces position kept)) verdict matched = tt
-verdicts_tell_terms pair paired left right plain o outputs (Unknown (SpentPaths paths)) verdict matched = tt
-verdicts_tell_terms pair paired left right plain o outputs (Unknown (SpentOrders refuted)) verdict matched = tt
+verdicts_tell_terms pair paired left right o plain outputs (Different at element) verdict matched = λ t. verdict.1.1 (t at verdict.0 element verdict.1.0)
+verdicts_tell_terms pair paired left right o plain outputs (Unknown (Unmatched refuted)) verdict matched = unmatched_differs pair o plain refuted verdict
+verdicts_tell_terms pair paired left right o plain outputs (Unknown (OverflowQuestion question)) verdict matched = tt
+verdicts_tell_terms pair paired left right o plain outputs (Unknown (OverflowHull members)) verdict matched = tt
+verdicts_tell_terms pair paired left right o plain outputs (Unknown (SpentQuestion question cost)) verdict matched = tt
+verdicts_tell_terms pair paired left right o plain outputs (Unknown (SpentPieces position kept)) verdict matched = tt
+verdicts_tell_terms pair paired left right o plain outputs (Unknown (SpentPaths paths)) verdict matched = tt
+verdicts_tell_terms pair paired left right o plain outputs (Unknown (SpentOrders refuted)) verdict matched = tt

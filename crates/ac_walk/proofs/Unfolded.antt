@@ -21,9 +21,11 @@ use Rattle.ac_walk_state.specs.OrderKnowledge.{IsWidenedAt, claims_of, pairs_of}
 use Rattle.ac_walk_state.specs.Growth.{ArePathsOf, IsStart}
 use Rattle.ac_walk_state.specs.declared.known.Known.{Known}
 use Rattle.ac_walk_state.specs.Elements.{IsElementClaim}
-use Rattle.ac_walk.specs.OutputSearch.{AreTaken, IsKnownUnder, IsSearch, rows_at}
-use Rattle.ac_walk.specs.StartPaths.{AreBrokenFrom, IsStartOf, start_among}
+use Rattle.ac_walk.specs.FoundMembers.{rows_at}
+use Rattle.ac_walk.specs.OutputSearch.{AreTaken, IsKnownUnder, IsSearch}
+use Rattle.ac_walk.specs.StartPaths.{AreBrokenFrom, IsPathFound, IsStartOf, start_among}
 use Rattle.ac_walk.specs.declared.search_types.Search.{Search}
+use Rattle.ac_walk.proofs.Lists.{all_map}
 use Rattle.ac_walk.proofs.Programs.{lawful, pairing_is, template_is}
 
 -- the unfolding of a claim under the order, which widens so
@@ -52,11 +54,12 @@ module _ (s : Search) (order : List (Site × Order)) (is : IsSearch s) where
       → ArePathsOf (unfolding_by s order b.claim recurrent template) s.template.now known from paths
   are_paths known from paths k b recurrent template = (
     record { arities = is.arities; is_known = k.right; start = begins known from b.claim recurrent template b.start },
-    b.broken (unfolding_by s order b.claim recurrent template) (is_unfolding b.claim recurrent template),
+    all_map (IsPathFound s.program_flows.now (unfolding_by s order b.claim recurrent template) (claims_of known)) (IsBroken (unfolding_by s order b.claim recurrent template) (claims_of known)) paths (λ path h. h.broken)
+        (b.broken (unfolding_by s order b.claim recurrent template) (is_unfolding b.claim recurrent template)),
   )
 
   -- where the widening points are recurrence pairs, the setting of the search widens there
-  pub widened : (known : Known) (claim : Claim) (w : Widening) → IsKnownUnder s order known → IsWideningOf s.pair.now w → AreTaken s.stops.now w → IsWidenedAt (setting_of (unfolding_at s order claim w)) s.template.now known
+  pub widened : (known : Known) (claim : Claim) (w : Widening) → IsKnownUnder s order known → IsWideningOf s.pair.now s.array w → AreTaken s.stops.now w → IsWidenedAt (setting_of (unfolding_at s order claim w)) s.template.now known
   widened known claim w k v taken = record {
     lawful = lawful s w is v;
     templates = each_from _ (pairs_of known) (λ widening_point i. template_is s w is v widening_point);
@@ -75,11 +78,11 @@ is_start s known (Some at) output l h = by known.widening_points.items at l
 is_start s known None output l h = h
 
 pub broken_from : (s : Search) (order : List (Site × Order)) (known : Known) (from : Option ℕ) (output : Claim) (claims listed given : List Claim) (start : Claim) (paths : List (List Entry)) → IsSearch s → IfSome from (λ at. at < length known.widening_points.items) → IsElementClaim s.pair.now s.array output
-    → claims ≡ claims_of known → listed ≡ claims → given ≡ claims → start ≡ start_among output listed from → ((u : Unfolding) → IsUnfoldingOf s.program_flows.now start order u → AllByRecursion (IsBroken u given) paths) → AreBrokenFrom s order known from paths
+    → claims ≡ claims_of known → listed ≡ claims → given ≡ claims → start ≡ start_among output listed from → ((u : Unfolding) → IsUnfoldingOf s.program_flows.now start order u → AllByRecursion (IsPathFound s.program_flows.now u given) paths) → AreBrokenFrom s order known from paths
 broken_from s order known from output claims listed given start paths is within h cs ls gs st broken =
     let first : start ≡ start_among output (claims_of known) from = st ∙ ap (λ (xs : List Claim). start_among output xs from) (ls ∙ cs) in
     record {
       claim = start;
       start = subst (IsStartOf s known from) (sym first) (is_start s known from output within h);
-      broken = λ u of. subst (λ (xs : List Claim). AllByRecursion (IsBroken u xs) paths) (gs ∙ cs) (broken u of);
+      broken = λ u of. subst (λ (xs : List Claim). AllByRecursion (IsPathFound s.program_flows.now u xs) paths) (gs ∙ cs) (broken u of);
     }

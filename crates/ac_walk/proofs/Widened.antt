@@ -1,38 +1,38 @@
--- The recurrence pairs of a pair's graph are those of its widening.
-use Rattle.std.proofs.Common.{◌≡◌, ◌<◌, ℕ, zero, suc, List, [], ◌∷◌, ◌++◌, inl, inr, length, get_or, sym, subst, ◌∙◌, arith}
+-- The recurrence pairs that an output reaches in its pair's graph are those of its widening.
+use Rattle.std.proofs.Common.{◌≡◌, ◌↔◌, ◌<◌, ◌+◌, ℕ, List, [], ◌∷◌, ◌++◌, inl, inr, length, take, get_or, sym, subst, ◌∙◌}
 use Rattle.ac_forms.specs.ListMembers.{IsAmong}
 use Rattle.ac_syntax.specs.declared.tree.Position.{Position}
 use Rattle.ac_syntax.specs.declared.tree.Site.{Site}
 use Rattle.ac_graph.proofs.Stepping.{edges_sourced, left_flow, right_flow}
 use Rattle.ac_walk_state.specs.SearchSetting.{Widening, IsWideningOf}
-use Rattle.ac_walk_state.specs.GraphWidenings.{widening_of}
+use Rattle.ac_walk_state.specs.GraphWidenings.{AreRecurrentFrom, widening_of}
 use Rattle.ac_walk_state.specs.UnmatchedOutputs.{AreSitesOf, pair_at}
-use Rattle.ac_walk_state.proofs.Widening.{any_is, graph_recurs, graphs_widen, widenings_are_one}
+use Rattle.ac_walk_state.proofs.LastItems.{among_back, among_front, among_more, next_item}
+use Rattle.ac_walk_state.proofs.Widening.{any_is, graphs_widen, widenings_are_one}
 use Rattle.ac_walk.specs.OutputSearch.{AreTaken}
 use Rattle.ac_unfold_plans.specs.ArgumentOrders.{AreAll}
-use Rattle.ac_walk.specs.OutputDecisions.{AreReachedSites, AreSame}
+use Rattle.ac_walk.specs.OutputDecisions.{AreReachedSites}
 use Rattle.ac_walk.specs.VerdictCollection.{IsBasis}
 use Rattle.ac_walk.specs.declared.outputs.Basis.{Basis}
 
-abbrev own : Basis → Widening
-own b = widening_of b.graph.now b.template.now.thresholds b.template.now.moduli
+-- the widening of an output, by those of the graph's recurrence pairs that moves reach from it
+module _ (b : Basis) (array : ℕ) (pairs : List (Position × Position)) (h : IsBasis b) (among : IsAmong array b.pair.now.outputs) (from : AreRecurrentFrom b.pair.now b.graph.now array pairs) where
+  abbrev own : Widening
+  own = widening_of pairs b.template.now.thresholds b.template.now.moduli
 
-own_is : (b : Basis) → IsBasis b → IsWideningOf b.pair.now (own b)
-own_is b h = graphs_widen b.pair.now b.program_flows.now.left_flow.now b.program_flows.now.right_flow.now b.graph.now b.template.now.thresholds b.template.now.moduli h.flows h.graph h.numbers
+  own_is : IsWideningOf b.pair.now array own
+  own_is = graphs_widen b.pair.now array b.program_flows.now.left_flow.now b.program_flows.now.right_flow.now b.graph.now pairs b.template.now.thresholds b.template.now.moduli among h.flows h.graph from h.numbers
 
--- there is one
-pub widening : (b : Basis) → IsBasis b → (w : Widening) × IsWideningOf b.pair.now w
-widening b h = (own b, own_is b h)
+  -- there is one
+  pub widening : (w : Widening) × IsWideningOf b.pair.now array w
+  widening = (own, own_is)
 
--- the same pairs are all that it takes
-pub takes_all : (b : Basis) (widening_points : List (Position × Position)) → IsBasis b → AreSame widening_points b.graph.now.recurrent → (w : Widening) → IsWideningOf b.pair.now w → AreAll widening_points w.recurrent
-takes_all b widening_points h same w is widening_point e =
-    let one = widenings_are_one b.pair.now w (own b) is (own_is b h) in
-    (same widening_point).1 ((any_is widening_point b.graph.now.recurrent).0 (sym (one.recurrent widening_point) ∙ e))
+  -- it takes these pairs and no others
+  pub takes_all : (w : Widening) → IsWideningOf b.pair.now array w → AreAll pairs w.recurrent
+  takes_all w is positions e = (any_is positions pairs).0 (sym ((widenings_are_one b.pair.now array w own is own_is).recurrent positions) ∙ e)
 
-pub takes_each : (b : Basis) (widening_points : List (Position × Position)) → IsBasis b → AreSame widening_points b.graph.now.recurrent → (w : Widening) → IsWideningOf b.pair.now w → AreTaken widening_points w
-takes_each b widening_points h same w is widening_point i =
-    graph_recurs b.pair.now b.program_flows.now.left_flow.now b.program_flows.now.right_flow.now b.graph.now b.template.now.thresholds b.template.now.moduli w h.flows h.graph h.numbers is widening_point ((same widening_point).0 i)
+  pub takes_each : (w : Widening) → IsWideningOf b.pair.now array w → AreTaken pairs w
+  takes_each w is positions i = (widenings_are_one b.pair.now array w own is own_is).recurrent positions ∙ (any_is positions pairs).1 i
 
 -- the sites that moves along the graph's edges reach from an output are those of the output
 pub sites_of : (b : Basis) (array : ℕ) (sites : List Site) → IsBasis b → AreReachedSites b.pair.now b.graph.now array sites → AreSitesOf b.pair.now array sites
@@ -49,37 +49,32 @@ sites_of b array sites h r =
       once = r.among.once;
     }
 
--- pairs among two lists
-among_left : (positions : Position × Position) (widening_points more : List (Position × Position)) → IsAmong positions widening_points → IsAmong positions (widening_points ++ more)
-among_left positions [] more h = absurd h
-among_left positions (k ∷ widening_points) more (inl e) = inl e
-among_left positions (k ∷ widening_points) more (inr h) = inr (among_left positions widening_points more h)
-
-among_right : (positions : Position × Position) (widening_points more : List (Position × Position)) → IsAmong positions more → IsAmong positions (widening_points ++ more)
-among_right positions [] more h = h
-among_right positions (k ∷ widening_points) more h = inr (among_right positions widening_points more h)
-
-among_either : (P : Position × Position → Type 0) (widening_points more : List (Position × Position)) → ((positions : Position × Position) → IsAmong positions widening_points → P positions) → ((positions : Position × Position) → IsAmong positions more → P positions) → (positions : Position × Position) → IsAmong positions (widening_points ++ more) → P positions
-among_either P [] more a b positions h = b positions h
-among_either P (k ∷ widening_points) more a b positions (inl e) = a positions (inl e)
-among_either P (k ∷ widening_points) more a b positions (inr h) = among_either P widening_points more (λ q i. a q (inr i)) b positions h
-
--- one more of some that are among others
-pub more_common : (made new : List (Position × Position)) (x : Position × Position) (others : List (Position × Position)) → new ≡ made ++ x ∷ [] → IsAmong x others → ((positions : Position × Position) → IsAmong positions made → IsAmong positions others)
-    → (positions : Position × Position) → IsAmong positions new → IsAmong positions others
-more_common made new x others e h before positions i =
-    among_either (λ k. IsAmong k others) made (x ∷ []) before (λ k j. elim j [ inl f ↦ subst (λ (y : Position × Position). IsAmong y others) (sym f) h | inr b ↦ absurd b ]) positions (subst (λ (widening_points : List (Position × Position)). IsAmong positions widening_points) e i)
-
--- all of the pairs, with some of them in front
-pub same_behind : (those widening_points : List (Position × Position)) → ((widening_point : Position × Position) → IsAmong widening_point those → IsAmong widening_point widening_points) → AreSame (those ++ widening_points) widening_points
-same_behind those widening_points h widening_point = (among_either (λ k. IsAmong k widening_points) those widening_points h (λ k i. i) widening_point, among_right widening_point those widening_points)
-
 -- further ones leave all
-pub all_further : (widening_points more : List (Position × Position)) (w : Widening) → AreAll widening_points w.recurrent → AreAll (widening_points ++ more) w.recurrent
-all_further widening_points more w h widening_point e = among_left widening_point widening_points more (h widening_point e)
+pub all_further : (pairs more : List (Position × Position)) (w : Widening) → AreAll pairs w.recurrent → AreAll (pairs ++ more) w.recurrent
+all_further pairs more w h positions e = among_front pairs more positions (h positions e)
 
--- a pair that is read
-pub in_pairs : (widening_points : List (Position × Position)) (i : ℕ) (x positions : Position × Position) → i < length widening_points → x ≡ get_or widening_points i x → positions ≡ x → IsAmong positions widening_points
-in_pairs [] i x positions l e same = absurd (omega (arith, l))
-in_pairs (k ∷ widening_points) zero x positions l e same = inl (same ∙ e)
-in_pairs (k ∷ widening_points) (suc i) x positions l e same = inr (in_pairs widening_points i x positions (omega (arith, l)) e same)
+-- ---- pairs in lists
+
+-- those of the pairs that are among others
+abbrev pub AreCommon : List (Position × Position) → List (Position × Position) → List (Position × Position) → Type 0
+AreCommon pairs others made = (p : Position × Position) → IsAmong p made ↔ (IsAmong p pairs × IsAmong p others)
+
+-- with the next one, if it is among the others
+pub common_more : (pairs others made new : List (Position × Position)) (i : ℕ) (x : Position × Position) → i < length pairs → x ≡ get_or pairs i x → IsAmong x others → new ≡ made ++ x ∷ [] → AreCommon (take i pairs) others made → AreCommon (take (i + 1) pairs) others new
+common_more pairs others made new i x l e among grown h p = (
+  (λ k. elim (among_more p x made (subst (IsAmong p) grown k)) [
+    | inl j ↦ (let r = (h p).0 j in (subst (IsAmong p) (sym (next_item pairs i x l e)) (among_front (take i pairs) (x ∷ []) p r.0), r.1))
+    | inr same ↦ (subst (IsAmong p) (sym (next_item pairs i x l e)) (among_back (take i pairs) (x ∷ []) p (inl same)), subst (λ (y : Position × Position). IsAmong y others) (sym same) among)
+  ]),
+  (λ k. subst (IsAmong p) (sym grown) (elim (among_more p x (take i pairs) (subst (IsAmong p) (next_item pairs i x l e) k.0)) [ inl j ↦ among_front made (x ∷ []) p ((h p).1 (j, k.1)) | inr same ↦ among_back made (x ∷ []) p (inl same) ])),
+)
+
+-- without it, if it is not
+pub common_less : (pairs others made : List (Position × Position)) (i : ℕ) (x : Position × Position) → i < length pairs → x ≡ get_or pairs i x → ¬ (IsAmong x others) → AreCommon (take i pairs) others made → AreCommon (take (i + 1) pairs) others made
+common_less pairs others made i x l e apart h p = (
+  (λ k. let r = (h p).0 k in (subst (IsAmong p) (sym (next_item pairs i x l e)) (among_front (take i pairs) (x ∷ []) p r.0), r.1)),
+  (λ k. elim (among_more p x (take i pairs) (subst (IsAmong p) (next_item pairs i x l e) k.0)) [ inl j ↦ (h p).1 (j, k.1) | inr same ↦ absurd (apart (subst (λ (y : Position × Position). IsAmong y others) same k.1)) ]),
+)
+
+pub none_common : (others : List (Position × Position)) → AreCommon [] others []
+none_common others p = ((λ k. absurd k), (λ k. absurd k.0))

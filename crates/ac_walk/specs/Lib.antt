@@ -1,5 +1,6 @@
 pub mod MatchedOutputs
 pub mod MatchedByProof
+pub mod FoundMembers
 pub mod SearchStops
 pub mod OutputSearch
 pub mod SearchEnds
@@ -12,4 +13,5 @@ pub mod OutputDecisions
 pub mod VerdictCollection
 pub mod OutputStops
 pub mod UnknownCauses
+pub mod TriedValuations
 pub mod Terms

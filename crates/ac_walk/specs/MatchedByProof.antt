@@ -14,5 +14,5 @@ use Rattle.ac_walk.specs.MatchedOutputs.{IsMatched}
 -- under some order
 abbrev pub StoppedProofsMatch : Type 0
 StoppedProofsMatch =
-    (pair : Pair) (w : Widening) (order : Position × Position → Order) (part : ℕ → Bool) (proof : Proof) (output : ℕ) → IsWideningOf pair w
+    (pair : Pair) (w : Widening) (order : Position × Position → Order) (part : ℕ → Bool) (proof : Proof) (output : ℕ) → IsWideningOf pair output w
     → IsStoppedProof pair order w.recurrent (λ positions. template_rows (point_width pair positions) w.thresholds w.moduli) part proof → AreNamed proof part (output ∷ []) → IsMatched pair output

@@ -8,5 +8,5 @@ use Rattle.ac_walk_state.specs.SearchSetting.{Widening, IsWideningOf, searched}
 
 -- the pair has a widening, and in the setting of the search on the output that widens so no obligation is a mismatch under some order
 pub record IsMatched (pair : Pair) (output : ℕ) : Type 0 where
-  pub widening : (w : Widening) × IsWideningOf pair w
-  pub matched : (w : Widening) → IsWideningOf pair w → (order : Position × Position → Order) × ¬ (HasMismatch (searched pair output w) order)
+  pub widening : (w : Widening) × IsWideningOf pair output w
+  pub matched : (w : Widening) → IsWideningOf pair output w → (order : Position × Position → Order) × ¬ (HasMismatch (searched pair output w) order)

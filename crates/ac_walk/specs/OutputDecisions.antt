@@ -1,6 +1,5 @@
 -- What the search finds of an output.
-use Rattle.std.specs.Prelude.{◌≡◌, ◌↔◌, ℕ, ℤ, List, [], ◌∷◌, ◌++◌, map, Bool, Some, slice_get}
-use Rattle.ac_forms.specs.ListMembers.{IsAmong}
+use Rattle.std.specs.Prelude.{◌≡◌, ℕ, ℤ, List, [], ◌∷◌, ◌++◌, map, Bool, Some, slice_get}
 use Rattle.ac_forms.specs.declared.row.Row.{Row}
 use Rattle.ac_syntax.specs.declared.tree.Order.{Order}
 use Rattle.ac_syntax.specs.declared.tree.Pair.{Pair}
@@ -43,11 +42,11 @@ IsDifference pair number d = AreDifferent pair number d.at d.element
 pub record IsOutputSearch (s : Search) (number : ℕ) : Type 0 where
   pub search : IsSearch s
   pub output : slice_get s.pair.now.outputs number ≡ Some s.array
-  pub widening : (w : Widening) × IsWideningOf s.pair.now w
+  pub widening : (w : Widening) × IsWideningOf s.pair.now s.array w
 
 -- it goes no further than the recurrence pairs
 abbrev pub GoesNoFurther : Search → Type 0
-GoesNoFurther s = (w : Widening) → IsWideningOf s.pair.now w → AreTaken s.stops.now w
+GoesNoFurther s = (w : Widening) → IsWideningOf s.pair.now s.array w → AreTaken s.stops.now w
 
 -- behind earlier ones: the entries show a mismatch under an order of the sites that extends no earlier one, and the partial order is the part that they need
 pub record IsShown (s : Search) (sites : List Site) (earlier : List Refuted) (r : Refuted) : Type 0 where
@@ -84,12 +83,6 @@ pub record IsDecision (s : Search) (number : ℕ) (d : Decision) : Type 0 where
 abbrev pub IsFurther : Search → ℕ → Further → Type 0
 IsFurther s number Refutes = Unit {0}
 IsFurther s number (Decided decision) = IsDecision s number decision
-
--- ---- pairs of positions
-
--- the same pairs are among both
-abbrev pub AreSame : List (Position × Position) → List (Position × Position) → Type 0
-AreSame pairs others = (positions : Position × Position) → IsAmong positions pairs ↔ IsAmong positions others
 
 -- ---- sites
 

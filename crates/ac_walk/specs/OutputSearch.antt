@@ -1,7 +1,6 @@
 -- What a search on an output knows, what is known under an order, and what the search finds.
 use Rattle.std.specs.Prelude.{ℕ, ◌≡◌, ◌↔◌, List, [], ◌∷◌, length, true}
 use Rattle.ac_forms.specs.ListMembers.{IsAmong}
-use Rattle.ac_forms.specs.declared.row.Row.{Row}
 use Rattle.ac_syntax.specs.declared.tree.Order.{Order}
 use Rattle.ac_syntax.specs.declared.tree.Pair.{Pair}
 use Rattle.ac_syntax.specs.declared.tree.Position.{Position}
@@ -10,9 +9,6 @@ use Rattle.ac_claims.specs.declared.types.Claim.{Claim}
 use Rattle.ac_widen.specs.Derivations.{IsDerivation}
 use Rattle.ac_widen.specs.declared.derivation.Entry.{Entry}
 use Rattle.ac_graph.specs.GraphMeaning.{HaveFlows}
-use Rattle.ac_hull.specs.Templates.{template_rows}
-use Rattle.ac_widen_programs.specs.PairPaths.{Unfolding}
-use Rattle.ac_widen_programs.specs.PairSetting.{point_width}
 use Rattle.ac_syntax.specs.ExecutedCalls.{HaveArities}
 use Rattle.ac_walk_state.specs.SearchSetting.{Widening, IsWideningOf, searched}
 use Rattle.ac_walk_state.specs.GraphWidenings.{AreNumbersOf}
@@ -27,6 +23,7 @@ use Rattle.ac_walk_state.specs.Elements.{AreProgramsOf}
 use Rattle.ac_walk_state.specs.ProofParts.{IsPartFor, in_part}
 use Rattle.ac_walk_state.specs.PartStops.{IsPartStopping}
 use Rattle.ac_walk_state.specs.declared.types.Part.{Part}
+use Rattle.ac_walk.specs.FoundMembers.{AreFound, rows_at}
 use Rattle.ac_walk.specs.declared.search_types.Search.{Search}
 
 -- ---- what is given
@@ -41,7 +38,7 @@ pub record IsSearch (s : Search) : Type 0 where
   pub numbers : AreNumbersOf s.pair.now s.template.now.thresholds s.template.now.moduli
   pub moduli : HasModuli s.template.now
   pub output : IsAmong s.array s.pair.now.outputs
-  pub stops : (w : Widening) → IsWideningOf s.pair.now w → AreAll s.stops.now w.recurrent
+  pub stops : (w : Widening) → IsWideningOf s.pair.now s.array w → AreAll s.stops.now w.recurrent
 
 -- ---- what is known under an order
 
@@ -51,30 +48,28 @@ AreTaken pairs w = (positions : Position × Position) → IsAmong positions pair
 
 -- where it goes no further than the recurrence pairs, the entries are a derivation in the setting of the search
 abbrev pub AreDerived : Search → List (Site × Order) → List Entry → Type 0
-AreDerived s order es = (w : Widening) → IsWideningOf s.pair.now w → AreTaken s.stops.now w → IsDerivation (searched s.pair.now s.array w) (order_of order) (entries_of es)
+AreDerived s order es = (w : Widening) → IsWideningOf s.pair.now s.array w → AreTaken s.stops.now w → IsDerivation (searched s.pair.now s.array w) (order_of order) (entries_of es)
 
 -- and the last one is a mismatch
 abbrev pub ShowMismatch : Search → List (Site × Order) → List Entry → Type 0
 ShowMismatch s order es =
-    (w : Widening) → IsWideningOf s.pair.now w → AreTaken s.stops.now w → IsDerivation (searched s.pair.now s.array w) (order_of order) (entries_of es) × EndsInMismatch (searched s.pair.now s.array w) es
+    (w : Widening) → IsWideningOf s.pair.now s.array w → AreTaken s.stops.now w → IsDerivation (searched s.pair.now s.array w) (order_of order) (entries_of es) × EndsInMismatch (searched s.pair.now s.array w) es
 
--- there is a widening point for each of the pairs up to which it goes; what is known there is right for the entries, which are derived
+-- and each member is found
+abbrev pub AreFoundUnder : Search → List (Site × Order) → Known → Type 0
+AreFoundUnder s order known =
+    (w : Widening) → IsWideningOf s.pair.now s.array w → AreTaken s.stops.now w → AreFound s.pair.now s.array w (order_of order) s.program_flows.now.left_flow.now s.program_flows.now.right_flow.now known.widening_points.items
+
+-- there is a widening point for each of the pairs up to which it goes; what is known there is right for the entries, which are derived, and found
 pub record IsKnownUnder (s : Search) (order : List (Site × Order)) (known : Known) : Type 0 where
   pub right : IsKnown s.pair.now s.template.now known
   pub pairs : (positions : Position × Position) → IsAmong positions (pairs_of known) ↔ IsAmong positions s.stops.now
   pub derived : AreDerived s order known.entries
+  pub found : AreFoundUnder s order known
 
 -- ---- what is found
-
--- the template rows with which it widens
-abbrev pub rows_at : Pair → Widening → Position × Position → List Row
-rows_at pair w widening_point = template_rows (point_width pair widening_point) w.thresholds w.moduli
-
--- the unfolding of a claim under an order, in the setting of the search on an output that widens so
-abbrev pub unfolding_in : Pair → ℕ → Widening → (Position × Position → Order) → Claim → Unfolding
-unfolding_in pair output w order claim = record { pair = pair; order = order; claim = claim; outputs = output ∷ []; recurrent = w.recurrent; template = rows_at pair w }
 
 -- a part for the output behind so many claims, which stops at the recurrence pairs under an order
 pub record IsFound (pair : Pair) (order : Position × Position → Order) (array first : ℕ) (part : Part) : Type 0 where
   pub is_part : (before : List Claim) → length before ≡ first → IsPartFor (programs_of pair) pair.outputs array before part
-  pub stops : (before : List Claim) → length before ≡ first → (w : Widening) → IsWideningOf pair w → IsPartStopping pair order w.recurrent (rows_at pair w) (in_part first (length part.claims.items)) before part
+  pub stops : (before : List Claim) → length before ≡ first → (w : Widening) → IsWideningOf pair array w → IsPartStopping pair order w.recurrent (rows_at pair w) (in_part first (length part.claims.items)) before part

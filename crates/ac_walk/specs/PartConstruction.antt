@@ -7,7 +7,6 @@ use Rattle.ac_syntax.specs.declared.tree.Position.{Position}
 use Rattle.ac_syntax.specs.declared.tree.Site.{Site}
 use Rattle.ac_claims.specs.declared.types.Claim.{Claim}
 use Rattle.ac_widen.specs.declared.derivation.Entry.{Entry}
-use Rattle.ac_widen_programs.specs.BrokenPaths.{IsBroken}
 use Rattle.ac_widen_programs.specs.PairPaths.{Unfolding}
 use Rattle.ac_walk_state.specs.SearchSetting.{Widening, IsWideningOf}
 use Rattle.ac_unfold_plans.specs.PlanStops.{claim_positions, programs_of}
@@ -20,7 +19,7 @@ use Rattle.ac_walk_state.specs.ClaimPlans.{ArePlanned}
 use Rattle.ac_walk_state.specs.PartStops.{TreeStops}
 use Rattle.ac_walk_state.specs.declared.types.Part.{Part}
 use Rattle.ac_walk.specs.OutputSearch.{IsFound}
-use Rattle.ac_walk.specs.StartPaths.{AreBrokenFrom}
+use Rattle.ac_walk.specs.StartPaths.{AreBrokenFrom, IsPathFound}
 use Rattle.ac_walk.specs.declared.planning.Added.{Added}
 use Rattle.ac_walk.specs.declared.planning.Added.TheVariants as added
 use Rattle.ac_walk.specs.declared.planning.Planning.{Planning}
@@ -37,7 +36,7 @@ HaveClaims pairs claims = (positions : Position × Position) → IsAmong positio
 pub record IsPartly (s : Search) (order : List (Site × Order)) (all : List Claim) (part : Part) : Type 0 where
   pub claims : part.claims.items ≡ take (length part.claims.items) all
   pub planned : (before : List Claim) → length before ≡ s.first → ArePlanned (programs_of s.pair.now) (before ++ all) s.first part.claims.items part.trees.items
-  pub stops : (before : List Claim) → length before ≡ s.first → (w : Widening) → IsWideningOf s.pair.now w → AllByRecursion (TreeStops s.pair.now (order_of order) w.recurrent (in_part s.first (length all)) (before ++ all)) part.trees.items
+  pub stops : (before : List Claim) → length before ≡ s.first → (w : Widening) → IsWideningOf s.pair.now s.array w → AllByRecursion (TreeStops s.pair.now (order_of order) w.recurrent (in_part s.first (length all)) (before ++ all)) part.trees.items
 
 -- it has the claim of the output, and the first ones of the others, so many; the plans may end at tabled claims behind all of them
 pub record IsBegun (s : Search) (order : List (Site × Order)) (claims tabled : List Claim) (count : ℕ) (part : Part) : Type 0 where
@@ -48,9 +47,9 @@ pub record IsBegun (s : Search) (order : List (Site × Order)) (claims tabled : 
 
 -- ---- claim by claim
 
--- a path from a start is broken for the claims
+-- a path from a start is one for the claims
 abbrev pub IsBrokenBy : Search → List (Site × Order) → List Claim → Claim → List Entry → Type 0
-IsBrokenBy s order claims start path = (u : Unfolding) → IsUnfoldingOf s.program_flows.now start order u → IsBroken u claims path
+IsBrokenBy s order claims start path = (u : Unfolding) → IsUnfoldingOf s.program_flows.now start order u → IsPathFound s.program_flows.now u claims path
 
 -- the next one of all claims is added
 abbrev pub AddsNext : Search → List (Site × Order) → List Claim → Claim → Part → Part → Type 0

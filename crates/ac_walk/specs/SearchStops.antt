@@ -1,13 +1,15 @@
 -- The causes of early ends.
 use Rattle.std.specs.Prelude.{ℕ, ℤ, List, Option}
 use Rattle.ac_syntax.specs.declared.tree.Order.{Order}
+use Rattle.ac_syntax.specs.declared.tree.Position.{Position}
 use Rattle.ac_syntax.specs.declared.tree.Site.{Site}
 use Rattle.ac_forms.specs.ListMembers.{IsAmong}
 use Rattle.ac_claims.specs.declared.types.Claim.{Claim}
 use Rattle.ac_hull.specs.declared.stop.HullStop.{HullStop}
 use Rattle.ac_hull.specs.declared.stop.HullStop.TheVariants as hull
-use Rattle.ac_walk_state.specs.RecurrencePairs.{WideningPointOf}
 use Rattle.ac_walk_state.specs.RecurrencePairStops.{AreTooLarge}
+use Rattle.ac_walk_state.specs.SearchSetting.{Widening, IsWideningOf, searched}
+use Rattle.ac_unfold_plans.specs.ArgumentOrders.{order_of}
 use Rattle.ac_report.specs.declared.types.Cause.{Cause}
 use Rattle.ac_report.specs.declared.types.Cause.TheVariants as cause
 use Rattle.ac_unfold.specs.UnfoldCauses.{StopsUnfolding}
@@ -16,7 +18,8 @@ use Rattle.ac_unfold.specs.declared.types.UnfoldStop.TheVariants as found
 use Rattle.ac_walk_state.specs.OrderKnowledge.{claims_of}
 use Rattle.ac_walk_state.specs.declared.known.Known.{Known}
 use Rattle.ac_walk_state.specs.Elements.{IsElementClaim}
-use Rattle.ac_walk.specs.OutputSearch.{IsKnownUnder}
+use Rattle.ac_walk.specs.FoundMembers.{AreFoundBeside}
+use Rattle.ac_walk.specs.OutputSearch.{AreTaken, IsKnownUnder}
 use Rattle.ac_walk.specs.StartPaths.{IsStartOf}
 use Rattle.ac_walk.specs.declared.stops.Stop.{Stop}
 use Rattle.ac_walk.specs.declared.stops.Stop.TheVariants.{Early, Memory}
@@ -36,9 +39,11 @@ of_unfolding (found.Memory want) = Memory want
 
 -- ---- what is known under the order
 
--- at a widening point of it, for the thresholds and moduli of the template
+-- where it goes no further than the recurrence pairs, obligations at one of them are too large in the setting of the search
 abbrev pub AreTooLargeUnder : Search → List (Site × Order) → List (List ℤ) → Type 0
-AreTooLargeUnder s order points = (known : Known) × IsKnownUnder s order known × (widening_point : WideningPointOf) × IsAmong widening_point known.widening_points.items × AreTooLarge s.pair.now s.template.now.thresholds s.template.now.moduli widening_point points
+AreTooLargeUnder s order points =
+    (w : Widening) → IsWideningOf s.pair.now s.array w → AreTaken s.stops.now w → (pair : Position × Position) × IsAmong pair s.stops.now × (large : AreTooLarge (searched s.pair.now s.array w) (order_of order) w.thresholds w.moduli pair points)
+    × AreFoundBeside s.pair.now s.array w (order_of order) s.program_flows.now.left_flow.now s.program_flows.now.right_flow.now pair large.members large.point
 
 -- each unfolding under the order from the claim of the output, or from that of a widening point of it, against the claims of its widening points stops so
 pub record StopsUnfoldingUnder (s : Search) (order : List (Site × Order)) (stop : UnfoldStop) : Type 0 where

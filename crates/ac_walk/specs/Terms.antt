@@ -12,9 +12,9 @@ use Rattle.ac_report.specs.declared.types.Verdict.TheVariants.{Equal, Different,
 use Rattle.ac_walk_state.specs.SearchSetting.{Widening, IsWideningOf}
 use Rattle.ac_walk.specs.Verdicts.{IsVerdict, IsMatchedIf}
 
--- nothing is widened or exchanged: no reached pair of positions recurs, and no function is declared commutative
-pub record IsPlain (pair : Pair) : Type 0 where
-  pub recurs : (w : Widening) → IsWideningOf pair w → (positions : Position × Position) → w.recurrent positions ≡ false
+-- nothing is widened or exchanged: no pair of positions that moves reach from the output recurs, and no function is declared commutative
+pub record IsPlain (pair : Pair) (output : ℕ) : Type 0 where
+  pub recurs : (w : Widening) → IsWideningOf pair output w → (positions : Position × Position) → w.recurrent positions ≡ false
   pub commutative : pair.commutative ≡ []
 
 -- the terms of the output do not all agree, where it is unmatched
@@ -28,8 +28,8 @@ TellsTerms pair output Equal = TermsAgree pair output
 TellsTerms pair output (Different at element) = ¬ (TermsAgree pair output)
 TellsTerms pair output (Unknown cause) = DifferIf pair output cause
 
--- so the verdicts on a plain pair say
+-- so the verdicts on a plain output say
 abbrev pub VerdictsTellTerms : Type 0
 VerdictsTellTerms =
-    (pair : Pair) → ArePaired pair → HaveArities pair.left.body → HaveArities pair.right.body → IsPlain pair → (output : ℕ) → AreOutputs pair (output ∷ []) → (verdict : Verdict)
+    (pair : Pair) → ArePaired pair → HaveArities pair.left.body → HaveArities pair.right.body → (output : ℕ) → IsPlain pair output → AreOutputs pair (output ∷ []) → (verdict : Verdict)
     → IsVerdict pair output verdict → IsMatchedIf pair output verdict → TellsTerms pair output verdict

@@ -1,6 +1,6 @@
 -- What stands before the search of a pair: the question of its context and the flows of both programs, at a budget; what is said of
 -- each output where one of them stops; and where the search on an output may end.
-use Rattle.std.specs.Prelude.{◌≡◌, ℕ, ℤ, List, length, Option, Some, None, option_map}
+use Rattle.std.specs.Prelude.{◌≡◌, ℕ, ℤ, List, length, Option, Some, None}
 use Rattle.std.specs.List.{AllByRecursion}
 use Rattle.ac_forms.specs.Rows.{Meets}
 use Rattle.ac_omega_certify.specs.declared.strategy.Strategy.TheVariants.{Full}
@@ -48,14 +48,24 @@ context_cause_of (context.Overflow question) = Some (cause.OverflowQuestion ques
 context_cause_of (context.Spent question cost) = Some (cause.SpentQuestion question cost)
 context_cause_of (context.Memory want) = None
 
--- each output is unknown, with this cause
+-- unknown, with this cause; or an element differs
+abbrev pub IsUnknownFor : Option Cause → Verdict → Type 0
+IsUnknownFor why Equal = ⊥
+IsUnknownFor why (Different at element) = Unit {0}
+IsUnknownFor why (Unknown given) = why ≡ Some given
+
+-- so each output is
 abbrev pub AreUnknown : Option Cause → List Verdict → Type 0
-AreUnknown why verdicts = AllByRecursion (λ v. option_map Unknown why ≡ Some v) verdicts
+AreUnknown why verdicts = AllByRecursion (IsUnknownFor why) verdicts
+
+-- at the budget the question of the context gives this point
+abbrev pub IsContextPoint : ℕ → Model → List ℤ → Type 0
+IsContextPoint budget m point = EndsAt point (over m.params m.context) (walk_of Full budget (over m.params m.context))
 
 -- at the budget the question of the context has an answer: this valuation
 pub record HasValuation (budget : ℕ) (m : Model) : Type 0 where
   pub point : List ℤ
-  pub found : EndsAt point (over m.params m.context) (walk_of Full budget (over m.params m.context))
+  pub found : IsContextPoint budget m point
   pub each : length point ≡ m.params
   pub meets : Meets m.context point
 
@@ -87,7 +97,8 @@ abbrev pub AreSearched : ℕ → Pair → List ℕ → List Verdict → Type 0
 AreSearched budget pair = OnEach (IsSearched budget pair)
 
 -- what the verdicts on a pair rest on: the question of its context stops, or else the flow of the first program, or else that of the
--- second, and each output is unknown for this cause; or there are both flows, and the search on each output ends with its verdict
+-- second, and each output is unknown for this cause unless an element differs; or there are both flows, and the search on each output
+-- ends with its verdict
 pub data IsAnswered (budget : ℕ) (pair : Pair) (verdicts : List Verdict) : Type 0 where
   context_stopped : (stop : ContextStop) → ContextStops budget (left_model pair) stop → AreUnknown (context_cause_of stop) verdicts → IsAnswered budget pair verdicts
   left_stopped : (stop : FlowStop) → HasValuation budget (left_model pair) → StopsAmong budget (left_model pair) (readers (left_model pair)) stop → AreUnknown (cause_of stop) verdicts

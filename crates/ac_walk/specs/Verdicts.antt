@@ -13,14 +13,12 @@ use Rattle.ac_match.specs.declared.orders.Next.TheVariants.{Spent}
 use Rattle.ac_walk.specs.MatchedOutputs.{IsMatched}
 use Rattle.ac_walk_state.specs.UnmatchedOutputs.{AreRefutedUpTo, IsUnmatched}
 use Rattle.ac_walk_state.specs.SearchSetting.{Widening, IsWideningOf, searched}
-use Rattle.ac_widen_programs.specs.DerivationEntries.{entries_of}
-use Rattle.ac_walk_state.specs.RecurrencePairs.{WideningPointOf, positions}
-use Rattle.ac_walk_state.specs.RecurrencePairInvariant.{IsWideningPointIn}
 use Rattle.ac_walk_state.specs.RecurrencePairStops.{AreTooLarge}
 use Rattle.ac_syntax.specs.declared.tree.Order.{Order}
 use Rattle.ac_syntax.specs.declared.tree.Position.{Position}
-use Rattle.ac_widen.specs.Derivations.{IsDerivation}
-use Rattle.ac_widen.specs.declared.derivation.Entry.{Entry}
+use Rattle.ac_flow.specs.declared.types.Flow.{Flow}
+use Rattle.ac_graph.specs.GraphMeaning.{HaveFlows}
+use Rattle.ac_walk.specs.FoundMembers.{AreFoundBeside}
 use Rattle.ac_report.specs.declared.types.Cause.{Cause}
 use Rattle.ac_report.specs.declared.types.Cause.TheVariants.{Unmatched, OverflowQuestion, OverflowHull, SpentQuestion, SpentPieces, SpentPaths, SpentOrders}
 use Rattle.ac_report.specs.declared.types.Verdict.{Verdict}
@@ -32,18 +30,19 @@ use Rattle.ac_walk.specs.declared.verdict_types.ProveStop.TheVariants.{EmptyCont
 abbrev pub IsDifferentAt : Pair → ℕ → List ℤ → List ℤ → Type 0
 IsDifferentAt pair output at element = IsValuation pair at × IsLeast (compared pair at output) (Some element)
 
--- in the setting of the search on the output, the points are members that a derivation under some order has at a recurrence pair, or those of
--- their hull, and a point of that pair at which a number is too large
+-- in the setting of the search on the output, under some order: the points are obligations at one recurrence pair, and a number is too large as the
+-- last of them is taken beside the others; these are found members, and so is the last one, if it can be combined from them
 pub record AreTooLargePoints (pair : Pair) (output : ℕ) (points : List (List ℤ)) : Type 0 where
   pub widening : Widening
-  pub is_widening : IsWideningOf pair widening
+  pub is_widening : IsWideningOf pair output widening
   pub order : Position × Position → Order
-  pub entries : List Entry
-  pub derived : IsDerivation (searched pair output widening) order (entries_of entries)
-  pub widening_point : WideningPointOf
-  pub right : IsWideningPointIn (searched pair output widening) (entries_of entries) widening_point
-  pub recurs : widening.recurrent (positions widening_point) ≡ true
-  pub large : AreTooLarge pair widening.thresholds widening.moduli widening_point points
+  pub left_flow : Flow
+  pub right_flow : Flow
+  pub flows : HaveFlows pair left_flow right_flow
+  pub positions : Position × Position
+  pub recurs : widening.recurrent positions ≡ true
+  pub large : AreTooLarge (searched pair output widening) order widening.thresholds widening.moduli positions points
+  pub found : AreFoundBeside pair output widening order left_flow right_flow positions large.members large.point
 
 -- unmatched: the partial orders are refuted in turn until each order of the output's sites extends one; spent orders: until there are too many;
 -- overflow of a hull: a number is too large at its points

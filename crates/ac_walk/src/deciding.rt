@@ -1,13 +1,14 @@
 //! The search on one output over all orders of commutative arguments.
 ghost use Rattle.std.specs.Prelude.{◌≡◌, [], IfOk};
 ghost use Rattle.ac_match.specs.SiteOrders.{IsNext};
-ghost use Rattle.ac_match.specs.declared.orders.Next.TheVariants.{Done, Order as Chosen};
+ghost use Rattle.ac_match.specs.declared.orders.Next.TheVariants.{Order as Chosen};
+ghost use Rattle.ac_walk_state.specs.GraphWidenings.{AreRecurrentFrom};
 ghost use Rattle.ac_walk_state.specs.UnmatchedOutputs.{AreSitesOf};
 ghost use Rattle.ac_walk.specs.OutputSearch.{ShowMismatch};
-ghost use Rattle.ac_walk.specs.OutputDecisions.{AreReachedSites, AreSame, AreShown, AreSitesAmong, GoesNoFurther, IsDecision, IsFurther, IsKept, IsOutputSearch};
+ghost use Rattle.ac_walk.specs.OutputDecisions.{AreReachedSites, AreShown, AreSitesAmong, GoesNoFurther, IsDecision, IsFurther, IsKept, IsOutputSearch};
 
-use crate::differing::{Difference, try_point, try_refuted};
-use crate::pairs::{common, joined, with_first};
+use crate::differing::{Difference, try_point};
+use crate::pairs::{common, joined};
 use crate::search_types::{Ended, Search};
 use crate::sharing::shared;
 use crate::stops::Stop;
@@ -37,7 +38,7 @@ pub(crate) enum Decision {
 /// What moves reach from an output.
 #[derive(Drop)]
 pub(crate) struct Reach {
-    /// All recurrence pairs, those first that it reaches.
+    /// The recurrence pairs.
     pub recurrent: Items<(Position, Position)>,
     /// Further pairs, to which many ways lead.
     pub shared: Items<(Position, Position)>,
@@ -73,18 +74,18 @@ pub(crate) fn reach_of(
     graph: &Graph,
     array: usize,
 ) -> Result<Reach, AllocError>
-    ensures recurrent { IfOk result (λ reach. AreSame reach.recurrent graph.now.recurrent) }
+    ensures recurrent { IfOk result (λ reach. AreRecurrentFrom pair.now graph.now array reach.recurrent) }
     ensures sites { IfOk result (λ reach. AreReachedSites pair.now graph.now array reach.sites) }
 {
     let pairs = reachable_from(alloc, pair, graph, array)?;
-    let sites = sites_among(alloc, pair, pairs.as_slice())?;
+    let reached = pairs.as_slice();
+    let sites = sites_among(alloc, pair, reached)?;
+    let recurrent = common(alloc, reached, graph.recurrent.as_slice())?;
+    let marked = shared(alloc, graph, MOST_WAYS)?;
+    let many = common(alloc, reached, marked.as_slice())?;
     Ok(Reach {
-        recurrent: with_first(alloc, graph.recurrent.as_slice(), pairs.as_slice())?,
-        shared: common(
-            alloc,
-            pairs.as_slice(),
-            shared(alloc, graph, MOST_WAYS)?.as_slice(),
-        )?,
+        recurrent,
+        shared: many,
         sites,
     })
 }
@@ -137,6 +138,7 @@ fn try_order(
 ) -> Result<Further, AllocError>
     requires search { IsOutputSearch search.now number }
     requires next { IsNext orders.old (Chosen order.now) }
+    requires sites { AreSitesOf search.now.pair.now search.now.array orders.old.sites }
     ensures further { IfOk result (IsFurther search.now number) }
     ensures sites { orders.new.sites ≡ orders.old.sites }
     ensures shown { AreShown search.now orders.old.sites [] orders.old.refuted → AreShown search.now orders.old.sites [] orders.new.refuted }
@@ -146,26 +148,6 @@ fn try_order(
         Ok(Ended::Mismatch(why)) => refute(alloc, search, number, orders, tried, order, why),
         Err(Stop::Early(cause)) => Ok(Further::Decided(Decision::Unknown(cause))),
         Err(Stop::Memory(want)) => Err(want),
-    }
-}
-
-/// What is said where every order is refuted.
-fn unmatched(
-    alloc: Global,
-    search: &Search<'_>,
-    number: usize,
-    orders: Orders,
-    tried: &mut Items<Items<i64>>,
-) -> Result<Decision, AllocError>
-    requires search { IsOutputSearch search.now number }
-    requires sites { AreSitesOf search.now.pair.now search.now.array orders.sites }
-    requires shown { AreShown search.now orders.sites [] orders.refuted }
-    requires done { IsNext orders Done }
-    ensures { IfOk result (IsDecision search.now number) }
-{
-    match try_refuted(alloc, search.pair, number, tried, orders.refuted())? {
-        Some(found) => Ok(Decision::Different(found)),
-        None => Ok(Decision::Unknown(Cause::Unmatched(orders.into_refuted()))),
     }
 }
 
@@ -186,7 +168,9 @@ fn decide_up_to(
     for _order in 0..u64::MAX {
         let order = match orders.next(alloc)? {
             Next::Order(order) => order,
-            Next::Done => return unmatched(alloc, search, number, orders, &mut tried),
+            Next::Done => {
+                return Ok(Decision::Unknown(Cause::Unmatched(orders.into_refuted())));
+            }
             Next::Spent => {
                 return Ok(Decision::Unknown(Cause::SpentOrders(orders.into_refuted())));
             }

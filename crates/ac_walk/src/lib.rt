@@ -29,6 +29,7 @@ mod stops;
 mod tabling;
 mod taking;
 mod unanswered;
+mod valuations;
 pub mod verdict_laws;
 mod verdict_types;
 mod walking;

@@ -5,6 +5,7 @@ ghost use Rattle.ac_walk.specs.UnknownCauses.{left_model};
 ghost use Rattle.ac_walk.specs.VerdictCollection.{IsBasis, IsSaidOf, IsSearchedOf, IsValid};
 
 use crate::deciding::{Decision, decide, reach_of};
+use crate::differing::unknown_or_different;
 use crate::search_types::Search;
 use crate::verdict_types::Proved;
 use ac_base::Items;
@@ -23,6 +24,8 @@ pub(crate) struct Basis<'a> {
     pub program_flows: &'a ProgramFlows<'a>,
     pub graph: &'a Graph,
     pub template: &'a Template,
+    /// The valuations that are tried before an output is left unknown.
+    pub samples: &'a [Items<i64>],
 }
 
 /// The verdict on the output with a number, and the proof, with its part where the output is equal.
@@ -57,7 +60,10 @@ fn verdict(
             };
             Ok((said, proof))
         }
-        Decision::Unknown(cause) => Ok((Verdict::Unknown(cause), proof)),
+        Decision::Unknown(cause) => {
+            let left = unknown_or_different(alloc, basis.pair, basis.samples, number, cause)?;
+            Ok((left, proof))
+        }
     }
 }
 

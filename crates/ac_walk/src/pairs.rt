@@ -1,24 +1,22 @@
 //! Lists of pairs of positions.
-ghost use Rattle.std.specs.Prelude.{◌≡◌, ◌++◌, List, true, IfOk};
+ghost use Rattle.std.specs.Prelude.{◌≡◌, ◌↔◌, ◌++◌, IfOk, IsTrue};
 ghost use Rattle.ac_forms.specs.ListMembers.{IsAmong};
 ghost use Rattle.ac_syntax.specs.declared.tree.Position.{Position};
-ghost use Rattle.ac_walk.specs.OutputDecisions.{AreSame};
 
 use ac_base::Items;
-use ac_claims::ending::same_position;
 use ac_syntax::tree::Position;
 use std::alloc::{AllocError, Global};
 
 /// Whether two pairs of positions are one.
 fn is_pair(first: &(Position, Position), second: &(Position, Position)) -> bool
-    ensures { result ≡ true → first.now ≡ second.now }
+    ensures { IsTrue result ↔ (first.now ≡ second.now) }
 {
-    same_position(&first.0, &second.0) && same_position(&first.1, &second.1)
+    first.0 == second.0 && first.1 == second.1
 }
 
 /// Whether a pair of positions is among others.
 pub(crate) fn is_among(pairs: &[(Position, Position)], pair: &(Position, Position)) -> bool
-    ensures { result ≡ true → IsAmong pair.now pairs.now }
+    ensures { IsTrue result ↔ IsAmong pair.now pairs.now }
 {
     for other in pairs {
         if is_pair(pair, other) {
@@ -34,7 +32,7 @@ pub(crate) fn common(
     pairs: &[(Position, Position)],
     others: &[(Position, Position)],
 ) -> Result<Items<(Position, Position)>, AllocError>
-    ensures { IfOk result (λ made. (positions : Position × Position) → IsAmong positions made → IsAmong positions others.now) }
+    ensures { IfOk result (λ made. (positions : Position × Position) → IsAmong positions made ↔ (IsAmong positions pairs.now × IsAmong positions others.now)) }
 {
     let mut made = Items::new(alloc);
     for pair in pairs {
@@ -58,16 +56,4 @@ pub(crate) fn joined(
         made.push(*pair)?;
     }
     Ok(made)
-}
-
-/// All of the pairs, those first that are among others.
-pub(crate) fn with_first(
-    alloc: Global,
-    pairs: &[(Position, Position)],
-    first: &[(Position, Position)],
-) -> Result<Items<(Position, Position)>, AllocError>
-    ensures { IfOk result (λ made. AreSame made pairs.now) }
-{
-    let those = common(alloc, first, pairs)?;
-    joined(alloc, those.as_slice(), pairs)
 }

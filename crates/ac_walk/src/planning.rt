@@ -17,7 +17,7 @@ use ac_claims::types::Claim;
 use ac_forms::column_after;
 use ac_syntax::tree::{Order, Site};
 use ac_unfold::claim_trees;
-use ac_unfold::types::Planned;
+use ac_unfold::types::{NumberedClaims, Planned};
 use ac_walk_state::types::Part;
 use ac_walk_state::{Known, no_part, output_claim, trees_hit_within, with_claim};
 use ac_widen::Entry;
@@ -41,6 +41,14 @@ pub(crate) enum Planning {
     Broken(Option<usize>, Items<Entry>),
 }
 
+/// The claims of widening points in the order of their numbers, and tabled claims behind them.
+#[derive(Clone, Copy)]
+pub(crate) struct ListedClaims<'a> {
+    pub numbers: &'a [usize],
+    pub claims: &'a [Claim],
+    pub tabled: &'a [Claim],
+}
+
 /// Adds a start with its plans to a part.
 fn add(
     alloc: Global,
@@ -60,16 +68,12 @@ fn add(
     let number = column_after(search.first, part.claims.len())?;
     let base = column_after(search.first, 1)?;
     let program_flows = search.program_flows;
-    match claim_trees(
-        alloc,
-        program_flows,
-        number,
-        &start,
+    let ends = NumberedClaims {
         base,
         claims,
         tabled,
-        order,
-    ) {
+    };
+    match claim_trees(alloc, program_flows, number, &start, &ends, order) {
         Ok(Planned::Plans(trees)) => Ok(Added::Part(with_claim(part, start, trees)?)),
         Ok(Planned::Broken(path)) => Ok(Added::Broken(path)),
         Err(stop) => Err(of_unfolding(stop)),
@@ -93,35 +97,40 @@ fn begin(
     add(alloc, search, order, claims, tabled, no_part(alloc), output)
 }
 
-/// The part of the output, and of the first of the claims of widening points with these numbers, whose plans may end at tabled claims behind all of
-/// these.
+/// The part of the output, and of the first of the claims of widening points, so many, whose plans may end at the tabled claims behind all of these.
 pub(crate) fn part_to(
     alloc: Global,
     search: &Search<'_>,
     order: &[(Site, Order)],
     known: &Known,
-    numbers: &[usize],
-    claims: &[Claim],
-    tabled: &[Claim],
+    listed: &ListedClaims<'_>,
     count: usize,
 ) -> Result<Planning, Stop>
     requires search { IsSearch search.now }
     requires known { IsKnownUnder search.now order.now known.now }
-    requires ranks { AreRanks known.now.widening_points.items numbers.now }
-    requires claims { AreClaimsAt known.now.widening_points.items numbers.now claims.now }
-    requires count { count ≤ length numbers.now }
-    ensures planned { IfOk result (IsPlannedTo search.now order.now known.now claims.now tabled.now count) }
+    requires ranks { AreRanks known.now.widening_points.items listed.now.numbers.now }
+    requires claims { AreClaimsAt known.now.widening_points.items listed.now.numbers.now listed.now.claims.now }
+    requires count { count ≤ length listed.now.numbers.now }
+    ensures planned { IfOk result (IsPlannedTo search.now order.now known.now listed.now.claims.now listed.now.tabled.now count) }
     ensures causes { IfErr result (EndsEarly search.now order.now) }
 {
-    let mut part = match begin(alloc, search, order, claims, tabled)? {
+    let mut part = match begin(alloc, search, order, listed.claims, listed.tabled)? {
         Added::Part(part) => part,
         Added::Broken(path) => return Ok(Planning::Broken(None, path)),
     };
     let widening_points = known.widening_points.as_slice();
     for at in 0..count {
-        let number = numbers[at];
+        let number = listed.numbers[at];
         let start = widening_points[number].claim(alloc)?;
-        match add(alloc, search, order, claims, tabled, part, start)? {
+        match add(
+            alloc,
+            search,
+            order,
+            listed.claims,
+            listed.tabled,
+            part,
+            start,
+        )? {
             Added::Part(longer) => {
                 part = longer;
                 continue;
@@ -150,14 +159,20 @@ fn part_with(
     ensures planned { IfOk result (IsPlanned search.now order.now known.now) }
     ensures causes { IfErr result (EndsEarly search.now order.now) }
 {
-    match part_to(alloc, search, order, known, numbers, claims, &[], count)? {
+    let listed = ListedClaims {
+        numbers,
+        claims,
+        tabled: &[],
+    };
+    match part_to(alloc, search, order, known, &listed, count)? {
         Planning::Part(part) => {
             let limit = column_after(search.first, part.claims.len())?;
-            if trees_hit_within(part.trees.as_slice(), limit) {
+            let within = trees_hit_within(alloc, part.trees.as_slice(), limit)?;
+            if within {
                 return Ok(Planning::Part(part));
             }
             let all = numbers.len();
-            let planned = part_to(alloc, search, order, known, numbers, claims, &[], all)?;
+            let planned = part_to(alloc, search, order, known, &listed, all)?;
             Ok(planned)
         }
         Planning::Broken(from, path) => Ok(Planning::Broken(from, path)),

@@ -1,4 +1,4 @@
-ghost use Rattle.std.specs.Prelude.{◌≡◌, ◌≢◌, [], ◌∷◌, true, IfOk, IfErr};
+ghost use Rattle.std.specs.Prelude.{◌≡◌, [], ◌∷◌, true, IfOk, IfErr};
 ghost use Rattle.ac_poly.specs.Model.{model_of};
 ghost use Rattle.ac_syntax.specs.ExecutedCalls.{HaveArities};
 ghost use Rattle.ac_claims.specs.ProofFaults.{is_point};
@@ -8,11 +8,13 @@ ghost use Rattle.ac_flow.specs.Contexts.{ContextStops};
 ghost use Rattle.ac_graph.specs.GraphMeaning.{HaveFlows};
 ghost use Rattle.ac_walk_state.specs.Elements.{AreProgramsOf};
 ghost use Rattle.ac_walk.specs.Verdicts.{AreMatched, AreVerdicts, IsAccepted, IsStop, equal_outputs, named};
+ghost use Rattle.ac_walk.specs.TriedValuations.{AreSamples, AreTried, samples_of};
 ghost use Rattle.ac_walk.specs.UnknownCauses.{HasValuation, IsAnswered, IsEmptyAt, left_model};
 ghost use Rattle.ac_walk.specs.VerdictCollection.{IsProvedOf, IsSearchedOf};
 
 use crate::outputs::{Basis, verdicts};
 use crate::unanswered::unknown_all;
+use crate::valuations::samples;
 use crate::verdict_types::{ProveStop, Proved};
 use ac_claims_paths::path::Programs;
 use ac_flow::types::{ContextStop, Flow, FlowStop, Limits};
@@ -39,6 +41,7 @@ fn with_flows(
     requires flows { HaveFlows pair.now left_flow.now right_flow.now }
     requires arities { HaveArities pair.now.left.body × HaveArities pair.now.right.body }
     requires point { is_point (left_model pair.now) point.items ≡ true }
+    requires samples { AreSamples budget pair.now (samples_of pair.now point.items) }
     ensures { IfOk result (IsSearchedOf budget pair.now pair.now.outputs) }
 {
     let program_flows = ProgramFlows {
@@ -49,11 +52,13 @@ fn with_flows(
     };
     let graph = graph(alloc, pair, left_flow, right_flow)?;
     let template = template_of(alloc, pair)?;
+    let samples = samples(alloc, pair, point.as_slice())?;
     let basis = Basis {
         pair,
         program_flows: &program_flows,
         graph: &graph,
         template: &template,
+        samples: samples.as_slice(),
     };
     verdicts(alloc, &basis, point)
 }
@@ -73,8 +78,11 @@ fn with_point(
     requires arities { HaveArities pair.now.left.body × HaveArities pair.now.right.body }
     requires valuation { HasValuation limits.now.budget (left_model pair.now) }
     requires point { is_point (left_model pair.now) point.items ≡ true }
+    requires samples { AreSamples limits.now.budget pair.now (samples_of pair.now point.items) }
     ensures proved { IfOk result (IsProvedOf pair.now pair.now.outputs) }
     ensures causes { IfOk result (λ proved. IsAnswered limits.now.budget pair.now proved.verdicts) }
+    ensures accepted { IfOk result (λ proved. IsAccepted pair.now proved.proof) }
+    ensures tried { IfOk result (λ proved. AreTried limits.now.budget pair.now pair.now.outputs proved.verdicts) }
 {
     let left_flow = match flow(alloc, left, limits) {
         Ok(found) => found,
@@ -113,6 +121,8 @@ fn without_point(
     requires stop { ContextStops budget left.now stop }
     ensures proved { IfOk result (IsProvedOf pair.now pair.now.outputs) }
     ensures causes { IfOk result (λ proved. IsAnswered budget pair.now proved.verdicts) }
+    ensures valuation { IfOk result (λ _. ¬ (HasValuation budget (left_model pair.now))) }
+    ensures tried { IfOk result (λ proved. AreTried budget pair.now pair.now.outputs proved.verdicts) }
     ensures stops { IfErr result (IsStop pair.now) }
     ensures empty { IfErr result (IsEmptyAt budget pair.now) }
 {
@@ -134,19 +144,24 @@ fn without_point(
 /// stand for, as long as the commutative ones commute; and in the setting of the search on the output (`ac_walk_state`) some order of
 /// commutative arguments has no mismatch. `Different` only where the terms that both programs leave in an
 /// element do not agree at a valuation of the context, and then the least such element is named. The proof names exactly
-/// the outputs with the verdict `Equal`, and `check_proof` accepts it where there is one. `EmptyContext` only where no
+/// the outputs with the verdict `Equal`, and `check_proof` accepts it, unless the question of the context stops. `EmptyContext` only where no
 /// valuation meets the context. The models are those of the pair's programs under its context, and each call of an assignment that is
 /// executed has as many arguments as its symbol says.
 ///
-/// An output is unknown as `Unmatched` only where in the setting of the search on it each of the named partial orders is refuted by its
-/// derivation, and each order has a mismatch; as `SpentOrders` only with 1,024 or more such orders. As `OverflowHull` it is unknown only
-/// with members that a derivation there has at a recurrence pair and a point of that pair, where a number leaves `i128`. A question that the search says to be
+/// An output is unknown as `Unmatched` only where in the setting of the search on it the named partial orders are refuted one after
+/// another, each by its derivation, and each order of the output's sites extends one, so that it has a mismatch; as `SpentOrders` only
+/// with 1,024 or more refuted so, of more than 10 sites, where some order extends none. As `OverflowHull` it is unknown only
+/// with obligations there at one recurrence pair, where a number leaves `i128` as the last of them is taken beside the others. A question that the search says to be
 /// too wide or spent is one at which an unfolding stops, from the output or a recurrence pair, against claims whose members a derivation there has: it is asked
 /// there, and too wide or too costly for both eliminations, with the cost of the full one; or a row that comes next at it cannot be formed in `i128`.
 ///
 /// Where the question of the context is too wide or costs more than the budget, each output is unknown for that cause; then where the
 /// flow of the first program stops, for the cause of its stop, and then likewise for the second. A context without a valuation
 /// is answered by `EmptyContext`, or unknown for such a cause of its question.
+///
+/// An output is unknown only where both programs were run at the samples and at the first 16 different valuations of the derivations that
+/// its cause lists, and no run that ends within 1,000,000 events shows an element that differs. The samples are the valuation that the
+/// question of the context gives, and 1, 2, 17 and 33 for all parameters. Valuations that do not fit in `i64` are passed over.
 pub fn prove(
     alloc: Global,
     pair: &Pair,
@@ -159,8 +174,9 @@ pub fn prove(
     ensures verdicts { IfOk result (λ proved. AreVerdicts pair.now pair.now.outputs proved.verdicts) }
     ensures matched { IfOk result (λ proved. AreMatched pair.now pair.now.outputs proved.verdicts) }
     ensures causes { IfOk result (λ proved. IsAnswered limits.now.budget pair.now proved.verdicts) }
+    ensures tried { IfOk result (λ proved. AreTried limits.now.budget pair.now pair.now.outputs proved.verdicts) }
     ensures outputs { IfOk result (λ proved. named proved.proof ≡ equal_outputs pair.now.outputs proved.verdicts) }
-    ensures accepted { IfOk result (λ proved. named proved.proof ≢ [] → IsAccepted pair.now proved.proof) }
+    ensures accepted { IfOk result (λ proved. HasValuation limits.now.budget (left_model pair.now) → IsAccepted pair.now proved.proof) }
     ensures spelled { IfOk result (λ proved. AreSpelledTrees proved.proof.trees.items) }
     ensures claims { IfOk result (λ proved. ClaimsHaveModuli proved.proof) }
     ensures stops { IfErr result (IsStop pair.now) }

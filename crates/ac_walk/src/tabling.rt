@@ -8,7 +8,7 @@ ghost use Rattle.ac_walk.specs.OutputSearch.{IsKnownUnder, IsSearch};
 ghost use Rattle.ac_walk.specs.SearchStops.{EndsEarly, EndsEarlyBy};
 ghost use Rattle.ac_walk.specs.SearchTables.{IsFilled};
 
-use crate::planning::{Planning, part_to};
+use crate::planning::{ListedClaims, Planning, part_to};
 use crate::search_types::Search;
 use crate::stops::{Stop, of_unfolding};
 use ac_base::Items;
@@ -168,7 +168,12 @@ pub(crate) fn part_tabled(
     let count = numbers.len();
     let claims = table.claims();
     let tabled = table.tabled();
-    match part_to(alloc, search, order, known, numbers, claims, tabled, count)? {
+    let listed = ListedClaims {
+        numbers,
+        claims,
+        tabled,
+    };
+    match part_to(alloc, search, order, known, &listed, count)? {
         Planning::Part(part) => Ok(Planning::Part(with_tabled(part, table)?)),
         Planning::Broken(from, path) => Ok(Planning::Broken(from, path)),
     }

@@ -1,7 +1,6 @@
 //! Unfoldings of the output and of claims, and the broken paths that they find.
 ghost use Rattle.std.specs.Prelude.{◌≡◌, ◌<◌, [], ◌∷◌, length, IfOk, IfErr, IfSome};
 ghost use Rattle.std.specs.List.{AllByRecursion};
-ghost use Rattle.ac_widen_programs.specs.BrokenPaths.{IsBroken};
 ghost use Rattle.ac_widen_programs.specs.PairPaths.{Unfolding};
 ghost use Rattle.ac_unfold.specs.UnfoldCauses.{StopsUnfolding};
 ghost use Rattle.ac_unfold.specs.Unfoldings.{IsUnfoldingOf};
@@ -9,7 +8,7 @@ ghost use Rattle.ac_walk_state.specs.OrderKnowledge.{claims_of};
 ghost use Rattle.ac_walk_state.specs.Growth.{IfKnown, IfMismatch};
 ghost use Rattle.ac_walk.specs.OutputSearch.{IsKnownUnder, IsSearch, ShowMismatch};
 ghost use Rattle.ac_walk.specs.SearchStops.{EndsEarly};
-ghost use Rattle.ac_walk.specs.StartPaths.{AreBrokenFrom, start_among};
+ghost use Rattle.ac_walk.specs.StartPaths.{AreBrokenFrom, IsPathFound, start_among};
 
 use crate::search_types::Search;
 use crate::stops::{Stop, of_hull, of_unfolding};
@@ -74,7 +73,7 @@ fn tabled_path(
     claims: Vec<Claim>,
     start: &Claim,
 ) -> Result<Items<Items<Entry>>, UnfoldStop>
-    ensures broken { IfOk result (λ paths. (u : Unfolding) → IsUnfoldingOf search.now.program_flows.now start.now order.now u → AllByRecursion (IsBroken u claims.items) paths) }
+    ensures broken { IfOk result (λ paths. (u : Unfolding) → IsUnfoldingOf search.now.program_flows.now start.now order.now u → AllByRecursion (IsPathFound search.now.program_flows.now u claims.items) paths) }
     ensures causes { IfErr result (StopsUnfolding search.now.program_flows.now start.now claims.items order.now) }
 {
     let mut table = table_of(alloc, 1, claims, order)?;
@@ -94,7 +93,7 @@ fn paths_from(
     start: &Claim,
 ) -> Result<Items<Items<Entry>>, UnfoldStop>
     requires { claims.now ≡ claims_of known.now }
-    ensures broken { IfOk result (λ paths. (u : Unfolding) → IsUnfoldingOf search.now.program_flows.now start.now order.now u → AllByRecursion (IsBroken u claims.now) paths) }
+    ensures broken { IfOk result (λ paths. (u : Unfolding) → IsUnfoldingOf search.now.program_flows.now start.now order.now u → AllByRecursion (IsPathFound search.now.program_flows.now u claims.now) paths) }
     ensures causes { IfErr result (StopsUnfolding search.now.program_flows.now start.now claims.now order.now) }
 {
     if search.tabling {

@@ -1,13 +1,19 @@
 //! What is said where the search does not begin.
-ghost use Rattle.std.specs.Prelude.{◌≡◌, Some, IfOk};
-ghost use Rattle.ac_walk.specs.UnknownCauses.{AreUnknown, cause_of};
+ghost use Rattle.std.specs.Prelude.{◌≡◌, ℕ, Some, true, IfOk};
+ghost use Rattle.ac_claims.specs.ProofFaults.{is_point};
+ghost use Rattle.ac_claims.specs.Soundness.{ArePaired};
+ghost use Rattle.ac_walk.specs.TriedValuations.{AreSamples, AreTried, samples_of};
+ghost use Rattle.ac_walk.specs.UnknownCauses.{AreUnknown, cause_of, left_model};
 ghost use Rattle.ac_walk.specs.VerdictCollection.{IsProvedOf};
+ghost use Rattle.ac_walk.specs.Verdicts.{IsAccepted};
 
+use crate::differing::unknown_or_different;
+use crate::valuations::samples;
 use crate::verdict_types::Proved;
 use ac_base::Items;
 use ac_flow::types::FlowStop;
 use ac_forms::Conj;
-use ac_report::{Cause, Verdict};
+use ac_report::Cause;
 use ac_syntax::tree::Pair;
 use ac_walk_state::empty_proof;
 use std::alloc::{AllocError, Global};
@@ -41,19 +47,25 @@ fn cause_of(alloc: Global, stop: &FlowStop) -> Result<Cause, AllocError>
     }
 }
 
-/// Each output is unknown, for the same reason.
+/// Each output is unknown, for the same reason, unless an element is seen to differ.
 pub(crate) fn unknown_all(
     alloc: Global,
     pair: &Pair,
     point: Vec<i128>,
     stop: &FlowStop,
 ) -> Result<Proved, AllocError>
+    requires { ArePaired pair.now }
     ensures proved { IfOk result (IsProvedOf pair.now pair.now.outputs) }
     ensures causes { IfOk result (λ proved. AreUnknown (cause_of stop.now) proved.verdicts) }
+    ensures accepted { is_point (left_model pair.now) point.items ≡ true → IfOk result (λ proved. IsAccepted pair.now proved.proof) }
+    ensures tried { IfOk result (λ proved. (budget : ℕ) → AreSamples budget pair.now (samples_of pair.now point.items) → AreTried budget pair.now pair.now.outputs proved.verdicts) }
 {
+    let samples = samples(alloc, pair, point.as_slice())?;
     let mut verdicts = Items::new(alloc);
-    while verdicts.len() < pair.outputs.len() {
-        verdicts.push(Verdict::Unknown(cause_of(alloc, stop)?))?;
+    for number in 0..pair.outputs.len() {
+        let cause = cause_of(alloc, stop)?;
+        let left = unknown_or_different(alloc, pair, samples.as_slice(), number, cause)?;
+        verdicts.push(left)?;
     }
     Ok(Proved {
         verdicts,

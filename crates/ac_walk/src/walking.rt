@@ -112,8 +112,8 @@ fn take_turn(
 ///
 /// It ends early at a question that an unfolding asks, from the claim of the output or of a widening point of what is known under the order: where a
 /// number leaves `i128`, or it costs more than the budget; and at one of which a row that comes next cannot be formed. It ends early, too,
-/// where too many ends are reached; with the members of a widening point of what is known and a point there, where a number leaves `i128`; and for
-/// want of memory.
+/// where too many ends are reached; with obligations at one of the pairs, where a number leaves `i128` as the last of them is taken beside the others;
+/// and for want of memory.
 pub fn walk(alloc: Global, search: &Search<'_>, order: &[(Site, Order)]) -> Result<Ended, Stop>
     requires { IsSearch search.now }
     ensures ends { IfOk result (IsEnd search.now order.now) }

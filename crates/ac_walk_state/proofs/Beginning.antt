@@ -42,7 +42,7 @@ begins_output u t known path h b =
 pub at_key : (u : Unfolding) (widening_point : WideningPointOf) (k : Position × Position) (p : List ℤ) → u.claim ≡ claim_of widening_point → IsOfClaim u k p → k ≡ positions widening_point
 at_key u widening_point k p claim of = λ i. ((of.left_is ∙ ap (λ (c : Claim). c.left) claim) i, (of.right_is ∙ ap (λ (c : Claim). c.right) claim) i)
 
-wide_key : (u : Unfolding) (t : Template) (known : Known) (at : ℕ) (widening_point : WideningPointOf) → IsKnown u.pair t known → slice_get known.widening_points.items at ≡ Some widening_point → u.claim ≡ claim_of widening_point → (k : Position × Position) (p : List ℤ) → IsOfClaim u k p → length p ≡ widening_point.hull.columns
+pub wide_key : (u : Unfolding) (t : Template) (known : Known) (at : ℕ) (widening_point : WideningPointOf) → IsKnown u.pair t known → slice_get known.widening_points.items at ≡ Some widening_point → u.claim ≡ claim_of widening_point → (k : Position × Position) (p : List ℤ) → IsOfClaim u k p → length p ≡ widening_point.hull.columns
 wide_key u t known at widening_point h is claim k p of =
     wide_there u.pair k p of.there ∙ ap (point_width u.pair) (at_key u widening_point k p claim of) ∙ sym (each_in (IsWide u.pair) known.widening_points.items widening_point h.widths (in_get known.widening_points.items at widening_point is))
 
@@ -54,6 +54,7 @@ begins_inside u t known at widening_point path h is claim b =
       first = entry_at n b.point b.first;
       rest = steps_behind 0 n b.point b.rest;
       path_is = b.are;
+      there = at_key u widening_point (positions_of b.first) (point_of n b.point b.first) claim of;
       width = wide_key u t known at widening_point h is claim (positions_of b.first) (point_of n b.point b.first) of;
       meets = subst (λ (c : Claim). Meets c.rows (point_of n b.point b.first)) claim of.meets;
     }

@@ -158,14 +158,14 @@ part_is pair es order pairs sites choices stepped are right all outputs recurren
 
 -- ---- tests of lists
 
-pub has_found : (sites : List Site) (i : ℕ) (x site : Site) → i < length sites → x ≡ get_or sites i x → site ≡ x → IsAmong site sites
-has_found sites i x site l e same = subst (λ (y : Site). IsAmong y sites) (sym same) (in_read sites i x l e)
+pub has_found : {A : Type 0} (sites : List A) (i : ℕ) (x site : A) → i < length sites → x ≡ get_or sites i x → site ≡ x → IsAmong site sites
+has_found sites i x site l e same = subst (λ y. IsAmong y sites) (sym same) (in_read sites i x l e)
 
 pub site_found : (choices : List (Site × Order)) (i : ℕ) (x : Site × Order) (site : Site) → i < length choices → x ≡ get_or choices i x → site ≡ x.0 → HasSite choices site
 site_found choices i x site l e same = subst (λ (y : Site). HasSite choices y) (sym same) (among_map (λ (c : Site × Order). c.0) choices x (in_read choices i x l e))
 
 -- none of the first sites is that one, nor the next one
-pub has_not_more : (sites : List Site) (i : ℕ) (x site : Site) → i < length sites → x ≡ get_or sites i x → ¬ (site ≡ x) → ¬ (IsAmong site (take i sites)) → ¬ (IsAmong site (take (i + 1) sites))
+pub has_not_more : {A : Type 0} (sites : List A) (i : ℕ) (x site : A) → i < length sites → x ≡ get_or sites i x → ¬ (site ≡ x) → ¬ (IsAmong site (take i sites)) → ¬ (IsAmong site (take (i + 1) sites))
 has_not_more sites i x site l e other none k = elim (among_more site x (take i sites) (subst (IsAmong site) (next_item sites i x l e) k)) [ inl j ↦ none j | inr same ↦ other same ]
 
 -- the choices at all of the sites so far

@@ -73,7 +73,7 @@ behind_places : (k params : ℕ) (p : List ℤ) (rest : List (Seat × Seat)) →
 behind_places k params p [] = refl
 behind_places k params p (s ∷ rest) = ap (λ (xs : List ((Position × Position) × List ℤ)). pair_of params p s ∷ xs) (behind_places (suc k) params p rest)
 
-places : (params : ℕ) (p : List ℤ) (s : Seat × Seat) (rest : List (Seat × Seat)) → map place_of (entries_at params p (s ∷ rest)) ≡ map (pair_of params p) (s ∷ rest)
+pub places : (params : ℕ) (p : List ℤ) (s : Seat × Seat) (rest : List (Seat × Seat)) → map place_of (entries_at params p (s ∷ rest)) ≡ map (pair_of params p) (s ∷ rest)
 places params p s rest = ap (λ (xs : List ((Position × Position) × List ℤ)). pair_of params p s ∷ xs) (behind_places 0 params p rest)
 
 -- the last entry is that of the last pair

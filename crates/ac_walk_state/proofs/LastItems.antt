@@ -139,6 +139,13 @@ pub take_none : {A : Type 0} (xs : List A) → take 0 xs ≡ []
 take_none [] = refl
 take_none (x ∷ xs) = refl
 
+pub among_taken : {A : Type 0} (xs : List A) (i : ℕ) (x : A) → IsAmong x (take i xs) → IsAmong x xs
+among_taken [] zero x k = k
+among_taken [] (suc i) x k = k
+among_taken (y ∷ xs) zero x k = absurd k
+among_taken (y ∷ xs) (suc i) x (inl e) = inl e
+among_taken (y ∷ xs) (suc i) x (inr k) = inr (among_taken xs i x k)
+
 pub length_taken : {A : Type 0} (xs : List A) (i : ℕ) → i < length xs → length (take i xs) ≡ i
 length_taken [] i l = absurd (omega (arith, l))
 length_taken (x ∷ xs) zero l = refl

@@ -1,7 +1,7 @@
 pub mod Firsts
 pub mod Moving
 pub mod Widening
-pub mod Rows
+pub mod HitNodes
 pub mod First
 pub mod Cut
 pub mod Among
@@ -36,4 +36,5 @@ pub mod Onward
 pub mod Making
 pub mod Choosing
 pub mod Orders
+pub mod Owed
 pub mod Stopping

@@ -1,5 +1,5 @@
 -- What a further member leaves as it is.
-use Rattle.std.proofs.Common.{◌≡◌, inl, inr, ℕ, zero, suc, ◌<◌, ℤ, List, [], ◌∷◌, ◌++◌, map, length, take, drop, get_or, Some, refl, sym, ap, ◌∙◌, subst, arith}
+use Rattle.std.proofs.Common.{◌≡◌, ◌⊎◌, inl, inr, ℕ, zero, suc, ◌<◌, ℤ, List, [], ◌∷◌, ◌++◌, map, length, take, drop, get_or, Some, refl, sym, ap, ◌∙◌, subst, arith}
 use Rattle.std.specs.Prelude.{slice_get}
 use Rattle.std.specs.List.{insert, remove}
 use Rattle.std.proofs.lemmas.Option.{slice_get_within}
@@ -8,13 +8,18 @@ use Rattle.ac_syntax.specs.declared.tree.Position.{Position}
 use Rattle.ac_widen_programs.specs.PairSetting.{point_width}
 use Rattle.ac_widen.specs.Combinations.{Each}
 use Rattle.ac_widen.specs.Derivations.{EntryOf, StandsAt}
-use Rattle.ac_walk_state.specs.RecurrencePairs.{WideningPointOf, positions}
+use Rattle.ac_walk_state.specs.RecurrencePairs.{WideningPointOf, IsMemberOf, positions}
 use Rattle.ac_walk_state.specs.RecurrencePairInvariant.{IsWideningPoint, IsWith}
 use Rattle.ac_walk_state.specs.declared.template.Template.{Template}
 use Rattle.ac_walk_state.proofs.Standing.{key_stays}
+use Rattle.ac_hull.specs.Hulls.{HullOf}
+use Rattle.ac_forms.specs.ListMembers.{IsAmong}
+use Rattle.ac_widen.specs.declared.derivation.Entry.{Entry}
+use Rattle.ac_walk_state.specs.Growth.{IsEndAt, IsMemberAt, MembersEnd}
+use Rattle.ac_walk_state.specs.PathEnds.{IsEnd, entry_positions}
 use Rattle.ac_walk_state.specs.OrderKnowledge.{IsWide}
 use Rattle.ac_walk_state.specs.MemberGrowth.{GrowsAt, HasWidthAt}
-use Rattle.ac_walk_state.proofs.LastItems.{each_changed, get_middle, in_get, each_in, length_taken, map_changed, take_none}
+use Rattle.ac_walk_state.proofs.LastItems.{among_back, among_front, among_more, each_changed, get_middle, in_get, each_in, length_taken, map_changed, take_none}
 
 same_columns : (k g : WideningPointOf) (p : List ℤ) (place : ℕ) → IsWith k p place g → g.hull.columns ≡ k.hull.columns
 same_columns k g p place h = elim h.hull [ inl z ↦ ap (λ x. x.columns) z.0.1 | inr z ↦ ap (λ x. x.columns) z.0.1 ]
@@ -47,6 +52,40 @@ grown_widths pair t old at p place new g h =
 pub grown_pairs : (t : Template) (old : List WideningPointOf) (at : ℕ) (p : List ℤ) (place : ℕ) (new : List WideningPointOf) (g : GrowsAt t old at p place new) → map positions new ≡ map positions old
 grown_pairs t old at p place new g =
     ap (map positions) g.new_is ∙ sym (map_changed positions g.front g.widening_point g.grown g.back (same_positions g.widening_point g.grown p place g.member)) ∙ ap (map positions) (sym g.old_is)
+
+-- ---- where members come from
+
+among_middle : {A : Type 0} (front : List A) (x : A) (back : List A) (y : A) → IsAmong y (front ++ x ∷ back) → (y ≡ x) ⊎ (IsAmong y front ⊎ IsAmong y back)
+among_middle [] x back y (inl e) = inl e
+among_middle [] x back y (inr k) = inr (inr k)
+among_middle (z ∷ front) x back y (inl e) = inr (inl (inl e))
+among_middle (z ∷ front) x back y (inr k) = elim (among_middle front x back y k) [ inl e ↦ inl e | inr s ↦ inr (elim s [ inl f ↦ inl (inr f) | inr b ↦ inr b ]) ]
+
+-- those of the grown widening point, which are the old ones and the new point
+with_member : (old new : WideningPointOf) (p : List ℤ) (place : ℕ) → IsWith old p place new → (q : List ℤ) → IsMemberOf new q → IsMemberOf old q ⊎ (q ≡ p)
+with_member old new p place w q (inl m) = elim (among_more q p old.members (subst (IsAmong q) w.members m)) [ inl n ↦ inl (inl n) | inr e ↦ inr e ]
+with_member old new p place w q (inr m) = elim w.hull [
+  | inl g ↦ elim (among_more q p old.hull.members (subst (λ (h : HullOf). IsAmong q h.members) g.0.1 m)) [ inl n ↦ inl (inr n) | inr e ↦ inr e ]
+  | inr g ↦ inl (inr (subst (λ (h : HullOf). IsAmong q h.members) g.0.1 m))
+]
+
+pub grown_members : (t : Template) (old : List WideningPointOf) (at : ℕ) (p : List ℤ) (place : ℕ) (new : List WideningPointOf) (g : GrowsAt t old at p place new) (path : List Entry) (e : Entry) → IsEnd path e → entry_positions e ≡ positions g.widening_point → e.point ≡ p → MembersEnd old (path ∷ []) new
+grown_members t old at p place new g path e end there point pair q (k, among, here, member) = by (among_middle g.front g.grown g.back k (subst (IsAmong k) g.new_is among))
+  where
+    stays : IsAmong k (g.front ++ g.widening_point ∷ g.back) → IsMemberAt old pair q
+    stays i = (k, subst (IsAmong k) (sym g.old_is) i, here, member)
+
+    pair_is : k ≡ g.grown → positions g.widening_point ≡ pair
+    pair_is same = same_positions g.widening_point g.grown p place g.member ∙ ap positions (sym same) ∙ here
+
+    grows : (same : k ≡ g.grown) → IsMemberOf g.widening_point q ⊎ (q ≡ p) → IsMemberAt old pair q ⊎ IsEndAt (path ∷ []) pair q
+    grows same (inl m) = inl (g.widening_point, subst (IsAmong g.widening_point) (sym g.old_is) (among_back g.front (g.widening_point ∷ g.back) g.widening_point (inl refl)), pair_is same, m)
+    grows same (inr is) = inr (path, inl refl, e, end, there ∙ pair_is same, point ∙ sym is)
+
+    by : (k ≡ g.grown) ⊎ (IsAmong k g.front ⊎ IsAmong k g.back) → IsMemberAt old pair q ⊎ IsEndAt (path ∷ []) pair q
+    by (inl same) = grows same (with_member g.widening_point g.grown p place g.member q (subst (λ (x : WideningPointOf). IsMemberOf x q) same member))
+    by (inr (inl f)) = inl (stays (among_front g.front (g.widening_point ∷ g.back) k f))
+    by (inr (inr b)) = inl (stays (among_back g.front (g.widening_point ∷ g.back) k (inr b)))
 
 -- ---- one widening point taken out and put back
 

@@ -1,5 +1,5 @@
 -- What comes of path after path.
-use Rattle.std.proofs.Common.{◌≡◌, ℕ, ◌+◌, ◌<◌, ℤ, List, [], ◌∷◌, ◌++◌, map, length, take, get_or, Option, Some, refl, sym, ap, ◌∙◌, subst, append_assoc}
+use Rattle.std.proofs.Common.{◌≡◌, inl, inr, ℕ, ◌+◌, ◌<◌, ℤ, List, [], ◌∷◌, ◌++◌, map, length, take, get_or, Option, Some, refl, sym, ap, ◌∙◌, subst, append_assoc}
 use Rattle.std.specs.Prelude.{slice_get}
 use Rattle.ac_syntax.specs.declared.tree.Position.{Position}
 use Rattle.ac_claims.specs.declared.types.Claim.{Claim}
@@ -19,14 +19,14 @@ use Rattle.ac_walk_state.specs.PathEntries.{Begins}
 use Rattle.ac_walk_state.specs.OrderKnowledge.{IsKnown, IsWidenedAt, claims_of, pairs_of}
 use Rattle.ac_walk_state.specs.MemberGrowth.{ClaimsGrow, once, again}
 use Rattle.ac_walk_state.specs.BrokenPathStarts.{AtEach, BeginsOf}
-use Rattle.ac_walk_state.specs.Growth.{ArePathsOf, IfKnown, IsGrowthOf}
+use Rattle.ac_walk_state.specs.Growth.{ArePathsOf, IfKnown, IsGrowthOf, MembersEnd}
 use Rattle.ac_walk_state.specs.GrowthStep.{BeginsIf, IsPathFor, Takes, as_grown, pair_of as pair_of_claim}
 use Rattle.ac_walk_state.specs.declared.begins.Begin.{Begin}
 use Rattle.ac_walk_state.specs.declared.begins.Begin.TheVariants.{At, Further}
 use Rattle.ac_walk_state.specs.declared.known.Known.{Known}
 use Rattle.ac_walk_state.specs.declared.growth.Growth.{Growth}
 use Rattle.ac_walk_state.specs.declared.growth.Growth.TheVariants.{Grown, Mismatch, Nothing}
-use Rattle.ac_walk_state.proofs.LastItems.{all_in, append_nil, get_is, in_get, map-append, next_item}
+use Rattle.ac_walk_state.proofs.LastItems.{all_in, among_back, among_front, append_nil, get_is, in_get, map-append, next_item}
 
 -- the claims of the widening points are of their pairs
 pub claim_pairs : (widening_points : List WideningPointOf) → map pair_of_claim (map claim_of widening_points) ≡ map positions widening_points
@@ -75,6 +75,7 @@ pub before_paths : (u : Unfolding) (t : Template) (start : Known) → IsKnown u.
 before_paths u t start h = record {
   is_known = h;
   pairs = refl;
+  members = λ pair p m. inl m;
   more = ([], sym (append_nil start.entries));
   grown = tt;
   mismatch = tt;
@@ -83,17 +84,25 @@ before_paths u t start h = record {
 }
 
 pub behind_mismatch : (u : Unfolding) (t : Template) (start : Known) (paths : List (List Entry)) (path : List Entry) (entries : List Entry) → IsGrowthOf u t start paths (Mismatch entries) → IsGrowthOf u t start (paths ++ path ∷ []) (Mismatch entries)
-behind_mismatch u t start paths path entries h = record { is_known = tt; pairs = tt; more = h.more; grown = tt; mismatch = h.mismatch; nothing = tt; derivation = h.derivation }
+behind_mismatch u t start paths path entries h = record { is_known = tt; pairs = tt; members = tt; more = h.more; grown = tt; mismatch = h.mismatch; nothing = tt; derivation = h.derivation }
 
 -- entries behind those of the start
 more_again : (start known new a b : List Entry) → known ≡ start ++ a → new ≡ known ++ b → (es : List Entry) × (new ≡ start ++ es)
 more_again start known new a b e f = (a ++ b, f ∙ ap (λ (xs : List Entry). xs ++ b) e ∙ append_assoc start a b)
+
+-- members behind the paths and one more
+members_later : (old known new : List WideningPointOf) (paths : List (List Entry)) (path : List Entry) → MembersEnd old paths known → MembersEnd known (path ∷ []) new → MembersEnd old (paths ++ path ∷ []) new
+members_later old known new paths path h k pair p m = elim (k pair p m) [
+  | inl n ↦ elim (h pair p n) [ inl o ↦ inl o | inr e ↦ inr (e.0, among_front paths (path ∷ []) e.0 e.1, e.2, e.3, e.4, e.5) ]
+  | inr e ↦ inr (e.0, among_back paths (path ∷ []) e.0 e.1, e.2, e.3, e.4, e.5)
+]
 
 pub behind_nothing : (u : Unfolding) (t : Template) (start : Known) (paths : List (List Entry)) (known : Known) (begin : Begin) (path : List Entry) (next : Growth) → IsGrowthOf u t start paths (Nothing known) → BeginsIf u t start path begin
     → Takes u t (claims_of start) known begin path next → IsGrowthOf u t start (paths ++ path ∷ []) next
 behind_nothing u t start paths known begin path (Grown new) h begins k = record {
   is_known = k.is_known;
   pairs = k.pairs ∙ h.pairs;
+  members = members_later start.widening_points.items known.widening_points.items new.widening_points.items paths path h.members k.members;
   more = more_again start.entries known.entries new.entries h.more.0 k.more.0 h.more.1 k.more.1;
   grown = subst (λ (x : Known). ClaimsGrow t x.widening_points.items new.widening_points.items) h.nothing.1 (once known.widening_points.items new.widening_points.items k.grown);
   mismatch = tt;
@@ -103,6 +112,7 @@ behind_nothing u t start paths known begin path (Grown new) h begins k = record 
 behind_nothing u t start paths known begin path (Mismatch entries) h begins k = record {
   is_known = tt;
   pairs = tt;
+  members = tt;
   more = more_again start.entries known.entries entries h.more.0 k.more.0 h.more.1 k.more.1;
   grown = tt;
   mismatch = k.mismatch;
@@ -116,6 +126,7 @@ pub behind_grown : (u : Unfolding) (t : Template) (start : Known) (paths : List 
 behind_grown u t start paths known begin path (Grown new) h begins k = record {
   is_known = k.is_known;
   pairs = k.pairs ∙ h.pairs;
+  members = members_later start.widening_points.items known.widening_points.items new.widening_points.items paths path h.members k.members;
   more = more_again start.entries known.entries new.entries h.more.0 k.more.0 h.more.1 k.more.1;
   grown = again start.widening_points.items known.widening_points.items new.widening_points.items h.grown k.grown;
   mismatch = tt;
@@ -125,6 +136,7 @@ behind_grown u t start paths known begin path (Grown new) h begins k = record {
 behind_grown u t start paths known begin path (Mismatch entries) h begins k = record {
   is_known = tt;
   pairs = tt;
+  members = tt;
   more = more_again start.entries known.entries entries h.more.0 k.more.0 h.more.1 k.more.1;
   grown = tt;
   mismatch = k.mismatch;
@@ -134,6 +146,7 @@ behind_grown u t start paths known begin path (Mismatch entries) h begins k = re
 behind_grown u t start paths known begin path (Nothing new) h begins k = record {
   is_known = k.is_known;
   pairs = k.pairs ∙ h.pairs;
+  members = members_later start.widening_points.items known.widening_points.items new.widening_points.items paths path h.members k.members;
   more = more_again start.entries known.entries new.entries h.more.0 k.more.0 h.more.1 k.more.1;
   grown = subst (λ (x : Known). ClaimsGrow t start.widening_points.items x.widening_points.items) (sym k.nothing.0) h.grown;
   mismatch = tt;

@@ -152,6 +152,7 @@ module _ (pair : Pair) (array : ℕ) (claim : Claim) (lo : claim.left ≡ Output
   element_claimed = record {
     left_is = lo;
     right_is = ro;
+    rows_are = rows;
     output = record { left_is = lo; right_is = ro; asks = asks (programs_of pair) array claim (extent_count (slice_get (model_of pair.left pair.context).extents array)) lo ro rows refl (same_count pair array t among) };
     over = claim_over;
     exact = claim_exact;

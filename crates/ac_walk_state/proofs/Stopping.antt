@@ -1,40 +1,41 @@
 -- Where a growth stops.
-use Rattle.std.proofs.Common.{◌≡◌, inl, inr, ℕ, ℤ, List, [], ◌∷◌, ◌++◌, length, Option, Some, refl, sym, ap, ◌∙◌, subst}
+use Rattle.std.proofs.Common.{◌≡◌, ◌⊎◌, inl, inr, ℕ, ℤ, List, [], ◌∷◌, ◌++◌, length, Option, Some, refl, sym, ap, ◌∙◌, subst}
 use Rattle.std.specs.Prelude.{slice_get}
-use Rattle.ac_syntax.specs.declared.tree.Pair.{Pair}
+use Rattle.ac_syntax.specs.declared.tree.Order.{Order}
 use Rattle.ac_syntax.specs.declared.tree.Position.{Position}
-use Rattle.ac_claims.specs.declared.types.Claim.{Claim}
 use Rattle.ac_forms.specs.Affine.{CanEvaluate}
 use Rattle.ac_forms.specs.ListMembers.{IsAmong}
 use Rattle.ac_forms.specs.Rows.{CanTest, form_of}
 use Rattle.ac_forms.specs.declared.row.Row.{Row}
+use Rattle.ac_hull.specs.ColumnDifferences.{GapsFit}
 use Rattle.ac_hull.specs.EliminationRange.{CanAdd, CanCombine}
 use Rattle.ac_hull.specs.HullStops.{HandsBack}
 use Rattle.ac_hull.specs.Templates.{template_rows}
 use Rattle.ac_hull.specs.declared.stop.HullStop.{HullStop}
 use Rattle.ac_hull.specs.declared.stop.HullStop.TheVariants.{Overflow, Memory}
-use Rattle.ac_widen_programs.specs.PairSetting.{PairAt}
 use Rattle.ac_widen.specs.Combinations.{Each}
 use Rattle.ac_widen.specs.Derivations.{EntryOf}
+use Rattle.ac_widen.specs.Obligations.{Obligation, Obligations}
+use Rattle.ac_widen.specs.Setting.{Setting}
 use Rattle.ac_widen.specs.declared.derivation.Entry.{Entry}
+use Rattle.ac_widen.proofs.Deriving.{derived_obligation}
 use Rattle.ac_widen.proofs.Walking.{left_among}
 use Rattle.ac_widen_programs.specs.BrokenPaths.{IsBroken}
-use Rattle.ac_widen_programs.specs.PairPathEnds.{entry_at, steps_behind}
-use Rattle.ac_widen_programs.specs.PairPaths.{Unfolding, params_of, point_of, positions_of}
-use Rattle.ac_walk_state.specs.RecurrencePairs.{WideningPointOf, claim_of, positions}
+use Rattle.ac_widen_programs.specs.DerivationEntries.{entries_of}
+use Rattle.ac_widen_programs.specs.PairPaths.{Unfolding, setting_of}
+use Rattle.ac_walk_state.specs.RecurrencePairs.{WideningPointOf, positions}
 use Rattle.ac_walk_state.specs.RecurrencePairInvariant.{CanMeet, IsWideningPoint, IsTooLarge, template_at}
 use Rattle.ac_walk_state.specs.declared.template.Template.{Template}
+use Rattle.ac_walk_state.specs.BrokenPathStarts.{IsInside}
 use Rattle.ac_walk_state.specs.PathEnds.{IsEnd, entry_positions}
-use Rattle.ac_walk_state.specs.OrderKnowledge.{claims_of}
-use Rattle.ac_walk_state.specs.Growth.{ArePathsOf, IsGrowthOf, StartsFrom}
-use Rattle.ac_walk_state.specs.GrowthStops.{StopsAt, StopsBehind, StopsNext}
+use Rattle.ac_walk_state.specs.OrderKnowledge.{IsKnown, IsWidenedAt, claims_of, pairs_of}
+use Rattle.ac_walk_state.specs.Growth.{ArePathsOf, IsEndAt, IsGrowthOf, IsMemberAt, MembersEnd, StillDerives}
+use Rattle.ac_walk_state.specs.GrowthStops.{StopsAt, StopsGrowth, StopsNext}
 use Rattle.ac_walk_state.specs.declared.known.Known.{Known}
 use Rattle.ac_walk_state.specs.declared.growth.Growth.{Growth}
 use Rattle.ac_walk_state.specs.declared.growth.Growth.TheVariants.{Grown, Mismatch, Nothing}
-use Rattle.ac_walk_state.proofs.Beginning.{at_key, one_key, start_at}
-use Rattle.ac_walk_state.proofs.Ending.{end_place, end_there, of_claim}
-use Rattle.ac_walk_state.proofs.LastItems.{each_in, in_get}
-use Rattle.ac_walk_state.proofs.Onward.{path_later, start_path}
+use Rattle.ac_walk_state.proofs.LastItems.{all_in, among_last, among_map, each_in, in_get}
+use Rattle.ac_walk_state.proofs.Owed.{Owed, at_owed, first_owed, path_owed, with_owed}
 
 -- ---- numbers
 
@@ -48,76 +49,145 @@ template_among t es k n right width r i = subst (λ (m : ℕ). IsAmong r (templa
 
 -- ---- at a widening point
 
-pub stops_combining : (pair : Pair) (t : Template) (k : WideningPointOf) (p : List ℤ) (stop : HullStop) → PairAt pair (positions k) p → HandsBack (k.hull.members ++ p ∷ []) stop (¬ CanCombine k.hull.members p) → StopsAt pair t (k ∷ []) stop
-stops_combining pair t k p (Overflow ps) there h = (k, inl refl, record { members = k.hull.members; are = inr refl; point = p; there = there; points_are = h.1; large = λ can. h.0 can.combines })
-stops_combining pair t k p (Memory want) there h = tt
+-- where a path begins
+pub stops_combining : (t : Template) (k : WideningPointOf) (path : List Entry) (inside : IsInside k path) (p : List ℤ) (stop : HullStop) → p ≡ inside.first.point → HandsBack (k.hull.members ++ p ∷ []) stop (¬ CanCombine k.hull.members p) → StopsAt t (k ∷ []) path stop
+stops_combining t k path inside p (Overflow ps) same h = record {
+  widening_point = k;
+  among = inl refl;
+  members = k.hull.members;
+  are = inr refl;
+  entry = inside.first;
+  on_path = subst (IsAmong inside.first) (sym inside.path_is) (inl refl);
+  there = inside.there;
+  points_are = h.1 ∙ ap (λ (x : List ℤ). k.hull.members ++ x ∷ []) same;
+  large = λ can. h.0 (subst (CanCombine k.hull.members) (sym same) can.combines);
+  ends = inr (λ can. h.0 (subst (CanCombine k.hull.members) (sym same) can));
+}
+stops_combining t k path inside p (Memory want) same h = tt
 
-pub stops_meeting : (pair : Pair) (t : Template) (es : List (EntryOf (Position × Position))) (widening_points : List WideningPointOf) (k : WideningPointOf) (p : List ℤ) (stop : HullStop) → IsAmong k widening_points → IsWideningPoint t es k → length p ≡ k.hull.columns → PairAt pair (positions k) p
-    → HandsBack (k.hull.members ++ p ∷ []) stop (¬ CanMeet k p) → StopsAt pair t widening_points stop
-stops_meeting pair t es widening_points k p (Overflow ps) among right width there h = (
-  k,
-  among,
-  record {
-    members = k.hull.members;
-    are = inr refl;
-    point = p;
-    there = there;
-    points_are = h.1;
-    large = λ can. h.0 (can_test (template_rows (length p) t.thresholds t.moduli) k.rows p (template_among t es k (length p) right width) can.tests, λ _. can.combines);
-  },
-)
-stops_meeting pair t es widening_points k p (Memory want) among right width there h = tt
+-- where it ends
+end_on : (path : List Entry) (e : Entry) → IsEnd path e → IsAmong e path
+end_on path e end = subst (IsAmong e) (sym end.path_is) (among_last e end.front)
 
-pub stops_growing : (pair : Pair) (t : Template) (widening_points : List WideningPointOf) (k : WideningPointOf) (p : List ℤ) (stop : HullStop) → IsAmong k widening_points → length p ≡ k.hull.columns → PairAt pair (positions k) p → IsTooLarge k p stop → StopsAt pair t widening_points stop
-stops_growing pair t widening_points k p (Overflow ps) among width there (inl h) =
-    (k, among, record { members = k.hull.members; are = inr refl; point = p; there = there; points_are = h.1; large = λ can. h.0 (subst (λ (n : ℕ). CanAdd n k.hull.members p) width can.adds) })
-stops_growing pair t widening_points k p (Overflow ps) among width there (inr h) = (k, among, record { members = k.members; are = inl refl; point = p; there = there; points_are = h.1; large = λ can. h.0 can.gaps })
-stops_growing pair t widening_points k p (Memory want) among width there h = tt
+pub stops_meeting : (t : Template) (es : List (EntryOf (Position × Position))) (widening_points : List WideningPointOf) (k : WideningPointOf) (path : List Entry) (e : Entry) (p : List ℤ) (stop : HullStop) → IsAmong k widening_points → IsWideningPoint t es k → length e.point ≡ k.hull.columns → IsEnd path e
+    → positions k ≡ entry_positions e → p ≡ e.point → HandsBack (k.hull.members ++ p ∷ []) stop (¬ CanMeet k p) → StopsAt t widening_points path stop
+stops_meeting t es widening_points k path e p (Overflow ps) among right width end there same h = record {
+  widening_point = k;
+  among = among;
+  members = k.hull.members;
+  are = inr refl;
+  entry = e;
+  on_path = end_on path e end;
+  there = sym there;
+  points_are = h.1 ∙ ap (λ (x : List ℤ). k.hull.members ++ x ∷ []) same;
+  large = λ can. h.0 (subst (CanMeet k) (sym same) (can_test (template_rows (length e.point) t.thresholds t.moduli) k.rows e.point (template_among t es k (length e.point) right width) can.tests, λ _. can.combines));
+  ends = inl end;
+}
+stops_meeting t es widening_points k path e p (Memory want) among right width end there same h = tt
 
--- one of several widening points
-stops_among : (pair : Pair) (t : Template) (widening_points : List WideningPointOf) (k : WideningPointOf) (stop : HullStop) → IsAmong k widening_points → StopsAt pair t (k ∷ []) stop → StopsAt pair t widening_points stop
-stops_among pair t widening_points k (Overflow ps) among h = (h.0, elim h.1 [ inl e ↦ subst (λ (x : WideningPointOf). IsAmong x widening_points) (sym e) among | inr none ↦ absurd none ], h.2)
-stops_among pair t widening_points k (Memory want) among h = tt
+pub stops_growing : (t : Template) (widening_points : List WideningPointOf) (k : WideningPointOf) (path : List Entry) (e : Entry) (p : List ℤ) (stop : HullStop) → IsAmong k widening_points → length e.point ≡ k.hull.columns → IsEnd path e → positions k ≡ entry_positions e → p ≡ e.point
+    → IsTooLarge k p stop → StopsAt t widening_points path stop
+stops_growing t widening_points k path e p (Overflow ps) among width end there same (inl h) = record {
+  widening_point = k;
+  among = among;
+  members = k.hull.members;
+  are = inr refl;
+  entry = e;
+  on_path = end_on path e end;
+  there = sym there;
+  points_are = h.1 ∙ ap (λ (x : List ℤ). k.hull.members ++ x ∷ []) same;
+  large = λ can. h.0 (subst (CanAdd k.hull.columns k.hull.members) (sym same) (subst (λ (n : ℕ). CanAdd n k.hull.members e.point) width can.adds));
+  ends = inl end;
+}
+stops_growing t widening_points k path e p (Overflow ps) among width end there same (inr h) = record {
+  widening_point = k;
+  among = among;
+  members = k.members;
+  are = inl refl;
+  entry = e;
+  on_path = end_on path e end;
+  there = sym there;
+  points_are = h.1 ∙ ap (λ (x : List ℤ). k.members ++ x ∷ []) same;
+  large = λ can. h.0 (subst (λ (x : List ℤ). Each GapsFit (k.members ++ x ∷ [])) (sym same) can.gaps);
+  ends = inl end;
+}
+stops_growing t widening_points k path e p (Memory want) among width end there same h = tt
 
--- ---- where a path begins
-
-pub stops_beginning : (known : Known) (from : Option ℕ) (at : ℕ) (x : WideningPointOf) (path : List Entry) (stop : HullStop) → from ≡ Some at → slice_get known.widening_points.items at ≡ Some x
-    → ((pair : Pair) (t : Template) (e : Entry) (rest : List Entry) → path ≡ e ∷ rest → PairAt pair (positions x) e.point → StopsAt pair t (x ∷ []) stop)
-    → (u : Unfolding) (t : Template) → StartsFrom u t known from → IsBroken u (claims_of known) path → StopsAt u.pair t known.widening_points.items stop
-stops_beginning known from at x path stop e is stops u t h b =
-    let n = params_of u in
-    let s = start_at u t known from at e h in
-    let of = of_claim u (claims_of known) path b in
-    let claim : u.claim ≡ claim_of x = s.2 ∙ ap claim_of (one_key known at s.0 x s.1 is) in
-    let there : PairAt u.pair (positions x) (point_of n b.point b.first) = subst (λ (k : Position × Position). PairAt u.pair k (point_of n b.point b.first)) (at_key u x (positions_of b.first) (point_of n b.point b.first) claim of) of.there in
-    stops_among u.pair t known.widening_points.items x stop (in_get known.widening_points.items at x is) (stops u.pair t (entry_at n b.point b.first) (steps_behind 0 n b.point b.rest) b.are there)
-
--- ---- where it ends
-
-pub end_at_key : (u : Unfolding) (claims : List Claim) (path : List Entry) → IsBroken u claims path → (e : Entry) → IsEnd path e → (widening_point : WideningPointOf) → positions widening_point ≡ entry_positions e → PairAt u.pair (positions widening_point) e.point
-end_at_key u claims path b e end widening_point same =
-    subst (λ (k : Position × Position). PairAt u.pair k e.point) (sym same)
-    (subst (λ (x : (Position × Position) × List ℤ). PairAt u.pair x.0 x.1) (sym (end_place u claims path b e end)) (end_there u (b.first ∷ b.rest) b.question b.point b.comes))
+-- at one of several widening points
+pub stops_among : (t : Template) (widening_points : List WideningPointOf) (at : ℕ) (k : WideningPointOf) (path : List Entry) (stop : HullStop) → slice_get widening_points at ≡ Some k → StopsAt t (k ∷ []) path stop → StopsAt t widening_points path stop
+stops_among t widening_points at k path (Overflow ps) is h = record {
+  widening_point = h.widening_point;
+  among = elim h.among [ inl e ↦ subst (λ (x : WideningPointOf). IsAmong x widening_points) (sym e) (in_get widening_points at k is) | inr i ↦ absurd i ];
+  members = h.members;
+  are = h.are;
+  entry = h.entry;
+  on_path = h.on_path;
+  there = h.there;
+  points_are = h.points_are;
+  large = h.large;
+  ends = h.ends;
+}
+stops_among t widening_points at k path (Memory want) is h = tt
 
 -- ---- a growth
 
-pub begin_behind : (t : Template) (start : Known) (from : Option ℕ) (paths : List (List Entry)) (stop : HullStop) → ((u : Unfolding) (s : Template) → ArePathsOf u s start from paths → StopsAt u.pair s start.widening_points.items stop) → StopsBehind t start from paths stop
-begin_behind t start from paths stop h = record {
-  known = start;
-  behind = λ u are. record { is_known = are.0.is_known; pairs = refl; derivation = λ w d. d };
-  stops = λ u are. h u t are;
-}
+-- what is known behind some of the paths from the start
+record IsBehind (u : Unfolding) (t : Template) (start known : Known) (paths : List (List Entry)) : Type 0 where
+  pub is_known : IsKnown u.pair t known
+  pub pairs : pairs_of known ≡ pairs_of start
+  pub members : MembersEnd start.widening_points.items paths known.widening_points.items
+  pub derivation : IsWidenedAt (setting_of u) t start → StillDerives u start.entries known.entries
 
-pub next_behind : (t : Template) (start : Known) (from : Option ℕ) (paths before : List (List Entry)) (at : ℕ) (path : List Entry) (growth : Growth) (stop : HullStop) → ((u : Unfolding) → ArePathsOf u t start from paths → IsGrowthOf u t start before growth)
-    → slice_get paths at ≡ Some path → StopsNext t path growth stop → StopsBehind t start from paths stop
-next_behind t start from paths before at path (Grown known) stop growth is next = record {
-  known = known;
-  behind = λ u are. let r = growth u are in record { is_known = r.is_known; pairs = r.pairs; derivation = r.derivation };
-  stops = λ u are. let r = growth u are in next u (claims_of start) (path_later u t start known path (start_path u t start from paths at path are is) r.is_known r.pairs);
-}
-next_behind t start from paths before at path (Mismatch entries) stop growth is next = absurd next
-next_behind t start from paths before at path (Nothing known) stop growth is next = record {
-  known = known;
-  behind = λ u are. let r = growth u are in record { is_known = r.is_known; pairs = r.pairs; derivation = r.derivation };
-  stops = λ u are. let r = growth u are in next u (claims_of start) (path_later u t start known path (start_path u t start from paths at path are is) r.is_known r.pairs);
-}
+members_owed : (s : Setting (Position × Position)) (order : Position × Position → Order) (t : Template) (es : List (EntryOf (Position × Position))) (k : WideningPointOf) (members : List (List ℤ)) → IsWideningPoint t es k → Each (Owed s order) es → (members ≡ k.members) ⊎ (members ≡ k.hull.members)
+    → Obligations s order (positions k) members
+members_owed s order t es k members right owed (inl e) = subst (Obligations s order (positions k)) (sym e) (at_owed s order es (positions k) k.places k.members owed right.1.found_stand)
+members_owed s order t es k members right owed (inr e) = subst (Obligations s order (positions k)) (sym e) (at_owed s order es (positions k) k.kept k.hull.members owed right.1.members_stand)
+
+-- where its members and the entry come from
+members_come : (start known : Known) (paths : List (List Entry)) (k : WideningPointOf) (members : List (List ℤ)) → MembersEnd start.widening_points.items paths known.widening_points.items → IsAmong k known.widening_points.items → (members ≡ k.members) ⊎ (members ≡ k.hull.members) → (p : List ℤ) → IsAmong p members
+    → IsMemberAt start.widening_points.items (positions k) p ⊎ IsEndAt paths (positions k) p
+members_come start known paths k members ends among (inl e) p i = ends (positions k) p (k, among, refl, inl (subst (IsAmong p) e i))
+members_come start known paths k members ends among (inr e) p i = ends (positions k) p (k, among, refl, inr (subst (IsAmong p) e i))
+
+point_comes : (paths : List (List Entry)) (path : List Entry) (pair : Position × Position) (members : List (List ℤ)) (e : Entry) → IsAmong path paths → entry_positions e ≡ pair → IsEnd path e ⊎ ¬ (CanCombine members e.point) → IsEndAt paths pair e.point ⊎ ¬ (CanCombine members e.point)
+point_comes paths path pair members e i there (inl end) = inl (path, i, e, end, there, refl)
+point_comes paths path pair members e i there (inr none) = inr none
+
+stops_there : (t : Template) (start known : Known) (from : Option ℕ) (paths : List (List Entry)) (path : List Entry) (stop : HullStop) → ((u : Unfolding) → ArePathsOf u t start from paths → IsBehind u t start known paths) → IsAmong path paths → StopsAt t known.widening_points.items path stop
+    → StopsGrowth t start from paths stop
+stops_there t start known from paths path (Overflow points) behind i h = λ u are w d.
+    let s = setting_of u in
+    let order = u.order in
+    let es = entries_of known.entries in
+    let r = behind u are in
+    let k = h.widening_point in
+    let right = each_in (IsWideningPoint t es) known.widening_points.items k r.is_known.widening_points h.among in
+    let members = members_owed s order t es k h.members right (derived_obligation s order es (r.derivation w d)) h.are in
+    let broken = all_in (IsBroken u (claims_of start)) paths path are.1 i in
+    let point = path_owed u (claims_of start) path broken (first_owed u t start from path are.0 w d broken) h.entry h.on_path in
+    let all = with_owed s order (positions k) h.members h.entry.point members (subst (λ (pair : Position × Position). Obligation s order pair h.entry.point) h.there point) in (
+      positions k,
+      subst (IsAmong (positions k)) r.pairs (among_map positions known.widening_points.items k h.among),
+      record { members = h.members; point = h.entry.point; points_are = h.points_are; owed = subst (Obligations s order (positions k)) (sym h.points_are) all; large = h.large },
+      record {
+        members_come = members_come start known paths k h.members r.members h.among h.are;
+        point_comes = point_comes paths path (positions k) h.members h.entry i h.there h.ends;
+      },
+    )
+stops_there t start known from paths path (Memory want) behind i h = tt
+
+-- before the first path is taken
+pub begin_stops : (t : Template) (start : Known) (from : Option ℕ) (paths : List (List Entry)) (path : List Entry) (stop : HullStop) → IsAmong path paths → StopsAt t start.widening_points.items path stop → StopsGrowth t start from paths stop
+begin_stops t start from paths path stop i h = stops_there t start start from paths path stop (λ u are. record { is_known = are.0.is_known; pairs = refl; members = λ pair p m. inl m; derivation = λ w d. d }) i h
+
+-- behind some of them
+ends_among : (start known : Known) (before paths : List (List Entry)) → ((p : List Entry) → IsAmong p before → IsAmong p paths) → MembersEnd start.widening_points.items before known.widening_points.items → MembersEnd start.widening_points.items paths known.widening_points.items
+ends_among start known before paths within h pair p m = elim (h pair p m) [ inl o ↦ inl o | inr e ↦ inr (e.0, within e.0 e.1, e.2, e.3, e.4, e.5) ]
+
+pub next_stops : (t : Template) (start : Known) (from : Option ℕ) (paths before : List (List Entry)) (at : ℕ) (path : List Entry) (growth : Growth) (stop : HullStop) → ((p : List Entry) → IsAmong p before → IsAmong p paths) → ((u : Unfolding) → ArePathsOf u t start from paths → IsGrowthOf u t start before growth) → slice_get paths at ≡ Some path
+    → StopsNext t path growth stop → StopsGrowth t start from paths stop
+next_stops t start from paths before at path (Grown known) stop within growth is next =
+    stops_there t start known from paths path stop (λ u are. let r = growth u are in record { is_known = r.is_known; pairs = r.pairs; members = ends_among start known before paths within r.members; derivation = r.derivation }) (in_get paths at path is) next
+next_stops t start from paths before at path (Mismatch entries) stop within growth is next = absurd next
+next_stops t start from paths before at path (Nothing known) stop within growth is next =
+    stops_there t start known from paths path stop (λ u are. let r = growth u are in record { is_known = r.is_known; pairs = r.pairs; members = ends_among start known before paths within r.members; derivation = r.derivation }) (in_get paths at path is) next

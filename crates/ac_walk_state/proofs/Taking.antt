@@ -30,7 +30,7 @@ use Rattle.ac_walk_state.proofs.Ending.{claim_broken, end_place, end_there, end_
 use Rattle.ac_walk_state.proofs.Entered.{EndsWith, ends_with, entered_more, stands_last, still_derives}
 use Rattle.ac_walk_state.specs.Growth.{StillDerives}
 use Rattle.ac_walk_state.proofs.LastItems.{append_nil, each_in, get_in, get_map, in_get, length-map, map-append, map_among, map_get, among_map}
-use Rattle.ac_walk_state.proofs.MemberGrowth.{grown_keys, grown_pairs, grown_widths, grows_key, read_is}
+use Rattle.ac_walk_state.proofs.MemberGrowth.{grown_keys, grown_members, grown_pairs, grown_widths, grows_key, read_is}
 
 -- ---- the entries
 
@@ -51,6 +51,7 @@ taken_mismatch u t claims known begin path h goes free =
     record {
       is_known = tt;
       pairs = tt;
+      members = tt;
       more = entered_more known.entries begin path;
       grown = tt;
       mismatch = (w.front, w.last, w.is, subst (λ (x : (Position × Position) × List ℤ). IsMismatchPair u.pair x.0 x.1) (λ i. (sym w.key_is i, sym w.point_is i)) m);
@@ -96,6 +97,7 @@ pub taken_nothing : (u : Unfolding) (t : Template) (claims : List Claim) (known 
 taken_nothing u t claims known begin path h e end at widening_point is same within = record {
   is_known = h.is_known;
   pairs = refl;
+  members = λ pair p m. inl m;
   more = ([], sym (append_nil known.entries));
   grown = tt;
   mismatch = tt;
@@ -141,6 +143,7 @@ taken_grown u t claims known new begin path h goes e end at widening_point is sa
         distinct = subst AreDistinct (sym pairs) h.is_known.distinct;
       };
       pairs = pairs;
+      members = grown_members t old at e.point place new.widening_points.items g path e end (sym same ∙ ap positions (sym (grows_key t old at e.point place new.widening_points.items g widening_point is))) refl;
       more = (more.0, entries ∙ more.1);
       grown = record { at = at; point = e.point; place = place; grows = g; breaks = subst (λ (k : WideningPointOf). ¬ (Meets (claim_of k).rows e.point)) (sym (grows_key t old at e.point place new.widening_points.items g widening_point is)) breaks };
       mismatch = tt;

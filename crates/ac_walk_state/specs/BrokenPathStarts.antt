@@ -10,6 +10,7 @@ use Rattle.ac_widen_programs.specs.PairPaths.{Unfolding, setting_of}
 use Rattle.ac_walk_state.specs.RecurrencePairs.{WideningPointOf, claim_of, positions}
 use Rattle.ac_walk_state.specs.RecurrencePairInvariant.{IsReasonAt}
 use Rattle.ac_walk_state.specs.declared.template.Template.{Template}
+use Rattle.ac_walk_state.specs.PathEnds.{entry_positions}
 use Rattle.ac_walk_state.specs.PathEntries.{Begins, GoesOn}
 use Rattle.ac_walk_state.specs.OrderKnowledge.{IsWidenedAt, claims_of}
 use Rattle.ac_walk_state.specs.Growth.{StartsFrom}
@@ -19,11 +20,12 @@ use Rattle.ac_walk_state.specs.declared.known.Known.{Known}
 
 -- ---- by a widening point
 
--- the path begins at a point of the widening point's claim
+-- the path begins at the widening point's pair, at a point of its claim
 pub record IsInside (k : WideningPointOf) (path : List Entry) : Type 0 where
   pub first : Entry
   pub rest : List Entry
   pub path_is : path ≡ first ∷ rest
+  pub there : entry_positions first ≡ positions k
   pub width : length first.point ≡ k.hull.columns
   pub meets : Meets (claim_of k).rows first.point
 

@@ -1,5 +1,5 @@
 -- The rows by which both elements of an output are one.
-use Rattle.std.specs.Prelude.{◌≡◌, ◌↔◌, ℕ, ◌-◌, ℤ, pos, negsuc, List, [], ◌∷◌, ◌++◌, map, replicate}
+use Rattle.std.specs.Prelude.{◌≡◌, ◌↔◌, ℕ, ◌-◌, ℤ, pos, negsuc, List, [], ◌∷◌, ◌++◌, length, map, replicate, slice_get}
 use Rattle.std.specs.List.{range_with_len}
 use Rattle.ac_forms.specs.Affine.{Affine}
 use Rattle.ac_forms.specs.ListMembers.{IsAmong}
@@ -12,7 +12,7 @@ use Rattle.ac_poly.specs.Model.{model_of}
 use Rattle.ac_claims_paths.specs.declared.path.Programs.{Programs}
 use Rattle.ac_claims.specs.Soundness.{ArePaired}
 use Rattle.ac_claims.specs.declared.types.Claim.{Claim}
-use Rattle.ac_widen_programs.specs.PairSetting.{IsOutputPair, PairAt, point_width}
+use Rattle.ac_widen_programs.specs.PairSetting.{IsOutputPair, PairAt, extent_count, point_width}
 use Rattle.ac_unfold_plans.specs.PlanStops.{claim_positions, programs_of}
 use Rattle.ac_walk_state.specs.ProofParts.{IsOutputClaim}
 
@@ -30,10 +30,11 @@ pub record AreProgramsOf (pair : Pair) (programs : Programs) : Type 0 where
   pub left : programs.left.now ≡ model_of pair.left pair.context
   pub right : programs.right.now ≡ model_of pair.right pair.context
 
--- the claim of an output of the pair: its rows hold exactly where both elements are one
+-- the claim of an output of the pair: its rows say of each subscript that it is equal in both elements; so they hold exactly where both elements are one
 pub record IsElementClaim (pair : Pair) (array : ℕ) (claim : Claim) : Type 0 where
   pub left_is : claim.left ≡ Output array
   pub right_is : claim.right ≡ Output array
+  pub rows_are : claim.rows ≡ equal_columns (length pair.left.params) (extent_count (slice_get (model_of pair.left pair.context).extents array))
   pub output : IsOutputClaim (programs_of pair) array claim
   pub over : AreRowsOver (point_width pair (claim_positions claim)) claim.rows
   pub exact : (outputs : List ℕ) → IsAmong array outputs → (p : List ℤ) → PairAt pair (claim_positions claim) p → Meets claim.rows p ↔ IsOutputPair pair outputs (claim_positions claim) p

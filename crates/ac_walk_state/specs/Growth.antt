@@ -1,8 +1,9 @@
 -- Broken paths from one start, and what growth comes of them.
-use Rattle.std.specs.Prelude.{ℕ, ℤ, ◌≡◌, ◌++◌, List, [], ◌∷◌, Option, Some, None, slice_get}
+use Rattle.std.specs.Prelude.{ℕ, ℤ, ◌≡◌, ◌⊎◌, ◌++◌, List, [], ◌∷◌, Option, Some, None, slice_get}
 use Rattle.std.specs.List.{AllByRecursion}
 use Rattle.ac_syntax.specs.declared.tree.Position.{Position}
 use Rattle.ac_widen_programs.specs.PairSetting.{IsOutputPair}
+use Rattle.ac_forms.specs.ListMembers.{IsAmong}
 use Rattle.ac_widen.specs.Derivations.{EntryOf, IsDerivation}
 use Rattle.ac_widen.specs.Setting.{Setting}
 use Rattle.ac_widen.specs.declared.derivation.Entry.{Entry}
@@ -10,10 +11,11 @@ use Rattle.ac_widen_programs.specs.DerivationEntries.{entries_of}
 use Rattle.ac_widen_programs.specs.BrokenPaths.{IsBroken}
 use Rattle.ac_widen_programs.specs.PairPathEnds.{HaveBothArities}
 use Rattle.ac_widen_programs.specs.PairPaths.{Unfolding, IsOfClaim, setting_of}
-use Rattle.ac_walk_state.specs.RecurrencePairs.{WideningPointOf, claim_of}
+use Rattle.ac_walk_state.specs.RecurrencePairs.{WideningPointOf, IsMemberOf, claim_of, positions}
 use Rattle.ac_walk_state.specs.declared.template.Template.{Template}
 use Rattle.ac_walk_state.specs.OrderKnowledge.{IsKnown, IsWidenedAt, claims_of, pairs_of}
 use Rattle.ac_walk_state.specs.MemberGrowth.{ClaimsGrow}
+use Rattle.ac_walk_state.specs.PathEnds.{IsEnd, entry_positions}
 use Rattle.ac_walk_state.specs.declared.known.Known.{Known}
 use Rattle.ac_walk_state.specs.declared.growth.Growth.{Growth}
 use Rattle.ac_walk_state.specs.declared.growth.Growth.TheVariants.{Grown, Mismatch, Nothing}
@@ -74,10 +76,27 @@ EndsInMismatch s es = (front : List (EntryOf (Position × Position))) × (last :
 abbrev pub StillDerives : Unfolding → List Entry → List Entry → Type 0
 StillDerives u old new = IsDerivation (setting_of u) u.order (entries_of old) → IsDerivation (setting_of u) u.order (entries_of new)
 
+-- ---- members
+
+-- the point is a member of one of the widening points, at this pair
+abbrev pub IsMemberAt : List WideningPointOf → Position × Position → List ℤ → Type 0
+IsMemberAt widening_points pair p = (k : WideningPointOf) × IsAmong k widening_points × (positions k ≡ pair) × IsMemberOf k p
+
+-- one of the paths ends there
+abbrev pub IsEndAt : List (List Entry) → Position × Position → List ℤ → Type 0
+IsEndAt paths pair p = (path : List Entry) × IsAmong path paths × (e : Entry) × IsEnd path e × (entry_positions e ≡ pair) × (e.point ≡ p)
+
+-- each member was one before, or is the end of one of the paths
+abbrev pub MembersEnd : List WideningPointOf → List (List Entry) → List WideningPointOf → Type 0
+MembersEnd old paths new = (pair : Position × Position) (p : List ℤ) → IsMemberAt new pair p → IsMemberAt old pair p ⊎ IsEndAt paths pair p
+
+-- ---- what comes of paths
+
 -- what comes of the paths: all is known as before, with further entries, and members that broke their claims; or the last entry is a mismatch; or nothing, without paths
 pub record IsGrowthOf (u : Unfolding) (t : Template) (start : Known) (paths : List (List Entry)) (growth : Growth) : Type 0 where
   pub is_known : IfKnown (IsKnown u.pair t) growth
   pub pairs : IfKnown (λ k. pairs_of k ≡ pairs_of start) growth
+  pub members : IfKnown (λ k. MembersEnd start.widening_points.items paths k.widening_points.items) growth
   pub more : (es : List Entry) × (entries_behind growth ≡ start.entries ++ es)
   pub grown : IfGrown (λ k. ClaimsGrow t start.widening_points.items k.widening_points.items) growth
   pub mismatch : IfMismatch (EndsInMismatch (setting_of u)) growth

@@ -1,5 +1,5 @@
 -- One path of a growth.
-use Rattle.std.specs.Prelude.{◌≡◌, ◌++◌, List, map}
+use Rattle.std.specs.Prelude.{◌≡◌, ◌++◌, List, [], ◌∷◌, map}
 use Rattle.ac_syntax.specs.declared.tree.Position.{Position}
 use Rattle.ac_claims.specs.declared.types.Claim.{Claim}
 use Rattle.ac_widen.specs.declared.derivation.Entry.{Entry}
@@ -10,7 +10,7 @@ use Rattle.ac_walk_state.specs.declared.template.Template.{Template}
 use Rattle.ac_walk_state.specs.PathEntries.{Begins}
 use Rattle.ac_walk_state.specs.OrderKnowledge.{IsKnown, IsWidenedAt, claims_of, pairs_of}
 use Rattle.ac_walk_state.specs.MemberGrowth.{ClaimGrows}
-use Rattle.ac_walk_state.specs.Growth.{EndsInMismatch, IfGrown, IfKnown, IfMismatch, IfNothing, StillDerives, entries_behind}
+use Rattle.ac_walk_state.specs.Growth.{EndsInMismatch, IfGrown, IfKnown, IfMismatch, IfNothing, MembersEnd, StillDerives, entries_behind}
 use Rattle.ac_walk_state.specs.declared.begins.Begin.{Begin}
 use Rattle.ac_walk_state.specs.declared.known.Known.{Known}
 use Rattle.ac_walk_state.specs.declared.growth.Growth.{Growth}
@@ -35,6 +35,7 @@ BeginsIf u t known path begin = IsWidenedAt (setting_of u) t known → Begins (s
 pub record Takes (u : Unfolding) (t : Template) (claims : List Claim) (known : Known) (begin : Begin) (path : List Entry) (growth : Growth) : Type 0 where
   pub is_known : IfKnown (IsKnown u.pair t) growth
   pub pairs : IfKnown (λ k. pairs_of k ≡ pairs_of known) growth
+  pub members : IfKnown (λ k. MembersEnd known.widening_points.items (path ∷ []) k.widening_points.items) growth
   pub more : (es : List Entry) × (entries_behind growth ≡ known.entries ++ es)
   pub grown : IfGrown (λ k. ClaimGrows t known.widening_points.items k.widening_points.items) growth
   pub mismatch : IfMismatch (EndsInMismatch (setting_of u)) growth

@@ -1,5 +1,6 @@
 -- The numbers of the claims at which plans end.
 use Rattle.std.specs.Prelude.{◌≡◌, ℕ, ◌<◌, List, ◌++◌, length, Bool, true}
+use Rattle.std.specs.Borrow.{Bor}
 use Rattle.std.specs.List.{AllByRecursion}
 use Rattle.ac_syntax.specs.declared.tree.Order.{Order}
 use Rattle.ac_syntax.specs.declared.tree.Pair.{Pair}
@@ -29,6 +30,14 @@ abbrev mutual
   pub EachHitsWithin : ℕ → {m : _} → Row_of-Plan m → Type 0
   EachHitsWithin n end_of-Plan = Unit {0}
   EachHitsWithin n (more_of-Plan s t more) = HitsWithin n t × EachHitsWithin n more
+
+-- if it is itself such an end, that claim has a number below n
+abbrev pub NodeHitsWithin : ℕ → PlanNext → Type 0
+NodeHitsWithin n (Hit c) = c < n
+NodeHitsWithin n _ = Unit {0}
+
+abbrev pub NodesHitWithin : ℕ → List (Bor Plan) → Type 0
+NodesHitWithin n = AllByRecursion (λ (node : Bor Plan). NodeHitsWithin n node.now.next)
 
 abbrev pub AllHitWithin : ℕ → List Plan → Type 0
 AllHitWithin n = AllByRecursion (λ (p : Plan). HitsWithin n p.next)

@@ -1,5 +1,5 @@
 -- What is known at a recurrence pair: the members that were found there, the hull that they make, and the claim that all of them meet.
-use Rattle.std.specs.Prelude.{◌≡◌, ℕ, ℤ, List, [], ◌++◌, length, map}
+use Rattle.std.specs.Prelude.{◌≡◌, ◌⊎◌, ℕ, ℤ, List, [], ◌++◌, length, map}
 use Rattle.ac_syntax.specs.declared.tree.Position.{Position}
 use Rattle.ac_forms.specs.Rows.{AreRowsOver}
 use Rattle.ac_forms.specs.declared.row.Row.{Row}
@@ -23,6 +23,10 @@ pub record WideningPointOf : Type 0 where
 
 abbrev pub positions : WideningPointOf → Position × Position
 positions k = (k.left, k.right)
+
+-- a point that was found there, or that the hull keeps
+abbrev pub IsMemberOf : WideningPointOf → List ℤ → Type 0
+IsMemberOf k p = IsAmong p k.members ⊎ IsAmong p k.hull.members
 
 -- its claim: `-1 >= 0` before the first member; then the equalities of the hull, and the template rows
 abbrev pub claim_of : WideningPointOf → Claim

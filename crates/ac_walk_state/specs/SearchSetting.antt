@@ -2,7 +2,7 @@
 use Rattle.std.specs.Prelude.{ℕ, ◌≡◌, ◌↔◌, List, [], ◌∷◌, ℤ, Bool, true}
 use Rattle.ac_syntax.specs.declared.tree.Pair.{Pair}
 use Rattle.ac_syntax.specs.declared.tree.Position.{Position}
-use Rattle.ac_graph.specs.PairMoves.{IsRecurrent, Reaches, dependences, starts_of}
+use Rattle.ac_graph.specs.PairMoves.{IsRecurrent, Reaches, dependences, start_of}
 use Rattle.ac_graph.specs.GraphMeaning.{AreSources}
 use Rattle.ac_hull.specs.SmallestIntegers.{AreFirst}
 use Rattle.ac_hull.specs.Templates.{template_rows}
@@ -17,14 +17,14 @@ pub record Widening : Type 0 where
   pub thresholds : List ℤ
   pub moduli : List ℤ
 
--- a reached pair is taken for a recurrence pair exactly where it recurs along the sources of both programs; the thresholds and
--- moduli are those of the texts
-pub record IsWideningOf (pair : Pair) (w : Widening) : Type 0 where
+-- a pair that moves reach from the output is taken for a recurrence pair exactly where it recurs along the sources of both programs; the
+-- thresholds and moduli are those of the texts
+pub record IsWideningOf (pair : Pair) (output : ℕ) (w : Widening) : Type 0 where
   pub left_edges : List (Position × Position)
   pub right_edges : List (Position × Position)
   pub left_sources : AreSources pair.left pair.context left_edges
   pub right_sources : AreSources pair.right pair.context right_edges
-  pub recurrent_are : (positions : Position × Position) → (w.recurrent positions ≡ true) ↔ (Reaches (dependences pair left_edges right_edges) (starts_of pair.outputs) positions × IsRecurrent (dependences pair left_edges right_edges) positions)
+  pub recurrent_are : (positions : Position × Position) → (w.recurrent positions ≡ true) ↔ (Reaches (dependences pair left_edges right_edges) (start_of output ∷ []) positions × IsRecurrent (dependences pair left_edges right_edges) positions)
   pub thresholds_are : AreFirst 64 (λ x. IsAmong x (threshold_candidates pair)) w.thresholds
   pub moduli_are : AreFirst 8 (λ m. IsAmong m (modulus_candidates pair)) w.moduli
 

@@ -10,4 +10,4 @@ use Rattle.ac_walk_state.specs.UnmatchedOutputs.{IsUnmatched}
 
 -- of an unmatched output each order has a mismatch
 abbrev pub UnmatchedHaveMismatches : Type 0
-UnmatchedHaveMismatches = (pair : Pair) (output : ℕ) (list : List Refuted) → IsUnmatched pair output list → (w : Widening) → IsWideningOf pair w → (order : Position × Position → Order) → HasMismatch (searched pair output w) order
+UnmatchedHaveMismatches = (pair : Pair) (output : ℕ) (list : List Refuted) → IsUnmatched pair output list → (w : Widening) → IsWideningOf pair output w → (order : Position × Position → Order) → HasMismatch (searched pair output w) order

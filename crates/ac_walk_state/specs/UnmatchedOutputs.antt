@@ -49,8 +49,8 @@ AreRefutedInTurn s sites earlier (r ∷ list) = IsRefutedAfter s sites earlier r
 pub record AreRefutedUpTo (pair : Pair) (output : ℕ) (list : List Refuted) (next : Next) : Type 0 where
   pub sites : List Site
   pub sites_are : AreSitesOf pair output sites
-  pub widening : (w : Widening) × IsWideningOf pair w
-  pub refuted : (w : Widening) → IsWideningOf pair w → AreRefutedInTurn (searched pair output w) sites [] list
+  pub widening : (w : Widening) × IsWideningOf pair output w
+  pub refuted : (w : Widening) → IsWideningOf pair output w → AreRefutedInTurn (searched pair output w) sites [] list
   pub comes : IsNext (record { sites = sites; refuted = list }) next
 
 -- unmatched: each order of the sites extends one of them

@@ -1,13 +1,11 @@
 //! Where broken paths begin.
 ghost use Rattle.std.specs.Prelude.{◌≡◌, ◌++◌, length, List, [], ◌∷◌, IfErr, IfOk, OnOk};
+ghost use Rattle.ac_forms.specs.ListMembers.{IsAmong};
 ghost use Rattle.ac_widen_programs.specs.BrokenPaths.{IsBroken};
 ghost use Rattle.ac_widen_programs.specs.PairPaths.{Unfolding};
-ghost use Rattle.ac_widen_programs.specs.PairSetting.{PairAt};
-ghost use Rattle.ac_syntax.specs.declared.tree.Pair.{Pair};
 ghost use Rattle.ac_syntax.specs.declared.tree.Position.{Position};
 ghost use Rattle.ac_widen.specs.Derivations.{EntryOf};
 ghost use Rattle.ac_walk_state.specs.RecurrencePairInvariant.{IsWideningPoint};
-ghost use Rattle.ac_walk_state.specs.RecurrencePairs.{positions};
 ghost use Rattle.ac_walk_state.specs.declared.template.Template.{Template};
 ghost use Rattle.ac_walk_state.specs.BrokenPathStarts.{AtEach, BeginsInside, BeginsOf, IsInside};
 ghost use Rattle.ac_walk_state.specs.PathEntries.{GoesOn};
@@ -43,7 +41,7 @@ fn begin_at(
     requires inside { IsInside widening_point.now path.now }
     ensures steps { IfOk result (GoesOn path.now) }
     ensures begins { IfOk result (BeginsInside widening_point.now path.now) }
-    ensures stops { IfErr result (λ stop. (pair : Pair) (t : Template) (e : Entry) (rest : List Entry) → path.now ≡ e ∷ rest → PairAt pair (positions widening_point.now) e.point → StopsAt pair t (widening_point.now ∷ []) stop) }
+    ensures stops { IfErr result (λ stop. (t : Template) → StopsAt t (widening_point.now ∷ []) path.now stop) }
 {
     let point = path[0].point.as_slice();
     if path.len() > 1 {
@@ -67,7 +65,7 @@ fn begin_of(
 ) -> Result<Begin, HullStop>
     requires { (u : Unfolding) × (t : Template) × StartsFrom u t known.now from × IsBroken u (claims_of known.now) path.now }
     ensures begins { IfOk result (BeginsOf known.now from path.now) }
-    ensures stops { IfErr result (λ stop. (u : Unfolding) (t : Template) → StartsFrom u t known.now from → IsBroken u (claims_of known.now) path.now → StopsAt u.pair t known.now.widening_points.items stop) }
+    ensures stops { IfErr result (λ stop. (t : Template) → StopsAt t known.now.widening_points.items path.now stop) }
 {
     match from {
         Some(at) => begin_at(alloc, &known.widening_points[at], path),
@@ -85,7 +83,7 @@ fn push_begin(
 ) -> Result<(), HullStop>
     requires { (u : Unfolding) × (t : Template) × StartsFrom u t known.now from × IsBroken u (claims_of known.now) path.now }
     ensures begins { OnOk result ((begin : Begin) × BeginsOf known.now from path.now begin × (begins.new ≡ begins.old ++ begin ∷ [])) }
-    ensures stops { IfErr result (λ stop. (u : Unfolding) (t : Template) → StartsFrom u t known.now from → IsBroken u (claims_of known.now) path.now → StopsAt u.pair t known.now.widening_points.items stop) }
+    ensures stops { IfErr result (λ stop. (t : Template) → StopsAt t known.now.widening_points.items path.now stop) }
 {
     match begin_of(alloc, known, from, path) {
         Ok(begin) => match begins.push(begin) {
@@ -106,7 +104,7 @@ pub(crate) fn begins_of(
     requires { (u : Unfolding) × (t : Template) × ArePathsOf u t known.now from paths.now }
     ensures count { IfOk result (λ begins. length begins ≡ length paths.now) }
     ensures each { IfOk result (AtEach (BeginsOf known.now from) paths.now) }
-    ensures stops { IfErr result (λ stop. (u : Unfolding) (t : Template) → ArePathsOf u t known.now from paths.now → StopsAt u.pair t known.now.widening_points.items stop) }
+    ensures stops { IfErr result (λ stop. (path : List Entry) × IsAmong path paths.now × ((t : Template) → StopsAt t known.now.widening_points.items path stop)) }
 {
     let mut begins = Items::new(alloc);
     for path in paths {

@@ -2,17 +2,15 @@
 ghost use Rattle.std.specs.Prelude.{◌≡◌, ◌++◌, List, [], ◌∷◌, IfErr, IfOk, MatchOption, slice_get};
 ghost use Rattle.ac_claims.specs.declared.types.Claim.{Claim};
 ghost use Rattle.ac_widen_programs.specs.PairPaths.{Unfolding};
-ghost use Rattle.ac_widen_programs.specs.PairSetting.{PairAt};
-ghost use Rattle.ac_syntax.specs.declared.tree.Pair.{Pair};
 ghost use Rattle.ac_widen.specs.declared.derivation.Entry.{Entry};
-ghost use Rattle.ac_walk_state.specs.RecurrencePairs.{WideningPointOf, positions};
-ghost use Rattle.ac_walk_state.specs.RecurrencePairInvariant.{HasModuli};
+ghost use Rattle.ac_walk_state.specs.RecurrencePairs.{WideningPointOf};
+ghost use Rattle.ac_walk_state.specs.RecurrencePairInvariant.{HasModuli, IsTooLarge};
 ghost use Rattle.ac_walk_state.specs.PathEnds.{EndsFree, IsEnd, entry_positions};
 ghost use Rattle.ac_walk_state.specs.PathEntries.{GoesOn};
 ghost use Rattle.ac_walk_state.specs.OrderKnowledge.{claims_of, pairs_of};
 ghost use Rattle.ac_walk_state.specs.MemberGrowth.{GrowsAt, HasWidthAt};
 ghost use Rattle.ac_walk_state.specs.Growth.{ArePathsOf, IfKnown, IsGrowthOf};
-ghost use Rattle.ac_walk_state.specs.GrowthStops.{StopsAt, StopsBehind, StopsNext};
+ghost use Rattle.ac_walk_state.specs.GrowthStops.{StopsAt, StopsGrowth, StopsNext};
 ghost use Rattle.ac_walk_state.specs.GrowthStep.{BeginsIf, IsPathFor, Takes, as_grown};
 
 use crate::begins::{Begin, begins_of};
@@ -58,7 +56,7 @@ fn with_member(
     requires moduli { HasModuli template.now }
     requires width { HasWidthAt widening_points.items at point.now }
     ensures grown { IfOk result (λ grown. GrowsAt template.now widening_points.items at point.now place grown.items) }
-    ensures stops { IfErr result (λ stop. (pair : Pair) (widening_point : WideningPointOf) → slice_get widening_points.items at ≡ Some widening_point → PairAt pair (positions widening_point) point.now → StopsAt pair template.now widening_points.items stop) }
+    ensures stops { IfErr result (λ stop. (widening_point : WideningPointOf) → slice_get widening_points.items at ≡ Some widening_point → IsTooLarge widening_point point.now stop) }
 {
     let mut widening_points = widening_points;
     let widening_point = widening_points.remove(at);
@@ -87,7 +85,7 @@ fn take_member(
     requires ends { IsEnd path.now end.now }
     requires widening_point { slice_get (pairs_of known) at ≡ Some (entry_positions end.now) }
     ensures takes { IfOk result (λ growth. (u : Unfolding) (claims : List Claim) → IsPathFor u template.now claims known path.now → Takes u template.now claims known begin.now path.now growth) }
-    ensures stops { IfErr result (λ stop. (u : Unfolding) (claims : List Claim) → IsPathFor u template.now claims known path.now → StopsAt u.pair template.now known.widening_points.items stop) }
+    ensures stops { IfErr result (StopsAt template.now known.widening_points.items path.now) }
 {
     let point = end.point.as_slice();
     let breaks = known.widening_points[at].breaks(alloc, point)?;
@@ -122,7 +120,7 @@ fn take_mismatch(
     requires steps { GoesOn path.now begin.now }
     requires free { EndsFree (pairs_of known) path.now }
     ensures takes { IfOk result (λ growth. (u : Unfolding) (t : Template) (claims : List Claim) → IsPathFor u t claims known path.now → Takes u t claims known begin.now path.now growth) }
-    ensures stops { IfErr result (λ stop. (pair : Pair) (t : Template) (widening_points : List WideningPointOf) → StopsAt pair t widening_points stop) }
+    ensures stops { IfErr result (λ stop. (t : Template) (widening_points : List WideningPointOf) → StopsAt t widening_points path.now stop) }
 {
     match enter(alloc, known.entries, begin, path) {
         Ok(entries) => Ok(Growth::Mismatch(entries)),
@@ -142,7 +140,7 @@ fn take_path(
     requires steps { GoesOn path.now begin.now }
     requires path { (u : Unfolding) × (claims : List Claim) × IsPathFor u template.now claims known path.now }
     ensures takes { IfOk result (λ growth. (u : Unfolding) (claims : List Claim) → IsPathFor u template.now claims known path.now → Takes u template.now claims known begin.now path.now growth) }
-    ensures stops { IfErr result (λ stop. (u : Unfolding) (claims : List Claim) → IsPathFor u template.now claims known path.now → StopsAt u.pair template.now known.widening_points.items stop) }
+    ensures stops { IfErr result (StopsAt template.now known.widening_points.items path.now) }
 {
     let Some(end) = end_of(path) else {
         return take_mismatch(alloc, known, begin, path);
@@ -192,8 +190,8 @@ impl Known {
     /// Takes the broken paths from one start, the claim of the widening point with the number `from`, or that of an output where it is none: each
     /// becomes entries, and its end a further member of the widening point there, up to the first that ends in a mismatch. A path that meets a
     /// claim since one before it was taken is left out; so nothing comes of them only where there are no paths, and where claims
-    /// grew, each further member broke the claim of its widening point as it was then. `Overflow` only with the members of a widening point, as it is
-    /// behind some of the paths, and a point of its pair of positions, where a number leaves `i128` as the point is taken beside them.
+    /// grew, each further member broke the claim of its widening point as it was then. `Overflow` only with obligations at the pair of a widening
+    /// point, where a number leaves `i128` as the last of them is taken beside the others.
     pub fn take(
         self,
         alloc: Global,
@@ -204,7 +202,7 @@ impl Known {
         requires moduli { HasModuli template.now }
         requires paths { (u : Unfolding) × ArePathsOf u template.now self from paths }
         ensures takes { IfOk result (λ growth. (u : Unfolding) → ArePathsOf u template.now self from paths → IsGrowthOf u template.now self paths growth) }
-        ensures stops { IfErr result (StopsBehind template.now self from paths) }
+        ensures stops { IfErr result (StopsGrowth template.now self from paths) }
     {
         let paths = paths.as_slice();
         let begins = begins_of(alloc, &self, from, paths)?;

@@ -1,53 +1,60 @@
 //! Whether plans end at the first of some claims alone.
-ghost use Rattle.std.specs.Prelude.{◌↔◌, IsTrue};
-ghost use Rattle.ac_walk_state.specs.Hits.{AllHitWithin, HitsWithin, TreesHitWithin};
+ghost use Rattle.std.specs.Prelude.{◌↔◌, IfOk, IsTrue};
+ghost use Rattle.ac_walk_state.specs.Hits.{HitsWithin, NodeHitsWithin, NodesHitWithin, TreesHitWithin};
 
+use ac_claims::nodes::nodes;
 use ac_claims::types::{ClaimTree, Plan, PlanNext};
+use std::alloc::{AllocError, Global};
 
-/// Whether each claim at which a plan ends has a number below a limit.
-#[cycle(hitting)]
-fn hits_within(plan: &Plan, limit: usize) -> bool
-    ensures { IsTrue result ↔ HitsWithin limit plan.now.next }
+/// Whether a node of a plan, if it is a hit, hits a claim with a number below a limit.
+fn node_hits_within(node: &Plan, limit: usize) -> bool
+    ensures { IsTrue result ↔ NodeHitsWithin limit node.now.next }
 {
-    next_hits_within(&plan.next, limit)
-}
-
-/// Whether each claim behind the steps of a plan has a number below a limit.
-#[cycle(hitting)]
-fn next_hits_within(next: &PlanNext, limit: usize) -> bool
-    ensures { IsTrue result ↔ HitsWithin limit next.now }
-{
-    match next {
-        PlanNext::Split(_, left, right) => hits_within(left, limit) && hits_within(right, limit),
-        PlanNext::Residue(_, _, children) => all_hit_within(children, limit),
-        PlanNext::Go { cases, .. } => all_hit_within(cases, limit),
+    match &node.next {
         PlanNext::Hit(claim) => *claim < limit,
-        PlanNext::Absurd(_) | PlanNext::Killed(_) | PlanNext::SameNumber | PlanNext::SameInitial =>
-            true,
+        PlanNext::Split(..)
+        | PlanNext::Residue(..)
+        | PlanNext::Go { .. }
+        | PlanNext::Absurd(_)
+        | PlanNext::Killed(_)
+        | PlanNext::SameNumber
+        | PlanNext::SameInitial => true,
     }
 }
 
-/// Whether each claim at which plans end has a number below a limit.
-#[cycle(hitting)]
-fn all_hit_within(plans: &[Plan], limit: usize) -> bool
-    ensures { IsTrue result ↔ AllHitWithin limit plans.now }
+/// The same for each of some nodes.
+fn nodes_hit_within(nodes: &[&Plan], limit: usize) -> bool
+    ensures { IsTrue result ↔ NodesHitWithin limit nodes.now }
 {
-    for plan in plans {
-        if !hits_within(plan, limit) {
+    for node in nodes {
+        if !node_hits_within(*node, limit) {
             return false;
         }
     }
     true
+}
+
+/// Whether each claim at which a plan ends has a number below a limit.
+fn hits_within(alloc: Global, plan: &Plan, limit: usize) -> Result<bool, AllocError>
+    ensures { IfOk result (λ within. IsTrue within ↔ HitsWithin limit plan.now.next) }
+{
+    let all = nodes(alloc, plan)?;
+    let within = nodes_hit_within(all.as_slice(), limit);
+    Ok(within)
 }
 
 /// Whether each claim at which the plans of claims end has a number below a limit.
-pub fn trees_hit_within(trees: &[ClaimTree], limit: usize) -> bool
-    ensures { IsTrue result ↔ TreesHitWithin limit trees.now }
+pub fn trees_hit_within(
+    alloc: Global,
+    trees: &[ClaimTree],
+    limit: usize,
+) -> Result<bool, AllocError>
+    ensures { IfOk result (λ within. IsTrue within ↔ TreesHitWithin limit trees.now) }
 {
     for tree in trees {
-        if !hits_within(&tree.tree, limit) {
-            return false;
+        if !hits_within(alloc, &tree.tree, limit)? {
+            return Ok(false);
         }
     }
-    true
+    Ok(true)
 }

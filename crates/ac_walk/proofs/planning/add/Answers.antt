@@ -2,6 +2,7 @@ use Rattle.std.proofs.Common.{◌≡◌, ◌+◌, length, subst, sym, arith}
 use Rattle.ac_walk.specs.SearchStops.{EndsEarlyBy}
 use Rattle.ac_walk.proofs.Added.{adds, made_of, plans_for}
 use Rattle.ac_walk.proofs.Stopped.{start_ends}
+use Rattle.ac_walk.proofs.SameClaims.{path_found}
 use Rattle.ac_walk.proofs.planning.add.Goals as goal
 
 pub returns-in_ok-with_claim-in-Ok-Plans-clause-added : goal.returns-in_ok-with_claim-in-Ok-Plans-clause-added
@@ -18,3 +19,7 @@ pub returns-in-Err-clause-causes : goal.returns-in-Err-clause-causes
 returns-in-Err-clause-causes c =
     subst (EndsEarlyBy c.args.search.now c.args.order.now c.args.claims.now c.args.start) (sym c.of_unfolding.ensures)
     (start_ends c.args.search.now c.args.order.now c.args.claims.now c.args.start c.in-Err.stop c.in-Err.ensures.causes)
+
+pub returns-in-Ok-Broken-clause-added : goal.returns-in-Ok-Broken-clause-added
+returns-in-Ok-Broken-clause-added c =
+    path_found c.args.search.now.program_flows.now c.args.start c.args.order.now c.args.claims.now c.in-Ok-Broken.field-0 c.in-Ok-Broken.path c.in-Ok-Broken.field-0-is c.in-Ok-Broken.ensures.broken c.in-Ok-Broken.ensures.found

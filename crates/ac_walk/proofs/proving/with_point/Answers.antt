@@ -35,3 +35,21 @@ returns-clause-causes c =
     (λ proved h. searched c.requires.valuation (has_flow c.args.left.now (left_model pair) c.in-Ok.found c.requires.left c.in-Ok.ensures.cases c.in-Ok.ensures.sources)
     (has_flow c.args.right.now (right_model pair) c.in-Ok-flow.found c.requires.right c.in-Ok-flow.ensures.cases c.in-Ok-flow.ensures.sources) h.searched)
     c.with_flows.ensures
+
+pub returns-in-Err-clause-accepted : goal.returns-in-Err-clause-accepted
+returns-in-Err-clause-accepted c = c.unknown_all.ensures.accepted c.requires.point
+
+pub returns-in-Err-flow-clause-accepted : goal.returns-in-Err-flow-clause-accepted
+returns-in-Err-flow-clause-accepted c = c.unknown_all-in-Err-flow.ensures.accepted c.requires.point
+
+pub returns-clause-accepted : goal.returns-clause-accepted
+returns-clause-accepted c = IfOk-weaker c.with_flows.result _ _ (λ proved h. h.valid.valid) c.with_flows.ensures
+
+pub returns-clause-tried : goal.returns-clause-tried
+returns-clause-tried c = IfOk-weaker c.with_flows.result _ _ (λ proved h. h.tried) c.with_flows.ensures
+
+pub returns-in-Err-clause-tried : goal.returns-in-Err-clause-tried
+returns-in-Err-clause-tried c = IfOk-weaker c.unknown_all.result _ _ (λ proved h. h c.args.limits.now.budget c.requires.samples) c.unknown_all.ensures.tried
+
+pub returns-in-Err-flow-clause-tried : goal.returns-in-Err-flow-clause-tried
+returns-in-Err-flow-clause-tried c = IfOk-weaker c.unknown_all-in-Err-flow.result _ _ (λ proved h. h c.args.limits.now.budget c.requires.samples) c.unknown_all-in-Err-flow.ensures.tried

@@ -5,7 +5,7 @@ use Rattle.ac_walk.proofs.taking.tabled_path.Goals as goal
 
 pub returns-clause-broken : goal.returns-clause-broken
 returns-clause-broken c =
-    broken_alone c.args.search.now.program_flows.now c.args.start.now 1 c.args.claims.items c.args.order.now c.in_ok-table.table c.unfold.new.table c.in_ok-unfold.field-0 c.in-Broken.path c.in_ok-alone-in-Broken.field-0 c.in_ok-table.ensures c.unfold.ensures.kept c.in-Broken.is c.in_ok-alone-in-Broken.ensures c.in_ok-unfold.ensures.broken
+    broken_alone c.args.search.now.program_flows.now c.args.start.now 1 c.args.claims.items c.args.order.now c.in_ok-table.table c.unfold.new.table c.in_ok-unfold.field-0 c.in-Broken.path c.in_ok-alone-in-Broken.field-0 c.in_ok-table.ensures c.unfold.ensures.kept c.in-Broken.is c.in_ok-alone-in-Broken.ensures c.in_ok-unfold.ensures.broken c.in_ok-unfold.ensures.found
 
 pub returns-in_err-unfold-clause-causes : goal.returns-in_err-unfold-clause-causes
 returns-in_err-unfold-clause-causes c =

@@ -4,8 +4,6 @@ use Rattle.ac_widen.specs.Combinations.{InHull}
 use Rattle.ac_widen.specs.declared.derivation.Entry.{Entry}
 use Rattle.ac_walk_state.specs.RecurrencePairInvariant.{IsReasonAt}
 use Rattle.ac_walk_state.proofs.Standing.{claim_in_hull}
-use Rattle.ac_widen_programs.specs.PairSetting.{PairAt}
-use Rattle.ac_walk_state.specs.RecurrencePairs.{positions}
 use Rattle.ac_walk_state.proofs.Stopping.{stops_combining}
 use Rattle.ac_walk_state.proofs.begins.begin_at.Goals as goal
 
@@ -21,6 +19,7 @@ unreachable-requires c =
 
 pub returns-in-Err-clause-stops : goal.returns-in-Err-clause-stops
 returns-in-Err-clause-stops c =
-    λ pair t e rest path there.
-    let point : c.as_slice-point.result.now ≡ e.point = c.as_slice-point.ensures ∙ ap (λ (xs : List Entry). (get_or xs 0 c.index-path-0.result).point) path in
-    stops_combining pair t c.args.widening_point.now c.as_slice-point.result.now c.in-Err.stop (subst (PairAt pair (positions c.args.widening_point.now)) (sym point) there) c.in-Err.ensures
+    λ t.
+    let h = c.requires.inside in
+    let point : c.as_slice-point.result.now ≡ h.first.point = c.as_slice-point.ensures ∙ ap (λ (xs : List Entry). (get_or xs 0 c.index-path-0.result).point) h.path_is in
+    stops_combining t c.args.widening_point.now c.args.path.now h c.as_slice-point.result.now c.in-Err.stop point c.in-Err.ensures

@@ -6,7 +6,7 @@ use Rattle.ac_walk_state.specs.BrokenPathStarts.{BeginsInside, BeginsOf}
 use Rattle.ac_walk_state.specs.PathEntries.{GoesOn}
 use Rattle.ac_walk_state.proofs.Beginning.{begins_by_key, begins_by_output, from_within, inside_from, right_at}
 use Rattle.ac_walk_state.proofs.LastItems.{both_ok, get_is}
-use Rattle.ac_walk_state.proofs.Stopping.{stops_beginning}
+use Rattle.ac_walk_state.proofs.Stopping.{stops_among}
 use Rattle.ac_walk_state.proofs.begins.begin_of.Goals as goal
 
 pub begin_at-requires-clause-inside : goal.begin_at-requires-clause-inside
@@ -44,10 +44,9 @@ returns-in-None-clause-begins c = begins_by_output c.args.known.now c.args.from 
 pub returns-in-Some-clause-stops : goal.returns-in-Some-clause-stops
 returns-in-Some-clause-stops c =
     let known = c.args.known.now in
-    let from = c.args.from in
     let path = c.args.path.now in
     let r = c.requires in
     let at = c.in-Some.at in
     let x = c.index.result.now in
-    let is : slice_get known.widening_points.items at ≡ Some x = get_is known.widening_points.items at x (from_within r.0 r.1 known from at c.in-Some.is r.2) c.index.ensures in
-    IfErr-weaker c.begin_at.result _ _ (λ stop f. stops_beginning known from at x path stop c.in-Some.is is f) c.begin_at.ensures.stops
+    let is : slice_get known.widening_points.items at ≡ Some x = get_is known.widening_points.items at x (from_within r.0 r.1 known c.args.from at c.in-Some.is r.2) c.index.ensures in
+    IfErr-weaker c.begin_at.result _ _ (λ stop f t. stops_among t known.widening_points.items at x path stop is (f t)) c.begin_at.ensures.stops

@@ -1,12 +1,11 @@
 use Rattle.std.proofs.Common.{◌≡◌, ◌∙◌, ◌+◌, List, [], ◌∷◌, ap, arith, subst, sym, length, length-append}
 use Rattle.std.proofs.lemmas.List.{take_all}
+use Rattle.ac_forms.specs.ListMembers.{IsAmong}
 use Rattle.ac_widen.specs.declared.derivation.Entry.{Entry}
 use Rattle.ac_widen_programs.specs.BrokenPaths.{IsBroken}
-use Rattle.ac_widen_programs.specs.PairPaths.{Unfolding}
 use Rattle.ac_walk_state.specs.declared.template.Template.{Template}
 use Rattle.ac_walk_state.specs.BrokenPathStarts.{AtEach, BeginsOf}
 use Rattle.ac_walk_state.specs.OrderKnowledge.{claims_of}
-use Rattle.ac_walk_state.specs.Growth.{ArePathsOf}
 use Rattle.ac_walk_state.specs.GrowthStops.{StopsAt}
 use Rattle.ac_walk_state.proofs.LastItems.{all_in, if_err, in_read}
 use Rattle.ac_walk_state.proofs.Making.{each_more}
@@ -44,9 +43,9 @@ returns-clause-each c =
 pub returns-in_err-push_begin-clause-stops : goal.returns-in_err-push_begin-clause-stops
 returns-in_err-push_begin-clause-stops c =
     let known = c.args.known.now in
-    let from = c.args.from in
+    let paths = c.args.paths.now in
     let path = c.path-item.result in
     let stop = c.in_err-push_begin.field-0.0 in
-    let among = in_read c.args.paths.now c.loop-path.path-index path c.loop-path-test.true c.path-item.is in
-    if_err (λ s. (u : Unfolding) (t : Template) → ArePathsOf u t known from c.args.paths.now → StopsAt u.pair t known.widening_points.items s) c.from_residual.result stop c.from_residual.ensures.1
-    (λ u t h. c.in_err-push_begin.ensures.stops u t h.0 (subst (IsBroken u (claims_of known)) (sym c.as_slice.ensures) (all_in (IsBroken u (claims_of known)) c.args.paths.now path h.1 among)))
+    let among = in_read paths c.loop-path.path-index path c.loop-path-test.true c.path-item.is in
+    if_err (λ s. (p : List Entry) × IsAmong p paths × ((t : Template) → StopsAt t known.widening_points.items p s)) c.from_residual.result stop c.from_residual.ensures.1
+    (path, among, λ t. subst (λ (p : List Entry). StopsAt t known.widening_points.items p stop) c.as_slice.ensures (c.in_err-push_begin.ensures.stops t))

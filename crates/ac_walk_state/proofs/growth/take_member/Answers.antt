@@ -1,12 +1,12 @@
 use Rattle.std.proofs.Common.{◌≡◌, ◌∙◌, ◌-◌, ap, length, subst, suc, sym, true, arith, List, ℤ}
 use Rattle.ac_forms.specs.Rows.{Meets}
-use Rattle.ac_widen_programs.specs.PairSetting.{PairAt}
-use Rattle.ac_walk_state.specs.RecurrencePairs.{claim_of, positions}
+use Rattle.ac_walk_state.specs.GrowthStops.{StopsAt}
+use Rattle.ac_walk_state.specs.RecurrencePairs.{claim_of}
 use Rattle.ac_widen_programs.specs.DerivationEntries.{entries_of}
 use Rattle.ac_walk_state.specs.MemberGrowth.{GrowsAt}
 use Rattle.ac_walk_state.proofs.Beginning.{right_at}
 use Rattle.ac_walk_state.proofs.LastItems.{if_err, in_get}
-use Rattle.ac_walk_state.proofs.Stopping.{end_at_key, stops_meeting}
+use Rattle.ac_walk_state.proofs.Stopping.{stops_growing, stops_meeting}
 use Rattle.ac_walk_state.proofs.Taking.{end_wide, widening_point_at, some_entries, taken_grown, taken_nothing}
 use Rattle.ac_walk_state.proofs.growth.take_member.Goals as goal
 
@@ -65,19 +65,22 @@ pub returns-in_err-breaks-clause-stops : goal.returns-in_err-breaks-clause-stops
 returns-in_err-breaks-clause-stops c =
     let t = c.args.template.now in
     let known = c.args.known in
+    let end = c.args.end.now in
     let x = c.index.result.now in
-    let k = widening_point_at known c.args.at c.args.end.now x c.requires.widening_point c.index.ensures in
+    let r = c.requires.path in
+    let k = widening_point_at known c.args.at end x c.requires.widening_point c.index.ensures in
     let stop = c.in_err-breaks.field-0.0 in
-    if_err _ c.from_residual.result stop c.from_residual.ensures.1
-    (λ u claims h.
-    stops_meeting u.pair t (entries_of known.entries) known.widening_points.items x c.as_slice-point.result.now stop (in_get known.widening_points.items c.args.at x k.0) (right_at u t known c.args.at x h.is_known k.0)
-    (ap length c.as_slice-point.ensures ∙ end_wide u t claims known c.args.path.now h c.args.end.now c.requires.ends c.args.at x k.0 k.1)
-    (subst (PairAt u.pair (positions x)) (sym c.as_slice-point.ensures) (end_at_key u claims c.args.path.now h.broken c.args.end.now c.requires.ends x k.1)) c.in_err-breaks.ensures)
+    if_err (StopsAt t known.widening_points.items c.args.path.now) c.from_residual.result stop c.from_residual.ensures.1
+    (stops_meeting t (entries_of known.entries) known.widening_points.items x c.args.path.now end c.as_slice-point.result.now stop (in_get known.widening_points.items c.args.at x k.0) (right_at r.0 t known c.args.at x r.2.is_known k.0)
+    (end_wide r.0 t r.1 known c.args.path.now r.2 end c.requires.ends c.args.at x k.0 k.1) c.requires.ends k.1 c.as_slice-point.ensures c.in_err-breaks.ensures)
 
 pub returns-in-Err-with_member-clause-stops : goal.returns-in-Err-with_member-clause-stops
 returns-in-Err-with_member-clause-stops c =
-    λ u claims h.
+    let t = c.args.template.now in
     let known = c.args.known in
+    let end = c.args.end.now in
     let x = c.index.result.now in
-    let k = widening_point_at known c.args.at c.args.end.now x c.requires.widening_point c.index.ensures in
-    c.in-Err-with_member.ensures.stops u.pair x k.0 (subst (PairAt u.pair (positions x)) (sym c.as_slice-point.ensures) (end_at_key u claims c.args.path.now h.broken c.args.end.now c.requires.ends x k.1))
+    let r = c.requires.path in
+    let k = widening_point_at known c.args.at end x c.requires.widening_point c.index.ensures in
+    stops_growing t known.widening_points.items x c.args.path.now end c.as_slice-point.result.now c.in-Err-with_member.stop (in_get known.widening_points.items c.args.at x k.0)
+    (end_wide r.0 t r.1 known c.args.path.now r.2 end c.requires.ends c.args.at x k.0 k.1) c.requires.ends k.1 c.as_slice-point.ensures (c.in-Err-with_member.ensures.stops x k.0)

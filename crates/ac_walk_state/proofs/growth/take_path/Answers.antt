@@ -26,7 +26,7 @@ returns-in-None-clause-takes c =
     c.take_mismatch-in-None.result (λ growth f u claims h. f u c.args.template.now claims h) c.take_mismatch-in-None.ensures.takes
 
 pub returns-in_default-clause-stops : goal.returns-in_default-clause-stops
-returns-in_default-clause-stops c = IfErr-weaker c.take_mismatch.result _ _ (λ stop f u claims h. f u.pair c.args.template.now c.args.known.widening_points.items) c.take_mismatch.ensures.stops
+returns-in_default-clause-stops c = IfErr-weaker c.take_mismatch.result _ _ (λ stop f. f c.args.template.now c.args.known.widening_points.items) c.take_mismatch.ensures.stops
 
 pub returns-in-None-clause-stops : goal.returns-in-None-clause-stops
-returns-in-None-clause-stops c = IfErr-weaker c.take_mismatch-in-None.result _ _ (λ stop f u claims h. f u.pair c.args.template.now c.args.known.widening_points.items) c.take_mismatch-in-None.ensures.stops
+returns-in-None-clause-stops c = IfErr-weaker c.take_mismatch-in-None.result _ _ (λ stop f. f c.args.template.now c.args.known.widening_points.items) c.take_mismatch-in-None.ensures.stops

@@ -1,10 +1,7 @@
-use Rattle.std.proofs.Common.{◌≡◌, Some, subst, sym}
-use Rattle.std.specs.Prelude.{slice_get}
-use Rattle.ac_widen_programs.specs.PairSetting.{PairAt}
-use Rattle.ac_walk_state.specs.RecurrencePairs.{WideningPointOf, positions}
-use Rattle.ac_walk_state.proofs.LastItems.{in_get}
-use Rattle.ac_walk_state.proofs.MemberGrowth.{grows_at, read_is, width_read, width_within}
-use Rattle.ac_walk_state.proofs.Stopping.{stops_growing}
+use Rattle.std.proofs.Common.{subst}
+use Rattle.ac_walk_state.specs.RecurrencePairInvariant.{IsTooLarge}
+use Rattle.ac_walk_state.specs.RecurrencePairs.{WideningPointOf}
+use Rattle.ac_walk_state.proofs.MemberGrowth.{grows_at, read_is, width_within}
 use Rattle.ac_walk_state.proofs.growth.with_member.Goals as goal
 
 pub returns-in-Ok-insert-clause-grown : goal.returns-in-Ok-insert-clause-grown
@@ -14,10 +11,5 @@ returns-in-Ok-insert-clause-grown c =
 
 pub returns-in-Err-clause-stops : goal.returns-in-Err-clause-stops
 returns-in-Err-clause-stops c =
-    λ pair widening_point is there.
-    let widening_points = c.args.widening_points.items in
-    let at = c.args.at in
-    let x = c.remove-widening_point.result in
-    let same : x ≡ widening_point = read_is widening_points at x widening_point is c.remove-widening_point.ensures.value in
-    stops_growing pair c.args.template.now widening_points x c.args.point.now c.in-Err.stop (in_get widening_points at x (subst (λ (k : WideningPointOf). slice_get widening_points at ≡ Some k) (sym same) is)) (width_read widening_points at c.args.point.now x c.requires.width c.remove-widening_point.ensures.value)
-    (subst (λ (k : WideningPointOf). PairAt pair (positions k) c.args.point.now) (sym same) there) c.in-Err.ensures.made
+    λ widening_point is.
+    subst (λ (k : WideningPointOf). IsTooLarge k c.args.point.now c.in-Err.stop) (read_is c.args.widening_points.items c.args.at c.remove-widening_point.result widening_point is c.remove-widening_point.ensures.value) c.in-Err.ensures.made

@@ -1,13 +1,14 @@
 use Rattle.std.proofs.Common.{◌≡◌, ◌∙◌, ◌<◌, ◌≤◌, List, ap, arith, get_or, length, subst, sym, take}
 use Rattle.std.proofs.lemmas.List.{take_all}
+use Rattle.ac_forms.specs.ListMembers.{IsAmong}
 use Rattle.ac_widen.specs.declared.derivation.Entry.{Entry}
 use Rattle.ac_walk_state.specs.BrokenPathStarts.{AtEach, BeginsOf}
-use Rattle.ac_walk_state.specs.Growth.{ArePathsOf, IsGrowthOf}
-use Rattle.ac_walk_state.specs.GrowthStops.{StopsBehind}
+use Rattle.ac_walk_state.specs.Growth.{IsGrowthOf}
+use Rattle.ac_walk_state.specs.GrowthStops.{StopsGrowth}
 use Rattle.ac_walk_state.specs.declared.begins.Begin.{Begin}
-use Rattle.ac_walk_state.proofs.LastItems.{get_is, if_err}
+use Rattle.ac_walk_state.proofs.LastItems.{among_taken, get_is, if_err}
 use Rattle.ac_walk_state.proofs.Onward.{may_take, start_path, take_one}
-use Rattle.ac_walk_state.proofs.Stopping.{begin_behind, next_behind}
+use Rattle.ac_walk_state.proofs.Stopping.{begin_stops, next_stops}
 use Rattle.ac_walk_state.proofs.known.Known.take.Goals as goal
 
 pub take_next-requires-clause-path : goal.take_next-requires-clause-path
@@ -82,9 +83,10 @@ returns-in_err-begins-clause-stops c =
     let t = c.args.template.now in
     let start = c.args.self in
     let from = c.args.from in
+    let paths = c.args.paths in
     let stop = c.in_err-begins.field-0.0 in
-    if_err (StopsBehind t start from c.args.paths) c.from_residual.result stop c.from_residual.ensures.1
-    (begin_behind t start from c.args.paths stop (λ u s h. c.in_err-begins.ensures.stops u s (subst (ArePathsOf u s start from) (sym c.as_slice-paths.ensures) h)))
+    let h = c.in_err-begins.ensures.stops in
+    if_err (StopsGrowth t start from paths) c.from_residual.result stop c.from_residual.ensures.1 (begin_stops t start from paths h.0 stop (subst (IsAmong h.0) c.as_slice-paths.ensures h.1) (h.2 t))
 
 pub returns-in_err-growth-clause-stops : goal.returns-in_err-growth-clause-stops
 returns-in_err-growth-clause-stops c =
@@ -101,5 +103,5 @@ returns-in_err-growth-clause-stops c =
     let l : at < length paths = omega (arith, many, test) in
     let is_read : read ≡ get_or paths at read = c.index-paths-at.is ∙ ap (λ (ps : List (List Entry)). get_or ps at read) c.as_slice-paths.ensures in
     let is : path ≡ get_or paths at path = subst (λ (p : List Entry). p ≡ get_or paths at p) (sym c.as_slice.ensures) is_read in
-    if_err (StopsBehind t start from paths) c.from_residual-in_err-growth.result stop c.from_residual-in_err-growth.ensures.1
-    (next_behind t start from paths (take at paths) at path c.loop-at.growth stop c.loop-at.invariant (get_is paths at path l is) c.in_err-growth.ensures.stops)
+    if_err (StopsGrowth t start from paths) c.from_residual-in_err-growth.result stop c.from_residual-in_err-growth.ensures.1
+    (next_stops t start from paths (take at paths) at path c.loop-at.growth stop (among_taken paths at) c.loop-at.invariant (get_is paths at path l is) c.in_err-growth.ensures.stops)
