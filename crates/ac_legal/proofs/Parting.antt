@@ -215,7 +215,7 @@ if_none (Some x) P Q f h = tt
 
 -- ---- what a search tells
 
-in_choice : (c : List (List Row)) (q : List Row) (p : List ℤ) → IsAmong q c → Meets q p → IsInSome Meets c p
+pub in_choice : (c : List (List Row)) (q : List Row) (p : List ℤ) → IsAmong q c → Meets q p → IsInSome Meets c p
 in_choice [] q p a m = absurd a
 in_choice (x ∷ c) q p a m = elim a [ inl e ↦ inl (subst (λ (r : List Row). Meets r p) e m) | inr b ↦ inr (in_choice c q p b m) ]
 
@@ -271,7 +271,7 @@ questions_are m times i j s u p =
           a1.1 (inl h.0, a2.1 (x2.0, a3.1 (x3.0, a4.1 (x4.0, a5.1 (x5.0, x6.0)))))),
     )
 
-same_model : (m : Model) (k : ℕ) (s t : StmtModel) → slice_get m.stmts k ≡ Some s → slice_get m.stmts k ≡ Some t → s ≡ t
+pub same_model : (m : Model) (k : ℕ) (s t : StmtModel) → slice_get m.stmts k ≡ Some s → slice_get m.stmts k ≡ Some t → s ≡ t
 same_model m k s t a b = let e : Some s ≡ Some t = sym a ∙ b in cc
 
 pub none_between : (m : Model) (times : List (List Affine)) (i j : ℕ) (s u : StmtModel) (parts : List Part) (n : ℕ) → AreOf m i s j u → n ≡ m.params + (width s + width u) → AreMade parts (order_choices m times i s j u)

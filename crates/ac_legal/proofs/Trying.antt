@@ -3,13 +3,13 @@ use Rattle.std.proofs.Common.{Bool, true, false, refl, ◌≤◌, MatchOption, �
 use Rattle.std.specs.List.{AllByRecursion}
 use Rattle.std.specs.Prelude.{nat_lt}
 use Rattle.std.proofs.lemmas.Bool.Decides.{nat_tests}
-use Rattle.std.proofs.lemmas.List.{drop_more, take_all}
+use Rattle.std.proofs.lemmas.List.{drop_more, drop_all, take_all}
 use Rattle.ac_forms.specs.ListMembers.{IsAmong}
 use Rattle.ac_forms.specs.Rows.{AreRowsOver}
 use Rattle.ac_forms.specs.declared.row.Row.{Row}
 use Rattle.ac_legal.specs.declared.types.LegalStop.{LegalStop}
 use Rattle.ac_legal.specs.declared.types.LegalStop.TheVariants.{Overflow, Spent, Memory}
-use Rattle.ac_legal.specs.QuestionChoices.{Part, IsPartOver, ArePartsOver, HasNoPointFrom, IsPointFrom, StopsFrom, UnlessMemory, first_stop}
+use Rattle.ac_legal.specs.QuestionChoices.{Part, IsPartOver, ArePartsOver, HasNoPointFrom, HasNoPointIfDecided, HaveNoPointsIfDecided, IsPointFrom, StopsOn, StopsFrom, UnlessMemory, want_of, first_stop}
 
 pub at_depth : (parts : List Part) (depth : ℕ) (o p : Part) → depth < length parts → o ≡ get_or parts depth o → o ≡ p → drop depth parts ≡ p ∷ drop (depth + 1) parts
 at_depth parts depth o p l a b = drop_more parts depth o l ∙ ap (λ (x : Part). x ∷ drop (depth + 1) parts) (sym a ∙ b)
@@ -42,7 +42,7 @@ point_step n depth index front rows item parts o choices p l a b k e r h =
     subst (λ (ps : List Part). IsPointFrom n front ps p) (sym (at_depth parts depth o (Some choices) l a b))
     (item, among_at choices index item k e, subst (λ (q : List Row). IsPointFrom n q (drop (depth + 1) parts) p) r h)
 
-stop_of : (e : LegalStop) (P : Type 0) → P → UnlessMemory e P
+pub stop_of : (e : LegalStop) (P : Type 0) → P → UnlessMemory e P
 stop_of (Overflow q) P h = h
 stop_of (Spent q k) P h = h
 stop_of (Memory w) P h = tt
@@ -60,7 +60,7 @@ stop_step budget n depth index front rows item parts o choices e l a b k i r h =
     (stop_of e ((choice : List Row) × IsAmong choice choices × StopsFrom budget n (front ++ choice) (drop (depth + 1) parts) e)
     (item, among_at choices index item k i, subst (λ (q : List Row). StopsFrom budget n q (drop (depth + 1) parts) e) r h))
 
--- one more choice without a point
+-- one more choice of which a fact is known
 taken : {A : Type 0} (P : A → Type 0) (xs : List A) (i : ℕ) (x : A) → i < length xs → x ≡ get_or xs i x → ((y : A) → IsAmong y (take i xs) → P y) → P x → (y : A) → IsAmong y (take (suc i) xs) → P y
 taken P [] i x l e h k y m = absurd (omega arith)
 taken {A} P (z ∷ xs) zero x l e h k y m = elim m [ inl q ↦ subst P (e ∙ sym q) k | inr q ↦ absurd q ]
@@ -72,14 +72,14 @@ some_of o x P e h = subst (λ q. IfSome q P) e h
 pub none_of : {A : Type 0} (o : Option A) (P : Type 0) → o ≡ None → IfNone o P → P
 none_of o P e h = subst (λ q. IfNone q P) e h
 
-pub none_step : (n index : ℕ) (front rows item : List Row) (rest : List Part) (choices : List (List Row))
+pub choice_step : (P : List Row → Type 0) (index : ℕ) (front rows item : List Row) (choices : List (List Row))
     → index < length choices → item ≡ get_or choices index item → rows ≡ front ++ item
-    → ((choice : List Row) → IsAmong choice (take index choices) → HasNoPointFrom n (front ++ choice) rest) → HasNoPointFrom n rows rest
-    → (choice : List Row) → IsAmong choice (take (index + 1) choices) → HasNoPointFrom n (front ++ choice) rest
-none_step n index front rows item rest choices l e r h k =
+    → ((choice : List Row) → IsAmong choice (take index choices) → P (front ++ choice)) → P rows
+    → (choice : List Row) → IsAmong choice (take (index + 1) choices) → P (front ++ choice)
+choice_step P index front rows item choices l e r h k =
     let next : suc index ≡ index + 1 = omega arith in
-    subst (λ (j : ℕ). (choice : List Row) → IsAmong choice (take j choices) → HasNoPointFrom n (front ++ choice) rest) next
-    (taken (λ (choice : List Row). HasNoPointFrom n (front ++ choice) rest) choices index item l e h (subst (λ (q : List Row). HasNoPointFrom n q rest) r k))
+    subst (λ (j : ℕ). (choice : List Row) → IsAmong choice (take j choices) → P (front ++ choice)) next
+    (taken (λ (choice : List Row). P (front ++ choice)) choices index item l e h (subst P r k))
 
 -- ---- the stop that is held
 
@@ -118,6 +118,41 @@ pub none_end : (n depth index : ℕ) (front : List Row) (parts : List Part) (o :
 none_end n depth index front parts o choices l a b k h =
     subst (HasNoPointFrom n front) (sym (at_depth parts depth o (Some choices) l a b))
     (λ choice m. h choice (subst (λ (xs : List (List Row)). IsAmong choice xs) (sym (take_all index choices k)) m))
+
+-- ---- what is decided beside a stop
+
+-- a stop that is not want of memory
+pub not_memory : (e : LegalStop) (P : Type 0) → want_of e ≡ None → UnlessMemory e P → P
+not_memory (Overflow q) P is h = h
+not_memory (Spent q k) P is h = h
+not_memory (Memory w) P is h = absurd cc
+
+-- the question at which a search stops is left undecided
+pub undecided : (budget n : ℕ) (rows : List Row) (e : LegalStop) → StopsOn budget n rows e → UnlessMemory e (HasNoPointIfDecided budget n rows)
+undecided budget n rows (Overflow q) h = inr (h.1, inl h.2)
+undecided budget n rows (Spent q k) h = inr (h.1, inr (h.2.0, h.2.1))
+undecided budget n rows (Memory w) h = tt
+
+pub decided_last : (budget n depth : ℕ) (front : List Row) (parts : List Part) (e : LegalStop) → depth ≡ length parts → StopsOn budget n front e → UnlessMemory e (HaveNoPointsIfDecided budget n front (drop depth parts))
+decided_last budget n depth front parts e is h =
+    let none : drop depth parts ≡ [] = drop_all depth parts (omega (arith, is)) in
+    subst (λ (ps : List Part). UnlessMemory e (HaveNoPointsIfDecided budget n front ps)) (sym none) (undecided budget n front e h)
+
+pub decided_if_none : (budget n : ℕ) (front : List Row) (parts : List Part) → HasNoPointFrom n front parts → HaveNoPointsIfDecided budget n front parts
+decided_if_none budget n front [] h = inl h
+decided_if_none budget n front (None ∷ parts) h = tt
+decided_if_none budget n front (Some choices ∷ parts) h = λ choice m. decided_if_none budget n (front ++ choice) parts (h choice m)
+
+pub decided_unformed : (budget n depth : ℕ) (front : List Row) (parts : List Part) (o : Part) → depth < length parts → o ≡ get_or parts depth o → o ≡ None → HaveNoPointsIfDecided budget n front (drop depth parts)
+decided_unformed budget n depth front parts o l a b = subst (HaveNoPointsIfDecided budget n front) (sym (at_depth parts depth o None l a b)) tt
+
+pub decided_end : (budget n depth index : ℕ) (front : List Row) (parts : List Part) (o : Part) (choices : List (List Row)) (e : LegalStop)
+    → depth < length parts → o ≡ get_or parts depth o → o ≡ Some choices → length choices ≤ index
+    → ((choice : List Row) → IsAmong choice (take index choices) → HaveNoPointsIfDecided budget n (front ++ choice) (drop (depth + 1) parts)) → UnlessMemory e (HaveNoPointsIfDecided budget n front (drop depth parts))
+decided_end budget n depth index front parts o choices e l a b k h =
+    stop_of e (HaveNoPointsIfDecided budget n front (drop depth parts))
+    (subst (HaveNoPointsIfDecided budget n front) (sym (at_depth parts depth o (Some choices) l a b))
+    (λ choice m. h choice (subst (λ (xs : List (List Row)). IsAmong choice xs) (sym (take_all index choices k)) m)))
 
 -- ---- one more assignment
 

@@ -13,7 +13,7 @@ use Rattle.ac_legal_law.specs.OrderQuestions.{order_questions}
 use Rattle.ac_legal_law.proofs.Kept.{questions_are_broken_orders, kept_where_no_question_has_a_point}
 use Rattle.ac_legal.specs.declared.types.Legal.{Legal}
 use Rattle.ac_legal.specs.declared.types.Legal.TheVariants.{Kept, Broken}
-use Rattle.ac_legal.specs.ScheduleAnswers.{AreOf, NoneBetween, IsPointBetween, IsPointOfTwo, IfKept, IfBroken, IsCutOf, KeepsForAll, BreaksForAll}
+use Rattle.ac_legal.specs.ScheduleAnswers.{AreOf, NoneBetween, NoDecidedPointBetween, NoDecidedQuestionHasAPoint, IsPointBetween, IsPointOfTwo, IfKept, IfBroken, IsCutOf, KeepsForAll, BreaksForAll}
 
 below : (m : Model) (k : ℕ) (stmts : List StmtModel) (s : StmtModel) → slice_get stmts k ≡ Some s → k < length stmts
 below m k [] s h = absurd cc
@@ -25,6 +25,9 @@ kept_of m times h p context ready fit is =
     (kept_where_no_question_has_a_point p context times ready fit).0
     (subst (λ (k : Model). NoQuestionHasAPoint k times) is
     (λ i j s u q a b l. h i j (below m i m.stmts s a) (below m j m.stmts u b) s u (record { first = a; second = b }) q l))
+
+pub decided_of : (budget : ℕ) (m : Model) (times : List (List Affine)) → ((i j : ℕ) → i < length m.stmts → j < length m.stmts → NoDecidedPointBetween budget m times i j) → NoDecidedQuestionHasAPoint budget m times
+decided_of budget m times h i j s u are = h i j (below m i m.stmts s are.first) (below m j m.stmts u are.second) s u are
 
 pub broken_of : (m : Model) (times : List (List Affine)) (at : List ℤ) (i : ℕ) (xs : List ℤ) (j : ℕ) (ys : List ℤ) → IsPointOfTwo m times at i xs j ys → BreaksForAll m times at i xs j ys
 broken_of m times at i xs j ys h p context ready fit is =

@@ -1,5 +1,6 @@
--- Questions that are made of one choice for each of several parts: their points, and when one of them stops a search.
-use Rattle.std.specs.Prelude.{ℕ, ◌≡◌, List, [], ◌∷◌, ◌++◌, length, ℤ, Option, Some, None}
+-- Questions that are made of one choice for each of several parts: their points, when one of them stops a search, and what is known
+-- of the others then.
+use Rattle.std.specs.Prelude.{ℕ, ◌≡◌, ◌⊎◌, List, [], ◌∷◌, ◌++◌, length, ℤ, Option, Some, None}
 use Rattle.std.specs.List.{AllByRecursion}
 use Rattle.std.specs.declared.alloc.AllocError.{AllocError}
 use Rattle.ac_forms.specs.ListMembers.{IsAmong}
@@ -29,6 +30,14 @@ StopsOn budget columns rows (Overflow q) = (q ≡ over columns rows) × StopsFin
 StopsOn budget columns rows (Spent q k) = (q ≡ over columns rows) × StopsFinding (over columns rows) (walk_of Economical budget (over columns rows)) × IsSpent k (walk_of Full budget (over columns rows))
 StopsOn budget columns rows (Memory e) = Unit {0}
 
+-- the question is left undecided: both walks stop
+abbrev pub IsUndecided : ℕ → ℕ → List Row → Type 0
+IsUndecided budget columns rows = StopsFinding (over columns rows) (walk_of Economical budget (over columns rows)) × StopsFinding (over columns rows) (walk_of Full budget (over columns rows))
+
+-- it has no point, or it is left undecided
+abbrev pub HasNoPointIfDecided : ℕ → ℕ → List Row → Type 0
+HasNoPointIfDecided budget columns rows = HasNoPoint columns rows ⊎ IsUndecided budget columns rows
+
 -- ---- several
 
 -- the choices of a part, or none where they cannot be formed in `i128`
@@ -47,6 +56,12 @@ abbrev pub HasNoPointFrom : ℕ → List Row → List Part → Type 0
 HasNoPointFrom columns front [] = HasNoPoint columns front
 HasNoPointFrom columns front (None ∷ parts) = ⊥
 HasNoPointFrom columns front (Some choices ∷ parts) = (choice : List Row) → IsAmong choice choices → HasNoPointFrom columns (front ++ choice) parts
+
+-- each question that could be formed has no point, or is left undecided
+abbrev pub HaveNoPointsIfDecided : ℕ → ℕ → List Row → List Part → Type 0
+HaveNoPointsIfDecided budget columns front [] = HasNoPointIfDecided budget columns front
+HaveNoPointsIfDecided budget columns front (None ∷ parts) = Unit {0}
+HaveNoPointsIfDecided budget columns front (Some choices ∷ parts) = (choice : List Row) → IsAmong choice choices → HaveNoPointsIfDecided budget columns (front ++ choice) parts
 
 -- one of the questions has the point
 abbrev pub IsPointFrom : ℕ → List Row → List Part → List ℤ → Type 0

@@ -1,4 +1,5 @@
--- What is decided of a schedule: that it keeps the order, or two instances between which it is broken, or what stops the search.
+-- What is decided of a schedule: that it keeps the order, or two instances between which it is broken, or what stops the search and
+-- what is known of the other questions then.
 use Rattle.std.specs.Prelude.{ℕ, ◌+◌, ◌≡◌, ◌++◌, List, [], ◌∷◌, map, length, ℤ, Some, slice_get}
 use Rattle.ac_forms.specs.Affine.{Affine}
 use Rattle.ac_forms.specs.ListMembers.{IsAmong}
@@ -16,7 +17,7 @@ use Rattle.ac_poly.specs.declared.types.StmtModel.{StmtModel}
 use Rattle.ac_legal_law.specs.BrokenOrders.{BreaksAt}
 use Rattle.ac_legal_law.specs.OrderQuestions.{first_columns, second_columns, clashes, late, joined, order_questions}
 use Rattle.ac_legal_law.specs.Schedules.{forms_of, ScheduleKeepsOrder}
-use Rattle.ac_legal.specs.QuestionChoices.{Part, IsPart, StopsOn, over}
+use Rattle.ac_legal.specs.QuestionChoices.{Part, IsPart, StopsOn, HasNoPointIfDecided, over}
 use Rattle.ac_legal.specs.WideQuestions.{HaveWideCells, AreWideTimes}
 use Rattle.ac_legal.specs.declared.types.Legal.{Legal}
 use Rattle.ac_legal.specs.declared.types.Legal.TheVariants.{Kept, Broken}
@@ -89,6 +90,16 @@ pub data StopsBetween (budget : ℕ) (m : Model) (times : List (List Affine)) (i
   times_leave : (rows : List Row) → IsAmong rows (rows_before_times m i s j u) → AreWideTimes (first_times m times i s) (second_times m times s j u)
       → StopsBetween budget m times i s j u (Overflow (over (questions_width m s u) rows))
 
+-- their questions can be formed: no difference of two subscripts or of two times leaves `i128`
+pub record CanBeFormed (m : Model) (times : List (List Affine)) (i : ℕ) (s : StmtModel) (j : ℕ) (u : StmtModel) : Type 0 where
+  pub cells : ¬ HaveWideCells (first_columns m.params s) (second_columns m.params s u) s u
+  pub lates : ¬ AreWideTimes (first_times m times i s) (second_times m times s j u)
+
+-- if they can, each of them has no point, or is left undecided
+abbrev pub NoDecidedPointBetween : ℕ → Model → List (List Affine) → ℕ → ℕ → Type 0
+NoDecidedPointBetween budget m times i j =
+    (s u : StmtModel) → AreOf m i s j u → CanBeFormed m times i s j u → (rows : List Row) → IsAmong rows (order_questions m times i s j u) → HasNoPointIfDecided budget (questions_width m s u) rows
+
 -- a point of a question, as the valuation and the coordinates of two instances
 pub record IsPointOfTwo (m : Model) (times : List (List Affine)) (at : List ℤ) (i : ℕ) (xs : List ℤ) (j : ℕ) (ys : List ℤ) : Type 0 where
   pub first : StmtModel
@@ -119,6 +130,10 @@ pub record SomeStops (budget : ℕ) (m : Model) (times : List (List Affine)) (e 
   pub second : StmtModel
   pub are : AreOf m i first j second
   pub stops : StopsBetween budget m times i first j second e
+
+-- each order question that can be formed has no point, or is left undecided
+abbrev pub NoDecidedQuestionHasAPoint : ℕ → Model → List (List Affine) → Type 0
+NoDecidedQuestionHasAPoint budget m times = (i j : ℕ) → NoDecidedPointBetween budget m times i j
 
 -- whatever ready program the model is of
 abbrev pub KeepsForAll : Model → List (List Affine) → Type 0

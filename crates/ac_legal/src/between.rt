@@ -6,7 +6,7 @@ ghost use Rattle.ac_poly.specs.Coordinates.{width};
 ghost use Rattle.ac_legal_law.specs.OrderQuestions.{clashes, late};
 ghost use Rattle.ac_legal_law.specs.Schedules.{forms_of};
 ghost use Rattle.ac_legal.specs.QuestionChoices.{IsPart, UnlessMemory};
-ghost use Rattle.ac_legal.specs.ScheduleAnswers.{AreOf, AreParts, NoneBetween, IsPointBetween, StopsBetween};
+ghost use Rattle.ac_legal.specs.ScheduleAnswers.{AreOf, AreParts, NoneBetween, NoDecidedPointBetween, IsPointBetween, StopsBetween};
 ghost use Rattle.ac_legal.specs.WideQuestions.{AreWideTimes, HaveWideCells};
 ghost use Rattle.ac_flow.specs.Readers.{IsOver};
 
@@ -152,7 +152,7 @@ fn parts_of(
     part_list(alloc, own, other, levels, cells, times)
 }
 
-/// A point of one of the questions of two assignments.
+/// A point of one of the questions of two assignments. Beside a stop none of those that are decided has one.
 pub(crate) fn between(
     alloc: Global,
     budget: u64,
@@ -167,6 +167,7 @@ pub(crate) fn between(
     ensures none { IfOk result (λ found. IfNone found (NoneBetween m.now order.now.times two.now.i two.now.j)) }
     ensures point { IfOk result (λ found. IfSome found (λ p. IsPointBetween m.now order.now.times two.now.i two.now.first.now two.now.j two.now.second.now p.items)) }
     ensures stops { IfErr result (λ e. UnlessMemory e (StopsBetween budget m.now order.now.times two.now.i two.now.first.now two.now.j two.now.second.now e)) }
+    ensures decided { IfErr result (λ e. UnlessMemory e (NoDecidedPointBetween budget m.now order.now.times two.now.i two.now.j)) }
 {
     let behind = column_after(m.params, width(two.first))?;
     let all = column_after(behind, width(two.second))?;

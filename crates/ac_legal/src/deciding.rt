@@ -1,7 +1,7 @@
 //! Whether a schedule keeps the order.
 ghost use Rattle.std.specs.Prelude.{◌≡◌, ◌+◌, ◌-◌, ◌≤◌, ◌<◌, ℕ, Some, length, slice_get, IfOk, IfErr};
 ghost use Rattle.ac_legal.specs.QuestionChoices.{UnlessMemory};
-ghost use Rattle.ac_legal.specs.ScheduleAnswers.{AreOf, NoneBetween, IsPointBetween, IsPointOfTwo, IfKept, IfBroken, IsCutOf, SomeStops, KeepsForAll, BreaksForAll};
+ghost use Rattle.ac_legal.specs.ScheduleAnswers.{AreOf, NoneBetween, NoDecidedPointBetween, NoDecidedQuestionHasAPoint, IsPointBetween, IsPointOfTwo, IfKept, IfBroken, IsCutOf, SomeStops, KeepsForAll, BreaksForAll};
 ghost use Rattle.ac_flow.specs.Readers.{IsLowered, IsOver};
 
 use crate::between::{Two, between};
@@ -69,6 +69,7 @@ fn compare(
     ensures kept { IfOk result (λ l. IfKept l (NoneBetween m.now order.now.times two.now.i two.now.j)) }
     ensures broken { IfOk result (λ l. IfBroken l (IsPointOfTwo m.now order.now.times)) }
     ensures stops { IfErr result (λ e. UnlessMemory e (SomeStops budget m.now order.now.times e)) }
+    ensures decided { IfErr result (λ e. UnlessMemory e (NoDecidedPointBetween budget m.now order.now.times two.now.i two.now.j)) }
 {
     match between(alloc, budget, m, order, two) {
         Ok(None) => Ok(Legal::Kept),
@@ -92,6 +93,7 @@ fn from_first(
     ensures kept { IfOk result (λ l. IfKept l ((j : ℕ) → j < length m.now.stmts → NoneBetween m.now order.now.times i j)) }
     ensures broken { IfOk result (λ l. IfBroken l (IsPointOfTwo m.now order.now.times)) }
     ensures stops { IfErr result (λ e. UnlessMemory e (SomeStops budget m.now order.now.times e)) }
+    ensures decided { IfErr result (λ e. UnlessMemory e ((j : ℕ) → j < length m.now.stmts → NoDecidedPointBetween budget m.now order.now.times i j)) }
 {
     let stmts = m.stmts.as_slice();
     let mut held = None;
@@ -123,6 +125,7 @@ fn from_all(alloc: Global, budget: u64, m: &Model, order: &Schedule) -> Result<L
     ensures kept { IfOk result (λ l. IfKept l ((i j : ℕ) → i < length m.now.stmts → j < length m.now.stmts → NoneBetween m.now order.now.times i j)) }
     ensures broken { IfOk result (λ l. IfBroken l (IsPointOfTwo m.now order.now.times)) }
     ensures stops { IfErr result (λ e. UnlessMemory e (SomeStops budget m.now order.now.times e)) }
+    ensures decided { IfErr result (λ e. UnlessMemory e ((i j : ℕ) → i < length m.now.stmts → j < length m.now.stmts → NoDecidedPointBetween budget m.now order.now.times i j)) }
 {
     let stmts = m.stmts.as_slice();
     let mut held = None;
@@ -146,7 +149,8 @@ fn from_all(alloc: Global, budget: u64, m: &Model, order: &Schedule) -> Result<L
 ///
 /// `Kept` comes only if at each valuation of the context the earlier of each two instances that conflict has the smaller time.
 /// `Broken` comes with a valuation and two instances of which that is not so. A stop comes only if a question stops both walks of
-/// its elimination, or cannot be formed. The other questions are asked all the same, so a broken pair is preferred to a stop.
+/// its elimination, or cannot be formed. The other questions are asked all the same: beside a stop each question that can be
+/// formed has no point, or both walks stop at it too. So a broken pair of a question that is decided goes before a stop.
 pub fn legal(
     alloc: Global,
     m: &Model,
@@ -157,6 +161,7 @@ pub fn legal(
     ensures kept { IfOk result (λ l. IfKept l (KeepsForAll m.now order.now.times)) }
     ensures broken { IfOk result (λ l. IfBroken l (BreaksForAll m.now order.now.times)) }
     ensures stops { IfErr result (λ e. UnlessMemory e (SomeStops limits.now.budget m.now order.now.times e)) }
+    ensures decided { IfErr result (λ e. UnlessMemory e (NoDecidedQuestionHasAPoint limits.now.budget m.now order.now.times)) }
 {
     from_all(alloc, limits.budget, m, order)
 }

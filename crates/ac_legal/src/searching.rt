@@ -1,7 +1,7 @@
 //! A search through the questions that are made of one choice for each part.
-ghost use Rattle.std.specs.Prelude.{◌≡◌, ◌≤◌, length, drop, IfOk, IfErr, IfSome, IfNone};
+ghost use Rattle.std.specs.Prelude.{◌≡◌, ◌≤◌, None, length, drop, IfOk, IfErr, IfSome, IfNone};
 ghost use Rattle.ac_forms.specs.Rows.{AreRowsOver};
-ghost use Rattle.ac_legal.specs.QuestionChoices.{ArePartsOver, HasNoPointFrom, IsPointFrom, StopsFrom, want_of, first_stop};
+ghost use Rattle.ac_legal.specs.QuestionChoices.{ArePartsOver, HasNoPointFrom, HaveNoPointsIfDecided, IsPointFrom, StopsFrom, UnlessMemory, want_of, first_stop};
 
 use crate::asking::{ask, question, with_rows};
 use crate::types::LegalStop;
@@ -24,7 +24,8 @@ pub(crate) fn first_stop(
     held: Option<LegalStop>,
     stop: LegalStop,
 ) -> Result<Option<LegalStop>, AllocError>
-    ensures { IfOk result (λ first. first ≡ first_stop held stop) }
+    ensures first { IfOk result (λ first. first ≡ first_stop held stop) }
+    ensures refusal { IfOk result (λ _. want_of stop ≡ None) }
 {
     if let Some(want) = want_of(&stop) {
         return Err(want);
@@ -37,7 +38,7 @@ pub(crate) fn first_stop(
 
 /// A point at which the rows hold and, of each part from the one with the number `depth` on, one of its choices; none where
 /// there is none. A part without choices cannot be formed. The search goes on behind a stop, which is answered if no point is
-/// found.
+/// found: each question that could be formed has none then, or is left undecided.
 pub(crate) fn search(
     alloc: Global,
     budget: u64,
@@ -52,6 +53,7 @@ pub(crate) fn search(
     ensures none { IfOk result (λ found. IfNone found (HasNoPointFrom columns front.now (drop depth parts.now))) }
     ensures point { IfOk result (λ found. IfSome found (λ p. IsPointFrom columns front.now (drop depth parts.now) p.items)) }
     ensures stops { IfErr result (StopsFrom budget columns front.now (drop depth parts.now)) }
+    ensures decided { IfErr result (λ e. UnlessMemory e (HaveNoPointsIfDecided budget columns front.now (drop depth parts.now))) }
 {
     if depth == parts.len() {
         return ask(alloc, budget, columns, front);

@@ -1,9 +1,7 @@
-use Rattle.std.proofs.Common.{◌≡◌, ◌∙◌, ap, sym, subst, ℕ, List, ◌++◌, ◌≤◌, ◌+◌, arith}
+use Rattle.std.proofs.Common.{◌≡◌, ◌∙◌, ap, ℕ, ◌++◌}
 use Rattle.std.specs.List.{range_with_len}
-use Rattle.ac_forms.specs.Renaming.{AreDistinct}
 use Rattle.ac_poly.specs.Coordinates.{width}
 use Rattle.ac_legal_law.specs.OrderQuestions.{first_columns, second_columns}
-use Rattle.ac_legal.specs.QuestionChoices.{Part}
 use Rattle.ac_legal.specs.ScheduleAnswers.{AreParts}
 use Rattle.ac_legal.proofs.Parting.{parts_listed, if_ok}
 use Rattle.ac_legal.proofs.between.parts_of.Goals as goal

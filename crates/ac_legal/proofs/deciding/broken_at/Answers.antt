@@ -1,5 +1,4 @@
 use Rattle.std.proofs.Common.{◌≡◌, ◌+◌, ◌-◌, arith}
-use Rattle.ac_poly.specs.Coordinates.{width}
 use Rattle.ac_legal.specs.ScheduleAnswers.{NoneBetween, IsPointOfTwo, IfKept, IfBroken, IsCutOf}
 use Rattle.ac_legal.proofs.Parting.{if_ok}
 use Rattle.ac_legal.proofs.Wholes.{if_kept, if_broken, point_of_two, point_long}

@@ -1,8 +1,10 @@
 use Rattle.std.proofs.Common.{ℕ, ◌<◌, length}
-use Rattle.ac_legal.specs.ScheduleAnswers.{NoneBetween, IsPointOfTwo, IfKept, IfBroken, KeepsForAll, BreaksForAll}
+use Rattle.ac_legal.specs.QuestionChoices.{UnlessMemory}
+use Rattle.ac_legal.specs.ScheduleAnswers.{NoneBetween, NoDecidedPointBetween, NoDecidedQuestionHasAPoint, IsPointOfTwo, IfKept, IfBroken, KeepsForAll, BreaksForAll}
 use Rattle.ac_flow.proofs.Overs.{is_over}
-use Rattle.ac_legal.proofs.Parting.{if_ok}
-use Rattle.ac_legal.proofs.Wholes.{kept_of, broken_of, if_kept, if_broken}
+use Rattle.ac_legal.proofs.Parting.{if_ok, if_err}
+use Rattle.ac_legal.proofs.Trying.{unless_map}
+use Rattle.ac_legal.proofs.Wholes.{kept_of, decided_of, broken_of, if_kept, if_broken}
 use Rattle.ac_legal.proofs.deciding.legal.Goals as goal
 
 pub from_all-requires : goal.from_all-requires
@@ -17,3 +19,11 @@ pub returns-clause-broken : goal.returns-clause-broken
 returns-clause-broken c =
     if_ok c.from_all.result (λ l. IfBroken l (IsPointOfTwo c.args.m.now c.args.order.now.times)) (λ l. IfBroken l (BreaksForAll c.args.m.now c.args.order.now.times))
     (λ l h. if_broken l (IsPointOfTwo c.args.m.now c.args.order.now.times) (BreaksForAll c.args.m.now c.args.order.now.times) (broken_of c.args.m.now c.args.order.now.times) h) c.from_all.ensures.broken
+
+pub returns-clause-decided : goal.returns-clause-decided
+returns-clause-decided c =
+    let m = c.args.m.now in
+    let times = c.args.order.now.times in
+    let budget = c.args.limits.now.budget in
+    if_err c.from_all.result (λ e. UnlessMemory e ((i j : ℕ) → i < length m.stmts → j < length m.stmts → NoDecidedPointBetween budget m times i j)) (λ e. UnlessMemory e (NoDecidedQuestionHasAPoint budget m times))
+    (λ e. unless_map e ((i j : ℕ) → i < length m.stmts → j < length m.stmts → NoDecidedPointBetween budget m times i j) (NoDecidedQuestionHasAPoint budget m times) (decided_of budget m times)) c.from_all.ensures.decided
