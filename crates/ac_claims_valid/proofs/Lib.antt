@@ -1,0 +1,5 @@
+pub mod StepLaw
+pub mod Faults
+pub mod PlanLaw
+pub mod ProofLaw
+pub mod TextLaw
