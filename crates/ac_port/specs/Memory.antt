@@ -4,19 +4,21 @@ use Rattle.std.specs.Coded.{Coded, code_by, coded×, coded_list, coded_ℕ}
 use Rattle.std.specs.FinMap.{get, code}
 use Rattle.ac_port.specs.Contents.{Contents}
 use Rattle.ac_port.specs.FakeCalls.{Calls, calls_code, is_listed}
+use Rattle.ac_port.specs.Transcripts.{Read, read_code}
 
--- what the files hold, and the reads and writes on them
+-- what the files hold, the calls of reads and writes on them, and what the reads handed out
 pub record FilesInMemory : Type 0 where
   pub contents : Contents
   pub reads : Calls
   pub writes : Calls
+  pub transcript : List Read
 
--- files are told apart by their three parts
+-- files are told apart by their four parts
 abbrev pub files_code : Coded FilesInMemory
 files_code =
-    code_by (Contents × (Calls × Calls)) (coded× (code (coded_list coded_ℕ) (coded_list coded_ℕ)) (coded× calls_code calls_code))
-    (λ f. (f.contents, (f.reads, f.writes)))
-    (λ p. record { contents = p.0; reads = p.1.0; writes = p.1.1 })
+    code_by (Contents × (Calls × (Calls × List Read))) (coded× (code (coded_list coded_ℕ) (coded_list coded_ℕ)) (coded× calls_code (coded× calls_code (coded_list read_code))))
+    (λ f. (f.contents, (f.reads, (f.writes, f.transcript))))
+    (λ p. record { contents = p.0; reads = p.1.0; writes = p.1.1.0; transcript = p.1.1.1 })
     (λ _. refl)
 
 -- the next read of this name fails: it is listed, or no file has the name

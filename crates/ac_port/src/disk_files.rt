@@ -1,9 +1,8 @@
 // The real files.
-ghost use Rattle.std.specs.Prelude.{◌≡◌, ◌≤◌, length, None, IfOk};
-ghost use Rattle.ac_port.specs.CallCounts.{one_more};
+ghost use Rattle.std.specs.Prelude.{◌≡◌, ◌≤◌, [], length, None, IfOk, OnErr, IfSome, IsErrOf};
 
 use crate::streams::{fill, read_up_to, write_whole};
-use crate::{Files, ReadStop, WriteStop};
+use crate::{Files, ReadStop, Transcript, WriteStop};
 use std::alloc::Global;
 use std::io::{Seek, SeekFrom};
 use std::rt::Files as HostFiles;
@@ -14,56 +13,40 @@ use std::{fs, io};
 #[derive(Drop)]
 pub struct DiskFiles<R: HostFiles> {
     rt: R,
-    read_faults: u64,
+    transcript: Transcript,
     write_faults: u64,
 }
 
 impl<R: HostFiles> DiskFiles<R> {
-    /// The files that `rt` reaches, with no faults yet.
+    /// The files that `rt` reaches, with no read and no fault yet.
     pub fn new(rt: R) -> Self
-        ensures reads { result.read_faults ≡ 0 }
+        ensures reads { result.transcript.reads ≡ [] }
         ensures writes { result.write_faults ≡ 0 }
     {
         DiskFiles {
             rt,
-            read_faults: 0,
+            transcript: Transcript::new(),
             write_faults: 0,
         }
-    }
-
-    /// One more read fault.
-    fn count_read_fault(&mut self)
-        ensures reads { self.new.read_faults ≡ one_more self.old.read_faults }
-        ensures no_fewer { self.old.read_faults ≤ self.new.read_faults }
-        ensures writes { self.new.write_faults ≡ self.old.write_faults }
-    {
-        self.read_faults = self.read_faults.saturating_add(1);
     }
 }
 
 impl<R: HostFiles> Files for DiskFiles<R> {
     ghost contents = { λ _. None };
 
-    ghost read_faults = { λ files. files.read_faults };
+    ghost transcript = { λ files. files.transcript.reads };
 
     ghost write_faults = { λ files. files.write_faults };
 
-    ghost read_makes = { λ before name after. Unit {0} };
-
     fn read(&mut self, alloc: Global, name: &[u8], limit: u64) -> Result<Vec<u8>, ReadStop> {
         let outcome = read_file(&self.rt, alloc, name, limit);
-        if let Err(ReadStop::Failed) = &outcome {
-            self.count_read_fault();
-        }
+        self.transcript = self.transcript.and_whole(name, limit, &outcome);
         outcome
     }
 
     fn part(&mut self, name: &[u8], from: u64, into: &mut [u8]) -> Result<usize, ReadStop> {
         let outcome = read_part(&self.rt, name, from, into);
-        if outcome.is_err() {
-            self.count_read_fault();
-            return Err(ReadStop::Failed);
-        }
+        self.transcript = self.transcript.and_part(name, from, into, &outcome);
         outcome
     }
 
@@ -89,6 +72,7 @@ fn read_file<R: HostFiles>(
     read_up_to(&mut file, alloc, limit)
 }
 
+/// The outcome of reading a part, each fault of which is that the read failed.
 fn read_part<R: HostFiles>(
     rt: &R,
     name: &[u8],
@@ -96,12 +80,22 @@ fn read_part<R: HostFiles>(
     into: &mut [u8],
 ) -> Result<usize, ReadStop>
     ensures within { IfOk result (λ count. count ≤ length into.new) }
+    ensures failed { OnErr result (IsErrOf result ReadStop.Failed) }
 {
-    let path = str::from_utf8(name).map_err(|_| ReadStop::Failed)?;
-    let mut file = fs::open(rt, path).map_err(|_| ReadStop::Failed)?;
-    file.seek(SeekFrom::Start(from))
-        .map_err(|_| ReadStop::Failed)?;
-    fill(&mut file, into)
+    match fill_from(rt, name, from, into) {
+        Some(count) => Ok(count),
+        None => Err(ReadStop::Failed),
+    }
+}
+
+/// Fills the bytes with those of a file from a place on; none where a call of the system fails.
+fn fill_from<R: HostFiles>(rt: &R, name: &[u8], from: u64, into: &mut [u8]) -> Option<usize>
+    ensures { IfSome result (λ count. count ≤ length into.new) }
+{
+    let path = str::from_utf8(name).ok()?;
+    let mut file = fs::open(rt, path).ok()?;
+    file.seek(SeekFrom::Start(from)).ok()?;
+    fill(&mut file, into).ok()
 }
 
 fn write_file<R: HostFiles>(rt: &R, name: &[u8], bytes: &[u8]) -> io::Result<()> {

@@ -1,14 +1,15 @@
 // Files in memory, for tests: a log of what was written, the newest first.
-ghost use Rattle.std.specs.Prelude.{◌≡◌, ◌≤◌, ◌++◌, ◌∷◌, ◌↔◌, [], length, Option, IfOk, OnOk, OnErr, IsErrOf, IsTrue, IsSomeAnd};
+ghost use Rattle.std.specs.Prelude.{◌≡◌, ◌≤◌, ◌++◌, ◌∷◌, ◌↔◌, [], length, take, Option, IfOk, OnOk, OnErr, IsErrOf, IsTrue, IsSomeAnd};
 ghost use Rattle.std.specs.Option.{option_copied};
 ghost use Rattle.std.specs.FinMap as map;
 ghost use Rattle.ac_port.specs.Contents.{IsTooBig, IsPart};
 ghost use Rattle.ac_port.specs.CallCounts.{Rose};
 ghost use Rattle.ac_port.specs.FakeCalls.{is_listed, after_call};
 ghost use Rattle.ac_port.specs.Memory.{read_fails};
+ghost use Rattle.ac_port.specs.Transcripts.{whole_read, part_read, handed_of};
 
 use crate::calls::CallLog;
-use crate::{Files, ReadStop, WriteStop};
+use crate::{Files, ReadStop, Transcript, WriteStop};
 use std::alloc::{AllocError, Global};
 use std::collections::VecDeque;
 use std::marker::Model;
@@ -27,6 +28,7 @@ pub struct MemFiles {
     log: VecDeque<Entry>,
     reads: CallLog,
     writes: CallLog,
+    transcript: Transcript,
 }
 
 impl Model for MemFiles {
@@ -37,7 +39,7 @@ impl Model for MemFiles {
 
     ghost coded = { files_code };
 
-    ghost view = { λ a. record { contents = contents_of a.log.items; reads = a.reads; writes = a.writes } };
+    ghost view = { λ a. record { contents = contents_of a.log.items; reads = a.reads; writes = a.writes; transcript = a.transcript.reads } };
 }
 
 impl MemFiles {
@@ -46,12 +48,14 @@ impl MemFiles {
         ensures contents { result.contents ≡ map.empty }
         ensures reads { result.reads ≡ record { next = 0; failing = []; faults = 0 } }
         ensures writes { result.writes ≡ record { next = 0; failing = []; faults = 0 } }
+        ensures transcript { result.transcript ≡ [] }
     {
         MemFiles {
             alloc,
             log: VecDeque::new(alloc),
             reads: CallLog::new(alloc),
             writes: CallLog::new(alloc),
+            transcript: Transcript::new(),
         }
     }
 
@@ -102,30 +106,14 @@ impl MemFiles {
     {
         self.reads.is_next_listed() || self.get(name).is_none()
     }
-}
 
-impl Files for MemFiles {
-    ghost contents = { λ files. Option.Some files.contents };
-
-    ghost read_faults = { λ files. files.reads.faults };
-
-    ghost write_faults = { λ files. files.writes.faults };
-
-    ghost read_makes = { λ before name after. after ≡ record before { reads = after_call (read_fails before name) before.reads } };
-
-    /// Fails exactly at a listed read and at a name that is not there.
-    fn read(&mut self, alloc: Global, name: &[u8], limit: u64) -> Result<Vec<u8>, ReadStop>
+    /// The read, before it is noted.
+    fn fetch(&mut self, alloc: Global, name: &[u8], limit: u64) -> Result<Vec<u8>, ReadStop>
         ensures exact { IsErrOf result ReadStop.Failed ↔ IsTrue (read_fails self.old name.now) }
         ensures counted { self.new ≡ record self.old { reads = after_call (read_fails self.old name.now) self.old.reads } }
         ensures bytes { IfOk result (λ bytes. map.get self.old.contents name.now ≡ Option.Some bytes.items) }
         ensures within { IfOk result (λ bytes. length bytes.items ≤ limit) }
         ensures too_big { IsErrOf result ReadStop.TooBig → IsTooBig self.old.contents name.now limit }
-        ensures failed { IsErrOf result ReadStop.Failed → Rose self.old.reads.faults self.new.reads.faults }
-        ensures quiet { ¬ (IsErrOf result ReadStop.Failed) → self.new.reads.faults ≡ self.old.reads.faults }
-        ensures makes { self.new ≡ record self.old { reads = after_call (read_fails self.old name.now) self.old.reads } }
-        ensures same { self.new.contents ≡ self.old.contents }
-        ensures no_fewer { self.old.reads.faults ≤ self.new.reads.faults }
-        ensures same_writes { self.new.writes.faults ≡ self.old.writes.faults }
     {
         let fails = self.next_read_fails(name);
         self.reads.count(fails);
@@ -139,18 +127,13 @@ impl Files for MemFiles {
         }
     }
 
-    /// Fails exactly at a listed read and at a name that is not there; parts are numbered with the reads.
-    fn part(&mut self, name: &[u8], from: u64, into: &mut [u8]) -> Result<usize, ReadStop>
+    /// The read of a part, before it is noted.
+    fn fetch_part(&mut self, name: &[u8], from: u64, into: &mut [u8]) -> Result<usize, ReadStop>
         ensures exact { IsErrOf result ReadStop.Failed ↔ IsTrue (read_fails self.old name.now) }
         ensures counted { self.new ≡ record self.old { reads = after_call (read_fails self.old name.now) self.old.reads } }
         ensures bytes { IfOk result (λ count. IsSomeAnd (map.get self.old.contents name.now) (λ bytes. IsPart bytes from into.old into.new count)) }
         ensures within { IfOk result (λ count. count ≤ length into.new) }
-        ensures failed { OnErr result (IsErrOf result ReadStop.Failed × Rose self.old.reads.faults self.new.reads.faults) }
-        ensures quiet { OnOk result (self.new.reads.faults ≡ self.old.reads.faults) }
-        ensures makes { self.new ≡ record self.old { reads = after_call (read_fails self.old name.now) self.old.reads } }
-        ensures same { self.new.contents ≡ self.old.contents }
-        ensures no_fewer { self.old.reads.faults ≤ self.new.reads.faults }
-        ensures same_writes { self.new.writes.faults ≡ self.old.writes.faults }
+        ensures failed { OnErr result (IsErrOf result ReadStop.Failed) }
     {
         let fails = self.next_read_fails(name);
         self.reads.count(fails);
@@ -162,6 +145,46 @@ impl Files for MemFiles {
             Some(bytes) => Ok(copy_part(bytes, from, into)),
         }
     }
+}
+
+impl Files for MemFiles {
+    ghost contents = { λ files. Option.Some files.contents };
+
+    ghost transcript = { λ files. files.transcript };
+
+    ghost write_faults = { λ files. files.writes.faults };
+
+    /// Fails exactly at a listed read and at a name that is not there.
+    fn read(&mut self, alloc: Global, name: &[u8], limit: u64) -> Result<Vec<u8>, ReadStop>
+        ensures exact { IsErrOf result ReadStop.Failed ↔ IsTrue (read_fails self.old name.now) }
+        ensures counted { self.new ≡ record self.old { reads = after_call (read_fails self.old name.now) self.old.reads; transcript = self.old.transcript ++ whole_read name.now limit (handed_of result (λ bytes. bytes.items)) ∷ [] } }
+        ensures handed { self.new.transcript ≡ self.old.transcript ++ whole_read name.now limit (handed_of result (λ bytes. bytes.items)) ∷ [] }
+        ensures bytes { IfOk result (λ bytes. map.get self.old.contents name.now ≡ Option.Some bytes.items) }
+        ensures within { IfOk result (λ bytes. length bytes.items ≤ limit) }
+        ensures too_big { IsErrOf result ReadStop.TooBig → IsTooBig self.old.contents name.now limit }
+        ensures same { self.new.contents ≡ self.old.contents }
+        ensures same_writes { self.new.writes.faults ≡ self.old.writes.faults }
+    {
+        let outcome = self.fetch(alloc, name, limit);
+        self.transcript = self.transcript.and_whole(name, limit, &outcome);
+        outcome
+    }
+
+    /// Fails exactly at a listed read and at a name that is not there; parts are numbered with the reads.
+    fn part(&mut self, name: &[u8], from: u64, into: &mut [u8]) -> Result<usize, ReadStop>
+        ensures exact { IsErrOf result ReadStop.Failed ↔ IsTrue (read_fails self.old name.now) }
+        ensures counted { self.new ≡ record self.old { reads = after_call (read_fails self.old name.now) self.old.reads; transcript = self.old.transcript ++ part_read name.now from (length into.old) (handed_of result (λ count. take count into.new)) ∷ [] } }
+        ensures handed { self.new.transcript ≡ self.old.transcript ++ part_read name.now from (length into.old) (handed_of result (λ count. take count into.new)) ∷ [] }
+        ensures bytes { IfOk result (λ count. IsSomeAnd (map.get self.old.contents name.now) (λ bytes. IsPart bytes from into.old into.new count)) }
+        ensures within { IfOk result (λ count. count ≤ length into.new) }
+        ensures failed { OnErr result (IsErrOf result ReadStop.Failed) }
+        ensures same { self.new.contents ≡ self.old.contents }
+        ensures same_writes { self.new.writes.faults ≡ self.old.writes.faults }
+    {
+        let outcome = self.fetch_part(name, from, into);
+        self.transcript = self.transcript.and_part(name, from, into, &outcome);
+        outcome
+    }
 
     /// Fails exactly at a listed write, and leaves the files as they were.
     fn write(&mut self, name: &[u8], bytes: &[u8]) -> Result<(), WriteStop>
@@ -171,7 +194,8 @@ impl Files for MemFiles {
         ensures unwritten { OnErr result (self.new.contents ≡ self.old.contents) }
         ensures failed { IsErrOf result WriteStop.Failed → Rose self.old.writes.faults self.new.writes.faults }
         ensures no_fewer { self.old.writes.faults ≤ self.new.writes.faults }
-        ensures same_reads { self.new.reads ≡ self.old.reads }
+        ensures same_reads { self.new.transcript ≡ self.old.transcript }
+        ensures uncounted { self.new.reads ≡ self.old.reads }
     {
         let fails = self.writes.is_next_listed();
         self.writes.count(fails);

@@ -1,10 +1,10 @@
 -- What is known of the pairs of arrangements, with one output.
-use Rattle.std.proofs.Common.{◌≡◌, ◌<◌, ℕ, zero, suc, List, [], ◌∷◌, ◌||◌, length, min, slice_index_or, Bool, true, false, nat_eq, Option, None, Some, MatchOption, refl, sym, ap, subst, arith}
+use Rattle.std.proofs.Common.{◌≡◌, ◌<◌, ℕ, ℤ, zero, suc, List, [], ◌∷◌, ◌||◌, length, min, slice_index_or, Bool, true, false, nat_eq, Option, None, Some, MatchOption, refl, sym, ap, subst, arith}
 use Rattle.std.specs.List.{list_any}
 use Rattle.std.proofs.lemmas.Bool.{eq-eqb}
 use Rattle.std.proofs.lemmas.Bool.Decides.{Decides-eqb}
 use Rattle.ac_syntax.specs.ExecutedCalls.{HaveArities}
-use Rattle.ac_syntax.specs.Outputs.{SameOutput}
+use Rattle.ac_syntax.specs.Outputs.{IsValuation, SameOutput}
 use Rattle.ac_syntax.specs.declared.tree.Pair.{Pair}
 use Rattle.ac_claims.specs.Soundness as judge
 use Rattle.ac_assoc_law.specs.ArrangedPairs.{PairCanArrange, arranged_pair}
@@ -65,6 +65,9 @@ module _ (names : List (List ℕ)) (pair : Pair) (output number : ℕ) where
   -- the context is that of the pair
   pub none_met : IsWithoutValuation (arrangement names pair output number) → IsWithoutValuation pair
   none_met h = record { stops = h.stops; none = λ params v. h.none params (record { each = v.each; context = v.context }) }
+
+  pub same_valuation : (params : List ℤ) → IsValuation (arrangement names pair output number) params → IsValuation pair params
+  same_valuation params v = record { each = v.each; context = v.context }
 
   same_pair : SameOutput (arrangement names pair output number) output → SameOutput (arranged_pair names choice pair) output
   same_pair h = λ params v e is. h params (record { each = v.each; context = v.context }) e is

@@ -11,6 +11,7 @@ pub mod Headline
 pub mod Delivering
 pub mod Extents
 pub mod Reading
+pub mod Refuting
 pub mod Instances
 pub mod Lines
 pub mod Lowerings

@@ -2,7 +2,7 @@
 use Rattle.std.proofs.Common.{◌≡◌, ℕ, ℤ, List, Some, subst}
 use Rattle.ac_forms.specs.Affine.{Affine}
 use Rattle.ac_syntax.specs.Algebra.{integers}
-use Rattle.ac_syntax.specs.ReadyPrograms.{ReadyProgram, FitParts}
+use Rattle.ac_syntax.specs.ReadyPrograms.{ReadyProgram}
 use Rattle.ac_syntax.specs.Trace.{trace_of}
 use Rattle.ac_syntax.specs.declared.tree.Program.{Program}
 use Rattle.ac_poly.specs.Model.{HasContext}
@@ -11,13 +11,12 @@ use Rattle.ac_flow.specs.Contexts.{ContextStops}
 use Rattle.ac_flow.specs.declared.types.ContextStop.{ContextStop}
 use Rattle.ac_flow.specs.declared.types.ContextStop.TheVariants.{EmptyContext}
 use Rattle.ac_flow.specs.declared.types.ContextStop.TheVariants as context
-use Rattle.ac_legal_law.specs.BrokenOrders.{BreaksAt}
 use Rattle.ac_legal_law.specs.Schedules.{ScheduleKeepsOrder, time_of}
 use Rattle.ac_legal_law.proofs.Ascending.{ascending_pairs, kept_pairs}
 use Rattle.ac_legal_law.proofs.Permuted.{from_permutation}
 use Rattle.ac_legal_law.proofs.Reordered.{run_reordered}
 use Rattle.ac_legal.specs.QuestionChoices.{UnlessMemory}
-use Rattle.ac_legal.specs.ScheduleAnswers.{SomeStops, KeepsForAll, BreaksForAll}
+use Rattle.ac_legal.specs.ScheduleAnswers.{SomeStops, NoDecidedQuestionHasAPoint, KeepsForAll, BreaksForAll}
 use Rattle.ac_legal.specs.declared.types.LegalStop.{LegalStop}
 use Rattle.ac_legal.specs.declared.types.LegalStop.TheVariants.{Overflow, Spent, Memory}
 use Rattle.ac_legal_text.specs.BrokenLines.{broken_line}
@@ -52,7 +51,9 @@ pub broken_order : (program : Program) (model : Model) (times : List (List Affin
 broken_order program model times at i xs j ys ready is valuation breaks = broken at i xs j ys valuation (breaks program program.context ready ready.context is)
 
 pub stopped_order : (program : Program) (model : Model) (times : List (List Affine)) (stop : LegalStop) (text : List ℕ) → model ≡ lowered program → HasValuation default_budget (lowered program) → UnlessMemory stop (SomeStops default_budget model times stop)
-    → stop_text stop ≡ Some text → OrderReports program times (a_report status.Stopped text)
-stopped_order program model times (Overflow q) text is valuation stops shown = order_stopped (Overflow q) text valuation (subst (λ m. SomeStops default_budget m times (Overflow q)) is stops) shown
-stopped_order program model times (Spent q cost) text is valuation stops shown = order_stopped (Spent q cost) text valuation (subst (λ m. SomeStops default_budget m times (Spent q cost)) is stops) shown
-stopped_order program model times (Memory e) text is valuation stops shown = absurd cc
+    → UnlessMemory stop (NoDecidedQuestionHasAPoint default_budget model times) → stop_text stop ≡ Some text → OrderReports program times (a_report status.Stopped text)
+stopped_order program model times (Overflow q) text is valuation stops decided shown =
+    order_stopped (Overflow q) text valuation (subst (λ m. SomeStops default_budget m times (Overflow q)) is stops) (subst (λ m. NoDecidedQuestionHasAPoint default_budget m times) is decided) shown
+stopped_order program model times (Spent q cost) text is valuation stops decided shown =
+    order_stopped (Spent q cost) text valuation (subst (λ m. SomeStops default_budget m times (Spent q cost)) is stops) (subst (λ m. NoDecidedQuestionHasAPoint default_budget m times) is decided) shown
+stopped_order program model times (Memory e) text is valuation stops decided shown = absurd cc

@@ -1,11 +1,14 @@
 -- What is true where `prove` is done, and where it tells of a difference.
-use Rattle.std.proofs.Common.{◌≡◌, ℕ, ℤ, zero, suc, List, [], ◌∷◌, Contains, Bool, true, false, if◌then◌else◌, Option, refl, subst, arith}
+use Rattle.std.proofs.Common.{◌≡◌, ◌≢◌, ◌∙◌, ℕ, ℤ, zero, suc, List, [], ◌∷◌, Contains, Bool, true, false, if◌then◌else◌, Option, Some, None, refl, subst, arith}
 use Rattle.std.specs.List.{list_any}
 use Rattle.ac_syntax.specs.Outputs.{SameOutput}
 use Rattle.ac_syntax.specs.declared.tree.Pair.{Pair}
 use Rattle.ac_report.specs.declared.types.Verdict.{Verdict}
 use Rattle.ac_report.specs.declared.types.Verdict.TheVariants.{Equal, Different, Unknown}
-use Rattle.ac_walk.specs.Verdicts.{AreVerdicts, IsDifferentAt}
+use Rattle.ac_claims.specs.declared.types.Proof.{Proof}
+use Rattle.ac_report.specs.declared.types.Cause.{Cause}
+use Rattle.ac_walk.specs.UnknownCauses.{AreUnknown, HasValuation, IsAnswered, context_stopped, left_stopped, right_stopped, searched, context_cause_of, left_model}
+use Rattle.ac_walk.specs.Verdicts.{AreVerdicts, IsAccepted, IsDifferentAt, equal_outputs, named}
 use Rattle.ac_top.specs.ProgramAnswers.{IsTheSame}
 use Rattle.ac_top.specs.ProveReports.{ProveReports, empty_context, compared, HasDifference}
 use Rattle.ac_top.specs.Reports.{Report}
@@ -31,7 +34,7 @@ all_same pair (p ∷ os) (Equal ∷ vs) h none sure o (suc k, within, is) = all_
 
 pub done_prove : (pair : Pair) (budget : ℕ) (name : Option (List ℕ)) (r : Report) → ProveReports pair budget name r → r.status ≡ status.Done → IsTheSame pair
 done_prove pair budget name r (empty_context stops h) done = absurd cc
-done_prove pair budget name r (compared vs proof file h matched by is of) done = let q = quiet vs done in all_same pair pair.outputs vs h q.0 q.1
+done_prove pair budget name r (compared vs proof file h matched by tried is of) done = let q = quiet vs done in all_same pair pair.outputs vs h q.0 q.1
 
 -- where a verdict is different, some output has a difference
 some_different : (vs : List Verdict) → status_of vs ≡ status.Different → list_any is_different vs ≡ true
@@ -62,6 +65,21 @@ found pair (o ∷ os) (Equal ∷ vs) h some = further pair o os (found pair os v
 
 pub different_prove : (pair : Pair) (budget : ℕ) (name : Option (List ℕ)) (r : Report) → ProveReports pair budget name r → r.status ≡ status.Different → HasDifference pair
 different_prove pair budget name r (empty_context stops h) d = absurd cc
-different_prove pair budget name r (compared vs proof file h matched by is of) d =
+different_prove pair budget name r (compared vs proof file h matched by tried is of) d =
     let f = found pair pair.outputs vs h (some_different vs d) in
     record { output = f.output; among = f.among; params = f.params; element = f.element; is = f.is }
+
+-- no output is equal where each is unknown for one cause or differs
+none_equal : (why : Option Cause) (os : List ℕ) (vs : List Verdict) → AreUnknown why vs → equal_outputs os vs ≡ []
+none_equal why [] vs h = refl
+none_equal why (o ∷ os) [] h = refl
+none_equal why (o ∷ os) (Equal ∷ vs) h = absurd h.0
+none_equal why (o ∷ os) (Different params e ∷ vs) h = none_equal why os vs h.1
+none_equal why (o ∷ os) (Unknown other ∷ vs) h = none_equal why os vs h.1
+
+-- a proof that names an output is accepted, where one is unless the question of the context stops
+pub accepted_named : (budget : ℕ) (pair : Pair) (vs : List Verdict) (proof : Proof) → IsAnswered budget pair vs → named proof ≡ equal_outputs pair.outputs vs → (HasValuation budget (left_model pair) → IsAccepted pair proof) → named proof ≢ [] → IsAccepted pair proof
+accepted_named budget pair vs proof (context_stopped stop s u) names accepted some = absurd (some (names ∙ none_equal (context_cause_of stop) pair.outputs vs u))
+accepted_named budget pair vs proof (left_stopped stop v s u) names accepted some = accepted v
+accepted_named budget pair vs proof (right_stopped stop v f s u) names accepted some = accepted v
+accepted_named budget pair vs proof (searched v f g a) names accepted some = accepted v

@@ -1,51 +1,51 @@
 -- Reads, one after the other, and files that are read in parts.
-use Rattle.std.proofs.Common.{◌≡◌, ◌≤◌, ◌<◌, ℕ, zero, suc, ◌+◌, ◌-◌, List, [], ◌∷◌, ◌++◌, length, take, drop, min, replicate, length-append, length-drop, Option, Some, None, option_map, IfSome, IsSomeAnd, refl, sym, ap, subst, ◌∙◌, arith}
+use Rattle.std.proofs.Common.{◌≡◌, ◌≤◌, ◌<◌, ℕ, zero, suc, ◌+◌, ◌-◌, List, [], ◌∷◌, ◌++◌, length, take, drop, min, length-append, length-drop, Option, Some, None, option_map, IfSome, IsSomeAnd, refl, sym, ap, subst, ◌∙◌, arith}
 use Rattle.std.specs.FinMap.{get}
-use Rattle.std.proofs.lemmas.List.{append_assoc, append-nil, take_all, length-take, replicate-append-replicate}
+use Rattle.std.proofs.lemmas.List.{append_assoc, append-nil, take_all, length-take}
 use Rattle.std.proofs.Math.Seq.{take-add}
 use Rattle.ac_port.specs.Contents.{Contents, part_of}
+use Rattle.ac_port.specs.Transcripts.{Read, handed_out, part_read}
 use Rattle.ac_syntax.specs.declared.tree.Pair.{Pair}
 use Rattle.ac_prooftext.specs.declared.checker.Checker.{Checker}
-use Rattle.ac_top.specs.ProgramAnswers.{IsStream, stream_limit, SourceReports, refused, paired, CheckReports, proof_unread, tested}
+use Rattle.ac_top.specs.ProgramAnswers.{SourceReports, refused, paired, CheckReports, proof_unread, tested}
 use Rattle.ac_top.specs.ProveReports.{ProveReports}
-use Rattle.ac_top.specs.Reads.{AreRead, no_read, one_more, Fails}
+use Rattle.ac_top.specs.Reads.{AreReads, HandOut, next_part, at_end, at_limit, IsStream, stream_limit}
 use Rattle.ac_top.specs.Reports.{Report}
 use Rattle.ac_top.specs.InstanceReports.{InstanceReports}
 use Rattle.ac_top.specs.RunStages.{TaskReports, IsFed}
 use Rattle.ac_top.specs.declared.runs.Task.{Task}
 use Rattle.ac_top.specs.declared.runs.Task.TheVariants.{Prove, Check, Instance}
 
-module _ {Files : Type 0} (makes : Files → List ℕ → Files → Type 0) (faults : Files → ℕ) where
-  -- reads, and further reads behind them
-  pub read_on : (names more : List (List ℕ)) (before between after : Files) → AreRead makes faults names before between → AreRead makes faults more between after → AreRead makes faults (names ++ more) before after
-  read_on names more before between after h (no_read f) = subst (λ ns. AreRead makes faults ns before f) (sym (append-nil names)) h
-  read_on names more before between after h (one_more ms m b c d k r q) =
-      subst (λ ns. AreRead makes faults ns before d) (append_assoc names ms (m ∷ [])) (one_more (names ++ ms) m before c d (read_on names ms before b c h k) r q)
+pub no_reads : (before : List Read) → AreReads before before []
+no_reads before = sym (append-nil before)
 
-  -- a read that failed behind further reads failed behind all of them
-  pub fails_on : (names more : List (List ℕ)) (name : List ℕ) (before between after : Files) → AreRead makes faults names before between → Fails makes faults between after more name → Fails makes faults before after (names ++ more) name
-  fails_on names more name before between after h k = record { between = k.between; are_read = read_on names more before between k.between h k.are_read; read = k.read; rose = k.rose }
+-- reads, and further reads behind them
+pub reads_on : (before between after reads more : List Read) → AreReads before between reads → AreReads between after more → AreReads before after (reads ++ more)
+reads_on before between after reads more h k = k ∙ ap (λ (rs : List Read). rs ++ more) h ∙ append_assoc before reads more
 
--- what is reported of a pair, where the reads that fail are told otherwise
-pub task_on : (task : Task) (files : Option Contents) (f g : List ℕ → ℕ → Type 0) → ((name : List ℕ) (count : ℕ) → f name count → g name count) → (a b x y : List ℕ) (pair : Pair) (r : Report)
-    → TaskReports task files f a b x y pair r → TaskReports task files g a b x y pair r
-task_on (Prove budget proof) files f g on a b x y pair r h = h
-task_on (Check proof) files f g on a b x y pair _ (proof_unread count h) = proof_unread count (on proof.now count h)
-task_on (Check proof) files f g on a b x y pair r (tested stream _ is h) = tested stream r is h
-task_on (Instance at limit) files f g on a b x y pair r h = h
+-- what is reported of a pair, where the further reads are told otherwise
+pub task_on : (task : Task) (files : Option Contents) (more also : List Read → Type 0) → ((rs : List Read) → more rs → also rs) → (a b x y : List ℕ) (pair : Pair) (r : Report)
+    → TaskReports task files more a b x y pair r → TaskReports task files also a b x y pair r
+task_on (Prove budget proof) files more also on a b x y pair r h = (on [] h.0, h.1)
+task_on (Check proof) files more also on a b x y pair _ (proof_unread parts bytes room out h) = proof_unread parts bytes room out (on _ h)
+task_on (Check proof) files more also on a b x y pair r (tested parts stream _ h is k) = tested parts stream r (on parts h) is k
+task_on (Instance at limit) files more also on a b x y pair r h = (on [] h.0, h.1)
 
-pub task_prove : (task : Task) {budget : _} {proof : _} (files : Option Contents) (fails : List ℕ → ℕ → Type 0) (a b x y : List ℕ) (pair : Pair) (r : Report) → task ≡ Prove budget proof → ProveReports pair budget (option_map (λ w. w.now) proof) r → TaskReports task files fails a b x y pair r
-task_prove task files fails a b x y pair r is h = subst (λ t. TaskReports t files fails a b x y pair r) (sym is) h
+pub task_prove : (task : Task) {budget : _} {proof : _} (files : Option Contents) (more : List Read → Type 0) (a b x y : List ℕ) (pair : Pair) (r : Report) → task ≡ Prove budget proof → more [] → ProveReports pair budget (option_map (λ w. w.now) proof) r
+    → TaskReports task files more a b x y pair r
+task_prove task files more a b x y pair r is none h = subst (λ t. TaskReports t files more a b x y pair r) (sym is) (none, h)
 
-pub task_check : (task : Task) {proof : _} (files : Option Contents) (fails : List ℕ → ℕ → Type 0) (a b x y : List ℕ) (pair : Pair) (r : Report) → task ≡ Check proof → CheckReports files (fails proof.now) proof.now pair r → TaskReports task files fails a b x y pair r
-task_check task files fails a b x y pair r is h = subst (λ t. TaskReports t files fails a b x y pair r) (sym is) h
+pub task_check : (task : Task) {proof : _} (files : Option Contents) (more : List Read → Type 0) (a b x y : List ℕ) (pair : Pair) (r : Report) → task ≡ Check proof → CheckReports files more proof.now pair r → TaskReports task files more a b x y pair r
+task_check task files more a b x y pair r is h = subst (λ t. TaskReports t files more a b x y pair r) (sym is) h
 
-pub task_instance : (task : Task) {at : _} {limit : _} (files : Option Contents) (fails : List ℕ → ℕ → Type 0) (a b x y : List ℕ) (pair : Pair) (r : Report) → task ≡ Instance at limit → InstanceReports a b x y pair (option_map (λ w. w.now) at) limit r → TaskReports task files fails a b x y pair r
-task_instance task files fails a b x y pair r is h = subst (λ t. TaskReports t files fails a b x y pair r) (sym is) h
+pub task_instance : (task : Task) {at : _} {limit : _} (files : Option Contents) (more : List Read → Type 0) (a b x y : List ℕ) (pair : Pair) (r : Report) → task ≡ Instance at limit → more [] → InstanceReports a b x y pair (option_map (λ w. w.now) at) limit r
+    → TaskReports task files more a b x y pair r
+task_instance task files more a b x y pair r is none h = subst (λ t. TaskReports t files more a b x y pair r) (sym is) (none, h)
 
-pub sources_on : (a b x y : List ℕ) (Of Also : Pair → Report → Type 0) → ((pair : Pair) (r : Report) → Of pair r → Also pair r) → (r : Report) → SourceReports a b x y Of r → SourceReports a b x y Also r
-sources_on a b x y Of Also on _ (refused text why) = refused text why
-sources_on a b x y Of Also on r (paired pair _ are lowered h) = paired pair r are lowered (on pair r h)
+pub sources_on : (a b x y : List ℕ) (more also : List Read → Type 0) (Of Also : Pair → Report → Type 0) → (more [] → also []) → ((pair : Pair) (r : Report) → Of pair r → Also pair r) → (r : Report)
+    → SourceReports a b x y more Of r → SourceReports a b x y also Also r
+sources_on a b x y more also Of Also none on _ (refused text h why) = refused text (none h) why
+sources_on a b x y more also Of Also none on r (paired pair _ are lowered h) = paired pair r are lowered (on pair r h)
 
 -- bytes are the front of those that a file holds; of a file that is not there no byte was read
 abbrev pub FrontOf : Option (List ℕ) → List ℕ → Type 0
@@ -74,13 +74,14 @@ front_grows (Some held) before piece now room h told fed =
     let whole : now ≡ take (length before + room) held = fed ∙ (λ i. h i ++ told i) ∙ sym (take-add (length before) room held) in
     whole ∙ take_front (length before + room) held ∙ ap (λ l. take (length l) held) (sym whole)
 
-pub front_on : (files : Option Contents) (name : List ℕ) (from room : ℕ) (old new : Checker) (text : List ℕ) (count : ℕ) → from ≡ length text → IsFront files name text → (k : IsFed files name from room old new count) → IsFront files name (text ++ k.piece)
-front_on None name from room old new text count at h k = tt
-front_on (Some contents) name from room old new text count at h k =
+pub front_on : (files : Option Contents) (reads : List Read → Type 0) (name : List ℕ) (from room : ℕ) (old new : Checker) (text : List ℕ) (count : ℕ) → from ≡ length text → IsFront files name text → (k : IsFed files reads name from room old new count)
+    → IsFront files name (text ++ k.piece)
+front_on None reads name from room old new text count at h k = tt
+front_on (Some contents) reads name from room old new text count at h k =
     front_grows (get contents name) text k.piece (text ++ k.piece) room h (subst (λ n. IsSomeAnd (get contents name) (λ bytes. k.piece ≡ part_of bytes n room)) at k.told) refl
 
-pub longer : (files : Option Contents) (name : List ℕ) (from room : ℕ) (old new : Checker) (text : List ℕ) (count : ℕ) → (k : IsFed files name from room old new count) → length (text ++ k.piece) ≡ length text + count
-longer files name from room old new text count k = length-append text k.piece ∙ ap (λ n. length text + n) k.counted
+pub longer : (files : Option Contents) (reads : List Read → Type 0) (name : List ℕ) (from room : ℕ) (old new : Checker) (text : List ℕ) (count : ℕ) → (k : IsFed files reads name from room old new count) → length (text ++ k.piece) ≡ length text + count
+longer files reads name from room old new text count k = length-append text k.piece ∙ ap (λ n. length text + n) k.counted
 
 none_left : (xs : List ℕ) → length xs ≡ 0 → xs ≡ []
 none_left [] h = refl
@@ -100,10 +101,29 @@ whole_file (Some held) before piece now room some short empty h told fed =
     few : (r d l n : ℕ) → 0 < r → min r d ≡ 0 → d ≡ l - n → l ≤ n
     few r d l n some nothing is = grind (arith)
 
-pub stream_ends : (files : Option Contents) (name : List ℕ) (from room : ℕ) (old new : Checker) (text : List ℕ) → from ≡ length text → 0 < room → from ≤ stream_limit → IsFront files name text → (k : IsFed files name from room old new 0) → IsStream files name (text ++ k.piece)
-stream_ends None name from room old new text at some short h k = tt
-stream_ends (Some contents) name from room old new text at some short h k =
+stream_told : (files : Option Contents) (reads : List Read → Type 0) (name : List ℕ) (from room : ℕ) (old new : Checker) (text : List ℕ) → from ≡ length text → 0 < room → from ≤ stream_limit → IsFront files name text → (k : IsFed files reads name from room old new 0)
+    → IfSome files (λ contents. IsSomeAnd (get contents name) (λ bytes. text ++ k.piece ≡ take stream_limit bytes))
+stream_told None reads name from room old new text at some short h k = tt
+stream_told (Some contents) reads name from room old new text at some short h k =
     whole_file (get contents name) text k.piece (text ++ k.piece) room some (subst (λ n. n ≤ stream_limit) at short) k.counted h (subst (λ n. IsSomeAnd (get contents name) (λ bytes. k.piece ≡ part_of bytes n room)) at k.told) refl
+
+-- a part that was read next
+pub part_out : (name : List ℕ) (parts : List Read) (text : List ℕ) (from room : ℕ) (piece : List ℕ) → from ≡ length text → HandOut name parts text → HandOut name (parts ++ part_read name from room (handed_out piece) ∷ []) (text ++ piece)
+part_out name parts text from room piece at h = subst (λ (n : ℕ). HandOut name (parts ++ part_read name n room (handed_out piece) ∷ []) (text ++ piece)) (sym at) (next_part parts text room piece h)
+
+-- an empty part ends the stream
+pub stream_ends : (files : Option Contents) (reads : List Read → Type 0) (name : List ℕ) (from room : ℕ) (old new : Checker) (text : List ℕ) (parts : List Read) → from ≡ length text → 0 < room → from ≤ stream_limit → IsFront files name text → HandOut name parts text
+    → (k : IsFed files reads name from room old new 0) → IsStream files name (parts ++ part_read name from room (handed_out k.piece) ∷ []) (text ++ k.piece)
+stream_ends files reads name from room old new text parts at some short h out k =
+    let none : k.piece ≡ [] = none_left k.piece k.counted in
+    let same : text ++ k.piece ≡ text = ap (λ (l : List ℕ). text ++ l) none ∙ append-nil text in
+    let place : from ≡ length (text ++ k.piece) = at ∙ ap length (sym same) in
+    let last : part_read name from room (handed_out k.piece) ≡ part_read name (length (text ++ k.piece)) room (handed_out []) = (λ i. part_read name (place i) room (handed_out (none i))) in
+    record {
+      out = part_out name parts text from room k.piece at out;
+      ended = at_end parts room some (ap (λ (r : Read). parts ++ r ∷ []) last);
+      told = stream_told files reads name from room old new text at some short h k;
+    }
 
 pub limit-is : stream_limit ≡ 67108865
 unfolding stream_limit
@@ -116,9 +136,9 @@ longest : (o : Option (List ℕ)) (bytes : List ℕ) → length bytes ≡ stream
 longest None bytes long h = let l : length bytes ≡ 0 = ap length h in absurd (no_limit (sym l ∙ long))
 longest (Some held) bytes long h = h ∙ ap (λ n. take n held) long
 
-pub stream_is_long : (files : Option Contents) (name bytes : List ℕ) → length bytes ≡ stream_limit → IsFront files name bytes → IsStream files name bytes
-stream_is_long None name bytes long h = tt
-stream_is_long (Some contents) name bytes long h = longest (get contents name) bytes long h
+long_told : (files : Option Contents) (name bytes : List ℕ) → length bytes ≡ stream_limit → IsFront files name bytes → IfSome files (λ contents. IsSomeAnd (get contents name) (λ held. bytes ≡ take stream_limit held))
+long_told None name bytes long h = tt
+long_told (Some contents) name bytes long h = longest (get contents name) bytes long h
 
-pub again : (name : List ℕ) (count : ℕ) → replicate count name ++ name ∷ [] ≡ replicate (count + 1) name
-again name count = replicate-append-replicate count 1 name
+pub stream_is_long : (files : Option Contents) (name bytes : List ℕ) (parts : List Read) → length bytes ≡ stream_limit → IsFront files name bytes → HandOut name parts bytes → IsStream files name parts bytes
+stream_is_long files name bytes parts long h out = record { out = out; ended = at_limit long; told = long_told files name bytes long h }

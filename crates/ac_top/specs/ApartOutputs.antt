@@ -14,4 +14,4 @@ use Rattle.ac_top.specs.ArrangementReports.{IsApart}
 abbrev pub ApartOutputsHaveMismatches : Type 0
 ApartOutputsHaveMismatches =
     (pair : Pair) (output : ℕ) → ArePaired pair → HaveArities pair.left.body → HaveArities pair.right.body → AreOutputs pair (output ∷ []) → IsApart pair output
-    → (w : Widening) → IsWideningOf pair w → (order : Position × Position → Order) → ¬ (¬ (HasMismatch (searched pair output w) order))
+    → (w : Widening) → IsWideningOf pair output w → (order : Position × Position → Order) → ¬ (¬ (HasMismatch (searched pair output w) order))

@@ -15,7 +15,7 @@ use Rattle.ac_flow.specs.declared.types.FlowStop.TheVariants as flow
 use Rattle.ac_legal_law.specs.BrokenOrders.{BreaksAt}
 use Rattle.ac_legal_law.specs.EntryTimes.{NeverFall}
 use Rattle.ac_legal_law.specs.Schedules.{IsValuationOf as IsIn, ScheduleKeepsOrder, time_of}
-use Rattle.ac_legal.specs.ScheduleAnswers.{SomeStops}
+use Rattle.ac_legal.specs.ScheduleAnswers.{SomeStops, NoDecidedQuestionHasAPoint}
 use Rattle.ac_legal.specs.declared.types.LegalStop.{LegalStop}
 use Rattle.ac_legal.specs.declared.types.LegalStop.TheVariants.{Overflow, Spent, Memory}
 use Rattle.ac_legal_text.specs.BrokenLines.{broken_line}
@@ -39,11 +39,13 @@ abbrev pub stop_text : LegalStop → Option (List ℕ)
 stop_text stop = flow_stop_text (flow_stop_of stop)
 
 -- what is reported of a schedule: that no valuation meets the context, as its question shows; that this question is too wide or costs too much; or,
--- where it has a valuation, that an order question does so; or that the order is kept, or two instances between which it is broken
+-- where it has a valuation, that an order question does so or cannot be formed, and each that can be formed has no point or is left undecided; or that
+-- the order is kept, or two instances between which it is broken
 pub data OrderReports (program : Program) (times : List (List Affine)) : Report → Type 0 where
   no_valuation : ContextStops default_budget (lowered program) EmptyContext → ((params : List ℤ) → ¬ (IsValuationOf program params)) → OrderReports program times (report status.Refused empty_context_line)
   context_stopped : (stop : ContextStop) (text : List ℕ) → IsUnanswered stop → ContextStops default_budget (lowered program) stop → context_stop_text stop ≡ Some text → OrderReports program times (report status.Stopped text)
-  order_stopped : (stop : LegalStop) (text : List ℕ) → HasValuation default_budget (lowered program) → SomeStops default_budget (lowered program) times stop → stop_text stop ≡ Some text → OrderReports program times (report status.Stopped text)
+  order_stopped : (stop : LegalStop) (text : List ℕ) → HasValuation default_budget (lowered program) → SomeStops default_budget (lowered program) times stop → NoDecidedQuestionHasAPoint default_budget (lowered program) times
+      → stop_text stop ≡ Some text → OrderReports program times (report status.Stopped text)
   kept : HasValuation default_budget (lowered program) → ScheduleKeepsOrder times program program.context → OrderReports program times (report status.Done kept_line)
   broken : (at : List ℤ) (i : ℕ) (xs : List ℤ) (j : ℕ) (ys : List ℤ) → HasValuation default_budget (lowered program) → BreaksAt program program.context times at i xs j ys → OrderReports program times (report status.Different (broken_line at i xs j ys))
 

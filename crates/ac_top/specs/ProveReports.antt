@@ -10,6 +10,7 @@ use Rattle.ac_prooftext.specs.ProofTexts.{proof_text}
 use Rattle.ac_report.specs.Layouts.{layout_of}
 use Rattle.ac_report.specs.ReportTexts.{report_lines}
 use Rattle.ac_report.specs.declared.types.Verdict.{Verdict}
+use Rattle.ac_walk.specs.TriedValuations.{AreTried}
 use Rattle.ac_walk.specs.UnknownCauses.{IsAnswered, left_model}
 use Rattle.ac_walk.specs.Verdicts.{AreMatched, AreVerdicts, IsAccepted, IsDifferentAt, equal_outputs, named}
 use Rattle.ac_top.specs.Reports.{Report, report, ProofFile}
@@ -29,10 +30,11 @@ pub data IsFileOf (proof : Proof) : Option (List ℕ) → Option ProofFile → T
   whole_text : (file : ProofFile) → named proof ≢ [] → file.bytes ≡ proof_text proof → IsFileOf proof (Some file.name) (Some file)
 
 -- what is reported: that no valuation meets the context, as its question shows at the budget; or the verdicts on the outputs, with the file for
--- their proof, where some order of each equal output has no mismatch, and each is unknown if the question of the context or a flow stops at the budget, and else is as the search at the budget ends
+-- their proof, where some order of each equal output has no mismatch, and each is unknown or different if the question of the context or a flow
+-- stops at the budget, and else is as the search at the budget ends, and of each that is unknown the valuations that are tried show no difference
 pub data ProveReports (pair : Pair) (budget : ℕ) (name : Option (List ℕ)) : Report → Type 0 where
   empty_context : ContextStops budget (left_model pair) EmptyContext → ((params : List ℤ) → ¬ (IsValuation pair params)) → ProveReports pair budget name (report status.Refused empty_context_line)
-  compared : (verdicts : List Verdict) (proof : Proof) (file : Option ProofFile) → AreVerdicts pair pair.outputs verdicts → AreMatched pair pair.outputs verdicts → IsAnswered budget pair verdicts → IsProofOf pair verdicts proof → IsFileOf proof name file
+  compared : (verdicts : List Verdict) (proof : Proof) (file : Option ProofFile) → AreVerdicts pair pair.outputs verdicts → AreMatched pair pair.outputs verdicts → IsAnswered budget pair verdicts → AreTried budget pair pair.outputs verdicts → IsProofOf pair verdicts proof → IsFileOf proof name file
       → ProveReports pair budget name (record { status = status_of verdicts; text = report_lines (layout_of pair.left) pair.outputs verdicts; proof = file })
 
 -- these bytes are the text of a proof that the check of proofs accepts; it names some output, and each that it names is the same

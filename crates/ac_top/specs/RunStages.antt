@@ -1,10 +1,11 @@
 -- What the stages of a run hand on.
-use Rattle.std.specs.Prelude.{◌≡◌, ◌≤◌, ◌++◌, ℕ, ℤ, List, [], ◌∷◌, map, nat_eq, length, replicate, Bool, true, false, IsSomeAnd, Option, Some, None, IfSome, Result, Ok, Err, Vec, option_map}
+use Rattle.std.specs.Prelude.{◌≡◌, ◌≤◌, ◌++◌, ℕ, ℤ, List, [], ◌∷◌, map, nat_eq, length, Bool, true, false, IsSomeAnd, Option, Some, None, IfSome, Result, Ok, Err, Vec, option_map}
 use Rattle.std.specs.Global.{Global}
 use Rattle.std.specs.declared.alloc.AllocError.{AllocError}
 use Rattle.std.specs.FinMap.{get}
 use Rattle.std.specs.List.{list_any}
 use Rattle.ac_port.specs.Contents.{Contents, IsTooBig, part_of}
+use Rattle.ac_port.specs.Transcripts.{Read, handed_out, read_failed, was_too_big, part_read}
 use Rattle.ac_claims.specs.Soundness.{AreModels}
 use Rattle.ac_claims_paths.specs.PathSteps.{Pairing}
 use Rattle.ac_prooftext.specs.CheckProgress.{IsFed as Took}
@@ -21,8 +22,8 @@ use Rattle.ac_syntax.specs.declared.tree.Pair.{Pair}
 use Rattle.ac_parse_rules.specs.DeclaredNumbers.{ListsItsParameters}
 use Rattle.ac_parse.specs.ProgramPairs.{IsPairOf}
 use Rattle.ac_parse.specs.Program.{IsProgramOf}
-use Rattle.ac_top.specs.ProgramAnswers.{AreLowered, AreNoPair, ArePaired, AreRefused, AreUnpaired, HasComplaint, Holds, IsLowered, IsNotLowered, IsStream, CheckReports}
-use Rattle.ac_top.specs.Reads.{Fails}
+use Rattle.ac_top.specs.ProgramAnswers.{AreLowered, AreNoPair, ArePaired, AreRefused, AreUnpaired, HasComplaint, Holds, IsLowered, IsNotLowered, CheckReports}
+use Rattle.ac_top.specs.Reads.{HandOut, IsStream, source_read}
 use Rattle.ac_top.specs.declared.lowering.Lowered.{Lowered}
 use Rattle.ac_top.specs.declared.lowering.Lowered.TheVariants.{Models}
 use Rattle.ac_top.specs.declared.lowering.Lowered.TheVariants as lowered
@@ -52,11 +53,11 @@ file_of file = record { name = file.name.items; bytes = file.bytes.items }
 abbrev pub written : Written → Report
 written r = record { status = r.status; text = r.text.items; proof = option_map file_of r.proof }
 
--- what a read gave; `quiet` says that no read failed in it, and `faulty` that one did
-abbrev pub IsSource : Option Contents → (quiet faulty : Type 0) → List ℕ → Source → Type 0
-IsSource files quiet faulty name (Bytes bytes) = Holds files name bytes.items × quiet
-IsSource files quiet faulty name Unread = faulty
-IsSource files quiet faulty name TooLong = IfSome files (λ contents. IsTooBig contents name 65536)
+-- what the read of a source file gave; `reads` says that these were the reads
+abbrev pub IsSource : Option Contents → (reads : List Read → Type 0) → List ℕ → Source → Type 0
+IsSource files reads name (Bytes bytes) = Holds files name bytes.items × reads (source_read name (handed_out bytes.items) ∷ [])
+IsSource files reads name Unread = reads (source_read name read_failed ∷ [])
+IsSource files reads name TooLong = reads (source_read name was_too_big ∷ []) × IfSome files (λ contents. IsTooBig contents name 65536)
 
 -- what is known of a program that was read
 pub record IsRead (program : Program) : Type 0 where
@@ -103,39 +104,41 @@ abbrev pub IsLowering : Program → Cond → OneLowered → Type 0
 IsLowering program context (one.Model model) = IsLowered program × (model ≡ model_of program context) × HasContext context model
 IsLowering program context (one.Refused said) = IsNotLowered program (said_by said)
 
--- what one read of a part gave; `quiet` says that no read failed in it, and `faulty` that one did
-abbrev pub IsPiece : Option Contents → (quiet faulty : Type 0) → (name : List ℕ) (from room : ℕ) → Option (Vec ℕ Global) → Type 0
-IsPiece files quiet faulty name from room None = faulty
-IsPiece files quiet faulty name from room (Some piece) = quiet × (length piece.items ≤ room) × IfSome files (λ contents. IsSomeAnd (get contents name) (λ bytes. piece.items ≡ part_of bytes from room))
+-- what one read of a part gave; `reads` says that these were the reads
+abbrev pub IsPiece : Option Contents → (reads : List Read → Type 0) → (name : List ℕ) (from room : ℕ) → Option (Vec ℕ Global) → Type 0
+IsPiece files reads name from room None = reads (part_read name from room read_failed ∷ [])
+IsPiece files reads name from room (Some piece) =
+    reads (part_read name from room (handed_out piece.items) ∷ []) × (length piece.items ≤ room) × IfSome files (λ contents. IsSomeAnd (get contents name) (λ bytes. piece.items ≡ part_of bytes from room))
 
--- a part of a named file was fed to a checker: all that there is from a place on, as far as there is room
-pub record IsFed (files : Option Contents) (name : List ℕ) (from room : ℕ) (before now : Checker) (count : ℕ) : Type 0 where
+-- a part of a named file was read and fed to a checker: all that there is from a place on, as far as there is room
+pub record IsFed (files : Option Contents) (reads : List Read → Type 0) (name : List ℕ) (from room : ℕ) (before now : Checker) (count : ℕ) : Type 0 where
   pub piece : List ℕ
+  pub is_read : reads (part_read name from room (handed_out piece) ∷ [])
   pub fed : (g : Pairing) (outputs text : List ℕ) → Took g outputs text before → Took g outputs (text ++ piece) now
   pub counted : length piece ≡ count
   pub within : count ≤ room
   pub told : IfSome files (λ contents. IsSomeAnd (get contents name) (λ bytes. piece ≡ part_of bytes from room))
 
 -- the same, where the part was fed, by how many bytes it has
-abbrev pub IsPartRead : Option Contents → (quiet faulty : Type 0) → (name : List ℕ) (from room : ℕ) (before now : Checker) → Option ℕ → Type 0
-IsPartRead files quiet faulty name from room before now None = faulty
-IsPartRead files quiet faulty name from room before now (Some count) = quiet × IsFed files name from room before now count
+abbrev pub IsPartRead : Option Contents → (reads : List Read → Type 0) → (name : List ℕ) (from room : ℕ) (before now : Checker) → Option ℕ → Type 0
+IsPartRead files reads name from room before now None = reads (part_read name from room read_failed ∷ [])
+IsPartRead files reads name from room before now (Some count) = IsFed files reads name from room before now count
 
 -- a named file was read in parts, and its stream was fed to a checker; or a read failed
-abbrev pub IsFeeding : {Files : Type 0} → (Files → List ℕ → Files → Type 0) → (Files → ℕ) → Files → Files → Option Contents → List ℕ → Pairing → List ℕ → Checker → Bool → Type 0
-IsFeeding makes faults before after files name g outputs checker true = (stream : List ℕ) × IsStream files name stream × Took g outputs stream checker
-IsFeeding makes faults before after files name g outputs checker false = (count : ℕ) × Fails makes faults before after (replicate count name) name
+abbrev pub IsFeeding : Option Contents → (reads : List Read → Type 0) → (name : List ℕ) → Pairing → List ℕ → Checker → Bool → Type 0
+IsFeeding files reads name g outputs checker true = (parts : List Read) × (stream : List ℕ) × reads parts × IsStream files name parts stream × Took g outputs stream checker
+IsFeeding files reads name g outputs checker false = (parts : List Read) × (bytes : List ℕ) × (room : ℕ) × HandOut name parts bytes × reads (parts ++ part_read name (length bytes) room read_failed ∷ [])
 
 -- both programs of the pair of two texts are lowered, to these models, or the line that says which is not
 abbrev pub IsLoweringOf : (a b first second : List ℕ) → Pair → Lowered → Type 0
 IsLoweringOf a b first second pair (Models left right) = AreLowered pair × AreModels pair left right
 IsLoweringOf a b first second pair (lowered.Refused text) = AreRefused a b first second text.items
 
--- what a task reports of a pair of the texts of two files; `fails` says of a proof file that the read of a part failed after so many
-abbrev pub TaskReports : Task → Option Contents → (fails : List ℕ → ℕ → Type 0) → (a b first second : List ℕ) → Pair → Report → Type 0
-TaskReports (Prove budget proof) files fails a b first second = λ pair. ProveReports pair budget (option_map (λ w. w.now) proof)
-TaskReports (Check proof) files fails a b first second = CheckReports files (fails proof.now) proof.now
-TaskReports (Instance at limit) files fails a b first second = λ pair. InstanceReports a b first second pair (option_map (λ w. w.now) at) limit
+-- what a task reports of a pair of the texts of two files; `more` says that these were the further reads
+abbrev pub TaskReports : Task → Option Contents → (more : List Read → Type 0) → (a b first second : List ℕ) → Pair → Report → Type 0
+TaskReports (Prove budget proof) files more a b first second = λ pair r. more [] × ProveReports pair budget (option_map (λ w. w.now) proof) r
+TaskReports (Check proof) files more a b first second = λ pair r. CheckReports files more proof.now pair r
+TaskReports (Instance at limit) files more a b first second = λ pair r. more [] × InstanceReports a b first second pair (option_map (λ w. w.now) at) limit r
 
 -- a limit is at most the greatest
 abbrev pub IsWithin : Task → Type 0

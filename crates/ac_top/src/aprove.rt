@@ -1,5 +1,5 @@
 //! The work of `aprove`: two files are read, and their pair is reported on once its chains have no fault and its programs are lowered.
-ghost use Rattle.std.specs.Prelude.{◌≡◌, Some, None, IfOk};
+ghost use Rattle.std.specs.Prelude.{◌≡◌, [], Some, None, IfOk};
 ghost use Rattle.std.specs.List.{AllByRecursion};
 ghost use Rattle.ac_assoc.specs.ArrangementFaults.{fault_of};
 ghost use Rattle.ac_assoc.specs.ProgramChains.{chains_of_pair};
@@ -8,7 +8,7 @@ ghost use Rattle.ac_top.specs.ArrangementLines as lines;
 ghost use Rattle.ac_top.specs.ConsoleLines as text;
 ghost use Rattle.ac_top.specs.InstanceReports.{of_side};
 ghost use Rattle.ac_top.specs.ProgramAnswers.{ArePaired, ChainReports, FileReports};
-ghost use Rattle.ac_top.specs.Reads.{Fails};
+ghost use Rattle.ac_top.specs.Reads.{AreReads};
 ghost use Rattle.ac_top.specs.RunStages.{IsReadPair, said_by, written};
 
 use crate::lowering::{Lowered, lowered_pair};
@@ -80,10 +80,7 @@ fn report_chains(
 {
     match lowered_pair(alloc, left, right, pair)? {
         Lowered::Refused(line) => Ok(refused(line)),
-        Lowered::Models {
-            left: first,
-            right: second,
-        } => report_regrouped(alloc, pair, &first, &second, symbols, chains),
+        Lowered::Models { .. } => report_regrouped(alloc, pair, symbols, chains),
     }
 }
 
@@ -129,7 +126,7 @@ pub fn report_aprove<F: Files>(
     symbols: &[u8],
 ) -> Result<Report, AllocError>
     requires { AllByRecursion FitsAName (listed_in symbols.now) }
-    ensures report { IfOk result (λ r. FileReports (F.contents files.old) (Fails F.read_makes F.read_faults files.old files.new) a.now b.now (λ first second. ChainReports a.now b.now first second (listed_in symbols.now)) (written r)) }
+    ensures report { IfOk result (λ r. FileReports (F.contents files.old) (AreReads (F.transcript files.old) (F.transcript files.new)) a.now b.now (λ first second more s. more [] × ChainReports a.now b.now first second (listed_in symbols.now) s) (written r)) }
     ensures same { F.contents files.new ≡ F.contents files.old }
     ensures same_writes { F.write_faults files.new ≡ F.write_faults files.old }
 {

@@ -1,12 +1,11 @@
 // The work of `check`: a proof file is fed to a checker, part by part, and what is reported of it.
-ghost use Rattle.std.specs.Prelude.{◌≡◌, ◌++◌, [], ℕ, List, replicate, IfOk};
-ghost use Rattle.ac_port.specs.CallCounts.{Rose};
+ghost use Rattle.std.specs.Prelude.{◌≡◌, ◌++◌, [], ℕ, List, IfOk};
 ghost use Rattle.ac_claims_paths.specs.PathSteps.{Pairing};
 ghost use Rattle.ac_claims.specs.Soundness.{AreModels, pairing_of};
 ghost use Rattle.ac_claims.specs.Soundness as judge;
 ghost use Rattle.ac_prooftext.specs.CheckProgress.{IsFed as Took, IsReady};
 ghost use Rattle.ac_top.specs.ProgramAnswers.{ProofReports, CheckReports};
-ghost use Rattle.ac_top.specs.Reads.{Fails};
+ghost use Rattle.ac_top.specs.Reads.{AreReads};
 ghost use Rattle.ac_top.specs.Reports.{report as a_report};
 ghost use Rattle.ac_top.specs.RunStages.{written, IsPiece, IsPartRead, IsFeeding};
 
@@ -35,8 +34,7 @@ fn read_part<F: Files>(
     from: u64,
     room: usize,
 ) -> Result<Option<Vec<u8>>, AllocError>
-    ensures part { IfOk result (IsPiece (F.contents files.old) (F.read_faults files.new ≡ F.read_faults files.old) (Rose (F.read_faults files.old) (F.read_faults files.new)) name.now from room) }
-    ensures makes { IfOk result (λ _. F.read_makes files.old name.now files.new) }
+    ensures part { IfOk result (IsPiece (F.contents files.old) (AreReads (F.transcript files.old) (F.transcript files.new)) name.now from room) }
     ensures same { F.contents files.new ≡ F.contents files.old }
     ensures same_writes { F.write_faults files.new ≡ F.write_faults files.old }
 {
@@ -59,8 +57,7 @@ fn feed_part<F: Files>(
     checker: &mut Checker<'_>,
 ) -> Result<Option<usize>, AllocError>
     requires { IsReady checker.old }
-    ensures part { IfOk result (IsPartRead (F.contents files.old) (F.read_faults files.new ≡ F.read_faults files.old) (Rose (F.read_faults files.old) (F.read_faults files.new)) name.now from room checker.old checker.new) }
-    ensures makes { IfOk result (λ _. F.read_makes files.old name.now files.new) }
+    ensures part { IfOk result (IsPartRead (F.contents files.old) (AreReads (F.transcript files.old) (F.transcript files.new)) name.now from room checker.old checker.new) }
     ensures same { F.contents files.new ≡ F.contents files.old }
     ensures same_writes { F.write_faults files.new ≡ F.write_faults files.old }
     ensures ready { IsReady checker.new }
@@ -80,7 +77,7 @@ fn feed_file<F: Files>(
     checker: &mut Checker<'_>,
 ) -> Result<bool, AllocError>
     requires { IsReady checker.old }
-    ensures fed { IfOk result (λ read. (g : Pairing) (outputs : List ℕ) → Took g outputs [] checker.old → IsFeeding F.read_makes F.read_faults files.old files.new (F.contents files.old) name.now g outputs checker.new read) }
+    ensures fed { IfOk result (λ read. (g : Pairing) (outputs : List ℕ) → Took g outputs [] checker.old → IsFeeding (F.contents files.old) (AreReads (F.transcript files.old) (F.transcript files.new)) name.now g outputs checker.new read) }
     ensures same { F.contents files.new ≡ F.contents files.old }
     ensures same_writes { F.write_faults files.new ≡ F.write_faults files.old }
 {
@@ -146,7 +143,7 @@ pub fn report_check<F: Files>(
 ) -> Result<Report, AllocError>
     requires paired { judge.ArePaired pair.now }
     requires models { AreModels pair.now left.now right.now }
-    ensures report { IfOk result (λ r. CheckReports (F.contents files.old) (λ count. Fails F.read_makes F.read_faults files.old files.new (replicate count name.now) name.now) name.now pair.now (written r)) }
+    ensures report { IfOk result (λ r. CheckReports (F.contents files.old) (AreReads (F.transcript files.old) (F.transcript files.new)) name.now pair.now (written r)) }
     ensures same { F.contents files.new ≡ F.contents files.old }
     ensures same_writes { F.write_faults files.new ≡ F.write_faults files.old }
 {

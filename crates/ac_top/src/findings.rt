@@ -6,6 +6,7 @@ ghost use Rattle.ac_report.specs.ReportTexts as text;
 ghost use Rattle.ac_syntax.specs.ExecutedCalls.{HaveArities};
 ghost use Rattle.ac_syntax.specs.ReadyPrograms.{ReadyProgram, FitParts};
 ghost use Rattle.ac_syntax.specs.declared.tree.Pair.{Pair as Pairing};
+ghost use Rattle.ac_walk.specs.TriedValuations.{IsTriedIf};
 ghost use Rattle.ac_walk.specs.UnknownCauses.{IsAnswered};
 ghost use Rattle.ac_walk.specs.Verdicts.{IsMatchedIf, IsVerdict};
 ghost use Rattle.ac_top.specs.ArrangementReports as spec;
@@ -15,6 +16,8 @@ ghost use Rattle.ac_top.specs.FlowReports.{default_budget};
 ghost use Rattle.ac_top.specs.ProgramAnswers.{AreLowered, IsLowered};
 
 use crate::lowering::{OneLowered, lowered_program};
+use crate::valuations::keep;
+use ac_base::Items;
 use ac_flow::types::Limits;
 use ac_poly::types::Model;
 use ac_report::{Cause, Verdict};
@@ -64,7 +67,7 @@ fn words_of(cause: &Cause) -> &'static [u8]
 
 /// What the verdict on the one output of a pair says of it.
 fn finding_of(verdict: &Verdict) -> Finding
-    ensures { (pair : Pairing) (output : ℕ) → IsVerdict pair output verdict.now → IsMatchedIf pair output verdict.now → IsAnswered default_budget pair (verdict.now ∷ []) → IsFinding pair output result }
+    ensures { (pair : Pairing) (output : ℕ) → judge.ArePaired pair → IsVerdict pair output verdict.now → IsMatchedIf pair output verdict.now → IsAnswered default_budget pair (verdict.now ∷ []) → IsTriedIf default_budget pair output verdict.now → IsFinding pair output result }
 {
     match verdict {
         Verdict::Equal => Finding::Equal,
@@ -88,7 +91,7 @@ fn only_verdict(verdicts: &[Verdict]) -> &Verdict
 }
 
 /// The model of a program that is lowered.
-fn model_of(alloc: Global, program: &Program, context: &Cond) -> Result<Model, AllocError>
+pub fn model_of(alloc: Global, program: &Program, context: &Cond) -> Result<Model, AllocError>
     requires program { ReadyProgram program.now }
     requires context { FitParts (length program.now.params) 0 context.now.parts }
     requires lowered { IsLowered program.now }
@@ -100,8 +103,14 @@ fn model_of(alloc: Global, program: &Program, context: &Cond) -> Result<Model, A
     }
 }
 
-/// What the search finds of the one output of a pair whose programs are lowered; none where no valuation meets the context.
-pub fn find(alloc: Global, pair: &Pair, output: usize) -> Result<Option<Finding>, AllocError>
+/// What the search finds of the one output of a pair whose programs are lowered; none where no valuation meets the context. The valuation at which an
+/// element differs is kept.
+pub fn find(
+    alloc: Global,
+    pair: &Pair,
+    output: usize,
+    last: &mut Items<i64>,
+) -> Result<Option<Finding>, AllocError>
     requires paired { judge.ArePaired pair.now }
     requires arities { HaveArities pair.now.left.body × HaveArities pair.now.right.body }
     requires lowered { AreLowered pair.now }
@@ -113,6 +122,7 @@ pub fn find(alloc: Global, pair: &Pair, output: usize) -> Result<Option<Finding>
     match prove(alloc, pair, &[left, right], &LIMITS) {
         Ok(proved) => {
             let verdict = only_verdict(proved.verdicts.as_slice());
+            keep(alloc, last, verdict)?;
             Ok(Some(finding_of(verdict)))
         }
         Err(ProveStop::EmptyContext) => Ok(None),

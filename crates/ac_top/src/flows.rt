@@ -7,7 +7,7 @@ ghost use Rattle.ac_poly.specs.Model.{HasContext};
 ghost use Rattle.ac_walk.specs.UnknownCauses.{HasValuation};
 ghost use Rattle.ac_top.specs.ProgramAnswers.{TextReports, OneFileReports};
 ghost use Rattle.ac_top.specs.FlowReports.{FlowReports, lowered, default_budget};
-ghost use Rattle.ac_top.specs.Reads.{Fails};
+ghost use Rattle.ac_top.specs.Reads.{AreReads};
 ghost use Rattle.ac_top.specs.Reports.{report as a_report};
 ghost use Rattle.ac_top.specs.RunStages.{IsRead, written};
 
@@ -121,7 +121,7 @@ pub fn report_flow<F: Files>(
     files: &mut F,
     name: &[u8],
 ) -> Result<Report, AllocError>
-    ensures report { IfOk result (λ r. OneFileReports (F.contents files.old) (Fails F.read_makes F.read_faults files.old files.new [] name.now) name.now (written r)) }
+    ensures report { IfOk result (λ r. OneFileReports (F.contents files.old) (AreReads (F.transcript files.old) (F.transcript files.new)) name.now (written r)) }
     ensures same { F.contents files.new ≡ F.contents files.old }
     ensures same_writes { F.write_faults files.new ≡ F.write_faults files.old }
 {

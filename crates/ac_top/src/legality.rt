@@ -8,7 +8,7 @@ ghost use Rattle.ac_walk.specs.UnknownCauses.{HasValuation};
 ghost use Rattle.ac_top.specs.ProgramAnswers.{OrderOfTextReports, LegalReports};
 ghost use Rattle.ac_top.specs.FlowReports.{lowered, default_budget};
 ghost use Rattle.ac_top.specs.OrderReports.{OrderReports, OrderTextReports, flow_stop_of, stop_text};
-ghost use Rattle.ac_top.specs.Reads.{Fails};
+ghost use Rattle.ac_top.specs.Reads.{AreReads};
 ghost use Rattle.ac_top.specs.Reports.{report as a_report};
 ghost use Rattle.ac_top.specs.RunStages.{IsRead, written};
 
@@ -190,7 +190,7 @@ pub fn report_legal<F: Files>(
     name: &[u8],
     order: &[u8],
 ) -> Result<Report, AllocError>
-    ensures report { IfOk result (λ r. LegalReports (F.contents files.old) (Fails F.read_makes F.read_faults files.old files.new) name.now order.now (written r)) }
+    ensures report { IfOk result (λ r. LegalReports (F.contents files.old) (AreReads (F.transcript files.old) (F.transcript files.new)) name.now order.now (written r)) }
     ensures same { F.contents files.new ≡ F.contents files.old }
     ensures same_writes { F.write_faults files.new ≡ F.write_faults files.old }
 {

@@ -42,6 +42,7 @@ mod sources;
 pub mod status;
 mod stopping;
 mod texts;
+mod valuations;
 
 pub use ac_report::Verdict;
 pub use program::run;

@@ -5,7 +5,7 @@ ghost use Rattle.ac_port.specs.CallCounts.{Rose};
 ghost use Rattle.ac_cli_args.specs.Commands.{spelled, asked_by};
 ghost use Rattle.ac_cli_args.specs.UniqueCommands.{IsInRange};
 ghost use Rattle.ac_top.specs.ProgramAnswers.{Reports, CommandReports, Puts, Delivers, Ends, DoneMeansTheSame, DifferentMeansDifferent, KeepsFiles, AskForAProof};
-ghost use Rattle.ac_top.specs.Reads.{Fails};
+ghost use Rattle.ac_top.specs.Reads.{AreReads};
 ghost use Rattle.ac_top.specs.Reports.{report as a_report};
 ghost use Rattle.ac_top.specs.RunStages.{written};
 ghost use Rattle.ac_top.specs.ConsoleLines as text;
@@ -40,7 +40,7 @@ fn report_command<F: Files>(
     files: &mut F,
 ) -> Result<Report, AllocError>
     requires { IsInRange (asked_by command.now) }
-    ensures report { IfOk result (λ r. CommandReports (F.contents files.old) (Fails F.read_makes F.read_faults files.old files.new) (asked_by command.now) (written r)) }
+    ensures report { IfOk result (λ r. CommandReports (F.contents files.old) (AreReads (F.transcript files.old) (F.transcript files.new)) (asked_by command.now) (written r)) }
     ensures same { F.contents files.new ≡ F.contents files.old }
     ensures same_writes { F.write_faults files.new ≡ F.write_faults files.old }
 {
@@ -78,7 +78,7 @@ fn report_texts<F: Files>(
     files: &mut F,
 ) -> Result<Report, AllocError>
     requires { AllByRecursion IsUtf8 (map (λ s. s.now) texts.now) }
-    ensures report { IfOk result (λ r. Reports (map (λ s. s.now) texts.now) (F.contents files.old) (Fails F.read_makes F.read_faults files.old files.new) (written r)) }
+    ensures report { IfOk result (λ r. Reports (map (λ s. s.now) texts.now) (F.contents files.old) (AreReads (F.transcript files.old) (F.transcript files.new)) (written r)) }
     ensures same { F.contents files.new ≡ F.contents files.old }
     ensures same_writes { F.write_faults files.new ≡ F.write_faults files.old }
 {
@@ -91,7 +91,7 @@ fn report_texts<F: Files>(
 
 /// What is reported of the words.
 fn report<F: Files>(alloc: Global, words: &[Vec<u8>], files: &mut F) -> Result<Report, AllocError>
-    ensures report { IfOk result (λ r. Reports (spelled words.now) (F.contents files.old) (Fails F.read_makes F.read_faults files.old files.new) (written r)) }
+    ensures report { IfOk result (λ r. Reports (spelled words.now) (F.contents files.old) (AreReads (F.transcript files.old) (F.transcript files.new)) (written r)) }
     ensures same { F.contents files.new ≡ F.contents files.old }
     ensures same_writes { F.write_faults files.new ≡ F.write_faults files.old }
 {
@@ -134,6 +134,7 @@ fn put_write_fault<S: Sink>(alloc: Global, out: &mut S, name: &[u8]) -> Status
 fn deliver<F: Files, S: Sink>(alloc: Global, files: &mut F, out: &mut S, report: &Report) -> Status
     ensures delivers { Delivers (written report.now) (Rose (F.write_faults files.old) (F.write_faults files.new)) (Rose (S.faults out.old) (S.faults out.new)) (F.contents files.old) (F.contents files.new) (S.sent out.old) (S.sent out.new) result }
     ensures untouched { report.now.proof ≡ None → files.new ≡ files.old }
+    ensures same_reads { F.transcript files.new ≡ F.transcript files.old }
 {
     match &report.proof {
         None => put(out, report),
@@ -163,8 +164,9 @@ fn deliver<F: Files, S: Sink>(alloc: Global, files: &mut F, out: &mut S, report:
 /// same state, in every cell, under every table and from all contents. Each output of `aprove` has a line, which says that it is the same under
 /// chains, or not known.
 ///
-/// A read fault of a file is answered only where the files' count of faults rose in the read of that file, and a write fault only
-/// where their count of write faults or the sink's count rose in this call.
+/// What is said of files is said of the bytes that their reads handed out in this call, and a report says all of these reads.
+/// A read fault of a file is answered only where the read of that file failed, and a write fault only where the files' count of write faults
+/// or the sink's count rose in this call.
 /// No file changes but P. After want of memory nothing is put.
 pub fn run<F: Files, S: Sink>(
     alloc: Global,
@@ -172,17 +174,17 @@ pub fn run<F: Files, S: Sink>(
     files: &mut F,
     out: &mut S,
 ) -> Status
-    // What is answered, what is written, and what is put.
-    ensures answer { Ends (spelled words.now) (F.contents files.old) (F.contents files.new) (Fails F.read_makes F.read_faults files.old files.new) (Rose (F.write_faults files.old) (F.write_faults files.new)) (Rose (S.faults out.old) (S.faults out.new)) (S.sent out.old) (S.sent out.new) result }
+    // What is answered, what is read, what is written, and what is put.
+    ensures answer { Ends (spelled words.now) (F.contents files.old) (F.contents files.new) (AreReads (F.transcript files.old) (F.transcript files.new)) (Rose (F.write_faults files.old) (F.write_faults files.new)) (Rose (S.faults out.old) (S.faults out.new)) (S.sent out.old) (S.sent out.new) result }
 
-    // What is reported equal is equal.
-    ensures headline { DoneMeansTheSame (spelled words.now) (F.contents files.old) result }
+    // What is reported equal is equal, of the very texts that the reads handed out.
+    ensures headline { DoneMeansTheSame (spelled words.now) (F.contents files.old) (AreReads (F.transcript files.old) (F.transcript files.new)) result }
 
     // What is reported different is different.
-    ensures different { DifferentMeansDifferent (spelled words.now) (F.contents files.old) result }
+    ensures different { DifferentMeansDifferent (spelled words.now) (F.contents files.old) (AreReads (F.transcript files.old) (F.transcript files.new)) result }
 
     // No file changes but that of a proof of what is equal, which is then written.
-    ensures same { KeepsFiles (spelled words.now) (Rose (F.write_faults files.old) (F.write_faults files.new)) (F.contents files.old) (F.contents files.new) }
+    ensures same { KeepsFiles (spelled words.now) (Rose (F.write_faults files.old) (F.write_faults files.new)) (F.contents files.old) (F.contents files.new) (AreReads (F.transcript files.old) (F.transcript files.new)) }
     ensures same_writes { ¬ (AskForAProof (spelled words.now)) → F.write_faults files.new ≡ F.write_faults files.old }
 {
     match report(alloc, words, files) {

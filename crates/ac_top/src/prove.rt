@@ -2,6 +2,7 @@
 ghost use Rattle.std.specs.Prelude.{◌≡◌, Some, option_map, IfOk};
 ghost use Rattle.ac_claims.specs.Soundness as judge;
 ghost use Rattle.ac_syntax.specs.ExecutedCalls.{HaveArities};
+ghost use Rattle.ac_walk.specs.TriedValuations.{AreTried};
 ghost use Rattle.ac_walk.specs.UnknownCauses.{IsAnswered};
 ghost use Rattle.ac_walk.specs.Verdicts.{AreMatched, AreVerdicts};
 ghost use Rattle.ac_top.specs.ProveReports.{ProveReports, IsProofOf, IsFileOf};
@@ -56,6 +57,7 @@ fn report_proved(
     requires verdicts { AreVerdicts pair.now pair.now.outputs proved.now.verdicts }
     requires matched { AreMatched pair.now pair.now.outputs proved.now.verdicts }
     requires answered { IsAnswered budget pair.now proved.now.verdicts }
+    requires tried { AreTried budget pair.now pair.now.outputs proved.now.verdicts }
     requires proof { IsProofOf pair.now proved.now.verdicts proved.now.proof }
     ensures { IfOk result (λ r. ProveReports pair.now budget (option_map (λ w. w.now) name.entry) (written r)) }
 {

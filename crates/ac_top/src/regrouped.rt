@@ -2,7 +2,6 @@
 ghost use Rattle.std.specs.Prelude.{◌≡◌, ◌++◌, None, codes, decimal, length, IfOk, OnOk};
 ghost use Rattle.ac_assoc.specs.ArrangementFaults.{fault_of};
 ghost use Rattle.ac_assoc.specs.ProgramChains.{chains_of_pair};
-ghost use Rattle.ac_poly.specs.Model.{model_of};
 ghost use Rattle.ac_syntax.specs.ExecutedCalls.{HaveArities};
 ghost use Rattle.ac_top.specs.ArrangementLines as lines;
 ghost use Rattle.ac_top.specs.ArrangementReports.{ArrangedReports};
@@ -14,10 +13,8 @@ ghost use Rattle.ac_top.specs.RunStages.{IsReadPair, written};
 use crate::arrangements::{Answer, Early, Regrouped, answers};
 use crate::report::{Report, refused};
 use crate::status::Status;
-use crate::stopping::stops;
 use crate::texts::{empty_context_line, name_of};
 use ac_assoc::types::Chain;
-use ac_poly::types::Model;
 use ac_syntax::name::Name;
 use ac_syntax::tree::{Array, Pair};
 use itoa::Buffer;
@@ -127,17 +124,13 @@ fn report_answered(alloc: Global, asked: &Regrouped<'_>) -> Result<Report, Alloc
     }
 }
 
-/// What is reported of a pair, its models, and its chains, which have no fault.
+/// What is reported of a pair and its chains, which have no fault.
 pub fn report_regrouped(
     alloc: Global,
     pair: &Pair,
-    left: &Model,
-    right: &Model,
     symbols: &[Name],
     chains: &[Chain],
 ) -> Result<Report, AllocError>
-    requires left { left.now ≡ model_of pair.now.left pair.now.context }
-    requires right { right.now ≡ model_of pair.now.right pair.now.context }
     requires chains { chains.now ≡ chains_of_pair symbols.now pair.now }
     requires fault { fault_of symbols.now pair.now ≡ None }
     requires read { IsReadPair pair.now }
@@ -149,7 +142,6 @@ pub fn report_regrouped(
         pair,
         symbols,
         chains,
-        stops: stops(alloc, left, right)?,
     };
     report_answered(alloc, &asked)
 }

@@ -1,8 +1,7 @@
-ghost use Rattle.std.specs.Prelude.{◌≡◌, ◌∷◌, replicate, IfOk};
-ghost use Rattle.ac_port.specs.CallCounts.{Rose};
+ghost use Rattle.std.specs.Prelude.{◌≡◌, IfOk};
 ghost use Rattle.ac_syntax.specs.ExecutedCalls.{HaveArities};
 ghost use Rattle.ac_top.specs.ProgramAnswers.{ArePaired, SourceReports, PairReports};
-ghost use Rattle.ac_top.specs.Reads.{Fails};
+ghost use Rattle.ac_top.specs.Reads.{AreReads};
 ghost use Rattle.ac_top.specs.Reports.{report as a_report};
 ghost use Rattle.ac_top.specs.RunStages.{IsReadPair, IsSource, IsWithin, TaskReports, models_of, written};
 
@@ -72,9 +71,8 @@ pub fn read_source<F: Files>(
     files: &mut F,
     name: &[u8],
 ) -> Result<Source, AllocError>
-    ensures source { IfOk result (IsSource (F.contents files.old) (F.read_faults files.new ≡ F.read_faults files.old) (Rose (F.read_faults files.old) (F.read_faults files.new)) name.now) }
+    ensures source { IfOk result (IsSource (F.contents files.old) (AreReads (F.transcript files.old) (F.transcript files.new)) name.now) }
     ensures same { F.contents files.new ≡ F.contents files.old }
-    ensures makes { F.read_makes files.old name.now files.new }
     ensures same_writes { F.write_faults files.new ≡ F.write_faults files.old }
 {
     match files.read(alloc, name, MAX_SOURCE) {
@@ -99,7 +97,7 @@ fn report_task<F: Files>(
     requires models { models.now ≡ models_of pair.now }
     requires arities { HaveArities pair.now.left.body × HaveArities pair.now.right.body }
     requires within { IsWithin task.now }
-    ensures report { IfOk result (λ r. TaskReports task.now (F.contents files.old) (λ name count. Fails F.read_makes F.read_faults files.old files.new (replicate count name) name) left.now.name.now right.now.name.now left.now.bytes.now right.now.bytes.now pair.now (written r)) }
+    ensures report { IfOk result (λ r. TaskReports task.now (F.contents files.old) (AreReads (F.transcript files.old) (F.transcript files.new)) left.now.name.now right.now.name.now left.now.bytes.now right.now.bytes.now pair.now (written r)) }
     ensures same { F.contents files.new ≡ F.contents files.old }
     ensures same_writes { F.write_faults files.new ≡ F.write_faults files.old }
 {
@@ -122,7 +120,7 @@ fn report_lowered<F: Files>(
     requires are { ArePaired left.now.bytes.now right.now.bytes.now pair.now }
     requires pair { IsReadPair pair.now }
     requires within { IsWithin task.now }
-    ensures report { IfOk result (λ r. SourceReports left.now.name.now right.now.name.now left.now.bytes.now right.now.bytes.now (TaskReports task.now (F.contents files.old) (λ name count. Fails F.read_makes F.read_faults files.old files.new (replicate count name) name) left.now.name.now right.now.name.now left.now.bytes.now right.now.bytes.now) (written r)) }
+    ensures report { IfOk result (λ r. SourceReports left.now.name.now right.now.name.now left.now.bytes.now right.now.bytes.now (AreReads (F.transcript files.old) (F.transcript files.new)) (TaskReports task.now (F.contents files.old) (AreReads (F.transcript files.old) (F.transcript files.new)) left.now.name.now right.now.name.now left.now.bytes.now right.now.bytes.now) (written r)) }
     ensures same { F.contents files.new ≡ F.contents files.old }
     ensures same_writes { F.write_faults files.new ≡ F.write_faults files.old }
 {
@@ -144,7 +142,7 @@ fn report_sources<F: Files>(
     task: &Task<'_>,
 ) -> Result<Report, AllocError>
     requires within { IsWithin task.now }
-    ensures report { IfOk result (λ r. SourceReports left.now.name.now right.now.name.now left.now.bytes.now right.now.bytes.now (TaskReports task.now (F.contents files.old) (λ name count. Fails F.read_makes F.read_faults files.old files.new (replicate count name) name) left.now.name.now right.now.name.now left.now.bytes.now right.now.bytes.now) (written r)) }
+    ensures report { IfOk result (λ r. SourceReports left.now.name.now right.now.name.now left.now.bytes.now right.now.bytes.now (AreReads (F.transcript files.old) (F.transcript files.new)) (TaskReports task.now (F.contents files.old) (AreReads (F.transcript files.old) (F.transcript files.new)) left.now.name.now right.now.name.now left.now.bytes.now right.now.bytes.now) (written r)) }
     ensures same { F.contents files.new ≡ F.contents files.old }
     ensures same_writes { F.write_faults files.new ≡ F.write_faults files.old }
 {
@@ -163,7 +161,7 @@ pub fn report_files<F: Files>(
     task: &Task<'_>,
 ) -> Result<Report, AllocError>
     requires within { IsWithin task.now }
-    ensures report { IfOk result (λ r. PairReports (F.contents files.old) (Fails F.read_makes F.read_faults files.old files.new) a.now b.now (TaskReports task.now (F.contents files.old) (λ name count. Fails F.read_makes F.read_faults files.old files.new (a.now ∷ b.now ∷ replicate count name) name) a.now b.now) (written r)) }
+    ensures report { IfOk result (λ r. PairReports (F.contents files.old) (AreReads (F.transcript files.old) (F.transcript files.new)) a.now b.now (λ first second more. TaskReports task.now (F.contents files.old) more a.now b.now first second) (written r)) }
     ensures same { F.contents files.new ≡ F.contents files.old }
     ensures same_writes { F.write_faults files.new ≡ F.write_faults files.old }
 {

@@ -12,8 +12,8 @@ returns-in-Refused c =
     let why = subst (IsLoweringOf left.name.now right.name.now left.bytes.now right.bytes.now c.args.pair.now) c.in-Refused.is c.in_ok-line.ensures in
     subst (ChainReports left.name.now right.name.now left.bytes.now right.bytes.now c.args.symbols.now) (sym c.refused.ensures) (pair_not_lowered c.args.pair.now c.in-Refused.line.items c.requires.are c.requires.fault why)
 
-pub returns-in-Models : goal.returns-in-Models
-returns-in-Models c =
+pub returns : goal.returns
+returns c =
     let left = c.args.left.now in
     let right = c.args.right.now in
     let made = subst (IsLoweringOf left.name.now right.name.now left.bytes.now right.bytes.now c.args.pair.now) c.in-Models.is c.in_ok-line.ensures in
@@ -28,17 +28,3 @@ report_regrouped-requires-clause-lowered c =
     let right = c.args.right.now in
     let made = subst (IsLoweringOf left.name.now right.name.now left.bytes.now right.bytes.now c.args.pair.now) c.in-Models.is c.in_ok-line.ensures in
     made.0
-
-pub report_regrouped-requires-clause-left : goal.report_regrouped-requires-clause-left
-report_regrouped-requires-clause-left c =
-    let left = c.args.left.now in
-    let right = c.args.right.now in
-    let made = subst (IsLoweringOf left.name.now right.name.now left.bytes.now right.bytes.now c.args.pair.now) c.in-Models.is c.in_ok-line.ensures in
-    made.1.left_is
-
-pub report_regrouped-requires-clause-right : goal.report_regrouped-requires-clause-right
-report_regrouped-requires-clause-right c =
-    let left = c.args.left.now in
-    let right = c.args.right.now in
-    let made = subst (IsLoweringOf left.name.now right.name.now left.bytes.now right.bytes.now c.args.pair.now) c.in-Models.is c.in_ok-line.ensures in
-    made.1.right_is

@@ -1,7 +1,7 @@
-use Rattle.std.proofs.Common.{◌≡◌, ◌<◌, ◌≤◌, ◌+◌, ℕ, MatchOption, subst, arith}
+use Rattle.std.proofs.Common.{◌≡◌, ◌<◌, ◌≤◌, ℕ, MatchOption, subst, arith}
 use Rattle.ac_top.specs.ArrangementReports.{IsWithoutValuation, arrangement, tried_of}
-use Rattle.ac_top.specs.ArrangementStages.{IsFinding, IsSoFar}
-use Rattle.ac_top.proofs.ArrangedAnswers.{none_so_far, apart_stays, early_so, equal_so}
+use Rattle.ac_top.specs.ArrangementStages.{IfStopsFirst, IsFinding, IsSoFar}
+use Rattle.ac_top.proofs.ArrangedAnswers.{none_so_far, apart_stays, equal_so, stopped_so}
 use Rattle.ac_top.proofs.ArrangedPairs.{asked_can, tried_are}
 use Rattle.ac_top.proofs.arrangements.answer_on.Goals as goal
 
@@ -31,18 +31,21 @@ loop-number-preserved-in-Apart c =
     let found = subst (λ f. MatchOption f (IsWithoutValuation pair) Is) c.in-Some.is c.in_ok-finding.ensures in
     apart_stays names pair output c.loop-number.early number c.loop-number.invariant (subst Is c.in-Apart.is found)
 
-pub returns-then-asked : goal.returns-then-asked
-returns-then-asked c =
+pub returns-then-over : goal.returns-then-over
+returns-then-over c =
     let asked = c.args.asked.now in
     let names = asked.symbols.now in
     let pair = asked.pair.now in
     let output = c.args.output in
     let number = c.loop-number.number in
-    let Is = IsFinding (arrangement names pair output number) output in
-    let found = subst (λ f. MatchOption f (IsWithoutValuation pair) Is) c.in-Some.is c.in_ok-finding.ensures in
+    let early = c.loop-number.early in
+    let first = c.first_end-first.result in
+    let made = arrangement names pair output number in
+    let found = subst (λ f. MatchOption f (IsWithoutValuation pair) (IsFinding made output)) c.in-Some.is c.in_ok-finding.ensures in
+    let so_far = c.first_end-first.ensures.so_far names pair output c.loop-number.invariant (subst (IsFinding made output) c.in-Early.is found) in
     let tried = tried_are asked c.requires.asked c.arrangements-count.result c.min-tried.result c.arrangements-count.ensures c.min-tried.ensures in
     let below : number < tried_of names pair = subst (λ (n : ℕ). number < n) tried.0 c.loop-number-test.true in
-    early_so names pair output c.first_end-first.result (number + 1) (omega (arith, below)) (c.first_end-first.ensures names pair output c.loop-number.invariant (subst Is c.in-Early.is found))
+    stopped_so names pair output early first number below c.first_end-first.ensures.number (subst (IfStopsFirst made early) c.if-over.true c.in_ok-over-in-Early.ensures) so_far
 
 pub loop-number-preserved : goal.loop-number-preserved
 loop-number-preserved c =
@@ -52,7 +55,7 @@ loop-number-preserved c =
     let output = c.args.output in
     let Is = IsFinding (arrangement names pair output c.loop-number.number) output in
     let found = subst (λ f. MatchOption f (IsWithoutValuation pair) Is) c.in-Some.is c.in_ok-finding.ensures in
-    c.first_end-first.ensures names pair output c.loop-number.invariant (subst Is c.in-Early.is found)
+    c.first_end-first.ensures.so_far names pair output c.loop-number.invariant (subst Is c.in-Early.is found)
 
 pub returns : goal.returns
 returns c =

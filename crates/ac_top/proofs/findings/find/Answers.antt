@@ -1,5 +1,6 @@
 use Rattle.std.proofs.Common.{◌≡◌, [], ◌∷◌, length, sym, ap, subst, ◌∙◌}
 use Rattle.ac_syntax.specs.ReadyPrograms.{FitParts}
+use Rattle.ac_walk.specs.TriedValuations.{AreTried}
 use Rattle.ac_walk.specs.UnknownCauses.{IsAnswered, IsEmptyAt}
 use Rattle.ac_walk.specs.Verdicts.{AreMatched, AreVerdicts, IsStop, IsVerdict}
 use Rattle.ac_top.specs.FlowReports.{default_budget}
@@ -24,7 +25,8 @@ returns-in-Ok c =
     let same : said ≡ v ∷ [] = sym c.as_slice.ensures ∙ c.only_verdict-verdict.ensures in
     let verdicts = subst (AreVerdicts pair (o ∷ [])) same (subst (λ os. AreVerdicts pair os said) c.requires.output c.in-Ok.ensures.verdicts) in
     let matched = subst (AreMatched pair (o ∷ [])) same (subst (λ os. AreMatched pair os said) c.requires.output c.in-Ok.ensures.matched) in
-    c.finding_of.ensures pair o verdicts.0 matched.0 (subst (IsAnswered default_budget pair) same c.in-Ok.ensures.causes)
+    let tried = subst (AreTried default_budget pair (o ∷ [])) same (subst (λ os. AreTried default_budget pair os said) c.requires.output c.in-Ok.ensures.tried) in
+    c.finding_of.ensures pair o c.requires.paired verdicts.0 matched.0 (subst (IsAnswered default_budget pair) same c.in-Ok.ensures.causes) tried.0
 
 pub returns-in-Err-EmptyContext : goal.returns-in-Err-EmptyContext
 returns-in-Err-EmptyContext c =

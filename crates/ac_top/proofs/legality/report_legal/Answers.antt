@@ -1,69 +1,70 @@
-use Rattle.std.proofs.Common.{◌≡◌, IfSome, List, [], ◌∷◌, ℕ, Option, sym, ap, subst, ◌∙◌}
+use Rattle.std.proofs.Common.{IfSome, List, [], ◌∷◌, ℕ, Option, sym, ap, subst, ◌∙◌}
 use Rattle.std.proofs.lemmas.Result.{IfOk-weaker}
 use Rattle.ac_port.specs.Contents.{Contents, IsTooBig}
-use Rattle.ac_port.specs.CallCounts.{Rose}
+use Rattle.ac_port.specs.Transcripts.{handed_out, read_failed, was_too_big}
 use Rattle.ac_top.specs.Reports.{report as a_report}
 use Rattle.ac_top.specs.ProgramAnswers.{OrderOfTextReports, LegalReports, Holds, program_unread, program_too_long, order_unread, order_too_long, both_read}
 use Rattle.ac_top.specs.declared.status.Status.TheVariants as status
-use Rattle.ac_top.specs.Reads.{AreRead, Fails, no_read, one_more}
+use Rattle.ac_top.specs.Reads.{AreReads, source_read}
 use Rattle.ac_top.specs.RunStages.{written, IsSource}
+use Rattle.ac_top.proofs.Reading.{reads_on}
 use Rattle.ac_top.proofs.legality.report_legal.Goals as goal
 
 pub returns-clause-report : goal.returns-clause-report
 returns-clause-report g c =
     let files : Option Contents = g.F.Files.contents c.args.files.now in
-    let begun = g.F.Files.read_faults c.args.files.now in
-    let between = g.F.Files.read_faults c.read_source.new.files in
-    let ended = g.F.Files.read_faults c.read_source-2.new.files in
-    let one : Holds files c.args.name.now c.in-Bytes.bytes.items × (between ≡ begun) = subst (IsSource files (between ≡ begun) (Rose begun between) c.args.name.now) c.in-Bytes.is c.in_ok-bytes.ensures.source in
-    let two : Holds (g.F.Files.contents c.read_source.new.files) c.args.order.now c.in-Bytes-2.bytes.items × (ended ≡ between) =
-    subst (IsSource (g.F.Files.contents c.read_source.new.files) (ended ≡ between) (Rose between ended) c.args.order.now) c.in-Bytes-2.is c.in_ok-bytes-2.ensures.source in
-    let second : Holds files c.args.order.now c.in-Bytes-2.bytes.items = subst (λ f. Holds f c.args.order.now c.in-Bytes-2.bytes.items) c.read_source.ensures.same two.0 in
+    let begun = g.F.Files.transcript c.args.files.now in
+    let between = g.F.Files.transcript c.read_source.new.files in
+    let ended = g.F.Files.transcript c.read_source-2.new.files in
+    let a = c.args.name.now in
+    let s = c.args.order.now in
+    let x = c.in-Bytes.bytes.items in
+    let y = c.in-Bytes-2.bytes.items in
+    let one = subst (IsSource files (AreReads begun between) a) c.in-Bytes.is c.in_ok-bytes.ensures.source in
+    let two = subst (IsSource (g.F.Files.contents c.read_source.new.files) (AreReads between ended) s) c.in-Bytes-2.is c.in_ok-bytes-2.ensures.source in
+    let second : Holds files s y = subst (λ f. Holds f s y) c.read_source.ensures.same two.0 in
+    let both = reads_on begun between ended (source_read a (handed_out x) ∷ []) (source_read s (handed_out y) ∷ []) one.1 two.1 in
     IfOk-weaker c.report_texts.result _ _
-    (λ r found. both_read c.in-Bytes.bytes.items c.in-Bytes-2.bytes.items (written r) one.0 second
-    (subst (λ (t : List ℕ). OrderOfTextReports c.args.name.now t c.in-Bytes-2.bytes.items (written r)) c.as_slice.ensures.value
-    (subst (λ (t : List ℕ). OrderOfTextReports c.args.name.now c.as_slice.result.now t (written r)) c.as_slice-2.ensures.value found)))
+    (λ r found. both_read x y (written r) both one.0 second
+    (subst (λ (t : List ℕ). OrderOfTextReports a t y (written r)) c.as_slice.ensures.value
+    (subst (λ (t : List ℕ). OrderOfTextReports a c.as_slice.result.now t (written r)) c.as_slice-2.ensures.value found)))
     c.report_texts.ensures
 
 pub returns-in-Unread-clause-report : goal.returns-in-Unread-clause-report
 returns-in-Unread-clause-report g c =
     let files = g.F.Files.contents c.args.files.now in
-    let begun = g.F.Files.read_faults c.args.files.now in
-    let between = g.F.Files.read_faults c.read_source.new.files in
-    let rose : Rose begun between = subst (IsSource files (between ≡ begun) (Rose begun between) c.args.name.now) c.in-Unread.is c.in_ok-bytes.ensures.source in
-    let fails = Fails g.F.Files.read_makes g.F.Files.read_faults c.args.files.now c.read_source.new.files in
-    let failed : fails [] c.args.name.now = record { between = c.args.files.now; are_read = no_read c.args.files.now; read = c.read_source.ensures.makes; rose = rose } in
-    subst (LegalReports files fails c.args.name.now c.args.order.now) (sym (c.unread.ensures ∙ ap (a_report status.ReadFault) c.in_ok-read_fault_line-in-Unread.ensures)) (program_unread failed)
+    let reads = AreReads (g.F.Files.transcript c.args.files.now) (g.F.Files.transcript c.read_source.new.files) in
+    let failed = subst (IsSource files reads c.args.name.now) c.in-Unread.is c.in_ok-bytes.ensures.source in
+    subst (LegalReports files reads c.args.name.now c.args.order.now) (sym (c.unread.ensures ∙ ap (a_report status.ReadFault) c.in_ok-read_fault_line-in-Unread.ensures)) (program_unread failed)
 
 pub returns-in-TooLong-clause-report : goal.returns-in-TooLong-clause-report
 returns-in-TooLong-clause-report g c =
     let files = g.F.Files.contents c.args.files.now in
-    let begun = g.F.Files.read_faults c.args.files.now in
-    let between = g.F.Files.read_faults c.read_source.new.files in
-    let said = subst (IsSource files (between ≡ begun) (Rose begun between) c.args.name.now) c.in-TooLong.is c.in_ok-bytes.ensures.source in
-    let fails = Fails g.F.Files.read_makes g.F.Files.read_faults c.args.files.now c.read_source.new.files in
-    subst (LegalReports files fails c.args.name.now c.args.order.now) (sym (c.refused.ensures ∙ ap (a_report status.Refused) c.in_ok-too_long_line-in-TooLong.ensures)) (program_too_long said)
+    let reads = AreReads (g.F.Files.transcript c.args.files.now) (g.F.Files.transcript c.read_source.new.files) in
+    let said = subst (IsSource files reads c.args.name.now) c.in-TooLong.is c.in_ok-bytes.ensures.source in
+    subst (LegalReports files reads c.args.name.now c.args.order.now) (sym (c.refused.ensures ∙ ap (a_report status.Refused) c.in_ok-too_long_line-in-TooLong.ensures)) (program_too_long said.0 said.1)
 
 pub returns-in-Unread-2-clause-report : goal.returns-in-Unread-2-clause-report
 returns-in-Unread-2-clause-report g c =
     let files = g.F.Files.contents c.args.files.now in
-    let begun = g.F.Files.read_faults c.args.files.now in
-    let between = g.F.Files.read_faults c.read_source.new.files in
-    let ended = g.F.Files.read_faults c.read_source-2.new.files in
-    let one : Holds files c.args.name.now c.in-Bytes.bytes.items × (between ≡ begun) = subst (IsSource files (between ≡ begun) (Rose begun between) c.args.name.now) c.in-Bytes.is c.in_ok-bytes.ensures.source in
-    let rose : Rose between ended = subst (IsSource (g.F.Files.contents c.read_source.new.files) (ended ≡ between) (Rose between ended) c.args.order.now) c.in-Unread-2.is c.in_ok-bytes-2.ensures.source in
-    let fails = Fails g.F.Files.read_makes g.F.Files.read_faults c.args.files.now c.read_source-2.new.files in
-    let failed : fails (c.args.name.now ∷ []) c.args.order.now = record { between = c.read_source.new.files; are_read = one_more [] c.args.name.now c.args.files.now c.args.files.now c.read_source.new.files (no_read c.args.files.now) c.read_source.ensures.makes one.1; read = c.read_source-2.ensures.makes; rose = rose } in
-    subst (LegalReports files fails c.args.name.now c.args.order.now) (sym (c.unread-in-Unread-2.ensures ∙ ap (a_report status.ReadFault) c.in_ok-read_fault_line-in-Unread-2.ensures)) (order_unread c.in-Bytes.bytes.items one.0 failed)
+    let begun = g.F.Files.transcript c.args.files.now in
+    let between = g.F.Files.transcript c.read_source.new.files in
+    let ended = g.F.Files.transcript c.read_source-2.new.files in
+    let x = c.in-Bytes.bytes.items in
+    let one = subst (IsSource files (AreReads begun between) c.args.name.now) c.in-Bytes.is c.in_ok-bytes.ensures.source in
+    let failed = subst (IsSource (g.F.Files.contents c.read_source.new.files) (AreReads between ended) c.args.order.now) c.in-Unread-2.is c.in_ok-bytes-2.ensures.source in
+    let both = reads_on begun between ended (source_read c.args.name.now (handed_out x) ∷ []) (source_read c.args.order.now read_failed ∷ []) one.1 failed in
+    subst (LegalReports files (AreReads begun ended) c.args.name.now c.args.order.now) (sym (c.unread-in-Unread-2.ensures ∙ ap (a_report status.ReadFault) c.in_ok-read_fault_line-in-Unread-2.ensures)) (order_unread x both one.0)
 
 pub returns-in-TooLong-2-clause-report : goal.returns-in-TooLong-2-clause-report
 returns-in-TooLong-2-clause-report g c =
     let files = g.F.Files.contents c.args.files.now in
-    let begun = g.F.Files.read_faults c.args.files.now in
-    let between = g.F.Files.read_faults c.read_source.new.files in
-    let ended = g.F.Files.read_faults c.read_source-2.new.files in
-    let one : Holds files c.args.name.now c.in-Bytes.bytes.items × (between ≡ begun) = subst (IsSource files (between ≡ begun) (Rose begun between) c.args.name.now) c.in-Bytes.is c.in_ok-bytes.ensures.source in
-    let told = subst (IsSource (g.F.Files.contents c.read_source.new.files) (ended ≡ between) (Rose between ended) c.args.order.now) c.in-TooLong-2.is c.in_ok-bytes-2.ensures.source in
-    let said = subst (λ f. IfSome f (λ contents. IsTooBig contents c.args.order.now 65536)) c.read_source.ensures.same told in
-    let fails = Fails g.F.Files.read_makes g.F.Files.read_faults c.args.files.now c.read_source-2.new.files in
-    subst (LegalReports files fails c.args.name.now c.args.order.now) (sym (c.refused-in-TooLong-2.ensures ∙ ap (a_report status.Refused) c.in_ok-order_too_long_line-in-TooLong-2.ensures)) (order_too_long c.in-Bytes.bytes.items one.0 said)
+    let begun = g.F.Files.transcript c.args.files.now in
+    let between = g.F.Files.transcript c.read_source.new.files in
+    let ended = g.F.Files.transcript c.read_source-2.new.files in
+    let x = c.in-Bytes.bytes.items in
+    let one = subst (IsSource files (AreReads begun between) c.args.name.now) c.in-Bytes.is c.in_ok-bytes.ensures.source in
+    let told = subst (IsSource (g.F.Files.contents c.read_source.new.files) (AreReads between ended) c.args.order.now) c.in-TooLong-2.is c.in_ok-bytes-2.ensures.source in
+    let said = subst (λ f. IfSome f (λ contents. IsTooBig contents c.args.order.now 65536)) c.read_source.ensures.same told.1 in
+    let both = reads_on begun between ended (source_read c.args.name.now (handed_out x) ∷ []) (source_read c.args.order.now was_too_big ∷ []) one.1 told.0 in
+    subst (LegalReports files (AreReads begun ended) c.args.name.now c.args.order.now) (sym (c.refused-in-TooLong-2.ensures ∙ ap (a_report status.Refused) c.in_ok-order_too_long_line-in-TooLong-2.ensures)) (order_too_long x both one.0 said)

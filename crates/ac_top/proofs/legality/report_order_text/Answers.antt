@@ -3,7 +3,6 @@ use Rattle.std.proofs.lemmas.Result.{IfOk-weaker}
 use Rattle.ac_legal_text.specs.LineKinds.{HasFault}
 use Rattle.ac_legal_text.specs.OrderAnswers.{IfLine}
 use Rattle.ac_legal_text.specs.OrderTexts.{Spells}
-use Rattle.ac_top.specs.FlowReports.{lowered}
 use Rattle.ac_top.specs.OrderReports.{OrderTextReports, order_refused, order_read}
 use Rattle.ac_top.specs.Reports.{report as a_report}
 use Rattle.ac_top.specs.RunStages.{written}

@@ -1,4 +1,4 @@
-use Rattle.std.proofs.Common.{rules, ◌≡◌, List, ℕ, ℤ, sym, ap, subst, ◌∙◌}
+use Rattle.std.proofs.Common.{rules, ◌≡◌, sym, ap, subst, ◌∙◌}
 use Rattle.ac_legal.specs.ScheduleAnswers.{IfKept, IfBroken, KeepsForAll, BreaksForAll}
 use Rattle.ac_legal_text.specs.BrokenLines.{broken_line}
 use Rattle.ac_top.specs.OrderReports.{OrderReports}
@@ -28,4 +28,4 @@ returns-in_ok-legal_stop_text-in-Err c =
     let p = c.args.program.now in
     let times = c.args.order.now.times in
     subst (OrderReports p times) (sym c.answered-in-Err.ensures)
-    (stopped_order p c.args.model.now times c.in-Err.stop c.in_ok-legal_stop_text-in-Err.field-0.items c.requires.model c.requires.valuation c.in-Err.ensures.stops c.in_ok-legal_stop_text-in-Err.ensures)
+    (stopped_order p c.args.model.now times c.in-Err.stop c.in_ok-legal_stop_text-in-Err.field-0.items c.requires.model c.requires.valuation c.in-Err.ensures.stops c.in-Err.ensures.decided c.in_ok-legal_stop_text-in-Err.ensures)

@@ -4,8 +4,9 @@ use Rattle.ac_cli_args.specs.Commands.{asked_by, HasForm, IsCommand}
 use Rattle.ac_cli_args.specs.declared.command.Command.{Command}
 use Rattle.ac_cli_args.proofs.Forms.{in_range, command_from}
 use Rattle.ac_top.specs.ProgramAnswers.{Reports, no_form, of_command}
-use Rattle.ac_top.specs.Reads.{Fails}
+use Rattle.ac_top.specs.Reads.{AreReads}
 use Rattle.ac_top.specs.RunStages.{written}
+use Rattle.ac_top.proofs.Reading.{no_reads}
 use Rattle.ac_top.proofs.program.report_texts.Goals as goal
 
 -- what was found of these words
@@ -32,5 +33,5 @@ returns-in-None-clause-report g c =
     let told : Told words c.in_ok-found.found = command_from words words refl c.requires c.in_ok-found.found c.in_ok-found.ensures in
     let none : ¬ (HasForm words) = subst (Told words) c.in-None.is told in
     IfOk-weaker c.usage.result _ _
-    (λ r same. subst (Reports words (g.F.Files.contents c.args.files.now) (Fails g.F.Files.read_makes g.F.Files.read_faults c.args.files.now c.args.files.now)) (sym same) (no_form none))
+    (λ r same. subst (Reports words (g.F.Files.contents c.args.files.now) (AreReads (g.F.Files.transcript c.args.files.now) (g.F.Files.transcript c.args.files.now))) (sym same) (no_form (no_reads (g.F.Files.transcript c.args.files.now)) none))
     c.usage.ensures

@@ -17,4 +17,4 @@ returns c =
     let lines = report_lines (layout_of pair.left) pair.outputs in
     subst (λ (s : Status). ProveReports pair c.args.budget name (record { status = s; text = c.in_ok-text.text.items; proof = file })) (sym (c.status_of.ensures ∙ ap status_of c.as_slice-verdicts.ensures))
     (subst (λ (t : List ℕ). ProveReports pair c.args.budget name (record { status = status_of said; text = t; proof = file })) (sym (c.in_ok-text.ensures ∙ ap lines c.as_slice-verdicts.ensures))
-    (compared said c.args.proved.now.proof file c.requires.verdicts c.requires.matched c.requires.answered c.requires.proof c.in_ok-proof.ensures))
+    (compared said c.args.proved.now.proof file c.requires.verdicts c.requires.matched c.requires.answered c.requires.tried c.requires.proof c.in_ok-proof.ensures))

@@ -1,90 +1,84 @@
-use Rattle.std.proofs.Common.{◌≡◌, IfSome, List, [], ◌∷◌, replicate, ℕ, Option, sym, ap, subst, ◌∙◌}
+use Rattle.std.proofs.Common.{◌≡◌, IfSome, List, [], ◌∷◌, ℕ, Option, sym, ap, subst, ◌∙◌}
 use Rattle.std.proofs.lemmas.Result.{IfOk-weaker}
 use Rattle.ac_port.specs.Contents.{Contents, IsTooBig}
-use Rattle.ac_port.specs.CallCounts.{Rose}
+use Rattle.ac_port.specs.Transcripts.{Read, handed_out, read_failed, was_too_big}
 use Rattle.ac_top.specs.Reports.{report as a_report}
 use Rattle.ac_top.specs.ProgramAnswers.{SourceReports, FileReports, Holds, first_unread, first_too_long, second_unread, second_too_long, sources}
 use Rattle.ac_top.specs.declared.status.Status.TheVariants as status
-use Rattle.ac_top.specs.Reads.{AreRead, Fails, no_read, one_more}
+use Rattle.ac_top.specs.Reads.{AreReads, source_read}
 use Rattle.ac_top.specs.RunStages.{written, IsSource, TaskReports}
-use Rattle.ac_top.proofs.Reading.{fails_on, task_on, sources_on}
+use Rattle.ac_top.proofs.Reading.{reads_on, task_on, sources_on}
 use Rattle.ac_top.proofs.report.report_files.Goals as goal
 
 pub returns-clause-report : goal.returns-clause-report
 returns-clause-report g c =
     let files : Option Contents = g.F.Files.contents c.args.files.now in
-    let begun = g.F.Files.read_faults c.args.files.now in
-    let between = g.F.Files.read_faults c.read_source.new.files in
-    let ended = g.F.Files.read_faults c.read_source-2.new.files in
-    let one : Holds files c.args.a.now c.in-Bytes.bytes.items × (between ≡ begun) = subst (IsSource files (between ≡ begun) (Rose begun between) c.args.a.now) c.in-Bytes.is c.in_ok-bytes.ensures.source in
-    let two : Holds (g.F.Files.contents c.read_source.new.files) c.args.b.now c.in-Bytes-2.bytes.items × (ended ≡ between) =
-    subst (IsSource (g.F.Files.contents c.read_source.new.files) (ended ≡ between) (Rose between ended) c.args.b.now) c.in-Bytes-2.is c.in_ok-bytes-2.ensures.source in
-    let first = one.0 in
-    let second : Holds files c.args.b.now c.in-Bytes-2.bytes.items = subst (λ f. Holds f c.args.b.now c.in-Bytes-2.bytes.items) c.read_source.ensures.same two.0 in
-    let fails = Fails g.F.Files.read_makes g.F.Files.read_faults in
-    let start = c.args.files.now in
-    let middle = c.read_source-2.new.files in
-    let after = c.report_sources.new.files in
+    let begun = g.F.Files.transcript c.args.files.now in
+    let between = g.F.Files.transcript c.read_source.new.files in
+    let middle = g.F.Files.transcript c.read_source-2.new.files in
+    let after = g.F.Files.transcript c.report_sources.new.files in
     let a = c.args.a.now in
     let b = c.args.b.now in
-    let quiet : AreRead g.F.Files.read_makes g.F.Files.read_faults (a ∷ b ∷ []) start middle =
-    one_more (a ∷ []) b start c.read_source.new.files middle (one_more [] a start start c.read_source.new.files (no_read start) c.read_source.ensures.makes one.1) c.read_source-2.ensures.makes two.1 in
-    let same : g.F.Files.contents middle ≡ files = c.read_source-2.ensures.same ∙ c.read_source.ensures.same in
-    let Late = λ (told : Option Contents) (x y : List ℕ). TaskReports c.args.task.now told (λ name count. fails middle after (replicate count name) name) a b x y in
-    let Of = λ (x y : List ℕ). TaskReports c.args.task.now files (λ name count. fails start after (a ∷ b ∷ replicate count name) name) a b x y in
+    let x = c.in-Bytes.bytes.items in
+    let y = c.in-Bytes-2.bytes.items in
+    let s = c.as_slice.result.now in
+    let t = c.as_slice-2.result.now in
+    let one = subst (IsSource files (AreReads begun between) a) c.in-Bytes.is c.in_ok-bytes.ensures.source in
+    let two = subst (IsSource (g.F.Files.contents c.read_source.new.files) (AreReads between middle) b) c.in-Bytes-2.is c.in_ok-bytes-2.ensures.source in
+    let second : Holds files b y = subst (λ f. Holds f b y) c.read_source.ensures.same two.0 in
+    let both : AreReads begun middle (source_read a (handed_out x) ∷ source_read b (handed_out y) ∷ []) =
+    reads_on begun between middle (source_read a (handed_out x) ∷ []) (source_read b (handed_out y) ∷ []) one.1 two.1 in
+    let More = λ (more : List Read). AreReads begun after (source_read a (handed_out x) ∷ source_read b (handed_out y) ∷ more) in
+    let on : (rs : List Read) → AreReads middle after rs → More rs = λ rs h. reads_on begun middle after (source_read a (handed_out x) ∷ source_read b (handed_out y) ∷ []) rs both h in
+    let same : g.F.Files.contents c.read_source-2.new.files ≡ files = c.read_source-2.ensures.same ∙ c.read_source.ensures.same in
     IfOk-weaker c.report_sources.result _ _
     (λ r found.
-    let here : SourceReports a b c.as_slice.result.now c.as_slice-2.result.now (Late (g.F.Files.contents middle) c.as_slice.result.now c.as_slice-2.result.now) (written r) = found in
-    let told : SourceReports a b c.as_slice.result.now c.as_slice-2.result.now (Late files c.as_slice.result.now c.as_slice-2.result.now) (written r) =
-    subst (λ (f : Option Contents). SourceReports a b c.as_slice.result.now c.as_slice-2.result.now (Late f c.as_slice.result.now c.as_slice-2.result.now) (written r)) same here in
-    let whole : SourceReports a b c.as_slice.result.now c.as_slice-2.result.now (Of c.as_slice.result.now c.as_slice-2.result.now) (written r) =
-    sources_on a b c.as_slice.result.now c.as_slice-2.result.now (Late files c.as_slice.result.now c.as_slice-2.result.now) (Of c.as_slice.result.now c.as_slice-2.result.now)
-    (λ pair s. task_on c.args.task.now files (λ name count. fails middle after (replicate count name) name) (λ name count. fails start after (a ∷ b ∷ replicate count name) name)
-    (λ name count failed. fails_on g.F.Files.read_makes g.F.Files.read_faults (a ∷ b ∷ []) (replicate count name) name start middle after quiet failed) a b c.as_slice.result.now c.as_slice-2.result.now pair s) (written r) told in
-    sources c.in-Bytes.bytes.items c.in-Bytes-2.bytes.items (written r) first second
-    (subst (λ x. SourceReports a b x c.in-Bytes-2.bytes.items (Of x c.in-Bytes-2.bytes.items) (written r)) c.as_slice.ensures.value
-    (subst (λ y. SourceReports a b c.as_slice.result.now y (Of c.as_slice.result.now y) (written r)) c.as_slice-2.ensures.value whole)))
+    let here : SourceReports a b s t (AreReads middle after) (TaskReports c.args.task.now (g.F.Files.contents c.read_source-2.new.files) (AreReads middle after) a b s t) (written r) = found in
+    let told : SourceReports a b s t (AreReads middle after) (TaskReports c.args.task.now files (AreReads middle after) a b s t) (written r) =
+    subst (λ (f : Option Contents). SourceReports a b s t (AreReads middle after) (TaskReports c.args.task.now f (AreReads middle after) a b s t) (written r)) same here in
+    let whole : SourceReports a b s t More (TaskReports c.args.task.now files More a b s t) (written r) =
+    sources_on a b s t (AreReads middle after) More (TaskReports c.args.task.now files (AreReads middle after) a b s t) (TaskReports c.args.task.now files More a b s t) (on [])
+    (λ pair q. task_on c.args.task.now files (AreReads middle after) More on a b s t pair q) (written r) told in
+    sources x y (written r) one.0 second
+    (subst (λ (l : List ℕ). SourceReports a b l y More (TaskReports c.args.task.now files More a b l y) (written r)) c.as_slice.ensures.value
+    (subst (λ (l : List ℕ). SourceReports a b s l More (TaskReports c.args.task.now files More a b s l) (written r)) c.as_slice-2.ensures.value whole)))
     c.report_sources.ensures.report
 
 pub returns-in-Unread-clause-report : goal.returns-in-Unread-clause-report
 returns-in-Unread-clause-report g c =
     let files = g.F.Files.contents c.args.files.now in
-    let begun = g.F.Files.read_faults c.args.files.now in
-    let between = g.F.Files.read_faults c.read_source.new.files in
-    let rose : Rose begun between = subst (IsSource files (between ≡ begun) (Rose begun between) c.args.a.now) c.in-Unread.is c.in_ok-bytes.ensures.source in
-    let fails = Fails g.F.Files.read_makes g.F.Files.read_faults c.args.files.now c.read_source.new.files in
-    let failed : fails [] c.args.a.now = record { between = c.args.files.now; are_read = no_read c.args.files.now; read = c.read_source.ensures.makes; rose = rose } in
-    subst (FileReports files fails c.args.a.now c.args.b.now _) (sym (c.unread.ensures ∙ ap (a_report status.ReadFault) c.in_ok-read_fault_line-in-Unread.ensures)) (first_unread failed)
+    let reads = AreReads (g.F.Files.transcript c.args.files.now) (g.F.Files.transcript c.read_source.new.files) in
+    let failed = subst (IsSource files reads c.args.a.now) c.in-Unread.is c.in_ok-bytes.ensures.source in
+    subst (FileReports files reads c.args.a.now c.args.b.now _) (sym (c.unread.ensures ∙ ap (a_report status.ReadFault) c.in_ok-read_fault_line-in-Unread.ensures)) (first_unread failed)
 
 pub returns-in-TooLong-clause-report : goal.returns-in-TooLong-clause-report
 returns-in-TooLong-clause-report g c =
     let files = g.F.Files.contents c.args.files.now in
-    let begun = g.F.Files.read_faults c.args.files.now in
-    let between = g.F.Files.read_faults c.read_source.new.files in
-    let said = subst (IsSource files (between ≡ begun) (Rose begun between) c.args.a.now) c.in-TooLong.is c.in_ok-bytes.ensures.source in
-    let fails = Fails g.F.Files.read_makes g.F.Files.read_faults c.args.files.now c.read_source.new.files in
-    subst (FileReports files fails c.args.a.now c.args.b.now _) (sym (c.refused.ensures ∙ ap (a_report status.Refused) c.in_ok-too_long_line-in-TooLong.ensures)) (first_too_long said)
+    let reads = AreReads (g.F.Files.transcript c.args.files.now) (g.F.Files.transcript c.read_source.new.files) in
+    let said = subst (IsSource files reads c.args.a.now) c.in-TooLong.is c.in_ok-bytes.ensures.source in
+    subst (FileReports files reads c.args.a.now c.args.b.now _) (sym (c.refused.ensures ∙ ap (a_report status.Refused) c.in_ok-too_long_line-in-TooLong.ensures)) (first_too_long said.0 said.1)
 
 pub returns-in-Unread-2-clause-report : goal.returns-in-Unread-2-clause-report
 returns-in-Unread-2-clause-report g c =
     let files = g.F.Files.contents c.args.files.now in
-    let begun = g.F.Files.read_faults c.args.files.now in
-    let between = g.F.Files.read_faults c.read_source.new.files in
-    let ended = g.F.Files.read_faults c.read_source-2.new.files in
-    let one : Holds files c.args.a.now c.in-Bytes.bytes.items × (between ≡ begun) = subst (IsSource files (between ≡ begun) (Rose begun between) c.args.a.now) c.in-Bytes.is c.in_ok-bytes.ensures.source in
-    let rose : Rose between ended = subst (IsSource (g.F.Files.contents c.read_source.new.files) (ended ≡ between) (Rose between ended) c.args.b.now) c.in-Unread-2.is c.in_ok-bytes-2.ensures.source in
-    let fails = Fails g.F.Files.read_makes g.F.Files.read_faults c.args.files.now c.read_source-2.new.files in
-    let failed : fails (c.args.a.now ∷ []) c.args.b.now = record { between = c.read_source.new.files; are_read = one_more [] c.args.a.now c.args.files.now c.args.files.now c.read_source.new.files (no_read c.args.files.now) c.read_source.ensures.makes one.1; read = c.read_source-2.ensures.makes; rose = rose } in
-    subst (FileReports files fails c.args.a.now c.args.b.now _) (sym (c.unread-in-Unread-2.ensures ∙ ap (a_report status.ReadFault) c.in_ok-read_fault_line-in-Unread-2.ensures)) (second_unread c.in-Bytes.bytes.items one.0 failed)
+    let begun = g.F.Files.transcript c.args.files.now in
+    let between = g.F.Files.transcript c.read_source.new.files in
+    let ended = g.F.Files.transcript c.read_source-2.new.files in
+    let x = c.in-Bytes.bytes.items in
+    let one = subst (IsSource files (AreReads begun between) c.args.a.now) c.in-Bytes.is c.in_ok-bytes.ensures.source in
+    let failed = subst (IsSource (g.F.Files.contents c.read_source.new.files) (AreReads between ended) c.args.b.now) c.in-Unread-2.is c.in_ok-bytes-2.ensures.source in
+    let both = reads_on begun between ended (source_read c.args.a.now (handed_out x) ∷ []) (source_read c.args.b.now read_failed ∷ []) one.1 failed in
+    subst (FileReports files (AreReads begun ended) c.args.a.now c.args.b.now _) (sym (c.unread-in-Unread-2.ensures ∙ ap (a_report status.ReadFault) c.in_ok-read_fault_line-in-Unread-2.ensures)) (second_unread x both one.0)
 
 pub returns-in-TooLong-2-clause-report : goal.returns-in-TooLong-2-clause-report
 returns-in-TooLong-2-clause-report g c =
     let files = g.F.Files.contents c.args.files.now in
-    let begun = g.F.Files.read_faults c.args.files.now in
-    let between = g.F.Files.read_faults c.read_source.new.files in
-    let ended = g.F.Files.read_faults c.read_source-2.new.files in
-    let one : Holds files c.args.a.now c.in-Bytes.bytes.items × (between ≡ begun) = subst (IsSource files (between ≡ begun) (Rose begun between) c.args.a.now) c.in-Bytes.is c.in_ok-bytes.ensures.source in
-    let told = subst (IsSource (g.F.Files.contents c.read_source.new.files) (ended ≡ between) (Rose between ended) c.args.b.now) c.in-TooLong-2.is c.in_ok-bytes-2.ensures.source in
-    let said = subst (λ f. IfSome f (λ contents. IsTooBig contents c.args.b.now 65536)) c.read_source.ensures.same told in
-    let fails = Fails g.F.Files.read_makes g.F.Files.read_faults c.args.files.now c.read_source-2.new.files in
-    subst (FileReports files fails c.args.a.now c.args.b.now _) (sym (c.refused-in-TooLong-2.ensures ∙ ap (a_report status.Refused) c.in_ok-too_long_line-in-TooLong-2.ensures)) (second_too_long c.in-Bytes.bytes.items one.0 said)
+    let begun = g.F.Files.transcript c.args.files.now in
+    let between = g.F.Files.transcript c.read_source.new.files in
+    let ended = g.F.Files.transcript c.read_source-2.new.files in
+    let x = c.in-Bytes.bytes.items in
+    let one = subst (IsSource files (AreReads begun between) c.args.a.now) c.in-Bytes.is c.in_ok-bytes.ensures.source in
+    let told = subst (IsSource (g.F.Files.contents c.read_source.new.files) (AreReads between ended) c.args.b.now) c.in-TooLong-2.is c.in_ok-bytes-2.ensures.source in
+    let said = subst (λ f. IfSome f (λ contents. IsTooBig contents c.args.b.now 65536)) c.read_source.ensures.same told.1 in
+    let both = reads_on begun between ended (source_read c.args.a.now (handed_out x) ∷ []) (source_read c.args.b.now was_too_big ∷ []) one.1 told.0 in
+    subst (FileReports files (AreReads begun ended) c.args.a.now c.args.b.now _) (sym (c.refused-in-TooLong-2.ensures ∙ ap (a_report status.Refused) c.in_ok-too_long_line-in-TooLong-2.ensures)) (second_too_long x both one.0 said)

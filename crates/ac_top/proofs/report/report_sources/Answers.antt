@@ -1,6 +1,7 @@
 use Rattle.std.proofs.Common.{sym, subst}
 use Rattle.ac_top.specs.ProgramAnswers.{SourceReports, refused, unpaired}
 use Rattle.ac_top.specs.RunStages.{IsPairingOf}
+use Rattle.ac_top.proofs.Reading.{no_reads}
 use Rattle.ac_top.proofs.report.report_sources.Goals as goal
 
 pub report_lowered-requires : goal.report_lowered-requires
@@ -15,5 +16,5 @@ returns-in-Refused-clause-report g c =
     let left = c.args.left.now in
     let right = c.args.right.now in
     let why = subst (IsPairingOf left.name.now right.name.now left.bytes.now right.bytes.now) c.in-Refused.is c.in_ok-pair.ensures in
-    subst (SourceReports left.name.now right.name.now left.bytes.now right.bytes.now _)
-    (sym c.refused.ensures) (refused c.in-Refused.text.items (unpaired c.in-Refused.text.items why))
+    subst (SourceReports left.name.now right.name.now left.bytes.now right.bytes.now _ _)
+    (sym c.refused.ensures) (refused c.in-Refused.text.items (no_reads (g.F.Files.transcript c.args.files.now)) (unpaired c.in-Refused.text.items why))
