@@ -1,7 +1,8 @@
 //! A client of files and sinks that knows their traits alone.
-ghost use Rattle.std.specs.Prelude.{◌≡◌, ◌++◌, option_map, OnOk, IfSome, IsErrOf};
+ghost use Rattle.std.specs.Prelude.{◌≡◌, ◌++◌, ◌∷◌, [], option_map, OnOk, IfSome, IsErrOf};
 ghost use Rattle.std.specs.FinMap as map;
 ghost use Rattle.ac_port.specs.CallCounts.{Rose};
+ghost use Rattle.ac_port.specs.Transcripts.{whole_read, read_failed};
 
 use ac_port::{Files, ReadStop, Sink, SinkStop};
 use std::alloc::Global;
@@ -26,7 +27,7 @@ pub fn relay<F: Files, S: Sink>(
     ensures sent { OnOk result (IfSome (F.contents files.old) (λ told. IfSome (map.get told name.now) (λ bytes.
         S.sent sink.new ≡ option_map (λ before. before ++ bytes) (S.sent sink.old)))) }
     ensures same { F.contents files.new ≡ F.contents files.old }
-    ensures read { IsErrOf result RelayStop.Read → Rose (F.read_faults files.old) (F.read_faults files.new) }
+    ensures read { IsErrOf result RelayStop.Read → F.transcript files.new ≡ F.transcript files.old ++ whole_read name.now limit read_failed ∷ [] }
     ensures put { IsErrOf result RelayStop.Put → Rose (S.faults sink.old) (S.faults sink.new) }
 {
     let bytes = match files.read(alloc, name, limit) {
