@@ -1,5 +1,5 @@
 -- Division by a positive number, rounded down.
-use Rattle.std.proofs.Common.{◌≡◌, ℕ, zero, suc, ◌+◌, ◌-◌, ◌*◌, ◌/◌, ◌<◌, ◌≤◌, ℤ, pos, negsuc, ◌+ℤ◌, ◌*ℤ◌, ◌≤ℤ◌, ◌<ℤ◌, List, [], ◌∷◌, map, unsigned_abs, arith, refl, sym, ap, ◌∙◌, ◌↔◌}
+use Rattle.std.proofs.Common.{◌≡◌, ℕ, zero, suc, ◌+◌, ◌-◌, ◌*◌, ◌/◌, ◌<◌, ◌≤◌, ℤ, pos, negsuc, ◌+ℤ◌, ◌-ℤ◌, ◌*ℤ◌, neg_ℤ, ◌≤ℤ◌, ◌<ℤ◌, List, [], ◌∷◌, unsigned_abs, arith, refl, sym, ap, ◌∙◌, ◌↔◌}
 use Rattle.std.specs.Int.{int_div_euclid, ◌∣◌}
 use Rattle.std.proofs.Math.Nat.{mul-div_cancel'}
 use Rattle.ac_base.specs.Gcd.{DividesEach}
@@ -8,7 +8,7 @@ use Rattle.std.proofs.lemmas.Nat.{div-mul-add}
 use borrow.Author.Differences.{up, down, same_in, neg_is}
 use Rattle.ac_base.specs.Dot.{dot, floored}
 use Rattle.ac_base.proofs.Dot.{gather}
-use Rattle.ac_base.proofs.Products.{mul-le-mul_ℤ, mul-add_ℤ}
+use Rattle.ac_base.proofs.Products.{mul-le-mul_ℤ, mul-add_ℤ, mul-neg_ℤ}
 
 -- q = a / k, rounded down, has k * q ≤ a < k * q + k
 pub floor-parts : (a : ℤ) (k : ℕ) → 0 < k → (k * up (int_div_euclid a (pos k)) + down a ≤ k * down (int_div_euclid a (pos k)) + up a) × (k * down (int_div_euclid a (pos k)) + up a < k * up (int_div_euclid a (pos k)) + down a + k)
@@ -85,3 +85,40 @@ cut_both d cs p c h e =
     let s = positive_is d h in
     let f : DividesEach s.0 cs = rw s.2 at e in
     rw s.2 ((λ l. cut_keeps s.0 cs p c s.1 f l), (λ l. cut_back s.0 cs p c s.1 f l))
+
+at_most : (k : ℕ) (a q r : ℤ) → (pos k *ℤ q) ≤ℤ a → a <ℤ (pos k *ℤ r +ℤ pos k) → q ≤ℤ r
+at_most k a q r low high =
+    by_lt_z r q
+    (λ m.
+    let n : (r +ℤ pos 1) ≤ℤ q = omega (arith, ints) in
+    absurd (omega (arith, ints, mul-le-mul_ℤ k (r +ℤ pos 1) q n, mul-add_ℤ (pos k) r (pos 1))))
+    (λ m. m)
+
+-- one integer alone has d * q ≤ a < d * q + d
+pub floor_unique : (a d q : ℤ) → pos 1 ≤ℤ d → (d *ℤ q) ≤ℤ a → a <ℤ (d *ℤ q +ℤ d) → q ≡ int_div_euclid a d
+floor_unique a d q h low high =
+    let s = positive_is d h in
+    let r = int_div_euclid a d in
+    let below : (pos s.0 *ℤ q) ≤ℤ a = rw s.2 at low in
+    let above : a <ℤ (pos s.0 *ℤ q +ℤ pos s.0) = rw s.2 at high in
+    let low_r : (pos s.0 *ℤ r) ≤ℤ a = rw (← s.2) (floor_low a d h) in
+    let high_r : a <ℤ (pos s.0 *ℤ r +ℤ pos s.0) = rw (← s.2) (floor_high a d h) in
+    omega (arith, ints, at_most s.0 a q r below high_r, at_most s.0 a r q low_r above)
+
+-- the quotient is the greatest integer q with d * q ≤ a
+pub floor_greatest : (a d q : ℤ) → pos 1 ≤ℤ d → (d *ℤ q) ≤ℤ a → q ≤ℤ int_div_euclid a d
+floor_greatest a d q h low =
+    let s = positive_is d h in
+    let r = int_div_euclid a d in
+    let below : (pos s.0 *ℤ q) ≤ℤ a = rw s.2 at low in
+    let above : a <ℤ (pos s.0 *ℤ r +ℤ pos s.0) = rw (← s.2) (floor_high a d h) in
+    at_most s.0 a q r below above
+
+-- the quotient rounded up
+pub ceil_is : (a d : ℤ) → pos 1 ≤ℤ d → neg_ℤ (int_div_euclid (neg_ℤ a) d) ≡ int_div_euclid (a +ℤ (d -ℤ pos 1)) d
+ceil_is a d h =
+    let q = int_div_euclid (neg_ℤ a) d in
+    let low = floor_low (neg_ℤ a) d h in
+    let high = floor_high (neg_ℤ a) d h in
+    let e = mul-neg_ℤ d q in
+    floor_unique (a +ℤ (d -ℤ pos 1)) d (neg_ℤ q) h (omega (arith, ints, low, high, e)) (omega (arith, ints, low, high, e))

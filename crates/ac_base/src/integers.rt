@@ -2,7 +2,7 @@
 //!
 //! The functions are small; what other crates mostly use are the definitions in `specs/` and the public lemmas in `proofs/`.
 
-ghost use Rattle.std.specs.Prelude.{◌≡◌, ℕ, pos, ◌<◌, ◌≤ℤ◌, ◌<ℤ◌, ◌+ℤ◌, ◌*ℤ◌, unsigned_abs, IsTrue, ◌↔◌, ℤ, List};
+ghost use Rattle.std.specs.Prelude.{◌≡◌, ℕ, pos, ◌<◌, ◌≤ℤ◌, ◌<ℤ◌, ◌+ℤ◌, ◌-ℤ◌, ◌*ℤ◌, neg_ℤ, unsigned_abs, IsTrue, ◌↔◌, ℤ, List};
 ghost use Rattle.std.specs.Int.{int_div_euclid, int_rem_euclid, IsGcd, ◌∣◌};
 ghost use Rattle.ac_base.specs.Gcd.{gcd, content, DividesEach};
 ghost use Rattle.ac_base.specs.Multiple.{IsMultiple};
@@ -78,4 +78,13 @@ pub fn cut_rule(coefs: &[i128], constant: i128, divisor: i128)
     requires positive { pos 1 ≤ℤ divisor }
     requires divides { DividesEach (unsigned_abs divisor) coefs.now }
     ensures { (point : List ℤ) → (pos 0 ≤ℤ (dot coefs.now point +ℤ constant)) ↔ (pos 0 ≤ℤ (dot (floored divisor coefs.now) point +ℤ int_div_euclid constant divisor)) }
+{}
+
+/// The quotient by a positive number, rounded down, is the greatest integer whose product with it is at most the number, and
+/// the only one whose product leaves a rest below it. The quotient rounded up is that of a number which is greater by the
+/// divisor less 1.
+pub fn rounded_quotients()
+    ensures greatest { (a d q : ℤ) → pos 1 ≤ℤ d → (d *ℤ q) ≤ℤ a → q ≤ℤ int_div_euclid a d }
+    ensures unique { (a d q : ℤ) → pos 1 ≤ℤ d → (d *ℤ q) ≤ℤ a → a <ℤ (d *ℤ q +ℤ d) → q ≡ int_div_euclid a d }
+    ensures up { (a d : ℤ) → pos 1 ≤ℤ d → neg_ℤ (int_div_euclid (neg_ℤ a) d) ≡ int_div_euclid (a +ℤ (d -ℤ pos 1)) d }
 {}

@@ -32,6 +32,9 @@ pub mod Exact
 pub mod Walking
 pub mod ReadyAt
 pub mod Sums
+pub mod Steady
+pub mod Alike
 pub mod Shapes
 pub mod TraceSteps
 pub mod TurnEntries
+pub mod Noted

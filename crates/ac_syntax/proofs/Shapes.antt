@@ -15,6 +15,9 @@ binary_shape old a name b = simp append_assoc
 pub sign_shape : (old name a : List ℕ) → (((old ++ codes "(") ++ name) ++ a) ++ codes ")" ≡ old ++ (codes "(" ++ (name ++ a) ++ codes ")")
 sign_shape old name a = simp append_assoc
 
+pub quot_shape : (old form divisor : List ℕ) → ((((old ++ codes "floord(") ++ form) ++ codes ", ") ++ divisor) ++ codes ")" ≡ old ++ (codes "floord(" ++ form ++ codes ", " ++ divisor ++ codes ")")
+quot_shape old form divisor = simp append_assoc
+
 pub joined_map : {X : Type 0} (f : X → List ℕ) (separator : List ℕ) (xs : List X) → joined separator (map f xs) ≡ join_by f separator xs
 joined_map f separator [] = refl
 joined_map f separator (x ∷ xs) = ap (λ l. f x ++ l) (flat_map-map (λ y. separator ++ y) f xs)

@@ -4,8 +4,10 @@ use Rattle.std.proofs.Common.{◌≡◌, ◌<◌, ◌≤◌, ◌⊎◌, inl, inr
 use Rattle.std.proofs.lemmas.List.{drop_more}
 use Rattle.std.specs.List.{flat_map}
 use Rattle.std.proofs.lemmas.List.{append-nil}
-use Rattle.ac_syntax.specs.Text.{term, terms, sum_text}
-use Rattle.ac_syntax.specs.PrinterTerms.{plus, continued, has_terms}
+use Rattle.std.specs.Prelude.{if◌then◌else◌}
+use Rattle.ac_syntax.specs.Text.{Scope, term, terms, constant_term, sum_text, quot_text, quot_terms}
+use Rattle.ac_syntax.specs.PrinterTerms.{plus, continued, has_terms, ended}
+use Rattle.ac_syntax.specs.declared.tree.Quot.{Quot}
 
 still : (xs : List (List ℕ)) → has_terms true xs ≡ true
 still [] = refl
@@ -59,27 +61,42 @@ terms_end cs ns i ends bytes whole any has before =
     let none = terms_beyond cs ns i ends in
     (sym (append-nil bytes) ∙ ap (λ l. bytes ++ continued any l) (sym none) ∙ before.0, ap (has_terms any) (sym none) ∙ before.1)
 
--- a form is its parameters' terms, its iterators' and its constant's
-pub sum_is : (ps is cs : List (List ℕ)) (a b c : Bool) (old one two three : List ℕ) → one ≡ old ++ continued false ps → a ≡ has_terms false ps → two ≡ one ++ continued a is → b ≡ has_terms a is
-    → three ≡ two ++ continued b cs → c ≡ has_terms b cs → (three ≡ old ++ continued false (ps ++ is ++ cs)) × (c ≡ has_terms false (ps ++ is ++ cs))
-sum_is ps is cs a b c old one two three e f g h k l =
-    let first : continued false (ps ++ is) ≡ continued false ps ++ continued a is = continued_further false ps is ∙ ap (λ x. continued false ps ++ continued x is) (sym f) in
-    let any : has_terms false (ps ++ is) ≡ b = has_further false ps is ∙ ap (λ x. has_terms x is) (sym f) ∙ sym h in
-    let all : continued false (ps ++ is ++ cs) ≡ (continued false ps ++ continued a is) ++ continued b cs =
-    continued_further false (ps ++ is) cs ∙ ap (λ l. l ++ continued (has_terms false (ps ++ is)) cs) first ∙ ap (λ x. (continued false ps ++ continued a is) ++ continued x cs) any in (
-      k ∙ ap (λ l. l ++ continued b cs) (g ∙ ap (λ l. l ++ continued a is) e ∙ append_assoc old (continued false ps) (continued a is))
-          ∙ append_assoc old (continued false ps ++ continued a is) (continued b cs) ∙ ap (λ l. old ++ l) (sym all),
-      l ∙ ap (λ x. has_terms x cs) (sym any) ∙ sym (has_further false (ps ++ is) cs),
-    )
+-- terms and then others
+pub joined_terms : (xs ys : List (List ℕ)) (s a b : Bool) (old one two : List ℕ) → one ≡ old ++ continued s xs → a ≡ has_terms s xs → two ≡ one ++ continued a ys → b ≡ has_terms a ys
+    → (two ≡ old ++ continued s (xs ++ ys)) × (b ≡ has_terms s (xs ++ ys))
+joined_terms xs ys s a b old one two e f g h = (
+  g ∙ ap (λ l. l ++ continued a ys) e ∙ append_assoc old (continued s xs) (continued a ys) ∙ ap (λ x. old ++ (continued s xs ++ continued x ys)) f ∙ ap (λ l. old ++ l) (sym (continued_further s xs ys)),
+  h ∙ ap (λ x. has_terms x ys) f ∙ sym (has_further s xs ys),
+)
 
 shown : (ts : List (List ℕ)) → continued true ts ≡ flat_map (λ t. codes " + " ++ t) ts
 shown [] = refl
 shown (t ∷ ts) = ap (λ l. (codes " + " ++ t) ++ l) (shown ts)
 
-pub sum_of_some : (ts : List (List ℕ)) → true ≡ has_terms false ts → continued false ts ≡ sum_text ts
-sum_of_some [] e = cc
-sum_of_some (t ∷ ts) e = ap (λ l. t ++ l) (shown ts)
+whole_sum : (ts : List (List ℕ)) → continued false ts ++ (if has_terms false ts then [] else codes "0") ≡ sum_text ts
+whole_sum [] = refl
+whole_sum (t ∷ ts) = append-nil (t ++ continued true ts) ∙ ap (λ l. t ++ l) (shown ts)
 
-pub sum_of_none : (ts : List (List ℕ)) → false ≡ has_terms false ts → continued false ts ++ 48 ∷ [] ≡ sum_text ts
-sum_of_none [] e = refl
-sum_of_none (t ∷ ts) e = cc
+-- a sum is its terms and then the constant, or 0 where it has none
+pub ended_sum : (xs : List (List ℕ)) (a : Bool) (c : ℤ) (old one two : List ℕ) → one ≡ old ++ continued false xs → a ≡ has_terms false xs → two ≡ one ++ ended a c → two ≡ old ++ sum_text (xs ++ constant_term c)
+ended_sum xs a c old one two e f g =
+    let cs = constant_term c in
+    let close : Bool → List ℕ = λ b. if b then [] else codes "0" in
+    let all : continued false xs ++ ended a c ≡ sum_text (xs ++ cs) =
+    ap (λ b. continued false xs ++ ended b c) f ∙ sym (append_assoc (continued false xs) (continued (has_terms false xs) cs) (close (has_terms (has_terms false xs) cs)))
+    ∙ ap (λ l. l ++ close (has_terms (has_terms false xs) cs)) (sym (continued_further false xs cs)) ∙ ap (λ b. continued false (xs ++ cs) ++ close b) (sym (has_further false xs cs)) ∙ whole_sum (xs ++ cs) in
+    g ∙ ap (λ l. l ++ ended a c) e ∙ append_assoc old (continued false xs) (ended a c) ∙ ap (λ l. old ++ l) all
+
+-- a turn over quotients
+pub quots_step : (scope : Scope) (qs : List Quot) (i : ℕ) (d : Quot) → i < length qs → (bytes new whole : List ℕ) (any now has : Bool) (q : Quot) → q ≡ get_or qs i d
+    → new ≡ bytes ++ continued any (term q.coef (quot_text scope q)) → now ≡ has_terms any (term q.coef (quot_text scope q))
+    → (bytes ++ continued any (quot_terms scope (drop i qs)) ≡ whole) × (has_terms any (quot_terms scope (drop i qs)) ≡ has)
+    → (new ++ continued now (quot_terms scope (drop (i + 1) qs)) ≡ whole) × (has_terms now (quot_terms scope (drop (i + 1) qs)) ≡ has)
+quots_step scope qs i d below bytes new whole any now has q is text still_any before =
+    let t = term q.coef (quot_text scope q) in
+    let rest = quot_terms scope (drop (i + 1) qs) in
+    let here : quot_terms scope (drop i qs) ≡ t ++ rest = ap (quot_terms scope) (drop_more qs i d below) ∙ ap (λ x. term x.coef (quot_text scope x) ++ rest) (sym is) in (
+      ap (λ l. l ++ continued now rest) text ∙ ap (λ b. (bytes ++ continued any t) ++ continued b rest) still_any ∙ append_assoc bytes (continued any t) (continued (has_terms any t) rest)
+          ∙ ap (λ l. bytes ++ l) (sym (continued_further any t rest)) ∙ ap (λ l. bytes ++ continued any l) (sym here) ∙ before.0,
+      ap (λ b. has_terms b rest) still_any ∙ sym (has_further any t rest) ∙ ap (has_terms any) (sym here) ∙ before.1,
+    )

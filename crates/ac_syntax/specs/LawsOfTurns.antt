@@ -2,7 +2,7 @@
 use Rattle.std.specs.Prelude.{ℕ, ◌≡◌, ◌<◌, ◌+◌, ◌↔◌, length, Bool, true, false, ℤ}
 use Rattle.std.specs.List.{AllByRecursion}
 use Rattle.ac_syntax.specs.Index.{Point, index_value, holds}
-use Rattle.ac_syntax.specs.Turns.{inside, iterator_at, turns, Bounded}
+use Rattle.ac_syntax.specs.Turns.{inside, iterator_at, turns, Bounded, IsSteady}
 use Rattle.ac_syntax.specs.declared.tree.IndexExpr.{IndexExpr}
 use Rattle.ac_syntax.specs.declared.tree.Comparison.{Comparison}
 use Rattle.ac_syntax.specs.declared.tree.Cond.{Cond}
@@ -19,8 +19,9 @@ EachTurnHolds = (p : Point) (start : IndexExpr) (cond : Cond) (step : ℤ) (k : 
 abbrev pub TurnsEnd : Type 0
 TurnsEnd = (p : Point) (start : IndexExpr) (cond : Cond) (step : ℤ) → Bounded (length p.iters) step cond → holds_in_turn p start cond step (turns p start cond step) ≡ false
 
--- so a number is that of a turn exactly where the condition holds at 0 and at that number
+-- so where nothing that is rounded changes with the iterator, a number is that of a turn exactly where the condition holds at 0
+-- and at that number
 abbrev pub TurnsAreWhereTheConditionHolds : Type 0
 TurnsAreWhereTheConditionHolds =
     (p : Point) (start : IndexExpr) (cond : Cond) (step : ℤ) → Bounded (length p.iters) step cond → AllByRecursion (λ (c : Comparison). length c.form.iters ≡ length p.iters + 1) cond.parts
-    → (k : ℕ) → (k < turns p start cond step) ↔ ((holds_in_turn p start cond step 0 ≡ true) × (holds_in_turn p start cond step k ≡ true))
+    → AllByRecursion (IsSteady (length p.iters)) cond.parts → (k : ℕ) → (k < turns p start cond step) ↔ ((holds_in_turn p start cond step 0 ≡ true) × (holds_in_turn p start cond step k ≡ true))

@@ -28,3 +28,5 @@ pub mod Text
 pub mod PrinterTerms
 pub mod Small
 pub mod ExecutedCalls
+pub mod Quotients
+pub mod LawsOfQuotients

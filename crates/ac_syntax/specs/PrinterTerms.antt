@@ -1,7 +1,7 @@
 -- Terms of a sum that stand behind others, and the lines of a loop and of an else.
 use Rattle.std.specs.Prelude.{ℕ, ℤ, Bool, true, List, [], ◌∷◌, ◌++◌, codes, if◌then◌else◌}
 use Rattle.std.specs.List.{flat_map}
-use Rattle.ac_syntax.specs.Text.{Scope, line, deeper, inside, loop_text, stmt_text}
+use Rattle.ac_syntax.specs.Text.{Scope, constant_term, line, deeper, stmt_text, inside, loop_text}
 use Rattle.ac_syntax.specs.declared.tree.IndexExpr.{IndexExpr}
 use Rattle.ac_syntax.specs.declared.tree.Cond.{Cond}
 use Rattle.ac_syntax.specs.declared.tree.Stmt.{Stmt}
@@ -17,6 +17,10 @@ continued any (t ∷ ts) = plus any ++ t ++ continued true ts
 abbrev pub has_terms : Bool → List (List ℕ) → Bool
 has_terms any [] = any
 has_terms any (t ∷ ts) = true
+
+-- the constant behind other terms, or 0 where no term stands
+abbrev pub ended : Bool → ℤ → List ℕ
+ended any c = continued any (constant_term c) ++ (if has_terms any (constant_term c) then [] else codes "0")
 
 abbrev pub else_lines : Scope → List ℕ → List Stmt → List ℕ
 else_lines scope indent [] = []

@@ -1,9 +1,11 @@
--- Programs whose index expressions have one coefficient for each parameter and for each iterator in scope, whose loops
--- end, and whose branches have a condition.
-use Rattle.std.specs.Prelude.{ℕ, ◌+◌, ◌<◌, ◌≡◌, List, length}
+-- Programs whose index expressions have one coefficient for each parameter and for each iterator in scope and no quotient,
+-- whose loops end, and whose branches have a condition.
+use Rattle.std.specs.Prelude.{ℕ, ◌+◌, ◌<◌, ◌≡◌, List, [], length}
 use Rattle.std.specs.List.{AllByRecursion}
 use Rattle.ac_syntax.specs.Turns.{Bounded}
 use Rattle.ac_syntax.specs.declared.tree.IndexExpr.{IndexExpr}
+use Rattle.ac_syntax.specs.declared.tree.Rel.{Rel}
+use Rattle.ac_syntax.specs.declared.tree.Rel.TheVariants.{NonNegative, Zero, Divides}
 use Rattle.ac_syntax.specs.declared.tree.Comparison.{Comparison}
 use Rattle.ac_syntax.specs.declared.tree.Array.{Array}
 use Rattle.ac_syntax.specs.declared.tree.Program.{Program}
@@ -12,16 +14,27 @@ use Rattle.ac_syntax.specs.declared.tree.Value.TheVariants.{Number, Access, Call
 use Rattle.ac_syntax.specs.declared.tree.Stmt.{Stmt, Row_of-Stmt, end_of-Stmt, more_of-Stmt}
 use Rattle.ac_syntax.specs.declared.tree.Stmt.TheVariants.{For', If', Assign}
 
--- a coefficient for each of ps parameters and of xs iterators
+-- a coefficient for each of ps parameters and of xs iterators, and no quotient
 pub record Fits (ps xs : ℕ) (e : IndexExpr) : Type 0 where
   pub params : length e.params ≡ ps
   pub iters : length e.iters ≡ xs
+  pub plain : e.quots ≡ []
 
 abbrev pub AllFit : ℕ → ℕ → List IndexExpr → Type 0
 AllFit ps xs = AllByRecursion (Fits ps xs)
 
+abbrev pub IsPlain : Rel → Type 0
+IsPlain NonNegative = Unit {0}
+IsPlain Zero = Unit {0}
+IsPlain (Divides m) = ⊥
+
+-- a comparison of a form that fits, and no test of a divisor
+pub record FitsPart (ps xs : ℕ) (c : Comparison) : Type 0 where
+  pub form : Fits ps xs c.form
+  pub rel : IsPlain c.rel
+
 abbrev pub FitParts : ℕ → ℕ → List Comparison → Type 0
-FitParts ps xs = AllByRecursion (λ c. Fits ps xs c.form)
+FitParts ps xs = AllByRecursion (FitsPart ps xs)
 
 -- each index expression of a value
 unfoldable mutual

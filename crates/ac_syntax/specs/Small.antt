@@ -1,7 +1,11 @@
--- Programs whose numbers have an absolute value of at most 2^31, with at most 4 parameters and 6 loops around a statement.
-use Rattle.std.specs.Prelude.{◌≤◌, ◌^◌, ℤ, List, length, unsigned_abs}
+-- Programs whose numbers have an absolute value of at most 2^31 and whose divisors are at least 1, with at most 4 parameters and
+-- 6 loops around a statement.
+use Rattle.std.specs.Prelude.{◌≤◌, ◌^◌, ℤ, pos, ◌≤ℤ◌, List, length, unsigned_abs}
 use Rattle.std.specs.List.{AllByRecursion}
+use Rattle.ac_syntax.specs.declared.tree.Quot.{Quot}
 use Rattle.ac_syntax.specs.declared.tree.IndexExpr.{IndexExpr}
+use Rattle.ac_syntax.specs.declared.tree.Rel.{Rel}
+use Rattle.ac_syntax.specs.declared.tree.Rel.TheVariants.{NonNegative, Zero, Divides}
 use Rattle.ac_syntax.specs.declared.tree.Comparison.{Comparison}
 use Rattle.ac_syntax.specs.declared.tree.Array.{Array}
 use Rattle.ac_syntax.specs.declared.tree.Program.{Program}
@@ -14,18 +18,39 @@ use Rattle.ac_syntax.specs.declared.tree.Stmt.TheVariants.{For', If', Assign}
 abbrev pub IsSmall : ℤ → Type 0
 IsSmall z = unsigned_abs z ≤ 2 ^ 31
 
+pub record IsSmallQuot (q : Quot) : Type 0 where
+  pub coef : IsSmall q.coef
+  pub constant : IsSmall q.konst
+  pub params : AllByRecursion IsSmall q.params
+  pub iters : AllByRecursion IsSmall q.iters
+  pub few_params : length q.params ≤ 4
+  pub few_iters : length q.iters ≤ 6
+  pub positive : pos 1 ≤ℤ q.div
+  pub divisor : IsSmall q.div
+
 pub record IsSmallForm (e : IndexExpr) : Type 0 where
   pub constant : IsSmall e.konst
   pub params : AllByRecursion IsSmall e.params
   pub iters : AllByRecursion IsSmall e.iters
   pub few_params : length e.params ≤ 4
   pub few_iters : length e.iters ≤ 6
+  pub quots : AllByRecursion IsSmallQuot e.quots
+  pub few_quots : length e.quots ≤ 2 ^ 16
 
 abbrev pub AreSmallForms : List IndexExpr → Type 0
 AreSmallForms = AllByRecursion IsSmallForm
 
+abbrev pub IsSmallRel : Rel → Type 0
+IsSmallRel NonNegative = Unit {0}
+IsSmallRel Zero = Unit {0}
+IsSmallRel (Divides m) = (pos 1 ≤ℤ m) × IsSmall m
+
+pub record IsSmallPart (c : Comparison) : Type 0 where
+  pub form : IsSmallForm c.form
+  pub rel : IsSmallRel c.rel
+
 abbrev pub AreSmallParts : List Comparison → Type 0
-AreSmallParts = AllByRecursion (λ c. IsSmallForm c.form)
+AreSmallParts = AllByRecursion IsSmallPart
 
 -- each index expression of a value
 unfoldable mutual

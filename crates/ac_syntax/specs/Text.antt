@@ -3,9 +3,10 @@
 use Rattle.std.specs.Prelude.{ℕ, zero, suc, ℤ, pos, negsuc, Bool, true, false, List, [], ◌∷◌, ◌++◌, codes, Option, None, Some, slice_get, if◌then◌else◌, ◌==◌, nat_le, ◌||◌, ◌&&◌}
 use Rattle.std.specs.List.{flat_map, join_by, list_any}
 use Rattle.std.specs.Fmt.{signed_decimal}
+use Rattle.ac_syntax.specs.declared.tree.Quot.{Quot}
 use Rattle.ac_syntax.specs.declared.tree.IndexExpr.{IndexExpr}
 use Rattle.ac_syntax.specs.declared.tree.Rel.{Rel}
-use Rattle.ac_syntax.specs.declared.tree.Rel.TheVariants.{NonNegative, Zero}
+use Rattle.ac_syntax.specs.declared.tree.Rel.TheVariants.{NonNegative, Zero, Divides}
 use Rattle.ac_syntax.specs.declared.tree.Comparison.{Comparison}
 use Rattle.ac_syntax.specs.declared.tree.Cond.{Cond}
 use Rattle.ac_syntax.specs.declared.tree.Value.{Value, Row_of-Value, end_of-Value, more_of-Value}
@@ -76,16 +77,28 @@ abbrev pub sum_text : List (List ℕ) → List ℕ
 sum_text [] = codes "0"
 sum_text (t ∷ ts) = joined (codes " + ") (t ∷ ts)
 
--- parameters, iterators, constant
-abbrev pub form_text : Scope → IndexExpr → List ℕ
-form_text scope e = sum_text (terms e.params scope.params ++ terms e.iters scope.iters ++ constant_term e.konst)
+-- the parameters, the iterators and the constant of what a quotient divides
+abbrev pub argument_text : Scope → Quot → List ℕ
+argument_text scope q = sum_text (terms q.params scope.params ++ terms q.iters scope.iters ++ constant_term q.konst)
 
-abbrev pub relation_text : Rel → List ℕ
-relation_text NonNegative = codes " >= 0"
-relation_text Zero = codes " == 0"
+abbrev pub quot_text : Scope → Quot → List ℕ
+quot_text scope q = codes "floord(" ++ argument_text scope q ++ codes ", " ++ signed_decimal q.div ++ codes ")"
+
+abbrev pub quot_terms : Scope → List Quot → List (List ℕ)
+quot_terms scope [] = []
+quot_terms scope (q ∷ qs) = term q.coef (quot_text scope q) ++ quot_terms scope qs
+
+-- parameters, iterators, quotients, constant
+abbrev pub form_text : Scope → IndexExpr → List ℕ
+form_text scope e = sum_text (terms e.params scope.params ++ terms e.iters scope.iters ++ quot_terms scope e.quots ++ constant_term e.konst)
+
+abbrev pub tested_text : Rel → List ℕ → List ℕ
+tested_text NonNegative form = form ++ codes " >= 0"
+tested_text Zero form = form ++ codes " == 0"
+tested_text (Divides m) form = in_parentheses form ++ codes " % " ++ signed_decimal m ++ codes " == 0"
 
 abbrev pub comparison_text : Scope → Comparison → List ℕ
-comparison_text scope c = form_text scope c.form ++ relation_text c.rel
+comparison_text scope c = tested_text c.rel (form_text scope c.form)
 
 abbrev pub cond_text : Scope → Cond → List ℕ
 cond_text scope cond = join_by (comparison_text scope) (codes " && ") cond.parts

@@ -1,9 +1,9 @@
 -- The turns of a loop: how often its body runs, counted from the turn 0 until the condition first fails.
-use Rattle.std.specs.Prelude.{ℕ, zero, suc, List, [], ◌∷◌, ◌++◌, ◌+◌, ◌≡◌, length, Bool, true, false, not, ℤ, pos, negsuc, ◌+ℤ◌, ◌*ℤ◌, if◌then◌else◌, sum_by, unsigned_abs}
-use Rattle.std.specs.List.{Contains}
+use Rattle.std.specs.Prelude.{ℕ, zero, suc, List, [], ◌∷◌, ◌++◌, ◌+◌, ◌≡◌, length, Bool, true, false, not, ℤ, pos, negsuc, ◌+ℤ◌, ◌*ℤ◌, if◌then◌else◌, sum_by, unsigned_abs, get_or}
+use Rattle.std.specs.List.{Contains, AllByRecursion}
 use Rattle.ac_syntax.specs.Index.{Point, index_value, holds, is_zero}
 use Rattle.ac_syntax.specs.declared.tree.Rel.{Rel}
-use Rattle.ac_syntax.specs.declared.tree.Rel.TheVariants.{NonNegative, Zero}
+use Rattle.ac_syntax.specs.declared.tree.Rel.TheVariants.{NonNegative, Zero, Divides}
 use Rattle.ac_syntax.specs.declared.tree.IndexExpr.{IndexExpr}
 use Rattle.ac_syntax.specs.declared.tree.Comparison.{Comparison}
 use Rattle.ac_syntax.specs.declared.tree.Cond.{Cond}
@@ -43,10 +43,25 @@ is_negative (negsuc n) = true
 abbrev pub bounds_by : Rel → ℤ → Bool
 bounds_by NonNegative z = is_negative z
 bounds_by Zero z = not (is_zero z)
+bounds_by (Divides m) z = false
 
 -- a comparison that ends the loop: a form that is to stay at least 0 falls with each step, one that is to stay 0 changes
 abbrev pub bounds : ℤ → Comparison → Bool
 bounds step c = bounds_by c.rel (innermost c.form.iters *ℤ step)
+
+-- the coefficient of the iterator of a loop inside n others
+abbrev pub own : ℕ → List ℤ → ℤ
+own n cs = get_or cs n (pos 0)
+
+abbrev pub IsSteadyRel : ℕ → Rel → List ℤ → Type 0
+IsSteadyRel n NonNegative cs = Unit {0}
+IsSteadyRel n Zero cs = Unit {0}
+IsSteadyRel n (Divides m) cs = own n cs ≡ pos 0
+
+-- nothing that is rounded changes with that iterator
+pub record IsSteady (n : ℕ) (c : Comparison) : Type 0 where
+  pub quots : AllByRecursion (λ q. own n q.iters ≡ pos 0) c.form.quots
+  pub rel : IsSteadyRel n c.rel c.form.iters
 
 -- some comparison of the condition bounds the iterator of a loop inside n others
 pub record Bounded (n : ℕ) (step : ℤ) (cond : Cond) : Type 0 where
@@ -54,3 +69,4 @@ pub record Bounded (n : ℕ) (step : ℤ) (cond : Cond) : Type 0 where
   pub stands : Contains cond.parts bound
   pub innermost : length bound.form.iters ≡ n + 1
   pub ends : bounds step bound ≡ true
+  pub steady : IsSteady n bound

@@ -2,7 +2,7 @@
 ghost use Rattle.std.specs.Prelude.{◌≡◌, IfOk};
 
 use crate::name::Name;
-use crate::tree::{IndexExpr, Symbol, Value};
+use crate::tree::{IndexExpr, Quot, Symbol, Value};
 use ac_base::Items;
 use std::alloc::{AllocError, Global};
 
@@ -16,6 +16,31 @@ pub fn copy_symbol(alloc: Global, symbol: &Symbol) -> Result<Symbol, AllocError>
     })
 }
 
+/// The same quotient.
+pub fn copy_quot(alloc: Global, quot: &Quot) -> Result<Quot, AllocError>
+    ensures { IfOk result (λ copy. copy ≡ quot.now) }
+{
+    Ok(Quot {
+        coef: quot.coef,
+        konst: quot.konst,
+        params: Items::from_slice(alloc, quot.params.as_slice())?,
+        iters: Items::from_slice(alloc, quot.iters.as_slice())?,
+        div: quot.div,
+        place: quot.place,
+    })
+}
+
+/// The same quotients, in order.
+pub fn copy_quots(alloc: Global, quots: &[Quot]) -> Result<Items<Quot>, AllocError>
+    ensures { IfOk result (λ copies. copies ≡ quots.now) }
+{
+    let mut copies = Items::new(alloc);
+    for quot in quots {
+        copies.push(copy_quot(alloc, quot)?)?;
+    }
+    Ok(copies)
+}
+
 /// The same index expression.
 pub fn copy_index_expr(alloc: Global, form: &IndexExpr) -> Result<IndexExpr, AllocError>
     ensures { IfOk result (λ copy. copy ≡ form.now) }
@@ -24,6 +49,7 @@ pub fn copy_index_expr(alloc: Global, form: &IndexExpr) -> Result<IndexExpr, All
         konst: form.konst,
         params: Items::from_slice(alloc, form.params.as_slice())?,
         iters: Items::from_slice(alloc, form.iters.as_slice())?,
+        quots: copy_quots(alloc, form.quots.as_slice())?,
         place: form.place,
     })
 }

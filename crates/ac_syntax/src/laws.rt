@@ -1,5 +1,6 @@
 //! What the definitions of execution say, in words: each function here does nothing, and its contract is a fact about
 //! all programs. The crates above rest on these facts.
+ghost use Rattle.ac_syntax.specs.LawsOfQuotients.{QuotientsAreGreatest, DivisorsAreTested, SameQuotientsHaveOneValue};
 ghost use Rattle.ac_syntax.specs.LawsOfTurns.{EachTurnHolds, TurnsEnd, TurnsAreWhereTheConditionHolds};
 ghost use Rattle.ac_syntax.specs.LawsOfTraces.{EntriesAreInstances, EntriesFollowTheText, EntriesStandInOrder, EachEntryStandsOnce};
 ghost use Rattle.ac_syntax.specs.LawsOfPlaces.{EntriesHavePlaces, OnePlaceOneEntry, EntriesBeforeStandEarlier, CellsAreCompared, SourceStandsLast, NoSourceIsNoWriter};
@@ -7,8 +8,17 @@ ghost use Rattle.ac_syntax.specs.LawsOfNodes.{ValuesHaveThreeCases, RootIsTheFir
 ghost use Rattle.ac_syntax.specs.LawsOfSources.{SourceIsTheLastWriterBefore, SourceIsTheLastWriter, RunLeavesWhatTheSourceStored};
 ghost use Rattle.ac_syntax.specs.LawsOfTerms.{IntegersAreValuesOfTerms, TermsAreOfTheSource, AgreeingTermsHaveEqualValues, AgreementIsMatching, AgreeingTermsAreTheSame, AgreeingOutputsAreTheSame};
 
-/// The condition of a loop holds in each of its turns; under the rule on endless loops it fails after the last. So a
-/// number is that of a turn exactly where the condition holds at 0 and at that number.
+/// The value of a quotient is the greatest integer whose product with the divisor is at most the form, where the divisor is at
+/// least 1. A test of a divisor holds exactly at its multiples. Quotients that are noted as one have one value.
+pub fn quotients_are_greatest()
+    ensures greatest { QuotientsAreGreatest }
+    ensures multiples { DivisorsAreTested }
+    ensures same { SameQuotientsHaveOneValue }
+{}
+
+/// The condition of a loop holds in each of its turns; under the rule on endless loops it fails after the last. So, where
+/// nothing that is rounded changes with its iterator, a number is that of a turn exactly where the condition holds at 0 and at
+/// that number.
 pub fn turns_of_a_loop()
     ensures hold { EachTurnHolds }
     ensures end { TurnsEnd }

@@ -12,6 +12,7 @@ pub mod laws;
 pub mod make;
 pub mod name;
 mod print;
+pub mod quotients;
 pub mod tree;
 
 pub use print::print_program;

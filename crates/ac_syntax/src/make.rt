@@ -4,17 +4,46 @@ ghost use Rattle.ac_syntax.specs.declared.tree.Value.TheVariants as value;
 ghost use Rattle.ac_syntax.specs.declared.tree.Stmt.TheVariants as stmt;
 
 use crate::name::Name;
-use crate::tree::{Comparison, Cond, IndexExpr, Place, Stmt, Symbol, Value};
+use crate::tree::{Comparison, Cond, IndexExpr, Place, Quot, Stmt, Symbol, Value};
 use ac_base::Items;
 
-/// An index expression: a constant, the coefficients of the parameters and those of the iterators, the outermost first.
-pub fn index_expr(konst: i64, params: Vec<i64>, iters: Vec<i64>, place: Place) -> IndexExpr
-    ensures { result ≡ record { konst = konst; params = params.items; iters = iters.items; place = place } }
+/// A quotient: what it is multiplied by, the constant and the coefficients of its form, and its divisor.
+pub fn quot(
+    coef: i64,
+    konst: i64,
+    params: Vec<i64>,
+    iters: Vec<i64>,
+    div: i64,
+    place: Place,
+) -> Quot
+    ensures { result ≡ record { coef = coef; konst = konst; params = params.items; iters = iters.items; div = div; place = place } }
+{
+    Quot {
+        coef,
+        konst,
+        params: Items::from(params),
+        iters: Items::from(iters),
+        div,
+        place,
+    }
+}
+
+/// An index expression: a constant, the coefficients of the parameters and those of the iterators, the outermost first,
+/// and the quotients.
+pub fn index_expr(
+    konst: i64,
+    params: Vec<i64>,
+    iters: Vec<i64>,
+    quots: Vec<Quot>,
+    place: Place,
+) -> IndexExpr
+    ensures { result ≡ record { konst = konst; params = params.items; iters = iters.items; quots = quots.items; place = place } }
 {
     IndexExpr {
         konst,
         params: Items::from(params),
         iters: Items::from(iters),
+        quots: Items::from(quots),
         place,
     }
 }

@@ -7,21 +7,35 @@ pub struct Place {
     pub at: u32,
 }
 
+/// A quotient in an index expression: an affine form over `div`, rounded down, times `coef`. The form has a constant, a
+/// coefficient for each parameter, and one for each loop around it, the outermost first. `place` is the quotient's first byte.
+#[derive(Drop, PartialEq, Eq)]
+pub struct Quot {
+    pub coef: i64,
+    pub konst: i64,
+    pub params: Items<i64>,
+    pub iters: Items<i64>,
+    pub div: i64,
+    pub place: Place,
+}
+
 /// An affine expression of index values: a constant, a coefficient for each parameter in the order of the parameter
-/// list, and one for each loop around it, the outermost first. `place` is its first byte.
+/// list, one for each loop around it, the outermost first, and quotients. `place` is its first byte.
 #[derive(Drop, PartialEq, Eq)]
 pub struct IndexExpr {
     pub konst: i64,
     pub params: Items<i64>,
     pub iters: Items<i64>,
+    pub quots: Items<Quot>,
     pub place: Place,
 }
 
-/// What a comparison says of the value of its form: at least 0, or equal to 0.
+/// What a comparison says of the value of its form: at least 0, equal to 0, or a multiple of a divisor.
 #[derive(Clone, Copy, PartialEq, Eq)]
 pub enum Rel {
     NonNegative,
     Zero,
+    Divides(i64),
 }
 
 /// One comparison, collected as a form that is compared with 0.
