@@ -1,22 +1,27 @@
 -- Runs of programs with small numbers: no partial sum leaves 128 bits, since each index value that is taken has 64.
-use Rattle.std.proofs.Common.{◌≡◌, ◌≢◌, ℕ, zero, suc, ◌+◌, ◌*◌, ◌^◌, ◌<◌, ◌≤◌, ℤ, pos, negsuc, ◌+ℤ◌, ◌*ℤ◌, Bool, true, false, List, [], ◌∷◌, ◌++◌, length, map, Option, Some, None, IfSome, Result, Ok, Err, if◌then◌else◌, nat_lt, refl, sym, ap, subst, ◌∙◌, arith}
+use Rattle.std.proofs.Common.{◌≡◌, ℕ, zero, suc, ◌+◌, ◌*◌, ◌^◌, ◌<◌, ◌≤◌, ℤ, pos, negsuc, ◌+ℤ◌, ◌*ℤ◌, ◌≤ℤ◌, Bool, true, false, List, [], ◌∷◌, ◌++◌, length, map, Option, Some, None, IfSome, Result, Ok, Err, if◌then◌else◌, nat_lt, refl, sym, ap, subst, ◌∙◌, arith}
 use Rattle.std.specs.Prelude.{unsigned_abs, option_and_then, option_map}
 use Rattle.std.specs.List.{AllByRecursion, flat_map, range_with_len}
 use Rattle.std.proofs.lemmas.Bool.Decides.{nat_tests}
 use Rattle.std.proofs.lemmas.Int.{ints, unsigned_abs-mul}
 use Rattle.std.proofs.lemmas.Nat.{mul-le}
 use Rattle.std.proofs.Math.IntN.{*ℤ-zero}
-use Rattle.std.proofs.lemmas.List.{append_assoc}
-use Rattle.ac_syntax.specs.CheckedArithmetic.{fits_128, checked, summed, checked_value, checked_comparison, checked_holds}
-use Rattle.ac_syntax.specs.Index.{Point, point, index_value, comparison_holds, holds, rel_holds}
-use Rattle.ac_syntax.specs.Small.{IsSmall, IsSmallForm, AreSmallForms, AreSmallParts, IsSmallValue, AreSmallValues, IsSmallStmt, AreSmallStmts, IsSmallPair}
+use Rattle.std.proofs.lemmas.List.{append_assoc, append-nil}
+use Rattle.std.specs.Int.{int_div_euclid}
+use Rattle.ac_syntax.specs.CheckedArithmetic.{fits_128, checked, summed, checked_plain, checked_argument, rounded, checked_quot, plus_times, plus_quot, summed_quots, checked_value, checked_comparison, checked_holds}
+use Rattle.ac_syntax.specs.Index.{Point, point, quot_argument, quot_value, index_value, comparison_holds, holds, rel_holds}
+use Rattle.ac_syntax.specs.Small.{IsSmall, IsSmallQuot, IsSmallForm, AreSmallForms, IsSmallRel, IsSmallPart, AreSmallParts, IsSmallValue, AreSmallValues, IsSmallStmt, AreSmallStmts, IsSmallPair}
 use Rattle.ac_syntax.specs.Outputs.{extents_at}
 use Rattle.ac_syntax.specs.Turns.{inside, iterator_at, turns}
-use Rattle.ac_syntax.proofs.Exact.{checked_exact}
+use Rattle.ac_syntax.proofs.Exact.{argument_exact, checked_exact}
 use Rattle.ac_syntax.specs.declared.tree.Place.{Place}
 use Rattle.ac_syntax.specs.declared.tree.Array.{Array}
 use Rattle.ac_syntax.specs.declared.tree.Pair.{Pair}
+use Rattle.ac_syntax.specs.ReadyPrograms.{FitParts}
+use Rattle.ac_syntax.specs.declared.tree.Quot.{Quot}
 use Rattle.ac_syntax.specs.declared.tree.IndexExpr.{IndexExpr}
+use Rattle.ac_syntax.specs.declared.tree.Rel.{Rel}
+use Rattle.ac_syntax.specs.declared.tree.Rel.TheVariants.{NonNegative, Zero, Divides}
 use Rattle.ac_syntax.specs.declared.tree.Comparison.{Comparison}
 use Rattle.ac_syntax.specs.declared.tree.Cond.{Cond}
 use Rattle.ac_syntax.specs.declared.tree.Value.{Value, Row_of-Value, end_of-Value, more_of-Value}
@@ -26,10 +31,10 @@ use Rattle.ac_syntax.specs.declared.tree.Stmt.TheVariants.{For', If', Assign}
 use Rattle.std.specs.Result.{IsErrOf}
 use Rattle.ac_instance.specs.declared.halt.Halt.{Halt}
 use Rattle.ac_instance.specs.declared.halt.Ran.{Ran}
-use Rattle.ac_instance.specs.declared.halt.Halt.TheVariants.{OutsideContext, TooLarge, Range, Wide}
+use Rattle.ac_instance.specs.declared.halt.Halt.TheVariants.{TooLarge, Range, Wide}
 use Rattle.ac_instance.specs.declared.halt.Side.{Side}
 use Rattle.ac_instance.specs.declared.halt.Side.TheVariants.{Left, Right}
-use Rattle.ac_instance.specs.Events.{Event, event, evaluated, fits_64, out_of_range, unless, reached, index, in_value, in_values, in_test, in_turn, in_loop, in_stmt, in_body, in_all, natural, in_elements, in_output}
+use Rattle.ac_instance.specs.Events.{Event, event, evaluated, fits_64, unless, reached, quotient, index, divided, in_part, in_value, in_values, in_test, in_turn, in_loop, in_stmt, in_body, in_all, natural, in_elements, in_output}
 use Rattle.ac_instance.specs.ComparisonAnswers.{in_outputs, everything, IsRan}
 use Rattle.ac_instance.proofs.Happen.{and_then, reached-append}
 
@@ -110,35 +115,95 @@ pub record Narrow (p : Point) : Type 0 where
   pub params : Fit p.params
   pub iters : Fit p.iters
 
-value_small : (p : Point) (e : IndexExpr) → Narrow p → IsSmallForm e → (v : ℤ) × (checked_value p e ≡ Some v)
-value_small p e n s =
-    let first = summed_small e.params p.params e.konst 0 s.params n.params (let k = s.constant in omega (arith, k)) (let k = s.few_params in omega (arith, k)) in
-    let second = summed_small e.iters p.iters first.0 (length e.params) s.iters n.iters (let k = first.2 in omega (arith, k)) (let k = s.few_params in let l = s.few_iters in omega (arith, k, l)) in
-    (second.0, ap (option_and_then (λ s. summed s e.iters p.iters)) first.1 ∙ second.1)
+-- a form without quotients
+plain_small : (p : Point) (konst : ℤ) (ps xs : List ℤ) → Narrow p → IsSmall konst → AllByRecursion IsSmall ps → AllByRecursion IsSmall xs → length ps ≤ 4 → length xs ≤ 6
+    → (v : ℤ) × (checked_plain p konst ps xs ≡ Some v) × (unsigned_abs v ≤ 2 ^ 31 + 10 * 2 ^ 94)
+plain_small p konst ps xs n k sp sx few more =
+    let first = summed_small ps p.params konst 0 sp n.params (omega (arith, k)) (omega (arith, few)) in
+    let second = summed_small xs p.iters first.0 (length ps) sx n.iters (let a = first.2 in omega (arith, a)) (omega (arith, few, more)) in
+    (second.0, ap (option_and_then (λ s. summed s xs p.iters)) first.1 ∙ second.1, let b = second.2 in omega (arith, b, few, more))
 
-exact_small : (p : Point) (e : IndexExpr) → Narrow p → IsSmallForm e → checked_value p e ≡ Some (index_value p e)
-exact_small p e n s =
-    let v = value_small p e n s in
+argument_small : (p : Point) (q : Quot) → Narrow p → IsSmallQuot q → checked_argument p q ≡ Some (quot_argument p q)
+argument_small p q n s =
+    let v = plain_small p q.konst q.params q.iters n s.constant s.params s.iters s.few_params s.few_iters in
+    v.1 ∙ ap Some (subst (λ o. IfSome o (λ v. v ≡ quot_argument p q)) v.1 (argument_exact p q))
+
+rounded_some : (d v : ℤ) → pos 1 ≤ℤ d → rounded d v ≡ Some (int_div_euclid v d)
+rounded_some (pos zero) v h = absurd (omega (arith, ints))
+rounded_some (pos (suc n)) v h = refl
+rounded_some (negsuc n) v h = absurd (omega (arith, ints))
+
+quot_small : (p : Point) (q : Quot) → Narrow p → IsSmallQuot q → checked_quot p q ≡ Some (quot_value p q)
+quot_small p q n s = ap (option_and_then (rounded q.div)) (argument_small p q n s) ∙ rounded_some q.div (quot_argument p q) s.positive
+
+-- each quotient has 64 bits
+abbrev pub FitQuots : Point → List Quot → Type 0
+FitQuots p = AllByRecursion (λ q. fits_64 (quot_value p q) ≡ true)
+
+quots_small : (p : Point) (qs : List Quot) (sum : ℤ) (k : ℕ) → Narrow p → AllByRecursion IsSmallQuot qs → FitQuots p qs → unsigned_abs sum ≤ 2 ^ 31 + k * 2 ^ 94 → k + length qs ≤ 10 + 2 ^ 16
+    → (s : ℤ) × (summed_quots p sum qs ≡ Some s)
+quots_small p [] sum k n s f h few = (sum, refl)
+quots_small p (q ∷ qs) sum k n s f h few =
+    let v = quot_value p q in
+    let m = product_small q.coef v s.0.coef f.0 in
+    let a = abs_add sum (q.coef *ℤ v) in
+    let next : unsigned_abs (sum +ℤ (q.coef *ℤ v)) ≤ 2 ^ 31 + (k + 1) * 2 ^ 94 = omega (arith, m, a, h) in
+    let product : checked (q.coef *ℤ v) ≡ Some (q.coef *ℤ v) = checked_abs (q.coef *ℤ v) (omega (arith, m)) in
+    let whole : checked (sum +ℤ (q.coef *ℤ v)) ≡ Some (sum +ℤ (q.coef *ℤ v)) = checked_abs (sum +ℤ (q.coef *ℤ v)) (omega (arith, next, few)) in
+    let one : plus_quot p sum q ≡ Some (sum +ℤ (q.coef *ℤ v)) = ap (option_and_then (plus_times sum q.coef)) (quot_small p q n s.0) ∙ ap (option_and_then (λ x. checked (sum +ℤ x))) product ∙ whole in
+    let rest = quots_small p qs (sum +ℤ (q.coef *ℤ v)) (k + 1) n s.1 f.1 next (omega (arith, few)) in
+    (rest.0, ap (option_and_then (λ t. summed_quots p t qs)) one ∙ rest.1)
+
+value_small : (p : Point) (e : IndexExpr) → Narrow p → IsSmallForm e → FitQuots p e.quots → (v : ℤ) × (checked_value p e ≡ Some v)
+value_small p e n s f =
+    let first = plain_small p e.konst e.params e.iters n s.constant s.params s.iters s.few_params s.few_iters in
+    let second = quots_small p e.quots first.0 10 n s.quots f first.2 (let k = s.few_quots in omega (arith, k)) in
+    (second.0, ap (option_and_then (λ s. summed_quots p s e.quots)) first.1 ∙ second.1)
+
+exact_small : (p : Point) (e : IndexExpr) → Narrow p → IsSmallForm e → FitQuots p e.quots → checked_value p e ≡ Some (index_value p e)
+exact_small p e n s f =
+    let v = value_small p e n s f in
     v.1 ∙ ap Some (subst (λ o. IfSome o (λ v. v ≡ index_value p e)) v.1 (checked_exact p e))
 
-never_index : (side : Side) (p : Point) (e : IndexExpr) (hs : List Event) → Narrow p → IsSmallForm e → (fits_64 (index_value p e) ≡ true → Never hs) → Never (index side p e ∷ hs)
-never_index side p e hs n s h = subst (λ o. Never (evaluated side e.place o ∷ hs)) (sym (exact_small p e n s)) (never_value side e.place (index_value p e) hs h)
+never_quots : (side : Side) (p : Point) (qs : List Quot) (hs : List Event) → Narrow p → AllByRecursion IsSmallQuot qs → (FitQuots p qs → Never hs) → Never (flat_map (quotient side p) qs ++ hs)
+never_quots side p [] hs n s h = h tt
+never_quots side p (q ∷ qs) hs n s h =
+    let rest = flat_map (quotient side p) qs ++ hs in
+    subst (λ o. Never (evaluated side q.place o ∷ evaluated side q.place (checked_quot p q) ∷ rest)) (sym (argument_small p q n s.0))
+    (never_value side q.place (quot_argument p q) (evaluated side q.place (checked_quot p q) ∷ rest)
+    (λ t. subst (λ o. Never (evaluated side q.place o ∷ rest)) (sym (quot_small p q n s.0)) (never_value side q.place (quot_value p q) rest (λ f. never_quots side p qs hs n s.1 (λ g. h (f, g))))))
 
-never_indices : (side : Side) (p : Point) (es : List IndexExpr) → Narrow p → AreSmallForms es → Never (map (index side p) es)
+never_index : (side : Side) (p : Point) (e : IndexExpr) (hs : List Event) → Narrow p → IsSmallForm e → (fits_64 (index_value p e) ≡ true → Never hs) → Never (index side p e ++ hs)
+never_index side p e hs n s h =
+    subst Never (sym (append_assoc (flat_map (quotient side p) e.quots) (evaluated side e.place (checked_value p e) ∷ []) hs))
+    (never_quots side p e.quots (evaluated side e.place (checked_value p e) ∷ hs) n s.quots
+    (λ f. subst (λ o. Never (evaluated side e.place o ∷ hs)) (sym (exact_small p e n s f)) (never_value side e.place (index_value p e) hs h)))
+
+never_indices : (side : Side) (p : Point) (es : List IndexExpr) → Narrow p → AreSmallForms es → Never (flat_map (index side p) es)
 never_indices side p [] n s = never_nothing
-never_indices side p (e ∷ es) n s = never_index side p e (map (index side p) es) n s.0 (λ t. never_indices side p es n s.1)
+never_indices side p (e ∷ es) n s = never_index side p e (flat_map (index side p) es) n s.0 (λ t. never_indices side p es n s.1)
+
+never_divided : (side : Side) (place : Place) (r : Rel) (v : ℤ) (hs : List Event) → IsSmallRel r → Never hs → Never (divided side place r v ++ hs)
+never_divided side place NonNegative v hs s h = h
+never_divided side place Zero v hs s h = h
+never_divided side place (Divides m) v hs s h = subst (λ o. Never (evaluated side place o ∷ hs)) (sym (rounded_some m v s.0)) (never_value side place (int_div_euclid v m) hs (λ t. h))
+
+never_part : (side : Side) (p : Point) (c : Comparison) (hs : List Event) → Narrow p → IsSmallPart c → Never hs → Never (in_part side p c ++ hs)
+never_part side p c hs n s h =
+    let quotients = divided side c.form.place c.rel (index_value p c.form) in
+    subst Never (sym (append_assoc (index side p c.form) quotients hs)) (never_index side p c.form (quotients ++ hs) n s.form (λ t. never_divided side c.form.place c.rel (index_value p c.form) hs s.rel h))
 
 never_test : (side : Side) (p : Point) (cs : List Comparison) → Narrow p → AreSmallParts cs → Never (in_test side p cs)
 never_test side p [] n s = never_nothing
 never_test side p (c ∷ cs) n s =
-    never_index side p c.form (if comparison_holds p c then in_test side p cs else []) n s.0 (λ t. never_either (comparison_holds p c) (in_test side p cs) [] (never_test side p cs n s.1) never_nothing)
+    never_part side p c (if comparison_holds p c then in_test side p cs else []) n s.0 (never_either (comparison_holds p c) (in_test side p cs) [] (never_test side p cs n s.1) never_nothing)
 
 mutual
   unfolding in_value IsSmallValue
 
   never_in_value : (side : Side) (p : Point) (v : Value) → Narrow p → IsSmallValue v → Never (in_value side p v)
-  never_in_value side p (Number e) n s = never_event (index side p e ∷ []) (never_index side p e [] n s (λ t. never_nothing))
-  never_in_value side p (Access array subs place) n s = never_event (map (index side p) subs) (never_indices side p subs n s)
+  never_in_value side p (Number e) n s = never_event (index side p e) (subst Never (append-nil (index side p e)) (never_index side p e [] n s (λ t. never_nothing)))
+  never_in_value side p (Access array subs place) n s = never_event (flat_map (index side p) subs) (never_indices side p subs n s)
   never_in_value side p (Call' symbol m args place) n s = never_event (in_values side p args) (never_in_values side p args n s)
 
   never_in_values : (side : Side) (p : Point) {m : _} (vs : Row_of-Value m) → Narrow p → AreSmallValues vs → Never (in_values side p vs)
@@ -196,7 +261,7 @@ mutual
   never_in_stmt side p (If' cond m taken k other place) n s =
       never_both (in_test side p cond.parts) (if holds p cond then in_body side p taken else in_body side p other) (never_test side p cond.parts n s.0)
       (never_either (holds p cond) (in_body side p taken) (in_body side p other) (never_in_body side p taken n s.1) (never_in_body side p other n s.2))
-  never_in_stmt side p (Assign array subs value place) n s = never_both (in_value side p value) (map (index side p) subs) (never_in_value side p value n s.1) (never_indices side p subs n s.0)
+  never_in_stmt side p (Assign array subs value place) n s = never_both (in_value side p value) (flat_map (index side p) subs) (never_in_value side p value n s.1) (never_indices side p subs n s.0)
 
   never_in_body : (side : Side) (p : Point) {m : _} (ss : Row_of-Stmt m) → Narrow p → AreSmallStmts ss → Never (in_body side p ss)
   never_in_body side p end_of-Stmt n s = never_nothing
@@ -224,18 +289,19 @@ never_outputs : (side : Side) (p : Point) (arrays : List Array) (os : List ℕ) 
 never_outputs side p arrays [] n s = never_nothing
 never_outputs side p arrays (o ∷ os) n s =
     never_both (in_output side p (extents_at arrays o)) (in_outputs side p arrays os)
-    (never_both (map (index side p) (extents_at arrays o)) (in_elements (map (index_value p) (extents_at arrays o))) (never_indices side p (extents_at arrays o) n (small_extents arrays o s)) (never_elements (map (index_value p) (extents_at arrays o))))
+    (never_both (flat_map (index side p) (extents_at arrays o)) (in_elements (map (index_value p) (extents_at arrays o))) (never_indices side p (extents_at arrays o) n (small_extents arrays o s)) (never_elements (map (index_value p) (extents_at arrays o))))
     (never_outputs side p arrays os n s)
 
 context_more : (b : Bool) (one : Option Bool) (rest : Option Bool) → one ≡ Some b → ((d : Bool) × (rest ≡ Some d)) → (d : Bool) × (option_and_then (λ b. if b then rest else Some false) one ≡ Some d)
 context_more true one rest h k = (k.0, ap (option_and_then (λ b. if b then rest else Some false)) h ∙ k.1)
 context_more false one rest h k = (false, ap (option_and_then (λ b. if b then rest else Some false)) h)
 
-context_small : (p : Point) (cs : List Comparison) → Narrow p → AreSmallParts cs → (b : Bool) × (checked_holds p cs ≡ Some b)
-context_small p [] n s = (true, refl)
-context_small p (c ∷ cs) n s =
-    let h : checked_comparison p c ≡ Some (rel_holds c.rel (index_value p c.form)) = ap (option_map (rel_holds c.rel)) (exact_small p c.form n s.0) in
-    context_more (rel_holds c.rel (index_value p c.form)) (checked_comparison p c) (checked_holds p cs) h (context_small p cs n s.1)
+-- a context has no quotient
+context_small : (p : Point) (ps xs : ℕ) (cs : List Comparison) → Narrow p → AreSmallParts cs → FitParts ps xs cs → (b : Bool) × (checked_holds p cs ≡ Some b)
+context_small p ps xs [] n s f = (true, refl)
+context_small p ps xs (c ∷ cs) n s f =
+    let h : checked_comparison p c ≡ Some (rel_holds c.rel (index_value p c.form)) = ap (option_map (rel_holds c.rel)) (exact_small p c.form n s.0.form (subst (FitQuots p) (sym f.0.form.plain) tt)) in
+    context_more (rel_holds c.rel (index_value p c.form)) (checked_comparison p c) (checked_holds p cs) h (context_small p ps xs cs n s.1 f.1)
 
 module _ (pair : Pair) (params : List ℤ) (fit : Fit params) (small : IsSmallPair pair) where
   narrow : Narrow (point params [])
@@ -250,8 +316,8 @@ module _ (pair : Pair) (params : List ℤ) (fit : Fit params) (small : IsSmallPa
       (never_both left right (never_all Left p pair.left.body narrow small.left.body) (never_all Right p pair.right.body narrow small.right.body))
       (never_outputs Left p pair.left.arrays pair.outputs narrow small.left.extents) limit 0
 
-  pub decided : ¬ (checked_holds (point params []) pair.context.parts ≡ None)
-  decided e = let c = context_small (point params []) pair.context.parts narrow small.context in let t : Some c.0 ≡ None = sym c.1 ∙ e in absurd cc
+  pub decided : FitParts (length params) 0 pair.context.parts → ¬ (checked_holds (point params []) pair.context.parts ≡ None)
+  decided plain e = let c = context_small (point params []) (length params) 0 pair.context.parts narrow small.context plain in let t : Some c.0 ≡ None = sym c.1 ∙ e in absurd cc
 
   pub not_wide : (limit : ℕ) (r : Result Ran Halt) → IsRan pair params limit r → ¬ (IsErrOf r Wide)
   not_wide limit r h e = never_ran limit (subst (IsRan pair params limit) e h)

@@ -1,5 +1,5 @@
 -- The turns of a loop that are left, and what runs of statements one after another leave.
-use Rattle.std.proofs.Common.{◌≡◌, ℕ, zero, suc, ◌+◌, ◌-◌, ◌<◌, ◌≤◌, ◌⊎◌, inl, inr, ⊎_elim, ℤ, pos, ◌+ℤ◌, ◌*ℤ◌, Bool, true, false, true≢false, List, [], ◌∷◌, ◌++◌, Some, length, refl, rules, sym, ap, subst, ◌∙◌, append_assoc, append-nil, length-append, add-one, arith, if◌then◌else◌}
+use Rattle.std.proofs.Common.{◌≡◌, ℕ, zero, suc, ◌+◌, ◌-◌, ◌<◌, ◌≤◌, ◌⊎◌, ⊎_elim, ℤ, pos, ◌+ℤ◌, ◌*ℤ◌, true, true≢false, List, [], ◌∷◌, ◌++◌, Some, length, refl, rules, sym, ap, subst, ◌∙◌, append_assoc, append-nil, length-append, add-one, arith, if◌then◌else◌}
 use Rattle.std.specs.List.{flat_map, range_with_len, list_all}
 use Rattle.ac_syntax.specs.Index.{Point, point, index_value, holds, comparison_holds}
 use Rattle.ac_syntax.specs.Algebra.{Algebra, Cell, run, store, target, value_of}
@@ -19,7 +19,7 @@ use Rattle.std.proofs.lemmas.Int.{ints}
 use Rattle.std.proofs.Math.IntN.{*ℤ-one, pos-+ℤ-pos}
 use Rattle.ac_base.proofs.Products.{mul-add_ℤ}
 use Rattle.ac_syntax.proofs.Walking.{Walking}
-use Rattle.ac_syntax.proofs.Ends.{turns_end, turns_is}
+use Rattle.ac_syntax.proofs.Ends.{turns_end}
 use Rattle.ac_instance.specs.declared.halt.Side.{Side}
 use Rattle.ac_instance.specs.Events.{Event, event, evaluated, index, in_value, in_test, in_turn, in_loop, in_stmt, in_body, in_all}
 
@@ -30,9 +30,9 @@ turns_left side body p start cond step place k =
     ++ in_test side (inside p (iterator_at (index_value p start) step (turns p start cond step))) cond.parts
 
 pub all_left : (side : Side) (body : Point → List Event) (p : Point) (start : IndexExpr) (cond : Cond) (step : ℤ) (place : Place)
-    → in_loop side body p start cond step place ≡ (index side p start ∷ []) ++ turns_left side body p start cond step place 0
+    → in_loop side body p start cond step place ≡ (index side p start) ++ turns_left side body p start cond step place 0
 unfolding in_loop turns_left
-all_left side body p start cond step place = ap (λ n. index side p start ∷ flat_map (in_turn side body p start cond step place) (range_with_len 0 n) ++ in_test side (inside p (iterator_at (index_value p start) step (turns p start cond step))) cond.parts) (let e : turns p start cond step ≡ turns p start cond step - 0 = omega arith in e)
+all_left side body p start cond step place = ap (λ n. index side p start ++ (flat_map (in_turn side body p start cond step place) (range_with_len 0 n) ++ in_test side (inside p (iterator_at (index_value p start) step (turns p start cond step))) cond.parts)) (let e : turns p start cond step ≡ turns p start cond step - 0 = omega arith in e)
 
 flat_map_first : {B : Type 0} (f : ℕ → List B) (k n m : ℕ) → n ≡ suc m → flat_map f (range_with_len k n) ≡ f k ++ flat_map f (range_with_len (k + 1) m)
 flat_map_first f k n m e = ap (λ j. flat_map f (range_with_len k j)) e
@@ -85,7 +85,7 @@ test_left side body p start cond step place k le = ⊎_elim
 
 -- the condition holds once more, so there is one more turn
 pub one_more : (p : Point) (start : IndexExpr) (cond : Cond) (step x : ℤ) (k : ℕ) → Bounded (length p.iters) step cond → Walking p start cond step x k → holds (inside p x) cond ≡ true → k < turns p start cond step
-one_more p start cond step x k b w h = ⊎_elim (λ lt. lt) (λ le. absurd (true≢false (sym (at le) ∙ turns_end p start cond step b.bound b.stands b.innermost b.ends))) (cases k (turns p start cond step))
+one_more p start cond step x k b w h = ⊎_elim (λ lt. lt) (λ le. absurd (true≢false (sym (at le) ∙ turns_end p start cond step b.bound b.stands b.innermost b.ends b.steady))) (cases k (turns p start cond step))
   where
     cases : (a b : ℕ) → (a < b) ⊎ (b ≤ a)
     cases a b = grind arith
@@ -131,7 +131,7 @@ pub in_if : (side : Side) (p : Point) (c : Cond) (taken other : List Stmt) (plac
 in_if side p c taken other place = search (rules, the_lemmas, if_row)
 
 pub in_assign : (side : Side) (p : Point) (array : ℕ) (subs : List IndexExpr) (value : Value) (place : Place)
-    → in_stmt side p (Assign array subs value place) ≡ in_value side p value ++ Rattle.std.proofs.Common.map (index side p) subs
+    → in_stmt side p (Assign array subs value place) ≡ in_value side p value ++ flat_map (index side p) subs
 unfolding in_stmt
 in_assign side p array subs value place = refl
 

@@ -1,9 +1,9 @@
 -- The terms of values in a state, the ids that stand for them, and what happens while they are evaluated.
-use Rattle.std.proofs.Common.{◌≡◌, ℕ, ◌+◌, ◌<◌, ℤ, List, [], ◌∷◌, ◌++◌, map, length, drop, Option, None, Some, MatchOption, Bool, true, false, Result, Ok, Err, OnOk, if◌then◌else◌, refl, rules, sym, ap, subst, ◌∙◌}
+use Rattle.std.proofs.Common.{◌≡◌, ℕ, List, [], ◌∷◌, ◌++◌, map, Option, None, Some, MatchOption, Bool, true, false, Result, Ok, Err, OnOk, if◌then◌else◌, refl, rules, sym, ap, subst}
 use Rattle.std.specs.List.{flat_map}
 use Rattle.ac_syntax.specs.Index.{Point, index_value}
-use Rattle.ac_syntax.specs.Algebra.{Algebra, Cell, value_of, same_cell, store}
-use Rattle.ac_syntax.specs.Term.{Leaf, Term, Num, Initial, Apply, more, terms, free}
+use Rattle.ac_syntax.specs.Algebra.{Cell, value_of, same_cell, store}
+use Rattle.ac_syntax.specs.Term.{Leaf, Term, Num, Initial, terms, free}
 use Rattle.ac_syntax.specs.declared.tree.IndexExpr.{IndexExpr}
 use Rattle.ac_syntax.specs.declared.tree.Place.{Place}
 use Rattle.ac_syntax.specs.declared.tree.Symbol.{Symbol}
@@ -24,11 +24,11 @@ pub term_access : (p : Point) (state : Cell → Term) (array : ℕ) (subs : List
 unfolding value_of
 term_access p state array subs place = refl
 
-pub in_number : (side : Side) (p : Point) (e : IndexExpr) → in_value side p (Number e) ≡ event ∷ index side p e ∷ []
+pub in_number : (side : Side) (p : Point) (e : IndexExpr) → in_value side p (Number e) ≡ event ∷ index side p e
 unfolding in_value
 in_number side p e = refl
 
-pub in_access : (side : Side) (p : Point) (array : ℕ) (subs : List IndexExpr) (place : Place) → in_value side p (Access array subs place) ≡ event ∷ map (index side p) subs
+pub in_access : (side : Side) (p : Point) (array : ℕ) (subs : List IndexExpr) (place : Place) → in_value side p (Access array subs place) ≡ event ∷ flat_map (index side p) subs
 unfolding in_value
 in_access side p array subs place = refl
 
@@ -61,8 +61,8 @@ Holds-kept before now kept ids leaf state h c = by (id_at ids c) (h c)
 -- a node's event comes first
 pub value_first : (side : Side) (p : Point) (v : Value) → (rest : List Event) × (in_value side p v ≡ event ∷ rest)
 unfolding in_value
-value_first side p (Number e) = (index side p e ∷ [], refl)
-value_first side p (Access array subs place) = (map (index side p) subs, refl)
+value_first side p (Number e) = (index side p e, refl)
+value_first side p (Access array subs place) = (flat_map (index side p) subs, refl)
 value_first side p (Call' symbol n args place) = (in_values side p args, refl)
 
 pub on_ok : {A B : Type 0} (r : Result A B) (P Q : Type 0) → (P → Q) → OnOk r P → OnOk r Q

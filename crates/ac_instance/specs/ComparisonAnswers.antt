@@ -3,7 +3,7 @@ use Rattle.std.specs.Prelude.{◌≡◌, ℕ, ℤ, List, [], ◌∷◌, ◌++◌
 use Rattle.std.specs.List.{flat_map}
 use Rattle.ac_syntax.specs.CheckedArithmetic.{checked_holds}
 use Rattle.ac_syntax.specs.Index.{Point, point}
-use Rattle.ac_syntax.specs.ReadyPrograms.{ReadyAll}
+use Rattle.ac_syntax.specs.ReadyPrograms.{ReadyAll, FitParts}
 use Rattle.ac_syntax.specs.Outputs.{extents_at, IsElement, SameTermsAt}
 use Rattle.ac_syntax.specs.declared.tree.Array.{Array}
 use Rattle.ac_syntax.specs.declared.tree.Pair.{Pair}
@@ -18,11 +18,12 @@ use Rattle.ac_instance.specs.Events.{Event, reached, in_all, in_output}
 use Rattle.ac_instance.specs.Least.{Looked, IsLeast}
 use Rattle.ac_instance.specs.MachineSteps.{IsDue}
 
--- a number for each parameter, and bodies with a coefficient for each column whose loops end
+-- a number for each parameter, bodies with a coefficient for each column whose loops end, and a context without quotients
 pub record IsReadyAt (pair : Pair) (params : List ℤ) : Type 0 where
   pub count : length params ≡ length pair.left.params
   pub left : ReadyAll (length params) 0 pair.left.body
   pub right : ReadyAll (length params) 0 pair.right.body
+  pub context : FitParts (length params) 0 pair.context.parts
 
 -- what happens while outputs are compared, one after another
 abbrev pub in_outputs : Side → Point → List Array → List ℕ → List Event

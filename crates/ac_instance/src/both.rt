@@ -150,13 +150,15 @@ fn fit_64_bits(values: &[i64])
 /// Runs both programs of a pair over shared terms at the parameters' values, and compares each output element by element.
 ///
 /// The valuation has one number for each parameter, and the limit is at most 1,000,000. Both bodies are as the language
-/// has them: one coefficient for each parameter and iterator, and loops that end. `OutsideContext` comes exactly
+/// has them: one coefficient for each parameter and iterator, and loops that end; the context has no quotient. A quotient's
+/// form is an index value, and so is the quotient, before the index expression that holds it. `OutsideContext` comes exactly
 /// where the valuation breaks a comparison of the context, which is tested first, in 128 bits and without taking memory.
 /// Then the left program runs, the right program runs, and the outputs' extents and elements are taken in order.
 /// `TooLarge` comes exactly where the events exceed the limit before an index value leaves 64 bits, and `Range` exactly
-/// where one does before the limit is exceeded. `Wide` comes exactly where a partial sum of an index expression leaves
-/// 128 bits before all that: never where numbers have an absolute value of at most 2^31, with at most 4 parameters and 6
-/// loops around a statement. Want of memory may come at any time from the start of the left run on.
+/// where one does before the limit is exceeded. `Wide` comes exactly where a partial sum or the product of a quotient leaves
+/// 128 bits or a divisor is below 1 before all that: never where numbers have an absolute value of at most 2^31 and divisors
+/// are at least 1, with at most 4 parameters, 6 loops around a statement and 2^16 quotients in a form. Want of memory may
+/// come at any time from the start of the left run on.
 pub fn instance(alloc: Global, pair: &Pair, valuation: &[i64], limit: u64) -> Result<Ran, Halt>
     requires { limit ≤ 1000000 }
     ensures answer { IsReadyAt pair.now valuation.now → IsAnswer pair.now valuation.now limit result }

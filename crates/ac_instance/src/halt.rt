@@ -42,7 +42,8 @@ pub enum Halt {
         place: Place,
         value: i128,
     },
-    /// A partial sum of an index expression leaves 128 bits. Where each coefficient has 32 bits, this takes 2^32 columns.
+    /// A partial sum or the product of a quotient leaves 128 bits, or a divisor is below 1. No program of small numbers
+    /// comes to it.
     Wide,
     Memory(AllocError),
 }

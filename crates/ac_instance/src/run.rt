@@ -6,16 +6,17 @@ ghost use Rattle.ac_syntax.specs.ReadyPrograms.{Ready, ReadyAll};
 ghost use Rattle.ac_syntax.specs.Term.{Term, free};
 ghost use Rattle.ac_syntax.specs.Trace.{each_turn, trace, trace_all};
 ghost use Rattle.ac_syntax.specs.Turns.{Bounded};
-ghost use Rattle.ac_instance.specs.Events.{index, in_test, in_stmt, in_all, in_loop};
+ghost use Rattle.ac_instance.specs.Events.{in_part, in_test, in_stmt, in_all, in_loop};
 ghost use Rattle.ac_instance.specs.KeptIds.{cell, id_at, leaf_in, Holds};
 ghost use Rattle.ac_instance.specs.MachineSteps.{Steps};
 ghost use Rattle.ac_instance.specs.declared.state.Machine.{Machine};
 
 use crate::cells::{Cells, Target};
 use crate::halt::Halt;
-use crate::machine::{index_of, indices, stepped};
+use crate::machine::{divided, index_of, indices, stepped};
 use crate::state::{Machine, Scope};
-use ac_syntax::tree::{Comparison, Cond, IndexExpr, Place, Rel, Stmt};
+use ac_syntax::evaluate::rel_holds;
+use ac_syntax::tree::{Comparison, Cond, IndexExpr, Place, Stmt};
 use ac_terms::TermId;
 use std::alloc::{AllocError, Global};
 
@@ -31,13 +32,11 @@ pub fn inner(alloc: Global, iters: &[i64], x: i64) -> Result<Vec<i64>, AllocErro
 /// Whether a comparison holds.
 fn compared(scope: &Scope, part: &Comparison, iters: &[i64]) -> Result<bool, Halt>
     ensures value { IfOk result (λ b. b ≡ comparison_holds (point scope.now.params.now iters.now) part.now) }
-    ensures steps { (m : _) → Steps m (index scope.now.side (point scope.now.params.now iters.now) part.now.form ∷ []) result m }
+    ensures steps { (m : _) → Steps m (in_part scope.now.side (point scope.now.params.now iters.now) part.now) result m }
 {
     let value = index_of(scope, &part.form, iters)?;
-    match part.rel {
-        Rel::NonNegative => Ok(value >= 0),
-        Rel::Zero => Ok(value == 0),
-    }
+    divided(scope.side, part.form.place, part.rel, value)?;
+    Ok(rel_holds(part.rel, value as i128))
 }
 
 /// Whether all comparisons hold, evaluated up to the first that does not.

@@ -1,6 +1,7 @@
 use Rattle.std.proofs.Common.{◌≡◌, ◌+◌, [], ◌∷◌, ◌++◌, drop, take, map, ap, sym, ◌∙◌, arith, rules, FitsSigned, w64}
 use Rattle.std.proofs.lemmas.Int.{to_z-of_z}
 use Rattle.std.proofs.lemmas.List.{take_more, map-append}
+use Rattle.std.specs.List.{flat_map}
 use Rattle.ac_syntax.specs.Index.{point, index_value}
 use Rattle.ac_instance.specs.Events.{index}
 use Rattle.ac_instance.proofs.Happen.{halts, goes_on, due_in_whole, drop_more}
@@ -15,7 +16,7 @@ returns-in_err-value-clause-steps c m =
     let more = drop_more c.args.subs.now i x (omega arith) c.sub-item.is in
     let h = c.in_err-value.field-0.0 in
     halts m m _ c.from_residual.result h c.from_residual.ensures.1
-    (due_in_whole m m _ _ (index side p x ∷ []) (map (index side p) (drop (i + 1) c.args.subs.now)) h (c.loop-sub.invariant.steps m) (ap (map (index side p)) more) (c.in_err-value.ensures.steps m))
+    (due_in_whole m m _ _ (index side p x) (flat_map (index side p) (drop (i + 1) c.args.subs.now)) h (c.loop-sub.invariant.steps m) (ap (flat_map (index side p)) more) (c.in_err-value.ensures.steps m))
 
 pub loop-sub-preserved : goal.loop-sub-preserved
 loop-sub-preserved c =
@@ -30,5 +31,5 @@ loop-sub-preserved c =
     record {
       value = (simp to_z-of_z at c.in_ok-push.ensures.items) ∙ ap (λ xs. xs ++ c.in_ok-value.value ∷ []) c.loop-sub.invariant.value ∙ ap (λ v. map (index_value p) (take i subs) ++ v ∷ []) c.in_ok-value.ensures.value
           ∙ sym (ap (map (index_value p)) taken ∙ map-append (index_value p) (take i subs) (x ∷ []));
-      steps = λ m. goes_on m m m _ _ (index side p x ∷ []) (map (index side p) (drop (i + 1) subs)) (c.loop-sub.invariant.steps m) (ap (map (index side p)) more) (c.in_ok-value.ensures.steps m);
+      steps = λ m. goes_on m m m _ _ (index side p x) (flat_map (index side p) (drop (i + 1) subs)) (c.loop-sub.invariant.steps m) (ap (flat_map (index side p)) more) (c.in_ok-value.ensures.steps m);
     }

@@ -1,4 +1,4 @@
-use Rattle.std.proofs.Common.{◌≡◌, ◌+◌, ◌<◌, ◌≤◌, ℕ, ℤ, List, pos, take, drop, map, [], ◌∷◌, ◌++◌, ◌+ℤ◌, Some, false, true, refl, ap, sym, subst, ◌∙◌, OnOk, length, sum_by, cond, append-nil, arith, rules, FitsSigned, to_z, w64, if◌then◌else◌}
+use Rattle.std.proofs.Common.{◌≡◌, ◌+◌, List, pos, drop, map, [], ◌∷◌, ◌++◌, ◌+ℤ◌, Some, false, true, refl, ap, sym, subst, ◌∙◌, OnOk, length, sum_by, cond, append-nil, arith, rules, FitsSigned, to_z, w64, if◌then◌else◌}
 use Rattle.std.specs.List.{flat_map, range_with_len, list_all}
 use Rattle.std.proofs.lemmas.Int.{to_z-of_z}
 use Rattle.std.proofs.lemmas.List.{drop_all}
@@ -7,17 +7,16 @@ use Rattle.ac_syntax.specs.Index.{Point, point, index_value, holds, comparison_h
 use Rattle.ac_syntax.specs.ReadyPrograms.{ReadyAll, Ready}
 use Rattle.ac_syntax.specs.Term.{Term, free}
 use Rattle.ac_syntax.specs.Trace.{trace, trace_all, assignments, each_turn}
-use Rattle.ac_syntax.specs.Turns.{inside, iterator_at, turns}
+use Rattle.ac_syntax.specs.Turns.{inside, iterator_at}
 use Rattle.ac_syntax.proofs.ReadyAt.{ready_for, ready_if}
 use Rattle.ac_syntax.proofs.TraceSteps.{trace_if, trace_assign}
 use Rattle.ac_syntax.proofs.TurnEntries.{in_turn_of, turns_listed}
 use Rattle.ac_syntax.proofs.Traces.{trace_for}
 use Rattle.ac_syntax.proofs.Walking.{walk_first, walk_next, walk_done}
-use Rattle.ac_instance.specs.declared.state.Machine.{Machine}
 use Rattle.ac_instance.specs.Events.{Event, event, evaluated, index, reached, in_value, in_test, in_all, in_stmt, in_loop}
 use Rattle.ac_instance.specs.MachineSteps.{IsDue, Advances, Steps}
 use Rattle.ac_instance.specs.KeptIds.{cell, leaf_in, Holds}
-use Rattle.ac_instance.proofs.Happen.{halts, begins, due_after, advance, steps_after, goes_on, ends, due_in_whole, drop_more, never_falls, counts_one}
+use Rattle.ac_instance.proofs.Happen.{halts, begins, advance, steps_after, goes_on, ends, due_in_whole, drop_more, never_falls, counts_one}
 use Rattle.ac_instance.proofs.Values.{Holds-kept, Holds-after, on_ok}
 use Rattle.ac_instance.proofs.Turning.{later, turns_left, all_left, none_left, turn_parts, test_left, one_more, test_at, holds_at, body_at, ready_inside, ran_more, ran_one, in_for, in_if, in_assign}
 use Rattle.ac_instance.proofs.state.Machine.+runs.Goals as goal
@@ -30,7 +29,7 @@ repeat-returns-in_err-x-clause-steps t c = λ b r.
     let body : Point → List Event = λ q. in_all side q c.args.body.now in
     let h = c.in_err-x.field-0.0 in
     halts a a _ c.from_residual.result h c.from_residual.ensures.1
-    (due_in_whole a a _ _ (index side p c.args.head.now.start.now ∷ []) (turns_left side body p c.args.head.now.start.now c.args.head.now.cond.now c.args.head.now.step c.args.head.now.place 0) h (begins a _)
+    (due_in_whole a a _ _ (index side p c.args.head.now.start.now) (turns_left side body p c.args.head.now.start.now c.args.head.now.cond.now c.args.head.now.step c.args.head.now.place 0) h (begins a _)
     (all_left side body p c.args.head.now.start.now c.args.head.now.cond.now c.args.head.now.step c.args.head.now.place) (c.in_err-x.ensures.steps a))
 
 pub repeat-loop-turn-init : goal.repeat-loop-turn-init
@@ -44,7 +43,7 @@ repeat-loop-turn-init t c =
       walking = walk_first p c.args.head.now.start.now c.args.head.now.cond.now c.args.head.now.step c.in_ok-x.x c.in_ok-x.ensures.value;
       grows = λ b r. omega arith;
       within = λ b. omega arith;
-      steps = λ b r. goes_on a a a _ _ (index side p c.args.head.now.start.now ∷ []) (turns_left side body p c.args.head.now.start.now c.args.head.now.cond.now c.args.head.now.step c.args.head.now.place 0) (begins a _)
+      steps = λ b r. goes_on a a a _ _ (index side p c.args.head.now.start.now) (turns_left side body p c.args.head.now.start.now c.args.head.now.cond.now c.args.head.now.step c.args.head.now.place 0) (begins a _)
           (all_left side body p c.args.head.now.start.now c.args.head.now.cond.now c.args.head.now.step c.args.head.now.place) (c.in_ok-x.ensures.steps a);
       ran = λ b r first counters state h. h;
     })
@@ -370,12 +369,12 @@ run_one-returns-in_err-index-in-Assign-clause-steps t c = λ r.
     let b = c.evaluate.new.self in
     let p = point c.args.scope.now.params.now c.args.iters.now in
     let side = c.args.scope.now.side in
-    let subs = map (index side p) c.in-Assign.subs in
+    let subs = flat_map (index side p) c.in-Assign.subs in
     let is = ap (in_stmt side p) c.in-Assign.is ∙ in_assign side p c.in-Assign.array c.in-Assign.subs c.in-Assign.value c.in-Assign.place in
     let h = c.in_err-index-in-Assign.field-0.0 in
     let evaluated = goes_on a a b _ _ (in_value side p c.in-Assign.value) subs (begins a _) is c.in_ok-id-in-Assign.ensures.steps in
     halts a b _ c.from_residual-in_err-index-in-Assign.result h c.from_residual-in_err-index-in-Assign.ensures.1
-    (due_in_whole a b _ _ subs [] h evaluated (sym (append-nil subs)) (subst (λ es. IsDue (reached b.limit b.events (map (index side p) es)) h) c.as_slice-in-Assign.ensures (c.in_err-index-in-Assign.ensures.steps b)))
+    (due_in_whole a b _ _ subs [] h evaluated (sym (append-nil subs)) (subst (λ es. IsDue (reached b.limit b.events (flat_map (index side p) es)) h) c.as_slice-in-Assign.ensures (c.in_err-index-in-Assign.ensures.steps b)))
 
 pub run_one-returns-in_ok-index-in-Assign-clause-steps : goal.run_one-returns-in_ok-index-in-Assign-clause-steps
 run_one-returns-in_ok-index-in-Assign-clause-steps t c = λ r.
@@ -384,9 +383,9 @@ run_one-returns-in_ok-index-in-Assign-clause-steps t c = λ r.
     let p = point c.args.scope.now.params.now c.args.iters.now in
     let side = c.args.scope.now.side in
     let value = in_value side p c.in-Assign.value in
-    let subs = map (index side p) c.in-Assign.subs in
+    let subs = flat_map (index side p) c.in-Assign.subs in
     let is = ap (in_stmt side p) c.in-Assign.is ∙ in_assign side p c.in-Assign.array c.in-Assign.subs c.in-Assign.value c.in-Assign.place in
-    let both = advance a b b value subs c.in_ok-id-in-Assign.ensures.steps (subst (λ es. Advances b (map (index side p) es) b) c.as_slice-in-Assign.ensures (c.in_ok-index-in-Assign.ensures.steps b)) in
+    let both = advance a b b value subs c.in_ok-id-in-Assign.ensures.steps (subst (λ es. Advances b (flat_map (index side p) es) b) c.as_slice-in-Assign.ensures (c.in_ok-index-in-Assign.ensures.steps b)) in
     subst (λ hs. Steps a hs c.store.result b) (append-nil (value ++ subs) ∙ sym is) (steps_after a b b (value ++ subs) [] c.store.result both (c.store.ensures.steps b))
 
 pub run_one-returns-in_ok-index-in-Assign-clause-ran : goal.run_one-returns-in_ok-index-in-Assign-clause-ran

@@ -1,18 +1,17 @@
-use Rattle.std.proofs.Common.{◌≡◌, ◌+◌, take, drop, map, [], ◌∷◌, ◌++◌, refl, ap, sym, subst, ◌∙◌, IfOk, append-nil, arith, rules, FitsSigned, w64}
+use Rattle.std.proofs.Common.{◌≡◌, ◌+◌, take, drop, map, [], ◌∷◌, ◌++◌, ap, sym, subst, ◌∙◌, IfOk, append-nil, arith, rules, FitsSigned, w64}
 use Rattle.std.proofs.lemmas.Int.{to_z-of_z}
 use Rattle.std.specs.List.{flat_map}
 use Rattle.std.proofs.lemmas.List.{take_more, map-append}
-use Rattle.ac_syntax.specs.Algebra.{Cell, value_of}
+use Rattle.ac_syntax.specs.Algebra.{value_of}
 use Rattle.ac_syntax.specs.Index.{point, index_value}
-use Rattle.ac_syntax.specs.Term.{Term, Num, Apply, terms, free}
+use Rattle.ac_syntax.specs.Term.{Num, Apply, terms, free}
 use Rattle.ac_syntax.proofs.Traces.{value_call}
 use Rattle.ac_terms.specs.Table.{StandsFor, StandForAll}
 use Rattle.ac_terms.proofs.Kept.{StandForAll-kept}
-use Rattle.ac_instance.specs.declared.state.Machine.{Machine}
 use Rattle.ac_instance.specs.Events.{Event, event, index, in_value}
-use Rattle.ac_instance.specs.MachineSteps.{IsDue, Advances, Steps}
-use Rattle.ac_instance.specs.KeptIds.{cell, cell_of, leaf_in, Holds}
-use Rattle.ac_instance.proofs.Happen.{halts, begins, due_after, advance, steps_after, Continues, goes_on, due_in_whole, drop_more}
+use Rattle.ac_instance.specs.MachineSteps.{IsDue, Steps}
+use Rattle.ac_instance.specs.KeptIds.{cell, leaf_in}
+use Rattle.ac_instance.proofs.Happen.{halts, begins, due_after, advance, steps_after, goes_on, due_in_whole, drop_more}
 use Rattle.ac_instance.proofs.Values.{term_number, term_access, in_number, in_access, in_call, value_first, StandForAll-push, Holds-kept}
 use Rattle.ac_instance.proofs.state.Machine.+values.Goals as goal
 
@@ -22,7 +21,7 @@ evaluate-returns-in_err-number-in-Number-clause-steps t c =
     let side = c.args.scope.now.side in
     let is = ap (in_value side p) c.in-Number.is ∙ in_number side p c.in-Number.form in
     let h = c.in_err-number-in-Number.field-0.0 in
-    let due = due_after c.args.self.now c.count.new.self (event ∷ []) (index side p c.in-Number.form ∷ []) c.in_ok-count.ensures h (c.in_err-number-in-Number.ensures.steps c.count.new.self) in
+    let due = due_after c.args.self.now c.count.new.self (event ∷ []) (index side p c.in-Number.form) c.in_ok-count.ensures h (c.in_err-number-in-Number.ensures.steps c.count.new.self) in
     halts c.args.self.now c.count.new.self _ c.from_residual-in_err-number-in-Number.result h c.from_residual-in_err-number-in-Number.ensures.1
     (subst (λ hs. IsDue (Rattle.ac_instance.specs.Events.reached c.args.self.now.limit c.args.self.now.events hs) h) (sym is) due)
 
@@ -30,9 +29,9 @@ pub evaluate-returns-in_err-index-in-Access-clause-steps : goal.evaluate-returns
 evaluate-returns-in_err-index-in-Access-clause-steps t c =
     let p = point c.args.scope.now.params.now c.args.iters.now in
     let side = c.args.scope.now.side in
-    let is = ap (in_value side p) c.in-Access.is ∙ in_access side p c.in-Access.array c.in-Access.subs c.in-Access.place ∙ ap (λ xs. event ∷ map (index side p) xs) (sym c.as_slice.ensures) in
+    let is = ap (in_value side p) c.in-Access.is ∙ in_access side p c.in-Access.array c.in-Access.subs c.in-Access.place ∙ ap (λ xs. event ∷ flat_map (index side p) xs) (sym c.as_slice.ensures) in
     let h = c.in_err-index-in-Access.field-0.0 in
-    let due = due_after c.args.self.now c.count.new.self (event ∷ []) (map (index side p) c.as_slice.result.now) c.in_ok-count.ensures h (c.in_err-index-in-Access.ensures.steps c.count.new.self) in
+    let due = due_after c.args.self.now c.count.new.self (event ∷ []) (flat_map (index side p) c.as_slice.result.now) c.in_ok-count.ensures h (c.in_err-index-in-Access.ensures.steps c.count.new.self) in
     halts c.args.self.now c.count.new.self _ c.from_residual-in_err-index-in-Access.result h c.from_residual-in_err-index-in-Access.ensures.1
     (subst (λ hs. IsDue (Rattle.ac_instance.specs.Events.reached c.args.self.now.limit c.args.self.now.events hs) h) (sym is) due)
 
@@ -59,8 +58,8 @@ evaluate-returns-in_ok-number-in-Number-clause-steps t c =
     let side = c.args.scope.now.side in
     let is = ap (in_value side p) c.in-Number.is ∙ in_number side p c.in-Number.form in
     let b = c.count.new.self in
-    let here = advance c.args.self.now b b (event ∷ []) (index side p c.in-Number.form ∷ []) c.in_ok-count.ensures (c.in_ok-number-in-Number.ensures.steps b) in
-    subst (λ hs. Steps c.args.self.now hs c.number.result c.number.new.self) (sym is) (steps_after c.args.self.now b c.number.new.self (event ∷ index side p c.in-Number.form ∷ []) [] c.number.result here c.number.ensures.steps)
+    let here = advance c.args.self.now b b (event ∷ []) (index side p c.in-Number.form) c.in_ok-count.ensures (c.in_ok-number-in-Number.ensures.steps b) in
+    subst (λ hs. Steps c.args.self.now hs c.number.result c.number.new.self) (append-nil (event ∷ index side p c.in-Number.form) ∙ sym is) (steps_after c.args.self.now b c.number.new.self (event ∷ index side p c.in-Number.form) [] c.number.result here c.number.ensures.steps)
 
 pub evaluate-returns-in_ok-index-in-Access-clause-term : goal.evaluate-returns-in_ok-index-in-Access-clause-term
 evaluate-returns-in_ok-index-in-Access-clause-term t c state h =
@@ -76,8 +75,8 @@ pub evaluate-returns-in_ok-index-in-Access-clause-steps : goal.evaluate-returns-
 evaluate-returns-in_ok-index-in-Access-clause-steps t c =
     let p = point c.args.scope.now.params.now c.args.iters.now in
     let side = c.args.scope.now.side in
-    let subs = map (index side p) c.as_slice.result.now in
-    let is : in_value side p c.args.value.now ≡ event ∷ subs = ap (in_value side p) c.in-Access.is ∙ in_access side p c.in-Access.array c.in-Access.subs c.in-Access.place ∙ ap (λ xs. event ∷ map (index side p) xs) (sym c.as_slice.ensures) in
+    let subs = flat_map (index side p) c.as_slice.result.now in
+    let is : in_value side p c.args.value.now ≡ event ∷ subs = ap (in_value side p) c.in-Access.is ∙ in_access side p c.in-Access.array c.in-Access.subs c.in-Access.place ∙ ap (λ xs. event ∷ flat_map (index side p) xs) (sym c.as_slice.ensures) in
     let b = c.count.new.self in
     let here = advance c.args.self.now b b (event ∷ []) subs c.in_ok-count.ensures (c.in_ok-index-in-Access.ensures.steps b) in
     subst (λ hs. Steps c.args.self.now hs c.load.result c.load.new.self) (append-nil (event ∷ subs) ∙ sym is) (steps_after c.args.self.now b c.load.new.self (event ∷ subs) [] c.load.result here c.load.ensures.steps)

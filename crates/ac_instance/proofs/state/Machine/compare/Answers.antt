@@ -1,5 +1,6 @@
 use Rattle.std.proofs.Common.{◌≡◌, [], ◌++◌, List, ℤ, true, map, refl, ap, sym, subst, ◌∙◌, append-nil}
 use Rattle.std.proofs.lemmas.Result.{IfOk-weaker}
+use Rattle.std.specs.List.{flat_map}
 use Rattle.ac_syntax.specs.Index.{point, index_value}
 use Rattle.ac_instance.specs.Events.{index, in_elements}
 use Rattle.ac_instance.specs.Least.{AgreeAt, IsLeast, beneath, has_none_of}
@@ -14,7 +15,7 @@ returns-in_err-sizes-clause-steps c =
     let p = point c.args.scope.now.params.now [] in
     let h = c.in_err-sizes.field-0.0 in
     halts a a _ c.from_residual.result h c.from_residual.ensures.1
-    (due_in_whole a a _ _ (map (index c.args.scope.now.side p) c.args.extents.now) (in_elements (map (index_value p) c.args.extents.now)) h (begins a _) refl (c.in_err-sizes.ensures.steps a))
+    (due_in_whole a a _ _ (flat_map (index c.args.scope.now.side p) c.args.extents.now) (in_elements (map (index_value p) c.args.extents.now)) h (begins a _) refl (c.in_err-sizes.ensures.steps a))
 
 pub returns-then-has_none-clause-least : goal.returns-then-has_none-clause-least
 returns-then-has_none-clause-least c = λ left right hl hr e at.
@@ -29,7 +30,7 @@ returns-then-has_none-clause-steps c =
     let p = point c.args.scope.now.params.now [] in
     let sizes = c.deref.ensures.value ∙ c.in_ok-sizes.ensures.value in
     let none : has_none_of (map (index_value p) c.args.extents.now) ≡ true = ap has_none_of (sym sizes) ∙ sym c.has_none.ensures ∙ c.if-has_none.true in
-    let evaluated = map (index c.args.scope.now.side p) c.args.extents.now in
+    let evaluated = flat_map (index c.args.scope.now.side p) c.args.extents.now in
     subst (λ hs. Advances a hs a) (sym (ap (λ hs. evaluated ++ hs) (no_events (map (index_value p) c.args.extents.now) none) ∙ append-nil evaluated)) (c.in_ok-sizes.ensures.steps a)
 
 pub returns-clause-least : goal.returns-clause-least
@@ -44,5 +45,5 @@ returns-clause-steps c =
     let a = c.args.self.now in
     let p = point c.args.scope.now.params.now [] in
     let sizes = c.deref-2.ensures.value ∙ c.in_ok-sizes.ensures.value in
-    steps_after a a c.first_beneath.new.self (map (index c.args.scope.now.side p) c.args.extents.now) (in_elements (map (index_value p) c.args.extents.now)) c.first_beneath.result (c.in_ok-sizes.ensures.steps a)
+    steps_after a a c.first_beneath.new.self (flat_map (index c.args.scope.now.side p) c.args.extents.now) (in_elements (map (index_value p) c.args.extents.now)) c.first_beneath.result (c.in_ok-sizes.ensures.steps a)
     (subst (λ ns. Steps a (in_elements ns) c.first_beneath.result c.first_beneath.new.self) sizes c.first_beneath.ensures.steps)
