@@ -2,6 +2,7 @@
 ghost use Rattle.std.specs.Prelude.{◌≡◌, ◌++◌, IfOk, OnOk};
 
 use ac_base::Items;
+use ac_syntax::copy::copy_quots;
 use ac_syntax::name::Name;
 use ac_syntax::tree::{Comparison, IndexExpr};
 use std::alloc::{AllocError, Global};
@@ -13,6 +14,7 @@ fn copy_index(alloc: Global, index: &IndexExpr) -> Result<IndexExpr, AllocError>
         konst: index.konst,
         params: Items::from_slice(alloc, index.params.as_slice())?,
         iters: Items::from_slice(alloc, index.iters.as_slice())?,
+        quots: copy_quots(alloc, index.quots.as_slice())?,
         place: index.place,
     })
 }

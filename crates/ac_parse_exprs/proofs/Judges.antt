@@ -1,7 +1,7 @@
 -- Each index expression has a form that fits its scope or none, and one where no rule is broken has a form.
 use Rattle.std.proofs.Common.{◌≡◌, ℕ, List, [], ◌∷◌, map, length, refl, sym, ◌∙◌, subst, Bool, true, false, not, ◌&&◌, ◌||◌, ◌==◌, cond, pos, negsuc, Option, Some, None}
 use Rattle.std.specs.List.{AllByRecursion}
-use Rattle.ac_syntax.specs.ReadyPrograms.{Fits}
+use Rattle.ac_syntax.specs.ReadyPrograms.{Fits, FitsPart, IsPlain}
 use Rattle.ac_syntax.specs.declared.tree.Place.{Place}
 use Rattle.ac_parse_grammar.specs.declared.tree.Word.{Word}
 use Rattle.ac_parse_grammar.specs.declared.tree.Numeral.{Numeral}
@@ -26,7 +26,7 @@ use Rattle.ac_parse_exprs.specs.FaultOrder.{earlier, broken, broken_where, rule_
 use Rattle.ac_parse_exprs.specs.Meanings.{meaning, is_array, read_rule, call_rule, word_broken}
 use Rattle.ac_parse_exprs.specs.AffineForms.{constant_form, is_within, is_known, is_large}
 use Rattle.ac_parse_exprs.specs.IndexExpressions.{is_long, judged_number, judged_decimal, with_part, gathered, no_parts, name_form, judged_name, judged_other, judged_variable, judged_access, judged_negative, judged_group, form_of, is_not_affine, joined, chained, judged_chain, judged}
-use Rattle.ac_parse_exprs.specs.Comparisons.{whole_broken, form_or_zero, placed_form, index_expr, index, difference_form, difference, compared_form, compared, comparison}
+use Rattle.ac_parse_exprs.specs.Comparisons.{whole_broken, form_or_zero, placed_form, index_expr, index, difference_form, difference, compared_form, rel_of, compared, comparison}
 use Rattle.ac_parse_exprs.proofs.Absent.{neither, not_where, each_map}
 use Rattle.ac_parse_exprs.proofs.Collecting.{Shaped, IsKnown, constant_shaped, parameter_shaped, iterator_shaped, limited_shaped, negative_shaped, form_shaped, known_join, known_limited, known_negative, known_true, number_small}
 use Rattle.ac_parse_exprs.proofs.Columns.{length-plus_times}
@@ -214,10 +214,10 @@ form_fits : (scope : Scope) (place : Place) (c : Collected) → Shaped scope.par
 form_fits scope place (Known f) h = by (is_within f)
   where
     by : (b : Bool) → Fits scope.params (length scope.iterators) (placed_form place (cond b f (constant_form scope.params (length scope.iterators) (pos 0))))
-    by true = record { params = h.0; iters = h.1 }
-    by false = let z = constant_shaped scope.params (length scope.iterators) (pos 0) refl in record { params = z.0; iters = z.1 }
-form_fits scope place (Large c) h = let z = constant_shaped scope.params (length scope.iterators) (pos 0) refl in record { params = z.0; iters = z.1 }
-form_fits scope place Unknown h = let z = constant_shaped scope.params (length scope.iterators) (pos 0) refl in record { params = z.0; iters = z.1 }
+    by true = record { params = h.0; iters = h.1; plain = refl }
+    by false = let z = constant_shaped scope.params (length scope.iterators) (pos 0) refl in record { params = z.0; iters = z.1; plain = refl }
+form_fits scope place (Large c) h = let z = constant_shaped scope.params (length scope.iterators) (pos 0) refl in record { params = z.0; iters = z.1; plain = refl }
+form_fits scope place Unknown h = let z = constant_shaped scope.params (length scope.iterators) (pos 0) refl in record { params = z.0; iters = z.1; plain = refl }
 
 pub index_expr_fits : (scope : Scope) (j : Judged) → Shaped scope.params (length scope.iterators) j.form → Fits scope.params (length scope.iterators) (index_expr scope j)
 index_expr_fits scope j h = form_fits scope j.place j.form h
@@ -227,3 +227,13 @@ index_fits names scope e = index_expr_fits scope (judged names scope e) (judges 
 
 pub comparison_fits : (names : List Entry) (scope : Scope) (part : Part) → Fits scope.params (length scope.iterators) (comparison names scope part).form
 comparison_fits names scope part = index_expr_fits scope (compared names scope part) (compared_judges names scope part).0
+
+plain_rel : (r : Relation) → IsPlain (rel_of r)
+plain_rel Less = tt
+plain_rel AtMost = tt
+plain_rel Greater = tt
+plain_rel AtLeast = tt
+plain_rel Equal = tt
+
+pub part_fits : (names : List Entry) (scope : Scope) (part : Part) → FitsPart scope.params (length scope.iterators) (comparison names scope part)
+part_fits names scope part = record { form = comparison_fits names scope part; rel = plain_rel part.relation }

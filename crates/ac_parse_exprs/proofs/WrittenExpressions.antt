@@ -1,6 +1,7 @@
 -- The form of an expression has its value.
-use Rattle.std.proofs.Common.{◌≡◌, ℕ, ◌<◌, ℤ, pos, neg_ℤ, List, [], ◌∷◌, map, length, Bool, true, false, not, cond, ◌&&◌, ◌==◌, refl, sym, ap, subst, ◌∙◌, rules, Option, Some, None}
+use Rattle.std.proofs.Common.{◌≡◌, ℕ, ◌<◌, ℤ, pos, neg_ℤ, List, [], ◌∷◌, map, length, Bool, true, false, not, cond, ◌&&◌, ◌==◌, refl, sym, ap, subst, ◌∙◌, rules, Option, Some, None, arith}
 use Rattle.std.specs.Option.{option_map}
+use Rattle.std.proofs.lemmas.Int.{ints}
 use Rattle.std.specs.List.{AllByRecursion}
 use Rattle.std.proofs.lemmas.List.{length-map}
 use Rattle.ac_syntax.specs.Index.{Point, index_value}
@@ -145,7 +146,7 @@ pub forms_have_values : FormsHaveValues
 forms_have_values names scope p a o e f h = known_agrees p (judged names scope e).form f (expression_value (integer_of names scope p) e) h (expressions_agree names scope p a o e)
 
 index_case : (p : Point) (scope : Scope) (place : Place) (c : Collected) (f : Affine) → c ≡ Known f → is_within f ≡ true → form_value p f ≡ index_value p (placed_form place (form_or_zero scope c))
-index_case p scope place c f h w = rw (h, w) refl
+index_case p scope place c f h w = rw (h, w) (omega (arith, ints))
 
 pub index_is : (p : Point) (scope : Scope) (j : Judged) (f : Affine) → j.form ≡ Known f → is_within f ≡ true → form_value p f ≡ index_value p (index_expr scope j)
 index_is p scope j f h w = index_case p scope j.place j.form f h w

@@ -41,7 +41,7 @@ form_or_zero scope (Large constant) = constant_form scope.params (length scope.i
 form_or_zero scope Unknown = constant_form scope.params (length scope.iterators) (pos 0)
 
 abbrev pub placed_form : Place → Affine → IndexExpr
-placed_form place f = record { konst = f.constant; params = f.params; iters = f.iters; place = place }
+placed_form place f = record { konst = f.constant; params = f.params; iters = f.iters; quots = []; place = place }
 
 -- the index expression of a form within the limit, where there is one
 abbrev pub known_index : Place → Collected → Option IndexExpr

@@ -36,7 +36,7 @@ value_place (Call' symbol n args place) = place
 
 -- the same value from another first byte on
 abbrev pub placed : Place → Value → Value
-placed place (Number e) = Number (record { konst = e.konst; params = e.params; iters = e.iters; place = place })
+placed place (Number e) = Number (record { konst = e.konst; params = e.params; iters = e.iters; quots = e.quots; place = place })
 placed place (Access array subs p) = Access array subs place
 placed place (Call' symbol n args p) = Call' symbol n args place
 

@@ -40,6 +40,7 @@ fn zero_index(alloc: Global, scope: &Scope, place: Place) -> Result<IndexExpr, A
         konst: 0,
         params: Items::from(Vec::from_elem(alloc, 0, scope.params)?),
         iters: Items::from(Vec::from_elem(alloc, 0, scope.iterators.len())?),
+        quots: Items::new(alloc),
         place,
     })
 }

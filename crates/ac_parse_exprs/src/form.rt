@@ -214,6 +214,7 @@ impl Affine {
             konst,
             params,
             iters,
+            quots: Items::new(alloc),
             place,
         }))
     }

@@ -38,6 +38,7 @@ fn placed(place: Place, value: Value) -> Value
             konst: e.konst,
             params: e.params,
             iters: e.iters,
+            quots: e.quots,
             place,
         }),
         Value::Access { array, subs, .. } => Value::Access { array, subs, place },

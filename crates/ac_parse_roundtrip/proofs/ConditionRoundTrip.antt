@@ -2,7 +2,8 @@
 use Rattle.std.proofs.Common.{◌≡◌, ℕ, zero, suc, List, [], ◌∷◌, map, length, refl, sym, ap, subst, ◌∙◌, true, false, ℤ, pos, negsuc, ◌+ℤ◌, ◌*ℤ◌, arith, Option, None}
 use Rattle.std.proofs.lemmas.Int.{ints}
 use Rattle.ac_syntax.specs.declared.tree.Rel.{Rel}
-use Rattle.ac_syntax.specs.declared.tree.Rel.TheVariants.{NonNegative, Zero}
+use Rattle.ac_syntax.specs.ReadyPrograms.{IsPlain}
+use Rattle.ac_syntax.specs.declared.tree.Rel.TheVariants.{NonNegative, Zero, Divides}
 use Rattle.ac_syntax.specs.declared.tree.Comparison.{Comparison}
 use Rattle.ac_syntax.specs.declared.tree.IndexExpr.{IndexExpr}
 use Rattle.ac_syntax.specs.Text as text
@@ -49,15 +50,17 @@ difference_is ps xs f = rw (less_zeros f.params ps, less_zeros f.iters xs, nothi
 compared_known : (r : Rel) (a b : Collected) (ps xs : ℕ) (f : Affine) → a ≡ Known f → b ≡ Known (constant_form ps xs (pos 0)) → Within f → compared_form (relation r) a b ≡ Known f
 compared_known NonNegative a b ps xs f i j w = rw (i, j) (limited_as (difference_form false f (constant_form ps xs (pos 0))) f false (difference_is ps xs f) w)
 compared_known Zero a b ps xs f i j w = rw (i, j) (limited_as (difference_form false f (constant_form ps xs (pos 0))) f false (difference_is ps xs f) w)
+compared_known (Divides m) a b ps xs f i j w = rw (i, j) (limited_as (difference_form false f (constant_form ps xs (pos 0))) f false (difference_is ps xs f) w)
 
 compared_reads : (r : Rel) (a b : Judged) (ps xs : ℕ) (f : Affine) → Reads a f → Reads b (constant_form ps xs (pos 0)) → Within f → is_within f ≡ true → Reads (compared_forms (relation r) a b) f
 compared_reads r a b ps xs f i j w h =
     let k = compared_known r a.form b.form ps xs f i.form j.form w in
     record { form = k; large = rw (i.large, j.large, k, h) refl; broken = rw (i.broken, j.broken) refl }
 
-pub same_rel : (r : Rel) → rel_of (relation r) ≡ r
-same_rel NonNegative = refl
-same_rel Zero = refl
+pub same_rel : (r : Rel) → IsPlain r → rel_of (relation r) ≡ r
+same_rel NonNegative plain = refl
+same_rel Zero plain = refl
+same_rel (Divides m) plain = absurd plain
 
 module _ (names : List Entry) (scope : Scope) (written : text.Scope) where
   -- what the rules say of a comparison is its form
@@ -71,8 +74,8 @@ module _ (names : List Entry) (scope : Scope) (written : text.Scope) where
   comparison_same : (c : Comparison) (part : Part) → FitsScope names scope written c.form → IsComparisonTree written c part → comparison_without_place (comparison names scope part) ≡ comparison_without_place c
   comparison_same c part fit t =
       let r = comparison_read c part fit t in
-      let f = placed_as scope (compared names scope part) c.form (form_within names scope written c.form fit) r in
-      let e : rel_of part.relation ≡ c.rel = ap rel_of t.relation ∙ same_rel c.rel in
+      let f = placed_as scope (compared names scope part) c.form fit.plain (form_within names scope written c.form fit) r in
+      let e : rel_of part.relation ≡ c.rel = ap rel_of t.relation ∙ same_rel c.rel t.plain in
       rw (f, e) refl
 
   pub conditions_none : (cs : List Comparison) (parts : List Part) → PartsFitScope names scope written cs → Each (IsComparisonTree written) cs parts

@@ -4,9 +4,10 @@ use Rattle.std.specs.List.{flat_map, join_by, AllByRecursion}
 use Rattle.std.proofs.Common.{◌≡◌, ℕ, suc, ◌+◌, refl, sym, ap, subst, arith}
 use Rattle.ac_syntax.specs.declared.tree.IndexExpr.{IndexExpr}
 use Rattle.ac_syntax.specs.declared.tree.Rel.{Rel}
-use Rattle.ac_syntax.specs.declared.tree.Rel.TheVariants.{NonNegative, Zero}
+use Rattle.ac_syntax.specs.declared.tree.Rel.TheVariants.{NonNegative, Zero, Divides}
 use Rattle.ac_syntax.specs.declared.tree.Comparison.{Comparison}
 use Rattle.ac_syntax.specs.declared.tree.Cond.{Cond}
+use Rattle.ac_syntax.specs.ReadyPrograms.{IsPlain}
 use Rattle.ac_syntax.specs.Text.{Scope}
 use Rattle.ac_syntax.proofs.Pairwise.{every_map}
 use Rattle.ac_lex.specs.Lexemes.{Lexeme}
@@ -18,36 +19,55 @@ use Rattle.ac_parse_grammar.specs.Operators.{relation_of}
 use Rattle.ac_parse_grammar.specs.Chains.{part_of}
 use Rattle.ac_parse_grammar.specs.Grammar as g
 use Rattle.ac_parse_grammar.specs.Grammar.{IsExpr, Subscripts, IsCond, IsPart}
-use Rattle.ac_parse_roundtrip.specs.Items.{Item, lexemes, space, mark, number, form, relation, comparison, cond, subscript, subscripts}
+use Rattle.ac_parse_roundtrip.specs.Items.{Item, lexemes, space, mark, number, form, tested, comparison, cond, subscript, subscripts}
 use Rattle.ac_parse_roundtrip.specs.CanonicalTrees as tree
 use Rattle.ac_parse_roundtrip.specs.CanonicalTrees.{Each, IsFormTree, IsComparisonTree, IsConditionTree}
-use Rattle.ac_parse_roundtrip.specs.GrammarPrograms.{HasLiterals, HaveLiterals, HasSome, HasComparisons}
-use Rattle.ac_parse_roundtrip.proofs.ItemSequences.{after, lexemes-append, Reads}
+use Rattle.ac_parse_roundtrip.specs.GrammarPrograms.{HasLiterals, HasPartLiterals, HaveLiterals, HasSome, HasComparisons}
+use Rattle.ac_parse_roundtrip.proofs.ItemSequences.{after, lexemes-append, Reads, other_items}
 use Rattle.ac_parse_roundtrip.proofs.TokenTerminals.{mark_at, at_least_is, equal_is, and_is, open_bracket_is, close_bracket_is}
 use Rattle.ac_parse_roundtrip.proofs.PartSequences.{snoc, added_snoc, behind}
 use Rattle.ac_parse_roundtrip.proofs.FormTrees.{IsNamedScope, number_read, form_read, of_primary}
 
-relation_is : (at : ℕ) (r : Rel) → relation_of (terminal (mark_at at (relation r))) ≡ Some (tree.relation r)
+-- how a relation is written
+abbrev sign : Rel → List ℕ
+sign NonNegative = codes ">="
+sign Zero = codes "=="
+sign (Divides m) = codes "=="
+
+relation_is : (at : ℕ) (r : Rel) → relation_of (terminal (mark_at at (sign r))) ≡ Some (tree.relation r)
 relation_is at NonNegative = ap relation_of (at_least_is at)
 relation_is at Zero = ap relation_of (equal_is at)
+relation_is at (Divides m) = ap relation_of (equal_is at)
+
+-- a form, the sign and 0
+abbrev compared : Rel → List Item → List Item
+compared r items = items ++ space ∷ mark (sign r) ∷ space ∷ number 0 ∷ []
+
+tested_is : (r : Rel) (items : List Item) → IsPlain r → compared r items ≡ tested r items
+tested_is NonNegative items plain = refl
+tested_is Zero items plain = refl
+tested_is (Divides m) items plain = absurd plain
 
 -- one comparison alone
 data IsOnePart (room : ℕ) : List Lexeme → Part → Type 0 where
   one : {ts : List Lexeme} {part : Part} → IsPart room ts (part ∷ []) → IsOnePart room ts part
 
-comparison_read : (room : ℕ) (scope : Scope) (c : Comparison) → IsNamedScope scope → HasLiterals c.form → Reads (IsOnePart (suc room)) (IsComparisonTree scope c) (comparison scope c)
-comparison_read room scope c named has = record {
+compared_read : (room : ℕ) (scope : Scope) (c : Comparison) → IsNamedScope scope → HasPartLiterals c → Reads (IsOnePart (suc room)) (IsComparisonTree scope c) (compared c.rel (form scope c.form))
+compared_read room scope c named has = record {
   at = λ at.
-      let left = (form_read room scope c.form named has).at at in
-      let sign = after at (form scope c.form) + 1 in
-      let right = (number_read (suc room) 0 (omega arith)).at (sign + length (relation c.rel) + 1) in
+      let left = (form_read room scope c.form named has.form).at at in
+      let place = after at (form scope c.form) + 1 in
+      let right = (number_read (suc room) 0 (omega arith)).at (place + length (sign c.rel) + 1) in
       let part = part_of left.0 (tree.relation c.rel) right.0 in (
         part,
-        subst (λ ts. IsOnePart (suc room) ts part) (sym (lexemes-append at (form scope c.form) (space ∷ mark (relation c.rel) ∷ space ∷ number 0 ∷ [])))
-            (one (g.comparison (mark_at sign (relation c.rel)) left.1 (relation_is sign c.rel) (of_primary right.1))),
-        record { left = left.2; relation = refl; right = right.2 },
+        subst (λ ts. IsOnePart (suc room) ts part) (sym (lexemes-append at (form scope c.form) (space ∷ mark (sign c.rel) ∷ space ∷ number 0 ∷ [])))
+            (one (g.comparison (mark_at place (sign c.rel)) left.1 (relation_is place c.rel) (of_primary right.1))),
+        record { left = left.2; plain = has.rel; relation = refl; right = right.2 },
       );
 }
+
+comparison_read : (room : ℕ) (scope : Scope) (c : Comparison) → IsNamedScope scope → HasPartLiterals c → Reads (IsOnePart (suc room)) (IsComparisonTree scope c) (comparison scope c)
+comparison_read room scope c named has = other_items (tested_is c.rel (form scope c.form) has.rel) (compared_read room scope c named has)
 
 -- and-signs and comparisons
 data IsAlso (room : ℕ) : List Lexeme → Part → Type 0 where
@@ -59,7 +79,7 @@ and_items = space ∷ mark (codes "&&") ∷ space ∷ []
 also_of : (room at : ℕ) (ts : List Lexeme) (part : Part) → IsOnePart room ts part → IsAlso room (mark_at at (codes "&&") ∷ ts) part
 also_of room at ts part (one p) = also (mark_at at (codes "&&")) (and_is at) p
 
-also_read : (room : ℕ) (scope : Scope) → IsNamedScope scope → (c : Comparison) → HasLiterals c.form → Reads (IsAlso (suc room)) (IsComparisonTree scope c) (and_items ++ comparison scope c)
+also_read : (room : ℕ) (scope : Scope) → IsNamedScope scope → (c : Comparison) → HasPartLiterals c → Reads (IsAlso (suc room)) (IsComparisonTree scope c) (and_items ++ comparison scope c)
 also_read room scope named c has = record {
   at = λ at.
       let place = at + 1 + 2 + 1 in
@@ -82,7 +102,7 @@ parts_read room scope (c ∷ cs) named some has = record {
       let is = comparison scope c in
       let rest = flat_map (λ (d : Comparison). and_items ++ comparison scope d) cs in
       let others = behind (IsCond (suc room)) (IsAlso (suc room)) snoc (also_step (suc room)) (IsComparisonTree scope) (λ d. and_items ++ comparison scope d) cs
-      (every_map (λ (d : Comparison). HasLiterals d.form) (λ d. Reads (IsAlso (suc room)) (IsComparisonTree scope d) (and_items ++ comparison scope d)) (also_read room scope named) cs has.1)
+      (every_map HasPartLiterals (λ d. Reads (IsAlso (suc room)) (IsComparisonTree scope d) (and_items ++ comparison scope d)) (also_read room scope named) cs has.1)
       (lexemes at is) (first.0 ∷ []) (one_cond (suc room) (lexemes at is) first.0 first.1) (after at is) in
       let parts = first.0 ∷ others.0 in (
         parts,

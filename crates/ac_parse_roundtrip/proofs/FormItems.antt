@@ -5,18 +5,19 @@ use Rattle.std.specs.Fmt.{decimal}
 use Rattle.std.proofs.Common.{ℕ, suc, List, [], ◌∷◌, ◌++◌, refl, sym, ◌∙◌, ap, subst, arith, append_assoc, ℤ, pos, negsuc}
 use Rattle.std.proofs.lemmas.List.{append-nil}
 use Rattle.ac_syntax.specs.Text.{Scope, is_other_than_zero}
+use Rattle.ac_syntax.specs.declared.tree.Quot.{Quot}
 use Rattle.ac_syntax.specs.declared.tree.IndexExpr.{IndexExpr}
 use Rattle.ac_syntax.specs.declared.tree.Rel.{Rel}
-use Rattle.ac_syntax.specs.declared.tree.Rel.TheVariants.{NonNegative, Zero}
+use Rattle.ac_syntax.specs.declared.tree.Rel.TheVariants.{NonNegative, Zero, Divides}
 use Rattle.ac_syntax.specs.declared.tree.Comparison.{Comparison}
 use Rattle.ac_syntax.specs.declared.tree.Cond.{Cond}
 use Rattle.ac_lex.specs.Bytes.{is_gap}
-use Rattle.ac_parse_roundtrip.specs.Items.{Item, spelled, space, mark, word, number, signed, term, terms, constant_term, plus, sum, form, relation, comparison, cond, subscript, subscripts}
-use Rattle.ac_parse_roundtrip.specs.ProgramWords.{IsWord, Fits64, IsWritable, AreWritable, AreComparisons, IsDeclared}
+use Rattle.ac_parse_roundtrip.specs.Items.{Item, spelled, space, mark, word, number, signed, term, terms, constant_term, plus, sum, argument, quot, quot_term, quot_terms, form, is_zero, tested, in_parentheses, comparison, cond, subscript, subscripts}
+use Rattle.ac_parse_roundtrip.specs.ProgramWords.{IsWord, Fits64, IsWritableQuot, IsWritable, IsWritableRel, IsWritablePart, AreWritable, AreComparisons, IsDeclared}
 use Rattle.ac_parse_roundtrip.proofs.ItemSpelling.{spelled_append}
 use Rattle.ac_parse_roundtrip.proofs.Pieces.{Stops, IsQuiet}
-use Rattle.ac_parse_roundtrip.proofs.Apart.{Stands, AllStand, stand_append}
-use Rattle.ac_parse_roundtrip.proofs.TokenItems.{word_stands, word_quiet, number_stands, number_quiet, space_stands, mark_stands, square_opens, square_closes, at_least_stands, equals_stands, also_stands}
+use Rattle.ac_parse_roundtrip.proofs.Apart.{AllStand, stand_append}
+use Rattle.ac_parse_roundtrip.proofs.TokenItems.{word_stands, word_quiet, number_stands, number_quiet, space_stands, mark_stands, comma_stands, round_opens, round_closes, fixed_word, square_opens, square_closes, at_least_stands, equals_stands, also_stands}
 
 -- items that stand before bytes that stop
 abbrev pub Stand : List Item → Type 0
@@ -102,31 +103,81 @@ sum_stands : (ts : List (List Item)) → AllByRecursion Stand ts → Stand (sum 
 sum_stands [] all rest stops = (number_stands 0 rest (omega arith) stops, tt)
 sum_stands (t ∷ ts) all rest stops = joined_stand Stand (λ part. part) plus (λ rest. refl) plus_stands (λ part is. is) (t ∷ ts) all rest stops
 
+argument_stands : (scope : Scope) (q : Quot) → HasScopeWords scope → IsWritableQuot q → Stand (argument scope q)
+argument_stands scope q words is =
+    sum_stands (terms q.params scope.params ++ terms q.iters scope.iters ++ constant_term q.konst)
+    (every_append Stand (terms q.params scope.params ++ terms q.iters scope.iters) (constant_term q.konst)
+    (every_append Stand (terms q.params scope.params) (terms q.iters scope.iters) (terms_stand q.params scope.params is.params words.params) (terms_stand q.iters scope.iters is.iters words.iters))
+    (constant_stand q.konst is.constant))
+
+quot_stands : (scope : Scope) (q : Quot) → HasScopeWords scope → IsWritableQuot q → Stand (quot scope q)
+quot_stands scope q words is rest stops =
+    let after = mark (codes ",") ∷ space ∷ signed q.div ++ mark (codes ")") ∷ [] in (
+      word_stands (codes "floord") _ (fixed_word (codes "floord") refl) refl,
+      (
+        round_opens _,
+        stand_append is_gap (argument scope q) after rest (argument_stands scope q words is (spelled after ++ rest) refl)
+            (comma_stands _, (space_stands, stand_append is_gap (signed q.div) (mark (codes ")") ∷ []) rest (signed_stands q.div is.div (41 ∷ rest) refl) (round_closes rest, tt))),
+      ),
+    )
+
+quot_term_stands : (scope : Scope) (q : Quot) → HasScopeWords scope → IsWritableQuot q → AllByRecursion Stand (quot_term scope q)
+quot_term_stands scope q words is = by_test (is_other_than_zero q.coef)
+  where
+    one : Stand (signed q.coef ++ mark (codes "*") ∷ quot scope q)
+    one rest stops =
+        stand_append is_gap (signed q.coef) (mark (codes "*") ∷ quot scope q) rest (signed_stands q.coef is.coef (42 ∷ (spelled (quot scope q) ++ rest)) refl)
+        (mark_stands 42 (spelled (quot scope q) ++ rest) refl refl, quot_stands scope q words is rest stops)
+
+    by_test : (t : Bool) → AllByRecursion Stand (if t then (signed q.coef ++ mark (codes "*") ∷ quot scope q) ∷ [] else [])
+    by_test true = (one, tt)
+    by_test false = tt
+
+quots_stand : (scope : Scope) (qs : List Quot) → HasScopeWords scope → AllByRecursion IsWritableQuot qs → AllByRecursion Stand (quot_terms scope qs)
+quots_stand scope [] words are = tt
+quots_stand scope (q ∷ qs) words are = every_append Stand (quot_term scope q) (quot_terms scope qs) (quot_term_stands scope q words are.0) (quots_stand scope qs words are.1)
+
 pub form_stands : (scope : Scope) (e : IndexExpr) → HasScopeWords scope → IsWritable e → Stand (form scope e)
 form_stands scope e words is =
-    sum_stands (terms e.params scope.params ++ terms e.iters scope.iters ++ constant_term e.konst)
-    (every_append Stand (terms e.params scope.params ++ terms e.iters scope.iters) (constant_term e.konst)
-    (every_append Stand (terms e.params scope.params) (terms e.iters scope.iters) (terms_stand e.params scope.params is.params words.params) (terms_stand e.iters scope.iters is.iters words.iters))
+    let ps = terms e.params scope.params in
+    let xs = terms e.iters scope.iters in
+    let qs = quot_terms scope e.quots in
+    sum_stands (ps ++ xs ++ qs ++ constant_term e.konst)
+    (every_append Stand (ps ++ xs ++ qs) (constant_term e.konst)
+    (every_append Stand (ps ++ xs) qs (every_append Stand ps xs (terms_stand e.params scope.params is.params words.params) (terms_stand e.iters scope.iters is.iters words.iters)) (quots_stand scope e.quots words is.quots))
     (constant_stand e.konst is.constant))
 
 -- ---- conditions
 
-relation_stands : (r : Rel) (rest : List ℕ) → Stands is_gap (mark (relation r)) rest
-relation_stands NonNegative rest = at_least_stands rest
-relation_stands Zero rest = equals_stands rest
+zero_stands : (rest : List ℕ) → Stops rest → AllStand is_gap is_zero rest
+zero_stands rest stops = (space_stands, (equals_stands _, (space_stands, (number_stands 0 rest (omega arith) stops, tt))))
 
-comparison_stands : (scope : Scope) → HasScopeWords scope → (c : Comparison) → IsWritable c.form → Stand (comparison scope c)
-comparison_stands scope words c is rest stops =
-    let after = space ∷ mark (relation c.rel) ∷ space ∷ number 0 ∷ [] in
-    stand_append is_gap (form scope c.form) after rest (form_stands scope c.form words is (spelled after ++ rest) refl)
-    (space_stands, (relation_stands c.rel _, (space_stands, (number_stands 0 rest (omega arith) stops, tt))))
+comparison_stands : (scope : Scope) → HasScopeWords scope → (c : Comparison) → IsWritablePart c → Stand (comparison scope c)
+comparison_stands scope words c is = by_rel c.rel is.rel
+  where
+    items : List Item
+    items = form scope c.form
+
+    stands : Stand items
+    stands = form_stands scope c.form words is.form
+
+    by_rel : (r : Rel) → IsWritableRel r → Stand (tested r items)
+    by_rel NonNegative fits rest stops =
+        let after = space ∷ mark (codes ">=") ∷ space ∷ number 0 ∷ [] in
+        stand_append is_gap items after rest (stands (spelled after ++ rest) refl) (space_stands, (at_least_stands _, (space_stands, (number_stands 0 rest (omega arith) stops, tt))))
+    by_rel Zero fits rest stops = stand_append is_gap items is_zero rest (stands (spelled is_zero ++ rest) refl) (zero_stands rest stops)
+    by_rel (Divides m) fits rest stops =
+        let after = space ∷ mark (codes "%") ∷ space ∷ signed m ++ is_zero in
+        let behind = spelled after ++ rest in
+        stand_append is_gap (in_parentheses items) after rest (round_opens _, stand_append is_gap items (mark (codes ")") ∷ []) behind (stands (41 ∷ behind) refl) (round_closes behind, tt))
+        (space_stands, (mark_stands 37 _ refl refl, (space_stands, stand_append is_gap (signed m) is_zero rest (signed_stands m fits (spelled is_zero ++ rest) refl) (zero_stands rest stops))))
 
 also : (rest : List ℕ) → AllStand is_gap (space ∷ mark (codes "&&") ∷ space ∷ []) rest
 also rest = (space_stands, (also_stands _, (space_stands, tt)))
 
 pub cond_stands : (scope : Scope) (c : Cond) → HasScopeWords scope → AreComparisons c.parts → Stand (cond scope c)
 cond_stands scope c words are =
-    joined_stand (λ (x : Comparison). IsWritable x.form) (comparison scope) (space ∷ mark (codes "&&") ∷ space ∷ []) (λ rest. refl) also (comparison_stands scope words) c.parts are
+    joined_stand IsWritablePart (comparison scope) (space ∷ mark (codes "&&") ∷ space ∷ []) (λ rest. refl) also (comparison_stands scope words) c.parts are
 
 -- ---- subscripts
 

@@ -391,10 +391,10 @@ module _ (names : List Entry) (scope : Scope) where
 pub whole_none : (j : Judged) (f : Affine) → Reads j f → whole_broken j ≡ None
 whole_none j f r = rw (r.broken, r.large) refl
 
-pub placed_as : (scope : Scope) (j : Judged) (e : IndexExpr) → is_within (affine_of e) ≡ true → Reads j (affine_of e) → form_without_place (index_expr scope j) ≡ form_without_place e
-placed_as scope j e w r = rw (r.form, w) refl
+pub placed_as : (scope : Scope) (j : Judged) (e : IndexExpr) → e.quots ≡ [] → is_within (affine_of e) ≡ true → Reads j (affine_of e) → form_without_place (index_expr scope j) ≡ form_without_place e
+placed_as scope j e plain w r = rw (plain, r.form, w) refl
 
 pub forms_are_read_back : FormsAreReadBack
 forms_are_read_back names scope written e fit tree t =
     let r = (form_read names scope written e fit tree t).form in
-    (whole_none (judged names scope tree) (affine_of e) r, placed_as scope (judged names scope tree) e (form_within names scope written e fit) r)
+    (whole_none (judged names scope tree) (affine_of e) r, placed_as scope (judged names scope tree) e fit.plain (form_within names scope written e fit) r)

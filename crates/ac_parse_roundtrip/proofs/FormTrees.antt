@@ -19,7 +19,7 @@ use Rattle.ac_parse_grammar.specs.Operators.{sign_of, star_of}
 use Rattle.ac_parse_grammar.specs.Chains.{start, link, chain}
 use Rattle.ac_parse_grammar.specs.Grammar as g
 use Rattle.ac_parse_grammar.specs.Grammar.{IsExpr, Terms, IsTerm, Factors, IsUnary, IsPrimary}
-use Rattle.ac_parse_roundtrip.specs.Items.{Item, lexemes, mark, word, number, signed, plus, form, term, terms, constant_term, sum}
+use Rattle.ac_parse_roundtrip.specs.Items.{Item, lexemes, mark, word, number, signed, plus, form, term, terms, quot_terms, constant_term, sum}
 use Rattle.ac_parse_roundtrip.specs.CanonicalTrees.{IsNameTree, IsNumberTree, IsIntegerTree, Summand, summand, products, summands, IsProductTree, IsSummandTree, IsSumTree, IsFormTree}
 use Rattle.ac_parse_roundtrip.specs.GrammarPrograms.{IsName, HasLiterals}
 use Rattle.ac_parse_roundtrip.proofs.ItemSequences.{after, lexemes-append, Reads, weaker, other_items}
@@ -171,6 +171,7 @@ products_are (c ∷ cs) (name ∷ names) =
     ap (λ is. is ++ terms cs names) (product_is c name) ∙ (ap (λ is. map summand_items (summand c (Some name)) ++ is) (products_are cs names)
     ∙ sym (map-append summand_items (summand c (Some name)) (products cs names)))
 
+-- the terms of a form without a quotient
 abbrev form_terms : Scope → IndexExpr → List (List Item)
 form_terms scope e = terms e.params scope.params ++ terms e.iters scope.iters ++ constant_term e.konst
 
@@ -193,8 +194,11 @@ sum_is : (ss : List Summand) → sum (map summand_items ss) ≡ sum_items ss
 sum_is [] = refl
 sum_is (s ∷ ss) = ap (λ is. summand_items s ++ is) (flat_items ss)
 
-form_is : (scope : Scope) (e : IndexExpr) → form scope e ≡ sum_items (summands scope e)
-form_is scope e = ap sum (form_terms_are scope e) ∙ sum_is (summands scope e)
+form_is : (scope : Scope) (e : IndexExpr) → e.quots ≡ [] → form scope e ≡ sum_items (summands scope e)
+form_is scope e plain =
+    let front = terms e.params scope.params ++ terms e.iters scope.iters in
+    ap (λ qs. sum (front ++ quot_terms scope qs ++ constant_term e.konst)) plain ∙ ap (λ ts. sum (ts ++ constant_term e.konst)) (append-nil front)
+    ∙ (ap sum (form_terms_are scope e) ∙ sum_is (summands scope e))
 
 -- ---- forms
 
@@ -222,4 +226,4 @@ fine_summands scope e named has =
     (fine_summand e.konst None has.constant tt)
 
 pub form_read : (room : ℕ) (scope : Scope) (e : IndexExpr) → IsNamedScope scope → HasLiterals e → Reads (IsExpr (suc room)) (IsFormTree scope e) (form scope e)
-form_read room scope e named has = other_items (sym (form_is scope e)) (sum_read room (summands scope e) (fine_summands scope e named has))
+form_read room scope e named has = other_items (sym (form_is scope e has.plain)) (sum_read room (summands scope e) (fine_summands scope e named has))

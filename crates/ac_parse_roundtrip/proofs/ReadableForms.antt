@@ -1,5 +1,5 @@
 -- The forms and conditions of a file that breaks no rule are readable.
-use Rattle.std.proofs.Common.{◌≡◌, ℕ, suc, ◌+◌, ℤ, pos, true, cond, ◌&&◌, List, [], ◌∷◌, map, length, sym, subst, ◌∙◌, arith, Some, None}
+use Rattle.std.proofs.Common.{◌≡◌, ℕ, suc, ◌+◌, ℤ, pos, true, cond, ◌&&◌, List, [], ◌∷◌, map, length, refl, sym, subst, ◌∙◌, arith, Some, None}
 use Rattle.std.specs.Prelude.{slice_get}
 use Rattle.std.specs.List.{AllByRecursion}
 use Rattle.std.proofs.lemmas.Bool.Decides.{nat_tests}
@@ -83,6 +83,7 @@ module _ (names : List Entry) (scope : Scope) (text_names : List Entry) (text_sc
           params = l ∙ sym carries.params;
           iters = m ∙ sym carries.iterators;
           constant = small_number f.constant c.0;
+          plain = refl;
           small_params = small_numbers f.params c.1;
           small_iters = small_numbers f.iters b.1;
           param_names = columns_named (λ k. Parameter k) 0 f.params written.params (l ∙ sym carries.param_names) (from_first (λ k. Parameter k) written.params carries.parameter) h.0;

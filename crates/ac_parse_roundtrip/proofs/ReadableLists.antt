@@ -79,11 +79,12 @@ module _ (names : List Entry) (scope : Scope) (written : text.Scope) where
   unfolding IsReadable
   access_readable array subs place h k = (h, k)
 
-  placed_form_fits : (place : Place) (e : IndexExpr) → FitsScope names scope written e → FitsScope names scope written (record { konst = e.konst; params = e.params; iters = e.iters; place = place })
+  placed_form_fits : (place : Place) (e : IndexExpr) → FitsScope names scope written e → FitsScope names scope written (record { konst = e.konst; params = e.params; iters = e.iters; quots = e.quots; place = place })
   placed_form_fits place e h = record {
     params = h.params;
     iters = h.iters;
     constant = h.constant;
+    plain = h.plain;
     small_params = h.small_params;
     small_iters = h.small_iters;
     param_names = h.param_names;

@@ -112,7 +112,7 @@ module _ (names : List Entry) (scope : Scope) (written : text.Scope) where
   may_is : (by : ℤ) (c : Comparison) (part : Part) → FitsScope names scope written c.form → IsComparisonTree written c part → may_bound by part.relation (compared names scope part) ≡ bounds by c
   may_is by c part fit t =
       let r = comparison_read names scope written c part fit t in
-      let e : rel_of part.relation ≡ c.rel = ap rel_of t.relation ∙ same_rel c.rel in
+      let e : rel_of part.relation ≡ c.rel = ap rel_of t.relation ∙ same_rel c.rel t.plain in
       rw (r.large, r.form, e) refl
 
   any_bounds : (by : ℤ) (cs : List Comparison) (parts : List Part) → PartsFitScope names scope written cs → Each (IsComparisonTree written) cs parts

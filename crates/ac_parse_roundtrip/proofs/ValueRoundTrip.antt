@@ -61,7 +61,7 @@ without_placed place (Call' s n args p) = refl
 
 -- a reading is that of a value: nothing is broken in it, and it is the value but for places
 abbrev pub ReadAs : Reading → Value → Type 0
-ReadAs (number j) v = (e : IndexExpr) × (v ≡ Number e) × Reads j (affine_of e) × (is_within (affine_of e) ≡ true)
+ReadAs (number j) v = (e : IndexExpr) × (v ≡ Number e) × Reads j (affine_of e) × (is_within (affine_of e) ≡ true) × (e.quots ≡ [])
 ReadAs (other b w) v = (b ≡ None) × (value_without_places w ≡ value_without_places v) × (is_number v ≡ false)
 
 abbrev pub AreReadAs : {m : _} → List Reading → Row_of-Value m → Type 0
@@ -76,7 +76,7 @@ read_broken (other b w) v h = h.0
 
 pub read_value : (scope : Scope) (r : Reading) (v : Value) → ReadAs r v → value_without_places (value_of scope r) ≡ value_without_places v
 read_value scope (number j) v h =
-    without_number (index_expr scope j) ∙ ap (λ e. Number e) (placed_as scope j h.0 h.3 h.2) ∙ sym (without_number h.0) ∙ ap value_without_places (sym h.1)
+    without_number (index_expr scope j) ∙ ap (λ e. Number e) (placed_as scope j h.0 h.4 h.3 h.2) ∙ sym (without_number h.0) ∙ ap value_without_places (sym h.1)
 read_value scope (other b w) v h = h.1
 
 are_none : {m : _} (rs : List Reading) (row : Row_of-Value m) → AreReadAs rs row → NoneBroken (map reading_broken rs)
@@ -125,7 +125,7 @@ sign_operator Remainder = refl
 
 module _ (scope : Scope) where
   group_read : (place : Place) (r : Reading) (v : Value) → ReadAs r v → ReadAs (group_reading place r) v
-  group_read place (number j) v h = (h.0, h.1, record { form = h.2.form; large = h.2.large; broken = h.2.broken }, h.3)
+  group_read place (number j) v h = (h.0, h.1, record { form = h.2.form; large = h.2.large; broken = h.2.broken }, h.3, h.4)
   group_read place (other b w) v h = (h.0, without_placed place w ∙ h.1, h.2)
 
   -- a value that is called of what is read
@@ -224,7 +224,7 @@ module _ (names : List Entry) (scope : Scope) (written : text.Scope) where
   number_group e inner place fit t =
       let r = form_read names scope written e fit inner t in
       rw (reading-group names scope inner place, r.alone)
-      (e, refl, record { form = r.form.form; large = r.form.large; broken = r.form.broken }, form_within names scope written e fit)
+      (e, refl, record { form = r.form.form; large = r.form.large; broken = r.form.broken }, form_within names scope written e fit, fit.plain)
 
   mutual
     unfolding IsValueTree AreValueTrees IsReadable AreReadable value_without_places values_without_places

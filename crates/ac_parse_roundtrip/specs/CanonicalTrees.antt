@@ -5,7 +5,7 @@ use Rattle.std.specs.List.{flat_map}
 use Rattle.ac_syntax.specs.declared.tree.Place.{Place}
 use Rattle.ac_syntax.specs.declared.tree.IndexExpr.{IndexExpr}
 use Rattle.ac_syntax.specs.declared.tree.Rel.{Rel}
-use Rattle.ac_syntax.specs.declared.tree.Rel.TheVariants.{NonNegative, Zero}
+use Rattle.ac_syntax.specs.declared.tree.Rel.TheVariants.{NonNegative, Zero, Divides}
 use Rattle.ac_syntax.specs.declared.tree.Comparison.{Comparison}
 use Rattle.ac_syntax.specs.declared.tree.Cond.{Cond}
 use Rattle.ac_syntax.specs.declared.tree.Value.{Value, Row_of-Value, end_of-Value, more_of-Value}
@@ -18,6 +18,7 @@ use Rattle.ac_syntax.specs.declared.tree.Array.{Array}
 use Rattle.ac_syntax.specs.declared.tree.Slot.{Slot}
 use Rattle.ac_syntax.specs.declared.tree.Slot.TheVariants as slot
 use Rattle.ac_syntax.specs.declared.tree.Program.{Program}
+use Rattle.ac_syntax.specs.ReadyPrograms.{IsPlain}
 use Rattle.ac_syntax.specs.Text.{Scope, inside, whole_scope, array_name, name_or_none, is_other_than_zero, is_operator, is_decimal}
 use Rattle.ac_parse_grammar.specs.declared.tree.Word.{Word}
 use Rattle.ac_parse_grammar.specs.declared.tree.Numeral.{Numeral}
@@ -100,10 +101,12 @@ IsFormTree scope e tree = IsSumTree (summands scope e) tree
 abbrev pub relation : Rel → Relation
 relation NonNegative = AtLeast
 relation Zero = Equal
+relation (Divides m) = Equal
 
--- a form that is compared with 0
+-- a form that is compared with 0; the grammar has no tree of the test of a divisor
 pub record IsComparisonTree (scope : Scope) (c : Comparison) (part : Part) : Type 0 where
   pub left : IsFormTree scope c.form part.left
+  pub plain : IsPlain c.rel
   pub relation : part.relation ≡ relation c.rel
   pub right : IsNumberTree 0 part.right
 

@@ -24,11 +24,12 @@ NameColumns names scope column k (c ∷ cs) [] = ⊥
 NameColumns names scope column k (c ∷ cs) (n ∷ ns) =
     (is_other_than_zero c ≡ true → Stands names scope n (column k)) × NameColumns names scope column (k + 1) cs ns
 
--- a form of small numbers in a scope of the text, as the rules look its names up
+-- a form of small numbers and of no quotient in a scope of the text, as the rules look its names up
 pub record FitsScope (names : List Entry) (scope : Scope) (written : text.Scope) (e : IndexExpr) : Type 0 where
   pub params : length e.params ≡ scope.params
   pub iters : length e.iters ≡ length scope.iterators
   pub constant : IsSmall e.konst
+  pub plain : e.quots ≡ []
   pub small_params : AllByRecursion IsSmall e.params
   pub small_iters : AllByRecursion IsSmall e.iters
   pub param_names : NameColumns names scope (λ k. Parameter k) 0 e.params written.params

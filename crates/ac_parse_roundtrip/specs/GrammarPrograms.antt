@@ -1,4 +1,5 @@
--- Programs whose canonical text is in the grammar: names are names, symbols are symbols, literals are small, and conditions compare.
+-- Programs whose canonical text is in the grammar: names are names, symbols are symbols, literals are small,
+-- no form has a quotient, and conditions compare with 0.
 use Rattle.std.specs.Prelude.{◌≡◌, ◌⊎◌, ℕ, suc, true, false, List, [], ◌∷◌, Option, None, Some, slice_get}
 use Rattle.std.specs.List.{AllByRecursion}
 use Rattle.ac_syntax.specs.declared.tree.IndexExpr.{IndexExpr}
@@ -12,6 +13,7 @@ use Rattle.ac_syntax.specs.declared.tree.Array.{Array}
 use Rattle.ac_syntax.specs.declared.tree.Slot.{Slot}
 use Rattle.ac_syntax.specs.declared.tree.Slot.TheVariants as slot
 use Rattle.ac_syntax.specs.declared.tree.Program.{Program}
+use Rattle.ac_syntax.specs.ReadyPrograms.{IsPlain}
 use Rattle.ac_syntax.specs.Small.{IsSmall}
 use Rattle.ac_syntax.specs.Text.{array_name, name_or_none, is_operator, is_decimal}
 use Rattle.ac_lex.specs.declared.tokens.TokenKind.TheVariants as token
@@ -35,14 +37,20 @@ IsSymbolName name = ((operator : Operator) × (name ≡ sign operator)) ⊎ ((is
 
 -- ---- forms and conditions
 
--- literals of at most 2^31
+-- literals of at most 2^31, and no quotient
 pub record HasLiterals (e : IndexExpr) : Type 0 where
   pub constant : IsSmall e.konst
   pub params : AllByRecursion IsSmall e.params
   pub iters : AllByRecursion IsSmall e.iters
+  pub plain : e.quots ≡ []
+
+-- a comparison that tests no divisor
+pub record HasPartLiterals (c : Comparison) : Type 0 where
+  pub form : HasLiterals c.form
+  pub rel : IsPlain c.rel
 
 abbrev pub HaveLiterals : List Comparison → Type 0
-HaveLiterals = AllByRecursion (λ c. HasLiterals c.form)
+HaveLiterals = AllByRecursion HasPartLiterals
 
 -- a condition has a comparison at least
 abbrev pub HasSome : List Comparison → Type 0

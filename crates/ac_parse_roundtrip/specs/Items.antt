@@ -3,9 +3,10 @@ use Rattle.std.specs.Prelude.{ℕ, suc, ◌+◌, ℤ, pos, negsuc, List, [], ◌
 use Rattle.std.specs.List.{flat_map, join_by}
 use Rattle.std.specs.Fmt.{decimal}
 use Rattle.ac_syntax.specs.Text.{Scope, inside, whole_scope, deeper, array_name, name_or_none, is_other_than_zero, is_operator, is_decimal}
+use Rattle.ac_syntax.specs.declared.tree.Quot.{Quot}
 use Rattle.ac_syntax.specs.declared.tree.IndexExpr.{IndexExpr}
 use Rattle.ac_syntax.specs.declared.tree.Rel.{Rel}
-use Rattle.ac_syntax.specs.declared.tree.Rel.TheVariants.{NonNegative, Zero}
+use Rattle.ac_syntax.specs.declared.tree.Rel.TheVariants.{NonNegative, Zero, Divides}
 use Rattle.ac_syntax.specs.declared.tree.Comparison.{Comparison}
 use Rattle.ac_syntax.specs.declared.tree.Cond.{Cond}
 use Rattle.ac_syntax.specs.declared.tree.Value.{Value, Row_of-Value, end_of-Value, more_of-Value}
@@ -104,15 +105,34 @@ abbrev pub sum : List (List Item) → List Item
 sum [] = number 0 ∷ []
 sum (t ∷ ts) = joined plus (t ∷ ts)
 
-abbrev pub form : Scope → IndexExpr → List Item
-form scope e = sum (terms e.params scope.params ++ terms e.iters scope.iters ++ constant_term e.konst)
+-- what a quotient divides
+abbrev pub argument : Scope → Quot → List Item
+argument scope q = sum (terms q.params scope.params ++ terms q.iters scope.iters ++ constant_term q.konst)
 
-abbrev pub relation : Rel → List ℕ
-relation NonNegative = codes ">="
-relation Zero = codes "=="
+abbrev pub quot : Scope → Quot → List Item
+quot scope q = word (codes "floord") ∷ mark (codes "(") ∷ argument scope q ++ (mark (codes ",") ∷ space ∷ signed q.div ++ mark (codes ")") ∷ [])
+
+abbrev pub quot_term : Scope → Quot → List (List Item)
+quot_term scope q = if is_other_than_zero q.coef then (signed q.coef ++ mark (codes "*") ∷ quot scope q) ∷ [] else []
+
+abbrev pub quot_terms : Scope → List Quot → List (List Item)
+quot_terms scope [] = []
+quot_terms scope (q ∷ qs) = quot_term scope q ++ quot_terms scope qs
+
+abbrev pub form : Scope → IndexExpr → List Item
+form scope e = sum (terms e.params scope.params ++ terms e.iters scope.iters ++ quot_terms scope e.quots ++ constant_term e.konst)
+
+abbrev pub is_zero : List Item
+is_zero = space ∷ mark (codes "==") ∷ space ∷ number 0 ∷ []
+
+-- a form that is compared with 0, or tested for a divisor
+abbrev pub tested : Rel → List Item → List Item
+tested NonNegative items = items ++ space ∷ mark (codes ">=") ∷ space ∷ number 0 ∷ []
+tested Zero items = items ++ is_zero
+tested (Divides m) items = in_parentheses items ++ (space ∷ mark (codes "%") ∷ space ∷ signed m ++ is_zero)
 
 abbrev pub comparison : Scope → Comparison → List Item
-comparison scope c = form scope c.form ++ space ∷ mark (relation c.rel) ∷ space ∷ number 0 ∷ []
+comparison scope c = tested c.rel (form scope c.form)
 
 abbrev pub cond : Scope → Cond → List Item
 cond scope c = join_by (comparison scope) (space ∷ mark (codes "&&") ∷ space ∷ []) c.parts

@@ -1,6 +1,7 @@
 -- Programs that are the same but for the places of their parts in the text.
 use Rattle.std.specs.Prelude.{◌≡◌, List, [], ◌∷◌, map}
 use Rattle.ac_syntax.specs.declared.tree.Place.{Place}
+use Rattle.ac_syntax.specs.declared.tree.Quot.{Quot}
 use Rattle.ac_syntax.specs.declared.tree.IndexExpr.{IndexExpr}
 use Rattle.ac_syntax.specs.declared.tree.Comparison.{Comparison}
 use Rattle.ac_syntax.specs.declared.tree.Cond.{Cond}
@@ -15,8 +16,11 @@ use Rattle.ac_syntax.specs.declared.tree.Value.TheVariants.{Number, Access, Call
 abbrev pub nowhere : Place
 nowhere = record { at = 0 }
 
+abbrev pub quot_without_place : Quot → Quot
+quot_without_place q = record { coef = q.coef; konst = q.konst; params = q.params; iters = q.iters; div = q.div; place = nowhere }
+
 abbrev pub form_without_place : IndexExpr → IndexExpr
-form_without_place e = record { konst = e.konst; params = e.params; iters = e.iters; place = nowhere }
+form_without_place e = record { konst = e.konst; params = e.params; iters = e.iters; quots = map quot_without_place e.quots; place = nowhere }
 
 abbrev pub forms_without_places : List IndexExpr → List IndexExpr
 forms_without_places forms = map form_without_place forms

@@ -1,7 +1,10 @@
 -- Programs with names that are words, with numbers of 64 bits, and whose numbers of arrays and parameters stand for some.
 use Rattle.std.specs.Prelude.{◌≡◌, ◌≤◌, ◌<◌, ◌^◌, ℕ, suc, true, ℤ, List, [], ◌∷◌, length, codes, unsigned_abs, IfSome}
 use Rattle.std.specs.List.{AllByRecursion}
+use Rattle.ac_syntax.specs.declared.tree.Quot.{Quot}
 use Rattle.ac_syntax.specs.declared.tree.IndexExpr.{IndexExpr}
+use Rattle.ac_syntax.specs.declared.tree.Rel.{Rel}
+use Rattle.ac_syntax.specs.declared.tree.Rel.TheVariants.{NonNegative, Zero, Divides}
 use Rattle.ac_syntax.specs.declared.tree.Comparison.{Comparison}
 use Rattle.ac_syntax.specs.declared.tree.Array.{Array}
 use Rattle.ac_syntax.specs.declared.tree.Slot.{Slot}
@@ -39,16 +42,33 @@ pub data IsCommutative (text : List ℕ) : Type 0 where
 abbrev pub Fits64 : ℤ → Type 0
 Fits64 z = unsigned_abs z < 2 ^ 64
 
+pub record IsWritableQuot (q : Quot) : Type 0 where
+  pub coef : Fits64 q.coef
+  pub constant : Fits64 q.konst
+  pub params : AllByRecursion Fits64 q.params
+  pub iters : AllByRecursion Fits64 q.iters
+  pub div : Fits64 q.div
+
 pub record IsWritable (e : IndexExpr) : Type 0 where
   pub constant : Fits64 e.konst
   pub params : AllByRecursion Fits64 e.params
   pub iters : AllByRecursion Fits64 e.iters
+  pub quots : AllByRecursion IsWritableQuot e.quots
 
 abbrev pub AreWritable : List IndexExpr → Type 0
 AreWritable = AllByRecursion IsWritable
 
+abbrev pub IsWritableRel : Rel → Type 0
+IsWritableRel NonNegative = Unit {0}
+IsWritableRel Zero = Unit {0}
+IsWritableRel (Divides m) = Fits64 m
+
+pub record IsWritablePart (c : Comparison) : Type 0 where
+  pub form : IsWritable c.form
+  pub rel : IsWritableRel c.rel
+
 abbrev pub AreComparisons : List Comparison → Type 0
-AreComparisons = AllByRecursion (λ c. IsWritable c.form)
+AreComparisons = AllByRecursion IsWritablePart
 
 unfoldable pub argument_count : {m : _} → Row_of-Value m → ℕ
 argument_count end_of-Value = 0

@@ -2,7 +2,7 @@ ghost use Rattle.ac_parse_roundtrip.specs.RoundTrip.{CanonicalTextsAreReadBack};
 ghost use Rattle.ac_parse_roundtrip.specs.Readability.{ConditionsAreReadable, FormsAreReadable, ProgramsAreReadable};
 
 /// Where no rule is broken in an index expression, each coefficient other than 0 of its form belongs to a name that stands for
-/// that column where the expression is, and all its numbers are small: at most 2^31 away from 0.
+/// that column where the expression is. The form has no quotient, and all its numbers are small: at most 2^31 away from 0.
 pub fn forms_are_readable()
     ensures { FormsAreReadable }
 {}

@@ -19,7 +19,7 @@ use Rattle.ac_parse_exprs.proofs.Judges.{index_expr_fits, index_fits}
 
 placed_fits : (ps xs : ℕ) (place : Place) (x : Value) → FitsValue ps xs x → FitsValue ps xs (placed place x)
 unfolding FitsValue
-placed_fits ps xs place (v.Number e) h = record { params = h.params; iters = h.iters }
+placed_fits ps xs place (v.Number e) h = record { params = h.params; iters = h.iters; plain = h.plain }
 placed_fits ps xs place (v.Access array subs p) h = h
 placed_fits ps xs place (v.Call' s n args p) h = h
 

@@ -1,12 +1,13 @@
 -- A statement that breaks no rule, and whose branches have conditions, is ready.
-use Rattle.std.proofs.Common.{◌≡◌, ℕ, ◌+◌, ◌<◌, List, [], ◌∷◌, map, length, refl, ap, sym, ◌∙◌, subst, Bool, true, false, not, ◌&&◌, ◌||◌, ◌==◌, nat_lt, arith, rules, ℤ, Option, None}
+use Rattle.std.proofs.Common.{◌≡◌, ℕ, zero, suc, ◌+◌, ◌<◌, List, [], ◌∷◌, map, length, refl, ap, sym, ◌∙◌, subst, Bool, true, false, not, ◌&&◌, ◌||◌, ◌==◌, nat_lt, arith, rules, ℤ, Option, None}
 use Rattle.std.specs.List.{AllByRecursion, Contains, list_any, list_all}
 use Rattle.std.proofs.lemmas.List.{length-map}
 use Rattle.std.proofs.lemmas.Bool.Decides.{nat_tests}
 use Rattle.ac_syntax.specs.Turns.{Bounded, bounds}
-use Rattle.ac_syntax.specs.ReadyPrograms.{Fits, FitParts, Ready, ReadyAll}
+use Rattle.ac_syntax.specs.ReadyPrograms.{Fits, FitsPart, FitParts, Ready, ReadyAll}
 use Rattle.ac_syntax.specs.declared.tree.Place.{Place}
 use Rattle.ac_syntax.specs.declared.tree.Comparison.{Comparison}
+use Rattle.ac_syntax.proofs.Steady.{part_steady}
 use Rattle.ac_syntax.proofs.ReadyAt.{for_ready, if_ready, assign_ready}
 use Rattle.ac_parse_grammar.specs.declared.tree.Word.{Word}
 use Rattle.ac_parse_grammar.specs.declared.tree.Operator.{Operator}
@@ -31,7 +32,7 @@ use Rattle.ac_parse_rules.specs.Statements.{inside, in_start, loop_rule, step_br
 use Rattle.ac_parse_rules.specs.DeclaredNumbers.{has_conditions}
 use Rattle.ac_parse_exprs.proofs.Absent.{neither, none_of, not_where, each, each_map, each_of_map, in_rest, in_front, both_true}
 use Rattle.ac_parse_exprs.proofs.Collecting.{IsKnown}
-use Rattle.ac_parse_exprs.proofs.Judges.{neither_is, compared_judges, whole_known, index_fits, comparison_fits}
+use Rattle.ac_parse_exprs.proofs.Judges.{neither_is, compared_judges, whole_known, index_fits, comparison_fits, part_fits}
 use Rattle.ac_parse_rules.proofs.FittingValues.{indices_fit, assigned_fits}
 use Rattle.ac_parse_rules.proofs.Stepping.{broken-loop, broken-branch, stmt-loop, stmt-branch, stmt-assign}
 use Rattle.ac_parse_exprs.proofs.Trees.{every_statement}
@@ -81,12 +82,22 @@ none_in names scope parts h = each_of_map (λ part. whole_broken (compared names
 more : (name : List ℕ) (is : List (List ℕ)) → length (name ∷ is) ≡ length is + 1
 more name is = omega arith
 
+pub parts_fit : (names : List Entry) (scope : Scope) (parts : List Part) → FitParts scope.params (length scope.iterators) (condition names scope parts)
+parts_fit names scope parts = each_map (comparison names scope) (FitsPart scope.params (length scope.iterators)) parts (each (λ part. FitsPart scope.params (length scope.iterators) (comparison names scope part)) (part_fits names scope) parts)
+
+contained : {A : Type 0} (P : A → Type 0) (xs : List A) (x : A) → AllByRecursion P xs → Contains xs x → P x
+contained P [] x h (k, l, e) = absurd (omega arith)
+contained P (y ∷ ys) x h (zero, l, e) = subst P e h.0
+contained P (y ∷ ys) x h (suc k, l, e) = contained P ys x h.1 (k, omega arith, e)
+
 bounded : (names : List Entry) (scope : Scope) (name : List ℕ) (step : Step) (parts : List Part) → is_endless names (inside scope name) step parts ≡ false → condition_broken names (inside scope name) parts ≡ None
     → Bounded (length scope.iterators) (step_number step) (record { parts = condition names (inside scope name) parts })
 bounded names scope name step parts h k =
     let e = neither_is (step.by.number == 0) (not (list_any (λ part. may_bound (step_number step) part.relation (compared names (inside scope name) part)) parts)) h in
     let b = bound_in names (inside scope name) (step_number step) parts (none_in names (inside scope name) parts k) (not_false (list_any (λ part. may_bound (step_number step) part.relation (compared names (inside scope name) part)) parts) e.1) in
-    record { bound = b.0; stands = b.1; innermost = b.2 ∙ more name scope.iterators; ends = b.3 }
+    let inner = inside scope name in
+    let fits = contained (FitsPart inner.params (length inner.iterators)) (condition names inner parts) b.0 (parts_fit names inner parts) b.1 in
+    record { bound = b.0; stands = b.1; innermost = b.2 ∙ more name scope.iterators; ends = b.3; steady = part_steady inner.params (length inner.iterators) (length scope.iterators) b.0 fits }
 
 head_parts : (a b c d e : Option Broken) → earlier (earlier a b) (earlier c (earlier d e)) ≡ None → (b ≡ None) × (d ≡ None)
 head_parts a b c d e h =
@@ -103,9 +114,6 @@ head_bounded names scope typed name start cond step place h =
     (earlier (earlier (word_broken name) (rule_broken (loop_rule names scope typed name.name) name.place)) (index_broken names (in_start scope typed name.name) start))
     (condition_broken names (inside scope name.name) cond) (step_broken names (inside scope name.name) name.name step) h in
     bounded names scope name.name step cond (not_where (is_endless names (inside scope name.name) step cond) Endless place p.0) p.1
-
-pub parts_fit : (names : List Entry) (scope : Scope) (parts : List Part) → FitParts scope.params (length scope.iterators) (condition names scope parts)
-parts_fit names scope parts = each_map (comparison names scope) (λ c. Fits scope.params (length scope.iterators) c.form) parts (each (λ part. Fits scope.params (length scope.iterators) (comparison names scope part).form) (comparison_fits names scope) parts)
 
 passes_all : {A : Type 0} (f : A → Bool) (xs : List A) → list_all (λ (b : Bool). b) (map f xs) ≡ list_all f xs
 passes_all f [] = refl

@@ -41,7 +41,7 @@ small_access array subs place h = h
 
 small_placed : (place : Place) (v : Value) → IsSmallValue v → IsSmallValue (placed place v)
 unfolding IsSmallValue
-small_placed place (Number e) h = record { constant = h.constant; params = h.params; iters = h.iters; few_params = h.few_params; few_iters = h.few_iters }
+small_placed place (Number e) h = record { constant = h.constant; params = h.params; iters = h.iters; few_params = h.few_params; few_iters = h.few_iters; quots = h.quots; few_quots = h.few_quots }
 small_placed place (Access array subs p) h = h
 small_placed place (Call' symbol n args p) h = h
 

@@ -168,6 +168,7 @@ fn bounds_by(rel: Rel, coefficient: i128, step: i64) -> bool
 {
     match rel {
         Rel::Zero => coefficient != 0 && step != 0,
+        Rel::Divides(_) => false,
         Rel::NonNegative => coefficient < 0 && step > 0 || coefficient > 0 && step < 0,
     }
 }
