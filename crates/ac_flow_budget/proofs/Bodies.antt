@@ -15,7 +15,7 @@ use Rattle.ac_syntax.specs.declared.tree.Cond.{Cond}
 use Rattle.ac_syntax.specs.declared.tree.IndexExpr.{IndexExpr}
 use Rattle.ac_syntax.specs.declared.tree.Program.{Program}
 use Rattle.ac_syntax.specs.declared.tree.Rel.{Rel}
-use Rattle.ac_syntax.specs.declared.tree.Rel.TheVariants.{NonNegative, Zero}
+use Rattle.ac_syntax.specs.declared.tree.Rel.TheVariants.{NonNegative, Zero, Divides}
 use Rattle.ac_syntax.specs.declared.tree.Stmt.{Stmt, Row_of-Stmt, end_of-Stmt, more_of-Stmt}
 use Rattle.ac_syntax.specs.declared.tree.Stmt.TheVariants.{For', If', Assign}
 use Rattle.ac_syntax.specs.declared.tree.Value.{Value, Row_of-Value, end_of-Value, more_of-Value}
@@ -43,17 +43,22 @@ its-more gs g h k = all_append (IsShifted (2 ^ 31)) gs (g ∷ []) h (k, tt)
 row-differs : (r : Rel) (f : Affine) → IsDifferenceWithin (2 ^ 32 + 2 ^ 31) f → IsDifferenceRow (2 ^ 33) (row_by r f)
 row-differs NonNegative f d = row-more (2 ^ 32 + 2 ^ 31) (2 ^ 33) (Ge f) (lit≤ tt) d
 row-differs Zero f d = row-more (2 ^ 32 + 2 ^ 31) (2 ^ 33) (Eq f) (lit≤ tt) d
+row-differs (Divides m) f d = row-more (2 ^ 32 + 2 ^ 31) (2 ^ 33) (Eq f) (lit≤ tt) d
 
 rows-differ : (gs : List Affine) (parts : List Comparison) → AreShifted (2 ^ 31) gs → AreDifferenceParts parts → AreDifferences (2 ^ 33) (rows_of gs parts)
 rows-differ gs [] h d = tt
 rows-differ gs (c ∷ parts) h d = (row-differs c.rel (lowered gs c.form) (difference-lowered gs c.form h d.0), rows-differ gs parts h d.1)
 
-negations-differ : (r : Rel) (f : Affine) → IsDifferenceWithin (2 ^ 32 + 2 ^ 31) f → AreDifferences (2 ^ 33) (negations r f)
-negations-differ NonNegative f d = (row-more (2 ^ 32 + 2 ^ 31 + 1) (2 ^ 33) (Ge (below f)) (lit≤ tt) (below-within (2 ^ 32 + 2 ^ 31) f d), tt)
-negations-differ Zero f d = (
+both-differ : (f : Affine) → IsDifferenceWithin (2 ^ 32 + 2 ^ 31) f → AreDifferences (2 ^ 33) (Ge (above f) ∷ Ge (below f) ∷ [])
+both-differ f d = (
   row-more (2 ^ 32 + 2 ^ 31 + 1) (2 ^ 33) (Ge (above f)) (lit≤ tt) (above-within (2 ^ 32 + 2 ^ 31) f d),
   (row-more (2 ^ 32 + 2 ^ 31 + 1) (2 ^ 33) (Ge (below f)) (lit≤ tt) (below-within (2 ^ 32 + 2 ^ 31) f d), tt),
 )
+
+negations-differ : (r : Rel) (f : Affine) → IsDifferenceWithin (2 ^ 32 + 2 ^ 31) f → AreDifferences (2 ^ 33) (negations r f)
+negations-differ NonNegative f d = (row-more (2 ^ 32 + 2 ^ 31 + 1) (2 ^ 33) (Ge (below f)) (lit≤ tt) (below-within (2 ^ 32 + 2 ^ 31) f d), tt)
+negations-differ Zero f d = both-differ f d
+negations-differ (Divides m) f d = both-differ f d
 
 abbrev AllDiffer : List (List Row) → Type 0
 AllDiffer qs = AllByRecursion (AreDifferences (2 ^ 33)) qs

@@ -30,7 +30,7 @@ one_small : IsSmall (pos 1)
 one_small = lit≤ tt
 
 form_small : (k times : ℤ) (iters : List ℤ) → IsSmall k → IsSmall times → AllByRecursion IsSmall iters → length iters ≤ 6 → IsSmallForm (form k times iters)
-form_small k times iters hk ht hi few = record { constant = hk; params = (ht, tt); iters = hi; few_params = lit≤ tt; few_iters = few }
+form_small k times iters hk ht hi few = record { constant = hk; params = (ht, tt); iters = hi; few_params = lit≤ tt; few_iters = few; quots = tt; few_quots = lit≤ tt }
 
 abbrev body_of : ℕ → ℕ → ℕ → ℤ → ℤ → Stmt
 body_of number function source at from =
@@ -46,17 +46,17 @@ small_written number function source a b c d ha hb hc hd =
     let read = small_access source (form d (pos 0) (pos 1 ∷ []) ∷ []) nowhere (form_small d (pos 0) (pos 1 ∷ []) hd none (one_small, tt) (lit≤ tt), tt) in
     let call = small_call (function_symbol function) (value.Access source (form d (pos 0) (pos 1 ∷ []) ∷ []) nowhere ∷ []) nowhere (read, tt) in
     small_for (codes "i") (form a (pos 0) []) (bound_of b) (pos 1) (body_of number function source c d ∷ []) nowhere
-    (form_small a (pos 0) [] ha none tt (lit≤ tt)) (form_small b (pos 1) (negsuc 0 ∷ []) hb one_small (minus, tt) (lit≤ tt), tt)
+    (form_small a (pos 0) [] ha none tt (lit≤ tt)) (record { form = form_small b (pos 1) (negsuc 0 ∷ []) hb one_small (minus, tt) (lit≤ tt); rel = tt }, tt)
     (small_assign number (form c (pos 0) (pos 1 ∷ []) ∷ []) _ nowhere (form_small c (pos 0) (pos 1 ∷ []) hc none (one_small, tt) (lit≤ tt), tt) call, tt)
 
 ready_written : (number function source : ℕ) (a b c d : ℤ) → Ready 1 0 (written number function source a b c d)
 ready_written number function source a b c d =
-    let fits : (k times : ℤ) (x : ℤ) → Fits 1 1 (form k times (x ∷ [])) = λ k times x. record { params = refl; iters = refl } in
+    let fits : (k times : ℤ) (x : ℤ) → Fits 1 1 (form k times (x ∷ [])) = λ k times x. record { params = refl; iters = refl; plain = refl } in
     let read = access_fits 1 1 source (form d (pos 0) (pos 1 ∷ []) ∷ []) nowhere (fits d (pos 0) (pos 1), tt) in
     let call = fits_call 1 1 (function_symbol function) (value.Access source (form d (pos 0) (pos 1 ∷ []) ∷ []) nowhere ∷ []) nowhere (read, tt) in
     for_ready 1 0 (codes "i") (form a (pos 0) []) (bound_of b) (pos 1) (body_of number function source c d ∷ []) nowhere
-    (record { params = refl; iters = refl }) (fits b (pos 1) (negsuc 0), tt)
-    (record { bound = record { form = form b (pos 1) (negsuc 0 ∷ []); rel = NonNegative }; stands = (0, lit< tt, refl); innermost = refl; ends = refl })
+    (record { params = refl; iters = refl; plain = refl }) (record { form = fits b (pos 1) (negsuc 0); rel = tt }, tt)
+    (record { bound = record { form = form b (pos 1) (negsuc 0 ∷ []); rel = NonNegative }; stands = (0, lit< tt, refl); innermost = refl; ends = refl; steady = record { quots = tt; rel = tt } })
     (assign_ready 1 1 number (form c (pos 0) (pos 1 ∷ []) ∷ []) _ nowhere (fits c (pos 0) (pos 1), tt) call, tt)
 
 -- an array of one dimension
@@ -168,7 +168,7 @@ well_made ls h =
       ready = record {
         body = each_as (Fine arrays) (Ready 1 0) (λ s k. k.0) body h;
         context = tt;
-        extents = ((record { params = refl; iters = refl }, tt), ((record { params = refl; iters = refl }, tt), locals_all (λ (a : Array). AllFit 1 0 a.extents) (λ j. (record { params = refl; iters = refl }, tt)) 0 (length ls - 1)));
+        extents = ((record { params = refl; iters = refl; plain = refl }, tt), ((record { params = refl; iters = refl; plain = refl }, tt), locals_all (λ (a : Array). AllFit 1 0 a.extents) (λ j. (record { params = refl; iters = refl; plain = refl }, tt)) 0 (length ls - 1)));
       };
       cells = each_as (Fine arrays) (UsesCells arrays) (λ s k. k.1) body h;
       small = record {

@@ -81,7 +81,7 @@ numbers_of target function source start last written read h =
     let body = parts_assign target (form written (pos 0) (pos 1 ∷ []) ∷ []) (call_of function source read) nowhere whole.2.0 in
     let call = parts_call (function_symbol function) (Access source (form read (pos 0) (pos 1 ∷ []) ∷ []) nowhere ∷ []) nowhere body.1 in
     let access = parts_access source (form read (pos 0) (pos 1 ∷ []) ∷ []) nowhere call.0 in
-    record { start_small = whole.0.constant; last_small = whole.1.0.constant; written_small = body.0.0.constant; read_small = access.0.constant }
+    record { start_small = whole.0.constant; last_small = whole.1.0.form.constant; written_small = body.0.0.constant; read_small = access.0.constant }
 
 -- ---- numbers of 128 bits
 

@@ -79,7 +79,7 @@ everywhere_at : (seed n : ℕ) → 1 ≤ n → n ≤ 12 → IsEverywhere (pair_o
 everywhere_at seed n some few = λ x. record { each = refl; context = refl }
 
 runs_at : (seed n : ℕ) → 1 ≤ n → n ≤ 12 → RunsEverywhere (pair_of seed n)
-runs_at seed n some few = λ x. let both = made seed n some few in record { count = refl; left = both.0.ready.body; right = both.1.ready.body }
+runs_at seed n some few = λ x. let both = made seed n some few in record { count = refl; left = both.0.ready.body; right = both.1.ready.body; context = tt }
 
 -- what is reached is never that the context does not hold
 never_outside : (limit n : ℕ) (hs : List Event) → reached limit n hs ≢ Err OutsideContext

@@ -40,12 +40,12 @@ shifted_is target function source reach margin s = λ i. written target function
 behind_none : (e : IndexExpr) → behind 0 e ≡ e
 behind_none e =
     let same : (k x : ℤ) → k -ℤ (pos 0 *ℤ x) ≡ k = λ k x. omega (arith, ints) in
-    λ i. record { konst = same e.konst (innermost e.iters) i; params = e.params; iters = e.iters; place = e.place }
+    λ i. record { konst = same e.konst (innermost e.iters) i; params = e.params; iters = e.iters; quots = e.quots; place = e.place }
 
 later_none : (e : IndexExpr) → later 0 e ≡ e
 later_none e =
     let same : (k : ℤ) → k +ℤ pos 0 ≡ k = λ k. omega (arith, ints) in
-    λ i. record { konst = same e.konst i; params = e.params; iters = e.iters; place = e.place }
+    λ i. record { konst = same e.konst i; params = e.params; iters = e.iters; quots = e.quots; place = e.place }
 
 shifted_none : (l : Loop) → shifted 0 l ≡ l
 shifted_none l = λ i. record {

@@ -14,7 +14,7 @@ nowhere = record { at = 0 }
 
 -- a constant plus so many times N and so many times the iterators
 abbrev pub form : ℤ → ℤ → List ℤ → IndexExpr
-form constant times iters = record { konst = constant; params = times ∷ []; iters = iters; place = nowhere }
+form constant times iters = record { konst = constant; params = times ∷ []; iters = iters; quots = []; place = nowhere }
 
 -- `for (int i = start; bound >= 0; i++) target[written] = function(source[read]);`
 pub record Loop : Type 0 where
@@ -40,10 +40,10 @@ copying target function source reach margin = record {
 
 -- with i - s in place of the iterator i
 abbrev pub behind : ℕ → IndexExpr → IndexExpr
-behind s e = record { konst = e.konst -ℤ (pos s *ℤ innermost e.iters); params = e.params; iters = e.iters; place = e.place }
+behind s e = record { konst = e.konst -ℤ (pos s *ℤ innermost e.iters); params = e.params; iters = e.iters; quots = e.quots; place = e.place }
 
 abbrev pub later : ℕ → IndexExpr → IndexExpr
-later s e = record { konst = e.konst +ℤ pos s; params = e.params; iters = e.iters; place = e.place }
+later s e = record { konst = e.konst +ℤ pos s; params = e.params; iters = e.iters; quots = e.quots; place = e.place }
 
 -- the loop shifted by s: its iterator starts s later, and i - s stands for it
 abbrev pub shifted : ℕ → Loop → Loop

@@ -17,6 +17,7 @@ fn form(alloc: Global, konst: i64, times: i64, iters: &[i64]) -> Result<IndexExp
         konst,
         params: Items::from_slice(alloc, &[times])?,
         iters: Items::from_slice(alloc, iters)?,
+        quots: Items::new(alloc),
         place: NOWHERE,
     })
 }

@@ -17,7 +17,7 @@ use Rattle.ac_syntax.specs.declared.tree.Cond.{Cond}
 use Rattle.ac_syntax.specs.declared.tree.IndexExpr.{IndexExpr}
 use Rattle.ac_syntax.specs.declared.tree.Program.{Program}
 use Rattle.ac_syntax.specs.declared.tree.Rel.{Rel}
-use Rattle.ac_syntax.specs.declared.tree.Rel.TheVariants.{NonNegative, Zero}
+use Rattle.ac_syntax.specs.declared.tree.Rel.TheVariants.{NonNegative, Zero, Divides}
 use Rattle.ac_syntax.specs.declared.tree.Stmt.{Stmt, Row_of-Stmt, end_of-Stmt, more_of-Stmt}
 use Rattle.ac_syntax.specs.declared.tree.Stmt.TheVariants.{For', If', Assign}
 use Rattle.ac_syntax.specs.declared.tree.Value.{Value, Row_of-Value, end_of-Value, more_of-Value}
@@ -44,6 +44,7 @@ append-moduli (r ∷ q) rows h i = (h.0, append-moduli q rows h.1 i)
 row-modulus : (r : Rel) (f : Affine) → HasModulus (row_by r f)
 row-modulus NonNegative f = tt
 row-modulus Zero f = tt
+row-modulus (Divides m) f = tt
 
 rows-moduli : (its : List Affine) (cs : List Comparison) → HaveModuli (rows_of its cs)
 rows-moduli its [] = tt
@@ -56,6 +57,7 @@ with-moduli (q ∷ qs) rows h i = (append-moduli q rows h.0 i, with-moduli qs ro
 not-moduli : (q : List Row) (r : Rel) (f : Affine) → HaveModuli q → AllByRecursion HaveModuli (with_each q (negations r f))
 not-moduli q NonNegative f h = (append-moduli q _ h (tt, tt), tt)
 not-moduli q Zero f h = (append-moduli q _ h (tt, tt), (append-moduli q _ h (tt, tt), tt))
+not-moduli q (Divides m) f h = (append-moduli q _ h (tt, tt), (append-moduli q _ h (tt, tt), tt))
 
 failing-moduli : (its : List Affine) (cs : List Comparison) (q : List Row) → HaveModuli q → AllByRecursion HaveModuli (failing its cs q)
 failing-moduli its [] q h = tt
@@ -119,7 +121,7 @@ mutual
       → Stands xs p zs sc → AllByRecursion HaveModuli sc.pieces → Ready (length p.params) xs s → IsLowered s first loop sc k l → StmtIsOver (length p.params) l
   over (For' iter start cond step n body place) first loop sc xs p zs k l h m r i =
       over_in body first (suc loop) (in_loop sc loop start cond step) (xs + 1) (inside p _) (zs ++ pos 0 ∷ []) k l
-      (stands_loop xs p zs sc loop start cond step (pos 0) h r.0.params r.1) (with-moduli sc.pieces (loop_rows sc start cond step) m (loop-moduli sc start cond step)) r.3 i
+      (stands_loop xs p zs sc loop start cond step (pos 0) h r.0 r.1) (with-moduli sc.pieces (loop_rows sc start cond step) m (loop-moduli sc start cond step)) r.3 i
   over (If' cond n taken m other place) first loop sc xs p zs k l h u r (inl i) =
       over_in taken first loop (where_holds sc cond) xs p zs k l (stands_taken xs p zs sc cond h r.0) (with-moduli sc.pieces (rows_of sc.iters cond.parts) u (rows-moduli sc.iters cond.parts)) r.1 i
   over (If' cond n taken m other place) first loop sc xs p zs k l h u r (inr i) =

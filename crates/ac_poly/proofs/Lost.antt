@@ -9,7 +9,7 @@ use Rattle.ac_forms.specs.declared.row.Row.{Row}
 use Rattle.ac_syntax.specs.LoopNests.{loop_count, loop_count_in}
 use Rattle.ac_syntax.specs.ReadyPrograms.{Ready, ReadyIn, ReadyAll}
 use Rattle.ac_syntax.specs.declared.tree.Rel.{Rel}
-use Rattle.ac_syntax.specs.declared.tree.Rel.TheVariants.{NonNegative, Zero}
+use Rattle.ac_syntax.specs.declared.tree.Rel.TheVariants.{NonNegative, Zero, Divides}
 use Rattle.ac_syntax.specs.declared.tree.Place.{Place}
 use Rattle.ac_syntax.specs.declared.tree.Comparison.{Comparison}
 use Rattle.ac_syntax.specs.declared.tree.Cond.{Cond}
@@ -34,6 +34,7 @@ length-failing its (c ∷ cs) q =
     one : (r : Rel) (f : Affine) → length (with_each q (negations r f)) ≡ ways_by r
     one NonNegative f = refl
     one Zero f = refl
+    one (Divides m) f = refl
 
 pub length-fails : (its : List Affine) (cs : List Comparison) (qs : List (List Row)) → length (flat_map (failing its cs) qs) ≡ length qs * ways cs
 length-fails its cs [] = grind arith
@@ -46,6 +47,7 @@ ways_some (c ∷ cs) h = by c.rel
     by : (r : Rel) → 0 < ways_by r + ways cs
     by NonNegative = omega arith
     by Zero = omega arith
+    by (Divides m) = omega arith
 
 -- not fine, whatever is inside
 abbrev pub Lost : Scope → Type 0 → Type 0

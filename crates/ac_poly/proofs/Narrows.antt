@@ -8,7 +8,7 @@ use Rattle.ac_forms.specs.declared.row.Row.{Row}
 use Rattle.ac_forms.specs.declared.row.Row.TheVariants.{Ge, Eq, Div}
 use Rattle.ac_syntax.specs.declared.tree.IndexExpr.{IndexExpr}
 use Rattle.ac_syntax.specs.declared.tree.Rel.{Rel}
-use Rattle.ac_syntax.specs.declared.tree.Rel.TheVariants.{NonNegative, Zero}
+use Rattle.ac_syntax.specs.declared.tree.Rel.TheVariants.{NonNegative, Zero, Divides}
 use Rattle.ac_syntax.specs.declared.tree.Comparison.{Comparison}
 use Rattle.ac_forms.specs.Negation.{below, above}
 use Rattle.ac_forms.specs.PieceMembership.{IsInSome}
@@ -50,10 +50,11 @@ narrow-lowered n ps xs its e h f i = narrow-replaced n (record { konst = e.konst
 row_narrow : (n : ℕ) (r : Rel) (f : Affine) → Narrow n f → Narrow n (form_of (row_by r f))
 row_narrow n NonNegative f h = h
 row_narrow n Zero f h = h
+row_narrow n (Divides m) f h = h
 
 pub narrow_rows : (n ps xs : ℕ) (its : List Affine) (cs : List Comparison) → ps ≤ n → FitParts ps xs cs → AllByRecursion (Narrow n) its → NarrowRows n (rows_of its cs)
 narrow_rows n ps xs its [] h f i = tt
-narrow_rows n ps xs its (c ∷ cs) h f i = (row_narrow n c.rel (lowered its c.form) (narrow-lowered n ps xs its c.form h f.0.params i), narrow_rows n ps xs its cs h f.1 i)
+narrow_rows n ps xs its (c ∷ cs) h f i = (row_narrow n c.rel (lowered its c.form) (narrow-lowered n ps xs its c.form h f.0.form.params i), narrow_rows n ps xs its cs h f.1 i)
 
 pub narrow_with : (n : ℕ) (qs : List (List Row)) (rs : List Row) → NarrowPieces n qs → NarrowRows n rs → NarrowPieces n (map (λ q. q ++ rs) qs)
 narrow_with n [] rs h i = tt
@@ -65,11 +66,12 @@ below_narrow n f h = omega (arith, length-map f.coefs (λ c. negsuc 0 *ℤ c))
 narrow_not : (n : ℕ) (q : List Row) (r : Rel) (f : Affine) → NarrowRows n q → Narrow n f → NarrowPieces n (with_each q (negations r f))
 narrow_not n q NonNegative f h i = (all_append (λ r. Narrow n (form_of r)) q (Ge (below f) ∷ []) h (below_narrow n f i, tt), tt)
 narrow_not n q Zero f h i = (all_append (λ r. Narrow n (form_of r)) q (Ge (above f) ∷ []) h (i, tt), (all_append (λ r. Narrow n (form_of r)) q (Ge (below f) ∷ []) h (below_narrow n f i, tt), tt))
+narrow_not n q (Divides m) f h i = (all_append (λ r. Narrow n (form_of r)) q (Ge (above f) ∷ []) h (i, tt), (all_append (λ r. Narrow n (form_of r)) q (Ge (below f) ∷ []) h (below_narrow n f i, tt), tt))
 
 narrow_failing : (n ps xs : ℕ) (its : List Affine) (cs : List Comparison) (q : List Row) → ps ≤ n → FitParts ps xs cs → AllByRecursion (Narrow n) its → NarrowRows n q → NarrowPieces n (failing its cs q)
 narrow_failing n ps xs its [] q h f i j = tt
 narrow_failing n ps xs its (c ∷ cs) q h f i j =
-    let w = narrow-lowered n ps xs its c.form h f.0.params i in
+    let w = narrow-lowered n ps xs its c.form h f.0.form.params i in
     all_append (NarrowRows n) (with_each q (negations c.rel (lowered its c.form))) (failing its cs (q ++ row_by c.rel (lowered its c.form) ∷ [])) (narrow_not n q c.rel (lowered its c.form) j w)
     (narrow_failing n ps xs its cs (q ++ row_by c.rel (lowered its c.form) ∷ []) h f.1 i (all_append (λ r. Narrow n (form_of r)) q _ j (row_narrow n c.rel (lowered its c.form) w, tt)))
 

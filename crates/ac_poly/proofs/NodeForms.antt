@@ -100,7 +100,7 @@ mutual
 shows : (ps zs : List ℤ) (its : List Affine) (u : Value) (number : ℕ) → FitsValue (length ps) (length its) u
     → Shows (ps ++ zs) (record { params = ps; iters = worth (ps ++ zs) its }) u number (Some (one its u number))
 unfolding FitsValue
-shows ps zs its (Number e) number f = (lowered its e, refl, value-lowered ps zs its e f.params)
+shows ps zs its (Number e) number f = (lowered its e, refl, value-lowered ps zs its e f.params f.plain)
 shows ps zs its (Access array subs place) number f = (map (lowered its) subs, refl, sym (all_values ps zs its subs f))
 shows ps zs its (Call' symbol n args place) number f = refl
 

@@ -15,7 +15,7 @@ use Rattle.ac_syntax.specs.declared.tree.Comparison.{Comparison}
 use Rattle.ac_syntax.specs.declared.tree.Cond.{Cond}
 use Rattle.ac_syntax.specs.declared.tree.Program.{Program}
 use Rattle.ac_syntax.specs.declared.tree.Rel.{Rel}
-use Rattle.ac_syntax.specs.declared.tree.Rel.TheVariants.{NonNegative, Zero}
+use Rattle.ac_syntax.specs.declared.tree.Rel.TheVariants.{NonNegative, Zero, Divides}
 use Rattle.ac_syntax.specs.declared.tree.Stmt.{Stmt, Row_of-Stmt, end_of-Stmt, more_of-Stmt}
 use Rattle.ac_syntax.specs.declared.tree.Stmt.TheVariants.{For', If', Assign}
 use Rattle.ac_poly.specs.IndexForms.{lowered, row_by}
@@ -47,6 +47,18 @@ front-once rows [] p a = tt
 front-once rows (q ∷ qs) p a =
     ((λ m. none-of Meets (map (λ q. q ++ rows) qs) p (λ s. none-or Meets qs p (a.0 ((meets_append q rows p).0 m).0) (front rows qs p s))), front-once rows qs p a.1)
 
+-- a way in which an equality fails
+equality-fails : (f : Affine) (q : List Row) (p : List ℤ) → IsInSome Meets (with_each q (negations Zero f)) p → Meets q p × (¬ Holds (row_by Zero f) p)
+equality-fails f q p (inl m) =
+    let a = (meets_append q (Ge (above f) ∷ []) p).0 m in
+    let b = a.1.0 in
+    (a.0, (λ h. let up = value_at-shifted f (negsuc 0) p in omega (arith, ints, b, h, up)))
+equality-fails f q p (inr (inl m)) =
+    let a = (meets_append q (Ge (below f) ∷ []) p).0 m in
+    let b = a.1.0 in
+    (a.0, (λ h. let down = value_at-shifted (opposite f) (negsuc 0) p in let turn = value_at-scaled (negsuc 0) f p in omega (arith, ints, b, h, down, turn)))
+equality-fails f q p (inr (inr s)) = absurd s
+
 -- a way in which a comparison fails
 fails : (rel : Rel) (f : Affine) (q : List Row) (p : List ℤ) → IsInSome Meets (with_each q (negations rel f)) p → Meets q p × (¬ Holds (row_by rel f) p)
 fails NonNegative f q p (inl m) =
@@ -54,19 +66,11 @@ fails NonNegative f q p (inl m) =
     let b = a.1.0 in
     (a.0, (λ h. let down = value_at-shifted (opposite f) (negsuc 0) p in let turn = value_at-scaled (negsuc 0) f p in omega (arith, ints, b, h, down, turn)))
 fails NonNegative f q p (inr s) = absurd s
-fails Zero f q p (inl m) =
-    let a = (meets_append q (Ge (above f) ∷ []) p).0 m in
-    let b = a.1.0 in
-    (a.0, (λ h. let up = value_at-shifted f (negsuc 0) p in omega (arith, ints, b, h, up)))
-fails Zero f q p (inr (inl m)) =
-    let a = (meets_append q (Ge (below f) ∷ []) p).0 m in
-    let b = a.1.0 in
-    (a.0, (λ h. let down = value_at-shifted (opposite f) (negsuc 0) p in let turn = value_at-scaled (negsuc 0) f p in omega (arith, ints, b, h, down, turn)))
-fails Zero f q p (inr (inr s)) = absurd s
+fails Zero f q p s = equality-fails f q p s
+fails (Divides m) f q p s = equality-fails f q p s
 
-ways-once : (rel : Rel) (f : Affine) (q : List Row) (p : List ℤ) → IsInOneAtMost Meets (with_each q (negations rel f)) p
-ways-once NonNegative f q p = ((λ m. tt), tt)
-ways-once Zero f q p = (
+equality-once : (f : Affine) (q : List Row) (p : List ℤ) → IsInOneAtMost Meets (with_each q (negations Zero f)) p
+equality-once f q p = (
   (λ m. (
     (λ n.
         let a = (meets_append q (Ge (above f) ∷ []) p).0 m in
@@ -81,6 +85,11 @@ ways-once Zero f q p = (
   )),
   ((λ m. tt), tt),
 )
+
+ways-once : (rel : Rel) (f : Affine) (q : List Row) (p : List ℤ) → IsInOneAtMost Meets (with_each q (negations rel f)) p
+ways-once NonNegative f q p = ((λ m. tt), tt)
+ways-once Zero f q p = equality-once f q p
+ways-once (Divides m) f q p = equality-once f q p
 
 failing-in : (its : List Affine) (cs : List Comparison) (q : List Row) (p : List ℤ) → IsInSome Meets (failing its cs q) p → Meets q p
 failing-in its [] q p s = absurd s

@@ -17,6 +17,7 @@ use Rattle.ac_poly.specs.Lower.{in_loop, where_holds, where_fails}
 use Rattle.ac_syntax.specs.ReadyPrograms.{FitParts, Ready, ReadyIn}
 use Rattle.ac_syntax.specs.declared.tree.Comparison.{Comparison}
 use Rattle.std.specs.List.{AllByRecursion}
+use Rattle.ac_syntax.proofs.Steady.{parts_steady}
 use Rattle.ac_syntax.proofs.TurnRows.{turn_rows, rows_turn}
 use Rattle.std.proofs.Math.IntN.{*ℤ-zero}
 use Rattle.ac_poly.proofs.Relation.{IsLowered, IsLoweredIn}
@@ -87,7 +88,7 @@ iters_are xs p zs sc h = sym (ap length h.values) ∙ length-map sc.iters _ ∙ 
 
 iters_fit : (ps xs : ℕ) (cs : List Comparison) → FitParts ps xs cs → AllByRecursion (λ (c : Comparison). length c.form.iters ≡ xs) cs
 iters_fit ps xs [] h = tt
-iters_fit ps xs (c ∷ cs) h = (h.0.iters, iters_fit ps xs cs h.1)
+iters_fit ps xs (c ∷ cs) h = (h.0.form.iters, iters_fit ps xs cs h.1)
 
 at_first : (first step : ℤ) → iterator_at first step 0 ≡ first
 at_first first step = omega (arith, ints, *ℤ-zero step)
@@ -101,7 +102,8 @@ turn_holds p start cond step k h =
 turn_from : (xs ps : ℕ) (p : Point) (start : IndexExpr) (cond : Cond) (step : ℤ) (k : ℕ) → length p.iters ≡ xs → FitParts ps (xs + 1) cond.parts → Bounded xs step cond
     → holds (inside p (index_value p start)) cond ≡ true → holds (inside p (iterator_at (index_value p start) step k)) cond ≡ true → k < turns p start cond step
 turn_from xs ps p start cond step k e c b h i =
-    turn_rows p start cond step (subst (λ n. Bounded n step cond) (sym e) b) (iters_fit ps (length p.iters + 1) cond.parts (subst (λ n. FitParts ps (n + 1) cond.parts) (sym e) c)) k
+    turn_rows p start cond step (subst (λ n. Bounded n step cond) (sym e) b) (iters_fit ps (length p.iters + 1) cond.parts (subst (λ n. FitParts ps (n + 1) cond.parts) (sym e) c))
+    (parts_steady ps (xs + 1) (length p.iters) cond.parts c) k
     (ap (λ z. holds (inside p z) cond) (at_first (index_value p start) step) ∙ h) i
 
 split : (zs rest : List ℤ) (z : ℤ) (full : List ℤ) → full ≡ zs ++ z ∷ rest → full ≡ (zs ++ z ∷ []) ++ rest
@@ -117,13 +119,13 @@ mutual
       absurd (let b = more_loops_in body first (suc loop) (in_loop sc loop start cond step) k l i in omega (arith, length-append sc.loops (loop ∷ [])))
   to_instance (For' iter start cond step n body place) first loop sc xs p zs k l (pos t ∷ rest) full h r i len e m =
       let again = to_instance_in body first (suc loop) (in_loop sc loop start cond step) (xs + 1) (inside p (index_value p start +ℤ (step *ℤ pos t))) (zs ++ pos t ∷ []) k l rest full
-      (stands_loop xs p zs sc loop start cond step (pos t) h r.0.params r.1) r.3 i (omega (arith, length-append sc.loops (loop ∷ []))) (split zs rest (pos t) full e) m in
-      let w = (loop_pieces xs p zs sc loop start cond step (pos t) h r.0.params r.1).0 again.0 in
+      (stands_loop xs p zs sc loop start cond step (pos t) h r.0 r.1) r.3 i (omega (arith, length-append sc.loops (loop ∷ []))) (split zs rest (pos t) full e) m in
+      let w = (loop_pieces xs p zs sc loop start cond step (pos t) h r.0 r.1).0 again.0 in
       (w.0, record { entry = again.1.entry; is = (t, turn_from xs (length p.params) p start cond step t (iters_are xs p zs sc h) r.1 r.2 w.2 w.3, again.1.is); stmt = again.1.stmt; counters = again.1.counters })
   to_instance (For' iter start cond step n body place) first loop sc xs p zs k l (negsuc t ∷ rest) full h r i len e m =
       let again = to_instance_in body first (suc loop) (in_loop sc loop start cond step) (xs + 1) (inside p (index_value p start +ℤ (step *ℤ negsuc t))) (zs ++ negsuc t ∷ []) k l rest full
-      (stands_loop xs p zs sc loop start cond step (negsuc t) h r.0.params r.1) r.3 i (omega (arith, length-append sc.loops (loop ∷ []))) (split zs rest (negsuc t) full e) m in
-      absurd (let w : pos 0 ≤ℤ negsuc t = ((loop_pieces xs p zs sc loop start cond step (negsuc t) h r.0.params r.1).0 again.0).1 in omega (arith, ints))
+      (stands_loop xs p zs sc loop start cond step (negsuc t) h r.0 r.1) r.3 i (omega (arith, length-append sc.loops (loop ∷ []))) (split zs rest (negsuc t) full e) m in
+      absurd (let w : pos 0 ≤ℤ negsuc t = ((loop_pieces xs p zs sc loop start cond step (negsuc t) h r.0 r.1).0 again.0).1 in omega (arith, ints))
   to_instance (If' cond n taken m other place) first loop sc xs p zs k l rest full h r (inl i) len e s =
       let again = to_instance_in taken first loop (where_holds sc cond) xs p zs k l rest full (stands_taken xs p zs sc cond h r.0) r.1 i len e s in
       let w = (taken_pieces xs p zs sc cond h r.0).0 again.0 in
@@ -160,8 +162,8 @@ mutual
   of_instance (For' iter start cond step n body place) first loop sc xs p zs k l e h r i m (t, lt, is) q =
       let w = turn_holds p start cond step t lt in
       of_instance_in body first (suc loop) (in_loop sc loop start cond step) (xs + 1) (inside p (index_value p start +ℤ (step *ℤ pos t))) (zs ++ pos t ∷ []) k l e
-      (stands_loop xs p zs sc loop start cond step (pos t) h r.0.params r.1) r.3 i
-      ((loop_pieces xs p zs sc loop start cond step (pos t) h r.0.params r.1).1 (m, omega (arith, ints), w.0, w.1)) is q
+      (stands_loop xs p zs sc loop start cond step (pos t) h r.0 r.1) r.3 i
+      ((loop_pieces xs p zs sc loop start cond step (pos t) h r.0 r.1).1 (m, omega (arith, ints), w.0, w.1)) is q
   of_instance (If' cond n taken m other place) first loop sc xs p zs k l e h r (inl i) s (inl is) q =
       of_instance_in taken first loop (where_holds sc cond) xs p zs k l e (stands_taken xs p zs sc cond h r.0) r.1 i ((taken_pieces xs p zs sc cond h r.0).1 (s, is.0)) is.1 q
   of_instance (If' cond n taken m other place) first loop sc xs p zs k l e h r (inl i) s (inr is) q =

@@ -8,13 +8,13 @@ use Rattle.ac_forms.specs.declared.row.Row.{Row}
 use Rattle.ac_forms.specs.declared.row.Row.TheVariants.{Ge}
 use Rattle.ac_syntax.specs.Index.{Point, is_nonnegative, is_zero, rel_holds, comparison_holds}
 use Rattle.ac_syntax.specs.declared.tree.Rel.{Rel}
-use Rattle.ac_syntax.specs.declared.tree.Rel.TheVariants.{NonNegative, Zero}
+use Rattle.ac_syntax.specs.declared.tree.Rel.TheVariants.{NonNegative, Zero, Divides}
 use Rattle.ac_syntax.specs.declared.tree.Comparison.{Comparison}
 use Rattle.ac_forms.specs.Negation.{below, above}
 use Rattle.ac_forms.specs.PieceMembership.{IsInSome}
 use Rattle.ac_poly.specs.IndexForms.{lowered, row_by, rows_of}
 use Rattle.ac_poly.specs.ConditionPieces.{negations, with_each, failing}
-use Rattle.ac_syntax.specs.ReadyPrograms.{FitParts}
+use Rattle.ac_syntax.specs.ReadyPrograms.{FitParts, IsPlain}
 use Rattle.ac_poly.proofs.Values.{worth, value-lowered}
 use Rattle.ac_forms.proofs.Negations.{value-above}
 use Rattle.ac_forms.proofs.Negations.{value-below}
@@ -42,9 +42,10 @@ zero_not (pos zero) = ((λ h. absurd (let k : true ≡ false = h in cc)), (λ h.
 zero_not (pos (suc n)) = ((λ h. inl (omega (arith, ints))), (λ h. refl))
 zero_not (negsuc n) = ((λ h. inr (omega (arith, ints))), (λ h. refl))
 
-pub holds_row : (r : Rel) (f : Affine) (p : List ℤ) → Holds (row_by r f) p ↔ (rel_holds r (value_at f p) ≡ true)
-holds_row NonNegative f p = ((nonneg (value_at f p)).1, (nonneg (value_at f p)).0)
-holds_row Zero f p = ((zero_is (value_at f p)).1, (zero_is (value_at f p)).0)
+pub holds_row : (r : Rel) (f : Affine) (p : List ℤ) → IsPlain r → Holds (row_by r f) p ↔ (rel_holds r (value_at f p) ≡ true)
+holds_row NonNegative f p h = ((nonneg (value_at f p)).1, (nonneg (value_at f p)).0)
+holds_row Zero f p h = ((zero_is (value_at f p)).1, (zero_is (value_at f p)).0)
+holds_row (Divides m) f p h = absurd h
 
 both : (a b : Bool) → (a && b) ≡ true → (a ≡ true) × (b ≡ true)
 both true b h = (refl, h)
@@ -58,8 +59,8 @@ pub meets_rows : (ps zs : List ℤ) (its : List Affine) (xs : ℕ) (cs : List Co
     → Meets (rows_of its cs) (ps ++ zs) ↔ (list_all (comparison_holds (record { params = ps; iters = worth (ps ++ zs) its })) cs ≡ true)
 meets_rows ps zs its xs [] h = ((λ _. refl), (λ _. tt))
 meets_rows ps zs its xs (c ∷ cs) h =
-    let r = holds_row c.rel (lowered its c.form) (ps ++ zs) in
-    let e = ap (rel_holds c.rel) (value-lowered ps zs its c.form h.0.params) in
+    let r = holds_row c.rel (lowered its c.form) (ps ++ zs) h.0.rel in
+    let e = ap (rel_holds c.rel) (value-lowered ps zs its c.form h.0.form.params h.0.form.plain) in
     let rest = meets_rows ps zs its xs cs h.1 in (
       (λ m. rw (sym e ∙ r.0 m.0) (rest.0 m.1)),
       (λ m. let b = both (comparison_holds (at ps zs its) c) (list_all (comparison_holds (at ps zs its)) cs) m in (r.1 (e ∙ b.0), rest.1 b.1)),
@@ -91,13 +92,14 @@ above_holds : (f : Affine) (p : List ℤ) → Holds (Ge (above f)) p ↔ (pos 1 
 above_holds f p = ((λ h. let k = rw (value-above f p) at h in omega (arith, ints)), (λ h. rw (value-above f p) (omega (arith, ints))))
 
 -- a piece for each way in which one comparison fails
-pub somewhere_not : (q : List Row) (r : Rel) (f : Affine) (p : List ℤ) → IsInSome Meets (with_each q (negations r f)) p ↔ (Meets q p × (rel_holds r (value_at f p) ≡ false))
-somewhere_not q NonNegative f p = (to, (λ h. inl ((one_row q (Ge (below f)) p).1 (h.0, (below_holds f p).1 ((negative (value_at f p)).0 h.1)))))
+pub somewhere_not : (q : List Row) (r : Rel) (f : Affine) (p : List ℤ) → IsPlain r → IsInSome Meets (with_each q (negations r f)) p ↔ (Meets q p × (rel_holds r (value_at f p) ≡ false))
+somewhere_not q NonNegative f p plain = (to, (λ h. inl ((one_row q (Ge (below f)) p).1 (h.0, (below_holds f p).1 ((negative (value_at f p)).0 h.1)))))
   where
     to : Meets (q ++ Ge (below f) ∷ []) p ⊎ ⊥ → Meets q p × (is_nonnegative (value_at f p) ≡ false)
     to (inl m) = let i = (one_row q (Ge (below f)) p).0 m in (i.0, (negative (value_at f p)).1 ((below_holds f p).0 i.1))
     to (inr n) = absurd n
-somewhere_not q Zero f p = (to, (λ h. from h.0 ((zero_not (value_at f p)).0 h.1)))
+somewhere_not q (Divides m) f p plain = absurd plain
+somewhere_not q Zero f p plain = (to, (λ h. from h.0 ((zero_not (value_at f p)).0 h.1)))
   where
     to : Meets (q ++ Ge (above f) ∷ []) p ⊎ (Meets (q ++ Ge (below f) ∷ []) p ⊎ ⊥) → Meets q p × (is_zero (value_at f p) ≡ false)
     to (inl m) = let i = (one_row q (Ge (above f)) p).0 m in (i.0, (zero_not (value_at f p)).1 (inl ((above_holds f p).0 i.1)))
@@ -117,24 +119,24 @@ somewhere_failing ps zs its xs (c ∷ cs) q h =
     (to again, (λ m. from again _ refl m.0 m.1))
   where
     same : rel_holds c.rel (value_at (lowered its c.form) (ps ++ zs)) ≡ comparison_holds (at ps zs its) c
-    same = ap (rel_holds c.rel) (value-lowered ps zs its c.form h.0.params)
+    same = ap (rel_holds c.rel) (value-lowered ps zs its c.form h.0.form.params h.0.form.plain)
 
     to : (IsInSome Meets (failing its cs (q ++ row_by c.rel (lowered its c.form) ∷ [])) (ps ++ zs) ↔ (Meets (q ++ row_by c.rel (lowered its c.form) ∷ []) (ps ++ zs) × (list_all (comparison_holds (at ps zs its)) cs ≡ false))) → IsInSome Meets (failing its (c ∷ cs) q) (ps ++ zs) → Meets q (ps ++ zs) × ((comparison_holds (at ps zs its) c && list_all (comparison_holds (at ps zs its)) cs) ≡ false)
     to again s = elim ((some-append Meets (with_each q (negations c.rel (lowered its c.form))) (failing its cs (q ++ row_by c.rel (lowered its c.form) ∷ [])) (ps ++ zs)).0 s) [
-      | inl a ↦ (let i = (somewhere_not q c.rel (lowered its c.form) (ps ++ zs)).0 a in (i.0, rw (sym same ∙ i.1) refl))
+      | inl a ↦ (let i = (somewhere_not q c.rel (lowered its c.form) (ps ++ zs) h.0.rel).0 a in (i.0, rw (sym same ∙ i.1) refl))
       | inr b ↦ (let i = again.0 b in
           let j = (one_row q (row_by c.rel (lowered its c.form)) (ps ++ zs)).0 i.0 in
-          (j.0, rw (sym same ∙ (holds_row c.rel (lowered its c.form) (ps ++ zs)).0 j.1) i.1))
+          (j.0, rw (sym same ∙ (holds_row c.rel (lowered its c.form) (ps ++ zs) h.0.rel).0 j.1) i.1))
     ]
 
     from : (IsInSome Meets (failing its cs (q ++ row_by c.rel (lowered its c.form) ∷ [])) (ps ++ zs) ↔ (Meets (q ++ row_by c.rel (lowered its c.form) ∷ []) (ps ++ zs) × (list_all (comparison_holds (at ps zs its)) cs ≡ false))) → (b : Bool) → comparison_holds (at ps zs its) c ≡ b → Meets q (ps ++ zs) → ((comparison_holds (at ps zs its) c && list_all (comparison_holds (at ps zs its)) cs) ≡ false) → IsInSome Meets (failing its (c ∷ cs) q) (ps ++ zs)
     from again true e m n =
         (some-append Meets (with_each q (negations c.rel (lowered its c.form))) (failing its cs (q ++ row_by c.rel (lowered its c.form) ∷ [])) (ps ++ zs)).1
         (inr (again.1
-        ((one_row q (row_by c.rel (lowered its c.form)) (ps ++ zs)).1 (m, (holds_row c.rel (lowered its c.form) (ps ++ zs)).1 (same ∙ e)), rw e at n)))
+        ((one_row q (row_by c.rel (lowered its c.form)) (ps ++ zs)).1 (m, (holds_row c.rel (lowered its c.form) (ps ++ zs) h.0.rel).1 (same ∙ e)), rw e at n)))
     from again false e m n =
         (some-append Meets (with_each q (negations c.rel (lowered its c.form))) (failing its cs (q ++ row_by c.rel (lowered its c.form) ∷ [])) (ps ++ zs)).1
-        (inl ((somewhere_not q c.rel (lowered its c.form) (ps ++ zs)).1 (m, same ∙ e)))
+        (inl ((somewhere_not q c.rel (lowered its c.form) (ps ++ zs) h.0.rel).1 (m, same ∙ e)))
 
 pub somewhere_fails : (ps zs : List ℤ) (its : List Affine) (xs : ℕ) (cs : List Comparison) (qs : List (List Row)) → FitParts (length ps) xs cs
     → IsInSome Meets (flat_map (failing its cs) qs) (ps ++ zs) ↔ (IsInSome Meets qs (ps ++ zs) × (list_all (comparison_holds (record { params = ps; iters = worth (ps ++ zs) its })) cs ≡ false))

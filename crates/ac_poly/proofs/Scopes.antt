@@ -11,7 +11,7 @@ use Rattle.ac_poly.specs.declared.scope.Scope.{Scope}
 use Rattle.ac_forms.specs.Affine.{column_form}
 use Rattle.ac_poly.specs.IndexForms.{lowered, stepping, rows_of}
 use Rattle.ac_poly.specs.Lower.{columns, loop_rows, in_loop, where_holds, where_fails}
-use Rattle.ac_syntax.specs.ReadyPrograms.{FitParts}
+use Rattle.ac_syntax.specs.ReadyPrograms.{Fits, FitParts}
 use Rattle.ac_poly.proofs.Values.{worth, Narrow, value-lowered, value-narrow, value-column, value-stepping, worth-narrow, narrow-column, narrow-combined}
 use Rattle.ac_poly.proofs.Rows.{meets_rows, meets_append, somewhere_with, somewhere_fails}
 use Rattle.ac_poly.proofs.Narrows.{NarrowRows, NarrowPieces, somewhere-narrow, all_append, all_wider, narrow-lowered, narrow_rows, narrow_with, narrow_fails}
@@ -32,11 +32,11 @@ pub columns_are : (xs : ℕ) (p : Point) (zs : List ℤ) (sc : Scope) → Stands
 columns_are xs p zs sc h = omega (arith, length-append p.params zs)
 
 -- the form of an index expression has its value
-pub lowered_value : (xs : ℕ) (p : Point) (zs : List ℤ) (sc : Scope) (e : IndexExpr) → Stands xs p zs sc → length e.params ≡ length p.params → value_at (lowered sc.iters e) (p.params ++ zs) ≡ index_value p e
-lowered_value xs p zs sc e h f = value-lowered p.params zs sc.iters e f ∙ ap (λ is. index_value (record { params = p.params; iters = is }) e) h.values
+pub lowered_value : (xs : ℕ) (p : Point) (zs : List ℤ) (sc : Scope) (e : IndexExpr) → Stands xs p zs sc → Fits (length p.params) xs e → value_at (lowered sc.iters e) (p.params ++ zs) ≡ index_value p e
+lowered_value xs p zs sc e h f = value-lowered p.params zs sc.iters e f.params f.plain ∙ ap (λ is. index_value (record { params = p.params; iters = is }) e) h.values
 
-pub lowered_narrow : (xs : ℕ) (p : Point) (zs : List ℤ) (sc : Scope) (e : IndexExpr) → Stands xs p zs sc → length e.params ≡ length p.params → Narrow (length (p.params ++ zs)) (lowered sc.iters e)
-lowered_narrow xs p zs sc e h f = narrow-lowered (length (p.params ++ zs)) (length p.params) xs sc.iters e (omega (arith, length-append p.params zs)) f h.narrow
+pub lowered_narrow : (xs : ℕ) (p : Point) (zs : List ℤ) (sc : Scope) (e : IndexExpr) → Stands xs p zs sc → Fits (length p.params) xs e → Narrow (length (p.params ++ zs)) (lowered sc.iters e)
+lowered_narrow xs p zs sc e h f = narrow-lowered (length (p.params ++ zs)) (length p.params) xs sc.iters e (omega (arith, length-append p.params zs)) f.params h.narrow
 
 worth-append : (p : List ℤ) (fs gs : List Affine) → worth p (fs ++ gs) ≡ worth p fs ++ worth p gs
 worth-append p [] gs = refl
@@ -49,7 +49,7 @@ grown ps zs z = sym (append_assoc ps zs (z ∷ []))
 length_grown : (ps zs : List ℤ) (z : ℤ) → length (ps ++ (zs ++ z ∷ [])) ≡ length (ps ++ zs) + 1
 length_grown ps zs z = ap length (grown ps zs z) ∙ length-append (ps ++ zs) (z ∷ [])
 
-pub stepping_value : (xs : ℕ) (p : Point) (zs : List ℤ) (sc : Scope) (start : IndexExpr) (step z : ℤ) → Stands xs p zs sc → length start.params ≡ length p.params
+pub stepping_value : (xs : ℕ) (p : Point) (zs : List ℤ) (sc : Scope) (start : IndexExpr) (step z : ℤ) → Stands xs p zs sc → Fits (length p.params) xs start
     → value_at (stepping (lowered sc.iters start) step (columns sc)) (p.params ++ (zs ++ z ∷ [])) ≡ index_value p start +ℤ (step *ℤ z)
 stepping_value xs p zs sc start step z h f =
     ap (value_at (stepping (lowered sc.iters start) step (columns sc))) (grown p.params zs z)
@@ -64,7 +64,7 @@ values_more xs p zs sc z f v h e =
     ∙ ap (λ r. r ++ value_at f (p.params ++ (zs ++ z ∷ [])) ∷ []) (ap (λ q. worth q sc.iters) (grown p.params zs z) ∙ worth-narrow sc.iters (p.params ++ zs) (z ∷ []) h.narrow ∙ h.values)
     ∙ ap (λ w. p.iters ++ w ∷ []) e
 
-narrow_stepping : (xs : ℕ) (p : Point) (zs : List ℤ) (sc : Scope) (start : IndexExpr) (step z : ℤ) → Stands xs p zs sc → length start.params ≡ length p.params
+narrow_stepping : (xs : ℕ) (p : Point) (zs : List ℤ) (sc : Scope) (start : IndexExpr) (step z : ℤ) → Stands xs p zs sc → Fits (length p.params) xs start
     → Narrow (length (p.params ++ (zs ++ z ∷ []))) (stepping (lowered sc.iters start) step (columns sc))
 narrow_stepping xs p zs sc start step z h f =
     narrow-combined (length (p.params ++ (zs ++ z ∷ []))) (pos 1) (lowered sc.iters start) step (column_form (columns sc + 1) (columns sc))
@@ -80,7 +80,7 @@ narrow_more n fs f m l h w = all_append (Narrow m) fs (f ∷ []) (all_wider (Nar
 rows_wider : (n m : ℕ) → n ≤ m → (qs : List (List Row)) → NarrowPieces n qs → NarrowPieces m qs
 rows_wider n m l qs h = all_wider (NarrowRows n) (NarrowRows m) (λ q h. all_wider _ _ (λ r h. omega arith) q h) qs h
 
-narrow_loop_rows : (xs : ℕ) (p : Point) (zs : List ℤ) (sc : Scope) (start : IndexExpr) (cond : Cond) (step z : ℤ) → Stands xs p zs sc → length start.params ≡ length p.params → FitParts (length p.params) (xs + 1) cond.parts
+narrow_loop_rows : (xs : ℕ) (p : Point) (zs : List ℤ) (sc : Scope) (start : IndexExpr) (cond : Cond) (step z : ℤ) → Stands xs p zs sc → Fits (length p.params) xs start → FitParts (length p.params) (xs + 1) cond.parts
     → NarrowRows (length (p.params ++ (zs ++ z ∷ []))) (loop_rows sc start cond step)
 narrow_loop_rows xs p zs sc start cond step z h f c =
     let n = length (p.params ++ (zs ++ z ∷ [])) in
@@ -92,7 +92,7 @@ narrow_loop_rows xs p zs sc start cond step z h f c =
           (narrow_rows n (length p.params) (xs + 1) _ cond.parts le c (narrow_more (length (p.params ++ zs)) sc.iters (stepping (lowered sc.iters start) step (columns sc)) n up h.narrow (narrow_stepping xs p zs sc start step z h f))),
     )
 
-pub stands_loop : (xs : ℕ) (p : Point) (zs : List ℤ) (sc : Scope) (number : ℕ) (start : IndexExpr) (cond : Cond) (step z : ℤ) → Stands xs p zs sc → length start.params ≡ length p.params → FitParts (length p.params) (xs + 1) cond.parts
+pub stands_loop : (xs : ℕ) (p : Point) (zs : List ℤ) (sc : Scope) (number : ℕ) (start : IndexExpr) (cond : Cond) (step z : ℤ) → Stands xs p zs sc → Fits (length p.params) xs start → FitParts (length p.params) (xs + 1) cond.parts
     → Stands (xs + 1) (inside p (index_value p start +ℤ (step *ℤ z))) (zs ++ z ∷ []) (in_loop sc number start cond step)
 stands_loop xs p zs sc number start cond step z h f c = record {
   params = h.params;
@@ -146,7 +146,7 @@ other_pieces xs p zs sc cond h c =
     ((λ s. let i = a.0 s in (i.0, sym e ∙ i.1)), (λ s. a.1 (s.0, e ∙ s.1)))
 
 -- where the pieces inside a loop are met
-pub loop_pieces : (xs : ℕ) (p : Point) (zs : List ℤ) (sc : Scope) (number : ℕ) (start : IndexExpr) (cond : Cond) (step z : ℤ) → Stands xs p zs sc → length start.params ≡ length p.params → FitParts (length p.params) (xs + 1) cond.parts
+pub loop_pieces : (xs : ℕ) (p : Point) (zs : List ℤ) (sc : Scope) (number : ℕ) (start : IndexExpr) (cond : Cond) (step z : ℤ) → Stands xs p zs sc → Fits (length p.params) xs start → FitParts (length p.params) (xs + 1) cond.parts
     → IsInSome Meets (in_loop sc number start cond step).pieces (p.params ++ (zs ++ z ∷ []))
     ↔ (IsInSome Meets sc.pieces (p.params ++ zs) × (pos 0 ≤ℤ z) × (holds (inside p (index_value p start)) cond ≡ true) × (holds (inside p (index_value p start +ℤ (step *ℤ z))) cond ≡ true))
 loop_pieces xs p zs sc number start cond step z h f c =

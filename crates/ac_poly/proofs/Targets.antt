@@ -47,7 +47,7 @@ mutual
       → Stands xs p zs sc → Ready (length p.params) xs s → IsLowered s first loop sc k l → IsInstance s first p zs e → e.stmt ≡ k → Told p.params l e
   told (For' iter start cond step n body place) first loop sc xs p zs k l e h r i (t, lt, is) q =
       told_in body first (suc loop) (in_loop sc loop start cond step) (xs + 1) (inside p (index_value p start +ℤ (step *ℤ pos t))) (zs ++ pos t ∷ []) k l e
-      (stands_loop xs p zs sc loop start cond step (pos t) h r.0.params r.1) r.3 i is q
+      (stands_loop xs p zs sc loop start cond step (pos t) h r.0 r.1) r.3 i is q
   told (If' cond n taken m other place) first loop sc xs p zs k l e h r (inl i) (inl is) q = told_in taken first loop (where_holds sc cond) xs p zs k l e (stands_taken xs p zs sc cond h r.0) r.1 i is.1 q
   told (If' cond n taken m other place) first loop sc xs p zs k l e h r (inl i) (inr is) q =
       absurd (let a = lowered_range_in taken first loop _ k l i in let b = instance_range_in other (first + assignments_in taken) p zs e is.1 in omega arith)

@@ -6,7 +6,7 @@ use Rattle.ac_forms.specs.Affine.{Affine, value_at, combined, column_form}
 use Rattle.ac_base.specs.Dot.{dot, mix}
 use Rattle.ac_base.proofs.Dot.{dot-append}
 use Rattle.ac_forms.proofs.Values.{value_at-combined, value_at-scaled}
-use Rattle.ac_syntax.specs.Index.{index_value}
+use Rattle.ac_syntax.specs.Index.{index_value, quots_value}
 use Rattle.ac_syntax.specs.ReadyPrograms.{Fits}
 use Rattle.ac_syntax.specs.declared.tree.IndexExpr.{IndexExpr}
 use Rattle.ac_forms.specs.Negation.{below, above}
@@ -29,12 +29,13 @@ value-replaced f (c ∷ cs) (g ∷ gs) p =
     ∙ one_more (value_at f p) c (value_at g p) (dot cs (worth p gs))
 
 -- the columns past the parameters count for nothing
-pub value-lowered : (ps zs : List ℤ) (its : List Affine) (e : IndexExpr) → length e.params ≡ length ps
+pub value-lowered : (ps zs : List ℤ) (its : List Affine) (e : IndexExpr) → length e.params ≡ length ps → e.quots ≡ []
     → value_at (lowered its e) (ps ++ zs) ≡ index_value (record { params = ps; iters = worth (ps ++ zs) its }) e
-value-lowered ps zs its e h =
+value-lowered ps zs its e h plain =
+    let none : quots_value (record { params = ps; iters = worth (ps ++ zs) its }) e.quots ≡ pos 0 = ap (quots_value (record { params = ps; iters = worth (ps ++ zs) its })) plain in
     value-replaced (record { konst = e.konst; coefs = e.params }) e.iters its (ps ++ zs)
     ∙ ap (λ v. v +ℤ e.konst +ℤ dot e.iters (worth (ps ++ zs) its)) (dot-append e.params ps zs (omega arith))
-    ∙ omega (arith, ints)
+    ∙ omega (arith, ints, none)
 
 -- a form that has no coefficient past n columns
 abbrev pub Narrow : ℕ → Affine → Type 0
@@ -96,4 +97,4 @@ value-stepping f step n p z h w =
 pub all_values : (ps zs : List ℤ) (its : List Affine) (es : List IndexExpr) → AllByRecursion (Fits (length ps) (length its)) es
     → map (index_value (record { params = ps; iters = worth (ps ++ zs) its })) es ≡ worth (ps ++ zs) (map (lowered its) es)
 all_values ps zs its [] h = refl
-all_values ps zs its (e ∷ es) h = let v = sym (value-lowered ps zs its e h.0.params) in λ i. v i ∷ all_values ps zs its es h.1 i
+all_values ps zs its (e ∷ es) h = let v = sym (value-lowered ps zs its e h.0.params h.0.plain) in λ i. v i ∷ all_values ps zs its es h.1 i

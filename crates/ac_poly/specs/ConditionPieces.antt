@@ -5,7 +5,7 @@ use Rattle.ac_forms.specs.Negation.{above, below}
 use Rattle.ac_forms.specs.declared.row.Row.{Row}
 use Rattle.ac_forms.specs.declared.row.Row.TheVariants.{Ge}
 use Rattle.ac_syntax.specs.declared.tree.Rel.{Rel}
-use Rattle.ac_syntax.specs.declared.tree.Rel.TheVariants.{NonNegative, Zero}
+use Rattle.ac_syntax.specs.declared.tree.Rel.TheVariants.{NonNegative, Zero, Divides}
 use Rattle.ac_syntax.specs.declared.tree.Comparison.{Comparison}
 use Rattle.ac_poly.specs.IndexForms.{lowered, row_by}
 
@@ -13,6 +13,7 @@ use Rattle.ac_poly.specs.IndexForms.{lowered, row_by}
 abbrev pub negations : Rel → Affine → List Row
 negations NonNegative f = Ge (below f) ∷ []
 negations Zero f = Ge (above f) ∷ Ge (below f) ∷ []
+negations (Divides m) f = Ge (above f) ∷ Ge (below f) ∷ []
 
 -- a piece with one of the rows each
 abbrev pub with_each : List Row → List Row → List (List Row)

@@ -5,7 +5,7 @@ use Rattle.ac_forms.specs.declared.row.Row.{Row}
 use Rattle.ac_forms.specs.declared.row.Row.TheVariants.{Ge, Eq}
 use Rattle.ac_syntax.specs.declared.tree.IndexExpr.{IndexExpr}
 use Rattle.ac_syntax.specs.declared.tree.Rel.{Rel}
-use Rattle.ac_syntax.specs.declared.tree.Rel.TheVariants.{NonNegative, Zero}
+use Rattle.ac_syntax.specs.declared.tree.Rel.TheVariants.{NonNegative, Zero, Divides}
 use Rattle.ac_syntax.specs.declared.tree.Comparison.{Comparison}
 
 -- a form plus each coefficient times the form of its iterator, the outermost first
@@ -22,9 +22,11 @@ lowered its e = replaced (record { konst = e.konst; coefs = e.params }) e.iters 
 abbrev pub stepping : Affine → ℤ → ℕ → Affine
 stepping start step n = combined (pos 1) start step (column_form (n + 1) n)
 
+-- the row that says of a form what a comparison does; a test of a divisor stands as an equality, and no program that is ready has one
 abbrev pub row_by : Rel → Affine → Row
 row_by NonNegative f = Ge f
 row_by Zero f = Eq f
+row_by (Divides m) f = Eq f
 
 -- the rows of a condition
 abbrev pub rows_of : List Affine → List Comparison → List Row

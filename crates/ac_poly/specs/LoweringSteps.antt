@@ -7,7 +7,7 @@ use Rattle.ac_forms.specs.declared.stop.FormStop.TheVariants as stops
 use Rattle.ac_syntax.specs.LoopNests.{loop_count}
 use Rattle.ac_syntax.specs.ValueNodes.{size}
 use Rattle.ac_syntax.specs.declared.tree.Rel.{Rel}
-use Rattle.ac_syntax.specs.declared.tree.Rel.TheVariants.{NonNegative, Zero}
+use Rattle.ac_syntax.specs.declared.tree.Rel.TheVariants.{NonNegative, Zero, Divides}
 use Rattle.ac_syntax.specs.declared.tree.Comparison.{Comparison}
 use Rattle.ac_syntax.specs.declared.tree.Value.{Value}
 use Rattle.ac_syntax.specs.declared.tree.Stmt.{Stmt, Row_of-Stmt, end_of-Stmt, more_of-Stmt}
@@ -47,6 +47,7 @@ failing_by (w ∷ ws) q = with_each q w.negations ++ failing_by ws (q ++ w.row �
 abbrev pub ways_by : Rel → ℕ
 ways_by NonNegative = 1
 ways_by Zero = 2
+ways_by (Divides m) = 2
 
 abbrev pub ways : List Comparison → ℕ
 ways [] = 0

@@ -69,13 +69,14 @@ pub(crate) fn lowered_all(
     Ok(made)
 }
 
-/// The row that says of a form what a comparison does.
+/// The row that says of a form what a comparison does. A test of a divisor stands as an equality: no program that is ready has
+/// one.
 pub(crate) fn row_by(rel: Rel, form: Form) -> Row
     ensures { result ≡ row_by rel form }
 {
     match rel {
         Rel::NonNegative => Row::Ge(form),
-        Rel::Zero => Row::Eq(form),
+        Rel::Zero | Rel::Divides(_) => Row::Eq(form),
     }
 }
 

@@ -39,7 +39,7 @@ fn negations(alloc: Global, rel: Rel, form: &Form) -> Result<Items<Row>, FormSto
     let mut rows = Items::new(alloc);
     match rel {
         Rel::NonNegative => {}
-        Rel::Zero => rows.push(Row::Ge(form.shift(alloc, -1)?))?,
+        Rel::Zero | Rel::Divides(_) => rows.push(Row::Ge(form.shift(alloc, -1)?))?,
     }
     rows.push(Row::Ge(below(alloc, form)?))?;
     Ok(rows)
@@ -139,7 +139,7 @@ fn ways_by(rel: Rel) -> usize
 {
     match rel {
         Rel::NonNegative => 1,
-        Rel::Zero => 2,
+        Rel::Zero | Rel::Divides(_) => 2,
     }
 }
 

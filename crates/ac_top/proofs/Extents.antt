@@ -1,13 +1,14 @@
 -- An output of a pair has the same extents in both programs, wherever these stand in their texts.
-use Rattle.std.proofs.Common.{◌≡◌, ℕ, zero, suc, ◌+◌, ℤ, pos, ◌+ℤ◌, ◌*ℤ◌, List, [], ◌∷◌, map, filter, Bool, true, false, true≢false, not, ◌||◌, if◌then◌else◌, cond, nat_eq, Option, Some, None, option_map, slice_get, refl, sym, ap, subst, ◌∙◌, arith}
-use Rattle.std.specs.List.{list_any}
+use Rattle.std.proofs.Common.{◌≡◌, ℕ, zero, suc, ◌+◌, ℤ, pos, ◌+ℤ◌, ◌*ℤ◌, List, [], ◌∷◌, length, map, filter, Bool, true, false, true≢false, not, ◌||◌, if◌then◌else◌, cond, nat_eq, Option, Some, None, option_map, slice_get, refl, sym, ap, subst, ◌∙◌, arith}
+use Rattle.std.specs.List.{list_any, AllByRecursion}
 use Rattle.std.proofs.lemmas.Int.{ints}
 use Rattle.std.specs.Ordering.{int_eq}
 use Rattle.std.proofs.lemmas.Bool.Decides.{Decides-int_eq, Decides-eqb}
 use Rattle.ac_base.specs.Dot.{dot}
 use Rattle.ac_base.proofs.Dot.{dot-nil}
-use Rattle.ac_syntax.specs.Index.{point, index_value}
+use Rattle.ac_syntax.specs.Index.{point, index_value, quots_value}
 use Rattle.ac_syntax.specs.Outputs.{extents_at}
+use Rattle.ac_syntax.specs.ReadyPrograms.{AllFit, ReadyProgram}
 use Rattle.ac_syntax.specs.declared.tree.Array.{Array}
 use Rattle.ac_syntax.specs.declared.tree.IndexExpr.{IndexExpr}
 use Rattle.ac_syntax.specs.declared.tree.Pair.{Pair}
@@ -37,12 +38,17 @@ significant-dot (z ∷ zs) (p ∷ ps) = later-dot z (significant zs) p ps ∙ ap
 abbrev value_of : List ℤ → Extent → ℤ
 value_of params e = e.constant +ℤ (dot e.params params +ℤ pos 0)
 
-extent-value : (params : List ℤ) (e : IndexExpr) → index_value (point params []) e ≡ value_of params (extent_of e)
-extent-value params e = λ i. e.konst +ℤ (sym (significant-dot e.params params) i +ℤ dot-nil e.iters i)
+extent-value : (params : List ℤ) (e : IndexExpr) → e.quots ≡ [] → index_value (point params []) e ≡ value_of params (extent_of e)
+extent-value params e plain = λ i. e.konst +ℤ (sym (significant-dot e.params params) i +ℤ (dot-nil e.iters i +ℤ quots_value (point params []) (plain i)))
 
-extent-values : (params : List ℤ) (es : List IndexExpr) → map (index_value (point params [])) es ≡ map (value_of params) (map extent_of es)
-extent-values params [] = refl
-extent-values params (e ∷ es) = λ i. extent-value params e i ∷ extent-values params es i
+extent-values : (params : List ℤ) (n : ℕ) (es : List IndexExpr) → AllFit n 0 es → map (index_value (point params [])) es ≡ map (value_of params) (map extent_of es)
+extent-values params n [] h = refl
+extent-values params n (e ∷ es) h = λ i. extent-value params e h.0.plain i ∷ extent-values params n es h.1 i
+
+extents-fit : (n : ℕ) (arrays : List Array) (o : ℕ) → AllByRecursion (λ (a : Array). AllFit n 0 a.extents) arrays → AllFit n 0 (extents_at arrays o)
+extents-fit n [] o h = tt
+extents-fit n (a ∷ rest) zero h = h.0
+extents-fit n (a ∷ rest) (suc o) h = extents-fit n rest o h.1
 
 abbrev extents_in : Option Shape → List Extent
 extents_in None = []
@@ -115,9 +121,9 @@ picked_any test keep (x ∷ xs) h = by (keep x) (picked_any test keep xs) h
     by false k m = found (test x) (k m)
 
 -- the extents of an output of a pair have the same values in both programs
-pub same_extents : (first second : List ℕ) (left right : Program) (pair : Pair) → IsProgramOf first left → IsProgramOf second right → IsPairOf left right pair
+pub same_extents : (first second : List ℕ) (left right : Program) (pair : Pair) → IsProgramOf first left → IsProgramOf second right → IsPairOf left right pair → ReadyProgram left → ReadyProgram right
     → (o : ℕ) → list_any (nat_eq o) pair.outputs ≡ true → (params : List ℤ) → map (index_value (point params [])) (extents_at pair.right.arrays o) ≡ map (index_value (point params [])) (extents_at pair.left.arrays o)
-same_extents first second left right pair l r is o at params =
+same_extents first second left right pair l r is left_ready right_ready o at params =
     let listed : list_any (nat_eq o) (array_numbers left.slots) ≡ true = picked_any (nat_eq o) (is_output left right) (array_numbers left.slots) (subst (λ os. list_any (nat_eq o) os ≡ true) is.outputs at) in
     let left_slots : left.slots ≡ slots_from l.file.params 0 0 = ap (λ (p : Program). p.slots) l.is in
     let right_slots : right.slots ≡ slots_from r.file.params 0 0 = ap (λ (p : Program). p.slots) r.is in
@@ -126,5 +132,6 @@ same_extents first second left right pair l r is o at params =
     let shapes : HaveOneShape left right o = same-shapes left right o l.file.params r.file.params 0 0 0 signatures (subst (λ ss. list_any (nat_eq o) (array_numbers ss) ≡ true) left_slots listed) in
     let forms : map extent_of (extents_at left.arrays o) ≡ map extent_of (extents_at right.arrays o) = extents-at left.arrays o ∙ ap extents_in shapes ∙ sym (extents-at right.arrays o) in
     let values : map (index_value (point params [])) (extents_at right.arrays o) ≡ map (index_value (point params [])) (extents_at left.arrays o) =
-    extent-values params (extents_at right.arrays o) ∙ ap (map (value_of params)) (sym forms) ∙ sym (extent-values params (extents_at left.arrays o)) in
+    extent-values params (length right.params) (extents_at right.arrays o) (extents-fit (length right.params) right.arrays o right_ready.extents) ∙ ap (map (value_of params)) (sym forms)
+    ∙ sym (extent-values params (length left.params) (extents_at left.arrays o) (extents-fit (length left.params) left.arrays o left_ready.extents)) in
     ap (λ (p : Program). map (index_value (point params [])) (extents_at p.arrays o)) is.right_is ∙ values ∙ ap (λ (p : Program). map (index_value (point params [])) (extents_at p.arrays o)) (sym is.left_is)

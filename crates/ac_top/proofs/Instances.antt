@@ -101,6 +101,7 @@ ready_at pair params h count = record {
   count = count;
   left = rw count h.left.body;
   right = rw (count, h.params) h.right.body;
+  context = rw count h.context;
 }
 
 -- a context whose checked values make it hold does hold

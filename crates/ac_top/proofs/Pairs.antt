@@ -1,6 +1,7 @@
 -- What is known of a pair of two programs that were read.
-use Rattle.std.proofs.Common.{◌≡◌, ℕ, suc, List, [], ◌∷◌, ◌++◌, length, map, refl, sym, ap, ◌∙◌}
+use Rattle.std.proofs.Common.{◌≡◌, ℕ, suc, List, [], ◌∷◌, ◌++◌, length, map, refl, sym, ap, ◌∙◌, subst}
 use Rattle.std.proofs.lemmas.List.FromFn.{length-range_with_len}
+use Rattle.ac_syntax.specs.ReadyPrograms.{ReadyProgram, FitParts}
 use Rattle.ac_syntax.specs.Small.{AreSmallParts, IsSmallPair}
 use Rattle.ac_syntax.specs.declared.tree.Comparison.{Comparison}
 use Rattle.ac_syntax.specs.declared.tree.Slot.{Slot}
@@ -31,13 +32,22 @@ integers_of p (slot.Array k ∷ slots) = integers_of p slots
 as_many_parameters : (p : Program) → ListsItsParameters p → length p.params ≡ integers (signature p)
 as_many_parameters p h = sym (length-range_with_len 0 (length p.params)) ∙ ap length (sym h) ∙ integers_of p p.slots
 
+both_fit : (ps xs : ℕ) (cs ds : List Comparison) → FitParts ps xs cs → FitParts ps xs ds → FitParts ps xs (cs ++ ds)
+both_fit ps xs [] ds h k = k
+both_fit ps xs (c ∷ cs) ds h k = (h.0, both_fit ps xs cs ds h.1 k)
+
 ready_pair : (left right : Program) (pair : Pair) → IsPairOf left right pair → IsRead left → IsRead right → IsReadyPair pair
 ready_pair left right pair is l r =
     let same : length left.params ≡ length right.params = as_many_parameters left l.parameters ∙ ap integers is.signatures ∙ sym (as_many_parameters right r.parameters) in
+    let params : length pair.left.params ≡ length pair.right.params = ap (λ (p : Program). length p.params) is.left_is ∙ same ∙ ap (λ (p : Program). length p.params) (sym is.right_is) in
+    let first : ReadyProgram pair.left = rw is.left_is l.ready in
+    let second : ReadyProgram pair.right = rw is.right_is r.ready in
+    let behind = subst (λ n. FitParts n 0 pair.right.context.parts) (sym params) second.context in
     record {
-      left = rw is.left_is l.ready;
-      right = rw is.right_is r.ready;
-      params = ap (λ (p : Program). length p.params) is.left_is ∙ same ∙ ap (λ (p : Program). length p.params) (sym is.right_is);
+      left = first;
+      right = second;
+      params = params;
+      context = subst (FitParts (length pair.left.params) 0) (sym (joined_context left right pair is)) (both_fit (length pair.left.params) 0 pair.left.context.parts pair.right.context.parts first.context behind);
     }
 
 both_small : (xs ys : List Comparison) → AreSmallParts xs → AreSmallParts ys → AreSmallParts (xs ++ ys)
@@ -55,6 +65,6 @@ pub read_pair : (first second : List ℕ) (left right : Program) (pair : Pair) �
 read_pair first second left right pair h k is l r = record {
   context = joined_context left right pair is;
   ready = ready_pair left right pair is l r;
-  extents = same_extents first second left right pair h k is;
+  extents = same_extents first second left right pair h k is l.ready r.ready;
   small = small_pair left right pair is l r;
 }

@@ -2,7 +2,7 @@
 use Rattle.std.specs.Prelude.{◌≡◌, ℕ, ℤ, List, [], ◌∷◌, Bool, true, false, if◌then◌else◌, Option, Some, None, Ok, Err, length}
 use Rattle.std.specs.List.{list_any, Contains}
 use Rattle.ac_syntax.specs.Outputs.{IsValuation, IsElement, SameAt, SameTermsAt}
-use Rattle.ac_syntax.specs.ReadyPrograms.{ReadyProgram}
+use Rattle.ac_syntax.specs.ReadyPrograms.{ReadyProgram, FitParts}
 use Rattle.ac_syntax.specs.declared.tree.Place.{Place}
 use Rattle.ac_syntax.specs.declared.tree.Pair.{Pair}
 use Rattle.ac_instance.specs.ComparisonAnswers.{due, AreOutcomes, compared}
@@ -69,11 +69,12 @@ pub record IsTheSameAt (pair : Pair) (at : Option (List ℕ)) : Type 0 where
   pub terms : (output : ℕ) → Contains pair.outputs output → (e : List ℤ) → IsElement pair params output e → SameTermsAt pair params output e
   pub same : (output : ℕ) → Contains pair.outputs output → (e : List ℤ) → IsElement pair params output e → SameAt pair params output e
 
--- both programs are as the language has them, over equally many parameters
+-- both programs are as the language has them, over equally many parameters, and the context is over these without quotients
 pub record IsReadyPair (pair : Pair) : Type 0 where
   pub left : ReadyProgram pair.left
   pub right : ReadyProgram pair.right
   pub params : length pair.left.params ≡ length pair.right.params
+  pub context : FitParts (length pair.left.params) 0 pair.context.parts
 
 -- what a halt is reported as; the last two are not reported
 abbrev pub HaltReports : List ℕ → List ℕ → List ℕ → List ℕ → Halt → Report → Type 0

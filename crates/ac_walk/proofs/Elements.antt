@@ -5,7 +5,7 @@ use Rattle.std.specs.List.{list_all}
 use Rattle.std.specs.declared.alloc.AllocError.{AllocError}
 use Rattle.ac_syntax.specs.CheckedArithmetic.{checked_value, checked_holds}
 use Rattle.ac_syntax.specs.Index.{Point, point, index_value, rel_holds, comparison_holds}
-use Rattle.ac_syntax.specs.ReadyPrograms.{ReadyAll}
+use Rattle.ac_syntax.specs.ReadyPrograms.{ReadyAll, FitParts}
 use Rattle.ac_syntax.specs.declared.tree.Comparison.{Comparison}
 use Rattle.ac_syntax.specs.declared.tree.Pair.{Pair}
 use Rattle.ac_syntax.proofs.Exact.{checked_exact}
@@ -27,6 +27,7 @@ ready_at pair params t count = record {
   count = count;
   left = subst (λ n. ReadyAll n 0 pair.left.body) (sym count) t.left.body;
   right = subst (λ n. ReadyAll n 0 pair.right.body) (t.params ∙ sym count) t.right.body;
+  context = subst (λ n. FitParts n 0 pair.context.parts) (sym count) t.context;
 }
 
 -- a context whose checked values make it hold does hold
