@@ -17,8 +17,8 @@ pub const MOST_THRESHOLDS: usize = 64;
 pub const MOST_MODULI: usize = 8;
 
 /// The thresholds of two programs. Candidates are k - 1, k, k + 1, -k - 1, -k and -k + 1 for k each of 0, 1, the
-/// constants of all forms of both programs and of their context, and the absolute values of the steps. Of these the
-/// call gives the 64 of least absolute value, the least first, and a positive number before its opposite.
+/// constants of all forms of both programs and of their context, the divisors, and the absolute values of the steps. Of
+/// these the call gives the 64 of least absolute value, the least first, and a positive number before its opposite.
 pub fn thresholds(alloc: Global, pair: &Pair) -> Result<Items<i128>, AllocError>
     ensures { IfOk result (AreFirst 64 (λ x. IsAmong x (threshold_candidates pair.now))) }
 {
@@ -29,8 +29,8 @@ pub fn thresholds(alloc: Global, pair: &Pair) -> Result<Items<i128>, AllocError>
     first(alloc, MOST_THRESHOLDS, candidates.as_slice())
 }
 
-/// The moduli of two programs: the absolute values of all coefficients of the forms of both and of their context, and of
-/// the steps, as far as they are from 2 to 16; of these the 8 least, in rising order.
+/// The moduli of two programs: the absolute values of all coefficients of the forms of both and of their context, of the
+/// divisors and of the steps, as far as they are from 2 to 16; of these the 8 least, in rising order.
 pub fn moduli(alloc: Global, pair: &Pair) -> Result<Items<i128>, AllocError>
     ensures { IfOk result (AreFirst 8 (λ m. IsAmong m (modulus_candidates pair.now))) }
 {
@@ -70,6 +70,7 @@ fn with_threshold(made: Items<i128>, number: &Collected) -> Result<Items<i128>, 
     match number {
         Collected::Constant(constant) => with_near(made, i128::from(*constant)),
         Collected::Coefficient(_) => Ok(made),
+        Collected::Divisor(divisor) => with_near(made, i128::from(*divisor)),
         Collected::Step(step) => with_near(made, i128::from(step.unsigned_abs())),
     }
 }
@@ -108,6 +109,7 @@ fn with_modulus_at(made: Items<i128>, number: &Collected) -> Result<Items<i128>,
     match number {
         Collected::Constant(_) => Ok(made),
         Collected::Coefficient(coef) => with_size(made, *coef),
+        Collected::Divisor(divisor) => with_size(made, *divisor),
         Collected::Step(step) => with_size(made, *step),
     }
 }

@@ -2,10 +2,10 @@
 ghost use Rattle.std.specs.Prelude.{◌≡◌, ◌++◌, IfOk, ℤ, map};
 ghost use Rattle.std.specs.List.{flat_map};
 ghost use Rattle.ac_hull.specs.declared.collected.Collected.TheVariants.{Coefficient};
-ghost use Rattle.ac_hull.specs.ProgramConstants.{numbers_of_form, numbers_of_forms, numbers_of_condition, numbers_of_value, numbers_of_statement, numbers_of_program, numbers_of_pair};
+ghost use Rattle.ac_hull.specs.ProgramConstants.{numbers_of_sum, numbers_of_division, numbers_of_quotient, numbers_of_form, numbers_of_forms, numbers_of_relation, numbers_of_comparison, numbers_of_condition, numbers_of_value, numbers_of_statement, numbers_of_program, numbers_of_pair};
 
 use ac_base::Items;
-use ac_syntax::tree::{Cond, IndexExpr, Pair, Program, Stmt, Value};
+use ac_syntax::tree::{Comparison, Cond, IndexExpr, Pair, Program, Quot, Rel, Stmt, Value};
 use std::alloc::{AllocError, Global};
 
 /// A number of a text.
@@ -15,6 +15,8 @@ pub(crate) enum Collected {
     Constant(i64),
     /// A coefficient of a form.
     Coefficient(i64),
+    /// The divisor of a quotient, or one that a comparison tests.
+    Divisor(i64),
     /// The step of a loop.
     Step(i64),
 }
@@ -30,15 +32,71 @@ fn with_coefficients(made: Items<Collected>, coefs: &[i64]) -> Result<Items<Coll
     Ok(made)
 }
 
+/// The list with a constant and coefficients of parameters and iterators behind it.
+#[tactic(auto, using(crate::proofs::Collecting::collect_steps))]
+fn with_sum(
+    made: Items<Collected>,
+    konst: i64,
+    params: &[i64],
+    iters: &[i64],
+) -> Result<Items<Collected>, AllocError>
+    ensures { IfOk result (λ new. new ≡ made ++ numbers_of_sum konst params.now iters.now) }
+{
+    let mut made = made;
+    made.push(Collected::Constant(konst))?;
+    let made = with_coefficients(made, params)?;
+    with_coefficients(made, iters)
+}
+
+/// The list with a quotient's divisor and the numbers of the form that it divides behind it.
+#[tactic(auto, using(crate::proofs::Collecting::collect_steps))]
+fn with_division(made: Items<Collected>, quot: &Quot) -> Result<Items<Collected>, AllocError>
+    ensures { IfOk result (λ new. new ≡ made ++ numbers_of_division quot.now) }
+{
+    let mut made = made;
+    made.push(Collected::Divisor(quot.div))?;
+    with_sum(
+        made,
+        quot.konst,
+        quot.params.as_slice(),
+        quot.iters.as_slice(),
+    )
+}
+
+/// The list with the numbers of a quotient behind it.
+#[tactic(auto, using(crate::proofs::Collecting::collect_steps))]
+fn with_quotient(made: Items<Collected>, quot: &Quot) -> Result<Items<Collected>, AllocError>
+    ensures { IfOk result (λ new. new ≡ made ++ numbers_of_quotient quot.now) }
+{
+    let mut made = made;
+    made.push(Collected::Coefficient(quot.coef))?;
+    with_division(made, quot)
+}
+
+/// The list with the numbers of quotients behind it.
+#[tactic(auto, using(crate::proofs::Collecting::collect_steps))]
+fn with_quotients(made: Items<Collected>, quots: &[Quot]) -> Result<Items<Collected>, AllocError>
+    ensures { IfOk result (λ new. new ≡ made ++ flat_map numbers_of_quotient quots.now) }
+{
+    let mut made = made;
+    for quot in quots {
+        made = with_quotient(made, quot)?;
+    }
+    Ok(made)
+}
+
 /// The list with the numbers of a form behind it.
 #[tactic(auto, using(crate::proofs::Collecting::collect_steps))]
 fn with_form(made: Items<Collected>, form: &IndexExpr) -> Result<Items<Collected>, AllocError>
     ensures { IfOk result (λ new. new ≡ made ++ numbers_of_form form.now) }
 {
-    let mut made = made;
-    made.push(Collected::Constant(form.konst))?;
-    let made = with_coefficients(made, form.params.as_slice())?;
-    with_coefficients(made, form.iters.as_slice())
+    let made = with_sum(
+        made,
+        form.konst,
+        form.params.as_slice(),
+        form.iters.as_slice(),
+    )?;
+    with_quotients(made, form.quots.as_slice())
 }
 
 /// The list with the numbers of forms behind it.
@@ -53,6 +111,32 @@ fn with_forms(made: Items<Collected>, forms: &[IndexExpr]) -> Result<Items<Colle
     Ok(made)
 }
 
+/// The list with the divisor that a comparison tests behind it.
+fn with_relation(made: Items<Collected>, rel: &Rel) -> Result<Items<Collected>, AllocError>
+    ensures { IfOk result (λ new. new ≡ made ++ numbers_of_relation rel.now) }
+{
+    let mut made = made;
+    match rel {
+        Rel::NonNegative | Rel::Zero => Ok(made),
+        Rel::Divides(divisor) => {
+            made.push(Collected::Divisor(*divisor))?;
+            Ok(made)
+        }
+    }
+}
+
+/// The list with the numbers of a comparison behind it.
+#[tactic(auto, using(crate::proofs::Collecting::collect_steps))]
+fn with_comparison(
+    made: Items<Collected>,
+    part: &Comparison,
+) -> Result<Items<Collected>, AllocError>
+    ensures { IfOk result (λ new. new ≡ made ++ numbers_of_comparison part.now) }
+{
+    let made = with_form(made, &part.form)?;
+    with_relation(made, &part.rel)
+}
+
 /// The list with the numbers of a condition behind it.
 #[tactic(auto, using(crate::proofs::Collecting::collect_steps))]
 fn with_condition(made: Items<Collected>, cond: &Cond) -> Result<Items<Collected>, AllocError>
@@ -60,7 +144,7 @@ fn with_condition(made: Items<Collected>, cond: &Cond) -> Result<Items<Collected
 {
     let mut made = made;
     for part in cond.parts.as_slice() {
-        made = with_form(made, &part.form)?;
+        made = with_comparison(made, part)?;
     }
     Ok(made)
 }
