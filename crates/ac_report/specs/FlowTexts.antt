@@ -10,7 +10,7 @@ use Rattle.ac_prooftext_lines.specs.Spelling.{position_word}
 use Rattle.ac_flow.specs.declared.types.Case.{Case}
 use Rattle.ac_flow.specs.declared.types.ReadFlow.{ReadFlow}
 use Rattle.ac_flow.specs.declared.types.Remainder.{Remainder}
-use Rattle.ac_report.specs.Layouts.{Layout, loops_around, read_name, numbered}
+use Rattle.ac_report.specs.Layouts.{Layout, columns_of, read_name, numbered}
 use Rattle.ac_report.specs.ReportTexts.{line}
 
 abbrev pub is_same_source : Option ℕ → Option ℕ → Bool
@@ -27,13 +27,13 @@ pieces_in source case = if is_same_source source case.source then map (λ (r : R
 abbrev pub pieces_of : Option ℕ → List Case → List Conj
 pieces_of source cases = flat_map (pieces_in source) cases
 
--- the columns of a read of the assignment s: the parameters, and x0, x1 and so on for its loops
+-- the columns of a read of the assignment s: the parameters, and x0, x1 and so on for its loops and quotients
 abbrev pub reader_names : Layout → ℕ → List (List ℕ)
-reader_names l s = l.params ++ numbered 120 (loops_around l s)
+reader_names l s = l.params ++ numbered 120 (columns_of l s)
 
--- behind these w0, w1 and so on for the loops of the source u
+-- behind these w0, w1 and so on for the loops and quotients of the source u
 abbrev pub source_names : Layout → ℕ → ℕ → List (List ℕ)
-source_names l s u = reader_names l s ++ numbered 119 (loops_around l u)
+source_names l s u = reader_names l s ++ numbered 119 (columns_of l u)
 
 -- the line of a source, none where it is nowhere the source
 abbrev pub union_line : List ℕ → List (List ℕ) → List Conj → List ℕ

@@ -1,11 +1,14 @@
--- What the texts say of a program: the names of its parameters and arrays, how many loops are around each assignment, and what its nodes read.
-use Rattle.std.specs.Prelude.{ℕ, ◌+◌, ◌-◌, ◌^◌, min, List, [], ◌∷◌, ◌++◌, length, map, codes, decimal, Option, Some, None, slice_get, option_and_then}
+-- What the texts say of a program: the names of its parameters and arrays, how many loops and quotients each assignment has, and what its nodes read.
+use Rattle.std.specs.Prelude.{ℕ, ◌+◌, ◌-◌, ◌^◌, min, List, [], ◌∷◌, ◌++◌, length, map, sum_by, codes, decimal, Option, Some, None, slice_get, option_and_then}
 use Rattle.std.specs.List.{flat_map, range_with_len}
+use Rattle.ac_syntax.specs.Quotients.{quotients, quotients_of}
 use Rattle.ac_syntax.specs.Text.{array_name}
+use Rattle.ac_syntax.specs.Trace.{assignments}
 use Rattle.ac_syntax.specs.declared.tree.Array.{Array}
 use Rattle.ac_syntax.specs.declared.tree.Position.{Position}
 use Rattle.ac_syntax.specs.declared.tree.Position.TheVariants.{Output, Node, InitialOutput, InitialNode}
 use Rattle.ac_syntax.specs.declared.tree.Program.{Program}
+use Rattle.ac_syntax.specs.declared.tree.Quot.{Quot}
 use Rattle.ac_syntax.specs.declared.tree.Stmt.{Stmt, Row_of-Stmt, end_of-Stmt, more_of-Stmt}
 use Rattle.ac_syntax.specs.declared.tree.Stmt.TheVariants.{For', If', Assign}
 use Rattle.ac_syntax.specs.declared.tree.Value.{Value, Row_of-Value, end_of-Value, more_of-Value}
@@ -23,9 +26,13 @@ unfoldable mutual
   reads_of_arguments end_of-Value = []
   reads_of_arguments (more_of-Value v rest) = reads_of v ++ reads_of_arguments rest
 
--- one loop more; the count stands still at the last value of its type
+-- a sum that stands still at the last value of its type
+abbrev pub still_sum : ℕ → ℕ → ℕ
+still_sum m n = min (m + n) (2 ^ 64 - 1)
+
+-- one loop more
 abbrev pub one_more : ℕ → ℕ
-one_more loops = min (loops + 1) (2 ^ 64 - 1)
+one_more loops = still_sum loops 1
 
 -- the assignments of a statement that is inside so many loops, in the order of the text
 unfoldable mutual
@@ -38,13 +45,22 @@ unfoldable mutual
   assignments_of_body loops end_of-Stmt = []
   assignments_of_body loops (more_of-Stmt s rest) = assignments_of loops s ++ assignments_of_body loops rest
 
+-- how many quotients each assignment of a statement has, behind those of what stands around, in the order of the text
+unfoldable pub counts_in : List Quot → Stmt → List ℕ
+counts_in seen s = map (λ i. length (quotients s 0 seen i)) (range_with_len 0 (assignments s))
+
+-- how many quotients each assignment of a program's body has
+abbrev pub quotient_counts : List Stmt → List ℕ
+quotient_counts body = map (λ i. length (quotients_of body i)) (range_with_len 0 (sum_by assignments body))
+
 pub record Layout : Type 0 where
   pub params : List (List ℕ)
   pub arrays : List Array
   pub assignments : List Assignment
+  pub quotients : List ℕ
 
 abbrev pub layout_of : Program → Layout
-layout_of p = record { params = p.params; arrays = p.arrays; assignments = flat_map (assignments_of 0) p.body }
+layout_of p = record { params = p.params; arrays = p.arrays; assignments = flat_map (assignments_of 0) p.body; quotients = quotient_counts p.body }
 
 abbrev pub loops_of : Option Assignment → ℕ
 loops_of None = 0
@@ -54,16 +70,24 @@ loops_of (Some assignment) = assignment.loops
 abbrev pub loops_around : Layout → ℕ → ℕ
 loops_around l s = loops_of (slice_get l.assignments s)
 
+abbrev pub count_of : Option ℕ → ℕ
+count_of None = 0
+count_of (Some count) = count
+
+-- how many columns the assignment with a number has: one for each loop around it, then one for each of its quotients
+abbrev pub columns_of : Layout → ℕ → ℕ
+columns_of l s = still_sum (loops_around l s) (count_of (slice_get l.quotients s))
+
 abbrev pub dimensions_of : Option Array → ℕ
 dimensions_of None = 0
 dimensions_of (Some array) = length array.extents
 
--- how many coordinates a position has: those of an element, or one for each loop
+-- how many coordinates a position has: those of an element, or one for each column of the assignment
 abbrev pub width : Layout → Position → ℕ
 width l (Output o) = dimensions_of (slice_get l.arrays o)
-width l (Node s k) = loops_around l s
+width l (Node s k) = columns_of l s
 width l (InitialOutput o) = dimensions_of (slice_get l.arrays o)
-width l (InitialNode s k) = loops_around l s
+width l (InitialNode s k) = columns_of l s
 
 abbrev pub name_read : List Array → Option (Option ℕ) → List ℕ
 name_read arrays None = []

@@ -6,9 +6,10 @@ ghost use Rattle.ac_flow.specs.declared.types.Remainder.{Remainder};
 ghost use Rattle.ac_report.specs.Layouts.{layout_of};
 ghost use Rattle.ac_report.specs.FlowTexts as text;
 
-use crate::layout::{Layout, assignments_of, loops_around, read_name};
+use crate::layout::{Layout, assignments_of, columns_of, read_name};
 use crate::names::{with_names, with_numbered};
 use crate::numbers::{push_natural, push_position};
+use crate::quotients::quotient_counts;
 use crate::unions::push_union;
 use ac_base::Items;
 use ac_flow::types::{Case, Flow, ReadFlow, Remainder};
@@ -78,7 +79,7 @@ fn reader_names(alloc: Global, layout: &Layout<'_>, s: usize) -> Result<Items<Na
     ensures { IfOk result (λ names. names ≡ text.reader_names layout.now s) }
 {
     let names = with_names(alloc, Items::new(alloc), layout.params)?;
-    with_numbered(alloc, names, b'x', loops_around(layout, s))
+    with_numbered(alloc, names, b'x', columns_of(layout, s))
 }
 
 /// The names of the columns of a read and a source.
@@ -91,7 +92,7 @@ fn source_names(
     ensures { IfOk result (λ names. names ≡ text.source_names layout.now s u) }
 {
     let names = reader_names(alloc, layout, s)?;
-    with_numbered(alloc, names, b'w', loops_around(layout, u))
+    with_numbered(alloc, names, b'w', columns_of(layout, u))
 }
 
 /// Adds the line of a source that has pieces.
@@ -261,16 +262,18 @@ fn push_readers(
 
 /// The lines of a flow: for each read of an assignment, in the order of the flow, `S0.1 reads B`, then where each assignment is its
 /// source, `  from S0: UNION`, and where the initial contents are, `  initial: UNION`. A source that is nowhere the source has no
-/// line. The columns have the names of the parameters, then `x0`, `x1` and so on for the loops around the read, then `w0`, `w1`
-/// and so on for those around the source; what is behind these are the quotients `q0`, `q1` and so on.
+/// line. The columns have the names of the parameters, then `x0`, `x1` and so on for the loops around the read and for the quotients
+/// of its assignment, then `w0`, `w1` and so on for those of the source. What is behind these are the quotients of a piece, `q0`, `q1` and so on.
 pub fn flow_text(alloc: Global, p: &Program, f: &Flow) -> Result<Vec<u8>, AllocError>
     ensures { IfOk result (λ bytes. bytes.items ≡ text.flow_lines (layout_of p.now) f.now.reads) }
 {
     let assignments = assignments_of(alloc, p.body.as_slice())?;
+    let quotients = quotient_counts(alloc, p.body.as_slice())?;
     let layout = Layout {
         params: p.params.as_slice(),
         arrays: p.arrays.as_slice(),
         assignments: assignments.as_slice(),
+        quotients: quotients.as_slice(),
     };
     let mut bytes = Vec::new(alloc);
     push_readers(alloc, &mut bytes, &layout, f.reads.as_slice())?;

@@ -2,7 +2,7 @@
 ghost use Rattle.std.specs.Prelude.{◌≡◌, ◌++◌, OnOk, IfOk, slice_get};
 ghost use Rattle.std.specs.List.{flat_map};
 ghost use Rattle.ac_syntax.specs.Text.{array_name};
-ghost use Rattle.ac_report.specs.Layouts.{reads_of, assignments_of, loops_around, dimensions_of, width, name_read, reads_in, read_name};
+ghost use Rattle.ac_report.specs.Layouts.{reads_of, assignments_of, loops_around, count_of, columns_of, dimensions_of, width, name_read, reads_in, read_name};
 
 use ac_base::Items;
 use ac_syntax::name::Name;
@@ -17,12 +17,13 @@ pub struct Assignment {
     pub reads: Items<Option<usize>>,
 }
 
-/// The names of the parameters, the arrays and the assignments of a program.
+/// The names of the parameters, the arrays and the assignments of a program, and how many quotients each assignment has.
 #[derive(Drop)]
 pub struct Layout<'a> {
     pub params: &'a [Name],
     pub arrays: &'a [Array],
     pub assignments: &'a [Assignment],
+    pub quotients: &'a [usize],
 }
 
 impl<'a> Model for Layout<'a> {
@@ -30,7 +31,7 @@ impl<'a> Model for Layout<'a> {
 
     ghost Value = { Layout };
 
-    ghost view = { λ layout. record { params = layout.params.now; arrays = layout.arrays.now; assignments = layout.assignments.now } };
+    ghost view = { λ layout. record { params = layout.params.now; arrays = layout.arrays.now; assignments = layout.assignments.now; quotients = layout.quotients.now } };
 }
 
 /// The list with the nodes of a value behind it.
@@ -126,13 +127,30 @@ pub fn assignments_of(alloc: Global, body: &[Stmt]) -> Result<Items<Assignment>,
 }
 
 /// How many loops are around the assignment with a number.
-pub fn loops_around(layout: &Layout<'_>, s: usize) -> usize
+fn loops_around(layout: &Layout<'_>, s: usize) -> usize
     ensures { result ≡ loops_around layout.now s }
 {
     match layout.assignments.get(s) {
         Some(assignment) => assignment.loops,
         None => 0,
     }
+}
+
+/// How many quotients the assignment with a number has.
+fn quotients_in(quotients: &[usize], s: usize) -> usize
+    ensures { result ≡ count_of (slice_get quotients.now s) }
+{
+    match quotients.get(s) {
+        Some(count) => *count,
+        None => 0,
+    }
+}
+
+/// How many columns the assignment with a number has.
+pub fn columns_of(layout: &Layout<'_>, s: usize) -> usize
+    ensures { result ≡ columns_of layout.now s }
+{
+    loops_around(layout, s).saturating_add(quotients_in(layout.quotients, s))
 }
 
 /// How many dimensions the array with a number has.
@@ -152,7 +170,7 @@ pub fn width(layout: &Layout<'_>, position: &Position) -> usize
     match position {
         Position::Output(o) | Position::InitialOutput(o) => dimensions(layout.arrays, *o),
         Position::Node { stmt, .. } | Position::InitialNode { stmt, .. } => {
-            loops_around(layout, *stmt)
+            columns_of(layout, *stmt)
         }
     }
 }

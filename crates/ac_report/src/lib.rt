@@ -11,6 +11,7 @@ mod flows;
 mod layout;
 mod names;
 mod numbers;
+mod quotients;
 mod stops;
 pub mod types;
 mod unions;

@@ -8,6 +8,7 @@ ghost use Rattle.ac_report.specs.ReportTexts as text;
 use crate::causes::{cause_words, push_cause_lines};
 use crate::layout::{Layout, array_name, assignments_of};
 use crate::numbers::push_short;
+use crate::quotients::quotient_counts;
 use crate::types::Verdict;
 use ac_syntax::name::Name;
 use ac_syntax::tree::Pair;
@@ -150,16 +151,18 @@ fn push_verdicts(
 }
 
 /// The lines of the verdicts of a pair, one verdict for each output in order: a first line for each, and behind it what shows an
-/// unknown output's cause. The coordinates of an entry's left position are as many as its loops or dimensions, what is behind
-/// them are those of the right one.
+/// unknown output's cause. The coordinates of an entry's left position are as many as its loops and quotients, or its dimensions.
+/// What is behind them are those of the right one.
 pub fn verdict_text(alloc: Global, pair: &Pair, verdicts: &[Verdict]) -> Result<Vec<u8>, AllocError>
     ensures { IfOk result (λ bytes. bytes.items ≡ text.report_lines (layout_of pair.now.left) pair.now.outputs verdicts.now) }
 {
     let assignments = assignments_of(alloc, pair.left.body.as_slice())?;
+    let quotients = quotient_counts(alloc, pair.left.body.as_slice())?;
     let layout = Layout {
         params: pair.left.params.as_slice(),
         arrays: pair.left.arrays.as_slice(),
         assignments: assignments.as_slice(),
+        quotients: quotients.as_slice(),
     };
     let mut bytes = Vec::new(alloc);
     push_verdicts(
