@@ -1,0 +1,13 @@
+pub mod QuotientRows
+pub mod FilledColumns
+pub mod LastColumns
+pub mod ComparisonWays
+pub mod LoweredForms
+pub mod FittingForms
+pub mod QuotientScopes
+pub mod LoopPaths
+pub mod LawsOfColumns
+pub mod LawsOfPaths
+pub mod ScopeRange
+pub mod LastRange
+pub mod OwnQuotients
