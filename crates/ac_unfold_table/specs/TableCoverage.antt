@@ -1,5 +1,5 @@
 -- What is tabled behind a start.
-use Rattle.std.specs.Prelude.{◌≡◌, ◌⊎◌, ℕ, ◌+◌, ℤ, List, Some}
+use Rattle.std.specs.Prelude.{◌≡◌, ◌⊎◌, ℕ, ℤ, List, Some}
 use Rattle.ac_syntax.specs.declared.tree.Order.{Order}
 use Rattle.ac_syntax.specs.declared.tree.Position.{Position}
 use Rattle.ac_syntax.specs.declared.tree.Site.{Site}
@@ -30,10 +30,10 @@ use Rattle.ac_unfold_table.specs.Tables.{TableOf}
 abbrev pub HasClaim : List Claim → Position × Position → Type 0
 HasClaim claims positions = (d : Claim) × IsAmong d claims × (claim_positions d ≡ positions)
 
--- a relation is reached from the start by so many steps: each is that of a question one step behind the start or behind a relation before it whose pair has no claim
-pub data IsReached (program_flows : ProgramFlows) (order : List (Site × Order)) (claims : List Claim) (start : Claim) : ℕ → Claim → Type 0 where
-  first : (q : Path) (r : Claim) → IsStepBehind program_flows order start q → IsRelationOf (judge program_flows).params q r → IsReached program_flows order claims start 1 r
-  next : (n : ℕ) (c : Claim) (q : Path) (r : Claim) → IsReached program_flows order claims start n c → ¬ (HasClaim claims (claim_positions c)) → IsStepBehind program_flows order c q → IsRelationOf (judge program_flows).params q r → IsReached program_flows order claims start (n + 1) r
+-- a relation is reached from the start: it is that of a question one step behind the start, or behind a relation that is reached whose pair has no claim
+pub data IsReached (program_flows : ProgramFlows) (order : List (Site × Order)) (claims : List Claim) (start : Claim) : Claim → Type 0 where
+  first : (q : Path) (r : Claim) → IsStepBehind program_flows order start q → IsRelationOf (judge program_flows).params q r → IsReached program_flows order claims start r
+  next : (c : Claim) (q : Path) (r : Claim) → IsReached program_flows order claims start c → ¬ (HasClaim claims (claim_positions c)) → IsStepBehind program_flows order c q → IsRelationOf (judge program_flows).params q r → IsReached program_flows order claims start r
 
 -- a relation fails: one of its positions is not there, or a row is not over the parameters and their coordinates; or, where it is unfolded against the claims, a path of it is broken, or there is a stop
 pub data Fails (program_flows : ProgramFlows) (order : List (Site × Order)) (claims : List Claim) (r : Claim) : Type 0 where
@@ -41,10 +41,11 @@ pub data Fails (program_flows : ProgramFlows) (order : List (Site × Order)) (cl
   broken : (path : List Entry) → ((u : Unfolding) → IsUnfoldingOf program_flows r order u → IsBroken u claims path) → Fails program_flows order claims r
   stops : (stop : UnfoldStop) → IsStop stop → StopsUnfolding program_flows r claims order stop → Fails program_flows order claims r
 
--- the pairs behind a start are not gone through to the end: a relation that is reached fails, or the way to one is 1,000 steps long
-pub data IsHindered (program_flows : ProgramFlows) (order : List (Site × Order)) (claims : List Claim) (start : Claim) : Type 0 where
-  fails : (n : ℕ) (r : Claim) → IsReached program_flows order claims start n r → Fails program_flows order claims r → IsHindered program_flows order claims start
-  deep : (r : Claim) → IsReached program_flows order claims start 1000 r → IsHindered program_flows order claims start
+-- the pairs behind a start are not gone through to the end: a relation that is reached fails
+pub record IsHindered (program_flows : ProgramFlows) (order : List (Site × Order)) (claims : List Claim) (start : Claim) : Type 0 where
+  pub relation : Claim
+  pub reached : IsReached program_flows order claims start relation
+  pub fails : Fails program_flows order claims relation
 
 -- ---- what covers them
 
@@ -82,7 +83,7 @@ pub record AreCalls (g : Pairing) (c : Claim) : Type 0 where
 -- is covered by a tabled claim; and each was reached from the start
 pub record IsThorough (program_flows : ProgramFlows) (table : TableOf) (start : Claim) : Type 0 where
   pub met : List Claim
-  pub reached : (m : Claim) → IsAmong m met → (n : ℕ) × IsReached program_flows table.order table.claims start n m
+  pub reached : (m : Claim) → IsAmong m met → IsReached program_flows table.order table.claims start m
   pub behind_start : AreTried program_flows table met start
   pub behind_met : (m : Claim) → IsAmong m met → AreTried program_flows table met m
   pub calls : (m : Claim) → IsAmong m met → AreCalls (judge program_flows) m → IsCovered table.tabled m

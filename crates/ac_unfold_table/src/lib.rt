@@ -6,7 +6,7 @@
 //! pair, its relation is unfolded once what lies behind it was tried; where it stands, it is a claim of the table from then on, with
 //! its plans, which end at the claims of the table and at those that were tabled before. The plans of the start end there too.
 //!
-//! So all behind a start is gone through, unless a relation there fails or lies 1,000 steps behind it. No verdict rests on which
+//! So all behind a start is gone through, unless a relation there fails. No verdict rests on which
 //! relations are found: each is proved before it is tabled, and one that isn't is left out.
 #![tactic(auto)]
 
