@@ -17,11 +17,15 @@ mod items;
 #[cfg(test)]
 mod legal;
 #[cfg(test)]
+mod numbers;
+#[cfg(test)]
 mod programs;
 #[cfg(test)]
 mod proofs;
 #[cfg(test)]
 mod questions;
+#[cfg(test)]
+mod quotients;
 #[cfg(test)]
 mod rows;
 #[cfg(test)]

@@ -11,7 +11,7 @@ use ac_syntax::tree::{
 };
 use std::alloc::Global;
 
-const HERE: Place = Place { at: 0 };
+pub const HERE: Place = Place { at: 0 };
 
 const TEXT: &[u8] = b"void f(int N, int A[1*N]) {
   for (int i = 0; 1*N + -1*i + -1 >= 0; i += 1) {
@@ -25,25 +25,26 @@ const TEXT: &[u8] = b"void f(int N, int A[1*N]) {
 ";
 
 /// A vector of one item; none where there is no memory.
-fn one<T: Drop>(alloc: Global, item: T) -> Option<Vec<T>> {
+pub fn one<T: Drop>(alloc: Global, item: T) -> Option<Vec<T>> {
     let mut items = Vec::new(alloc);
     items.push(item).ok()?;
     Some(items)
 }
 
 /// A name; none where there is no memory, as in all that follows.
-fn name(alloc: Global, text: &[u8]) -> Option<Name> {
+pub fn name(alloc: Global, text: &[u8]) -> Option<Name> {
     Name::new(Vec::from_slice(alloc, text).ok()?)
 }
 
 /// The form `konst + param N + iter i`.
-fn form(alloc: Global, konst: i64, param: i64, iter: i64) -> Option<IndexExpr> {
+pub fn form(alloc: Global, konst: i64, param: i64, iter: i64) -> Option<IndexExpr> {
     let params = one(alloc, param)?;
-    Some(index_expr(konst, params, one(alloc, iter)?, HERE))
+    let iters = one(alloc, iter)?;
+    Some(index_expr(konst, params, iters, Vec::new(alloc), HERE))
 }
 
 /// The condition that such a form is at least 0.
-fn at_least(alloc: Global, konst: i64, param: i64, iter: i64) -> Option<Cond> {
+pub fn at_least(alloc: Global, konst: i64, param: i64, iter: i64) -> Option<Cond> {
     let form = form(alloc, konst, param, iter)?;
     let rel = Rel::NonNegative;
     Some(cond(one(alloc, Comparison { form, rel })?))
@@ -93,7 +94,8 @@ fn body(alloc: Global) -> Option<Stmt> {
 
 /// The array A[N].
 fn array(alloc: Global) -> Option<Array> {
-    let extent = index_expr(0, one(alloc, 1)?, Vec::new(alloc), HERE);
+    let params = one(alloc, 1)?;
+    let extent = index_expr(0, params, Vec::new(alloc), Vec::new(alloc), HERE);
     let extents = Items::from(one(alloc, extent)?);
     let name = name(alloc, b"A")?;
     let kind = Kind::Input;
@@ -105,7 +107,7 @@ fn array(alloc: Global) -> Option<Array> {
 }
 
 /// The function f of N and A, without both and without a body.
-fn empty(alloc: Global) -> Option<Program> {
+pub fn empty(alloc: Global) -> Option<Program> {
     let name = name(alloc, b"f")?;
     let slots = Items::from_slice(alloc, &[Slot::Param(0), Slot::Array(0)]).ok()?;
     Some(Program {
