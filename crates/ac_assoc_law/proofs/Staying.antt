@@ -94,7 +94,7 @@ module _ (ps : ℕ) (names : List (List ℕ)) (choice : ℕ → ℕ → ℕ) whe
     unfolding Ready arranged_stmt
 
     stmt_stays : (xs first : ℕ) (s : Stmt) → Ready ps xs s → Ready ps xs (arranged_stmt names choice first s)
-    stmt_stays xs first (For' iter start c step n body place) h = for_ready ps xs iter start c step (arranged_body names choice first body) place h.0 h.1 h.2 (body_stays (xs + 1) first body h.3)
+    stmt_stays xs first (For' iter start c step n body place) h = for_ready ps xs iter start c step (arranged_body names choice first body) place h.0 h.1 h.2 h.3 (body_stays (xs + 1) first body h.4)
     stmt_stays xs first (If' c n taken m other place) h =
         if_ready ps xs c (arranged_body names choice first taken) (arranged_body names choice (first + assignments_in taken) other) place h.0 (body_stays xs first taken h.1) (body_stays xs (first + assignments_in taken) other h.2) h.3
     stmt_stays xs first (Assign array subs value place) h = assign_ready ps xs array subs (arranged names (choice first) 0 value) place h.0 (value_stays (FitsValue ps xs) (λ m k. FitValues ps xs k) (fits_pass ps xs) names (choice first) 0 value h.1)

@@ -33,6 +33,8 @@ pub mod Walking
 pub mod ReadyAt
 pub mod Sums
 pub mod Steady
+pub mod Fitting
+pub mod PlainAt
 pub mod Alike
 pub mod Shapes
 pub mod TraceSteps

@@ -14,7 +14,9 @@ pub mod ExecutionOrder
 pub mod Spot
 pub mod Where
 pub mod TermMatches
+pub mod FittingForms
 pub mod ReadyPrograms
+pub mod PlainPrograms
 pub mod Dimensions
 pub mod LawsOfTurns
 pub mod LawsOfTraces

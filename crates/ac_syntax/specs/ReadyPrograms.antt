@@ -1,8 +1,10 @@
--- Programs whose index expressions have one coefficient for each parameter and for each iterator in scope and no quotient,
--- whose loops end, and whose branches have a condition.
+-- Programs whose loops end, whose branches have a condition, and whose index expressions have one coefficient for each parameter
+-- and for each iterator in scope. Statements may have quotients: divisors are at least 1, and nothing that a condition rounds
+-- changes with its own loop. Extents and contexts are over the parameters alone and have no quotient.
 use Rattle.std.specs.Prelude.{ℕ, ◌+◌, ◌<◌, ◌≡◌, List, [], length}
 use Rattle.std.specs.List.{AllByRecursion}
-use Rattle.ac_syntax.specs.Turns.{Bounded}
+use Rattle.ac_syntax.specs.FittingForms.{FitsForm, FormsFit, FitTests}
+use Rattle.ac_syntax.specs.Turns.{Bounded, IsSteady}
 use Rattle.ac_syntax.specs.declared.tree.IndexExpr.{IndexExpr}
 use Rattle.ac_syntax.specs.declared.tree.Rel.{Rel}
 use Rattle.ac_syntax.specs.declared.tree.Rel.TheVariants.{NonNegative, Zero, Divides}
@@ -39,8 +41,8 @@ FitParts ps xs = AllByRecursion (FitsPart ps xs)
 -- each index expression of a value
 unfoldable mutual
   pub FitsValue : ℕ → ℕ → Value → Type 0
-  FitsValue ps xs (Number e) = Fits ps xs e
-  FitsValue ps xs (Access array subs place) = AllFit ps xs subs
+  FitsValue ps xs (Number e) = FitsForm ps xs e
+  FitsValue ps xs (Access array subs place) = FormsFit ps xs subs
   FitsValue ps xs (Call' symbol n args place) = FitValues ps xs args
 
   pub FitValues : ℕ → ℕ → {m : _} → Row_of-Value m → Type 0
@@ -50,9 +52,10 @@ unfoldable mutual
 -- a statement inside xs loops
 unfoldable mutual
   pub Ready : ℕ → ℕ → Stmt → Type 0
-  Ready ps xs (For' iter start cond step n body place) = Fits ps xs start × FitParts ps (xs + 1) cond.parts × Bounded xs step cond × ReadyIn ps (xs + 1) body
-  Ready ps xs (If' cond n taken m other place) = FitParts ps xs cond.parts × ReadyIn ps xs taken × ReadyIn ps xs other × (0 < length cond.parts)
-  Ready ps xs (Assign array subs value place) = AllFit ps xs subs × FitsValue ps xs value
+  Ready ps xs (For' iter start cond step n body place) =
+      FitsForm ps xs start × FitTests ps (xs + 1) cond.parts × AllByRecursion (IsSteady xs) cond.parts × Bounded xs step cond × ReadyIn ps (xs + 1) body
+  Ready ps xs (If' cond n taken m other place) = FitTests ps xs cond.parts × ReadyIn ps xs taken × ReadyIn ps xs other × (0 < length cond.parts)
+  Ready ps xs (Assign array subs value place) = FormsFit ps xs subs × FitsValue ps xs value
 
   pub ReadyIn : ℕ → ℕ → {m : _} → Row_of-Stmt m → Type 0
   ReadyIn ps xs end_of-Stmt = Unit {0}
@@ -61,7 +64,7 @@ unfoldable mutual
 abbrev pub ReadyAll : ℕ → ℕ → List Stmt → Type 0
 ReadyAll ps xs = AllByRecursion (Ready ps xs)
 
--- extents and contexts are over the parameters alone
+-- extents and contexts are over the parameters alone and plain
 pub record ReadyProgram (p : Program) : Type 0 where
   pub body : ReadyAll (length p.params) 0 p.body
   pub context : FitParts (length p.params) 0 p.context.parts

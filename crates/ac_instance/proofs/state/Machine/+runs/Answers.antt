@@ -93,7 +93,7 @@ run_one-returns-in-For-clause-steps t c = λ r.
     let q = ready_for (length p.params) (length p.iters) c.in-For.iter c.in-For.start c.in-For.cond c.in-For.step c.in-For.body c.in-For.place (subst (Ready (length p.params) (length p.iters)) c.in-For.is r) in
     let is = ap (λ ss. in_loop side (λ z. in_all side z ss) p c.in-For.start c.in-For.cond c.in-For.step c.in-For.place) c.as_slice.ensures
     ∙ sym (ap (in_stmt side p) c.in-For.is ∙ in_for side p c.in-For.iter c.in-For.start c.in-For.cond c.in-For.step c.in-For.body c.in-For.place) in
-    subst (λ hs. Steps c.args.self.now hs c.repeat.result c.repeat.new.self) is ((simp to_z-of_z at c.repeat.ensures.steps) q.2 (subst (ReadyAll (length p.params) (length p.iters + 1)) (sym c.as_slice.ensures) q.3))
+    subst (λ hs. Steps c.args.self.now hs c.repeat.result c.repeat.new.self) is ((simp to_z-of_z at c.repeat.ensures.steps) q.3 (subst (ReadyAll (length p.params) (length p.iters + 1)) (sym c.as_slice.ensures) q.4))
 
 pub run_one-returns-in-For-clause-ran : goal.run_one-returns-in-For-clause-ran
 run_one-returns-in-For-clause-ran t c = λ r first counters state h.
@@ -104,7 +104,7 @@ run_one-returns-in-For-clause-ran t c = λ r first counters state h.
     let is = ap (λ ss. each_turn (trace_all ss first) p c.in-For.start c.in-For.cond c.in-For.step counters) c.as_slice.ensures
     ∙ sym (ap (λ z. trace z first p counters) c.in-For.is ∙ trace_for c.in-For.iter c.in-For.start c.in-For.cond c.in-For.step c.in-For.body c.in-For.place first p counters) in
     subst (λ es. OnOk c.repeat.result (Holds c.repeat.new.self.table c.repeat.new.cells leaf (run free es state))) is
-    ((simp to_z-of_z at c.repeat.ensures.ran) q.2 (subst (ReadyAll (length p.params) (length p.iters + 1)) (sym c.as_slice.ensures) q.3) first counters state h)
+    ((simp to_z-of_z at c.repeat.ensures.ran) q.3 (subst (ReadyAll (length p.params) (length p.iters + 1)) (sym c.as_slice.ensures) q.4) first counters state h)
 
 pub repeat-returns-in_err-test-clause-steps : goal.repeat-returns-in_err-test-clause-steps
 repeat-returns-in_err-test-clause-steps t c = λ b r.
