@@ -1,45 +1,51 @@
 -- The forms and rows of a lowered program have no columns but its own, and each modulus is at least 1.
-use Rattle.std.proofs.Common.{◌≡◌, inl, inr, ℕ, zero, suc, ◌+◌, ◌≤◌, List, [], ◌∷◌, ◌++◌, length, map, refl, sym, ap, subst, arith, ℤ, pos, length-append, Some}
+use Rattle.std.proofs.Common.{◌≡◌, ℕ, zero, suc, ◌+◌, ◌≤◌, List, [], ◌∷◌, length, map, refl, sym, ◌∙◌, subst, arith, ℤ, pos, replicate, Some}
 use Rattle.std.specs.Prelude.{slice_get}
-use Rattle.std.specs.List.{AllByRecursion, flat_map}
+use Rattle.std.specs.List.{AllByRecursion}
+use Rattle.std.proofs.lemmas.List.{length-map}
 use Rattle.ac_forms.specs.Affine.{Affine}
+use Rattle.ac_forms.specs.Renaming.{AreColumns}
 use Rattle.ac_forms.specs.Rows.{HasModulus, HaveModuli, AreRowsOver}
 use Rattle.ac_forms.specs.declared.row.Row.{Row}
-use Rattle.ac_syntax.specs.Index.{Point}
-use Rattle.ac_syntax.specs.LoopNests.{loop_count, loop_count_in}
+use Rattle.ac_forms.proofs.Renamings.{form-within}
 use Rattle.ac_syntax.specs.Outputs.{input_at}
-use Rattle.ac_syntax.specs.ReadyPrograms.{AllFit, FitParts, FitsValue, FitValues, Ready, ReadyIn, ReadyAll, ReadyProgram}
-use Rattle.ac_syntax.specs.Trace.{assignments, assignments_in}
-use Rattle.ac_syntax.specs.Turns.{inside}
+use Rattle.ac_syntax.specs.ReadyPrograms.{AllFit, FitParts, ReadyProgram}
 use Rattle.ac_syntax.specs.declared.tree.Array.{Array}
 use Rattle.ac_syntax.specs.declared.tree.Comparison.{Comparison}
 use Rattle.ac_syntax.specs.declared.tree.Cond.{Cond}
 use Rattle.ac_syntax.specs.declared.tree.IndexExpr.{IndexExpr}
 use Rattle.ac_syntax.specs.declared.tree.Program.{Program}
+use Rattle.ac_syntax.specs.declared.tree.Quot.{Quot}
 use Rattle.ac_syntax.specs.declared.tree.Rel.{Rel}
 use Rattle.ac_syntax.specs.declared.tree.Rel.TheVariants.{NonNegative, Zero, Divides}
-use Rattle.ac_syntax.specs.declared.tree.Stmt.{Stmt, Row_of-Stmt, end_of-Stmt, more_of-Stmt}
-use Rattle.ac_syntax.specs.declared.tree.Stmt.TheVariants.{For', If', Assign}
 use Rattle.ac_syntax.specs.declared.tree.Value.{Value, Row_of-Value, end_of-Value, more_of-Value}
 use Rattle.ac_syntax.specs.declared.tree.Value.TheVariants.{Number, Access, Call'}
+use Rattle.ac_poly_quotients.specs.FilledColumns.{counters, quots_of, ColumnsAreMade}
+use Rattle.ac_poly_quotients.specs.LastColumns.{places, moved_quotient, finals}
+use Rattle.ac_poly_quotients.specs.LoopPaths.{Step, Enters, Taken, Other, depth_of, scope_at, FitsPath}
+use Rattle.ac_poly_quotients.specs.QuotientScopes.{outermost, lowered_in, in_loop, where_holds, where_fails}
+use Rattle.ac_poly_quotients.specs.declared.types.Scope.{Scope}
+use Rattle.ac_poly_quotients.proofs.FormValues.{length-replicate}
+use Rattle.ac_poly_quotients.proofs.LastColumns.{final-columns}
+use Rattle.ac_poly_quotients.proofs.LoopPaths.{stands_end}
+use Rattle.ac_poly_quotients.proofs.NarrowRows.{NarrowRows}
+use Rattle.ac_poly_quotients.proofs.NotedColumns.{grown_all}
+use Rattle.ac_poly_quotients.proofs.PlacedPieces.{placed_over}
+use Rattle.ac_poly_quotients.proofs.ScopePieces.{loop_moduli, holds_moduli, fails_moduli}
+use Rattle.ac_poly_quotients.proofs.StandingScopes.{stands_outermost}
 use Rattle.ac_poly.specs.CoordinateColumns.{AreOver}
 use Rattle.ac_poly.specs.IndexForms.{lowered, row_by, rows_of}
-use Rattle.ac_poly.specs.Lower.{in_loop, loop_rows, where_holds, where_fails, outermost}
+use Rattle.ac_poly.specs.Lower.{last_form, model_in, lowered_body}
 use Rattle.ac_poly.specs.Model.{model_of, extents_of, kind_of, is_input, NodeIsOver, StmtIsOver, HasColumns, HasKinds}
 use Rattle.ac_poly.specs.ModelNodes.{nodes, nodes_in}
-use Rattle.ac_poly.specs.ConditionPieces.{negations, with_each, failing}
-use Rattle.ac_poly.specs.declared.scope.Scope.{Scope}
 use Rattle.ac_poly.specs.declared.types.StmtModel.{StmtModel}
-use Rattle.ac_poly.proofs.Bodies.{is_lowered, stands_outermost}
-use Rattle.ac_poly.proofs.Narrows.{NarrowRows, NarrowPieces, all_append, narrow-lowered, narrow_rows}
-use Rattle.ac_poly.proofs.Relation.{IsLowered, IsLoweredIn, IsLoweredAll}
-use Rattle.ac_poly.proofs.Scopes.{Stands, stands_loop, stands_taken, stands_other}
-use Rattle.ac_poly.proofs.Values.{Narrow}
+use Rattle.ac_poly.proofs.EndFits.{fits_all}
+use Rattle.ac_poly.proofs.LowerEnds.{end_at}
+use Rattle.ac_poly.proofs.Narrows.{all_append, narrow-lowered, narrow_rows}
+use Rattle.ac_poly.proofs.PathDepths.{params_at, counters_at, loops_counted}
+use Rattle.ac_poly.proofs.PathEnds.{End, end_quots, end_scope, end_model}
 
--- rows that hold or fail as a comparison does have no modulus
-append-moduli : (q rows : List Row) → HaveModuli q → HaveModuli rows → HaveModuli (q ++ rows)
-append-moduli [] rows h i = i
-append-moduli (r ∷ q) rows h i = (h.0, append-moduli q rows h.1 i)
+-- ---- contexts and extents
 
 row-modulus : (r : Rel) (f : Affine) → HasModulus (row_by r f)
 row-modulus NonNegative f = tt
@@ -50,118 +56,98 @@ rows-moduli : (its : List Affine) (cs : List Comparison) → HaveModuli (rows_of
 rows-moduli its [] = tt
 rows-moduli its (c ∷ cs) = (row-modulus c.rel (lowered its c.form), rows-moduli its cs)
 
-with-moduli : (qs : List (List Row)) (rows : List Row) → AllByRecursion HaveModuli qs → HaveModuli rows → AllByRecursion HaveModuli (map (λ q. q ++ rows) qs)
-with-moduli [] rows h i = tt
-with-moduli (q ∷ qs) rows h i = (append-moduli q rows h.0 i, with-moduli qs rows h.1 i)
-
-not-moduli : (q : List Row) (r : Rel) (f : Affine) → HaveModuli q → AllByRecursion HaveModuli (with_each q (negations r f))
-not-moduli q NonNegative f h = (append-moduli q _ h (tt, tt), tt)
-not-moduli q Zero f h = (append-moduli q _ h (tt, tt), (append-moduli q _ h (tt, tt), tt))
-not-moduli q (Divides m) f h = (append-moduli q _ h (tt, tt), (append-moduli q _ h (tt, tt), tt))
-
-failing-moduli : (its : List Affine) (cs : List Comparison) (q : List Row) → HaveModuli q → AllByRecursion HaveModuli (failing its cs q)
-failing-moduli its [] q h = tt
-failing-moduli its (c ∷ cs) q h =
-    let row = row_by c.rel (lowered its c.form) in
-    all_append HaveModuli (with_each q (negations c.rel (lowered its c.form))) (failing its cs (q ++ row ∷ [])) (not-moduli q c.rel (lowered its c.form) h)
-    (failing-moduli its cs (q ++ row ∷ []) (append-moduli q (row ∷ []) h (row-modulus c.rel (lowered its c.form), tt)))
-
-fails-moduli : (its : List Affine) (cs : List Comparison) (qs : List (List Row)) → AllByRecursion HaveModuli qs → AllByRecursion HaveModuli (flat_map (failing its cs) qs)
-fails-moduli its cs [] h = tt
-fails-moduli its cs (q ∷ qs) h = all_append HaveModuli (failing its cs q) (flat_map (failing its cs) qs) (failing-moduli its cs q h.0) (fails-moduli its cs qs h.1)
-
-loop-moduli : (sc : Scope) (start : IndexExpr) (cond : Cond) (step : ℤ) → HaveModuli (loop_rows sc start cond step)
-loop-moduli sc start cond step = (tt, append-moduli (rows_of (sc.iters ++ lowered sc.iters start ∷ []) cond.parts) _ (rows-moduli _ cond.parts) (rows-moduli _ cond.parts))
-
 -- rows without further columns whose moduli are at least 1
 rows-over : (n : ℕ) (rows : List Row) → NarrowRows n rows → HaveModuli rows → AreRowsOver n rows
 rows-over n [] h i = tt
 rows-over n (r ∷ rows) h i = ((h.0, i.0), rows-over n rows h.1 i.1)
 
-pieces-over : (n : ℕ) (qs : List (List Row)) → NarrowPieces n qs → AllByRecursion HaveModuli qs → AllByRecursion (AreRowsOver n) qs
-pieces-over n [] h i = tt
-pieces-over n (q ∷ qs) h i = (rows-over n q h.0 i.0, pieces-over n qs h.1 i.1)
-
--- index expressions among iterators without further columns
-forms-over : (n ps xs : ℕ) (its : List Affine) (es : List IndexExpr) → ps ≤ n → AllFit ps xs es → AllByRecursion (Narrow n) its → AreOver n (map (lowered its) es)
-forms-over n ps xs its [] h f i = tt
-forms-over n ps xs its (e ∷ es) h f i = (narrow-lowered n ps xs its e h f.0.params i, forms-over n ps xs its es h f.1 i)
-
-mutual
-  unfolding nodes FitsValue
-
-  nodes-over : (n ps xs : ℕ) (its : List Affine) (v : Value) (at : ℕ) → ps ≤ n → FitsValue ps xs v → AllByRecursion (Narrow n) its → AllByRecursion (NodeIsOver n) (nodes its v at)
-  nodes-over n ps xs its (Number e) at h f i = (narrow-lowered n ps xs its e h f.params i, tt)
-  nodes-over n ps xs its (Access array subs place) at h f i = (forms-over n ps xs its subs h f i, tt)
-  nodes-over n ps xs its (Call' symbol m args place) at h f i = (tt, nodes-over_in n ps xs its args (at + 1) h f i)
-
-  nodes-over_in : (n ps xs : ℕ) (its : List Affine) {m : _} (vs : Row_of-Value m) (at : ℕ) → ps ≤ n → FitValues ps xs vs → AllByRecursion (Narrow n) its → AllByRecursion (NodeIsOver n) (nodes_in its vs at)
-  nodes-over_in n ps xs its end_of-Value at h f i = tt
-  nodes-over_in n ps xs its (more_of-Value v rest) at h f i = all_append (NodeIsOver n) (nodes its v at) _ (nodes-over n ps xs its v at h f.0 i) (nodes-over_in n ps xs its rest _ h f.1 i)
-
--- an assignment in its scope, at any numbers of the turns
-stmt-over : (xs : ℕ) (p : Point) (zs : List ℤ) (sc : Scope) (l : StmtModel) (array : ℕ) (subs : List IndexExpr) (value : Value)
-    → Stands xs p zs sc → AllByRecursion HaveModuli sc.pieces → AllFit (length p.params) xs subs → FitsValue (length p.params) xs value
-    → l ≡ record { loops = sc.loops; pieces = sc.pieces; array = array; subs = map (lowered sc.iters) subs; nodes = nodes sc.iters value 0 } → StmtIsOver (length p.params) l
-stmt-over xs p zs sc l array subs value h m f g i =
-    let n : length (p.params ++ zs) ≡ length p.params + length sc.loops = omega (arith, length-append p.params zs, h.counters, h.loops) in
-    let le : length p.params ≤ length p.params + length sc.loops = omega arith in
-    let narrow = subst (λ (k : ℕ). AllByRecursion (Narrow k) sc.iters) n h.narrow in
-    subst (StmtIsOver (length p.params)) (sym i)
-    (record {
-      pieces = pieces-over (length p.params + length sc.loops) sc.pieces (subst (λ (k : ℕ). NarrowPieces k sc.pieces) n h.pieces) m;
-      subs = forms-over (length p.params + length sc.loops) (length p.params) xs sc.iters subs le f narrow;
-      nodes = nodes-over (length p.params + length sc.loops) (length p.params) xs sc.iters value 0 le g narrow;
-    })
-
-mutual
-  unfolding IsLowered Ready
-
-  over : (s : Stmt) (first loop : ℕ) (sc : Scope) (xs : ℕ) (p : Point) (zs : List ℤ) (k : ℕ) (l : StmtModel)
-      → Stands xs p zs sc → AllByRecursion HaveModuli sc.pieces → Ready (length p.params) xs s → IsLowered s first loop sc k l → StmtIsOver (length p.params) l
-  over (For' iter start cond step n body place) first loop sc xs p zs k l h m r i =
-      over_in body first (suc loop) (in_loop sc loop start cond step) (xs + 1) (inside p _) (zs ++ pos 0 ∷ []) k l
-      (stands_loop xs p zs sc loop start cond step (pos 0) h r.0 r.1) (with-moduli sc.pieces (loop_rows sc start cond step) m (loop-moduli sc start cond step)) r.3 i
-  over (If' cond n taken m other place) first loop sc xs p zs k l h u r (inl i) =
-      over_in taken first loop (where_holds sc cond) xs p zs k l (stands_taken xs p zs sc cond h r.0) (with-moduli sc.pieces (rows_of sc.iters cond.parts) u (rows-moduli sc.iters cond.parts)) r.1 i
-  over (If' cond n taken m other place) first loop sc xs p zs k l h u r (inr i) =
-      over_in other (first + assignments_in taken) (loop + loop_count_in taken) (where_fails sc cond) xs p zs k l (stands_other xs p zs sc cond h r.0) (fails-moduli sc.iters cond.parts sc.pieces u) r.2 i
-  over (Assign array subs value place) first loop sc xs p zs k l h m r i = stmt-over xs p zs sc l array subs value h m r.0 r.1 i.1
-
-  over_in : {m : _} (b : Row_of-Stmt m) (first loop : ℕ) (sc : Scope) (xs : ℕ) (p : Point) (zs : List ℤ) (k : ℕ) (l : StmtModel)
-      → Stands xs p zs sc → AllByRecursion HaveModuli sc.pieces → ReadyIn (length p.params) xs b → IsLoweredIn b first loop sc k l → StmtIsOver (length p.params) l
-  over_in end_of-Stmt first loop sc xs p zs k l h m r i = absurd i
-  over_in (more_of-Stmt s rest) first loop sc xs p zs k l h m r (inl i) = over s first loop sc xs p zs k l h m r.0 i
-  over_in (more_of-Stmt s rest) first loop sc xs p zs k l h m r (inr i) = over_in rest (first + assignments s) (loop + loop_count s) sc xs p zs k l h m r.1 i
-
-over_all : (ss : List Stmt) (first loop : ℕ) (sc : Scope) (xs : ℕ) (p : Point) (zs : List ℤ) (k : ℕ) (l : StmtModel)
-    → Stands xs p zs sc → AllByRecursion HaveModuli sc.pieces → ReadyAll (length p.params) xs ss → IsLoweredAll ss first loop sc k l → StmtIsOver (length p.params) l
-over_all [] first loop sc xs p zs k l h m r i = absurd i
-over_all (s ∷ ss) first loop sc xs p zs k l h m r (inl i) = over s first loop sc xs p zs k l h m r.0 i
-over_all (s ∷ ss) first loop sc xs p zs k l h m r (inr i) = over_all ss (first + assignments s) (loop + loop_count s) sc xs p zs k l h m r.1 i
-
--- some valuation of so many parameters
-valuation : (n : ℕ) → (ps : List ℤ) × (length ps ≡ n)
-valuation zero = ([], refl)
-valuation (suc n) = let r = valuation n in (pos 0 ∷ r.0, ap suc r.1)
-
-stmts-over : (p : Program) → ReadyProgram p → (number : ℕ) (stmt : StmtModel) → IsLoweredAll p.body 0 0 (outermost (length p.params)) number stmt → StmtIsOver (length p.params) stmt
-stmts-over p ready number stmt i =
-    let v = valuation (length p.params) in
-    let j = subst (λ (n : ℕ). IsLoweredAll p.body 0 0 (outermost n) number stmt) (sym v.1) i in
-    let r = subst (λ (n : ℕ). ReadyAll n 0 p.body) (sym v.1) ready.body in
-    subst (λ (n : ℕ). StmtIsOver n stmt) v.1 (over_all p.body 0 0 (outermost (length v.0)) 0 (record { params = v.0; iters = [] }) [] number stmt (stands_outermost v.0) (tt, tt) r j)
+forms-over : (ps : ℕ) (es : List IndexExpr) → AllFit ps 0 es → AreOver ps (map (lowered []) es)
+forms-over ps [] f = tt
+forms-over ps (e ∷ es) f = (narrow-lowered ps ps [] e (omega arith) f.0.params tt, forms-over ps es f.1)
 
 extents-over : (ps : ℕ) (arrays : List Array) → AllByRecursion (λ (a : Array). AllFit ps 0 a.extents) arrays → (array : ℕ) (extents : List Affine) → slice_get (map extents_of arrays) array ≡ Some extents → AreOver ps extents
 extents-over ps [] h array extents e = absurd cc
-extents-over ps (a ∷ arrays) h zero extents e = let s : extents_of a ≡ extents = cc in subst (AreOver ps) s (forms-over ps ps 0 [] a.extents (omega arith) h.0 tt)
+extents-over ps (a ∷ arrays) h zero extents e = let s : extents_of a ≡ extents = cc in subst (AreOver ps) s (forms-over ps a.extents h.0)
 extents-over ps (a ∷ arrays) h (suc array) extents e = extents-over ps arrays h.1 array extents e
+
+-- ---- an assignment in its scope
+
+-- a form among the last columns has no others
+last-over : (n : ℕ) (c : Scope) (es : List IndexExpr) → AreColumns n (places c) → AreOver n (map (last_form c) es)
+last-over n c [] h = tt
+last-over n c (e ∷ es) h = (form-within (places c) (lowered_in c c.iters e) n h, last-over n c es h)
+
+mutual
+  unfolding nodes
+
+  nodes-over : (n : ℕ) (c : Scope) (v : Value) (at : ℕ) → AreColumns n (places c) → AllByRecursion (NodeIsOver n) (nodes (last_form c) v at)
+  nodes-over n c (Number e) at h = (form-within (places c) (lowered_in c c.iters e) n h, tt)
+  nodes-over n c (Access array subs place) at h = (last-over n c subs h, tt)
+  nodes-over n c (Call' symbol m args place) at h = (tt, nodes-over_in n c args (at + 1) h)
+
+  nodes-over_in : (n : ℕ) (c : Scope) {m : _} (vs : Row_of-Value m) (at : ℕ) → AreColumns n (places c) → AllByRecursion (NodeIsOver n) (nodes_in (last_form c) vs at)
+  nodes-over_in n c end_of-Value at h = tt
+  nodes-over_in n c (more_of-Value v rest) at h = all_append (NodeIsOver n) (nodes (last_form c) v at) _ (nodes-over n c v at h) (nodes-over_in n c rest _ h)
+
+-- what a scope needs for that
+record IsFormed (n : ℕ) (c : Scope) : Type 0 where
+  pub params : c.params ≡ n
+  pub loops : length c.loops ≡ counters c.columns
+  pub made : ColumnsAreMade c.params c.columns
+  pub moduli : AllByRecursion HaveModuli c.pieces
+
+stmt-over : (n : ℕ) (c : Scope) (array : ℕ) (subs : List IndexExpr) (value : Value) → IsFormed n c → StmtIsOver n (model_in c array subs value)
+stmt-over n c array subs value h =
+    let all : ℕ = n + (length c.loops + length (finals (places c) c.columns)) in
+    let many = length-map (quots_of c.columns) (moved_quotient (places c)) in
+    let within : c.params + (counters c.columns + length (quots_of c.columns)) ≤ all = omega (arith, many, h.params, h.loops) in
+    let columns = final-columns c.params (counters c.columns) all c.columns (omega arith) within in
+    record {
+      pieces = placed_over c.params (counters c.columns) all c.columns c.pieces (omega arith) within h.made h.moduli;
+      subs = last-over all c subs columns;
+      nodes = nodes-over all c value 0 columns;
+    }
+
+-- ---- the scope at the end of a way
+
+path-moduli : (sc : Scope) (ss : List Step) (qs : List Quot) → AllByRecursion HaveModuli sc.pieces → AllByRecursion HaveModuli (scope_at sc ss qs).pieces
+path-moduli sc [] qs h = subst (λ (x : List (List Row)). AllByRecursion HaveModuli x) (sym (grown_all sc qs).pieces) h
+path-moduli sc (Enters number start cond step ∷ ss) qs h = path-moduli (in_loop sc number start cond step) ss qs (loop_moduli sc number start cond step h)
+path-moduli sc (Taken cond ∷ ss) qs h = path-moduli (where_holds sc cond) ss qs (holds_moduli sc cond h)
+path-moduli sc (Other cond ∷ ss) qs h = path-moduli (where_fails sc cond) ss qs (fails_moduli sc cond h)
+
+-- some valuation of so many parameters
+valuation : (n : ℕ) → (ps : List ℤ) × (length ps ≡ n)
+valuation n = (replicate n (pos 0), length-replicate n)
+
+path-formed : (ps : List ℤ) (ss : List Step) (qs : List Quot) → FitsPath (length ps) 0 ss qs → IsFormed (length ps) (scope_at (outermost (length ps)) ss qs)
+path-formed ps ss qs f =
+    let zeros : List ℤ = replicate (depth_of ss) (pos 0) in
+    let h = stands_end (record { params = ps; iters = [] }) [] (outermost (length ps)) ss qs zeros (stands_outermost ps) f (length-replicate (depth_of ss)) in
+    record {
+      params = params_at (outermost (length ps)) ss qs;
+      loops = loops_counted (outermost (length ps)) ss qs ∙ sym (counters_at (outermost (length ps)) ss qs);
+      made = h.made;
+      moduli = path-moduli (outermost (length ps)) ss qs (tt, tt);
+    }
+
+end-over : (n : ℕ) (w : End) → FitsPath n 0 w.path (end_quots w) → StmtIsOver n (end_model (outermost n) w)
+end-over n w f =
+    let v = valuation n in
+    let formed : IsFormed n (end_scope (outermost n) w) =
+    subst (λ (k : ℕ). IsFormed k (scope_at (outermost k) w.path (end_quots w))) v.1 (path-formed v.0 w.path (end_quots w) (subst (λ (k : ℕ). FitsPath k 0 w.path (end_quots w)) (sym v.1) f)) in
+    stmt-over n (end_scope (outermost n) w) w.array w.subs w.value formed
+
+stmts-over : (p : Program) → ReadyProgram p → (number : ℕ) (stmt : StmtModel) → slice_get (lowered_body (length p.params) p.body) number ≡ Some stmt → StmtIsOver (length p.params) stmt
+stmts-over p ready number stmt at =
+    let e = end_at p.body (length p.params) number stmt at in
+    subst (StmtIsOver (length p.params)) (sym e.2) (end-over (length p.params) e.0 (fits_all p.body 0 0 (length p.params) 0 number e.0 ready.body e.1))
 
 pub has_columns : (p : Program) (context : Cond) → ReadyProgram p → FitParts (length p.params) 0 context.parts → HasColumns p (model_of p context)
 has_columns p context ready fit = record {
   params = refl;
   context = rows-over (length p.params) (rows_of [] context.parts) (narrow_rows (length p.params) (length p.params) 0 [] context.parts (omega arith) fit tt) (rows-moduli [] context.parts);
-  stmts = λ number stmt at. stmts-over p ready number stmt (is_lowered p.body (length p.params) number stmt at);
+  stmts = λ number stmt at. stmts-over p ready number stmt at;
   extents = extents-over (length p.params) p.arrays ready.extents;
 }
 

@@ -6,20 +6,18 @@ use Rattle.ac_forms.specs.Affine.{Affine, value_at, combined, column_form, const
 use Rattle.ac_forms.proofs.Values.{value_at-combined}
 use Rattle.ac_poly.specs.LevelRows.{difference, EqualitiesAreEqualValues}
 use Rattle.ac_poly.specs.ModelMeaning.{values_at}
-use Rattle.ac_poly.proofs.Values.{length-mix, narrow-column}
+use Rattle.ac_poly_quotients.proofs.FormValues.{length-mix, narrow-column}
+pub use Rattle.ac_poly_quotients.proofs.FormValues.{column-value}
 
--- a column has the number that the point has there
 pub no_more : (k : ℕ) → k + 1 - k - 1 ≡ 0
 no_more k = omega arith
 
+-- a column has the number that the point has there
 pub dot-unit : (k : ℕ) (p : List ℤ) → dot (replicate k (pos 0) ++ pos 1 ∷ []) p ≡ get_or p k (pos 0)
 dot-unit zero [] = refl
 dot-unit zero (x ∷ p) = let e : dot [] p ≡ pos 0 = refl in omega (arith, ints)
 dot-unit (suc k) [] = refl
 dot-unit (suc k) (x ∷ p) = omega (arith, ints, dot-unit k p)
-
-pub column-value : (k : ℕ) (p : List ℤ) → value_at (column_form (k + 1) k) p ≡ get_or p k (pos 0)
-column-value k p = rw (no_more k) (omega (arith, ints, dot-unit k p))
 
 pub value-difference : (i j : ℕ) (k : ℤ) (p : List ℤ) → value_at (difference i j k) p ≡ get_or p j (pos 0) +ℤ (negsuc 0 *ℤ get_or p i (pos 0)) +ℤ k
 value-difference i j k p =

@@ -16,55 +16,67 @@ use Rattle.ac_syntax.specs.declared.tree.Stmt.{Stmt, Row_of-Stmt, end_of-Stmt, m
 use Rattle.ac_syntax.specs.declared.tree.Stmt.TheVariants.{For', If', Assign}
 use Rattle.ac_syntax.specs.declared.tree.Value.{Value, Row_of-Value, end_of-Value, more_of-Value}
 use Rattle.ac_syntax.specs.declared.tree.Value.TheVariants.{Number, Access, Call'}
+use Rattle.ac_poly_quotients.specs.QuotientScopes.{outermost}
 use Rattle.ac_poly.specs.IndexForms.{lowered}
-use Rattle.ac_poly.specs.Lower.{in_loop, where_holds, where_fails, outermost}
+use Rattle.ac_poly.specs.Lower.{last_form}
 use Rattle.ac_poly.specs.Model.{model_of, extents_of, IsCellIn, ReadsCellIn, StmtHasDimensions, CellsHaveDimensions}
 use Rattle.ac_poly.specs.ModelNodes.{nodes, nodes_in}
-use Rattle.ac_poly.specs.declared.scope.Scope.{Scope}
-use Rattle.ac_poly.specs.declared.types.StmtModel.{StmtModel}
-use Rattle.ac_poly.proofs.Bodies.{is_lowered}
+use Rattle.ac_poly.proofs.LowerEnds.{end_at}
 use Rattle.ac_poly.proofs.Narrows.{all_append}
-use Rattle.ac_poly.proofs.Relation.{IsLowered, IsLoweredIn, IsLoweredAll}
+use Rattle.ac_poly.proofs.PathEnds.{End, end_scope, end_model, LeadsTo, LeadsToIn, LeadsToAll}
 
 extents-at : (arrays : List Array) (k : ℕ) (a : Array) → slice_get arrays k ≡ Some a → slice_get (map extents_of arrays) k ≡ Some (extents_of a)
 extents-at [] k a h = absurd cc
 extents-at (x ∷ arrays) zero a h = let e : x ≡ a = cc in ap (λ (y : Array). Some (extents_of y)) e
 extents-at (x ∷ arrays) (suc k) a h = extents-at arrays k a h
 
-cell-in : (arrays : List Array) (its : List Affine) (array : ℕ) (subs : List IndexExpr) → IsCellOf arrays array subs → IsCellIn (map extents_of arrays) array (map (lowered its) subs)
-cell-in arrays its array subs (own, at, long) = (extents_of own, extents-at arrays array own at, length-map subs (lowered its) ∙ long ∙ sym (length-map own.extents (lowered [])))
+cell-in : (arrays : List Array) (form : IndexExpr → Affine) (array : ℕ) (subs : List IndexExpr) → IsCellOf arrays array subs → IsCellIn (map extents_of arrays) array (map form subs)
+cell-in arrays form array subs (own, at, long) = (extents_of own, extents-at arrays array own at, length-map subs form ∙ long ∙ sym (length-map own.extents (lowered [])))
 
 mutual
   unfolding nodes ReadsCells
 
-  reads-in : (arrays : List Array) (its : List Affine) (v : Value) (at : ℕ) → ReadsCells arrays v → AllByRecursion (ReadsCellIn (map extents_of arrays)) (nodes its v at)
-  reads-in arrays its (Number e) at h = (tt, tt)
-  reads-in arrays its (Access array subs place) at h = (cell-in arrays its array subs h, tt)
-  reads-in arrays its (Call' symbol n args place) at h = (tt, reads-in_row arrays its args (at + 1) h)
+  reads-in : (arrays : List Array) (form : IndexExpr → Affine) (v : Value) (at : ℕ) → ReadsCells arrays v → AllByRecursion (ReadsCellIn (map extents_of arrays)) (nodes form v at)
+  reads-in arrays form (Number e) at h = (tt, tt)
+  reads-in arrays form (Access array subs place) at h = (cell-in arrays form array subs h, tt)
+  reads-in arrays form (Call' symbol n args place) at h = (tt, reads-in_row arrays form args (at + 1) h)
 
-  reads-in_row : (arrays : List Array) (its : List Affine) {m : _} (vs : Row_of-Value m) (at : ℕ) → EachReadsCells arrays vs → AllByRecursion (ReadsCellIn (map extents_of arrays)) (nodes_in its vs at)
-  reads-in_row arrays its end_of-Value at h = tt
-  reads-in_row arrays its (more_of-Value v rest) at h = all_append (ReadsCellIn (map extents_of arrays)) (nodes its v at) _ (reads-in arrays its v at h.0) (reads-in_row arrays its rest (at + size v) h.1)
+  reads-in_row : (arrays : List Array) (form : IndexExpr → Affine) {m : _} (vs : Row_of-Value m) (at : ℕ) → EachReadsCells arrays vs → AllByRecursion (ReadsCellIn (map extents_of arrays)) (nodes_in form vs at)
+  reads-in_row arrays form end_of-Value at h = tt
+  reads-in_row arrays form (more_of-Value v rest) at h = all_append (ReadsCellIn (map extents_of arrays)) (nodes form v at) _ (reads-in arrays form v at h.0) (reads-in_row arrays form rest (at + size v) h.1)
+
+-- the assignment at the end of a way
+record EndUsesCells (arrays : List Array) (w : End) : Type 0 where
+  pub written : IsCellOf arrays w.array w.subs
+  pub reads : ReadsCells arrays w.value
 
 mutual
-  unfolding IsLowered UsesCells
+  unfolding LeadsTo UsesCells
 
-  cells : (arrays : List Array) (s : Stmt) (first loop : ℕ) (sc : Scope) (k : ℕ) (l : StmtModel) → UsesCells arrays s → IsLowered s first loop sc k l → StmtHasDimensions (map extents_of arrays) l
-  cells arrays (For' iter start cond step n body place) first loop sc k l h i = cells_in arrays body first (suc loop) (in_loop sc loop start cond step) k l h i
-  cells arrays (If' cond n taken m other place) first loop sc k l h (inl i) = cells_in arrays taken first loop (where_holds sc cond) k l h.0 i
-  cells arrays (If' cond n taken m other place) first loop sc k l h (inr i) = cells_in arrays other (first + assignments_in taken) (loop + loop_count_in taken) (where_fails sc cond) k l h.1 i
-  cells arrays (Assign array subs value place) first loop sc k l h i =
-      subst (StmtHasDimensions (map extents_of arrays)) (sym i.1) (record { written = cell-in arrays sc.iters array subs h.0; reads = reads-in arrays sc.iters value 0 h.1 })
+  cells : (arrays : List Array) (s : Stmt) (first loop k : ℕ) (w : End) → UsesCells arrays s → LeadsTo s first loop k w → EndUsesCells arrays w
+  cells arrays (For' iter start cond step n body place) first loop k w h (u, e, i) = let c = cells_in arrays body first (suc loop) k u h i in subst (EndUsesCells arrays) (sym e) (record { written = c.written; reads = c.reads })
+  cells arrays (If' cond n taken m other place) first loop k w h (inl (u, e, i)) =
+      let c = cells_in arrays taken first loop k u h.0 i in subst (EndUsesCells arrays) (sym e) (record { written = c.written; reads = c.reads })
+  cells arrays (If' cond n taken m other place) first loop k w h (inr (u, e, i)) =
+      let c = cells_in arrays other (first + assignments_in taken) (loop + loop_count_in taken) k u h.1 i in subst (EndUsesCells arrays) (sym e) (record { written = c.written; reads = c.reads })
+  cells arrays (Assign array subs value place) first loop k w h i = subst (EndUsesCells arrays) (sym i.1) (record { written = h.0; reads = h.1 })
 
-  cells_in : (arrays : List Array) {m : _} (b : Row_of-Stmt m) (first loop : ℕ) (sc : Scope) (k : ℕ) (l : StmtModel) → EachUsesCells arrays b → IsLoweredIn b first loop sc k l → StmtHasDimensions (map extents_of arrays) l
-  cells_in arrays end_of-Stmt first loop sc k l h i = absurd i
-  cells_in arrays (more_of-Stmt s rest) first loop sc k l h (inl i) = cells arrays s first loop sc k l h.0 i
-  cells_in arrays (more_of-Stmt s rest) first loop sc k l h (inr i) = cells_in arrays rest (first + assignments s) (loop + loop_count s) sc k l h.1 i
+  cells_in : (arrays : List Array) {m : _} (b : Row_of-Stmt m) (first loop k : ℕ) (w : End) → EachUsesCells arrays b → LeadsToIn b first loop k w → EndUsesCells arrays w
+  cells_in arrays end_of-Stmt first loop k w h i = absurd i
+  cells_in arrays (more_of-Stmt s rest) first loop k w h (inl i) = cells arrays s first loop k w h.0 i
+  cells_in arrays (more_of-Stmt s rest) first loop k w h (inr i) = cells_in arrays rest (first + assignments s) (loop + loop_count s) k w h.1 i
 
-cells_all : (arrays : List Array) (ss : List Stmt) (first loop : ℕ) (sc : Scope) (k : ℕ) (l : StmtModel) → AllByRecursion (UsesCells arrays) ss → IsLoweredAll ss first loop sc k l → StmtHasDimensions (map extents_of arrays) l
-cells_all arrays [] first loop sc k l h i = absurd i
-cells_all arrays (s ∷ ss) first loop sc k l h (inl i) = cells arrays s first loop sc k l h.0 i
-cells_all arrays (s ∷ ss) first loop sc k l h (inr i) = cells_all arrays ss (first + assignments s) (loop + loop_count s) sc k l h.1 i
+cells_all : (arrays : List Array) (ss : List Stmt) (first loop k : ℕ) (w : End) → AllByRecursion (UsesCells arrays) ss → LeadsToAll ss first loop k w → EndUsesCells arrays w
+cells_all arrays [] first loop k w h i = absurd i
+cells_all arrays (s ∷ ss) first loop k w h (inl i) = cells arrays s first loop k w h.0 i
+cells_all arrays (s ∷ ss) first loop k w h (inr i) = cells_all arrays ss (first + assignments s) (loop + loop_count s) k w h.1 i
+
+model_cells : (arrays : List Array) (n : ℕ) (w : End) → EndUsesCells arrays w → StmtHasDimensions (map extents_of arrays) (end_model (outermost n) w)
+model_cells arrays n w h =
+    let c = end_scope (outermost n) w in
+    record { written = cell-in arrays (last_form c) w.array w.subs h.written; reads = reads-in arrays (last_form c) w.value 0 h.reads }
 
 pub cells_have_dimensions : (p : Program) (context : Cond) → HasDimensions p → CellsHaveDimensions (model_of p context)
-cells_have_dimensions p context h number stmt at = cells_all p.arrays p.body 0 0 (outermost (length p.params)) number stmt h (is_lowered p.body (length p.params) number stmt at)
+cells_have_dimensions p context h number stmt at =
+    let e = end_at p.body (length p.params) number stmt at in
+    subst (StmtHasDimensions (map extents_of p.arrays)) (sym e.2) (model_cells p.arrays (length p.params) e.0 (cells_all p.arrays p.body 0 0 number e.0 h e.1))

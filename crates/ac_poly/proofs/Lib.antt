@@ -1,9 +1,14 @@
+pub mod PathEnds
 pub mod Values
 pub mod Rows
 pub mod Narrows
-pub mod Scopes
-pub mod Relation
-pub mod Points
+pub mod OwnFits
+pub mod PathDepths
+pub mod PathRanges
+pub mod LowerEnds
+pub mod EndEntries
+pub mod EndFits
+pub mod EndQuotients
 pub mod Bodies
 pub mod NodeForms
 pub mod Targets
@@ -14,8 +19,6 @@ pub mod Orders
 pub mod Commons
 pub mod LevelSteps
 pub mod Equating
-pub mod Widening
-pub mod Replacing
 pub mod Making
 pub mod Failing
 pub mod NodeSteps

@@ -1,5 +1,5 @@
 -- Where something around does not fit, or there are too many pieces, the first assignment inside is the first fault.
-use Rattle.std.proofs.Common.{◌≡◌, ◌⊎◌, inl, inr, ℕ, suc, ◌+◌, ◌*◌, ◌<◌, ◌≤◌, List, [], ◌∷◌, ◌++◌, length, map, Bool, true, false, refl, sym, ap, ◌∙◌, arith, Option, Some, None, subst, length-append}
+use Rattle.std.proofs.Common.{◌≡◌, ◌⊎◌, inl, inr, ℕ, ℤ, suc, ◌+◌, ◌*◌, ◌<◌, ◌≤◌, List, [], ◌∷◌, ◌++◌, length, map, Bool, true, false, refl, sym, ap, ◌∙◌, arith, Option, Some, None, subst, length-append}
 use Rattle.std.specs.Prelude.{nat_lt}
 use Rattle.std.specs.List.{flat_map}
 use Rattle.std.proofs.lemmas.List.{length-map}
@@ -15,30 +15,49 @@ use Rattle.ac_syntax.specs.declared.tree.Comparison.{Comparison}
 use Rattle.ac_syntax.specs.declared.tree.Cond.{Cond}
 use Rattle.ac_syntax.specs.declared.tree.Stmt.{Stmt, Row_of-Stmt, end_of-Stmt, more_of-Stmt}
 use Rattle.ac_syntax.specs.declared.tree.Stmt.TheVariants.{For', If', Assign}
-use Rattle.ac_poly.specs.IndexForms.{lowered, row_by}
-use Rattle.ac_poly.specs.ConditionPieces.{negations, with_each, failing}
-use Rattle.ac_poly.specs.Lower.{in_loop, where_holds, where_fails, lower, lower_in, lower_all}
-use Rattle.ac_poly.specs.LoweringRange.{CanHold, CanFail, CanEnter, CanAssign}
+use Rattle.ac_syntax.specs.declared.tree.IndexExpr.{IndexExpr}
+use Rattle.ac_poly_quotients.specs.ComparisonWays.{with_each, failing_by}
+use Rattle.ac_poly_quotients.specs.QuotientScopes.{with_quots, part_quots, lowered_in, rel_way, part_way, in_loop, where_holds, where_fails}
+use Rattle.ac_poly_quotients.specs.ScopeRange.{CanHold, CanFail, CanEnter}
+use Rattle.ac_poly_quotients.specs.declared.types.Scope.{Scope}
+use Rattle.ac_poly_quotients.proofs.NotedColumns.{grown_all}
+use Rattle.ac_poly.specs.Lower.{lower, lower_in, lower_all}
+use Rattle.ac_poly.specs.LoweringRange.{CanAssign}
 use Rattle.ac_poly.specs.LoweringFaults.{IsLowerable, IsLowerableIn, Names, IsFirst, IsFirstIn, AreLowerable, IsFirstAll}
 use Rattle.ac_poly.specs.LoweringSteps.{ways, ways_by, pieces_by, or_first, fault, fault_in, fault_all}
-use Rattle.ac_poly.specs.declared.scope.Scope.{Scope}
 use Rattle.ac_poly.specs.declared.types.LowerFault.{LowerFault}
 use Rattle.ac_poly.specs.declared.types.LowerFault.TheVariants.{Pieces, Wide, Memory}
 
-length-failing : (its : List Affine) (cs : List Comparison) (q : List Row) → length (failing its cs q) ≡ ways cs
-length-failing its [] q = refl
-length-failing its (c ∷ cs) q =
-    length-append (with_each q (negations c.rel (lowered its c.form))) (failing its cs (q ++ row_by c.rel (lowered its c.form) ∷ []))
-    ∙ (λ i. one c.rel (lowered its c.form) i + length-failing its cs (q ++ row_by c.rel (lowered its c.form) ∷ []) i)
+length-failing : (sc : Scope) (its : List Affine) (cs : List Comparison) (q : List Row) → length (failing_by (map (part_way sc its) cs) q) ≡ ways cs
+length-failing sc its [] q = refl
+length-failing sc its (c ∷ cs) q =
+    length-append (with_each q (part_way sc its c).negations) (failing_by (map (part_way sc its) cs) (q ++ (part_way sc its c).row ∷ []))
+    ∙ (λ i. one c.form c.rel (lowered_in sc its c.form) i + length-failing sc its cs (q ++ (part_way sc its c).row ∷ []) i)
   where
-    one : (r : Rel) (f : Affine) → length (with_each q (negations r f)) ≡ ways_by r
-    one NonNegative f = refl
-    one Zero f = refl
-    one (Divides m) f = refl
+    one : (e : IndexExpr) (r : Rel) (f : Affine) → length (with_each q (rel_way sc e r f).negations) ≡ ways_by r
+    one e NonNegative f = refl
+    one e Zero f = refl
+    one e (Divides m) f = refl
 
-pub length-fails : (its : List Affine) (cs : List Comparison) (qs : List (List Row)) → length (flat_map (failing its cs) qs) ≡ length qs * ways cs
-length-fails its cs [] = grind arith
-length-fails its cs (q ∷ qs) = let e = length-append (failing its cs q) (flat_map (failing its cs) qs) in let f = length-failing its cs q in let g = length-fails its cs qs in grind (arith, e, f, g)
+length-parts : (sc : Scope) (its : List Affine) (cs : List Comparison) (qs : List (List Row)) → length (flat_map (failing_by (map (part_way sc its) cs)) qs) ≡ length qs * ways cs
+length-parts sc its cs [] = grind arith
+length-parts sc its cs (q ∷ qs) =
+    let e = length-append (failing_by (map (part_way sc its) cs) q) (flat_map (failing_by (map (part_way sc its) cs)) qs) in
+    let f = length-failing sc its cs q in
+    let g = length-parts sc its cs qs in
+    grind (arith, e, f, g)
+
+-- how many pieces there are in a loop, and where a condition holds and where it fails
+pub length-loop : (sc : Scope) (number : ℕ) (start : IndexExpr) (cond : Cond) (step : ℤ) → length (in_loop sc number start cond step).pieces ≡ length sc.pieces
+length-loop sc number start cond step = length-map (with_quots sc start.quots).pieces _ ∙ ap length (grown_all sc start.quots).pieces
+
+pub length-holds : (sc : Scope) (cond : Cond) → length (where_holds sc cond).pieces ≡ length sc.pieces
+length-holds sc cond = length-map (with_quots sc (flat_map part_quots cond.parts)).pieces _ ∙ ap length (grown_all sc (flat_map part_quots cond.parts)).pieces
+
+pub length-fails : (sc : Scope) (cond : Cond) → length (where_fails sc cond).pieces ≡ length sc.pieces * ways cond.parts
+length-fails sc cond =
+    let c : Scope = with_quots sc (flat_map part_quots cond.parts) in
+    length-parts c c.iters cond.parts c.pieces ∙ ap (λ (qs : List (List Row)). length qs * ways cond.parts) (grown_all sc (flat_map part_quots cond.parts)).pieces
 
 ways_some : (cs : List Comparison) → 0 < length cs → 0 < ways cs
 ways_some [] h = absurd (omega arith)
@@ -59,7 +78,7 @@ lost_loop sc inner ok more e (inr l) = inr (omega arith)
 
 lost_other : (sc : Scope) (cond : Cond) (ok more : Type 0) → 0 < length cond.parts → Lost sc ok → Lost (where_fails sc cond) (ok × more)
 lost_other sc cond ok more h (inl n) = inl (λ h. n h.0)
-lost_other sc cond ok more h (inr l) = inr (let w = ways_some cond.parts h in let e = length-fails sc.iters cond.parts sc.pieces in more_of (length sc.pieces) (ways cond.parts) _ l w e)
+lost_other sc cond ok more h (inr l) = inr (let w = ways_some cond.parts h in let e = length-fails sc cond in more_of (length sc.pieces) (ways cond.parts) _ l w e)
   where
     more_of : (a w n : ℕ) → 16 < a → 0 < w → n ≡ a * w → 16 < n
     more_of a w n h i e = rw e (many a w h i)
@@ -71,8 +90,8 @@ lost_other sc cond ok more h (inr l) = inr (let w = ways_some cond.parts h in le
 abbrev pub Counts : ℕ → ℕ → Type 0
 Counts n m = (n ≡ m) ⊎ ((16 < n) × (16 < m))
 
-counts_map : {A B : Type 0} (n : ℕ) (xs : List A) (f : A → B) → Counts n (length xs) → Counts n (length (map f xs))
-counts_map n xs f h = subst (Counts n) (sym (length-map xs f)) h
+counts_as : (n m k : ℕ) → k ≡ m → Counts n m → Counts n k
+counts_as n m k e h = subst (Counts n) (sym e) h
 
 many : (a w : ℕ) → 16 < a → 0 < w → 16 < a * w
 many a w h i = grind arith
@@ -86,8 +105,8 @@ counts_by n m w h c = by (nat_lt 16 n) refl c
     by false e (inl q) = rw e (inl (ap (λ k. k * w) q))
     by false e (inr p) = absurd (let l : n ≤ 16 = grind (arith, nat_tests, e) in omega (arith, p.0))
 
-counts_other : (n : ℕ) (its : List Affine) (cs : List Comparison) (qs : List (List Row)) → 0 < length cs → Counts n (length qs) → Counts (pieces_by n (ways cs)) (length (flat_map (failing its cs) qs))
-counts_other n its cs qs h c = subst (Counts (pieces_by n (ways cs))) (sym (length-fails its cs qs)) (counts_by n (length qs) (ways cs) (ways_some cs h) c)
+counts_other : (n : ℕ) (sc : Scope) (cond : Cond) → 0 < length cond.parts → Counts n (length sc.pieces) → Counts (pieces_by n (ways cond.parts)) (length (where_fails sc cond).pieces)
+counts_other n sc cond h c = counts_as _ _ _ (length-fails sc cond) (counts_by n (length sc.pieces) (ways cond.parts) (ways_some cond.parts h) c)
 
 neither : (a b : Option LowerFault) → or_first a b ≡ None → (a ≡ None) × (b ≡ None)
 neither None b h = (refl, h)
@@ -108,16 +127,16 @@ mutual
 
   pub lost : (ps xs : ℕ) (s : Stmt) (loop : ℕ) (sc : Scope) (ok : Type 0) (n : ℕ) → Ready ps xs s → Lost sc ok → Counts n (length sc.pieces) → Tells (fault s n) (IsLowerable s loop sc ok) (IsFirst s loop sc ok)
   lost ps xs (For' iter start cond step k body place) loop sc ok n r l e =
-      lost_in ps (xs + 1) body (suc loop) (in_loop sc loop start cond step) (ok × CanEnter sc start cond step) n r.3
-      (lost_loop sc (in_loop sc loop start cond step) ok (CanEnter sc start cond step) (length-map sc.pieces _) l) (counts_map n sc.pieces _ e)
+      lost_in ps (xs + 1) body (suc loop) (in_loop sc loop start cond step) (ok × CanEnter sc loop start cond step) n r.4
+      (lost_loop sc (in_loop sc loop start cond step) ok (CanEnter sc loop start cond step) (length-loop sc loop start cond step) l) (counts_as _ _ _ (length-loop sc loop start cond step) e)
   lost ps xs (If' cond k taken m other place) loop sc ok n r l e =
       tells_or (fault_in taken n) (fault_in other (pieces_by n (ways cond.parts))) _ _ _ _
-      (lost_in ps xs taken loop (where_holds sc cond) (ok × CanHold sc.iters cond.parts) n r.1 (lost_loop sc (where_holds sc cond) ok (CanHold sc.iters cond.parts) (length-map sc.pieces _) l) (counts_map n sc.pieces _ e))
-      (lost_in ps xs other (loop + loop_count_in taken) (where_fails sc cond) (ok × CanFail sc.iters cond.parts) (pieces_by n (ways cond.parts)) r.2 (lost_other sc cond ok (CanFail sc.iters cond.parts) r.3 l)
-      (counts_other n sc.iters cond.parts sc.pieces r.3 e))
+      (lost_in ps xs taken loop (where_holds sc cond) (ok × CanHold sc cond) n r.1 (lost_loop sc (where_holds sc cond) ok (CanHold sc cond) (length-holds sc cond) l) (counts_as _ _ _ (length-holds sc cond) e))
+      (lost_in ps xs other (loop + loop_count_in taken) (where_fails sc cond) (ok × CanFail sc cond) (pieces_by n (ways cond.parts)) r.2 (lost_other sc cond ok (CanFail sc cond) r.3 l)
+      (counts_other n sc cond r.3 e))
   lost ps xs (Assign array subs value place) loop sc ok n r l e = by (nat_lt 16 n) refl l e
     where
-      by : (b : Bool) → nat_lt 16 n ≡ b → Lost sc ok → Counts n (length sc.pieces) → Names place sc (ok × CanAssign sc.iters subs value) (Rattle.std.proofs.Common.cond (nat_lt 16 n) (Pieces place) (Wide place))
+      by : (b : Bool) → nat_lt 16 n ≡ b → Lost sc ok → Counts n (length sc.pieces) → Names place sc (ok × CanAssign sc subs value) (Rattle.std.proofs.Common.cond (nat_lt 16 n) (Pieces place) (Wide place))
       by true h m (inl q) = rw h (refl, let k : 16 < n = grind (arith, nat_tests, h) in omega arith)
       by true h m (inr p) = rw h (refl, p.1)
       by false h (inl m) (inl q) = rw h (refl, (let k : n ≤ 16 = grind (arith, nat_tests, h) in omega arith), λ k. m k.0)

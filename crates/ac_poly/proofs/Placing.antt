@@ -1,18 +1,9 @@
 -- The rows of elements hold where the coordinates lie below the extents.
-use Rattle.std.proofs.Common.{◌≡◌, ◌↔◌, ◌⊎◌, inl, inr, ℕ, zero, suc, ◌+◌, ◌-◌, ◌≤◌, List, [], ◌∷◌, ◌++◌, length, take, drop, replicate, get_or, refl, sym, ap, ◌∙◌, subst, arith, ℤ, pos, negsuc, ◌+ℤ◌, ◌*ℤ◌, ◌≤ℤ◌, length-append, append-nil}
+use Rattle.std.proofs.Common.{◌≡◌, ◌↔◌, ℕ, ◌+◌, List, [], ◌∷◌, get_or, sym, ◌∙◌, subst, arith, ℤ, pos, negsuc, ◌+ℤ◌, ◌*ℤ◌, ◌≤ℤ◌}
 use Rattle.std.specs.Prelude.{◌<ℤ◌}
 use Rattle.std.proofs.lemmas.Int.{ints}
-use Rattle.std.proofs.lemmas.List.{drop_all}
-use Rattle.std.proofs.Math.ListN.{take-append-drop, length-take, length-drop, length-replicate}
-use Rattle.ac_base.specs.Dot.{dot}
-use Rattle.ac_base.specs.Multiple.{IsMultiple}
-use Rattle.ac_base.proofs.Dot.{dot-append, dot-append_both}
 use Rattle.ac_forms.specs.Affine.{Affine, value_at, column_form, combined}
-use Rattle.ac_forms.specs.Rows.{Holds, IsRowOver}
-use Rattle.ac_forms.specs.declared.row.Row.{Row}
-use Rattle.ac_forms.specs.declared.row.Row.TheVariants.{Eq, Div, Ge}
 use Rattle.ac_forms.proofs.Values.{value_at-combined, value_at-shifted}
-use Rattle.ac_poly.specs.LevelRows.{numbers}
 use Rattle.ac_poly.specs.CoordinateColumns.{room, ElementRowsHold}
 use Rattle.ac_poly.proofs.Differences.{column-value}
 

@@ -1,118 +1,112 @@
--- At an instance, the forms of its assignment have the values of its index expressions.
-use Rattle.std.proofs.Common.{◌≡◌, ◌⊎◌, inl, inr, ℕ, suc, ◌+◌, List, [], ◌∷◌, ◌++◌, length, map, refl, sym, ap, ◌∙◌, arith, ℤ, pos, ◌+ℤ◌, ◌*ℤ◌, subst}
-use Rattle.std.specs.List.{AllByRecursion}
-use Rattle.ac_forms.specs.Affine.{Affine}
-use Rattle.ac_syntax.specs.Index.{Point, index_value}
-use Rattle.ac_syntax.specs.Algebra.{target}
-use Rattle.ac_syntax.specs.ReadyPrograms.{Fits}
-use Rattle.ac_syntax.specs.Trace.{Entry, assignments, assignments_in, trace, trace_all}
-use Rattle.ac_syntax.specs.Turns.{inside}
-use Rattle.ac_syntax.specs.LoopNests.{loop_count, loop_count_in}
-use Rattle.ac_syntax.proofs.Instances.{instance_of_trace}
-use Rattle.std.specs.List.{Contains}
-use Rattle.std.proofs.lemmas.List.Elements.{Contains-append_cases}
-use Rattle.ac_syntax.specs.Instance.{IsInstance, IsInstanceIn}
-use Rattle.ac_syntax.specs.declared.tree.Stmt.{Stmt, Row_of-Stmt, end_of-Stmt, more_of-Stmt}
-use Rattle.ac_syntax.specs.declared.tree.Stmt.TheVariants.{For', If', Assign}
-use Rattle.ac_poly.specs.declared.scope.Scope.{Scope}
-use Rattle.ac_poly.specs.declared.types.StmtModel.{StmtModel}
-use Rattle.ac_poly.specs.IndexForms.{lowered}
-use Rattle.ac_poly.specs.ModelNodes.{nodes}
-use Rattle.ac_poly.specs.Lower.{in_loop, where_holds, where_fails, lowered_body, outermost}
-use Rattle.ac_poly.specs.ModelMeaning.{cell_of, TargetsAreCells, NodesAreValues, Shows}
-use Rattle.ac_poly.proofs.Relation.{IsLowered, IsLoweredIn, IsLoweredAll}
-use Rattle.ac_poly.proofs.Bodies.{is_lowered, lowered_after, instance_after, stands_outermost}
-use Rattle.ac_syntax.specs.ReadyPrograms.{FitsValue, Ready, ReadyIn, ReadyAll}
+-- At an instance, the forms of its assignment have the values of its index expressions, and its quotients those of the text.
+use Rattle.std.proofs.Common.{◌≡◌, ℕ, ◌+◌, List, [], ◌∷◌, ◌++◌, length, map, true, refl, sym, ap, ◌∙◌, ℤ, subst}
 use Rattle.std.specs.Prelude.{slice_get, Some}
-use Rattle.ac_poly.proofs.Values.{worth, all_values}
-use Rattle.ac_poly.proofs.NodeForms.{length-nodes, node_shows}
-use Rattle.ac_poly.proofs.Scopes.{Stands, stands_loop, stands_taken, stands_other}
-use Rattle.ac_poly.proofs.Points.{instance_range, instance_range_in, lowered_range, lowered_range_in}
+use Rattle.std.specs.List.{Contains, flat_map, list_any}
+use Rattle.ac_forms.specs.Affine.{Affine, value_at}
+use Rattle.ac_forms.specs.Renaming.{renamed}
+use Rattle.ac_syntax.specs.Index.{Point, index_value, quot_value}
+use Rattle.ac_syntax.specs.Quotients.{quotients_of}
+use Rattle.ac_syntax.specs.FittingForms.{FormsFit}
+use Rattle.ac_syntax.specs.ReadyPrograms.{ReadyAll}
+use Rattle.ac_syntax.specs.Trace.{Entry, trace_of}
+use Rattle.ac_syntax.specs.ValueNodes.{size, node_of}
+use Rattle.ac_syntax.specs.declared.tree.IndexExpr.{IndexExpr}
+use Rattle.ac_syntax.specs.declared.tree.Quot.{Quot}
+use Rattle.ac_syntax.specs.declared.tree.Stmt.{Stmt}
+use Rattle.ac_syntax.specs.declared.tree.Value.{Value}
+use Rattle.ac_poly_quotients.specs.LastColumns.{final_columns}
+use Rattle.ac_poly_quotients.specs.LoopPaths.{depth_of, point_at, FitsPath}
+use Rattle.ac_poly_quotients.specs.OwnQuotients.{form_quots, value_quots}
+use Rattle.ac_poly_quotients.specs.QuotientRows.{quotients_at}
+use Rattle.ac_poly_quotients.specs.QuotientScopes.{outermost, is_named, lowered_in}
+use Rattle.ac_poly_quotients.specs.declared.types.Rounded.{Rounded}
+use Rattle.ac_poly_quotients.specs.declared.types.Scope.{Scope}
+use Rattle.ac_poly_quotients.proofs.LoopPaths.{forms_of_path, named_at_end, paths_have_quotients}
+use Rattle.ac_poly_quotients.proofs.NotedColumns.{AreNamed, named_front}
+use Rattle.ac_poly.specs.Lower.{last_form, lowered_body}
+use Rattle.ac_poly.specs.ModelMeaning.{values_at, Shows, TargetsAreCells, NodesAreValues}
+use Rattle.ac_poly.specs.ModelNodes.{nodes}
+use Rattle.ac_poly.specs.StmtCoordinates.{coordinates_at}
+use Rattle.ac_poly.specs.declared.types.StmtModel.{StmtModel}
+use Rattle.ac_poly.proofs.Bodies.{outside, scope_of, Ended, Told, told_at}
+use Rattle.ac_poly.proofs.EndQuotients.{quotients_end_all}
+use Rattle.ac_poly.proofs.NodeForms.{EachForm, each_form, length-nodes, node_shows}
+use Rattle.ac_poly.proofs.PathEnds.{End, end_quots}
 
--- the forms of the iterators at an entry
-pub record Told (ps : List ℤ) (l : StmtModel) (e : Entry) : Type 0 where
-  pub its : List Affine
-  pub point : e.point ≡ record { params = ps; iters = worth (ps ++ e.counters) its }
-  pub array : l.array ≡ e.array
-  pub subs : l.subs ≡ map (lowered its) e.subs
-  pub fit : AllByRecursion (Fits (length ps) (length its)) e.subs
-  pub nodes : l.nodes ≡ nodes its e.value 0
-  pub fits : FitsValue (length ps) (length its) e.value
-  pub counters : length e.counters ≡ length l.loops
+-- ---- the forms at the end of a way
 
-mutual
-  unfolding IsLowered IsInstance Ready
+-- an expression whose quotients have columns
+form_value : (ps : List ℤ) (w : End) (l : StmtModel) (zs : List ℤ) (t : IndexExpr) → Ended ps w l → FitsPath (length ps) 0 w.path (end_quots w) → length zs ≡ depth_of w.path → length t.params ≡ length ps
+    → AreNamed (scope_of ps w) t.quots → value_at (last_form (scope_of ps w) t) (ps ++ coordinates_at l ps zs) ≡ index_value (point_at (outside ps) w.path zs) t
+form_value ps w l zs t m f d p n =
+    let c : Scope = scope_of ps w in
+    let columns : List ℕ = final_columns (length ps) (depth_of w.path) c.columns in
+    ap (λ (ks : List ℕ). value_at (renamed ks (lowered_in c c.iters t)) (ps ++ coordinates_at l ps zs)) m.moved
+    ∙ ap (λ (qs : List Rounded). value_at (renamed columns (lowered_in c c.iters t)) (ps ++ (zs ++ quotients_at qs (ps ++ zs)))) m.quots
+    ∙ forms_of_path ps w.path (end_quots w) t zs f d p n
 
-  pub told : (s : Stmt) (first loop : ℕ) (sc : Scope) (xs : ℕ) (p : Point) (zs : List ℤ) (k : ℕ) (l : StmtModel) (e : Entry)
-      → Stands xs p zs sc → Ready (length p.params) xs s → IsLowered s first loop sc k l → IsInstance s first p zs e → e.stmt ≡ k → Told p.params l e
-  told (For' iter start cond step n body place) first loop sc xs p zs k l e h r i (t, lt, is) q =
-      told_in body first (suc loop) (in_loop sc loop start cond step) (xs + 1) (inside p (index_value p start +ℤ (step *ℤ pos t))) (zs ++ pos t ∷ []) k l e
-      (stands_loop xs p zs sc loop start cond step (pos t) h r.0 r.1) r.3 i is q
-  told (If' cond n taken m other place) first loop sc xs p zs k l e h r (inl i) (inl is) q = told_in taken first loop (where_holds sc cond) xs p zs k l e (stands_taken xs p zs sc cond h r.0) r.1 i is.1 q
-  told (If' cond n taken m other place) first loop sc xs p zs k l e h r (inl i) (inr is) q =
-      absurd (let a = lowered_range_in taken first loop _ k l i in let b = instance_range_in other (first + assignments_in taken) p zs e is.1 in omega arith)
-  told (If' cond n taken m other place) first loop sc xs p zs k l e h r (inr i) (inl is) q =
-      absurd (let a = lowered_range_in other (first + assignments_in taken) (loop + loop_count_in taken) _ k l i in let b = instance_range_in taken first p zs e is.1 in omega arith)
-  told (If' cond n taken m other place) first loop sc xs p zs k l e h r (inr i) (inr is) q =
-      told_in other (first + assignments_in taken) (loop + loop_count_in taken) (where_fails sc cond) xs p zs k l e (stands_other xs p zs sc cond h r.0) r.2 i is.1 q
-  told (Assign array subs value place) first loop sc xs p zs k l e h r i is q =
-      subst (λ (e : Entry). Told p.params l e) (sym is)
-      (record {
-        its = sc.iters;
-        point = (let v = sym h.values in λ i. record { params = p.params; iters = v i });
-        array = ap (λ (l : StmtModel). l.array) i.1;
-        subs = ap (λ (l : StmtModel). l.subs) i.1;
-        fit = subst (λ n. AllByRecursion (Fits (length p.params) n) subs) (sym h.iters) r.0;
-        nodes = ap (λ (l : StmtModel). l.nodes) i.1;
-        fits = subst (λ n. FitsValue (length p.params) n value) (sym h.iters) r.1;
-        counters = h.counters ∙ sym h.loops ∙ sym (ap (λ (l : StmtModel). length l.loops) i.1);
-      })
+form_values : (ps : List ℤ) (w : End) (l : StmtModel) (zs : List ℤ) (xs : ℕ) (es : List IndexExpr) → Ended ps w l → FitsPath (length ps) 0 w.path (end_quots w) → length zs ≡ depth_of w.path → FormsFit (length ps) xs es
+    → AreNamed (scope_of ps w) (flat_map form_quots es) → values_at (ps ++ coordinates_at l ps zs) (map (last_form (scope_of ps w)) es) ≡ map (index_value (point_at (outside ps) w.path zs)) es
+form_values ps w l zs xs [] m f d g n = refl
+form_values ps w l zs xs (e ∷ es) m f d g n =
+    let ns = named_front (scope_of ps w) (form_quots e) (flat_map form_quots es) n in
+    let first = form_value ps w l zs e m f d g.0.params ns.0 in
+    let rest = form_values ps w l zs xs es m f d g.1 ns.1 in
+    λ i. first i ∷ rest i
 
-  pub told_in : {m : _} (b : Row_of-Stmt m) (first loop : ℕ) (sc : Scope) (xs : ℕ) (p : Point) (zs : List ℤ) (k : ℕ) (l : StmtModel) (e : Entry)
-      → Stands xs p zs sc → ReadyIn (length p.params) xs b → IsLoweredIn b first loop sc k l → IsInstanceIn b first p zs e → e.stmt ≡ k → Told p.params l e
-  told_in end_of-Stmt first loop sc xs p zs k l e h r i is q = absurd i
-  told_in (more_of-Stmt s rs) first loop sc xs p zs k l e h r (inl i) (inl is) q = told s first loop sc xs p zs k l e h r.0 i is q
-  told_in (more_of-Stmt s rs) first loop sc xs p zs k l e h r (inl i) (inr is) q =
-      absurd (let a = lowered_range s first loop sc k l i in let b = instance_range_in rs (first + assignments s) p zs e is in omega arith)
-  told_in (more_of-Stmt s rs) first loop sc xs p zs k l e h r (inr i) (inl is) q =
-      absurd (let a = lowered_range_in rs (first + assignments s) (loop + loop_count s) sc k l i in let b = instance_range s first p zs e is in omega arith)
-  told_in (more_of-Stmt s rs) first loop sc xs p zs k l e h r (inr i) (inr is) q = told_in rs (first + assignments s) (loop + loop_count s) sc xs p zs k l e h r.1 i is q
-
--- the cell that an entry writes
-pub target_is : (ps : List ℤ) (l : StmtModel) (e : Entry) → Told ps l e → target e ≡ cell_of l (ps ++ e.counters)
-target_is ps l e t =
-    let v = ap (λ p. map (index_value p) e.subs) t.point ∙ all_values ps e.counters t.its e.subs t.fit ∙ ap (worth (ps ++ e.counters)) (sym t.subs) in
-    let a = sym t.array in
-    λ i. record { array = a i; at = v i }
-
-told_all : (ss : List Stmt) (first loop : ℕ) (sc : Scope) (xs : ℕ) (p : Point) (zs : List ℤ) (k : ℕ) (l : StmtModel) (e : Entry)
-    → Stands xs p zs sc → ReadyAll (length p.params) xs ss → IsLoweredAll ss first loop sc k l → Contains (trace_all ss first p zs) e → e.stmt ≡ k → Told p.params l e
-told_all [] first loop sc xs p zs k l e h r i c q = absurd i
-told_all (s ∷ ss) first loop sc xs p zs k l e h r i c q =
-    by i (Contains-append_cases (trace s first p zs) (trace_all ss (first + assignments s) p zs) e c) (λ i c. told_all ss (first + assignments s) (loop + loop_count s) sc xs p zs k l e h r.1 i c q)
-  where
-    by : IsLowered s first loop sc k l ⊎ IsLoweredAll ss (first + assignments s) (loop + loop_count s) sc k l → Contains (trace s first p zs) e ⊎ Contains (trace_all ss (first + assignments s) p zs) e
-        → (IsLoweredAll ss (first + assignments s) (loop + loop_count s) sc k l → Contains (trace_all ss (first + assignments s) p zs) e → Told p.params l e) → Told p.params l e
-    by (inl i) (inl c) again = told s first loop sc xs p zs k l e h r.0 i (instance_of_trace s first p zs e c) q
-    by (inl i) (inr c) again = absurd (let a = lowered_range s first loop sc k l i in omega (arith, instance_after ss (first + assignments s) p zs e c))
-    by (inr i) (inl c) again = absurd (let a = instance_range s first p zs e (instance_of_trace s first p zs e c) in omega (arith, lowered_after ss (first + assignments s) (loop + loop_count s) sc k l i))
-    by (inr i) (inr c) again = again i c
-
--- what the model of an assignment has at one of its entries
-pub told_at : (body : List Stmt) (ps : List ℤ) (e : Entry) (l : StmtModel) → ReadyAll (length ps) 0 body → slice_get (lowered_body (length ps) body) e.stmt ≡ Some l → Contains (trace_all body 0 (record { params = ps; iters = [] }) []) e → Told ps l e
-told_at body ps e l r at c =
-    let k = e.stmt in
-    told_all body 0 0 (outermost (length ps)) 0 (record { params = ps; iters = [] }) [] k l e (stands_outermost ps) r (is_lowered body (length ps) k l at) c refl
+-- ---- the cell that an entry writes
 
 pub targets_are_cells : TargetsAreCells
-targets_are_cells body ps e l r at c = target_is ps l e (told_at body ps e l r at c)
+targets_are_cells body ps e l r low c =
+    let t = told_at body ps e l r low c in
+    let w : End = t.at in
+    let ns = named_front (scope_of ps w) (value_quots w.value) (flat_map form_quots w.subs) (named_at_end (outermost (length ps)) w.path (end_quots w)) in
+    let here = form_values ps w l e.counters (0 + depth_of w.path) w.subs t.model t.fits.path t.counted t.fits.subs ns.1 in
+    let subs : l.subs ≡ map (last_form (scope_of ps w)) w.subs = ap (λ (l : StmtModel). l.subs) t.is in
+    let array : e.array ≡ l.array = t.array ∙ sym (ap (λ (l : StmtModel). l.array) t.is) in
+    let values : map (index_value e.point) e.subs ≡ values_at (ps ++ coordinates_at l ps e.counters) l.subs =
+    (λ i. map (index_value (t.point i)) (t.subs i)) ∙ sym here ∙ ap (values_at (ps ++ coordinates_at l ps e.counters)) (sym subs) in
+    λ i. record { array = array i; at = values i }
+
+-- ---- the nodes of its value
 
 pub nodes_are_values : NodesAreValues
-nodes_are_values body ps e l r at c =
-    let t = told_at body ps e l r at c in (
-      ap length t.nodes ∙ length-nodes t.its e.value 0,
-      (λ number v h.
-          subst (λ p. Shows (ps ++ e.counters) p v number (slice_get l.nodes number)) (sym t.point)
-          (subst (λ ns. Shows (ps ++ e.counters) (record { params = ps; iters = worth (ps ++ e.counters) t.its }) v number (slice_get ns number)) (sym t.nodes)
-          (node_shows ps e.counters t.its e.value number v t.fits h))),
-    )
+nodes_are_values body ps e l r low c = (ap length made ∙ length-nodes form w.value 0 ∙ ap size (sym t.value), shows)
+  where
+    t : Told ps body l e
+    t = told_at body ps e l r low c
+
+    w : End
+    w = t.at
+
+    form : IndexExpr → Affine
+    form = last_form (scope_of ps w)
+
+    full : List ℤ
+    full = ps ++ coordinates_at l ps e.counters
+
+    made : l.nodes ≡ nodes form w.value 0
+    made = ap (λ (l : StmtModel). l.nodes) t.is
+
+    each : EachForm (λ (x : IndexExpr). value_at (form x) full ≡ index_value (point_at (outside ps) w.path e.counters) x) w.value
+    each =
+        each_form (length ps) (0 + depth_of w.path) (λ (q : Quot). list_any (is_named q) (scope_of ps w).quots ≡ true) (λ (x : IndexExpr). value_at (form x) full ≡ index_value (point_at (outside ps) w.path e.counters) x)
+        (λ x f n. form_value ps w l e.counters x t.model t.fits.path t.counted f.params n) w.value t.fits.value
+        (named_front (scope_of ps w) (value_quots w.value) (flat_map form_quots w.subs) (named_at_end (outermost (length ps)) w.path (end_quots w))).0
+
+    shows : (number : ℕ) (v : Value) → node_of e.value number ≡ Some v → Shows full e.point v number (slice_get l.nodes number)
+    shows number v h =
+        let g : node_of w.value number ≡ Some v = ap (λ (u : Value). node_of u number) (sym t.value) ∙ h in
+        subst (λ (p : Point). Shows full p v number (slice_get l.nodes number)) (sym t.point)
+        (subst (λ ns. Shows full (point_at (outside ps) w.path e.counters) v number (slice_get ns number)) (sym made) (node_shows full (point_at (outside ps) w.path e.counters) form w.value number v each g))
+
+-- ---- its quotients
+
+pub quotients_are_values : (body : List Stmt) (ps : List ℤ) (e : Entry) (l : StmtModel) → ReadyAll (length ps) 0 body → slice_get (lowered_body (length ps) body) e.stmt ≡ Some l → Contains (trace_of body ps) e
+    → quotients_at l.quots (ps ++ e.counters) ≡ map (quot_value e.point) (quotients_of body e.stmt)
+quotients_are_values body ps e l r low c =
+    let t = told_at body ps e l r low c in
+    let w : End = t.at in
+    let named = quotients_end_all body 0 0 e.stmt w [] t.leads in
+    ap (λ (qs : List Rounded). quotients_at qs (ps ++ e.counters)) t.model.quots ∙ paths_have_quotients ps w.path (end_quots w) e.counters t.fits.path t.counted
+    ∙ (λ i. map (quot_value (sym t.point i)) (sym named i))

@@ -2,7 +2,9 @@
 use Rattle.std.proofs.Common.{◌≡◌, ◌⊎◌, inl, inr, ℕ, suc, ◌+◌, ◌*◌, ◌<◌, ◌≤◌, List, [], ◌∷◌, ◌++◌, length, refl, rules, sym, ap, ◌∙◌, arith, Result, Ok, Err, sum_by, ℤ, subst, IfOk, append_assoc, append-nil, map, drop, get_or, add_assoc, add-zero, length-append, false}
 use Rattle.std.specs.Prelude.{nat_lt}
 use Rattle.std.proofs.lemmas.Bool.Decides.{nat_tests}
-use Rattle.std.proofs.lemmas.List.{length-map, drop_more, drop_all}
+use Rattle.std.proofs.lemmas.List.{drop_more, drop_all}
+use Rattle.std.specs.List.{flat_map}
+use Rattle.ac_forms.specs.Affine.{Affine}
 use Rattle.std.proofs.lemmas.List.Sums.{sum_by-cons}
 use Rattle.std.specs.Result.{IsErrAnd}
 use Rattle.ac_forms.specs.FormStops.{MadeIff}
@@ -16,17 +18,19 @@ use Rattle.ac_syntax.specs.declared.tree.Value.{Value}
 use Rattle.ac_syntax.specs.declared.tree.Cond.{Cond}
 use Rattle.ac_syntax.specs.declared.tree.Stmt.{Stmt, Row_of-Stmt, end_of-Stmt, more_of-Stmt, items-the_row-Stmt, the_lemmas}
 use Rattle.ac_syntax.specs.declared.tree.Stmt.TheVariants.{For, If, Assign, For', If'}
-use Rattle.ac_poly.specs.IndexForms.{lowered, stepping, rows_of}
-use Rattle.ac_poly.specs.Lower.{columns, loop_rows, in_loop, where_holds, where_fails, assigned, lower, lower_in, lower_all}
-use Rattle.ac_poly.specs.LoweringRange.{CanHold, CanFail, CanEnter, CanAssign}
+use Rattle.ac_poly_quotients.specs.QuotientScopes.{with_quots, part_quots, lowered_in, with_counter, in_loop, where_holds, where_fails}
+use Rattle.ac_poly_quotients.specs.ScopeRange.{CanHold, CanFail, CanEnter}
+use Rattle.ac_poly_quotients.specs.declared.types.Scope.{Scope}
+use Rattle.ac_poly_quotients.proofs.NotedColumns.{grown_all}
+use Rattle.ac_poly.specs.Lower.{assigned, lower, lower_in, lower_all}
+use Rattle.ac_poly.specs.LoweringRange.{CanAssign}
 use Rattle.ac_poly.specs.LoweringFaults.{IsLowerable, IsLowerableIn, IsFirst, IsFirstIn, AreLowerable, IsFirstAll}
 use Rattle.ac_poly.specs.LoweringSteps.{ways, pieces_by, Lowers, LowersAll, LowersWithin, SeeksAll}
-use Rattle.ac_poly.specs.declared.scope.Scope.{Scope}
 use Rattle.ac_poly.specs.declared.types.StmtModel.{StmtModel}
 use Rattle.ac_poly.specs.declared.types.LowerFault.{LowerFault}
 use Rattle.ac_poly.specs.declared.types.LowerFault.TheVariants.{Wide}
 use Rattle.ac_poly.proofs.Answering.{answers_map, err_map, err_is}
-use Rattle.ac_poly.proofs.Lost.{Tells, lost_all, nothing_all, fine_as, first_as, length-fails}
+use Rattle.ac_poly.proofs.Lost.{Tells, lost_all, nothing_all, fine_as, first_as, length-loop, length-holds, length-fails}
 use Rattle.ac_poly.proofs.Seeking.{loops_row, loops_for, loops_if}
 
 lower_row : (m : _) (k : Row_of-Stmt m) (number : ℕ) (sc : Scope) → lower_in k number sc ≡ lower_all (items-the_row-Stmt m k) number sc
@@ -54,10 +58,25 @@ lower_if : (cond : Cond) (taken other : List Stmt) (place : Place) (number : ℕ
     → lower (If cond taken other place) number sc ≡ lower_all taken number (where_holds sc cond) ++ lower_all other (number + sum_by loop_count taken) (where_fails sc cond)
 lower_if cond taken other place number sc = search (rules, the_lemmas, lower_if_row)
 
--- what is ready around the body of a loop is ready in its scope
+-- what is ready around the body of a loop is ready in its scope, and so is what is ready around a branch
+loop_around : (sc : Scope) (number : ℕ) (start : IndexExpr) (cond : Cond) (step : ℤ) → ((in_loop sc number start cond step).params ≡ sc.params) × (length (in_loop sc number start cond step).iters ≡ length sc.iters + 1)
+loop_around sc number start cond step =
+    let a : Scope = with_quots sc start.quots in
+    let b : Scope = with_counter a number (lowered_in a a.iters start) step in
+    let g = grown_all sc start.quots in
+    let h = grown_all b (flat_map part_quots cond.parts) in
+    let n : length b.iters ≡ length a.iters + 1 = length-append a.iters _ in
+    (h.params ∙ g.params, ap length h.iters ∙ n ∙ ap (λ (fs : List Affine). length fs + 1) g.iters)
+
 pub ready_in_loop : (sc : Scope) (number : ℕ) (start : IndexExpr) (cond : Cond) (step : ℤ) (body : List Stmt) → ReadyAll sc.params (length sc.iters + 1) body
-    → ReadyAll sc.params (length (in_loop sc number start cond step).iters) body
-ready_in_loop sc number start cond step body h = rw (length-append sc.iters (stepping (lowered sc.iters start) step (columns sc) ∷ [])) h
+    → ReadyAll (in_loop sc number start cond step).params (length (in_loop sc number start cond step).iters) body
+ready_in_loop sc number start cond step body h = let e = loop_around sc number start cond step in rw (e.0, e.1) h
+
+pub ready_holds : (sc : Scope) (cond : Cond) (body : List Stmt) → ReadyAll sc.params (length sc.iters) body → ReadyAll (where_holds sc cond).params (length (where_holds sc cond).iters) body
+ready_holds sc cond body h = let g = grown_all sc (flat_map part_quots cond.parts) in rw (g.params, g.iters) h
+
+pub ready_fails : (sc : Scope) (cond : Cond) (body : List Stmt) → ReadyAll sc.params (length sc.iters) body → ReadyAll (where_fails sc cond).params (length (where_fails sc cond).iters) body
+ready_fails sc cond body h = let g = grown_all sc (flat_map part_quots cond.parts) in rw (g.params, g.iters) h
 
 fine_row : (m : _) (k : Row_of-Stmt m) (loop : ℕ) (sc : Scope) (ok : Type 0) → IsLowerableIn k loop sc ok ≡ AreLowerable (items-the_row-Stmt m k) loop sc ok
 unfolding IsLowerable
@@ -70,40 +89,40 @@ first_row m end_of-Stmt loop sc ok f = refl
 first_row m (more_of-Stmt {n = n} s rest) loop sc ok f = λ i. IsFirst s loop sc ok f ⊎ (IsLowerable s loop sc ok × first_row n rest (loop + loop_count s) sc ok f i)
 
 fine_for : (iter : List ℕ) (start : IndexExpr) (cond : Cond) (step : ℤ) (body : List Stmt) (place : Place) (loop : ℕ) (sc : Scope) (ok : Type 0)
-    → IsLowerable (For iter start cond step body place) loop sc ok ≡ AreLowerable body (suc loop) (in_loop sc loop start cond step) (ok × CanEnter sc start cond step)
+    → IsLowerable (For iter start cond step body place) loop sc ok ≡ AreLowerable body (suc loop) (in_loop sc loop start cond step) (ok × CanEnter sc loop start cond step)
 unfolding IsLowerable
 fine_for iter start cond step body place loop sc ok = search (rules, the_lemmas, fine_row)
 
 first_for : (iter : List ℕ) (start : IndexExpr) (cond : Cond) (step : ℤ) (body : List Stmt) (place : Place) (loop : ℕ) (sc : Scope) (ok : Type 0) (f : LowerFault)
-    → IsFirst (For iter start cond step body place) loop sc ok f ≡ IsFirstAll body (suc loop) (in_loop sc loop start cond step) (ok × CanEnter sc start cond step) f
+    → IsFirst (For iter start cond step body place) loop sc ok f ≡ IsFirstAll body (suc loop) (in_loop sc loop start cond step) (ok × CanEnter sc loop start cond step) f
 unfolding IsFirst
 first_for iter start cond step body place loop sc ok f = search (rules, the_lemmas, first_row)
 
 fine_if' : (cond : Cond) (n : _) (taken : Row_of-Stmt _) (m : _) (other : Row_of-Stmt _) (place : Place) (loop : ℕ) (sc : Scope) (ok : Type 0)
     → IsLowerable (If' cond n taken m other place) loop sc ok
-    ≡ (AreLowerable (items-the_row-Stmt _ taken) loop (where_holds sc cond) (ok × CanHold sc.iters cond.parts) × AreLowerable (items-the_row-Stmt _ other) (loop + sum_by loop_count (items-the_row-Stmt _ taken)) (where_fails sc cond) (ok × CanFail sc.iters cond.parts))
+    ≡ (AreLowerable (items-the_row-Stmt _ taken) loop (where_holds sc cond) (ok × CanHold sc cond) × AreLowerable (items-the_row-Stmt _ other) (loop + sum_by loop_count (items-the_row-Stmt _ taken)) (where_fails sc cond) (ok × CanFail sc cond))
 unfolding IsLowerable
 fine_if' cond n taken m other place loop sc ok =
-    λ i. fine_row _ taken loop (where_holds sc cond) (ok × CanHold sc.iters cond.parts) i × fine_row _ other (loop + loops_row _ taken i) (where_fails sc cond) (ok × CanFail sc.iters cond.parts) i
+    λ i. fine_row _ taken loop (where_holds sc cond) (ok × CanHold sc cond) i × fine_row _ other (loop + loops_row _ taken i) (where_fails sc cond) (ok × CanFail sc cond) i
 
 fine_if : (cond : Cond) (taken other : List Stmt) (place : Place) (loop : ℕ) (sc : Scope) (ok : Type 0)
     → IsLowerable (If cond taken other place) loop sc ok
-    ≡ (AreLowerable taken loop (where_holds sc cond) (ok × CanHold sc.iters cond.parts) × AreLowerable other (loop + sum_by loop_count taken) (where_fails sc cond) (ok × CanFail sc.iters cond.parts))
+    ≡ (AreLowerable taken loop (where_holds sc cond) (ok × CanHold sc cond) × AreLowerable other (loop + sum_by loop_count taken) (where_fails sc cond) (ok × CanFail sc cond))
 fine_if cond taken other place loop sc ok = search (rules, the_lemmas, fine_if')
 
 first_if' : (cond : Cond) (n : _) (taken : Row_of-Stmt _) (m : _) (other : Row_of-Stmt _) (place : Place) (loop : ℕ) (sc : Scope) (ok : Type 0) (f : LowerFault)
     → IsFirst (If' cond n taken m other place) loop sc ok f
-    ≡ (IsFirstAll (items-the_row-Stmt _ taken) loop (where_holds sc cond) (ok × CanHold sc.iters cond.parts) f
-    ⊎ (AreLowerable (items-the_row-Stmt _ taken) loop (where_holds sc cond) (ok × CanHold sc.iters cond.parts) × IsFirstAll (items-the_row-Stmt _ other) (loop + sum_by loop_count (items-the_row-Stmt _ taken)) (where_fails sc cond) (ok × CanFail sc.iters cond.parts) f))
+    ≡ (IsFirstAll (items-the_row-Stmt _ taken) loop (where_holds sc cond) (ok × CanHold sc cond) f
+    ⊎ (AreLowerable (items-the_row-Stmt _ taken) loop (where_holds sc cond) (ok × CanHold sc cond) × IsFirstAll (items-the_row-Stmt _ other) (loop + sum_by loop_count (items-the_row-Stmt _ taken)) (where_fails sc cond) (ok × CanFail sc cond) f))
 unfolding IsFirst
 first_if' cond n taken m other place loop sc ok f =
-    λ i. first_row _ taken loop (where_holds sc cond) (ok × CanHold sc.iters cond.parts) f i
-    ⊎ (fine_row _ taken loop (where_holds sc cond) (ok × CanHold sc.iters cond.parts) i × first_row _ other (loop + loops_row _ taken i) (where_fails sc cond) (ok × CanFail sc.iters cond.parts) f i)
+    λ i. first_row _ taken loop (where_holds sc cond) (ok × CanHold sc cond) f i
+    ⊎ (fine_row _ taken loop (where_holds sc cond) (ok × CanHold sc cond) i × first_row _ other (loop + loops_row _ taken i) (where_fails sc cond) (ok × CanFail sc cond) f i)
 
 first_if : (cond : Cond) (taken other : List Stmt) (place : Place) (loop : ℕ) (sc : Scope) (ok : Type 0) (f : LowerFault)
     → IsFirst (If cond taken other place) loop sc ok f
-    ≡ (IsFirstAll taken loop (where_holds sc cond) (ok × CanHold sc.iters cond.parts) f
-    ⊎ (AreLowerable taken loop (where_holds sc cond) (ok × CanHold sc.iters cond.parts) × IsFirstAll other (loop + sum_by loop_count taken) (where_fails sc cond) (ok × CanFail sc.iters cond.parts) f))
+    ≡ (IsFirstAll taken loop (where_holds sc cond) (ok × CanHold sc cond) f
+    ⊎ (AreLowerable taken loop (where_holds sc cond) (ok × CanHold sc cond) × IsFirstAll other (loop + sum_by loop_count taken) (where_fails sc cond) (ok × CanFail sc cond) f))
 first_if cond taken other place loop sc ok f = search (rules, the_lemmas, first_if')
 
 all_fine_as : (ss : List Stmt) (loop : ℕ) (sc : Scope) (p q : Type 0) → (p → q) → AreLowerable ss loop sc p → AreLowerable ss loop sc q
@@ -150,7 +169,7 @@ few_within (Ok made) sc can m h = rw m.1 h
 few_within (Err stop) sc can m h = tt
 
 pub walk_for : (r : Result ℕ LowerFault) (s : Stmt) (iter : List ℕ) (start : IndexExpr) (cond : Cond) (step : ℤ) (body : List Stmt) (place : Place) (number : ℕ) (sc : Scope) (old new : List StmtModel)
-    → s ≡ For iter start cond step body place → LowersAll r body (suc number) (in_loop sc number start cond step) (CanEnter sc start cond step) old new → Lowers r s number sc (Unit {0}) old new
+    → s ≡ For iter start cond step body place → LowersAll r body (suc number) (in_loop sc number start cond step) (CanEnter sc number start cond step) old new → Lowers r s number sc (Unit {0}) old new
 walk_for r s iter start cond step body place number sc old new is h =
     subst (λ s. Lowers r s number sc (Unit {0}) old new) (sym is)
     (answers_map r _ _ _ _
@@ -163,11 +182,11 @@ walk_for r s iter start cond step body place number sc old new is h =
 
 -- both sides were lowered
 pub walk_if : (r : Result ℕ LowerFault) (s : Stmt) (cond : Cond) (taken other : List Stmt) (place : Place) (number next : ℕ) (sc : Scope) (old mid new : List StmtModel)
-    → s ≡ If cond taken other place → LowersAll (Ok next) taken number (where_holds sc cond) (CanHold sc.iters cond.parts) old mid
-    → LowersAll r other next (where_fails sc cond) (CanFail sc.iters cond.parts) mid new → Lowers r s number sc (Unit {0}) old new
+    → s ≡ If cond taken other place → LowersAll (Ok next) taken number (where_holds sc cond) (CanHold sc cond) old mid
+    → LowersAll r other next (where_fails sc cond) (CanFail sc cond) mid new → Lowers r s number sc (Unit {0}) old new
 walk_if r s cond taken other place number next sc old mid new is a h =
-    let b = subst (λ n. LowersAll r other n (where_fails sc cond) (CanFail sc.iters cond.parts) mid new) a.0 h in
-    let fine = all_fine_as taken number (where_holds sc cond) (CanHold sc.iters cond.parts) (Unit {0} × CanHold sc.iters cond.parts) (λ a. (tt, a)) a.1 in
+    let b = subst (λ n. LowersAll r other n (where_fails sc cond) (CanFail sc cond) mid new) a.0 h in
+    let fine = all_fine_as taken number (where_holds sc cond) (CanHold sc cond) (Unit {0} × CanHold sc cond) (λ a. (tt, a)) a.1 in
     subst (λ s. Lowers r s number sc (Unit {0}) old new) (sym is)
     (answers_map r _ _ _ _
     (λ n x. (
@@ -180,39 +199,39 @@ walk_if r s cond taken other place number next sc old mid new is a h =
 
 -- the first side has the fault
 pub walk_if_stops : (stop : LowerFault) (s : Stmt) (cond : Cond) (taken other : List Stmt) (place : Place) (number : ℕ) (sc : Scope) (old mid new : List StmtModel)
-    → s ≡ If cond taken other place → LowersAll (Err stop) taken number (where_holds sc cond) (CanHold sc.iters cond.parts) old mid → Lowers (Err stop) s number sc (Unit {0}) old new
+    → s ≡ If cond taken other place → LowersAll (Err stop) taken number (where_holds sc cond) (CanHold sc cond) old mid → Lowers (Err stop) s number sc (Unit {0}) old new
 walk_if_stops stop s cond taken other place number sc old mid new is h =
     subst (λ s. Lowers (Err stop) s number sc (Unit {0}) old new) (sym is)
     (err_map stop _ _ _ _ (λ f x. rw (first_if cond taken other place number sc (Unit {0}) f) (inl (all_first_as taken number (where_holds sc cond) _ _ f (λ a. (tt, a)) (λ a. a.1) x))) h)
 
 -- an assignment
 pub walk_assign : (s : Stmt) (array : ℕ) (subs subs2 : List IndexExpr) (value : Value) (place : Place) (number : ℕ) (sc : Scope) (made : StmtModel) (old new : List StmtModel)
-    → s ≡ Assign array subs value place → subs2 ≡ subs → length sc.pieces ≤ 16 → CanAssign sc.iters subs2 value × (made ≡ assigned sc array subs2 value)
+    → s ≡ Assign array subs value place → subs2 ≡ subs → length sc.pieces ≤ 16 → CanAssign sc subs2 value × (made ≡ assigned sc array subs2 value)
     → new ≡ old ++ made ∷ [] → Lowers (Ok number) s number sc (Unit {0}) old new
 unfolding IsLowerable loop_count lower
 walk_assign s array subs subs2 value place number sc made old new is b few m n =
-    rw is (sym (omega arith), (few, tt, subst (λ x. CanAssign sc.iters x value) b m.0), n ∙ ap (λ x. old ++ x ∷ []) (m.1 ∙ ap (λ u. assigned sc array u value) b))
+    rw is (sym (omega arith), (few, tt, subst (λ x. CanAssign sc x value) b m.0), n ∙ ap (λ x. old ++ x ∷ []) (m.1 ∙ ap (λ u. assigned sc array u value) b))
 
 pub walk_assign_wide : (s : Stmt) (array : ℕ) (subs subs2 : List IndexExpr) (value : Value) (place : Place) (number : ℕ) (sc : Scope) (old new : List StmtModel)
-    → s ≡ Assign array subs value place → subs2 ≡ subs → length sc.pieces ≤ 16 → ¬ (CanAssign sc.iters subs2 value) → Lowers (Err (Wide place)) s number sc (Unit {0}) old new
+    → s ≡ Assign array subs value place → subs2 ≡ subs → length sc.pieces ≤ 16 → ¬ (CanAssign sc subs2 value) → Lowers (Err (Wide place)) s number sc (Unit {0}) old new
 unfolding IsFirst
-walk_assign_wide s array subs subs2 value place number sc old new is b few m = rw is (refl, few, λ h. m (subst (λ x. CanAssign sc.iters x value) (sym b) h.1))
+walk_assign_wide s array subs subs2 value place number sc old new is b few m = rw is (refl, few, λ h. m (subst (λ x. CanAssign sc x value) (sym b) h.1))
 
 few_by : (m w : ℕ) → m ≤ 16 → pieces_by m w ≡ m * w
 few_by m w h = let e : nat_lt 16 m ≡ false = grind (arith, nat_tests) in ap (λ b. Rattle.std.proofs.Common.cond b m (m * w)) e
 
 -- the pieces of the other side, where those around are few
 pub count_other : (sc : Scope) (cond : Cond) (n : ℕ) → n ≡ pieces_by (length sc.pieces) (ways cond.parts) → length sc.pieces ≤ 16 → n ≡ length (where_fails sc cond).pieces
-count_other sc cond n e h = e ∙ few_by (length sc.pieces) (ways cond.parts) h ∙ sym (length-fails sc.iters cond.parts sc.pieces)
+count_other sc cond n e h = e ∙ few_by (length sc.pieces) (ways cond.parts) h ∙ sym (length-fails sc cond)
 
 pub count_in_loop : (sc : Scope) (number : ℕ) (start : IndexExpr) (cond : Cond) (step : ℤ) → length sc.pieces ≡ length (in_loop sc number start cond step).pieces
-count_in_loop sc number start cond step = sym (length-map sc.pieces _)
+count_in_loop sc number start cond step = sym (length-loop sc number start cond step)
 
 pub count_taken : (sc : Scope) (cond : Cond) → length sc.pieces ≡ length (where_holds sc cond).pieces
-count_taken sc cond = sym (length-map sc.pieces _)
+count_taken sc cond = sym (length-holds sc cond)
 
 pub walk_if_err : (r : Result ℕ LowerFault) (stop : LowerFault) (s : Stmt) (cond : Cond) (taken other : List Stmt) (place : Place) (number : ℕ) (sc : Scope) (old mid new : List StmtModel)
-    → IsErrAnd r (λ e. e ≡ stop) → s ≡ If cond taken other place → LowersAll (Err stop) taken number (where_holds sc cond) (CanHold sc.iters cond.parts) old mid → Lowers r s number sc (Unit {0}) old new
+    → IsErrAnd r (λ e. e ≡ stop) → s ≡ If cond taken other place → LowersAll (Err stop) taken number (where_holds sc cond) (CanHold sc cond) old mid → Lowers r s number sc (Unit {0}) old new
 walk_if_err r stop s cond taken other place number sc old mid new e is h = subst (λ r. Lowers r s number sc (Unit {0}) old new) (sym (err_is r stop e)) (walk_if_stops stop s cond taken other place number sc old mid new is h)
 
 -- before the statement i of a list: what is done, and what is left

@@ -1,12 +1,12 @@
 -- The coordinates of instances among further columns: the parameters stand first, and the coordinates of each instance from
 -- a column of its own on.
-use Rattle.std.specs.Prelude.{ℕ, ◌+◌, ◌-◌, ◌≤◌, ◌≡◌, ◌↔◌, ◌++◌, ◌≤ℤ◌, ◌<ℤ◌, ℤ, pos, negsuc, List, [], ◌∷◌, length, map, take, drop, replicate}
+use Rattle.std.specs.Prelude.{ℕ, ◌+◌, ◌≤◌, ◌↔◌, ◌≤ℤ◌, ◌<ℤ◌, ℤ, pos, negsuc, List, [], ◌∷◌, length, map}
 use Rattle.std.specs.List.{AllByRecursion, range_with_len}
 use Rattle.ac_forms.specs.Affine.{Affine, FormFits, column_form, combined, shifted}
 use Rattle.ac_forms.specs.Fits.{Fits}
-use Rattle.ac_forms.specs.Rows.{Meets, AreRowsOver}
+use Rattle.ac_forms.specs.Rows.{Meets}
 use Rattle.ac_forms.specs.declared.row.Row.{Row}
-use Rattle.ac_forms.specs.declared.row.Row.TheVariants.{Eq, Div, Ge}
+use Rattle.ac_forms.specs.declared.row.Row.TheVariants.{Ge}
 use Rattle.ac_poly.specs.LevelRows.{numbers}
 use Rattle.ac_poly.specs.ModelMeaning.{values_at}
 

@@ -1,20 +1,21 @@
--- What names an instance of an assignment: its coordinates, which stand behind the parameters. They are its counters, and
--- only this file says so.
-use Rattle.std.specs.Prelude.{ℕ, ◌+◌, ◌≡◌, List, length, ℤ, nat_lt}
+-- What names an instance of an assignment: its coordinates, which stand behind the parameters.
+use Rattle.std.specs.Prelude.{ℕ, ◌+◌, ◌≡◌, List, ℤ, nat_lt, Option, Some, None, slice_get}
 use Rattle.std.specs.List.{Contains}
 use Rattle.ac_forms.specs.declared.row.Row.{Row}
 use Rattle.ac_syntax.specs.Trace.{Entry}
 use Rattle.ac_poly.specs.LevelRows.{levels}
 use Rattle.ac_poly.specs.declared.types.Model.{Model}
 use Rattle.ac_poly.specs.declared.types.StmtModel.{StmtModel}
+pub use Rattle.ac_poly.specs.StmtCoordinates.{width, coordinates_at}
 
--- how many coordinates an instance of the assignment has
-abbrev pub width : StmtModel → ℕ
-width stmt = length stmt.loops
+-- the coordinates of the instance with these counters; an assignment that isn't there has no quotients
+abbrev pub coordinates_of : Option StmtModel → List ℤ → List ℤ → List ℤ
+coordinates_of None params counters = counters
+coordinates_of (Some stmt) params counters = coordinates_at stmt params counters
 
 -- the coordinates of an entry, at a valuation of the parameters
 abbrev pub coordinates : Model → List ℤ → Entry → List ℤ
-coordinates m params e = e.counters
+coordinates m params e = coordinates_of (slice_get m.stmts e.stmt) params e.counters
 
 -- an entry of the assignment with a number, with these coordinates
 abbrev pub HasInstance : Model → List ℤ → List Entry → ℕ → List ℤ → Type 0

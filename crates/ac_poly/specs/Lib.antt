@@ -1,7 +1,7 @@
 pub mod IndexForms
-pub mod ConditionPieces
 pub mod ModelNodes
 pub mod Lower
+pub mod StmtCoordinates
 pub mod Coordinates
 pub mod CoordinateColumns
 pub mod Model

@@ -1,61 +1,42 @@
 -- How a program becomes integer points: what is around each statement, from the outside in, and what each assignment becomes.
-use Rattle.std.specs.Prelude.{ℕ, suc, ◌+◌, List, [], ◌∷◌, ◌++◌, length, map, ℤ}
-use Rattle.std.specs.List.{flat_map}
-use Rattle.ac_forms.specs.Affine.{column_form}
-use Rattle.ac_forms.specs.declared.row.Row.{Row}
-use Rattle.ac_forms.specs.declared.row.Row.TheVariants.{Ge}
+use Rattle.std.specs.Prelude.{ℕ, suc, ◌+◌, List, [], ◌∷◌, ◌++◌, map}
+use Rattle.ac_forms.specs.Affine.{Affine}
+use Rattle.ac_forms.specs.Renaming.{renamed}
 use Rattle.ac_syntax.specs.LoopNests.{loop_count, loop_count_in}
 use Rattle.ac_syntax.specs.declared.tree.IndexExpr.{IndexExpr}
-use Rattle.ac_syntax.specs.declared.tree.Cond.{Cond}
 use Rattle.ac_syntax.specs.declared.tree.Value.{Value}
 use Rattle.ac_syntax.specs.declared.tree.Stmt.{Stmt, Row_of-Stmt, end_of-Stmt, more_of-Stmt}
 use Rattle.ac_syntax.specs.declared.tree.Stmt.TheVariants.{For', If', Assign}
-use Rattle.ac_poly.specs.IndexForms.{lowered, stepping, rows_of}
+use Rattle.ac_poly_quotients.specs.FilledColumns.{counters}
+use Rattle.ac_poly_quotients.specs.LastColumns.{places, finals, placed_pieces}
+use Rattle.ac_poly_quotients.specs.OwnQuotients.{own_quots}
+use Rattle.ac_poly_quotients.specs.QuotientScopes.{outermost, with_quots, in_loop, where_holds, where_fails, lowered_in}
+use Rattle.ac_poly_quotients.specs.declared.types.Scope.{Scope}
 use Rattle.ac_poly.specs.ModelNodes.{nodes}
-use Rattle.ac_poly.specs.ConditionPieces.{failing}
-use Rattle.ac_poly.specs.declared.scope.Scope.{Scope}
 use Rattle.ac_poly.specs.declared.types.StmtModel.{StmtModel}
 
--- outside all loops and branches: one piece without rows
-abbrev pub outermost : ℕ → Scope
-outermost params = record { params = params; iters = []; loops = []; pieces = [] ∷ [] }
+-- the scope of an assignment, in which its own quotients have columns
+abbrev pub own_scope : Scope → List IndexExpr → Value → Scope
+own_scope sc subs value = with_quots sc (own_quots subs value)
 
-abbrev pub columns : Scope → ℕ
-columns sc = sc.params + length sc.iters
+-- the form of an index expression behind the parameters, the counters and the quotients
+abbrev pub last_form : Scope → IndexExpr → Affine
+last_form c e = renamed (places c) (lowered_in c c.iters e)
 
--- the rows that a loop adds: its counter is not negative, and the condition holds in turn 0 and in the turn of the counter
-abbrev pub loop_rows : Scope → IndexExpr → Cond → ℤ → List Row
-loop_rows sc start cond step =
-    Ge (column_form (columns sc + 1) (columns sc))
-    ∷ (rows_of (sc.iters ++ lowered sc.iters start ∷ []) cond.parts
-    ++ rows_of (sc.iters ++ stepping (lowered sc.iters start) step (columns sc) ∷ []) cond.parts)
-
--- inside the loop with this number
-abbrev pub in_loop : Scope → ℕ → IndexExpr → Cond → ℤ → Scope
-in_loop sc number start cond step = record {
-  params = sc.params;
-  iters = sc.iters ++ stepping (lowered sc.iters start) step (columns sc) ∷ [];
-  loops = sc.loops ++ number ∷ [];
-  pieces = map (λ q. q ++ loop_rows sc start cond step) sc.pieces;
-}
-
--- where a condition holds
-abbrev pub where_holds : Scope → Cond → Scope
-where_holds sc cond = record sc { pieces = map (λ q. q ++ rows_of sc.iters cond.parts) sc.pieces }
-
--- where it fails
-abbrev pub where_fails : Scope → Cond → Scope
-where_fails sc cond = record sc { pieces = flat_map (failing sc.iters cond.parts) sc.pieces }
-
--- an assignment
-abbrev pub assigned : Scope → ℕ → List IndexExpr → Value → StmtModel
-assigned sc array subs value = record {
-  loops = sc.loops;
-  pieces = sc.pieces;
+-- an assignment, in its scope
+abbrev pub model_in : Scope → ℕ → List IndexExpr → Value → StmtModel
+model_in c array subs value = record {
+  loops = c.loops;
+  quots = finals (places c) c.columns;
+  pieces = placed_pieces c.params (counters c.columns) c.columns c.pieces;
   array = array;
-  subs = map (lowered sc.iters) subs;
-  nodes = nodes sc.iters value 0;
+  subs = map (last_form c) subs;
+  nodes = nodes (last_form c) value 0;
 }
+
+-- an assignment, in the scope around it
+abbrev pub assigned : Scope → ℕ → List IndexExpr → Value → StmtModel
+assigned sc array subs value = model_in (own_scope sc subs value) array subs value
 
 -- the assignments of a statement in the order of the text; its loops are numbered from `loop` on
 unfoldable mutual

@@ -5,9 +5,10 @@ use Rattle.ac_syntax.specs.LoopNests.{loop_count, loop_count_in}
 use Rattle.ac_syntax.specs.declared.tree.Place.{Place}
 use Rattle.ac_syntax.specs.declared.tree.Stmt.{Stmt, Row_of-Stmt, end_of-Stmt, more_of-Stmt}
 use Rattle.ac_syntax.specs.declared.tree.Stmt.TheVariants.{For', If', Assign}
-use Rattle.ac_poly.specs.Lower.{in_loop, where_holds, where_fails}
-use Rattle.ac_poly.specs.LoweringRange.{CanHold, CanFail, CanEnter, CanAssign}
-use Rattle.ac_poly.specs.declared.scope.Scope.{Scope}
+use Rattle.ac_poly_quotients.specs.QuotientScopes.{in_loop, where_holds, where_fails}
+use Rattle.ac_poly_quotients.specs.ScopeRange.{CanHold, CanFail, CanEnter}
+use Rattle.ac_poly_quotients.specs.declared.types.Scope.{Scope}
+use Rattle.ac_poly.specs.LoweringRange.{CanAssign}
 use Rattle.ac_poly.specs.declared.types.LowerFault.{LowerFault}
 use Rattle.ac_poly.specs.declared.types.LowerFault.TheVariants.{Pieces, Wide, Memory}
 
@@ -15,10 +16,10 @@ use Rattle.ac_poly.specs.declared.types.LowerFault.TheVariants.{Pieces, Wide, Me
 -- what is around the statement
 unfoldable mutual
   pub IsLowerable : Stmt → ℕ → Scope → Type 0 → Type 0
-  IsLowerable (For' iter start cond step n body place) loop sc fit = IsLowerableIn body (suc loop) (in_loop sc loop start cond step) (fit × CanEnter sc start cond step)
+  IsLowerable (For' iter start cond step n body place) loop sc fit = IsLowerableIn body (suc loop) (in_loop sc loop start cond step) (fit × CanEnter sc loop start cond step)
   IsLowerable (If' cond n taken m other place) loop sc fit =
-      IsLowerableIn taken loop (where_holds sc cond) (fit × CanHold sc.iters cond.parts) × IsLowerableIn other (loop + loop_count_in taken) (where_fails sc cond) (fit × CanFail sc.iters cond.parts)
-  IsLowerable (Assign array subs value place) loop sc fit = (length sc.pieces ≤ 16) × fit × CanAssign sc.iters subs value
+      IsLowerableIn taken loop (where_holds sc cond) (fit × CanHold sc cond) × IsLowerableIn other (loop + loop_count_in taken) (where_fails sc cond) (fit × CanFail sc cond)
+  IsLowerable (Assign array subs value place) loop sc fit = (length sc.pieces ≤ 16) × fit × CanAssign sc subs value
 
   pub IsLowerableIn : {m : _} → Row_of-Stmt m → ℕ → Scope → Type 0 → Type 0
   IsLowerableIn end_of-Stmt loop sc fit = Unit {0}
@@ -33,11 +34,11 @@ Names place sc fit (Memory e) = ⊥
 -- the first assignment that is not fine
 unfoldable mutual
   pub IsFirst : Stmt → ℕ → Scope → Type 0 → LowerFault → Type 0
-  IsFirst (For' iter start cond step n body place) loop sc fit f = IsFirstIn body (suc loop) (in_loop sc loop start cond step) (fit × CanEnter sc start cond step) f
+  IsFirst (For' iter start cond step n body place) loop sc fit f = IsFirstIn body (suc loop) (in_loop sc loop start cond step) (fit × CanEnter sc loop start cond step) f
   IsFirst (If' cond n taken m other place) loop sc fit f =
-      IsFirstIn taken loop (where_holds sc cond) (fit × CanHold sc.iters cond.parts) f
-      ⊎ (IsLowerableIn taken loop (where_holds sc cond) (fit × CanHold sc.iters cond.parts) × IsFirstIn other (loop + loop_count_in taken) (where_fails sc cond) (fit × CanFail sc.iters cond.parts) f)
-  IsFirst (Assign array subs value place) loop sc fit f = Names place sc (fit × CanAssign sc.iters subs value) f
+      IsFirstIn taken loop (where_holds sc cond) (fit × CanHold sc cond) f
+      ⊎ (IsLowerableIn taken loop (where_holds sc cond) (fit × CanHold sc cond) × IsFirstIn other (loop + loop_count_in taken) (where_fails sc cond) (fit × CanFail sc cond) f)
+  IsFirst (Assign array subs value place) loop sc fit f = Names place sc (fit × CanAssign sc subs value) f
 
   pub IsFirstIn : {m : _} → Row_of-Stmt m → ℕ → Scope → Type 0 → LowerFault → Type 0
   IsFirstIn end_of-Stmt loop sc fit f = ⊥

@@ -1,11 +1,11 @@
 -- What the steps of lowering answer, at lists.
 use Rattle.std.specs.Prelude.{ℕ, ◌+◌, ◌*◌, ◌≡◌, List, [], ◌∷◌, ◌++◌, Option, Some, None, Result, Ok, Err, nat_lt, if◌then◌else◌, sum_by}
 use Rattle.ac_forms.specs.Affine.{Affine}
-use Rattle.ac_forms.specs.declared.row.Row.{Row}
 use Rattle.ac_forms.specs.declared.stop.FormStop.{FormStop}
 use Rattle.ac_forms.specs.declared.stop.FormStop.TheVariants as stops
 use Rattle.ac_syntax.specs.LoopNests.{loop_count}
 use Rattle.ac_syntax.specs.ValueNodes.{size}
+use Rattle.ac_syntax.specs.declared.tree.IndexExpr.{IndexExpr}
 use Rattle.ac_syntax.specs.declared.tree.Rel.{Rel}
 use Rattle.ac_syntax.specs.declared.tree.Rel.TheVariants.{NonNegative, Zero, Divides}
 use Rattle.ac_syntax.specs.declared.tree.Comparison.{Comparison}
@@ -13,12 +13,9 @@ use Rattle.ac_syntax.specs.declared.tree.Value.{Value}
 use Rattle.ac_syntax.specs.declared.tree.Stmt.{Stmt, Row_of-Stmt, end_of-Stmt, more_of-Stmt}
 use Rattle.ac_syntax.specs.declared.tree.Stmt.TheVariants.{For', If', Assign}
 use Rattle.ac_poly.specs.LoweringFaults.{IsLowerable, IsFirst, AreLowerable, IsFirstAll, Answers}
-use Rattle.ac_poly.specs.IndexForms.{lowered, row_by}
 use Rattle.ac_poly.specs.Lower.{lower, lower_all}
 use Rattle.ac_poly.specs.ModelNodes.{nodes}
-use Rattle.ac_poly.specs.ConditionPieces.{negations, with_each}
-use Rattle.ac_poly.specs.declared.pieces.Way.{Way}
-use Rattle.ac_poly.specs.declared.scope.Scope.{Scope}
+use Rattle.ac_poly_quotients.specs.declared.types.Scope.{Scope}
 use Rattle.ac_poly.specs.declared.types.LowerFault.{LowerFault}
 use Rattle.ac_poly.specs.declared.types.LowerFault.TheVariants.{Pieces, Wide, Memory}
 use Rattle.ac_poly.specs.declared.types.NodeModel.{NodeModel}
@@ -30,24 +27,15 @@ roots_of [] at = []
 roots_of (v ∷ vs) at = at ∷ roots_of vs (at + size v)
 
 -- the nodes of values one after another
-abbrev pub nodes_of : List Affine → List Value → ℕ → List NodeModel
-nodes_of its [] at = []
-nodes_of its (v ∷ vs) at = nodes its v at ++ nodes_of its vs (at + size v)
-
--- the row of a comparison, and the rows by which it fails
-abbrev pub way : List Affine → Comparison → Way
-way its c = record { row = row_by c.rel (lowered its c.form); negations = negations c.rel (lowered its c.form) }
-
--- the parts of a piece in which a condition fails
-abbrev pub failing_by : List Way → List Row → List (List Row)
-failing_by [] q = []
-failing_by (w ∷ ws) q = with_each q w.negations ++ failing_by ws (q ++ w.row ∷ [])
+abbrev pub nodes_of : (IndexExpr → Affine) → List Value → ℕ → List NodeModel
+nodes_of form [] at = []
+nodes_of form (v ∷ vs) at = nodes form v at ++ nodes_of form vs (at + size v)
 
 -- in how many ways a condition fails
 abbrev pub ways_by : Rel → ℕ
 ways_by NonNegative = 1
 ways_by Zero = 2
-ways_by (Divides m) = 2
+ways_by (Divides m) = 1
 
 abbrev pub ways : List Comparison → ℕ
 ways [] = 0

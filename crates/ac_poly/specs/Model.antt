@@ -4,9 +4,10 @@ use Rattle.std.specs.List.{Contains, AllByRecursion}
 use Rattle.ac_forms.specs.Affine.{Affine}
 use Rattle.ac_forms.specs.Rows.{Meets, AreRowsOver}
 use Rattle.ac_syntax.specs.Algebra.{target}
-use Rattle.ac_syntax.specs.Index.{point, index_value, holds}
+use Rattle.ac_syntax.specs.Index.{point, index_value, quot_value, holds}
 use Rattle.ac_syntax.specs.ValueNodes.{size, node_of}
 use Rattle.ac_syntax.specs.Outputs.{input_at, is_input_kind, InExtents, extents_at}
+use Rattle.ac_syntax.specs.Quotients.{quotients_of}
 use Rattle.ac_syntax.specs.Source.{Writer, Stands}
 use Rattle.ac_syntax.specs.Trace.{Entry, trace_of}
 use Rattle.ac_syntax.specs.declared.tree.Array.{Array}
@@ -14,6 +15,7 @@ use Rattle.ac_syntax.specs.declared.tree.Cond.{Cond}
 use Rattle.ac_syntax.specs.declared.tree.Kind.{Kind}
 use Rattle.ac_syntax.specs.declared.tree.Program.{Program}
 use Rattle.ac_syntax.specs.declared.tree.Value.{Value}
+use Rattle.ac_poly_quotients.specs.QuotientRows.{quotients_at}
 use Rattle.ac_poly.specs.CoordinateColumns.{AreOver, element_rows}
 use Rattle.ac_poly.specs.Coordinates.{width, coordinates, HasInstance, levels_before}
 use Rattle.ac_poly.specs.IndexForms.{lowered, rows_of}
@@ -70,6 +72,12 @@ HasNodes p m =
     (params : List ℤ) (e : Entry) (stmt : StmtModel) → length params ≡ m.params → slice_get m.stmts e.stmt ≡ Some stmt → Contains (trace_of p.body params) e
     → (length stmt.nodes ≡ size e.value)
     × ((number : ℕ) (v : Value) → node_of e.value number ≡ Some v → Shows (params ++ coordinates m params e) e.point v number (slice_get stmt.nodes number))
+
+-- the quotients of an assignment have the values that its quotients in the text have at each instance, in the order of evaluation
+abbrev pub HasQuotients : Program → Model → Type 0
+HasQuotients p m =
+    (params : List ℤ) (e : Entry) (stmt : StmtModel) → length params ≡ m.params → slice_get m.stmts e.stmt ≡ Some stmt → Contains (trace_of p.body params) e
+    → quotients_at stmt.quots (params ++ e.counters) ≡ map (quot_value e.point) (quotients_of p.body e.stmt)
 
 -- an entry stands before another in the trace exactly where one of the levels of their assignments holds
 abbrev pub HasOrder : Program → Model → Type 0

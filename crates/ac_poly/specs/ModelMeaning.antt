@@ -10,6 +10,7 @@ use Rattle.ac_syntax.specs.Trace.{Entry, trace_of}
 use Rattle.ac_syntax.specs.declared.tree.Stmt.{Stmt}
 use Rattle.ac_syntax.specs.declared.tree.Value.{Value}
 use Rattle.ac_syntax.specs.declared.tree.Value.TheVariants.{Number, Access, Call'}
+use Rattle.ac_poly.specs.StmtCoordinates.{width, coordinates_at}
 use Rattle.ac_poly.specs.Lower.{lowered_body}
 use Rattle.ac_poly.specs.ModelNodes.{roots}
 use Rattle.ac_poly.specs.declared.types.NodeModel.{NodeModel}
@@ -26,17 +27,17 @@ HasEntry es number counters = (e : Entry) × Contains es e × (e.stmt ≡ number
 abbrev pub Lowered : ℕ → List Stmt → ℕ → StmtModel → Type 0
 Lowered params body number model = slice_get (lowered_body params body) number ≡ Some model
 
--- a list of counters, one for each loop, lies in some piece of an assignment exactly where the trace has its entry with these counters
+-- as many numbers as an assignment has coordinates lie in some of its pieces exactly where they are those of an entry of the trace
 abbrev pub PointsAreInstances : Type 0
 PointsAreInstances =
-    (body : List Stmt) (params counters : List ℤ) (number : ℕ) (model : StmtModel) → ReadyAll (length params) 0 body → Lowered (length params) body number model
-    → length counters ≡ length model.loops → IsInSome Meets model.pieces (params ++ counters) ↔ HasEntry (trace_of body params) number counters
+    (body : List Stmt) (params at : List ℤ) (number : ℕ) (model : StmtModel) → ReadyAll (length params) 0 body → Lowered (length params) body number model
+    → length at ≡ width model → IsInSome Meets model.pieces (params ++ at) ↔ ((counters : List ℤ) × HasEntry (trace_of body params) number counters × (coordinates_at model params counters ≡ at))
 
 -- the values of forms at a point
 abbrev pub values_at : List ℤ → List Affine → List ℤ
 values_at p = map (λ f. value_at f p)
 
--- the cell that an assignment writes, at the point of its parameters and counters
+-- the cell that an assignment writes, at the point of the parameters and its coordinates
 abbrev pub cell_of : StmtModel → List ℤ → Cell
 cell_of model p = record { array = model.array; at = values_at p model.subs }
 
@@ -44,7 +45,7 @@ cell_of model p = record { array = model.array; at = values_at p model.subs }
 abbrev pub TargetsAreCells : Type 0
 TargetsAreCells =
     (body : List Stmt) (params : List ℤ) (e : Entry) (model : StmtModel) → ReadyAll (length params) 0 body → Lowered (length params) body e.stmt model
-    → Contains (trace_of body params) e → target e ≡ cell_of model (params ++ e.counters)
+    → Contains (trace_of body params) e → target e ≡ cell_of model (params ++ coordinates_at model params e.counters)
 
 -- what the model has for a value whose root has the number `number`: the index values are those of the forms
 abbrev pub Shows : List ℤ → Point → Value → ℕ → Option NodeModel → Type 0
@@ -57,4 +58,4 @@ abbrev pub NodesAreValues : Type 0
 NodesAreValues =
     (body : List Stmt) (params : List ℤ) (e : Entry) (model : StmtModel) → ReadyAll (length params) 0 body → Lowered (length params) body e.stmt model
     → Contains (trace_of body params) e
-    → (length model.nodes ≡ size e.value) × ((number : ℕ) (v : Value) → node_of e.value number ≡ Some v → Shows (params ++ e.counters) e.point v number (slice_get model.nodes number))
+    → (length model.nodes ≡ size e.value) × ((number : ℕ) (v : Value) → node_of e.value number ≡ Some v → Shows (params ++ coordinates_at model params e.counters) e.point v number (slice_get model.nodes number))

@@ -1,8 +1,8 @@
 //! The first assignment inside a scope that can't be lowered.
 ghost use Rattle.ac_poly.specs.LoweringSteps.{Seeks, SeeksAll};
 
-use crate::pieces::pieces_by;
 use crate::types::LowerFault;
+use crate::ways::pieces_by;
 use ac_syntax::tree::Stmt;
 use std::alloc::AllocError;
 

@@ -1,9 +1,8 @@
-//! Programs as integer points: each assignment becomes pieces, whose points over the parameters and the counters of the
-//! loops around it are exactly its instances, and its index expressions become affine forms over the same columns.
+//! Programs as integer points: each assignment becomes pieces, whose points over the parameters, the counters of the loops
+//! around it and its quotients are exactly its instances, and its index expressions become affine forms over the same columns.
 #![tactic(auto)]
 
 mod cells;
-mod copy;
 mod embed;
 mod enter;
 mod first_fault;
@@ -11,11 +10,10 @@ mod forms;
 pub mod laws;
 mod nodes;
 mod order;
-mod pieces;
 mod program;
-pub mod scope;
 pub mod types;
 mod walk;
+mod ways;
 
 pub use cells::element_rows;
 pub use embed::coordinate_forms;

@@ -3,14 +3,18 @@ ghost use Rattle.std.specs.Prelude.{◌≡◌, ◌++◌, length, IfOk};
 ghost use Rattle.std.specs.List.{AllByRecursion};
 ghost use Rattle.ac_forms.specs.FormStops.{MadeWhere};
 ghost use Rattle.ac_syntax.specs.ValueNodes.{size};
+ghost use Rattle.ac_forms.specs.Renaming.{AreDistinct};
+ghost use Rattle.ac_poly_quotients.specs.LastColumns.{places};
+ghost use Rattle.ac_poly.specs.Lower.{last_form};
 ghost use Rattle.ac_poly.specs.ModelNodes.{nodes};
-ghost use Rattle.ac_poly.specs.LoweringRange.{CanLowerValue};
+ghost use Rattle.ac_poly.specs.LoweringRange.{CanFormValue};
 ghost use Rattle.ac_poly.specs.LoweringSteps.{nodes_of, roots_of};
 
-use crate::forms::{lowered, lowered_all};
+use crate::forms::{last_form, last_forms};
 use crate::types::NodeModel;
 use ac_base::Items;
-use ac_forms::{Form, FormStop};
+use ac_forms::FormStop;
+use ac_poly_quotients::Scope;
 use ac_syntax::copy::copy_symbol;
 use ac_syntax::count;
 use ac_syntax::tree::Value;
@@ -45,16 +49,19 @@ pub fn roots_of(alloc: Global, values: &[Value], first: usize) -> Result<Items<u
 #[tactic(auto, using(crate::proofs::NodeSteps::value_steps))]
 pub(crate) fn add_nodes(
     alloc: Global,
-    iters: &[Form],
+    own: &Scope,
+    ks: &[usize],
     value: &Value,
     out: &mut Items<NodeModel>,
 ) -> Result<(), FormStop>
-    ensures { MadeWhere result (CanLowerValue iters.now value.now) (λ _. out.new ≡ out.old ++ nodes iters.now value.now (length out.old)) }
+    requires value { ks.now ≡ places own.now }
+    requires distinct { AreDistinct ks.now }
+    ensures { MadeWhere result (CanFormValue own.now value.now) (λ _. out.new ≡ out.old ++ nodes (last_form own.now) value.now (length out.old)) }
 {
     match value {
-        Value::Number(e) => out.push(NodeModel::Number(lowered(alloc, iters, e)?))?,
+        Value::Number(e) => out.push(NodeModel::Number(last_form(alloc, own, ks, e)?))?,
         Value::Access { array, subs, .. } => {
-            let subs = lowered_all(alloc, iters, subs.as_slice())?;
+            let subs = last_forms(alloc, own, ks, subs.as_slice())?;
             out.push(NodeModel::Read {
                 array: *array,
                 subs,
@@ -68,7 +75,7 @@ pub(crate) fn add_nodes(
                 symbol,
                 args: roots,
             })?;
-            add_all_nodes(alloc, iters, args.as_slice(), out)?;
+            add_all_nodes(alloc, own, ks, args.as_slice(), out)?;
         }
     }
     Ok(())
@@ -79,14 +86,17 @@ pub(crate) fn add_nodes(
 #[tactic(auto, using(crate::proofs::NodeSteps::node_steps))]
 fn add_all_nodes(
     alloc: Global,
-    iters: &[Form],
+    own: &Scope,
+    ks: &[usize],
     values: &[Value],
     out: &mut Items<NodeModel>,
 ) -> Result<(), FormStop>
-    ensures { MadeWhere result (AllByRecursion (CanLowerValue iters.now) values.now) (λ _. out.new ≡ out.old ++ nodes_of iters.now values.now (length out.old)) }
+    requires value { ks.now ≡ places own.now }
+    requires distinct { AreDistinct ks.now }
+    ensures { MadeWhere result (AllByRecursion (CanFormValue own.now) values.now) (λ _. out.new ≡ out.old ++ nodes_of (last_form own.now) values.now (length out.old)) }
 {
     for value in values {
-        add_nodes(alloc, iters, value, out)?;
+        add_nodes(alloc, own, ks, value, out)?;
     }
     Ok(())
 }

@@ -7,10 +7,10 @@ ghost use Rattle.ac_poly.specs.Coordinates.{width, levels_before, levels_between
 ghost use Rattle.ac_poly.specs.declared.types.StmtModel.{StmtModel};
 
 use crate::cells::less;
-use crate::copy::with_row;
 use crate::types::{Model, StmtModel};
 use ac_base::Items;
 use ac_forms::{Form, FormStop, Row};
+use ac_poly_quotients::copy::with_row;
 use std::alloc::{AllocError, Global};
 
 /// The levels by which an instance of the assignment `s` stands before one of the assignment `u`: rows over the
@@ -47,11 +47,11 @@ pub fn before_at(
     levels_of(alloc, i, j, first, second, s < u)
 }
 
-/// How many coordinates an instance of an assignment has.
+/// How many coordinates an instance of an assignment has: one for each loop around it, and one for each quotient.
 pub fn width(stmt: &StmtModel) -> usize
     ensures { result ≡ width stmt.now }
 {
-    stmt.loops.len()
+    stmt.loops.as_slice().len() + stmt.quots.as_slice().len()
 }
 
 /// The levels of an assignment in the loops `first`, with its counters from column `i` on, and one in the loops `second`,

@@ -3,24 +3,24 @@ ghost use Rattle.std.specs.Prelude.{◌≡◌, map, length, IfOk};
 ghost use Rattle.ac_syntax.specs.Dimensions.{HasDimensions};
 ghost use Rattle.ac_syntax.specs.ReadyPrograms.{ReadyProgram, FitParts};
 ghost use Rattle.ac_poly.specs.LoweringFaults.{Answers, AreLowerable, IsFirstAll};
-ghost use Rattle.ac_poly.specs.Lower.{outermost};
-ghost use Rattle.ac_poly.specs.Model.{extents_of, kind_of, model_of, HasModels, HasInstances, PiecesAreApart, HasCells, HasNodes, HasOrder, HasContext, HasExtents, HasElements, HasKinds, HasColumns, CellsHaveDimensions};
+ghost use Rattle.ac_poly_quotients.specs.QuotientScopes.{outermost};
+ghost use Rattle.ac_poly.specs.Model.{extents_of, kind_of, model_of, HasModels, HasInstances, PiecesAreApart, HasCells, HasNodes, HasQuotients, HasOrder, HasContext, HasExtents, HasElements, HasKinds, HasColumns, CellsHaveDimensions};
 
-use crate::enter::outermost;
 use crate::forms::{all_alone, rows_alone};
 use crate::types::{LowerFault, Model};
 use crate::walk::lower_all;
 use ac_base::Items;
 use ac_forms::Form;
+use ac_poly_quotients::scopes::outermost;
 use ac_syntax::tree::{Array, Cond, Kind, Program};
 use std::alloc::{AllocError, Global};
 
 /// The program as integer points, under a context over its parameters.
 ///
 /// At each valuation of the parameters the points of an assignment's pieces are its instances, each in one piece, and there
-/// its forms have the values of its index expressions. The rows of the context and the extents are over the parameters,
-/// the rows and forms of an assignment over the parameters and then the coordinates of an instance; the modulus of a row is
-/// at least 1. Where each cell of the program has an index expression for each dimension of its array, so has the model's. `Pieces` and `Wide` name the first assignment in the text that has more than 16 pieces or for which a
+/// its forms have the values of its index expressions, and its quotients those of its quotients in the text. The rows of the
+/// context and the extents are over the parameters, the rows and forms of an assignment over the parameters and then the
+/// coordinates of an instance; the modulus of a row is at least 1. Where each cell of the program has an index expression for each dimension of its array, so has the model's. `Pieces` and `Wide` name the first assignment in the text that has more than 16 pieces or for which a
 /// product or a sum leaves `i128`; where it has both, `Pieces`.
 pub fn lower(alloc: Global, p: &Program, context: &Cond) -> Result<Model, LowerFault>
     requires program { ReadyProgram p.now }
@@ -31,6 +31,7 @@ pub fn lower(alloc: Global, p: &Program, context: &Cond) -> Result<Model, LowerF
     ensures apart { IfOk result PiecesAreApart }
     ensures cells { IfOk result (HasCells p.now) }
     ensures nodes { IfOk result (HasNodes p.now) }
+    ensures quotients { IfOk result (HasQuotients p.now) }
     ensures order { IfOk result (HasOrder p.now) }
     ensures context { IfOk result (HasContext context.now) }
     ensures extents { IfOk result (HasExtents p.now) }

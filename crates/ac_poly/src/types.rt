@@ -1,5 +1,6 @@
 use ac_base::Items;
 use ac_forms::{Form, Row};
+use ac_poly_quotients::Rounded;
 use ac_syntax::tree::{Kind, Place, Symbol};
 use std::alloc::{AllocError, AllocFailed};
 
@@ -14,12 +15,15 @@ pub enum NodeModel {
     Call { symbol: Symbol, args: Items<usize> },
 }
 
-/// An assignment as integer points. Its forms and rows are over the parameters and then the counters of its loops, the
-/// outermost first.
+/// An assignment as integer points. Its forms and rows are over the parameters, then the counters of its loops, the outermost
+/// first, and then its quotients.
 #[derive(Drop)]
 pub struct StmtModel {
     /// The numbers of the loops around it, from the outside in. Loops are numbered from 0 in the order of the text.
     pub loops: Items<usize>,
+    /// Its quotients, in the order of evaluation, equal ones once: each is over the parameters, the counters and the quotients
+    /// before it.
+    pub quots: Items<Rounded>,
     /// Its pieces: the assignment is made where all rows of some piece hold, and nowhere else.
     pub pieces: Items<Items<Row>>,
     /// The array that it writes.

@@ -1,16 +1,18 @@
 //! From statements to the models of their assignments.
 ghost use Rattle.std.specs.Prelude.{◌≤◌, length, IfOk};
 ghost use Rattle.ac_syntax.specs.ReadyPrograms.{Ready, ReadyAll};
-ghost use Rattle.ac_poly.specs.Lower.{where_holds, where_fails};
-ghost use Rattle.ac_poly.specs.LoweringRange.{CanHold, CanFail};
+ghost use Rattle.ac_poly_quotients.specs.QuotientScopes.{where_holds, where_fails};
+ghost use Rattle.ac_poly_quotients.specs.ScopeRange.{CanHold, CanFail};
 ghost use Rattle.ac_poly.specs.LoweringSteps.{Lowers, LowersAll, LowersWithin};
 
-use crate::enter::{assigned, in_loop, other, other_pieces, taken};
+use crate::enter::assigned;
 use crate::first_fault::seek_all;
-use crate::scope::Scope;
 use crate::types::{LowerFault, StmtModel};
+use crate::ways::other_pieces;
 use ac_base::Items;
 use ac_forms::FormStop;
+use ac_poly_quotients::Scope;
+use ac_poly_quotients::scopes::{in_loop, where_fails, where_holds};
 use ac_syntax::tree::{Cond, Stmt};
 use std::alloc::{AllocError, Global};
 
@@ -98,9 +100,9 @@ fn lower_taken(
 ) -> Result<usize, LowerFault>
     requires body { ReadyAll scope.now.params (length scope.now.iters) body.now }
     requires few { length scope.now.pieces ≤ 16 }
-    ensures { LowersAll result body.now number (where_holds scope.now cond.now) (CanHold scope.now.iters cond.now.parts) out.old out.new }
+    ensures { LowersAll result body.now number (where_holds scope.now cond.now) (CanHold scope.now cond.now) out.old out.new }
 {
-    let inner = taken(alloc, scope, cond);
+    let inner = where_holds(alloc, scope, cond);
     lower_within(alloc, inner, body, number, scope.pieces.len(), out)
 }
 
@@ -116,13 +118,13 @@ fn lower_other(
 ) -> Result<usize, LowerFault>
     requires body { ReadyAll scope.now.params (length scope.now.iters) body.now }
     requires few { length scope.now.pieces ≤ 16 }
-    ensures { LowersAll result body.now number (where_fails scope.now cond.now) (CanFail scope.now.iters cond.now.parts) out.old out.new }
+    ensures { LowersAll result body.now number (where_fails scope.now cond.now) (CanFail scope.now cond.now) out.old out.new }
 {
     let pieces = other_pieces(scope, cond)?;
     if pieces > 16 {
         return seek_all(body, number, pieces);
     }
-    let inner = other(alloc, scope, cond);
+    let inner = where_fails(alloc, scope, cond);
     lower_within(alloc, inner, body, number, pieces, out)
 }
 

@@ -17,7 +17,7 @@ use Rattle.ac_syntax.specs.declared.tree.Rel.{Rel}
 use Rattle.ac_syntax.specs.declared.tree.Rel.TheVariants.{NonNegative, Zero, Divides}
 use Rattle.ac_syntax.proofs.Bound.{quot_still}
 use Rattle.ac_poly_quotients.specs.ComparisonWays.{Decides, row_of, with_each, failing_by}
-use Rattle.ac_poly_quotients.specs.FittingForms.{FitsQuot, FitsForm, FitsRel, FitTests}
+use Rattle.ac_syntax.specs.FittingForms.{FitsQuot, FitsForm, FitsRel, FitTests}
 use Rattle.ac_poly_quotients.specs.QuotientScopes.{column_count, with_quots, column_for, lowered_in, rel_quots, part_quots, rel_way, part_way, rows_of, with_counter, in_loop, where_holds, where_fails}
 use Rattle.ac_poly_quotients.specs.declared.types.Scope.{Scope}
 use Rattle.ac_poly_quotients.specs.declared.types.Way.{Way}

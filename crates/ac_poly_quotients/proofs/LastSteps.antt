@@ -1,18 +1,20 @@
 -- What the loops that give columns their last places keep.
-use Rattle.std.proofs.Common.{◌≡◌, ℕ, ◌+◌, ◌<◌, ◌≤◌, List, [], ◌∷◌, ◌++◌, length, map, drop, get_or, refl, sym, ap, ◌∙◌, arith, append_assoc, append-nil}
+use Rattle.std.proofs.Common.{◌≡◌, ℕ, suc, ◌+◌, ◌<◌, ◌≤◌, subst, List, [], ◌∷◌, ◌++◌, length, drop, get_or, refl, sym, ap, ◌∙◌, arith, append_assoc, append-nil}
 use Rattle.std.proofs.lemmas.List.{drop_all}
 use Rattle.std.specs.List.{range_with_len}
-use Rattle.ac_forms.specs.Renaming.{CanRename, CanRenameAll, renamed_row}
+use Rattle.ac_forms.specs.Renaming.{AreDistinct}
 use Rattle.ac_forms.specs.declared.row.Row.{Row}
 use Rattle.ac_forms.specs.declared.row.Row.TheVariants.{Ge}
-use Rattle.ac_poly_quotients.specs.LastColumns.{last_columns, final_columns, moved_quotient, finals}
-use Rattle.ac_poly_quotients.specs.LastRange.{CanMove, CanTellOne, CanTell, CanPlace}
+use Rattle.ac_poly_quotients.specs.LastColumns.{last_columns, final_columns, places, moved_quotient, finals}
+use Rattle.ac_poly_quotients.specs.LastRange.{CanTellOne, CanTell}
+use Rattle.ac_poly_quotients.specs.FilledColumns.{counters}
 use Rattle.ac_poly_quotients.specs.QuotientRows.{rest_form, spare_form, quotient_rows}
 use Rattle.ac_poly_quotients.specs.declared.types.Column.{Column}
 use Rattle.ac_poly_quotients.specs.declared.types.Column.TheVariants.{Counter, Quotient}
 use Rattle.ac_poly_quotients.specs.declared.types.Rounded.{Rounded}
-use Rattle.ac_poly_quotients.proofs.LastColumns.{range-joined}
-use Rattle.ac_poly_quotients.proofs.Making.{Made, more, made_start, made_step, made_fits, made_end}
+use Rattle.ac_poly_quotients.specs.declared.types.Scope.{Scope}
+use Rattle.ac_poly_quotients.proofs.LastColumns.{range-joined, final-distinct}
+use Rattle.ac_poly_quotients.proofs.Making.{more}
 
 -- ---- the columns of the parameters
 
@@ -49,35 +51,53 @@ pub ruleset last_steps = (last_start, last_counter, last_quotient, last_end)
 -- ---- the quotients among them
 
 pub record Moving (ks : List ℕ) (ss : List Column) (i : ℕ) (made : List Rounded) : Type 0 where
-  pub onward : CanMove ks ss → CanMove ks (drop i ss)
-  pub back : CanMove ks (drop i ss) → CanMove ks ss
   pub value : finals ks ss ≡ made ++ finals ks (drop i ss)
 
 pub final_start : (ks : List ℕ) (ss : List Column) → Moving ks ss 0 []
-final_start ks ss = record { onward = λ h. h; back = λ h. h; value = refl }
+final_start ks ss = record { value = refl }
 
 pub final_counter : (ks : List ℕ) (ss : List Column) (i : ℕ) (made : List Rounded) (s : Column) → Moving ks ss i made → i < length ss → s ≡ get_or ss i s → s ≡ Counter → Moving ks ss (i + 1) made
 final_counter ks ss i made s h l e c =
     let d : drop i ss ≡ Counter ∷ drop (i + 1) ss = more ss i s l e ∙ ap (λ x. x ∷ drop (i + 1) ss) c in
-    record { onward = λ g. rw d at (h.onward g); back = λ g. h.back (rw d g); value = rw d at h.value }
+    record { value = rw d at h.value }
 
 pub final_quotient : (ks : List ℕ) (ss : List Column) (i : ℕ) (made new : List Rounded) (s : Column) (r m : Rounded) → Moving ks ss i made → i < length ss → s ≡ get_or ss i s → s ≡ Quotient r
-    → CanRename ks r.form × (m ≡ moved_quotient ks r) → new ≡ made ++ m ∷ [] → Moving ks ss (i + 1) new
+    → m ≡ moved_quotient ks r → new ≡ made ++ m ∷ [] → Moving ks ss (i + 1) new
 final_quotient ks ss i made new s r m h l e c k n =
     let d : drop i ss ≡ Quotient r ∷ drop (i + 1) ss = more ss i s l e ∙ ap (λ x. x ∷ drop (i + 1) ss) c in
-    record {
-      onward = λ g. (rw d at (h.onward g)).1;
-      back = λ g. h.back (rw d (k.0, g));
-      value = rw (n, k.1) (h.value ∙ rw d (sym (append_assoc made (moved_quotient ks r ∷ []) (finals ks (drop (i + 1) ss)))));
-    }
+    record { value = rw (n, k) (h.value ∙ rw d (sym (append_assoc made (moved_quotient ks r ∷ []) (finals ks (drop (i + 1) ss))))) }
 
-pub final_fits : (ks : List ℕ) (ss : List Column) (i : ℕ) (made : List Rounded) (s : Column) (r : Rounded) → Moving ks ss i made → i < length ss → s ≡ get_or ss i s → s ≡ Quotient r → CanMove ks ss → CanRename ks r.form
-final_fits ks ss i made s r h l e c g = (rw (more ss i s l e ∙ ap (λ x. x ∷ drop (i + 1) ss) c) at (h.onward g)).0
+pub final_end : (ks : List ℕ) (ss : List Column) (i : ℕ) (made : List Rounded) → Moving ks ss i made → length ss ≤ i → made ≡ finals ks ss
+final_end ks ss i made h l = let d = drop_all i ss l in sym ((rw d at h.value) ∙ append-nil made)
 
-pub final_end : (ks : List ℕ) (ss : List Column) (i : ℕ) (made : List Rounded) → Moving ks ss i made → length ss ≤ i → CanMove ks ss × (made ≡ finals ks ss)
-final_end ks ss i made h l = let d = drop_all i ss l in (h.back (rw d tt), sym ((rw d at h.value) ∙ append-nil made))
+pub ruleset final_steps = (final_start, final_counter, final_quotient, final_end)
 
-pub ruleset final_steps = (final_start, final_counter, final_quotient, final_fits, final_end)
+-- ---- how many are counters
+
+pub record Counted (ss : List Column) (i count : ℕ) : Type 0 where
+  pub value : counters ss ≡ count + counters (drop i ss)
+
+pub count_start : (ss : List Column) → Counted ss 0 0
+count_start ss = record { value = let e : counters ss ≡ 0 + counters ss = omega arith in e }
+
+pub count_counter : (ss : List Column) (i count next : ℕ) (s : Column) → Counted ss i count → i < length ss → s ≡ get_or ss i s → s ≡ Counter → next ≡ count + 1 → Counted ss (i + 1) next
+count_counter ss i count next s h l e c n =
+    let d : drop i ss ≡ Counter ∷ drop (i + 1) ss = more ss i s l e ∙ ap (λ x. x ∷ drop (i + 1) ss) c in
+    let v : counters ss ≡ count + suc (counters (drop (i + 1) ss)) = rw d at h.value in
+    record { value = omega arith }
+
+pub count_quotient : (ss : List Column) (i count : ℕ) (s : Column) (r : Rounded) → Counted ss i count → i < length ss → s ≡ get_or ss i s → s ≡ Quotient r → Counted ss (i + 1) count
+count_quotient ss i count s r h l e c =
+    let d : drop i ss ≡ Quotient r ∷ drop (i + 1) ss = more ss i s l e ∙ ap (λ x. x ∷ drop (i + 1) ss) c in
+    record { value = rw d at h.value }
+
+pub count_end : (ss : List Column) (i count : ℕ) → Counted ss i count → length ss ≤ i → count ≡ counters ss
+count_end ss i count h l = let d = drop_all i ss l in let v : counters ss ≡ count + 0 = rw d at h.value in omega arith
+
+pub ruleset count_steps = (count_start, count_counter, count_quotient, count_end)
+
+pub places_distinct : (sc : Scope) (ks : List ℕ) → ks ≡ places sc → AreDistinct ks
+places_distinct sc ks e = subst AreDistinct (sym e) (final-distinct sc.params (counters sc.columns) sc.columns (omega arith))
 
 -- ---- their rows
 
@@ -109,23 +129,3 @@ pub tell_end : (first : ℕ) (qs : List Rounded) (i k : ℕ) (made : List Row) �
 tell_end first qs i k made h l = let d = drop_all i qs l in (h.back (rw d tt), sym ((rw d at h.value) ∙ append-nil made))
 
 pub ruleset tell_steps = (tell_start, tell_fits, tell_step, tell_end)
-
--- ---- pieces
-
-abbrev pub Placing : List ℕ → List Row → List (List Row) → ℕ → List (List Row) → Type 0
-Placing ks rows qs i made = Made (CanRenameAll ks) (λ q. map (renamed_row ks) q ++ rows) qs i made
-
-pub place_start : (ks : List ℕ) (rows : List Row) (qs : List (List Row)) → Placing ks rows qs 0 []
-place_start ks rows qs = made_start (CanRenameAll ks) (λ q. map (renamed_row ks) q ++ rows) qs
-
-pub place_step : (ks : List ℕ) (rows : List Row) (qs : List (List Row)) (i : ℕ) (made new : List (List Row)) (q moved y : List Row) → Placing ks rows qs i made → i < length qs → q ≡ get_or qs i q
-    → CanRenameAll ks q × (moved ≡ map (renamed_row ks) q) → y ≡ moved ++ rows → new ≡ made ++ y ∷ [] → Placing ks rows qs (i + 1) new
-place_step ks rows qs i made new q moved y h l e m b n = made_step (CanRenameAll ks) (λ q. map (renamed_row ks) q ++ rows) qs i made new q y h l e m.0 (b ∙ ap (λ r. r ++ rows) m.1) n
-
-pub place_fits : (ks : List ℕ) (rows : List Row) (qs : List (List Row)) (i : ℕ) (made : List (List Row)) (q : List Row) → Placing ks rows qs i made → i < length qs → q ≡ get_or qs i q → CanPlace ks qs → CanRenameAll ks q
-place_fits ks rows qs i made q h l e g = made_fits (CanRenameAll ks) (λ q. map (renamed_row ks) q ++ rows) qs i made q h l e g
-
-pub place_end : (ks : List ℕ) (rows : List Row) (qs : List (List Row)) (i : ℕ) (made : List (List Row)) → Placing ks rows qs i made → length qs ≤ i → CanPlace ks qs × (made ≡ map (λ q. map (renamed_row ks) q ++ rows) qs)
-place_end ks rows qs i made h l = made_end (CanRenameAll ks) (λ q. map (renamed_row ks) q ++ rows) qs i made h l
-
-pub ruleset place_steps = (place_start, place_step, place_fits, place_end)

@@ -18,7 +18,7 @@ use Rattle.ac_syntax.specs.declared.tree.Rel.TheVariants.{NonNegative, Zero, Div
 use Rattle.ac_syntax.proofs.Alike.{same_value}
 use Rattle.ac_poly_quotients.specs.ComparisonWays.{Decides, way_of_bound, way_of_zero, way_of_multiple}
 use Rattle.ac_poly_quotients.specs.FilledColumns.{counters, filled, filling}
-use Rattle.ac_poly_quotients.specs.FittingForms.{FitsQuot, FitsRel, FitsTest, FitTests}
+use Rattle.ac_syntax.specs.FittingForms.{FitsQuot, FitsRel, FitsTest, FitTests}
 use Rattle.ac_poly_quotients.specs.QuotientScopes.{column_count, with_new, is_named, with_quot, with_quots, column_for, coef_of, lowered_in, rel_quots, part_quots, rel_way, part_way}
 use Rattle.ac_poly_quotients.specs.declared.types.Column.{Column}
 use Rattle.ac_poly_quotients.specs.declared.types.QuotColumn.{QuotColumn}

@@ -11,8 +11,8 @@ use Rattle.ac_syntax.specs.declared.tree.Comparison.{Comparison}
 use Rattle.ac_syntax.specs.declared.tree.Cond.{Cond}
 use Rattle.ac_syntax.specs.declared.tree.IndexExpr.{IndexExpr}
 use Rattle.ac_syntax.specs.declared.tree.Quot.{Quot}
-use Rattle.ac_poly_quotients.specs.QuotientScopes.{column_count, with_quots, lowered_in, part_quots, rows_of, with_counter, in_loop}
-use Rattle.ac_poly_quotients.specs.ScopeRange.{CanNote, CanLower, CanRow, turned, CanTurn, CanEnter}
+use Rattle.ac_poly_quotients.specs.QuotientScopes.{column_count, with_quots, lowered_in, part_quots, rows_of, with_counter, turned, in_loop}
+use Rattle.ac_poly_quotients.specs.ScopeRange.{CanNote, CanLower, CanRow, CanTurn, CanEnter}
 use Rattle.ac_poly_quotients.specs.declared.types.Scope.{Scope}
 
 -- the rows of a loop, whose counter stands in the column k
@@ -76,13 +76,12 @@ entered_step r sc a number start s cond step noted lowered made =
     made_as r (λ can. (noted.0, low, can), λ can. can.2) refl made2
 
 -- the same with the names of the code
-pub entered_made : (r : Result Scope FormStop) (sc copied a : Scope) (number : ℕ) (start : IndexExpr) (s : Affine) (cond : Cond) (t step : ℤ) (quots : List Quot) (its : List Affine)
-    → copied ≡ sc → quots ≡ start.quots → its ≡ a.iters → t ≡ step
-    → CanNote copied.iters quots × (a ≡ with_quots copied quots) → CanLower a its start × (s ≡ lowered_in a its start)
+pub entered_made : (r : Result Scope FormStop) (sc a : Scope) (number : ℕ) (start : IndexExpr) (s : Affine) (cond : Cond) (t step : ℤ) (quots : List Quot) (its : List Affine)
+    → quots ≡ start.quots → its ≡ a.iters → t ≡ step
+    → CanNote sc.iters quots × (a ≡ with_quots sc quots) → CanLower a its start × (s ≡ lowered_in a its start)
     → MadeIff r (CanTurn a number s cond t) (turned a number s cond t) → MadeIff r (CanEnter sc number start cond step) (in_loop sc number start cond step)
-entered_made r sc copied a number start s cond t step quots its copied_is quots_are its_are t_is noted lowered made =
-    let noted1 = subst (λ (x : Scope). CanNote x.iters quots × (a ≡ with_quots x quots)) copied_is noted in
-    let noted2 = subst (λ (l : List Quot). CanNote sc.iters l × (a ≡ with_quots sc l)) quots_are noted1 in
+entered_made r sc a number start s cond t step quots its quots_are its_are t_is noted lowered made =
+    let noted1 = subst (λ (l : List Quot). CanNote sc.iters l × (a ≡ with_quots sc l)) quots_are noted in
     let lowered1 = subst (λ (l : List Affine). CanLower a l start × (s ≡ lowered_in a l start)) its_are lowered in
     let made1 = subst (λ (z : ℤ). MadeIff r (CanTurn a number s cond z) (turned a number s cond z)) t_is made in
-    entered_step r sc a number start s cond step noted2 lowered1 made1
+    entered_step r sc a number start s cond step noted1 lowered1 made1

@@ -4,8 +4,9 @@ use Rattle.std.specs.List.{range_with_len}
 use Rattle.ac_forms.specs.Renaming.{renamed, renamed_row}
 use Rattle.ac_forms.specs.declared.row.Row.{Row}
 use Rattle.ac_poly_quotients.specs.QuotientRows.{quotient_rows}
-use Rattle.ac_poly_quotients.specs.FilledColumns.{quots_of}
+use Rattle.ac_poly_quotients.specs.FilledColumns.{counters, quots_of}
 use Rattle.ac_poly_quotients.specs.declared.types.Rounded.{Rounded}
+use Rattle.ac_poly_quotients.specs.declared.types.Scope.{Scope}
 use Rattle.ac_poly_quotients.specs.declared.types.Column.{Column}
 use Rattle.ac_poly_quotients.specs.declared.types.Column.TheVariants.{Counter, Quotient}
 
@@ -18,6 +19,10 @@ last_columns i j (Quotient r ∷ ss) = j ∷ last_columns i (j + 1) ss
 -- the last columns of so many parameters, and of columns with so many counters
 abbrev pub final_columns : ℕ → ℕ → List Column → List ℕ
 final_columns params depth ss = range_with_len 0 params ++ last_columns params (params + depth) ss
+
+-- the last places of the parameters and columns of a scope
+abbrev pub places : Scope → List ℕ
+places sc = final_columns sc.params (counters sc.columns) sc.columns
 
 -- counters and quotients in the order of the columns, 0 where there are no more
 abbrev pub weave : List Column → List ℤ → List ℤ → List ℤ

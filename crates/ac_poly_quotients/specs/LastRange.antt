@@ -1,19 +1,8 @@
--- Where the numbers of the last columns stay in `i128`: moved forms, and the two rows of each quotient.
+-- Where the numbers of the two rows of each quotient stay in `i128`.
 use Rattle.std.specs.Prelude.{ℕ, ◌+◌, List, [], ◌∷◌, negsuc, neg_ℤ, pos, ◌-ℤ◌, ◌+ℤ◌}
-use Rattle.std.specs.List.{AllByRecursion}
 use Rattle.ac_forms.specs.Affine.{combined, column_form, CanAddTimes, CanCombine}
 use Rattle.ac_forms.specs.Fits.{Fits}
-use Rattle.ac_forms.specs.Renaming.{CanRename, CanRenameAll}
-use Rattle.ac_forms.specs.declared.row.Row.{Row}
-use Rattle.ac_poly_quotients.specs.declared.types.Column.{Column}
-use Rattle.ac_poly_quotients.specs.declared.types.Column.TheVariants.{Counter, Quotient}
 use Rattle.ac_poly_quotients.specs.declared.types.Rounded.{Rounded}
-
--- the quotients among their last columns
-abbrev pub CanMove : List ℕ → List Column → Type 0
-CanMove ks [] = Unit {0}
-CanMove ks (Counter ∷ ss) = CanMove ks ss
-CanMove ks (Quotient r ∷ ss) = CanRename ks r.form × CanMove ks ss
 
 -- what a division leaves, and how far that is below the divisor
 abbrev pub CanTellOne : ℕ → Rounded → Type 0
@@ -26,6 +15,3 @@ CanTellOne k q =
 abbrev pub CanTell : ℕ → List Rounded → Type 0
 CanTell k [] = Unit {0}
 CanTell k (q ∷ qs) = CanTellOne k q × CanTell (k + 1) qs
-
-abbrev pub CanPlace : List ℕ → List (List Row) → Type 0
-CanPlace ks = AllByRecursion (CanRenameAll ks)

@@ -3,7 +3,6 @@ pub mod FilledColumns
 pub mod LastColumns
 pub mod ComparisonWays
 pub mod LoweredForms
-pub mod FittingForms
 pub mod QuotientScopes
 pub mod LoopPaths
 pub mod LawsOfColumns

@@ -7,7 +7,7 @@ use Rattle.ac_syntax.specs.Turns.{inside, IsSteady}
 use Rattle.ac_syntax.specs.declared.tree.Cond.{Cond}
 use Rattle.ac_syntax.specs.declared.tree.IndexExpr.{IndexExpr}
 use Rattle.ac_syntax.specs.declared.tree.Quot.{Quot}
-use Rattle.ac_poly_quotients.specs.FittingForms.{FitsQuot, FitsForm, FitTests}
+use Rattle.ac_syntax.specs.FittingForms.{FitsQuot, FitsForm, FitTests}
 use Rattle.ac_poly_quotients.specs.QuotientScopes.{with_quots, in_loop, where_holds, where_fails}
 use Rattle.ac_poly_quotients.specs.declared.types.Scope.{Scope}
 

@@ -94,13 +94,16 @@ with_counter sc number start step = record sc {
   columns = sc.columns ++ Counter ∷ [];
 }
 
--- inside the loop with this number: its counter is not negative, and the condition holds in turn 0 and in the turn of the counter
-abbrev pub in_loop : Scope → ℕ → IndexExpr → Cond → ℤ → Scope
-in_loop sc number start cond step =
-    let a = with_quots sc start.quots in
-    let s = lowered_in a a.iters start in
+-- inside the loop with this number, whose start has a form among the columns around it: its counter is not negative, and the
+-- condition holds in turn 0 and in the turn of the counter
+abbrev pub turned : Scope → ℕ → Affine → Cond → ℤ → Scope
+turned a number s cond step =
     let c = with_quots (with_counter a number s step) (flat_map part_quots cond.parts) in
     record c { pieces = map (λ q. q ++ Ge (column_form (column_count a + 1) (column_count a)) ∷ (rows_of c (a.iters ++ s ∷ []) cond.parts ++ rows_of c c.iters cond.parts)) a.pieces }
+
+-- inside the loop with this number
+abbrev pub in_loop : Scope → ℕ → IndexExpr → Cond → ℤ → Scope
+in_loop sc number start cond step = let a = with_quots sc start.quots in turned a number (lowered_in a a.iters start) cond step
 
 -- where a condition holds
 abbrev pub where_holds : Scope → Cond → Scope

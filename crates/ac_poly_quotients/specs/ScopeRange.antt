@@ -15,7 +15,7 @@ use Rattle.ac_syntax.specs.declared.tree.Rel.TheVariants.{NonNegative, Zero, Div
 use Rattle.ac_syntax.specs.Quotients.{part_quot}
 use Rattle.ac_poly_quotients.specs.LoweredForms.{lowered}
 use Rattle.ac_poly_quotients.specs.QuotientRows.{rest_form}
-use Rattle.ac_poly_quotients.specs.QuotientScopes.{column_count, with_quots, column_for, coef_of, lowered_in, part_quots, rows_of, with_counter}
+use Rattle.ac_poly_quotients.specs.QuotientScopes.{column_count, with_quots, column_for, coef_of, lowered_in, part_quots, with_counter}
 use Rattle.ac_poly_quotients.specs.declared.types.Scope.{Scope}
 
 -- a form plus each coefficient times the form of its iterator
@@ -71,12 +71,6 @@ abbrev pub CanFail : Scope → Cond → Type 0
 CanFail sc cond =
     let c = with_quots sc (flat_map part_quots cond.parts) in
     CanNote sc.iters (flat_map part_quots cond.parts) × AllByRecursion (CanWay c c.iters) cond.parts
-
--- inside the loop with this number, whose start has a form among the columns around it
-abbrev pub turned : Scope → ℕ → Affine → Cond → ℤ → Scope
-turned a number s cond step =
-    let c = with_quots (with_counter a number s step) (flat_map part_quots cond.parts) in
-    record c { pieces = map (λ q. q ++ Ge (column_form (column_count a + 1) (column_count a)) ∷ (rows_of c (a.iters ++ s ∷ []) cond.parts ++ rows_of c c.iters cond.parts)) a.pieces }
 
 -- its iterator, and its condition in turn 0 and in the turn of the counter
 abbrev pub CanTurn : Scope → ℕ → Affine → Cond → ℤ → Type 0

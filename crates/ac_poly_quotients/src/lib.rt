@@ -6,6 +6,7 @@ pub mod copy;
 mod fails;
 pub mod last;
 pub mod laws;
+pub mod own;
 pub mod scopes;
 pub mod sums;
 pub mod types;

@@ -4,8 +4,8 @@ ghost use Rattle.std.specs.List.{AllByRecursion, flat_map};
 ghost use Rattle.ac_forms.specs.Affine.{CanAddTimes, column_form};
 ghost use Rattle.ac_forms.specs.FormStops.{MadeIff, MadeWhere};
 ghost use Rattle.ac_forms.specs.declared.row.Row.TheVariants.{Ge};
-ghost use Rattle.ac_poly_quotients.specs.QuotientScopes.{outermost, column_count, with_quot, with_quots, part_quots, rows_of, with_counter, in_loop, where_holds, where_fails};
-ghost use Rattle.ac_poly_quotients.specs.ScopeRange.{CanDivide, CanNote, CanRow, CanHold, CanFail, turned, CanTurn, CanEnter};
+ghost use Rattle.ac_poly_quotients.specs.QuotientScopes.{outermost, column_count, with_quot, with_quots, part_quots, rows_of, with_counter, turned, in_loop, where_holds, where_fails};
+ghost use Rattle.ac_poly_quotients.specs.ScopeRange.{CanDivide, CanNote, CanRow, CanHold, CanFail, CanTurn, CanEnter};
 
 use crate::copy::{
     copy_columns, copy_forms, copy_named, copy_pieces, joined, with_form, with_rows,
@@ -79,7 +79,7 @@ fn add_quot(alloc: Global, scope: &mut Scope, quot: &Quot) -> Result<(), FormSto
 
 /// Adds columns for quotients, in order.
 #[tactic(auto, using(crate::proofs::Making::noted_steps))]
-pub fn add_quots(alloc: Global, scope: &mut Scope, quots: &[Quot]) -> Result<(), FormStop>
+fn add_quots(alloc: Global, scope: &mut Scope, quots: &[Quot]) -> Result<(), FormStop>
     ensures { MadeWhere result (CanNote scope.old.iters quots.now) (λ _. scope.new ≡ with_quots scope.old quots.now) }
 {
     for quot in quots {
@@ -88,8 +88,21 @@ pub fn add_quots(alloc: Global, scope: &mut Scope, quots: &[Quot]) -> Result<(),
     Ok(())
 }
 
+/// The scope with columns for quotients: each that has none gets the next, in order.
+pub fn with_quots(alloc: Global, scope: &Scope, quots: &[Quot]) -> Result<Scope, FormStop>
+    ensures { MadeIff result (CanNote scope.now.iters quots.now) (with_quots scope.now quots.now) }
+{
+    let mut made = copy_scope(alloc, scope)?;
+    add_quots(alloc, &mut made, quots)?;
+    Ok(made)
+}
+
 /// Adds copies of quotients.
-pub fn push_quots(alloc: Global, out: &mut Items<Quot>, quots: &[Quot]) -> Result<(), AllocError>
+pub(crate) fn push_quots(
+    alloc: Global,
+    out: &mut Items<Quot>,
+    quots: &[Quot],
+) -> Result<(), AllocError>
     ensures { OnOk result (out.new ≡ out.old ++ quots.now) }
 {
     for quot in quots {
@@ -200,8 +213,7 @@ pub fn in_loop(
 ) -> Result<Scope, FormStop>
     ensures { MadeIff result (CanEnter scope.now number start.now cond.now step) (in_loop scope.now number start.now cond.now step) }
 {
-    let mut around = copy_scope(alloc, scope)?;
-    add_quots(alloc, &mut around, start.quots.as_slice())?;
+    let around = with_quots(alloc, scope, start.quots.as_slice())?;
     let form = lowered_in(alloc, &around, around.iters.as_slice(), start)?;
     turned(alloc, &around, number, &form, cond, step)
 }

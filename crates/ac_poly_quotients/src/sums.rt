@@ -28,7 +28,7 @@ fn widened(alloc: Global, numbers: &[i64]) -> Result<Vec<i128>, AllocError>
 
 /// A constant and terms in the parameters.
 #[tactic(auto, using(crate::proofs::Widening::read_back))]
-fn without_iterators(alloc: Global, konst: i64, params: &[i64]) -> Result<Form, AllocError>
+pub fn without_iterators(alloc: Global, konst: i64, params: &[i64]) -> Result<Form, AllocError>
     ensures { IfOk result (λ form. form ≡ record { konst = konst; coefs = params.now }) }
 {
     let coefs = widened(alloc, params)?;

@@ -3,7 +3,7 @@ use Rattle.ac_poly.proofs.Dimensions.{cells_have_dimensions}
 use Rattle.ac_poly.proofs.Elements.{has_elements}
 use Rattle.ac_poly.proofs.Models.{has_models}
 use Rattle.ac_poly.proofs.PiecesApart.{pieces_are_apart}
-use Rattle.ac_poly.proofs.Whole.{if_made, has_instances, has_cells, has_nodes, has_order, has_context, has_extents}
+use Rattle.ac_poly.proofs.Whole.{if_made, has_instances, has_cells, has_nodes, has_quotients, has_order, has_context, has_extents}
 use Rattle.ac_poly.proofs.program.lower.Goals as goal
 
 pub returns-clause-instances : goal.returns-clause-instances
@@ -14,6 +14,9 @@ returns-clause-cells c = if_made c.lowered_program.result _ _ _ _ c.lowered_prog
 
 pub returns-clause-nodes : goal.returns-clause-nodes
 returns-clause-nodes c = if_made c.lowered_program.result _ _ _ _ c.lowered_program.ensures (has_nodes c.args.p.now c.args.context.now c.requires.program)
+
+pub returns-clause-quotients : goal.returns-clause-quotients
+returns-clause-quotients c = if_made c.lowered_program.result _ _ _ _ c.lowered_program.ensures (has_quotients c.args.p.now c.args.context.now c.requires.program)
 
 pub returns-clause-order : goal.returns-clause-order
 returns-clause-order c = if_made c.lowered_program.result _ _ _ _ c.lowered_program.ensures (has_order c.args.p.now c.args.context.now c.requires.program)

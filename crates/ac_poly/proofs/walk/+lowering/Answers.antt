@@ -3,10 +3,10 @@ use Rattle.std.proofs.lemmas.Int.{to_z-of_z}
 use Rattle.ac_syntax.specs.declared.tree.Stmt.{the_lemmas}
 use Rattle.ac_syntax.specs.ReadyPrograms.{ReadyAll}
 use Rattle.ac_syntax.proofs.ReadyAt.{ready_for, ready_if}
-use Rattle.ac_poly.specs.Lower.{in_loop, where_holds, where_fails}
-use Rattle.ac_poly.specs.LoweringRange.{CanEnter, CanHold, CanFail}
+use Rattle.ac_poly_quotients.specs.QuotientScopes.{in_loop, where_holds, where_fails}
+use Rattle.ac_poly_quotients.specs.ScopeRange.{CanEnter, CanHold, CanFail}
 use Rattle.ac_poly.proofs.Answering.{wide_not}
-use Rattle.ac_poly.proofs.Walks.{unknown, within, ready_within, few_within, ready_in_loop, walk_for, walk_if, walk_assign, walk_assign_wide, walk_if_err, count_in_loop, count_taken, count_other}
+use Rattle.ac_poly.proofs.Walks.{unknown, within, ready_within, few_within, ready_in_loop, ready_holds, ready_fails, walk_for, walk_if, walk_assign, walk_assign_wide, walk_if_err, count_in_loop, count_taken, count_other}
 use Rattle.ac_poly.proofs.walk.+lowering.Goals as goal
 
 pub lower_within-lower_all-requires : goal.lower_within-lower_all-requires
@@ -21,42 +21,42 @@ lower_within-lower_all-requires t c = (
 pub lower_taken-lower_within-requires : goal.lower_taken-lower_within-requires
 lower_taken-lower_within-requires t c =
     let sc = c.args.scope.now in
-    let can = CanHold sc.iters c.args.cond.now.parts in (
+    let can = CanHold sc c.args.cond.now in (
       search (rules, the_lemmas),
       (
-        ready_within c.taken-inner.result (where_holds sc c.args.cond.now) can c.args.body.now c.taken-inner.ensures c.requires.body,
-        few_within c.taken-inner.result (where_holds sc c.args.cond.now) can c.taken-inner.ensures (subst (λ n. n ≤ 16) (count_taken sc c.args.cond.now) c.requires.few),
+        ready_within c.where_holds-inner.result (where_holds sc c.args.cond.now) can c.args.body.now c.where_holds-inner.ensures (ready_holds sc c.args.cond.now c.args.body.now c.requires.body),
+        few_within c.where_holds-inner.result (where_holds sc c.args.cond.now) can c.where_holds-inner.ensures (subst (λ n. n ≤ 16) (count_taken sc c.args.cond.now) c.requires.few),
       ),
     )
 
 pub lower_taken-returns : goal.lower_taken-returns
 lower_taken-returns t c =
     let sc = c.args.scope.now in
-    within c.taken-inner.result c.lower_within.result sc.params _ c.args.body.now c.args.number c.len.result (where_holds sc c.args.cond.now) (CanHold sc.iters c.args.cond.now.parts) c.args.out.now c.lower_within.new.out
-    c.taken-inner.ensures c.requires.body (c.len.ensures ∙ count_taken sc c.args.cond.now) c.lower_within.ensures
+    within c.where_holds-inner.result c.lower_within.result sc.params _ c.args.body.now c.args.number c.len.result (where_holds sc c.args.cond.now) (CanHold sc c.args.cond.now) c.args.out.now c.lower_within.new.out
+    c.where_holds-inner.ensures c.requires.body (c.len.ensures ∙ count_taken sc c.args.cond.now) c.lower_within.ensures
 
 pub lower_other-lower_within-requires : goal.lower_other-lower_within-requires
 lower_other-lower_within-requires t c =
     let sc = c.args.scope.now in
-    let can = CanFail sc.iters c.args.cond.now.parts in
+    let can = CanFail sc c.args.cond.now in
     let few : c.in_ok-pieces.pieces ≤ 16 = omega arith in
     let count = count_other sc c.args.cond.now _ c.in_ok-pieces.ensures c.requires.few in (
       search (rules, the_lemmas),
       (
-        ready_within c.other-inner.result (where_fails sc c.args.cond.now) can c.args.body.now c.other-inner.ensures c.requires.body,
-        few_within c.other-inner.result (where_fails sc c.args.cond.now) can c.other-inner.ensures (subst (λ n. n ≤ 16) count few),
+        ready_within c.where_fails-inner.result (where_fails sc c.args.cond.now) can c.args.body.now c.where_fails-inner.ensures (ready_fails sc c.args.cond.now c.args.body.now c.requires.body),
+        few_within c.where_fails-inner.result (where_fails sc c.args.cond.now) can c.where_fails-inner.ensures (subst (λ n. n ≤ 16) count few),
       ),
     )
 
 pub lower_other-returns : goal.lower_other-returns
 lower_other-returns t c =
     let sc = c.args.scope.now in
-    within c.other-inner.result c.lower_within.result sc.params _ c.args.body.now c.args.number _ (where_fails sc c.args.cond.now) (CanFail sc.iters c.args.cond.now.parts) c.args.out.now c.lower_within.new.out
-    c.other-inner.ensures c.requires.body (count_other sc c.args.cond.now _ c.in_ok-pieces.ensures c.requires.few) c.lower_within.ensures
+    within c.where_fails-inner.result c.lower_within.result sc.params _ c.args.body.now c.args.number _ (where_fails sc c.args.cond.now) (CanFail sc c.args.cond.now) c.args.out.now c.lower_within.new.out
+    c.where_fails-inner.ensures c.requires.body (count_other sc c.args.cond.now _ c.in_ok-pieces.ensures c.requires.few) c.lower_within.ensures
 
 pub lower_other-returns-then-pieces-gt16 : goal.lower_other-returns-then-pieces-gt16
 lower_other-returns-then-pieces-gt16 t c =
-    unknown c.seek_all.result c.args.scope.now.params _ c.args.body.now c.args.number (where_fails c.args.scope.now c.args.cond.now) (CanFail c.args.scope.now.iters c.args.cond.now.parts) _ _ c.requires.body
+    unknown c.seek_all.result c.args.scope.now.params _ c.args.body.now c.args.number (where_fails c.args.scope.now c.args.cond.now) (CanFail c.args.scope.now c.args.cond.now) _ _ c.requires.body
     (inr (let e = count_other c.args.scope.now c.args.cond.now _ c.in_ok-pieces.ensures c.requires.few in omega arith)) (count_other c.args.scope.now c.args.cond.now _ c.in_ok-pieces.ensures c.requires.few) c.seek_all.ensures
 
 pub lower_one-lower_within-requires : goal.lower_one-lower_within-requires
@@ -65,11 +65,11 @@ lower_one-lower_within-requires t c =
     let z : FitsSigned w64 c.in-For.step = search rules in
     let made = rw (to_z-of_z w64 c.in-For.step z) at c.in_loop-inner.ensures in
     let inner = in_loop sc c.args.number c.in-For.start c.in-For.cond c.in-For.step in
-    let can = CanEnter sc c.in-For.start c.in-For.cond c.in-For.step in
+    let can = CanEnter sc c.args.number c.in-For.start c.in-For.cond c.in-For.step in
     let r = ready_for _ _ c.in-For.iter c.in-For.start c.in-For.cond c.in-For.step c.in-For.body c.in-For.place (rw c.in-For.is at c.requires.ready) in (
       search (rules, the_lemmas),
       (
-        rw c.as_slice.ensures (ready_within c.in_loop-inner.result inner can c.in-For.body made (ready_in_loop sc c.args.number c.in-For.start c.in-For.cond c.in-For.step c.in-For.body r.3)),
+        rw c.as_slice.ensures (ready_within c.in_loop-inner.result inner can c.in-For.body made (ready_in_loop sc c.args.number c.in-For.start c.in-For.cond c.in-For.step c.in-For.body r.4)),
         few_within c.in_loop-inner.result inner can made (subst (λ n. n ≤ 16) (count_in_loop sc c.args.number c.in-For.start c.in-For.cond c.in-For.step) c.requires.few),
       ),
     )
@@ -84,8 +84,8 @@ lower_one-returns-in_ok-next-in-For t c =
     walk_for c.lower_within.result c.args.s.now c.in-For.iter c.in-For.start c.in-For.cond c.in-For.step c.in-For.body c.in-For.place c.args.number sc c.args.out.now c.lower_within.new.out
     c.in-For.is
     (within c.in_loop-inner.result c.lower_within.result sc.params _ c.in-For.body (suc c.args.number) _ (in_loop sc c.args.number c.in-For.start c.in-For.cond c.in-For.step)
-    (CanEnter sc c.in-For.start c.in-For.cond c.in-For.step) c.args.out.now c.lower_within.new.out
-    made r.3 (c.len.ensures ∙ count_in_loop sc c.args.number c.in-For.start c.in-For.cond c.in-For.step) (rw (e, c.as_slice.ensures) at c.lower_within.ensures))
+    (CanEnter sc c.args.number c.in-For.start c.in-For.cond c.in-For.step) c.args.out.now c.lower_within.new.out
+    made r.4 (c.len.ensures ∙ count_in_loop sc c.args.number c.in-For.start c.in-For.cond c.in-For.step) (rw (e, c.as_slice.ensures) at c.lower_within.ensures))
 
 pub lower_one-lower_taken-requires : goal.lower_one-lower_taken-requires
 lower_one-lower_taken-requires t c =
