@@ -87,9 +87,9 @@ rows_hold (r ∷ rs) p = can_evaluate (form_of r) p && (row_holds r p && rows_ho
 abbrev pub is_point : Model → List ℤ → Bool
 is_point m p = nat_eq (length p) m.params && rows_hold m.context p
 
--- the number of counters of an assignment and, behind it, that of its quotients, of which it has none
+-- the number of counters of an assignment and, behind it, that of its quotients
 abbrev pub has_shape : ℕ × ℕ → StmtModel → Bool
-has_shape h stmt = nat_eq h.0 (length stmt.loops) && nat_eq h.1 0
+has_shape h stmt = nat_eq h.0 (length stmt.loops) && nat_eq h.1 (length stmt.quots)
 
 -- one shape for each assignment
 abbrev pub have_shapes : List (ℕ × ℕ) → List StmtModel → Bool

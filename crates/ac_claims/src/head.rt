@@ -6,7 +6,6 @@ ghost use Rattle.ac_claims.specs.ProofFaults.{row_holds, rows_hold, is_point, ha
 
 use ac_forms::Row;
 use ac_poly::types::{Model, StmtModel};
-use ac_poly::width;
 
 /// Whether a row holds at a point, where its form can be evaluated in `i128`.
 #[tactic(auto, using(crate::proofs::HeadSteps::row_steps))]
@@ -45,7 +44,7 @@ pub(crate) fn is_point(model: &Model, point: &[i128]) -> bool
 fn has_shape(shape: &(u64, u64), stmt: &StmtModel) -> bool
     ensures { result ≡ has_shape shape.now stmt.now }
 {
-    shape.0 == width(stmt) as u64 && shape.1 == 0
+    shape.0 == stmt.loops.len() as u64 && shape.1 == stmt.quots.len() as u64
 }
 
 /// Whether the assignments have these numbers of counters and quotients, one pair of numbers for each.

@@ -20,7 +20,7 @@ use Rattle.ac_poly.specs.ModelMeaning.{values_at}
 use Rattle.ac_poly.specs.CoordinateColumns.{AreOver}
 use Rattle.ac_poly.specs.Model.{model_of}
 use Rattle.ac_poly.proofs.Columns.{has_columns}
-use Rattle.ac_poly.proofs.Models.{has_models}
+use Rattle.ac_poly.proofs.Models.{has_models, same_counters}
 use Rattle.ac_poly.proofs.Whole.{has_instances, has_cells, has_nodes, has_order, has_extents}
 use Rattle.ac_base.proofs.Options.{some-is}
 use Rattle.ac_claims_paths.specs.InstanceCoordinates.{width, coordinates, levels_before}
@@ -96,7 +96,7 @@ models_describe p context params r f l =
           let e = (has_instances p context r params at number stmt l is lc).0 some in
           let w = contains_stands (trace_of p.body params) e.0 e.1 in
           (w.0, record { stands = w.1; stmt = ap (λ (x : Entry). x.stmt) w.2 ∙ e.2; coords = ap (coordinates m params) w.2 ∙ e.3 });
-      once = λ w u a b i j. one_entry p.body (point params []) w u a b i j;
+      once = λ w u a b i j. one_entry p.body (point params []) w u a b i (same_counters p context r params w.entry u.entry l (stands_contains a) (stands_contains b) i j);
       cell = λ w stmt s is. has_cells p context r params w.entry stmt l is (stands_contains s);
       node = λ w stmt s is number v n. (has_nodes p context r params w.entry stmt l is (stands_contains s)).1 number v n;
       order = λ w u first second sw su iw iu.

@@ -6,6 +6,7 @@ use Rattle.ac_forms.specs.Affine.{Affine}
 use Rattle.ac_syntax.specs.LoopNests.{loop_count, loop_count_in}
 use Rattle.ac_syntax.specs.ValueNodes.{size}
 use Rattle.ac_syntax.specs.declared.tree.Cond.{Cond}
+use Rattle.ac_syntax.specs.declared.tree.IndexExpr.{IndexExpr}
 use Rattle.ac_syntax.specs.declared.tree.Position.{Position}
 use Rattle.ac_syntax.specs.declared.tree.Position.TheVariants.{Output, Node, InitialOutput, InitialNode}
 use Rattle.ac_syntax.specs.declared.tree.Program.{Program}
@@ -15,10 +16,11 @@ use Rattle.ac_syntax.specs.declared.tree.Symbol.{Symbol}
 use Rattle.ac_syntax.specs.declared.tree.Value.{Value, Row_of-Value, end_of-Value, more_of-Value}
 use Rattle.ac_syntax.specs.declared.tree.Value.TheVariants.{Number, Access, Call'}
 use Rattle.ac_poly.proofs.NodeForms.{length-nodes}
-use Rattle.ac_poly.specs.Lower.{lower, lower_in, lower_all, outermost, in_loop, where_holds, where_fails}
+use Rattle.ac_poly.specs.Lower.{own_scope, last_form, lower, lower_in, lower_all}
+use Rattle.ac_poly_quotients.specs.QuotientScopes.{outermost, in_loop, where_holds, where_fails}
 use Rattle.ac_poly.specs.Model.{model_of}
 use Rattle.ac_poly.specs.ModelNodes.{nodes, nodes_in, roots}
-use Rattle.ac_poly.specs.declared.scope.Scope.{Scope}
+use Rattle.ac_poly_quotients.specs.declared.types.Scope.{Scope}
 use Rattle.ac_poly.specs.declared.types.Model.{Model}
 use Rattle.ac_poly.specs.declared.types.NodeModel.{NodeModel}
 use Rattle.ac_poly.specs.declared.types.NodeModel.TheVariants as node
@@ -60,29 +62,29 @@ get_parts x (z ∷ zs) ys (suc k) e = elim (get_parts x zs ys k e) [ inl a ↦ i
 mutual
   unfolding nodes
 
-  calls_in : (its : List Affine) (v : Value) (at k : ℕ) (symbol : Symbol) (args : List ℕ) → slice_get (nodes its v at) k ≡ Some (node.Call symbol args) → (a : ℕ) → IsAmong a args → at + k < a
-  calls_in its (Number e) at zero symbol args h a i = absurd cc
-  calls_in its (Number e) at (suc k) symbol args h a i = absurd cc
-  calls_in its (Access array subs place) at zero symbol args h a i = absurd cc
-  calls_in its (Access array subs place) at (suc k) symbol args h a i = absurd cc
-  calls_in its (Call' f n row place) at zero symbol args h a i =
+  calls_in : (form : IndexExpr → Affine) (v : Value) (at k : ℕ) (symbol : Symbol) (args : List ℕ) → slice_get (nodes form v at) k ≡ Some (node.Call symbol args) → (a : ℕ) → IsAmong a args → at + k < a
+  calls_in form (Number e) at zero symbol args h a i = absurd cc
+  calls_in form (Number e) at (suc k) symbol args h a i = absurd cc
+  calls_in form (Access array subs place) at zero symbol args h a i = absurd cc
+  calls_in form (Access array subs place) at (suc k) symbol args h a i = absurd cc
+  calls_in form (Call' f n row place) at zero symbol args h a i =
       let r : args ≡ roots row (at + 1) = cc in
       let l = roots_above row (at + 1) a (subst (IsAmong a) r i) in omega arith
-  calls_in its (Call' f n row place) at (suc k) symbol args h a i = let r = calls_among its row (at + 1) k symbol args h a i in omega arith
+  calls_in form (Call' f n row place) at (suc k) symbol args h a i = let r = calls_among form row (at + 1) k symbol args h a i in omega arith
 
-  calls_among : (its : List Affine) {m : _} (row : Row_of-Value m) (at k : ℕ) (symbol : Symbol) (args : List ℕ) → slice_get (nodes_in its row at) k ≡ Some (node.Call symbol args) → (a : ℕ) → IsAmong a args → at + k < a
-  calls_among its end_of-Value at k symbol args h a i = absurd cc
-  calls_among its (more_of-Value v rest) at k symbol args h a i =
-      elim (get_parts (node.Call symbol args) (nodes its v at) (nodes_in its rest (at + size v)) k h) [
-        | inl x ↦ calls_in its v at k symbol args x a i
-        | inr x ↦ let r = calls_among its rest (at + size v) x.0 symbol args x.2 a i in let l = length-nodes its v at in let e = x.1 in omega arith
+  calls_among : (form : IndexExpr → Affine) {m : _} (row : Row_of-Value m) (at k : ℕ) (symbol : Symbol) (args : List ℕ) → slice_get (nodes_in form row at) k ≡ Some (node.Call symbol args) → (a : ℕ) → IsAmong a args → at + k < a
+  calls_among form end_of-Value at k symbol args h a i = absurd cc
+  calls_among form (more_of-Value v rest) at k symbol args h a i =
+      elim (get_parts (node.Call symbol args) (nodes form v at) (nodes_in form rest (at + size v)) k h) [
+        | inl x ↦ calls_in form v at k symbol args x a i
+        | inr x ↦ let r = calls_among form rest (at + size v) x.0 symbol args x.2 a i in let l = length-nodes form v at in let e = x.1 in omega arith
       ]
 
 -- the nodes of an assignment are those of a value
 record FromValue (stmt : StmtModel) : Type 0 where
-  its : List Affine
+  form : IndexExpr → Affine
   value : Value
-  is : stmt.nodes ≡ nodes its value 0
+  is : stmt.nodes ≡ nodes form value 0
 
 mutual
   unfolding lower
@@ -94,7 +96,7 @@ mutual
         | inl a ↦ stmts_value taken loop (where_holds sc cond) x a
         | inr a ↦ stmts_value other (loop + loop_count_in taken) (where_fails sc cond) x a
       ]
-  stmt_value (Assign array subs value place) loop sc x (inl e) = record { its = sc.iters; value = value; is = ap (λ (y : StmtModel). y.nodes) e }
+  stmt_value (Assign array subs value place) loop sc x (inl e) = record { form = last_form (own_scope sc subs value); value = value; is = ap (λ (y : StmtModel). y.nodes) e }
   stmt_value (Assign array subs value place) loop sc x (inr n) = absurd n
 
   stmts_value : {m : _} (k : Row_of-Stmt m) (loop : ℕ) (sc : Scope) (x : StmtModel) → IsAmong x (lower_in k loop sc) → FromValue x
@@ -130,10 +132,10 @@ descend_at p context s k call i q e a =
     let n = node_by s (node_at m s k) call e in
     let t = stmt_by k (slice_get m.stmts s) (node.Call n.0 n.1) n.2 in
     let v = body_value p.body 0 (outermost (length p.params)) t.0 (in_at t.0 m.stmts s t.1) in
-    let g : slice_get (nodes v.its v.value 0) k ≡ Some (node.Call n.0 n.1) = subst (λ (ns : List NodeModel). slice_get ns k ≡ Some (node.Call n.0 n.1)) v.is t.2 in
+    let g : slice_get (nodes v.form v.value 0) k ≡ Some (node.Call n.0 n.1) = subst (λ (ns : List NodeModel). slice_get ns k ≡ Some (node.Call n.0 n.1)) v.is t.2 in
     let b : option_map (Node s) (slice_get n.1 i) ≡ Some q = sym (slice_get-map (Node s) n.1 i) ∙ ap (λ (ps : List Position). slice_get ps i) (sym n.3) ∙ a in
     let r = argument_by s (slice_get n.1 i) q b in
-    let l = calls_in v.its v.value 0 k n.0 n.1 g r.0 (in_at r.0 n.1 i r.1) in
+    let l = calls_in v.form v.value 0 k n.0 n.1 g r.0 (in_at r.0 n.1 i r.1) in
     record { stmt = s; from = k; to = r.0; from_is = refl; to_is = r.2; less = omega arith }
 
 descend : (p : Program) (context : Cond) (at : Position) (call : CallAt) (i : ℕ) (q : Position) → call_at (model_of p context) at ≡ Some call → slice_get call.args i ≡ Some q → Deeper at q

@@ -9,6 +9,7 @@ use Rattle.ac_syntax.specs.LoopNests.{loop_count, loop_count_in}
 use Rattle.ac_syntax.specs.ValueNodes.{size}
 use Rattle.ac_syntax.specs.Outputs.{swaps_of}
 use Rattle.ac_syntax.specs.declared.tree.Cond.{Cond}
+use Rattle.ac_syntax.specs.declared.tree.IndexExpr.{IndexExpr}
 use Rattle.ac_syntax.specs.declared.tree.Pair.{Pair}
 use Rattle.ac_syntax.specs.declared.tree.Position.{Position}
 use Rattle.ac_syntax.specs.declared.tree.Position.TheVariants.{Output, Node, InitialOutput, InitialNode}
@@ -17,10 +18,11 @@ use Rattle.ac_syntax.specs.declared.tree.Stmt.{Stmt, Row_of-Stmt, end_of-Stmt, m
 use Rattle.ac_syntax.specs.declared.tree.Stmt.TheVariants.{For', If', Assign}
 use Rattle.ac_syntax.specs.declared.tree.Value.{Value, Row_of-Value, end_of-Value, more_of-Value}
 use Rattle.ac_syntax.specs.declared.tree.Value.TheVariants.{Number, Access, Call'}
-use Rattle.ac_poly.specs.Lower.{lower, lower_in, lower_all, outermost, in_loop, where_holds, where_fails}
+use Rattle.ac_poly.specs.Lower.{own_scope, last_form, lower, lower_in, lower_all}
+use Rattle.ac_poly_quotients.specs.QuotientScopes.{outermost, in_loop, where_holds, where_fails}
 use Rattle.ac_poly.specs.Model.{model_of, extents_of}
 use Rattle.ac_poly.specs.ModelNodes.{nodes, nodes_in, roots}
-use Rattle.ac_poly.specs.declared.scope.Scope.{Scope}
+use Rattle.ac_poly_quotients.specs.declared.types.Scope.{Scope}
 use Rattle.ac_poly.specs.declared.types.Model.{Model}
 use Rattle.ac_poly.specs.declared.types.NodeModel.{NodeModel}
 use Rattle.ac_poly.specs.declared.types.NodeModel.TheVariants as node
@@ -37,15 +39,15 @@ use Rattle.ac_graph.specs.declared.programs.Outlines.{Outlines}
 mutual
   unfolding outlined nodes
 
-  value_linked : (its : List Affine) (v : Value) (at : ℕ) → outlined v at ≡ map outline_of (nodes its v at)
-  value_linked its (Number e) at = refl
-  value_linked its (Access array subs place) at = refl
-  value_linked its (Call' symbol n args place) at = ap (λ r. outline.Call symbol (roots args (at + 1)) ∷ r) (values_linked its args (at + 1))
+  value_linked : (form : IndexExpr → Affine) (v : Value) (at : ℕ) → outlined v at ≡ map outline_of (nodes form v at)
+  value_linked form (Number e) at = refl
+  value_linked form (Access array subs place) at = refl
+  value_linked form (Call' symbol n args place) at = ap (λ r. outline.Call symbol (roots args (at + 1)) ∷ r) (values_linked form args (at + 1))
 
-  values_linked : (its : List Affine) {m : _} (k : Row_of-Value m) (at : ℕ) → outlined_in k at ≡ map outline_of (nodes_in its k at)
-  values_linked its end_of-Value at = refl
-  values_linked its (more_of-Value v rest) at =
-      (λ i. value_linked its v at i ++ values_linked its rest (at + size v) i) ∙ sym (map-append outline_of (nodes its v at) (nodes_in its rest (at + size v)))
+  values_linked : (form : IndexExpr → Affine) {m : _} (k : Row_of-Value m) (at : ℕ) → outlined_in k at ≡ map outline_of (nodes_in form k at)
+  values_linked form end_of-Value at = refl
+  values_linked form (more_of-Value v rest) at =
+      (λ i. value_linked form v at i ++ values_linked form rest (at + size v) i) ∙ sym (map-append outline_of (nodes form v at) (nodes_in form rest (at + size v)))
 
 mutual
   unfolding outlines lower
@@ -55,7 +57,7 @@ mutual
   stmt_linked (If' cond n taken m other place) loop sc =
       (λ i. stmts_linked taken loop (where_holds sc cond) i ++ stmts_linked other (loop + loop_count_in taken) (where_fails sc cond) i)
       ∙ sym (map-append outline_of_stmt (lower_in taken loop (where_holds sc cond)) (lower_in other (loop + loop_count_in taken) (where_fails sc cond)))
-  stmt_linked (Assign array subs value place) loop sc = ap (λ v. v ∷ []) (value_linked sc.iters value 0)
+  stmt_linked (Assign array subs value place) loop sc = ap (λ v. v ∷ []) (value_linked (last_form (own_scope sc subs value)) value 0)
 
   stmts_linked : {m : _} (k : Row_of-Stmt m) (loop : ℕ) (sc : Scope) → outlines_in k ≡ map outline_of_stmt (lower_in k loop sc)
   stmts_linked end_of-Stmt loop sc = refl

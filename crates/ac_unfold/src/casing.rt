@@ -6,6 +6,7 @@ use ac_claims::ending::same_position;
 use ac_claims_paths::path::{Assumed, Seat, Side};
 use ac_flow::types::{Case, ReadFlow};
 use ac_poly::types::Model;
+use ac_poly::width;
 use ac_syntax::tree::Position;
 
 /// Whether a position of a read or an output has so many coordinates.
@@ -18,7 +19,7 @@ fn has_count(model: &Model, position: &Position, count: usize) -> bool
             None => false,
         },
         Position::Node { stmt, node: _ } => match model.stmts.get(*stmt) {
-            Some(stmt) => stmt.loops.len() == count,
+            Some(stmt) => width(stmt) == count,
             None => false,
         },
         Position::InitialOutput(_) | Position::InitialNode { .. } => false,
@@ -34,7 +35,7 @@ fn is_root(model: &Model, source: usize, seat: &Seat) -> bool
     };
     match &seat.position {
         Position::Node { stmt: s, node } => {
-            *s == source && *node == 0 && stmt.loops.len() == seat.width
+            *s == source && *node == 0 && width(stmt) == seat.width
         }
         _ => false,
     }

@@ -7,13 +7,13 @@ use ac_claims::types::Heads;
 use ac_poly::types::Model;
 use std::alloc::{AllocError, Global};
 
-/// For each assignment how many loops stand around it, and no quotients.
+/// For each assignment how many loops stand around it, and how many quotients it has.
 fn shapes(alloc: Global, model: &Model) -> Result<Items<(u64, u64)>, AllocError>
     ensures { IfOk result (λ made. have_shapes made model.now.stmts ≡ true) }
 {
     let mut made = Items::new(alloc);
     for stmt in model.stmts.as_slice() {
-        made.push((stmt.loops.len() as u64, 0))?;
+        made.push((stmt.loops.len() as u64, stmt.quots.len() as u64))?;
     }
     Ok(made)
 }
