@@ -17,7 +17,7 @@ use Rattle.ac_poly.specs.declared.types.Model.{Model}
 use Rattle.ac_poly.specs.declared.types.StmtModel.{StmtModel}
 use Rattle.ac_poly.proofs.LevelRows.{levels_have_columns}
 use Rattle.ac_poly.proofs.Rows.{meets_append}
-use Rattle.ac_legal_law.specs.OrderQuestions.{CellForms, written, reads, same_cells, clashes, late, joined, first_columns, second_columns, order_questions}
+use Rattle.ac_legal_law.specs.OrderQuestions.{CellForms, written, reads, same_cells, clashes, late, joined, first_columns, second_columns, first_counters, second_counters, order_questions}
 use Rattle.ac_legal_law.specs.Schedules.{forms_of}
 use Rattle.ac_legal_law.proofs.Choices.{in_joined}
 use Rattle.ac_legal.specs.declared.types.LegalStop.{LegalStop}
@@ -141,7 +141,9 @@ choices_over m times i j s u o a =
     let n = m.params + (width s + width u) in
     let base : AreColumns n (range_with_len 0 m.params) = columns_below n 0 m.params (omega arith) in
     let c : AreColumns n (first_columns m.params s) = columns_both n (range_with_len 0 m.params) (range_with_len m.params (width s)) base (columns_below n m.params (width s) (omega arith)) in
-    let d : AreColumns n (second_columns m.params s u) = columns_both n (range_with_len 0 m.params) (range_with_len (m.params + width s) (width u)) base (columns_below n (m.params + width s) (width u) (omega arith)) in (
+    let d : AreColumns n (second_columns m.params s u) = columns_both n (range_with_len 0 m.params) (range_with_len (m.params + width s) (width u)) base (columns_below n (m.params + width s) (width u) (omega arith)) in
+    let ct : AreColumns n (first_counters m.params s) = columns_both n (range_with_len 0 m.params) (range_with_len m.params (length s.loops)) base (columns_below n m.params (length s.loops) (omega arith)) in
+    let dt : AreColumns n (second_counters m.params s u) = columns_both n (range_with_len 0 m.params) (range_with_len (m.params + width s) (length u.loops)) base (columns_below n (m.params + width s) (length u.loops) (omega arith)) in (
       pieces_over (m.params + width s) n (first_columns m.params s) s.pieces c (o.pieces i s a.first),
       (
         pieces_over (m.params + width u) n (second_columns m.params s u) u.pieces d (o.pieces j u a.second),
@@ -150,7 +152,7 @@ choices_over m times i j s u o a =
           (
             clashes_over n (first_columns m.params s) (second_columns m.params s u) s u c d,
             (
-              late_over n (first_columns m.params s) (second_columns m.params s u) (forms_of times i) (forms_of times j) [] c d tt,
+              late_over n (first_counters m.params s) (second_counters m.params s u) (forms_of times i) (forms_of times j) [] ct dt tt,
               tt,
             ),
           ),
@@ -179,14 +181,13 @@ no_forms [] k h = refl
 no_forms (fs ∷ times) zero h = absurd cc
 no_forms (fs ∷ times) (suc k) h = no_forms times k h
 
-pub parts_listed : (m : Model) (times : List (List Affine)) (i j : ℕ) (s u : StmtModel) (k1 k2 k3 k4 k5 k6 : List ℕ) (q1 q2 : List (List Row)) (fs gs : List Affine) (own other levels : List (List Row)) (cells lates : Part) (parts : List Part)
+pub parts_listed : (m : Model) (times : List (List Affine)) (i j : ℕ) (s u : StmtModel) (k1 k2 k3 k4 : List ℕ) (q1 q2 : List (List Row)) (own other levels : List (List Row)) (cells lates : Part) (parts : List Part)
     → k1 ≡ first_columns m.params s → q1 ≡ s.pieces → k2 ≡ second_columns m.params s u → q2 ≡ u.pieces → k3 ≡ first_columns m.params s → k4 ≡ second_columns m.params s u
-    → k5 ≡ first_columns m.params s → fs ≡ forms_of times i → k6 ≡ second_columns m.params s u → gs ≡ forms_of times j
     → own ≡ map (map (renamed_row k1)) q1 → other ≡ map (map (renamed_row k2)) q2 → levels ≡ levels_before m.params i s j u
-    → IsPart (HaveWideCells k3 k4 s u) cells (clashes k3 k4 s u) → IsPart (AreWideTimes (map (renamed k5) fs) (map (renamed k6) gs)) lates (late (map (renamed k5) fs) (map (renamed k6) gs) [])
+    → IsPart (HaveWideCells k3 k4 s u) cells (clashes k3 k4 s u) → IsPart (AreWideTimes (first_times m times i s) (second_times m times s j u)) lates (lates_of m times i s j u)
     → parts ≡ Some own ∷ Some other ∷ Some levels ∷ cells ∷ lates ∷ []
     → AreParts m times i s j u parts
-parts_listed m times i j s u k1 k2 k3 k4 k5 k6 q1 q2 fs gs own other levels cells lates parts a1 b1 a2 b2 a3 a4 a5 f a6 g x y z v w e =
+parts_listed m times i j s u k1 k2 k3 k4 q1 q2 own other levels cells lates parts a1 b1 a2 b2 a3 a4 x y z v w e =
     let x' : own ≡ first_pieces m s = x ∙ (λ t. map (map (renamed_row (a1 t))) (b1 t)) in
     let y' : other ≡ second_pieces m s u = y ∙ (λ t. map (map (renamed_row (a2 t))) (b2 t)) in
     record {
@@ -194,8 +195,14 @@ parts_listed m times i j s u k1 k2 k3 k4 k5 k6 q1 q2 fs gs own other levels cell
       lates = lates;
       list = e ∙ (λ t. Some (x' t) ∷ Some (y' t) ∷ Some (z t) ∷ cells ∷ lates ∷ []);
       cells_are = subst (λ (q : List ℕ × List ℕ). IsPart (HaveWideCells q.0 q.1 s u) cells (clashes q.0 q.1 s u)) (λ t. (a3 t, a4 t)) v;
-      lates_are = subst (λ (q : List ℕ × List ℕ × List Affine × List Affine). IsPart (AreWideTimes (map (renamed q.0) q.2) (map (renamed q.1) q.3)) lates (late (map (renamed q.0) q.2) (map (renamed q.1) q.3) [])) (λ t. (a5 t, a6 t, f t, g t)) w;
+      lates_are = w;
     }
+
+-- the times of two assignments in lists of columns, which are those of the counters
+pub lates_listed : (m : Model) (times : List (List Affine)) (i j : ℕ) (s u : StmtModel) (k l : List ℕ) (fs gs : List Affine) (part : Part) → k ≡ first_counters m.params s → fs ≡ forms_of times i → l ≡ second_counters m.params s u → gs ≡ forms_of times j
+    → IsPart (AreWideTimes (map (renamed k) fs) (map (renamed l) gs)) part (late (map (renamed k) fs) (map (renamed l) gs) []) → IsPart (AreWideTimes (first_times m times i s) (second_times m times s j u)) part (lates_of m times i s j u)
+lates_listed m times i j s u k l fs gs part a f b g h =
+    subst (λ (q : List ℕ × List ℕ × List Affine × List Affine). IsPart (AreWideTimes (map (renamed q.0) q.2) (map (renamed q.1) q.3)) part (late (map (renamed q.0) q.2) (map (renamed q.1) q.3) [])) (λ t. (a t, b t, f t, g t)) h
 
 pub if_ok : {T E : Type 0} (r : Result T E) (P Q : T → Type 0) → ((x : T) → P x → Q x) → IfOk r P → IfOk r Q
 if_ok (Ok x) P Q f h = f x h
@@ -252,7 +259,7 @@ questions_are m times i j s u p =
     let Q = map (map (renamed_row ls)) u.pieces in
     let L = levels_before m.params i s j u in
     let C = clashes ks ls s u in
-    let T = late (map (renamed ks) (forms_of times i)) (map (renamed ls) (forms_of times j)) [] in
+    let T = lates_of m times i s j u in
     let a1 = in_joined (m.context ∷ []) (joined P (joined Q (joined L (joined C T)))) p in
     let a2 = in_joined P (joined Q (joined L (joined C T))) p in
     let a3 = in_joined Q (joined L (joined C T)) p in

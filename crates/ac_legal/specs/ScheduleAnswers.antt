@@ -1,6 +1,6 @@
 -- What is decided of a schedule: that it keeps the order, or two instances between which it is broken, or what stops the search and
 -- what is known of the other questions then.
-use Rattle.std.specs.Prelude.{ℕ, ◌+◌, ◌≡◌, ◌++◌, List, [], ◌∷◌, map, length, ℤ, Some, slice_get}
+use Rattle.std.specs.Prelude.{ℕ, ◌+◌, ◌≡◌, ◌++◌, List, [], ◌∷◌, map, length, take, drop, ℤ, Some, slice_get}
 use Rattle.ac_forms.specs.Affine.{Affine}
 use Rattle.ac_forms.specs.ListMembers.{IsAmong}
 use Rattle.ac_forms.specs.PieceMembership.{IsInSome}
@@ -14,8 +14,8 @@ use Rattle.ac_poly.specs.Coordinates.{width, levels_before}
 use Rattle.ac_poly.specs.Model.{model_of}
 use Rattle.ac_poly.specs.declared.types.Model.{Model}
 use Rattle.ac_poly.specs.declared.types.StmtModel.{StmtModel}
-use Rattle.ac_legal_law.specs.BrokenOrders.{BreaksAt}
-use Rattle.ac_legal_law.specs.OrderQuestions.{first_columns, second_columns, clashes, late, joined, order_questions}
+use Rattle.ac_legal_law.specs.BrokenOrders.{BreaksAt, counters_in}
+use Rattle.ac_legal_law.specs.OrderQuestions.{first_columns, second_columns, first_counters, second_counters, clashes, late, joined, order_questions}
 use Rattle.ac_legal_law.specs.Schedules.{forms_of, ScheduleKeepsOrder}
 use Rattle.ac_legal.specs.QuestionChoices.{Part, IsPart, StopsOn, HasNoPointIfDecided, over}
 use Rattle.ac_legal.specs.WideQuestions.{HaveWideCells, AreWideTimes}
@@ -36,11 +36,12 @@ second_pieces m s u = map (map (renamed_row (second_columns m.params s u))) u.pi
 abbrev pub cells_of : Model → StmtModel → StmtModel → List (List Row)
 cells_of m s u = clashes (first_columns m.params s) (second_columns m.params s u) s u
 
+-- the times, over the parameters and the counters alone
 abbrev pub first_times : Model → List (List Affine) → ℕ → StmtModel → List Affine
-first_times m times i s = map (renamed (first_columns m.params s)) (forms_of times i)
+first_times m times i s = map (renamed (first_counters m.params s)) (forms_of times i)
 
 abbrev pub second_times : Model → List (List Affine) → StmtModel → ℕ → StmtModel → List Affine
-second_times m times s j u = map (renamed (second_columns m.params s u)) (forms_of times j)
+second_times m times s j u = map (renamed (second_counters m.params s u)) (forms_of times j)
 
 -- the ways to be late
 abbrev pub lates_of : Model → List (List Affine) → ℕ → StmtModel → ℕ → StmtModel → List (List Row)
@@ -100,15 +101,19 @@ abbrev pub NoDecidedPointBetween : ℕ → Model → List (List Affine) → ℕ 
 NoDecidedPointBetween budget m times i j =
     (s u : StmtModel) → AreOf m i s j u → CanBeFormed m times i s j u → (rows : List Row) → IsAmong rows (order_questions m times i s j u) → HasNoPointIfDecided budget (questions_width m s u) rows
 
--- a point of a question, as the valuation and the coordinates of two instances
+-- a point of a question, as the valuation and the counters of two instances
 pub record IsPointOfTwo (m : Model) (times : List (List Affine)) (at : List ℤ) (i : ℕ) (xs : List ℤ) (j : ℕ) (ys : List ℤ) : Type 0 where
   pub first : StmtModel
   pub second : StmtModel
   pub are : AreOf m i first j second
+  pub coords : List ℤ
+  pub others : List ℤ
   pub at_long : length at ≡ m.params
-  pub first_long : length xs ≡ width first
-  pub second_long : length ys ≡ width second
-  pub meets : IsInSome Meets (order_questions m times i first j second) (at ++ (xs ++ ys))
+  pub first_long : length coords ≡ width first
+  pub second_long : length others ≡ width second
+  pub first_is : counters_in first coords ≡ xs
+  pub second_is : counters_in second others ≡ ys
+  pub meets : IsInSome Meets (order_questions m times i first j second) (at ++ (coords ++ others))
 
 abbrev pub IfKept : Legal → Type 0 → Type 0
 IfKept Kept P = P
@@ -118,9 +123,10 @@ abbrev pub IfBroken : Legal → (List ℤ → ℕ → List ℤ → ℕ → List 
 IfBroken Kept P = Unit {0}
 IfBroken (Broken at first second) P = P at.items first.0 first.1.items second.0 second.1.items
 
--- a point is cut into the valuation and the coordinates of two instances
-abbrev pub IsCutOf : List ℤ → ℕ → ℕ → ℕ → ℕ → List ℤ → ℕ → List ℤ → ℕ → List ℤ → Type 0
-IsCutOf point params width i j at a xs b ys = (point ≡ at ++ (xs ++ ys)) × (length at ≡ params) × (length xs ≡ width) × (a ≡ i) × (b ≡ j)
+-- a point is cut into the valuation and the coordinates of two instances, of which the counters are kept
+abbrev pub IsCutOf : List ℤ → ℕ → ℕ → ℕ → StmtModel → ℕ → StmtModel → List ℤ → ℕ → List ℤ → ℕ → List ℤ → Type 0
+IsCutOf point params behind i s j u at a xs b ys =
+    (at ≡ take params point) × (xs ≡ counters_in s (drop params point)) × (ys ≡ counters_in u (drop behind point)) × (a ≡ i) × (b ≡ j)
 
 -- the search through the questions of two of the assignments stops
 pub record SomeStops (budget : ℕ) (m : Model) (times : List (List Affine)) (e : LegalStop) : Type 0 where

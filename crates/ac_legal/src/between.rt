@@ -6,7 +6,7 @@ ghost use Rattle.ac_poly.specs.Coordinates.{width};
 ghost use Rattle.ac_legal_law.specs.OrderQuestions.{clashes, late};
 ghost use Rattle.ac_legal_law.specs.Schedules.{forms_of};
 ghost use Rattle.ac_legal.specs.QuestionChoices.{IsPart, UnlessMemory};
-ghost use Rattle.ac_legal.specs.ScheduleAnswers.{AreOf, AreParts, NoneBetween, NoDecidedPointBetween, IsPointBetween, StopsBetween};
+ghost use Rattle.ac_legal.specs.ScheduleAnswers.{AreOf, AreParts, NoneBetween, NoDecidedPointBetween, IsPointBetween, StopsBetween, first_times, second_times, lates_of};
 ghost use Rattle.ac_legal.specs.WideQuestions.{AreWideTimes, HaveWideCells};
 ghost use Rattle.ac_flow.specs.Readers.{IsOver};
 
@@ -96,6 +96,28 @@ fn time_part(
     }
 }
 
+/// That of two assignments. Their times are over the parameters and the counters, which have the quotients behind them.
+fn lates_of(
+    alloc: Global,
+    m: &Model,
+    order: &Schedule,
+    two: &Two<'_>,
+    behind: usize,
+) -> Result<Option<Items<Items<Row>>>, AllocError>
+    requires { behind ≡ m.now.params + width two.now.first.now }
+    ensures { IfOk result (λ part. IsPart (AreWideTimes (first_times m.now order.now.times two.now.i two.now.first.now) (second_times m.now order.now.times two.now.first.now two.now.j two.now.second.now)) part (lates_of m.now order.now.times two.now.i two.now.first.now two.now.j two.now.second.now)) }
+{
+    let mine = columns(alloc, m.params, m.params, two.first.loops.len())?;
+    let theirs = columns(alloc, m.params, behind, two.second.loops.len())?;
+    time_part(
+        alloc,
+        mine.as_slice(),
+        forms_at(order, two.i),
+        theirs.as_slice(),
+        forms_at(order, two.j),
+    )
+}
+
 /// The five parts, in order.
 fn part_list(
     alloc: Global,
@@ -142,13 +164,7 @@ fn parts_of(
         theirs.as_slice(),
         two.second,
     )?;
-    let times = time_part(
-        alloc,
-        mine.as_slice(),
-        forms_at(order, two.i),
-        theirs.as_slice(),
-        forms_at(order, two.j),
-    )?;
+    let times = lates_of(alloc, m, order, two, behind)?;
     part_list(alloc, own, other, levels, cells, times)
 }
 

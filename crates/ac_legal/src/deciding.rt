@@ -1,5 +1,5 @@
 //! Whether a schedule keeps the order.
-ghost use Rattle.std.specs.Prelude.{◌≡◌, ◌+◌, ◌-◌, ◌≤◌, ◌<◌, ℕ, Some, length, slice_get, IfOk, IfErr};
+ghost use Rattle.std.specs.Prelude.{◌≡◌, ◌+◌, ◌≤◌, ◌<◌, ℕ, Some, length, take, drop, slice_get, IfOk, IfErr};
 ghost use Rattle.ac_legal.specs.QuestionChoices.{UnlessMemory};
 ghost use Rattle.ac_legal.specs.ScheduleAnswers.{AreOf, NoneBetween, NoDecidedPointBetween, NoDecidedQuestionHasAPoint, IsPointBetween, IsPointOfTwo, IfKept, IfBroken, IsCutOf, SomeStops, KeepsForAll, BreaksForAll};
 ghost use Rattle.ac_flow.specs.Readers.{IsLowered, IsOver};
@@ -13,27 +13,40 @@ use ac_poly::types::{Model, StmtModel};
 use ac_poly::width;
 use std::alloc::{AllocError, Global};
 
-/// The answer at a point of a question: its first numbers are the valuation, the next the coordinates of the first instance.
+/// So many numbers of a point, from one column on.
+fn numbers_at(
+    alloc: Global,
+    point: &[i128],
+    from: usize,
+    count: usize,
+) -> Result<Vec<i128>, AllocError>
+    requires { from + count ≤ length point.now }
+    ensures { IfOk result (λ numbers. numbers.items ≡ take count (drop from point.now)) }
+{
+    Vec::from_slice(alloc, &point[from..][..count])
+}
+
+/// The answer at a point of a question: its first numbers are the valuation, the next the counters of the first instance. Those of
+/// the second stand behind so many numbers.
 fn broken(
     alloc: Global,
     params: usize,
     behind: usize,
-    i: usize,
-    j: usize,
+    two: &Two<'_>,
     point: &[i128],
 ) -> Result<Legal, AllocError>
-    requires first { params ≤ behind }
-    requires second { behind ≤ length point.now }
+    requires first { params + length two.now.first.now.loops ≤ length point.now }
+    requires second { behind + length two.now.second.now.loops ≤ length point.now }
     ensures some { IfOk result (λ l. IfKept l ⊥) }
-    ensures cut { IfOk result (λ l. IfBroken l (IsCutOf point.now params (behind - params) i j)) }
+    ensures cut { IfOk result (λ l. IfBroken l (IsCutOf point.now params behind two.now.i two.now.first.now two.now.j two.now.second.now)) }
 {
-    let at = Vec::from_slice(alloc, &point[..params])?;
-    let first = Vec::from_slice(alloc, &point[params..behind])?;
-    let second = Vec::from_slice(alloc, &point[behind..])?;
+    let at = numbers_at(alloc, point, 0, params)?;
+    let first = numbers_at(alloc, point, params, two.first.loops.len())?;
+    let second = numbers_at(alloc, point, behind, two.second.loops.len())?;
     Ok(Legal::Broken {
         at,
-        first: (i, first),
-        second: (j, second),
+        first: (two.i, first),
+        second: (two.j, second),
     })
 }
 
@@ -51,7 +64,7 @@ fn broken_at(
     ensures broken { IfOk result (λ l. IfBroken l (IsPointOfTwo m.now order.now.times)) }
 {
     let behind = column_after(m.params, width(two.first))?;
-    broken(alloc, m.params, behind, two.i, two.j, point)
+    broken(alloc, m.params, behind, two, point)
 }
 
 /// Two assignments: kept if no question of theirs has a point.

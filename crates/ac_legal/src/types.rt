@@ -15,7 +15,7 @@ pub struct Schedule {
 pub enum Legal {
     /// It does.
     Kept,
-    /// At a valuation two instances conflict, each given by its assignment and its coordinates. The first one is earlier, and its
+    /// At a valuation two instances conflict, each given by its assignment and its counters. The first one is earlier, and its
     /// time is not smaller.
     Broken {
         /// The valuation.

@@ -1,5 +1,5 @@
 -- Points in one of several lists of rows, each made of parts; and the numbers of a point in the columns of a question.
-use Rattle.std.proofs.Common.{◌≡◌, ◌↔◌, inl, inr, ℕ, ◌+◌, ◌≤◌, List, [], ◌∷◌, ◌++◌, map, length, get_or, refl, sym, ap, ◌∙◌, subst, ℤ, pos, ◌≤ℤ◌}
+use Rattle.std.proofs.Common.{◌≡◌, ◌↔◌, inl, inr, ℕ, ◌+◌, ◌≤◌, List, [], ◌∷◌, ◌++◌, map, length, get_or, refl, sym, ap, ◌∙◌, subst, ℤ, pos, ◌≤ℤ◌, length-append, append_assoc, append-nil}
 use Rattle.std.specs.List.{flat_map, range_with_len}
 use Rattle.ac_base.specs.Multiple.{IsMultiple}
 use Rattle.ac_forms.specs.Affine.{Affine}
@@ -17,7 +17,8 @@ use Rattle.ac_poly.specs.declared.types.StmtModel.{StmtModel}
 use Rattle.ac_poly.specs.Coordinates.{width}
 use Rattle.ac_poly.proofs.Blocks.{numbers_behind, numbers_last}
 use Rattle.ac_poly.proofs.Rows.{meets_append}
-use Rattle.ac_legal_law.specs.OrderQuestions.{joined, first_columns, second_columns}
+use Rattle.ac_poly_quotients.proofs.CounterOrder.{counters_are_read}
+use Rattle.ac_legal_law.specs.OrderQuestions.{joined, first_columns, second_columns, first_counters, second_counters}
 
 with_front : (a : List Row) (bs : List (List Row)) (p : List ℤ) → IsInSome Meets (map (λ b. a ++ b) bs) p ↔ (Meets a p × IsInSome Meets bs p)
 with_front a [] p = ((λ h. absurd h), (λ h. absurd h.1))
@@ -91,3 +92,16 @@ pub picked_second : (params xs ys : List ℤ) (n : ℕ) (s u : StmtModel) → le
 picked_second params xs ys n s u e l k =
     picked_append (range_with_len 0 n) (range_with_len (n + width s) (width u)) (params ++ (xs ++ ys))
     ∙ (λ i. numbers_behind [] params (xs ++ ys) 0 n refl e i ++ numbers_last params xs ys (n + width s) (width u) (λ j. e j + l j) k i)
+
+-- the counters alone, which have quotients behind them
+pub picked_first_counters : (params zs qs back : List ℤ) (n : ℕ) (s : StmtModel) → length params ≡ n → length zs ≡ length s.loops → picked (first_counters n s) (params ++ ((zs ++ qs) ++ back)) ≡ params ++ zs
+picked_first_counters params zs qs back n s e l =
+    picked_append (range_with_len 0 n) (range_with_len n (length s.loops)) (params ++ ((zs ++ qs) ++ back))
+    ∙ (λ i. numbers_behind [] params ((zs ++ qs) ++ back) 0 n refl e i ++ counters_are_read params zs qs back n (length s.loops) e l i)
+
+pub picked_second_counters : (params xs zs qs : List ℤ) (n : ℕ) (s u : StmtModel) → length params ≡ n → length xs ≡ width s → length zs ≡ length u.loops → picked (second_counters n s u) (params ++ (xs ++ (zs ++ qs))) ≡ params ++ zs
+picked_second_counters params xs zs qs n s u e l k =
+    let whole : params ++ (xs ++ (zs ++ qs)) ≡ (params ++ xs) ++ ((zs ++ qs) ++ []) = sym (append_assoc params xs (zs ++ qs)) ∙ ap (λ (t : List ℤ). (params ++ xs) ++ t) (sym (append-nil (zs ++ qs))) in
+    let before : length (params ++ xs) ≡ n + width s = length-append params xs ∙ (λ j. e j + l j) in
+    picked_append (range_with_len 0 n) (range_with_len (n + width s) (length u.loops)) (params ++ (xs ++ (zs ++ qs)))
+    ∙ (λ i. numbers_behind [] params (xs ++ (zs ++ qs)) 0 n refl e i ++ (ap (picked (range_with_len (n + width s) (length u.loops))) whole ∙ counters_are_read (params ++ xs) zs qs [] (n + width s) (length u.loops) before k) i)

@@ -14,7 +14,7 @@ use Rattle.ac_legal_law.specs.BrokenOrders.{QuestionsAreBrokenOrders, KeptWhereN
 use Rattle.ac_legal_law.specs.OrderQuestions.{order_questions}
 use Rattle.ac_legal_law.specs.Schedules.{time_of, ScheduleKeepsOrder}
 use Rattle.ac_legal_law.specs.EntryTimes.{time_cmp}
-use Rattle.ac_legal_law.proofs.Broken.{broken}
+use Rattle.ac_legal_law.proofs.Broken.{broken, breaks_between}
 
 pub questions_are_broken_orders : QuestionsAreBrokenOrders
 questions_are_broken_orders p context times ready fit params xs ys i j s u each at bt lx ly = broken p context times ready fit params each xs ys i j s u at bt lx ly
@@ -48,10 +48,11 @@ kept_where_no_question_has_a_point p context times ready fit = (to, from)
         length-append params ((coords w) ++ (coords u)) ∙ (λ i. v.each i + (length-append (coords w) (coords u) ∙ (λ k. a.2 k + b.2 k)) i) in
         none w.entry.stmt u.entry.stmt a.0 b.0 (params ++ ((coords w) ++ (coords u))) a.1 b.1 long
         ((broken p context times ready fit params v.each (coords w) (coords u) w.entry.stmt u.entry.stmt a.0 b.0 a.1 b.1 a.2 b.2).1
-        (record { valuation = v; first = w; second = u; first_is = record { stmt = refl; coords = refl }; second_is = record { stmt = refl; coords = refl }; broken = record { conflict = c; late = late } })))
+        (breaks_between p context times ready fit params v.each w u a.0 b.0 w.entry.stmt u.entry.stmt (coords w) (coords u) v (record { conflict = c; late = late }) a.1 b.1 refl refl refl refl)))
 
     from : ScheduleKeepsOrder times p context → NoQuestionHasAPoint (model_of p context) times
     from kept i j s u q at bt l m =
         let d = parts q (length p.params) (width s) (width u) l in
-        let x = (broken p context times ready fit d.0 d.4 d.1 d.2 i j s u at bt d.5 d.6).0 (subst (λ (z : List ℤ). IsInSome Meets (order_questions (model_of p context) times i s j u) z) d.3 m) in
+        let r = (broken p context times ready fit d.0 d.4 d.1 d.2 i j s u at bt d.5 d.6).0 (subst (λ (z : List ℤ). IsInSome Meets (order_questions (model_of p context) times i s j u) z) d.3 m) in
+        let x = r.breaks in
         x.broken.late (kept d.0 x.valuation x.first x.second x.broken.conflict)

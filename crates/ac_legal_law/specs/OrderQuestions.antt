@@ -18,11 +18,19 @@ use Rattle.ac_legal_law.specs.Schedules.{forms_of}
 
 -- ---- columns: the parameters, the coordinates of the first and those of the second
 
+-- of the pieces and cells of an assignment: the parameters and its coordinates
 abbrev pub first_columns : ℕ → StmtModel → List ℕ
 first_columns params s = range_with_len 0 params ++ range_with_len params (width s)
 
 abbrev pub second_columns : ℕ → StmtModel → StmtModel → List ℕ
 second_columns params s u = range_with_len 0 params ++ range_with_len (params + width s) (width u)
+
+-- of its times: the parameters and its counters, which come first among its coordinates
+abbrev pub first_counters : ℕ → StmtModel → List ℕ
+first_counters params s = range_with_len 0 params ++ range_with_len params (length s.loops)
+
+abbrev pub second_counters : ℕ → StmtModel → StmtModel → List ℕ
+second_counters params s u = range_with_len 0 params ++ range_with_len (params + width s) (length u.loops)
 
 -- ---- cells
 
@@ -79,4 +87,4 @@ order_questions m times i s j u =
     (joined (map (map (renamed_row ls)) u.pieces)
     (joined (levels_before m.params i s j u)
     (joined (clashes ks ls s u)
-    (late (map (renamed ks) (forms_of times i)) (map (renamed ls) (forms_of times j)) [])))))
+    (late (map (renamed (first_counters m.params s)) (forms_of times i)) (map (renamed (second_counters m.params s u)) (forms_of times j)) [])))))

@@ -17,10 +17,9 @@ returns c =
     if_ok c.part_list.result _ (AreParts m c.args.order.now.times c.args.two.now.i c.args.two.now.first.now c.args.two.now.j c.args.two.now.second.now)
     (λ parts e.
     parts_listed m c.args.order.now.times c.args.two.now.i c.args.two.now.j c.args.two.now.first.now c.args.two.now.second.now
-    c.as_slice.result.now c.as_slice-3.result.now c.as_slice-5.result.now c.as_slice-6.result.now c.as_slice-7.result.now c.as_slice-8.result.now
-    c.as_slice-2.result.now c.as_slice-4.result.now c.forms_at.result.now c.forms_at-2.result.now
+    c.as_slice.result.now c.as_slice-3.result.now c.as_slice-5.result.now c.as_slice-6.result.now
+    c.as_slice-2.result.now c.as_slice-4.result.now
     c.in_ok-own.own c.in_ok-other.other c.in_ok-levels.levels c.in_ok-cells.cells c.in_ok-times.times parts
     (c.as_slice.ensures ∙ mine) c.as_slice-2.ensures (c.as_slice-3.ensures ∙ theirs) c.as_slice-4.ensures (c.as_slice-5.ensures ∙ mine) (c.as_slice-6.ensures ∙ theirs)
-    (c.as_slice-7.ensures ∙ mine) c.forms_at.ensures (c.as_slice-8.ensures ∙ theirs) c.forms_at-2.ensures
     c.in_ok-own.ensures c.in_ok-other.ensures (c.in_ok-levels.ensures c.args.two.now.first.now c.args.two.now.second.now c.requires.stmts.first c.requires.stmts.second) c.in_ok-cells.ensures c.in_ok-times.ensures e)
     c.part_list.ensures
