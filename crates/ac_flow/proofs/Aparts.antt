@@ -85,7 +85,7 @@ sieved-apart p (c ∷ cs) kept a (inr (rest, e, has, s)) =
 
 cut-apart : (n : ℕ) (c : Conj) (kill : List Row) (kept : List Conj) → n ≤ c.columns → IsWellMade c → AreRowsOver n kill → Cuts c kill kept → NoneMeet n kept
 cut-apart n c kill kept low w v (inl (empty, e)) p l = subst (λ (cs : List Conj). IsInOneAtMost HasExtension cs p) (sym e) ((λ x. tt), tt)
-cut-apart n c kill kept low w v (inr s) p l = sieved-apart p (parts_outside c kill) kept (outside-apart n c kill low w v p l) s
+cut-apart n c kill kept low w v (inr (has, s)) p l = sieved-apart p (parts_outside c kill) kept (outside-apart n c kill low w v p l) s
 
 -- ---- of several
 
@@ -133,10 +133,10 @@ partly-apart n pieces kill old new none w v a k p l = subst (λ (cs : List Conj)
     whole = elim k.last [
       | inl c ↦ (c.more, c.is ∙ ap (λ (xs : List Conj). xs ++ c.more) mids, cut-apart n k.at kill c.more made.1.0 made.1.1 v c.cut p l, (λ h. ((cut-points n k.at kill c.more p made.1.0 made.1.1 v l c.cut).0 h).0))
       | inr c ↦ (
-        c.kept.more,
-        c.kept.is ∙ ap (λ (xs : List Conj). xs ++ c.kept.more) mids,
-        sieved-apart p c.done c.kept.more (apart-front p c.done c.rest (subst (λ (cs : List Conj). IsInOneAtMost HasExtension cs p) (sym c.split) (outside-apart n k.at kill made.1.0 made.1.1 v p l))) c.kept.sieved,
-        (λ h. some-kept n k.at kill c.done c.rest c.kept.more p made.1.0 made.1.1 v l c.split c.kept.sieved h),
+        c.1.kept.more,
+        c.1.kept.is ∙ ap (λ (xs : List Conj). xs ++ c.1.kept.more) mids,
+        sieved-apart p c.1.done c.1.kept.more (apart-front p c.1.done c.1.rest (subst (λ (cs : List Conj). IsInOneAtMost HasExtension cs p) (sym c.1.split) (outside-apart n k.at kill made.1.0 made.1.1 v p l))) c.1.kept.sieved,
+        (λ h. some-kept n k.at kill c.1.done c.1.rest c.1.kept.more p made.1.0 made.1.1 v l c.1.split c.1.kept.sieved h),
       )
     ]
 

@@ -10,7 +10,7 @@ use Rattle.ac_omega.specs.declared.piece.Piece.{Piece}
 use Rattle.ac_poly.specs.declared.types.Model.{Model}
 use Rattle.ac_poly.specs.declared.types.StmtModel.{StmtModel}
 use Rattle.ac_claims.specs.declared.types.Kill.{Kill}
-use Rattle.ac_flow.specs.CutStops.{AreKillRows, IfFull}
+use Rattle.ac_flow.specs.CutStops.{IfFull}
 use Rattle.ac_flow.specs.Cuts.{AllHavePoints}
 use Rattle.ac_flow.specs.CaseRemainder.{AllKills, AllOver, AreKillsOf, AllKillsOf}
 use Rattle.ac_flow.specs.declared.cut.CutStop.{CutStop}
@@ -66,15 +66,11 @@ pub kill_rows : List (List Piece) → List (List Row)
 kill_rows [] = []
 kill_rows (k ∷ ks) = rows_of_pieces k ++ kill_rows ks
 
-rows-kill : (kills : List (List Row)) (kill rs : List Row) → Contains kills kill → ((r : Row) → Contains rs r → Contains kill r) → AreKillRows kills rs
-rows-kill kills kill [] k f = tt
-rows-kill kills kill (r ∷ rs) k f = ((kill, k, f r (0, omega arith, refl)), rows-kill kills kill rs k (λ x y. f x (suc y.0, (let lt = y.1 in omega (arith, lt)), y.2)))
-
 own-kills : (kills : List (List Row)) (found : List Piece) → ((kill : List Row) → Contains (rows_of_pieces found) kill → Contains kills kill) → AreKillsOf kills found
 unfolding rows_of_pieces
 own-kills kills [] f = tt
 own-kills kills (x ∷ xs) f =
-    (rows-kill kills x.rest.rows x.rest.rows (f x.rest.rows (0, omega arith, refl)) (λ r y. y), own-kills kills xs (λ kill y. f kill (suc y.0, (let lt = y.1 in omega (arith, lt)), y.2)))
+    (f x.rest.rows (0, omega arith, refl), own-kills kills xs (λ kill y. f kill (suc y.0, (let lt = y.1 in omega (arith, lt)), y.2)))
 
 all-own : (kills : List (List Row)) (ks : List (List Piece)) → ((kill : List Row) → Contains (kill_rows ks) kill → Contains kills kill) → AllKillsOf kills ks
 unfolding kill_rows

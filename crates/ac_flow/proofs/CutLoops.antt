@@ -1,6 +1,8 @@
 -- The loops by which a conjunction is cut.
 use Rattle.std.proofs.Common.{◌≡◌, ◌⊎◌, inl, inr, ℕ, zero, suc, ◌+◌, ◌<◌, ◌≤◌, List, [], ◌∷◌, ◌++◌, append_assoc, append-nil, length, map, take, drop, drop_of_length-le, get_or, Bool, true, false, cond, refl, sym, ap, ◌∙◌, subst, arith}
+use Rattle.std.specs.List.{Contains}
 use Rattle.std.proofs.lemmas.List.{drop_more, length-append, take_more, take-append-drop}
+use Rattle.std.proofs.lemmas.List.Elements.{Contains-append_left, Contains-append_right}
 use Rattle.ac_forms.specs.Negation.{negation}
 use Rattle.ac_forms.specs.Rows.{IsRowOver, AreRowsOver, IsWellMade}
 use Rattle.ac_forms.specs.declared.conj.Conj.{Conj}
@@ -11,9 +13,10 @@ use Rattle.ac_forms.specs.Standing.{is_among}
 use Rattle.ac_sets.specs.Unions.{ArePieces}
 use Rattle.ac_sets.proofs.Commons.{Over-more}
 use Rattle.ac_sets.proofs.Outsides.{outside-made, row-at}
-use Rattle.ac_flow.specs.CutStops.{IsCutCase, AreKillRows}
-use Rattle.ac_flow.proofs.Asked.{after-case, kill-row-at}
-use Rattle.ac_flow.specs.Cuts.{with_new, with_all_new, extended, row_parts, after_row, parts_outside, HasPoint, Sieved, AreKept, ArePartlyKept, Cuts, AreCut, CutsAll, AreAllCut, ArePartlyCut, AllHavePoints}
+use Rattle.ac_flow.specs.CutStops.{IsTooWide, CostsTooMuch, LacksNegation, RowStops, OutsideStops}
+use Rattle.ac_flow.specs.declared.cut.CutStop.{CutStop}
+use Rattle.ac_flow.specs.declared.cut.CutStop.TheVariants.{Overflow, Spent, Full, Memory}
+use Rattle.ac_flow.specs.Cuts.{with_new, with_all_new, inside, extended, row_parts, after_row, parts_outside, HasPoint, Sieved, AreKept, ArePartlyKept, Cuts, AreCut, IsPartlyCut, CutsAll, AreAllCut, ArePartlyCut, AllHavePoints}
 
 pub take_whole : {A : Type 0} (xs : List A) (i : ℕ) → length xs ≤ i → take i xs ≡ xs
 take_whole [] zero l = refl
@@ -195,7 +198,7 @@ pub record OutsideHalfway (c : Conj) (rs : List Row) (room : ℕ) (here : Conj) 
   pub columns : here.columns ≡ c.columns
   pub made : IsWellMade here
   pub within : length old ≤ room → length kept ≤ room
-  pub asked : (base : List Row) (kills : List (List Row)) → IsCutCase base kills c → AreKillRows kills rs → IsCutCase base kills here
+  pub whole : here ≡ inside c (take i rs)
 
 pub outside_start : (c : Conj) (rs : List Row) (room : ℕ) (here : Conj) (old kept : List Conj) → IsWellMade c → here ≡ c → kept ≡ old → OutsideHalfway c rs room here old kept 0
 outside_start c rs room here old kept w e k = record {
@@ -205,8 +208,18 @@ outside_start c rs room here old kept w e k = record {
   columns = ap (λ (d : Conj). d.columns) e;
   made = subst IsWellMade (sym e) w;
   within = same-fits room old kept k;
-  asked = λ base kills a b. subst (IsCutCase base kills) (sym e) a;
+  whole = e;
 }
+
+new-snoc : (rows rs : List Row) (r : Row) → with_new (with_all_new rows rs) r ≡ with_all_new rows (rs ++ r ∷ [])
+new-snoc rows [] r = refl
+new-snoc rows (s ∷ rs) r = new-snoc (with_new rows s) rs r
+
+-- with one row of a kill piece more
+inside-snoc : (c : Conj) (rs : List Row) (here next : Conj) (i : ℕ) (r : Row) → here ≡ inside c (take i rs) → i < length rs → r ≡ get_or rs i r → next ≡ after_row here r → next ≡ inside c (take (i + 1) rs)
+inside-snoc c rs here next i r h m e after =
+    let more : take (i + 1) rs ≡ take i rs ++ r ∷ [] = rw e (take_more rs i r m) in
+    after ∙ ap (λ (d : Conj). after_row d r) h ∙ ap (λ (xs : List Row). record { columns = c.columns; rows = xs }) (new-snoc c.rows (take i rs) r) ∙ ap (inside c) (sym more)
 
 pub row-over : (n : ℕ) (rs : List Row) (i : ℕ) (r : Row) → AreRowsOver n rs → i < length rs → r ≡ get_or rs i r → IsRowOver n r
 row-over n [] i r w m e = absurd (omega (arith, m))
@@ -225,7 +238,7 @@ outside_step c rs room here next old kept new i r h w m e after k fits = record 
   done = kept-append h.parts (row_parts here r) old kept new h.done k;
   columns = ap (λ (d : Conj). d.columns) after ∙ h.columns;
   made = subst IsWellMade (sym after) (over-new here.columns here.rows r h.made (subst (λ (n : ℕ). IsRowOver n r) (sym h.columns) (row-over c.columns rs i r w m e)));
-  asked = λ base kills a b. subst (IsCutCase base kills) (sym after) (after-case base kills here r (h.asked base kills a b) (kill-row-at kills rs i r b m e));
+  whole = inside-snoc c rs here next i r h.whole m e after;
 }
 
 pub outside_full : (c : Conj) (rs : List Row) (room : ℕ) (here : Conj) (old kept new : List Conj) (i : ℕ) (r : Row) → OutsideHalfway c rs room here old kept i → i < length rs → r ≡ get_or rs i r → ArePartlyKept (row_parts here r) kept new → ArePartlyKept (parts_outside c rs) old new
@@ -233,6 +246,26 @@ outside_full c rs room here old kept new i r h m e k =
     let more = parts_outside (after_row here r) (drop (i + 1) rs) in
     let whole : h.parts ++ (row_parts here r ++ more) ≡ parts_outside c rs = ap (λ (xs : List Row). h.parts ++ parts_outside here xs) (sym (row-at rs i r m e)) ∙ h.split in
     subst (λ (xs : List Conj). ArePartlyKept xs old new) whole (partly-behind h.parts (row_parts here r) more old kept new h.done k)
+
+outside-part : (c : Conj) (rs : List Row) (room : ℕ) (here : Conj) (old kept : List Conj) (i : ℕ) (r : Row) (q : Conj) → OutsideHalfway c rs room here old kept i → i < length rs → r ≡ get_or rs i r → Contains (row_parts here r) q → Contains (parts_outside c rs) q
+outside-part c rs room here old kept i r q h m e k =
+    let more = parts_outside (after_row here r) (drop (i + 1) rs) in
+    let whole : h.parts ++ (row_parts here r ++ more) ≡ parts_outside c rs = ap (λ (xs : List Row). h.parts ++ parts_outside here xs) (sym (row-at rs i r m e)) ∙ h.split in
+    subst (λ (xs : List Conj). Contains xs q) whole (Contains-append_right h.parts (row_parts here r ++ more) q (Contains-append_left (row_parts here r) more q k))
+
+pub outside_stops : (budget : ℕ) (c : Conj) (rs : List Row) (room : ℕ) (here : Conj) (old kept : List Conj) (i : ℕ) (r : Row) (e : CutStop) → OutsideHalfway c rs room here old kept i → i < length rs → r ≡ get_or rs i r → RowStops budget here r e → OutsideStops budget c rs e
+outside_stops budget c rs room here old kept i r (Overflow q) h m e (inl s) = inl (outside-part c rs room here old kept i r q h m e s.0, s.1)
+outside_stops budget c rs room here old kept i r (Overflow q) h m e (inr s) = inr (record {
+  before = take i rs;
+  row = r;
+  behind = drop (i + 1) rs;
+  split = ap (λ (xs : List Row). take i rs ++ xs) (sym (row-at rs i r m e)) ∙ take-append-drop i rs;
+  is = s.0 ∙ h.whole;
+  lacks = subst (λ (d : Conj). LacksNegation d r) (sym s.0) s.1;
+})
+outside_stops budget c rs room here old kept i r (Spent q k) h m e s = (outside-part c rs room here old kept i r q h m e s.0, s.1)
+outside_stops budget c rs room here old kept i r Full h m e s = tt
+outside_stops budget c rs room here old kept i r (Memory x) h m e s = tt
 
 pub outside_end : (c : Conj) (rs : List Row) (room : ℕ) (here : Conj) (old kept : List Conj) (i : ℕ) → OutsideHalfway c rs room here old kept i → length rs ≤ i → AreKept (parts_outside c rs) old kept
 outside_end c rs room here old kept i h l =
@@ -246,18 +279,18 @@ pub ruleset outside_steps = (outside_start, outside_step, outside_end, outside_r
 
 -- ---- one conjunction, and several
 
-pub cut_whole : (c inside copy : Conj) (kill : List Row) (old new : List Conj) → inside ≡ record { columns = c.columns; rows = with_all_new c.rows kill } → (HasPoint inside → ⊥) → copy ≡ c → new ≡ old ++ copy ∷ [] → AreCut c kill old new
-cut_whole c inside copy kill old new e empty same put = record {
+pub cut_whole : (c given copy : Conj) (kill : List Row) (old new : List Conj) → given ≡ record { columns = c.columns; rows = with_all_new c.rows kill } → (HasPoint given → ⊥) → copy ≡ c → new ≡ old ++ copy ∷ [] → AreCut c kill old new
+cut_whole c given copy kill old new e empty same put = record {
   more = c ∷ [];
   is = put ∙ ap (λ (d : Conj). old ++ d ∷ []) same;
   cut = inl (subst (λ (d : Conj). HasPoint d → ⊥) e empty, refl);
 }
 
-pub cut_parts : (c : Conj) (kill : List Row) (old new : List Conj) → AreKept (parts_outside c kill) old new → AreCut c kill old new
-cut_parts c kill old new k = record { more = k.more; is = k.is; cut = inr k.sieved }
+pub cut_parts : (c given : Conj) (kill : List Row) (old new : List Conj) → given ≡ record { columns = c.columns; rows = with_all_new c.rows kill } → HasPoint given → AreKept (parts_outside c kill) old new → AreCut c kill old new
+cut_parts c given kill old new e has k = record { more = k.more; is = k.is; cut = inr (subst HasPoint e has, k.sieved) }
 
-pub inside-made : (c inside : Conj) (kill : List Row) → IsWellMade c → AreRowsOver c.columns kill → inside ≡ record { columns = c.columns; rows = with_all_new c.rows kill } → IsWellMade inside
-inside-made c inside kill w v e = subst IsWellMade (sym e) (over-all-new c.columns c.rows kill w v)
+pub inside-made : (c given : Conj) (kill : List Row) → IsWellMade c → AreRowsOver c.columns kill → given ≡ record { columns = c.columns; rows = with_all_new c.rows kill } → IsWellMade given
+inside-made c given kill w v e = subst IsWellMade (sym e) (over-all-new c.columns c.rows kill w v)
 
 pub ruleset cut_steps = (cut_whole, cut_parts, inside-made)
 
@@ -292,7 +325,7 @@ all_step pieces kill room old kept new i c h m e k more fits =
       within = λ l. fits (h.within l);
     }
 
-pub all_full : (pieces : List Conj) (kill : List Row) (room : ℕ) (old kept new : List Conj) (i : ℕ) (c : Conj) → AllHalfway pieces kill room old kept i → i < length pieces → c ≡ get_or pieces i c → AreCut c kill kept new ⊎ ArePartlyKept (parts_outside c kill) kept new → ArePartlyCut pieces kill old new
+pub all_full : (pieces : List Conj) (kill : List Row) (room : ℕ) (old kept new : List Conj) (i : ℕ) (c : Conj) → AllHalfway pieces kill room old kept i → i < length pieces → c ≡ get_or pieces i c → IsPartlyCut c kill kept new → ArePartlyCut pieces kill old new
 all_full pieces kill room old kept new i c h m e k = record {
   before = take i pieces;
   at = c;

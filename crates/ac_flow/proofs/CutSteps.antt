@@ -29,8 +29,8 @@ case_made m columns rows piece c a b d e = subst (λ (x : Conj). IsWellMade x) (
 pub case_cut : (m : Model) (columns : ℕ) (rows piece : List Row) (c : Conj) (kills : List (List Piece)) (kept : List Conj) → c ≡ case_conj m columns rows piece → IsCut c kills kept → IsCut (case_conj m columns rows piece) kills kept
 case_cut m columns rows piece c kills kept e h = subst (λ (x : Conj). IsCut x kills kept) e h
 
-pub case_stops : (budget : ℕ) (m : Model) (columns : ℕ) (rows piece : List Row) (c : Conj) (ks : List (List Row)) (e : CutStop) → c ≡ case_conj m columns rows piece → CutStops budget c.rows ks e → CutStops budget (case_conj m columns rows piece).rows ks e
-case_stops budget m columns rows piece c ks e i h = subst (λ (x : Conj). CutStops budget x.rows ks e) i h
+pub case_stops : (budget : ℕ) (m : Model) (columns : ℕ) (rows piece : List Row) (c : Conj) (ks : List (List Row)) (e : CutStop) → c ≡ case_conj m columns rows piece → CutStops budget c ks e → CutStops budget (case_conj m columns rows piece) ks e
+case_stops budget m columns rows piece c ks e i h = subst (λ (x : Conj). CutStops budget x ks e) i h
 
 pub ruleset one_steps = (case_made, case_cut, case_stops)
 
@@ -43,7 +43,7 @@ groups_none m columns rows ks (q ∷ qs) = ([], [], refl, tt, tt, (λ p l. tt), 
 pub no_groups : (m : Model) (columns : ℕ) (rows : List Row) (ks qs : List (List Row)) (kept : List Conj) → kept ≡ [] → AreGroups m columns rows ks qs kept
 no_groups m columns rows ks qs kept e = subst (AreGroups m columns rows ks qs) (sym e) (groups_none m columns rows ks qs)
 
-groups_snoc : (m : Model) (columns : ℕ) (rows : List Row) (ks qs : List (List Row)) (q : List Row) (kept group : List Conj) → AreGroups m columns rows ks qs kept → AreCutCases (case_conj m columns rows q).rows ks group → ArePieces columns group → NoneMeet columns group → AreGroups m columns rows ks (qs ++ q ∷ []) (kept ++ group)
+groups_snoc : (m : Model) (columns : ℕ) (rows : List Row) (ks qs : List (List Row)) (q : List Row) (kept group : List Conj) → AreGroups m columns rows ks qs kept → AreCutCases (case_conj m columns rows q) ks group → ArePieces columns group → NoneMeet columns group → AreGroups m columns rows ks (qs ++ q ∷ []) (kept ++ group)
 groups_snoc m columns rows ks [] q kept group e a w n = (group, [], ap (λ (x : List Conj). x ++ group) e ∙ sym (append-nil group), a, w, n, refl)
 groups_snoc m columns rows ks (p ∷ qs) q kept group (first, rest, e, b, v, o, h) a w n =
     (first, rest ++ group, ap (λ (x : List Conj). x ++ group) e ∙ append_assoc first rest group, b, v, o, groups_snoc m columns rows ks qs q rest group h a w n)
@@ -90,21 +90,21 @@ parts_snoc m columns rows kills d (p ∷ qs) q rs group (first, rest, e, i, h) c
 
 -- one group more
 groups_next : (m : Model) (columns : ℕ) (rows : List Row) (kills : List (List Piece)) (room : ℕ) (pieces ks : List (List Row)) (d : ℕ) (q given : List Row) (out : List Remainder) (group : List Conj) → PartsSoFar m columns rows kills room pieces d out → AllKillsOf ks kills → d < length pieces → q ≡ get_or pieces d q
-    → given ≡ q → AreCutCases (case_conj m columns rows given).rows ks group → ArePieces columns group → NoneMeet columns group → AreGroups m columns rows ks (take (d + 1) pieces) (map conj_of_remainder out ++ group)
+    → given ≡ q → AreCutCases (case_conj m columns rows given) ks group → ArePieces columns group → NoneMeet columns group → AreGroups m columns rows ks (take (d + 1) pieces) (map conj_of_remainder out ++ group)
 groups_next m columns rows kills room pieces ks d q given out group h a l e g c w n =
     subst (λ (x : List (List Row)). AreGroups m columns rows ks x (map conj_of_remainder out ++ group)) (sym (taken pieces d q l e))
-    (groups_snoc m columns rows ks (take d pieces) q (map conj_of_remainder out) group (h.groups ks a) (subst (λ (x : List Row). AreCutCases (case_conj m columns rows x).rows ks group) g c) w n)
+    (groups_snoc m columns rows ks (take d pieces) q (map conj_of_remainder out) group (h.groups ks a) (subst (λ (x : List Row). AreCutCases (case_conj m columns rows x) ks group) g c) w n)
 
 within_next : (room d : ℕ) (out new : List Remainder) (group : List Conj) → length out ≤ room → length group ≤ room - length out → new ≡ out ++ map (remainder d) group → length new ≤ room
 within_next room d out new group l m e = omega (arith, l, m, ap (λ (x : List Remainder). length x) e, length-append out (map (remainder d) group), length-map group (remainder d))
 
 pub parts_next : (m : Model) (columns : ℕ) (rows : List Row) (kills : List (List Piece)) (room : ℕ) (pieces : List (List Row)) (d left : ℕ) (q given : List Row) (out new : List Remainder) (group : List Conj) → PartsSoFar m columns rows kills room pieces d out → d < length pieces → q ≡ get_or pieces d q → given ≡ q
-    → IsCut (case_conj m columns rows given) kills group → ((ks : List (List Row)) → AllKillsOf ks kills → AreCutCases (case_conj m columns rows given).rows ks group) → left ≡ room - length out → length group ≤ left → new ≡ out ++ map (remainder d) group
+    → IsCut (case_conj m columns rows given) kills group → left ≡ room - length out → length group ≤ left → new ≡ out ++ map (remainder d) group
     → PartsSoFar m columns rows kills room pieces (d + 1) new
-parts_next m columns rows kills room pieces d left q given out new group h l e g c asked w fits n = record {
+parts_next m columns rows kills room pieces d left q given out new group h l e g c w fits n = record {
   within = within_next room d out new group h.within (subst (λ k. length group ≤ k) w fits) n;
   groups = λ ks a. subst (AreGroups m columns rows ks (take (d + 1) pieces)) (sym (ap (map conj_of_remainder) n ∙ conjs_behind d out group))
-      (groups_next m columns rows kills room pieces ks d q given out group h a l e g (asked ks a) c.made c.apart);
+      (groups_next m columns rows kills room pieces ks d q given out group h a l e g (c.asked ks a) c.made c.apart);
   value = subst (AreParts m columns rows kills 0 (take (d + 1) pieces)) (sym n)
       (subst (λ j. AreParts m columns rows kills 0 (take (d + 1) pieces) (out ++ map (remainder j) group)) (let z : 0 + length (take d pieces) ≡ d = omega (arith, length-take-le d pieces (omega (arith, l))) in z)
       (subst (λ (x : List (List Row)). AreParts m columns rows kills 0 x (out ++ map (remainder (0 + length (take d pieces))) group)) (sym (rw e (take_more pieces d q l)))
@@ -122,9 +122,9 @@ piece_over columns [] d q given w l e g = absurd (omega (arith, l))
 piece_over columns (p ∷ ps) zero q given w l e g = rw (g, e) w.0
 piece_over columns (p ∷ ps) (suc d) q given w l e g = piece_over columns ps d q given w.1 (omega (arith, l)) e g
 
-pub piece_stops : (budget : ℕ) (m : Model) (columns : ℕ) (rows : List Row) (pieces ks : List (List Row)) (d : ℕ) (q given : List Row) (e : CutStop) → d < length pieces → q ≡ get_or pieces d q → given ≡ q → CutStops budget (case_conj m columns rows given).rows ks e
+pub piece_stops : (budget : ℕ) (m : Model) (columns : ℕ) (rows : List Row) (pieces ks : List (List Row)) (d : ℕ) (q given : List Row) (e : CutStop) → d < length pieces → q ≡ get_or pieces d q → given ≡ q → CutStops budget (case_conj m columns rows given) ks e
     → PieceStops budget m columns rows pieces ks e
-piece_stops budget m columns rows pieces ks d q given e l f g s = record { piece = q; among = in_at pieces d q l f; stops = subst (λ (x : List Row). CutStops budget (case_conj m columns rows x).rows ks e) g s }
+piece_stops budget m columns rows pieces ks d q given e l f g s = record { piece = q; among = in_at pieces d q l f; stops = subst (λ (x : List Row). CutStops budget (case_conj m columns rows x) ks e) g s }
 
 pub piece_memory : (budget : ℕ) (m : Model) (columns : ℕ) (rows : List Row) (pieces ks : List (List Row)) (d : ℕ) (q : List Row) (e : _) → d < length pieces → q ≡ get_or pieces d q → PieceStops budget m columns rows pieces ks (Memory e)
 piece_memory budget m columns rows pieces ks d q e l f = record { piece = q; among = in_at pieces d q l f; stops = tt }
@@ -157,23 +157,23 @@ filled_full m columns rows kills room pieces d left out group stop (case.Memory 
 
 -- the groups before, that of the stop, and none in the pieces behind
 pub filled_groups : (m : Model) (columns : ℕ) (rows : List Row) (kills : List (List Piece)) (room : ℕ) (pieces ks : List (List Row)) (d left : ℕ) (q given : List Row) (out : List Remainder) (group : List Conj) (stop : CutStop) (e : CaseStop) → PartsSoFar m columns rows kills room pieces d out → AllKillsOf ks kills
-    → d < length pieces → q ≡ get_or pieces d q → given ≡ q → IfFull stop ((length group ≡ left + 1) × NoneMeet columns group × ArePieces columns group) → IfFull stop (AreCutCases (case_conj m columns rows given).rows ks group) → IsStopOf stop e → IfFilled e (λ kept. kept ≡ map conj_of_remainder out ++ group)
+    → d < length pieces → q ≡ get_or pieces d q → given ≡ q → IfFull stop ((length group ≡ left + 1) × NoneMeet columns group × ArePieces columns group) → IfFull stop (AreCutCases (case_conj m columns rows given) ks group) → IsStopOf stop e → IfFilled e (λ kept. kept ≡ map conj_of_remainder out ++ group)
     → IfFilled e (AreGroups m columns rows ks pieces)
 filled_groups m columns rows kills room pieces ks d left q given out group stop (case.Overflow c) h a l i g n b s f = tt
 filled_groups m columns rows kills room pieces ks d left q given out group stop (case.Spent c k) h a l i g n b s f = tt
 filled_groups m columns rows kills room pieces ks d left q given out group stop (case.Full kept) h a l i g n b s f =
     let r : (length group ≡ left + 1) × NoneMeet columns group × ArePieces columns group = subst (λ (x : CutStop). IfFull x ((length group ≡ left + 1) × NoneMeet columns group × ArePieces columns group)) s n in
-    let c : AreCutCases (case_conj m columns rows given).rows ks group = subst (λ (x : CutStop). IfFull x (AreCutCases (case_conj m columns rows given).rows ks group)) s b in
+    let c : AreCutCases (case_conj m columns rows given) ks group = subst (λ (x : CutStop). IfFull x (AreCutCases (case_conj m columns rows given) ks group)) s b in
     subst (AreGroups m columns rows ks pieces) (sym f)
     (subst (λ (x : List (List Row)). AreGroups m columns rows ks x (map conj_of_remainder out ++ group)) (take-append-drop (d + 1) pieces)
     (groups_behind m columns rows ks (take (d + 1) pieces) (drop (d + 1) pieces) (map conj_of_remainder out ++ group) (groups_next m columns rows kills room pieces ks d q given out group h a l i g c r.2 r.1)))
 filled_groups m columns rows kills room pieces ks d left q given out group stop (case.Memory e) h a l i g n b s f = tt
 
-pub stopped_at : (budget : ℕ) (m : Model) (columns : ℕ) (rows : List Row) (pieces ks : List (List Row)) (d : ℕ) (q given : List Row) (stop : CutStop) (e : CaseStop) → d < length pieces → q ≡ get_or pieces d q → given ≡ q → CutStops budget (case_conj m columns rows given).rows ks stop → IsStopOf stop e
+pub stopped_at : (budget : ℕ) (m : Model) (columns : ℕ) (rows : List Row) (pieces ks : List (List Row)) (d : ℕ) (q given : List Row) (stop : CutStop) (e : CaseStop) → d < length pieces → q ≡ get_or pieces d q → given ≡ q → CutStops budget (case_conj m columns rows given) ks stop → IsStopOf stop e
     → PieceStops budget m columns rows pieces ks (plain e)
-stopped_at budget m columns rows pieces ks d q given stop (case.Overflow c) l f g h s = piece_stops budget m columns rows pieces ks d q given (Overflow c) l f g (subst (CutStops budget (case_conj m columns rows given).rows ks) s h)
-stopped_at budget m columns rows pieces ks d q given stop (case.Spent c k) l f g h s = piece_stops budget m columns rows pieces ks d q given (Spent c k) l f g (subst (CutStops budget (case_conj m columns rows given).rows ks) s h)
-stopped_at budget m columns rows pieces ks d q given stop (case.Full kept) l f g h s = piece_stops budget m columns rows pieces ks d q given Full l f g (subst (CutStops budget (case_conj m columns rows given).rows ks) s h)
+stopped_at budget m columns rows pieces ks d q given stop (case.Overflow c) l f g h s = piece_stops budget m columns rows pieces ks d q given (Overflow c) l f g (subst (CutStops budget (case_conj m columns rows given) ks) s h)
+stopped_at budget m columns rows pieces ks d q given stop (case.Spent c k) l f g h s = piece_stops budget m columns rows pieces ks d q given (Spent c k) l f g (subst (CutStops budget (case_conj m columns rows given) ks) s h)
+stopped_at budget m columns rows pieces ks d q given stop (case.Full kept) l f g h s = piece_stops budget m columns rows pieces ks d q given Full l f g (subst (CutStops budget (case_conj m columns rows given) ks) s h)
 stopped_at budget m columns rows pieces ks d q given stop (case.Memory e) l f g h s = piece_stops budget m columns rows pieces ks d q given (Memory e) l f g tt
 
 pub ruleset parts_steps = (parts_start, parts_end)

@@ -4,7 +4,6 @@ pub mod Points
 pub mod Projections
 pub mod Remains
 pub mod Asked
-pub mod Stops
 pub mod Aparts
 pub mod SourceCases
 pub mod CopyParts

@@ -18,7 +18,7 @@ use Rattle.ac_omega_steps.proofs.Keeping.{Meets-append, Meets-push}
 use Rattle.ac_forms.specs.Standing.{is_among}
 use Rattle.ac_sets.specs.Unions.{ArePieces}
 use Rattle.ac_sets.proofs.Commons.{Meets-front, Meets-back, Meets-cut, Over-more}
-use Rattle.ac_flow.specs.Cuts.{with_new, with_all_new, extended, row_parts, after_row, parts_outside, HasPoint, Sieved, ArePartlyKept, Cuts, AreCut, CutsAll, AreAllCut, ArePartlyCut, AllHavePoints, IsLeft}
+use Rattle.ac_flow.specs.Cuts.{with_new, with_all_new, extended, row_parts, after_row, parts_outside, HasPoint, Sieved, Cuts, IsPartlyCut, CutsAll, AreAllCut, ArePartlyCut, AllHavePoints, IsLeft}
 use Rattle.ac_flow.proofs.CutLoops.{over-new, over-all-new, negation-made}
 use Rattle.ac_forms.proofs.InPieces.{some-append}
 use Rattle.ac_sets.proofs.Outsides.{holds-either}
@@ -173,7 +173,7 @@ cut-points n c kill kept p low w v l (inl (empty, e)) = (
   ]),
   (λ h. subst (λ (cs : List Conj). IsInSome HasExtension cs p) (sym e) (inl h.0)),
 )
-cut-points n c kill kept p low w v l (inr s) =
+cut-points n c kill kept p low w v l (inr (has, s)) =
     let over : AreRowsOver c.columns kill = Over-more n c.columns kill low v in
     let sv = sieved-points (parts_outside c kill) kept p s in (
       (λ h.
@@ -206,7 +206,7 @@ have-append (c ∷ cs) ds a b = (a.0, have-append cs ds a.1 b)
 
 cut-have : (c : Conj) (kill : List Row) (kept : List Conj) → HasPoint c → Cuts c kill kept → AllHavePoints kept
 cut-have c kill kept h (inl (empty, e)) = subst AllHavePoints (sym e) (h, tt)
-cut-have c kill kept h (inr s) = sieved-have (parts_outside c kill) kept s
+cut-have c kill kept h (inr (has, s)) = sieved-have (parts_outside c kill) kept s
 
 pub cuts-have : (pieces : List Conj) (kill : List Row) (kept : List Conj) → AllHavePoints pieces → CutsAll pieces kill kept → AllHavePoints kept
 cuts-have [] kill kept h e = subst AllHavePoints (sym e) tt
@@ -214,7 +214,7 @@ cuts-have (c ∷ cs) kill kept h (first, rest, e, f, s) = subst AllHavePoints (s
 
 cut-pieces : (n : ℕ) (c : Conj) (kill : List Row) (kept : List Conj) → n ≤ c.columns → IsWellMade c → AreRowsOver n kill → Cuts c kill kept → ArePieces n kept
 cut-pieces n c kill kept low w v (inl (empty, e)) = subst (ArePieces n) (sym e) (low, w, tt)
-cut-pieces n c kill kept low w v (inr s) = fewer c.columns n kept low (sieved-pieces c.columns (parts_outside c kill) kept (outside-pieces c kill w (Over-more n c.columns kill low v)) s)
+cut-pieces n c kill kept low w v (inr (has, s)) = fewer c.columns n kept low (sieved-pieces c.columns (parts_outside c kill) kept (outside-pieces c kill w (Over-more n c.columns kill low v)) s)
   where
     fewer : (m n : ℕ) (cs : List Conj) → n ≤ m → ArePieces m cs → ArePieces n cs
     fewer m n [] l a = tt
@@ -249,9 +249,9 @@ partly-pieces n pieces kill old new none w v k = by k.last
     mid : ArePieces n k.mid
     mid = subst (ArePieces n) (sym (k.all.is ∙ ap (λ (xs : List Conj). xs ++ k.all.more) none)) (cuts-pieces n k.before kill k.all.more (pieces-part n k.before (k.at ∷ k.behind) made) v k.all.cut)
 
-    by : AreCut k.at kill k.mid new ⊎ ArePartlyKept (parts_outside k.at kill) k.mid new → ArePieces n new
+    by : IsPartlyCut k.at kill k.mid new → ArePieces n new
     by (inl c) = subst (ArePieces n) (sym c.is) (pieces-append n k.mid c.more mid (cut-pieces n k.at kill c.more at.0 at.1 v c.cut))
-    by (inr c) =
+    by (inr (has, c)) =
         let done = pieces-part k.at.columns c.done c.rest (subst (ArePieces k.at.columns) (sym c.split) (outside-pieces k.at kill at.1 (Over-more n k.at.columns kill at.0 v))) in
         subst (ArePieces n) (sym c.kept.is) (pieces-append n k.mid c.kept.more mid (fewer-columns k.at.columns n c.kept.more at.0 (sieved-pieces k.at.columns c.done c.kept.more done c.kept.sieved)))
 

@@ -1,5 +1,6 @@
 -- The loops over the kill pieces of a copy, and over the kills of a case.
 use Rattle.std.proofs.Common.{◌≡◌, ◌↔◌, ◌⊎◌, inl, inr, ℕ, zero, suc, ◌+◌, ◌<◌, ◌≤◌, ℤ, List, [], ◌∷◌, ◌++◌, length, take, get_or, sym, ap, ◌∙◌, subst, arith}
+use Rattle.std.specs.List.{Contains}
 use Rattle.std.specs.Prelude.{Result, IfErr}
 use Rattle.std.proofs.lemmas.List.{take_more}
 use Rattle.ac_forms.specs.Negation.{HasExtension}
@@ -12,10 +13,9 @@ use Rattle.ac_sets.proofs.Commons.{Meets-cut}
 use Rattle.ac_omega.specs.declared.piece.Piece.{Piece}
 use Rattle.ac_flow.specs.Cuts.{HasPoint, AllHavePoints, NoneMeet, IsLeft}
 use Rattle.ac_omega.specs.Replays.{AreOver}
-use Rattle.ac_flow.specs.CutStops.{AreKillRows, AreCutCases, IfFull}
+use Rattle.ac_flow.specs.CutStops.{Itself, AreCutCases, IfFull}
 use Rattle.ac_flow.specs.declared.cut.CutStop.{CutStop}
 use Rattle.ac_flow.proofs.Asked.{if_both}
-use Rattle.ac_flow.proofs.Stops.{itself-case}
 use Rattle.ac_flow.specs.CaseRemainder.{AreKillsOf, AllKillsOf, AllOver, AllKills, IsLeftBy, IsStart, IsCut}
 use Rattle.ac_flow.proofs.CaseRemainders.{IsRemaining}
 use Rattle.ac_flow.proofs.CutLoops.{take_whole, same-fits}
@@ -26,7 +26,7 @@ use Rattle.ac_omega.specs.Projection.{MeetsRest}
 
 pub record ByHalfway (n room : ℕ) (pieces : List Conj) (found : List Piece) (kept : List Conj) (i : ℕ) : Type 0 where
   pub by : IsLeftBy n pieces (take i found) kept
-  pub asked : (base : List Row) (kills : List (List Row)) → AreCutCases base kills pieces → AreKillsOf kills found → AreCutCases base kills kept
+  pub asked : (case : Conj) (kills : List (List Row)) → AreCutCases case kills pieces → AreKillsOf kills found → AreCutCases case kills kept
   pub apart : NoneMeet n pieces → NoneMeet n kept
   pub within : length pieces ≤ room → length kept ≤ room
 
@@ -38,11 +38,11 @@ by_start n room pieces found kept w e = record {
     points = λ p l. ((λ h. (subst (λ (cs : List Conj). IsInSome HasExtension cs p) e h, (λ x. x))), (λ h. subst (λ (cs : List Conj). IsInSome HasExtension cs p) (sym e) h.0));
     each = λ h. subst AllHavePoints (sym e) h;
   };
-  asked = λ base kills a b. subst (AreCutCases base kills) (sym e) a;
+  asked = λ case kills a b. subst (AreCutCases case kills) (sym e) a;
   apart = λ a. subst (NoneMeet n) (sym e) a;
 }
 
-pub kills-at : (kills : List (List Row)) (found : List Piece) (i : ℕ) (x : Piece) → AreKillsOf kills found → i < length found → x ≡ get_or found i x → AreKillRows kills x.rest.rows
+pub kills-at : (kills : List (List Row)) (found : List Piece) (i : ℕ) (x : Piece) → AreKillsOf kills found → i < length found → x ≡ get_or found i x → Contains kills x.rest.rows
 kills-at kills [] i x w m e = absurd (omega (arith, m))
 kills-at kills (y ∷ ys) zero x w m e = rw e w.0
 kills-at kills (y ∷ ys) (suc i) x w m e = kills-at kills ys i x w.1 (omega (arith, m)) e
@@ -56,11 +56,11 @@ some-snoc (y ∷ ys) x p =
     )
 
 pub by_step : (n room : ℕ) (pieces : List Conj) (found : List Piece) (kept next : List Conj) (i : ℕ) (x : Piece) → ByHalfway n room pieces found kept i → i < length found → x ≡ get_or found i x
-    → ArePieces n next → IsLeft n kept x.rest.rows next → ((base : List Row) (kills : List (List Row)) → AreCutCases base kills kept → AreKillRows kills x.rest.rows → AreCutCases base kills next) → (NoneMeet n kept → NoneMeet n next) → length next ≤ room → ByHalfway n room pieces found next (i + 1)
+    → ArePieces n next → IsLeft n kept x.rest.rows next → ((case : Conj) (kills : List (List Row)) → AreCutCases case kills kept → Contains kills x.rest.rows → AreCutCases case kills next) → (NoneMeet n kept → NoneMeet n next) → length next ≤ room → ByHalfway n room pieces found next (i + 1)
 by_step n room pieces found kept next i x h m e made left cases apart fits = record {
   within = λ l. fits;
   apart = λ a. apart (h.apart a);
-  asked = λ base kills a b. cases base kills (h.asked base kills a b) (kills-at kills found i x b m e);
+  asked = λ case kills a b. cases case kills (h.asked case kills a b) (kills-at kills found i x b m e);
   by = subst (λ (xs : List Piece). IsLeftBy n pieces xs next) (sym more) (record {
     made = made;
     points = λ p l. (
@@ -76,11 +76,11 @@ by_step n room pieces found kept next i x h m e made left cases apart fits = rec
 
 -- the same, where the pieces and the rows are handed on
 pub by_step_as : (n room : ℕ) (pieces : List Conj) (found : List Piece) (kept next given : List Conj) (rows : List Row) (i : ℕ) (x : Piece) → ByHalfway n room pieces found kept i → i < length found → x ≡ get_or found i x → given ≡ kept → rows ≡ x.rest.rows
-    → ArePieces n next → IsLeft n given rows next → ((base : List Row) (kills : List (List Row)) → AreCutCases base kills given → AreKillRows kills rows → AreCutCases base kills next) → (NoneMeet n given → NoneMeet n next) → length next ≤ room → ByHalfway n room pieces found next (i + 1)
+    → ArePieces n next → IsLeft n given rows next → ((case : Conj) (kills : List (List Row)) → AreCutCases case kills given → Contains kills rows → AreCutCases case kills next) → (NoneMeet n given → NoneMeet n next) → length next ≤ room → ByHalfway n room pieces found next (i + 1)
 by_step_as n room pieces found kept next given rows i x h m e a b made left cases apart fits =
     by_step n room pieces found kept next i x h m e made
     (subst (λ (rs : List Row). IsLeft n kept rs next) b (subst (λ (cs : List Conj). IsLeft n cs rows next) a left))
-    (λ base kills u v. cases base kills (subst (AreCutCases base kills) (sym a) u) (subst (AreKillRows kills) (sym b) v))
+    (λ case kills u v. cases case kills (subst (AreCutCases case kills) (sym a) u) (subst (λ (rs : List Row). Contains kills rs) (sym b) v))
     (λ u. apart (subst (NoneMeet n) (sym a) u)) fits
 
 pub by_end : (n room : ℕ) (pieces : List Conj) (found : List Piece) (kept : List Conj) (i : ℕ) → ByHalfway n room pieces found kept i → length found ≤ i → IsLeftBy n pieces found kept
@@ -103,7 +103,7 @@ start_with case copy pieces w has same e = subst (IsStart case) (sym (e ∙ ap (
   made = (omega arith, w, tt);
   points = λ p l. ((λ h. elim h [ inl x ↦ Meets-cut case.rows case.columns p x.0 (omega (arith, l)) w x.2 | inr x ↦ absurd x ]), (λ h. inl ([], ap length (nil p) ∙ l, subst (Meets case.rows) (sym (nil p)) h)));
   each = (has, tt);
-  asked = λ kills. (itself-case kills case, tt);
+  asked = λ kills. (Itself, tt);
   apart = λ p l. ((λ x. tt), tt);
 })
   where
@@ -130,8 +130,8 @@ pub alone-full : {A : Type 0} (r : Result A CutStop) (room : ℕ) (case copy : C
     → IfErr r (λ e. IfFull e ((length new ≡ room + 1) × NoneMeet case.columns new × ArePieces case.columns new))
 alone-full r room case copy old new w same none a b = if_both r _ _ _ (λ n k. (n, alone-apart case.columns copy old new none k.1, alone-made case copy old new none w same k.1)) a b
 
-pub alone-cases : (kills : List (List Row)) (case copy : Conj) (old new : List Conj) → old ≡ [] → copy ≡ case → new ≡ old ++ copy ∷ [] → AreCutCases case.rows kills new
-alone-cases kills case copy old new none same e = subst (AreCutCases case.rows kills) (sym (e ∙ ap (λ (x : List Conj). x ++ copy ∷ []) none ∙ ap (λ (x : Conj). x ∷ []) same)) (itself-case kills case, tt)
+pub alone-cases : (kills : List (List Row)) (case copy : Conj) (old new : List Conj) → old ≡ [] → copy ≡ case → new ≡ old ++ copy ∷ [] → AreCutCases case kills new
+alone-cases kills case copy old new none same e = subst (AreCutCases case kills) (sym (e ∙ ap (λ (x : List Conj). x ++ copy ∷ []) none ∙ ap (λ (x : Conj). x ∷ []) same)) (Itself, tt)
 
 pub ruleset start_steps = (start_with, start_without)
 
@@ -147,7 +147,7 @@ some-kill-snoc (y ∷ ys) k p =
 
 pub record CutHalfway (case : Conj) (kills : List (List Piece)) (room : ℕ) (pieces : List Conj) (i : ℕ) : Type 0 where
   pub within : length pieces ≤ room
-  pub asked : (rows : List (List Row)) → AllKillsOf rows kills → AreCutCases case.rows rows pieces
+  pub asked : (rows : List (List Row)) → AllKillsOf rows kills → AreCutCases case rows pieces
   pub apart : NoneMeet case.columns pieces
   pub made : ArePieces case.columns pieces
   pub points : (p : List ℤ) → length p ≡ case.columns → IsInSome HasExtension pieces p ↔ (Meets case.rows p × ¬ IsInSome (IsInSome MeetsRest) (take i kills) p)
@@ -169,11 +169,11 @@ kills-of-at rows (k ∷ ks) zero x w m e = rw e w.0
 kills-of-at rows (k ∷ ks) (suc i) x w m e = kills-of-at rows ks i x w.1 (omega (arith, m)) e
 
 pub cut_step : (case : Conj) (kills : List (List Piece)) (room : ℕ) (pieces next : List Conj) (i : ℕ) (found given : List Piece) → CutHalfway case kills room pieces i → i < length kills → found ≡ get_or kills i found → given ≡ found
-    → IsLeftBy case.columns pieces given next → ((base : List Row) (ks : List (List Row)) → AreCutCases base ks pieces → AreKillsOf ks given → AreCutCases base ks next) → (NoneMeet case.columns pieces → NoneMeet case.columns next) → (length pieces ≤ room → length next ≤ room) → CutHalfway case kills room next (i + 1)
+    → IsLeftBy case.columns pieces given next → ((base : Conj) (ks : List (List Row)) → AreCutCases base ks pieces → AreKillsOf ks given → AreCutCases base ks next) → (NoneMeet case.columns pieces → NoneMeet case.columns next) → (length pieces ≤ room → length next ≤ room) → CutHalfway case kills room next (i + 1)
 cut_step case kills room pieces next i found given h m e same left cases apart fits = record {
   within = fits h.within;
   apart = apart h.apart;
-  asked = λ rows a. cases case.rows rows (h.asked rows a) (subst (AreKillsOf rows) (sym same) (kills-of-at rows kills i found a m e));
+  asked = λ rows a. cases case rows (h.asked rows a) (subst (AreKillsOf rows) (sym same) (kills-of-at rows kills i found a m e));
   made = left.made;
   points = λ p l. subst (λ (ks : List (List Piece)). IsInSome HasExtension next p ↔ (Meets case.rows p × ¬ IsInSome (IsInSome MeetsRest) ks p)) (sym more) (
     (λ a.

@@ -19,7 +19,7 @@ use Rattle.ac_flow.specs.FlowStops.{AreKillPieces}
 abbrev pub AreGroups : Model → ℕ → List Row → List (List Row) → List (List Row) → List Conj → Type 0
 AreGroups m columns rows kills [] kept = kept ≡ []
 AreGroups m columns rows kills (q ∷ qs) kept =
-    (group : List Conj) × (rest : List Conj) × (kept ≡ group ++ rest) × AreCutCases (case_conj m columns rows q).rows kills group × ArePieces columns group × NoneMeet columns group × AreGroups m columns rows kills qs rest
+    (group : List Conj) × (rest : List Conj) × (kept ≡ group ++ rest) × AreCutCases (case_conj m columns rows q) kills group × ArePieces columns group × NoneMeet columns group × AreGroups m columns rows kills qs rest
 
 -- those of the case of what is assumed, with rows of its kill pieces
 pub record AreCutCasesOf (budget : ℕ) (m : Model) (r : Reads) (source : Option Seat) (columns : ℕ) (rows : List Row) (kept : List Conj) : Type 0 where

@@ -1,5 +1,6 @@
 -- What is left of a case where no copy has a point, and the kills that cover the rest.
 use Rattle.std.specs.Prelude.{◌≡◌, ◌⊎◌, ◌↔◌, ℕ, ℤ, List, [], ◌∷◌, length}
+use Rattle.std.specs.List.{Contains}
 use Rattle.ac_forms.specs.Negation.{HasExtension}
 use Rattle.ac_forms.specs.PieceMembership.{IsInSome}
 use Rattle.ac_forms.specs.Rows.{Meets}
@@ -16,7 +17,7 @@ use Rattle.ac_omega.specs.ColumnElimination.{pieces_of}
 use Rattle.ac_omega_certify.specs.declared.strategy.Strategy.{Strategy}
 use Rattle.ac_omega_certify.specs.declared.strategy.Strategy.TheVariants.{Full as Fully, Economical}
 use Rattle.ac_omega.specs.Sweep.{Pieces, Wide, Spent as Costly}
-use Rattle.ac_flow.specs.CutStops.{AreKillRows, AreCutCases}
+use Rattle.ac_flow.specs.CutStops.{AreCutCases}
 use Rattle.ac_flow.specs.declared.cut.CutStop.{CutStop}
 use Rattle.ac_flow.specs.declared.cut.CutStop.TheVariants.{Overflow, Spent, Full, Memory}
 use Rattle.ac_omega.specs.Projection.{MeetsRest}
@@ -50,13 +51,13 @@ pub record IsStart (case : Conj) (pieces : List Conj) : Type 0 where
   pub made : ArePieces case.columns pieces
   pub points : (p : List ℤ) → length p ≡ case.columns → IsInSome HasExtension pieces p ↔ Meets case.rows p
   pub each : AllHavePoints pieces
-  pub asked : (kills : List (List Row)) → AreCutCases case.rows kills pieces
+  pub asked : (kills : List (List Row)) → AreCutCases case kills pieces
   pub apart : NoneMeet case.columns pieces
 
--- the rows of each are those of a kill piece
+-- the rows of each are one of the kill pieces
 abbrev pub AreKillsOf : List (List Row) → List Piece → Type 0
 AreKillsOf kills [] = Unit {0}
-AreKillsOf kills (x ∷ xs) = AreKillRows kills x.rest.rows × AreKillsOf kills xs
+AreKillsOf kills (x ∷ xs) = Contains kills x.rest.rows × AreKillsOf kills xs
 
 abbrev pub AllKillsOf : List (List Row) → List (List Piece) → Type 0
 AllKillsOf kills [] = Unit {0}
@@ -72,13 +73,13 @@ IsWalkOf budget first copy found =
     AreLeftBy Economical budget first copy found ⊎ (StopsEliminating (pieces_of Economical (columns_from first copy) budget copy) × AreLeftBy Fully budget first copy found)
 
 -- what is left of a case outside kill pieces: its points at which none of them holds. No two of the pieces have a point in
--- common, and each has one. The rows of each are the case's own, and further ones that the kill pieces give, none twice
+-- common, and each has one. Each is a cut case
 pub record IsCut (case : Conj) (kills : List (List Piece)) (pieces : List Conj) : Type 0 where
   pub made : ArePieces case.columns pieces
   pub points : (p : List ℤ) → length p ≡ case.columns → IsInSome HasExtension pieces p ↔ (Meets case.rows p × ¬ IsInSome (IsInSome MeetsRest) kills p)
   pub each : AllHavePoints pieces
   pub apart : NoneMeet case.columns pieces
-  pub asked : (rows : List (List Row)) → AllKillsOf rows kills → AreCutCases case.rows rows pieces
+  pub asked : (rows : List (List Row)) → AllKillsOf rows kills → AreCutCases case rows pieces
   pub cover : (p : List ℤ) → length p ≡ case.columns → Meets case.rows p → IsInSome HasExtension pieces p ⊎ IsInSome (IsInSome MeetsRest) kills p
 
 -- the elimination of a copy stops: the economical one, and so does the full one

@@ -16,6 +16,10 @@ abbrev pub with_all_new : List Row → List Row → List Row
 with_all_new rows [] = rows
 with_all_new rows (r ∷ rs) = with_all_new (with_new rows r) rs
 
+-- what meets the rows too
+abbrev pub inside : Conj → List Row → Conj
+inside c rows = record { columns = c.columns; rows = with_all_new c.rows rows }
+
 -- the rows of both, over the columns of the second
 abbrev pub extended : Conj → Conj → Conj
 extended c d = record { columns = d.columns; rows = with_all_new c.rows d.rows }
@@ -59,7 +63,7 @@ NoneMeet n cs = (p : List ℤ) → length p ≡ n → IsInOneAtMost HasExtension
 
 -- what is kept of a conjunction outside a kill piece: itself, where it does not meet it; else the parts that have a point
 abbrev pub Cuts : Conj → List Row → List Conj → Type 0
-Cuts c kill kept = ((¬ HasPoint (record { columns = c.columns; rows = with_all_new c.rows kill })) × (kept ≡ c ∷ [])) ⊎ Sieved (parts_outside c kill) kept
+Cuts c kill kept = ((¬ HasPoint (inside c kill)) × (kept ≡ c ∷ [])) ⊎ (HasPoint (inside c kill) × Sieved (parts_outside c kill) kept)
 
 -- those behind the ones before
 pub record AreCut (c : Conj) (kill : List Row) (old new : List Conj) : Type 0 where
@@ -67,7 +71,11 @@ pub record AreCut (c : Conj) (kill : List Row) (old new : List Conj) : Type 0 wh
   pub is : new ≡ old ++ more
   pub cut : Cuts c kill more
 
--- the same for each of several
+-- the same, or some of the parts where it meets the kill piece
+abbrev pub IsPartlyCut : Conj → List Row → List Conj → List Conj → Type 0
+IsPartlyCut c kill old new = AreCut c kill old new ⊎ (HasPoint (inside c kill) × ArePartlyKept (parts_outside c kill) old new)
+
+-- what is kept of each of several
 abbrev pub CutsAll : List Conj → List Row → List Conj → Type 0
 CutsAll [] kill kept = kept ≡ []
 CutsAll (c ∷ cs) kill kept = (first : List Conj) × (rest : List Conj) × (kept ≡ first ++ rest) × Cuts c kill first × CutsAll cs kill rest
@@ -86,7 +94,7 @@ pub record ArePartlyCut (pieces : List Conj) (kill : List Row) (old new : List C
   pub split : before ++ at ∷ behind ≡ pieces
   pub mid : List Conj
   pub all : AreAllCut before kill old mid
-  pub last : AreCut at kill mid new ⊎ ArePartlyKept (parts_outside at kill) mid new
+  pub last : IsPartlyCut at kill mid new
 
 -- each of the conjunctions has a point
 abbrev pub AllHavePoints : List Conj → Type 0

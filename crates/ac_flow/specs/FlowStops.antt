@@ -69,11 +69,11 @@ abbrev pub AreKillPieces : ℕ → Model → Assumed → List CopyNumbers → Li
 AreKillPieces budget m a ws [] = Unit {0}
 AreKillPieces budget m a ws (k ∷ ks) = IsKillPiece budget m a ws k × AreKillPieces budget m a ws ks
 
--- a cut case stops: its rows are those of a case in a piece of the reader, with further rows from kill pieces
+-- the cutting of a case in a piece of the reader by kill pieces stops
 pub record PieceStops (budget : ℕ) (m : Model) (columns : ℕ) (rows : List Row) (pieces : List (List Row)) (kills : List (List Row)) (e : CutStop) : Type 0 where
   pub piece : List Row
   pub among : IsAmong piece pieces
-  pub stops : CutStops budget (case_conj m columns rows piece).rows kills e
+  pub stops : CutStops budget (case_conj m columns rows piece) kills e
 
 pub record CutCaseStops (budget : ℕ) (m : Model) (a : Assumed) (ws : List CopyNumbers) (columns : ℕ) (rows : List Row) (pieces : List (List Row)) (e : CutStop) : Type 0 where
   pub kills : List (List Row)

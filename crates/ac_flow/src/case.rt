@@ -27,11 +27,11 @@ fn cut_by_pieces(
     requires made { ArePieces columns kept.old }
     requires over { AreOver columns found.now }
     ensures left { OnOk result (IsLeftBy columns kept.old found.now kept.new) }
-    ensures stops { (base : List Row) (kills : List (List Row)) → AreCutCases base kills kept.old → AreKillsOf kills found.now → IfErr result (CutStops budget base kills) }
-    ensures asked { (base : List Row) (kills : List (List Row)) → AreCutCases base kills kept.old → AreKillsOf kills found.now → OnOk result (AreCutCases base kills kept.new) }
+    ensures stops { (case : Conj) (kills : List (List Row)) → AreCutCases case kills kept.old → AllHavePoints kept.old → AreKillsOf kills found.now → IfErr result (CutStops budget case kills) }
+    ensures asked { (case : Conj) (kills : List (List Row)) → AreCutCases case kills kept.old → AreKillsOf kills found.now → OnOk result (AreCutCases case kills kept.new) }
     ensures apart { NoneMeet columns kept.old → OnOk result (NoneMeet columns kept.new) }
     ensures full { NoneMeet columns kept.old → IfErr result (λ e. IfFull e ((length kept.new ≡ room + 1) × NoneMeet columns kept.new × ArePieces columns kept.new)) }
-    ensures filled { (base : List Row) (kills : List (List Row)) → AreCutCases base kills kept.old → AreKillsOf kills found.now → IfErr result (λ e. IfFull e (AreCutCases base kills kept.new)) }
+    ensures filled { (case : Conj) (kills : List (List Row)) → AreCutCases case kills kept.old → AreKillsOf kills found.now → IfErr result (λ e. IfFull e (AreCutCases case kills kept.new)) }
     ensures have { AllHavePoints kept.old → AllHavePoints kept.new }
     ensures within { length kept.old ≤ room → OnOk result (length kept.new ≤ room) }
 {
@@ -67,9 +67,9 @@ fn start(
     requires made { IsWellMade case.now }
     requires empty { pieces.old ≡ [] }
     ensures start { OnOk result (IsStart case.now pieces.new) }
-    ensures stops { (kills : List (List Row)) → IfErr result (CutStops budget case.now.rows kills) }
+    ensures stops { (kills : List (List Row)) → IfErr result (CutStops budget case.now kills) }
     ensures full { IfErr result (λ e. IfFull e ((length pieces.new ≡ room + 1) × NoneMeet case.now.columns pieces.new × ArePieces case.now.columns pieces.new)) }
-    ensures filled { (kills : List (List Row)) → IfErr result (λ e. IfFull e (AreCutCases case.now.rows kills pieces.new)) }
+    ensures filled { (kills : List (List Row)) → IfErr result (λ e. IfFull e (AreCutCases case.now kills pieces.new)) }
     ensures have { AllHavePoints pieces.new }
     ensures within { OnOk result (length pieces.new ≤ room) }
 {
@@ -83,8 +83,8 @@ fn start(
 /// What is left of a case outside kill pieces, handed over as lists: the points at which none of them holds. No two of its
 /// pieces have a point in common, and each has one.
 ///
-/// A question is the case's rows with further rows, each of a kill piece or of a part of the negation of such a row, and none
-/// twice. A kill piece that doesn't meet what is left is passed over. `Full` with the first piece for which there is no room: it
+/// The questions are the case, whether what is left meets a kill piece, and the parts of it outside a piece that it meets. A kill
+/// piece that doesn't meet what is left is passed over. `Full` with the first piece for which there is no room: it
 /// and those before are kept.
 #[tactic(auto, using(crate::proofs::Remains::cut_steps))]
 pub fn cut_case(
@@ -99,10 +99,9 @@ pub fn cut_case(
     requires over { AllOver case.now.columns kills.now }
     requires empty { pieces.old ≡ [] }
     ensures cut { OnOk result (IsCut case.now kills.now pieces.new) }
-    ensures asked { (rows : List (List Row)) → AllKillsOf rows kills.now → OnOk result (AreCutCases case.now.rows rows pieces.new) }
-    ensures stops { (rows : List (List Row)) → AllKillsOf rows kills.now → IfErr result (CutStops budget case.now.rows rows) }
+    ensures stops { (rows : List (List Row)) → AllKillsOf rows kills.now → IfErr result (CutStops budget case.now rows) }
     ensures full { IfErr result (λ e. IfFull e ((length pieces.new ≡ room + 1) × NoneMeet case.now.columns pieces.new × ArePieces case.now.columns pieces.new)) }
-    ensures filled { (rows : List (List Row)) → AllKillsOf rows kills.now → IfErr result (λ e. IfFull e (AreCutCases case.now.rows rows pieces.new)) }
+    ensures filled { (rows : List (List Row)) → AllKillsOf rows kills.now → IfErr result (λ e. IfFull e (AreCutCases case.now rows pieces.new)) }
     ensures have { AllHavePoints pieces.new }
     ensures within { OnOk result (length pieces.new ≤ room) }
 {

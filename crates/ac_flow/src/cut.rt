@@ -1,11 +1,13 @@
 ghost use Rattle.std.specs.Prelude.{◌≡◌, ◌+◌, ◌≤◌, ◌<◌, ◌++◌, ◌∷◌, [], ◌↔◌, ℕ, length, map, cond, true, false, IfOk, IfErr, OnOk, List, ◌⊎◌};
-ghost use Rattle.ac_flow.specs.CutStops.{IsKillRow, IsCutCase, AreKillRows, AreCutCases, StopsOn, CutStops, IfFull};
+ghost use Rattle.std.specs.List.{Contains};
+ghost use Rattle.ac_flow.specs.CutStops.{AreCutCases, StopsOn, RowStops, OutsideStops, OneStops, CutStops, IfFull};
+ghost use Rattle.ac_forms.specs.Standing.{is_among};
 ghost use Rattle.ac_forms.specs.declared.conj.Conj.{Conj};
 ghost use Rattle.ac_forms.specs.declared.row.Row.{Row};
 ghost use Rattle.ac_forms.specs.Negation.{negation};
 ghost use Rattle.ac_forms.specs.Rows.{IsWellMade, AreRowsOver, IsRowOver};
 ghost use Rattle.ac_sets.specs.Unions.{ArePieces};
-ghost use Rattle.ac_flow.specs.Cuts.{with_new, with_all_new, extended, row_parts, after_row, parts_outside, HasPoint, AreKept, Cuts, CutsAll, AreCut, AreAllCut, ArePartlyKept, ArePartlyCut, NoneMeet, IsLeft, AllHavePoints};
+ghost use Rattle.ac_flow.specs.Cuts.{with_new, with_all_new, extended, row_parts, after_row, parts_outside, HasPoint, AreKept, Cuts, CutsAll, AreCut, AreAllCut, ArePartlyKept, IsPartlyCut, ArePartlyCut, NoneMeet, IsLeft, AllHavePoints};
 
 use ac_base::Items;
 use ac_forms::{Conj, FormStop, Row, is_among};
@@ -159,7 +161,7 @@ fn keep_failing(
     requires made { IsWellMade here.now }
     requires row { IsRowOver here.now.columns row.now }
     ensures kept { OnOk result (AreKept (map (extended here.now) (negation here.now.columns row.now)) kept.old kept.new) }
-    ensures stops { (base : List Row) (kills : List (List Row)) → IsCutCase base kills here.now → IsKillRow kills row.now → IfErr result (CutStops budget base kills) }
+    ensures stops { is_among row.now here.now.rows ≡ false → IfErr result (RowStops budget here.now row.now) }
     ensures full { IfErr result (λ e. IfFull e ((room < length kept.new) × ArePartlyKept (map (extended here.now) (negation here.now.columns row.now)) kept.old kept.new)) }
     ensures have { AllHavePoints kept.old → AllHavePoints kept.new }
     ensures within { length kept.old ≤ room → OnOk result (length kept.new ≤ room) }
@@ -194,7 +196,7 @@ fn cut_by_row(
     requires row { IsRowOver here.old.columns row.now }
     ensures after { OnOk result (here.new ≡ after_row here.old row.now) }
     ensures kept { OnOk result (AreKept (row_parts here.old row.now) kept.old kept.new) }
-    ensures stops { (base : List Row) (kills : List (List Row)) → IsCutCase base kills here.old → IsKillRow kills row.now → IfErr result (CutStops budget base kills) }
+    ensures stops { IfErr result (RowStops budget here.old row.now) }
     ensures full { IfErr result (λ e. IfFull e ((room < length kept.new) × ArePartlyKept (row_parts here.old row.now) kept.old kept.new)) }
     ensures have { AllHavePoints kept.old → AllHavePoints kept.new }
     ensures within { length kept.old ≤ room → OnOk result (length kept.new ≤ room) }
@@ -224,7 +226,7 @@ fn keep_outside(
     requires made { IsWellMade conj.now }
     requires kill { AreRowsOver conj.now.columns kill.now }
     ensures kept { OnOk result (AreKept (parts_outside conj.now kill.now) kept.old kept.new) }
-    ensures stops { (base : List Row) (kills : List (List Row)) → IsCutCase base kills conj.now → AreKillRows kills kill.now → IfErr result (CutStops budget base kills) }
+    ensures stops { IfErr result (OutsideStops budget conj.now kill.now) }
     ensures full { IfErr result (λ e. IfFull e ((room < length kept.new) × ArePartlyKept (parts_outside conj.now kill.now) kept.old kept.new)) }
     ensures have { AllHavePoints kept.old → AllHavePoints kept.new }
     ensures within { length kept.old ≤ room → OnOk result (length kept.new ≤ room) }
@@ -253,8 +255,8 @@ fn cut(
     requires made { IsWellMade conj.now }
     requires kill { AreRowsOver conj.now.columns kill.now }
     ensures kept { OnOk result (AreCut conj.now kill.now kept.old kept.new) }
-    ensures stops { (base : List Row) (kills : List (List Row)) → IsCutCase base kills conj.now → AreKillRows kills kill.now → IfErr result (CutStops budget base kills) }
-    ensures full { IfErr result (λ e. IfFull e ((room < length kept.new) × (AreCut conj.now kill.now kept.old kept.new ⊎ ArePartlyKept (parts_outside conj.now kill.now) kept.old kept.new))) }
+    ensures stops { IfErr result (OneStops budget conj.now kill.now) }
+    ensures full { IfErr result (λ e. IfFull e ((room < length kept.new) × IsPartlyCut conj.now kill.now kept.old kept.new)) }
     ensures have { HasPoint conj.now → AllHavePoints kept.old → AllHavePoints kept.new }
     ensures within { length kept.old ≤ room → OnOk result (length kept.new ≤ room) }
     ensures one_more { length kept.old ≤ room → IfErr result (λ e. IfFull e (length kept.new ≡ room + 1)) }
@@ -267,8 +269,8 @@ fn cut(
     }
 }
 
-/// What is left of several conjunctions outside a kill piece. Each question is a cut case where they are. `Full` with the first
-/// piece for which there is no room: it and those before are kept.
+/// What is left of several conjunctions outside a kill piece: cut cases where they are. `Full` with the first piece for which
+/// there is no room: it and those before are kept.
 pub(crate) fn cut_all(
     alloc: Global,
     budget: u64,
@@ -283,12 +285,12 @@ pub(crate) fn cut_all(
     requires empty { kept.old ≡ [] }
     ensures made { OnOk result (ArePieces columns kept.new) }
     ensures left { OnOk result (IsLeft columns pieces.now kill.now kept.new) }
-    ensures stops { (base : List Row) (kills : List (List Row)) → AreCutCases base kills pieces.now → AreKillRows kills kill.now → IfErr result (CutStops budget base kills) }
-    ensures asked { (base : List Row) (kills : List (List Row)) → AreCutCases base kills pieces.now → AreKillRows kills kill.now → OnOk result (AreCutCases base kills kept.new) }
+    ensures stops { (case : Conj) (kills : List (List Row)) → AreCutCases case kills pieces.now → AllHavePoints pieces.now → Contains kills kill.now → IfErr result (CutStops budget case kills) }
+    ensures asked { (case : Conj) (kills : List (List Row)) → AreCutCases case kills pieces.now → Contains kills kill.now → OnOk result (AreCutCases case kills kept.new) }
     ensures apart { NoneMeet columns pieces.now → OnOk result (NoneMeet columns kept.new) }
     ensures within { OnOk result (length kept.new ≤ room) }
     ensures full { NoneMeet columns pieces.now → IfErr result (λ e. IfFull e ((length kept.new ≡ room + 1) × NoneMeet columns kept.new × ArePieces columns kept.new)) }
-    ensures filled { (base : List Row) (kills : List (List Row)) → AreCutCases base kills pieces.now → AreKillRows kills kill.now → IfErr result (λ e. IfFull e (AreCutCases base kills kept.new)) }
+    ensures filled { (case : Conj) (kills : List (List Row)) → AreCutCases case kills pieces.now → Contains kills kill.now → IfErr result (λ e. IfFull e (AreCutCases case kills kept.new)) }
     ensures have { AllHavePoints pieces.now → AllHavePoints kept.new }
 {
     cut_each(alloc, budget, room, columns, pieces, kill, kept)
@@ -308,7 +310,7 @@ fn cut_each(
     requires made { ArePieces columns pieces.now }
     requires kill { AreRowsOver columns kill.now }
     ensures cut { OnOk result (AreAllCut pieces.now kill.now kept.old kept.new) }
-    ensures stops { (base : List Row) (kills : List (List Row)) → AreCutCases base kills pieces.now → AreKillRows kills kill.now → IfErr result (CutStops budget base kills) }
+    ensures stops { (case : Conj) (kills : List (List Row)) → AreCutCases case kills pieces.now → AllHavePoints pieces.now → Contains kills kill.now → IfErr result (CutStops budget case kills) }
     ensures full { IfErr result (λ e. IfFull e ((room < length kept.new) × ArePartlyCut pieces.now kill.now kept.old kept.new)) }
     ensures have { AllHavePoints pieces.now → AllHavePoints kept.old → AllHavePoints kept.new }
     ensures within { length kept.old ≤ room → OnOk result (length kept.new ≤ room) }

@@ -76,11 +76,10 @@ fn cut_piece(
     requires over { AllOver case.now.own.now.columns case.now.kills.now }
     requires empty { kept.old ≡ [] }
     ensures cut { OnOk result (IsCut (case_conj m.now case.now.own.now.columns case.now.own.now.rows piece.now) case.now.kills.now kept.new) }
-    ensures stops { (ks : List (List Row)) → AllKillsOf ks case.now.kills.now → IfErr result (CutStops budget (case_conj m.now case.now.own.now.columns case.now.own.now.rows piece.now).rows ks) }
-    ensures asked { (ks : List (List Row)) → AllKillsOf ks case.now.kills.now → OnOk result (AreCutCases (case_conj m.now case.now.own.now.columns case.now.own.now.rows piece.now).rows ks kept.new) }
+    ensures stops { (ks : List (List Row)) → AllKillsOf ks case.now.kills.now → IfErr result (CutStops budget (case_conj m.now case.now.own.now.columns case.now.own.now.rows piece.now) ks) }
     ensures within { OnOk result (length kept.new ≤ room) }
     ensures full { IfErr result (λ e. IfFull e ((length kept.new ≡ room + 1) × NoneMeet case.now.own.now.columns kept.new × ArePieces case.now.own.now.columns kept.new)) }
-    ensures filled { (ks : List (List Row)) → AllKillsOf ks case.now.kills.now → IfErr result (λ e. IfFull e (AreCutCases (case_conj m.now case.now.own.now.columns case.now.own.now.rows piece.now).rows ks kept.new)) }
+    ensures filled { (ks : List (List Row)) → AllKillsOf ks case.now.kills.now → IfErr result (λ e. IfFull e (AreCutCases (case_conj m.now case.now.own.now.columns case.now.own.now.rows piece.now) ks kept.new)) }
     ensures have { AllHavePoints kept.new }
 {
     let conj = case_conj(alloc, m, case.own, piece)?;

@@ -24,7 +24,7 @@ use Rattle.ac_parse_exprs.specs.Comparisons.{index}
 use Rattle.ac_parse_exprs.specs.Values.{Reading, number, other, reading, reading_broken, value_of, value, value_broken, placed, access_broken, array_number, read_of, access_reading, call_reading, negative_reading, group_reading, applied_values, applied, joined_reading, chained_reading, chain_reading}
 use Rattle.ac_parse_exprs.proofs.Accesses.{rule_holds}
 use Rattle.ac_parse_exprs.proofs.Absent.{NoneBroken, each_map, neither, none_of}
-use Rattle.ac_parse_exprs.proofs.Readings.{reading-number, reading-decimal, reading-access, reading-call, reading-negative, reading-group, reading-chain}
+use Rattle.ac_parse_exprs.proofs.Readings.{reading-number, reading-decimal, reading-access, reading-call, reading-quotient, reading-negative, reading-group, reading-chain}
 use Rattle.ac_flow_budget.proofs.Meant.{MeansIn, NamesIn, meaning-in, cell-of}
 use Rattle.ac_parse_exprs.proofs.Trees.{every_expr}
 
@@ -129,6 +129,7 @@ module _ (arrays : List Array) (names : List Entry) (scope : Scope) (below : Nam
       (λ word. subst (Reads arrays) (sym (reading-decimal names scope word)) (λ e. call_reads arrays _ _ _ tt))
       (λ name subs h. subst (Reads arrays) (sym (reading-access names scope name subs)) (access_case arrays names scope (meaning names scope name.name) name subs (meaning-in arrays names scope name.name below)))
       (λ name args h. subst (Reads arrays) (sym (reading-call names scope name args)) (call_case arrays scope (meaning names scope name.name) name (map (reading names scope) args) (each_map (reading names scope) (Reads arrays) args h)))
+      (λ up argument divisor place h. subst (Reads arrays) (sym (reading-quotient names scope up argument divisor place)) tt)
       (λ operand place h. subst (Reads arrays) (sym (reading-negative names scope operand place)) (negative_case arrays place (reading names scope operand) h))
       (λ inner place h. subst (Reads arrays) (sym (reading-group names scope inner place)) (group_case arrays place (reading names scope inner) h))
       (λ operands operators h. subst (Reads arrays) (sym (reading-chain names scope operands operators)) (chain_case arrays scope (map (reading names scope) operands) operators (each_map (reading names scope) (Reads arrays) operands h)))

@@ -10,8 +10,10 @@ pub mod Made
 pub mod Asked
 pub mod Readers
 pub mod Reading
+pub mod Cutting
 pub mod Stopping
 pub mod Lowered
+pub mod PlainScopes
 pub mod Bodies
 pub mod Answered
 pub mod Questions

@@ -6,7 +6,7 @@ use Rattle.ac_forms.specs.Affine.{Affine, coef, combined, column_form}
 use Rattle.ac_syntax.specs.declared.tree.IndexExpr.{IndexExpr}
 use Rattle.ac_base.proofs.Products.{add-mul_ℤ}
 use Rattle.ac_omega_steps.proofs.OneColumn.{coef-combined}
-use Rattle.ac_poly.specs.IndexForms.{replaced, lowered, stepping}
+use Rattle.ac_poly_quotients.specs.LoweredForms.{replaced, lowered, stepping}
 use Rattle.ac_omega.specs.DifferenceRows.{one_in, IsDifference, IsDifferenceWithin}
 use Rattle.ac_omega.proofs.DifferenceForms.{weight, weight-two}
 use Rattle.ac_omega.proofs.DifferenceNormals.{nothing-at}

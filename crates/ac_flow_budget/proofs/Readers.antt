@@ -1,5 +1,5 @@
 -- A reader of a model is a read of an assignment, or an output, which is an input array.
-use Rattle.std.proofs.Common.{◌≡◌, ◌⊎◌, inl, inr, ℕ, suc, ◌+◌, List, [], ◌∷◌, length, Bool, true, false, cond, ◌&&◌, Some, arith, refl, sym, subst}
+use Rattle.std.proofs.Common.{◌≡◌, ◌⊎◌, inl, inr, ℕ, suc, ◌+◌, List, [], ◌∷◌, length, Bool, true, false, cond, Some, arith, refl, sym, subst}
 use Rattle.std.specs.Prelude.{slice_get}
 use Rattle.ac_forms.specs.Affine.{Affine}
 use Rattle.ac_syntax.specs.declared.tree.Position.TheVariants.{Output, Node}

@@ -96,19 +96,14 @@ below-within b f d = above-within b (opposite f) (opposite-within b f d)
 below-over : (n : ℕ) (f : Affine) → length f.coefs ≤ n → IsRowOver n (Ge (below f))
 below-over n f l = let e = length-map f.coefs (λ (c : ℤ). negsuc 0 *ℤ c) in (omega (arith, e), tt)
 
--- each row of the negation
-above-narrow : (n b : ℕ) (f : Affine) (r : Row) → length f.coefs ≤ n → IsDifferenceWithin b f → Contains (Ge (above f) ∷ []) r → IsNarrow n (b + 1) r
-above-narrow n b f r l d c = narrow-at n (b + 1) (Ge (above f) ∷ []) r (record { over = ((l, tt), tt); differences = (above-within b f d, tt) }) c
-
-below-narrow : (n b : ℕ) (f : Affine) (r : Row) → length f.coefs ≤ n → IsDifferenceWithin b f → Contains (Ge (below f) ∷ []) r → IsNarrow n (b + 1) r
-below-narrow n b f r l d c = narrow-at n (b + 1) (Ge (below f) ∷ []) r (record { over = (below-over n f l, tt); differences = (below-within b f d, tt) }) c
-
-pub negated-narrow : (n m b : ℕ) (s r : Row) (d : Conj) → IsNarrow n b s → Contains (negation m s) d → Contains d.rows r → IsNarrow n (b + 1) r
-negated-narrow n m b (Eq f) r d h c k =
-    all-at (λ (x : Conj). Contains x.rows r → IsNarrow n (b + 1) r) (negation m (Eq f)) d
-    ((λ y. above-narrow n b f r h.over.0 h.difference y), ((λ y. below-narrow n b f r h.over.0 h.difference y), tt)) c k
-negated-narrow n m b (Div g f) r d h c k = absurd h.difference
-negated-narrow n m b (Ge f) r d h c k = all-at (λ (x : Conj). Contains x.rows r → IsNarrow n (b + 1) r) (negation m (Ge f)) d ((λ y. below-narrow n b f r h.over.0 h.difference y), tt) c k
+-- the rows of each part of the negation
+pub negation-narrow : (n m b : ℕ) (s : Row) → IsNarrow n b s → AllByRecursion (λ (d : Conj). AreNarrow n (b + 1) d.rows) (negation m s)
+negation-narrow n m b (Eq f) h = (
+  record { over = ((h.over.0, tt), tt); differences = (above-within b f h.difference, tt) },
+  (record { over = (below-over n f h.over.0, tt); differences = (below-within b f h.difference, tt) }, tt),
+)
+negation-narrow n m b (Div g f) h = absurd h.difference
+negation-narrow n m b (Ge f) h = (record { over = (below-over n f h.over.0, tt); differences = (below-within b f h.difference, tt) }, tt)
 
 -- it is made in `i128`
 unit-turned : (c : ℤ) → IsUnit c → Fits (negsuc 0 *ℤ c)

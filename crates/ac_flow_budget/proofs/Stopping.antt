@@ -12,7 +12,7 @@ use Rattle.ac_poly.specs.declared.types.Model.{Model}
 use Rattle.ac_base.proofs.Options.{some-is}
 use Rattle.ac_omega_certify.specs.declared.strategy.Strategy.{Strategy}
 use Rattle.ac_omega_certify.specs.declared.strategy.Strategy.TheVariants.{Full as Fully, Economical}
-use Rattle.ac_flow.specs.CutStops.{IsKillRow, IsFurther, Itself, OfNegation, AreFurther, IsCutCase, CutStops}
+use Rattle.ac_flow.specs.CutStops.{CutStops}
 use Rattle.ac_flow.specs.CaseRemainder.{AreLeftBy, IsWalkOf, CopyStops}
 use Rattle.ac_flow.specs.declared.cut.CutStop.{CutStop}
 use Rattle.ac_flow.specs.declared.cut.CutStop.TheVariants as cut
@@ -36,11 +36,12 @@ use Rattle.ac_flow.specs.declared.types.FlowStop.{FlowStop}
 use Rattle.ac_flow.specs.declared.types.FlowStop.TheVariants as flow
 use Rattle.ac_flow.proofs.Overs.{is_over}
 use Rattle.ac_flow_budget.specs.Models.{HasDifferences, StopsByNoQuestion, IsAnswered}
+use Rattle.ac_flow_budget.proofs.Cutting.{AreKillsNarrow, cut-narrow, lacked-narrow}
 use Rattle.ac_flow_budget.proofs.Asked.{never-wide, never-spent, never-large, pieces-fit, pieces-cost, pieces-narrow}
 use Rattle.ac_flow_budget.proofs.Made.{IsPlaced, Nowhere, AtRoot, IsRead, IsMade, width-few, all-made}
 use Rattle.ac_flow_budget.proofs.Readers.{reader-of}
 use Rattle.ac_flow_budget.proofs.Reading.{is-read}
-use Rattle.ac_flow_budget.proofs.Rows.{AreNarrow, IsNarrow, all-at, narrow-more, narrow-both, narrow-first, narrow-at, negated-narrow, negation-fits, rows-more, row-more}
+use Rattle.ac_flow_budget.proofs.Rows.{AreNarrow, all-at, narrow-more, narrow-both, negation-fits, rows-more}
 use Rattle.ac_flow_budget.proofs.Shifted.{all-bounded}
 
 -- neither a number that is too wide nor too great a cost
@@ -52,27 +53,12 @@ IsNoQuestion (cut.Memory e) = Unit {0}
 
 -- ---- cut cases
 
-further-narrow : (n : ℕ) (kills : List (List Row)) (r : Row) → ((s : Row) → IsKillRow kills s → IsNarrow n (2 ^ 40) s) → IsFurther kills r → IsNarrow n (2 ^ 41) r
-further-narrow n kills r h (Itself k) = let a = h r k in record { over = a.over; difference = row-more (2 ^ 40) (2 ^ 41) r (lit≤ tt) a.difference }
-further-narrow n kills r h (OfNegation s m d k c e) =
-    let a = negated-narrow n m (2 ^ 40) s r d (h s k) c e in
-    record { over = a.over; difference = row-more (2 ^ 40 + 1) (2 ^ 41) r (lit≤ tt) a.difference }
-
-all-further : (n : ℕ) (kills : List (List Row)) (base rs : List Row) → ((s : Row) → IsKillRow kills s → IsNarrow n (2 ^ 40) s) → AreFurther kills base rs → AreNarrow n (2 ^ 41) rs
-all-further n kills base [] h a = record { over = tt; differences = tt }
-all-further n kills base (r ∷ rs) h a = narrow-first n (2 ^ 41) r rs (further-narrow n kills r h a.0) (all-further n kills (base ++ r ∷ []) rs h a.2)
-
-pub cut-narrow : (kills : List (List Row)) (base : List Row) (c : Conj) → AreNarrow 22 (2 ^ 34) base → ((s : Row) → IsKillRow kills s → IsNarrow 22 (2 ^ 40) s) → IsCutCase base kills c → AreNarrow 22 (2 ^ 48) c.rows
-cut-narrow kills base c b h k =
-    let f = all-further 22 kills base k.further h k.each in
-    subst (AreNarrow 22 (2 ^ 48)) (sym k.rows) (narrow-both 22 (2 ^ 48) base k.further (narrow-more 22 22 (2 ^ 34) (2 ^ 48) base (omega arith) (lit≤ tt) b) (narrow-more 22 22 (2 ^ 41) (2 ^ 48) k.further (omega arith) (lit≤ tt) f))
-
-cut-answered : (budget : ℕ) (kills : List (List Row)) (base : List Row) (e : CutStop) → 24334 ≤ budget → AreNarrow 22 (2 ^ 34) base → ((s : Row) → IsKillRow kills s → IsNarrow 22 (2 ^ 40) s) → CutStops budget base kills e → IsNoQuestion e
-cut-answered budget kills base (cut.Overflow c) enough b h (k, inl w) = never-wide Fully budget c (cut-narrow kills base c b h k) w.1
-cut-answered budget kills base (cut.Overflow c) enough b h (k, inr (r, among, wide)) = wide (negation-fits (2 ^ 40) r (lit< tt) (h r among).difference)
-cut-answered budget kills base (cut.Spent c j) enough b h (k, s) = never-spent Fully budget j c enough (cut-narrow kills base c b h k) s.1
-cut-answered budget kills base cut.Full enough b h s = tt
-cut-answered budget kills base (cut.Memory e) enough b h s = tt
+cut-answered : (budget : ℕ) (kills : List (List Row)) (case : Conj) (e : CutStop) → 24334 ≤ budget → AreNarrow 22 (2 ^ 34) case.rows → AreKillsNarrow kills → CutStops budget case kills e → IsNoQuestion e
+cut-answered budget kills case (cut.Overflow q) enough b h (inl (k, w)) = never-wide Fully budget q (cut-narrow kills case q b h k) w.1
+cut-answered budget kills case (cut.Overflow q) enough b h (inr l) = l.lacks.lacks.1 (negation-fits (2 ^ 40) l.lacks.row (lit< tt) (lacked-narrow kills case q h l).difference)
+cut-answered budget kills case (cut.Spent q j) enough b h (k, s) = never-spent Fully budget j q enough (cut-narrow kills case q b h k) s.1
+cut-answered budget kills case cut.Full enough b h s = tt
+cut-answered budget kills case (cut.Memory e) enough b h s = tt
 
 -- ---- copies and kill pieces
 
@@ -146,11 +132,15 @@ kill-narrow budget m r source kill t p k =
     let few = width-few m r source t.differences t.read p in
     subst (AreNarrow 22 (2 ^ 40)) (sym k.rows) (narrow-more first 22 (2 ^ 40) (2 ^ 40) k.piece.rest.rows (omega (arith, few)) (omega arith) one)
 
-pub kill-at : (budget : ℕ) (m : Model) (r : Reads) (source : Option Seat) (kills : List (List Row)) (kill : List Row) (k : ℕ) → Setting m r → IsPlaced m r.count source → AreKillPieces budget m (reading m r.position r.count source) (writings m r.position r.array source) kills
+kill-at : (budget : ℕ) (m : Model) (r : Reads) (source : Option Seat) (kills : List (List Row)) (kill : List Row) (k : ℕ) → Setting m r → IsPlaced m r.count source → AreKillPieces budget m (reading m r.position r.count source) (writings m r.position r.array source) kills
     → k < length kills → get_or kills k kill ≡ kill → AreNarrow 22 (2 ^ 40) kill
 kill-at budget m r source [] kill k t p a l e = absurd (omega arith)
 kill-at budget m r source (x ∷ xs) kill zero t p a l e = subst (AreNarrow 22 (2 ^ 40)) e (kill-narrow budget m r source x t p a.0)
 kill-at budget m r source (x ∷ xs) kill (suc k) t p a l e = kill-at budget m r source xs kill k t p a.1 (omega arith) e
+
+pub kills-narrow : (budget : ℕ) (m : Model) (r : Reads) (source : Option Seat) (kills : List (List Row)) → Setting m r → IsPlaced m r.count source → AreKillPieces budget m (reading m r.position r.count source) (writings m r.position r.array source) kills → AreKillsNarrow kills
+unfolding AreKillsNarrow
+kills-narrow budget m r source kills t p a = λ kill k. kill-at budget m r source kills kill k.0 t p a k.1 k.2
 
 -- ---- cases
 
@@ -165,8 +155,7 @@ base-narrow budget m r columns rows piece t n i =
 cut-case-answered : (budget : ℕ) (m : Model) (r : Reads) (source : Option Seat) (columns : ℕ) (rows : List Row) (e : CutStop) → 24334 ≤ budget → Setting m r → IsPlaced m r.count source → AreNarrow 22 (2 ^ 34) rows
     → CutCaseStops budget m (reading m r.position r.count source) (writings m r.position r.array source) columns rows r.pieces e → IsNoQuestion e
 cut-case-answered budget m r source columns rows e enough t p n s =
-    cut-answered budget s.kills (case_conj m columns rows s.stops.piece).rows e enough (base-narrow budget m r columns rows s.stops.piece t n s.stops.among)
-    (λ x k. narrow-at 22 (2 ^ 40) k.0 x (kill-at budget m r source s.kills k.0 k.1.0 t p s.found k.1.1 k.1.2) k.2) s.stops.stops
+    cut-answered budget s.kills (case_conj m columns rows s.stops.piece) e enough (base-narrow budget m r columns rows s.stops.piece t n s.stops.among) (kills-narrow budget m r source s.kills t p s.found) s.stops.stops
 
 case-by : (budget : ℕ) (m : Model) (r : Reads) (source : Option Seat) (columns : ℕ) (rows : List Row) (e : CutStop) → 24334 ≤ budget → Setting m r → IsPlaced m r.count source → AreNarrow 22 (2 ^ 34) rows
     → KillsStop budget m (reading m r.position r.count source) (writings m r.position r.array source) e ⊎ CutCaseStops budget m (reading m r.position r.count source) (writings m r.position r.array source) columns rows r.pieces e → IsNoQuestion e

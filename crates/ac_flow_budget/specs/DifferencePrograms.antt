@@ -1,8 +1,9 @@
 -- Programs of differences: loops from a constant on in steps of 1, conditions that compare two variables, and subscripts and
--- extents of one variable, each with a number of at most 2^31 by its absolute value.
-use Rattle.std.specs.Prelude.{◌≡◌, ℕ, ◌+◌, ◌<◌, ◌≤◌, ◌^◌, ℤ, pos, ◌-ℤ◌, unsigned_abs, true, List, length, Some, slice_index_or}
+-- extents of one variable, each with a number of at most 2^31 by its absolute value. They have no quotients, and test no divisor.
+use Rattle.std.specs.Prelude.{◌≡◌, ℕ, ◌+◌, ◌<◌, ◌≤◌, ◌^◌, ℤ, pos, ◌-ℤ◌, unsigned_abs, true, List, [], length, Some, slice_index_or}
 use Rattle.std.specs.List.{AllByRecursion}
 use Rattle.ac_syntax.specs.Outputs.{is_input_kind}
+use Rattle.ac_syntax.specs.ReadyPrograms.{IsPlain}
 use Rattle.ac_syntax.specs.Small.{AreSmallForms}
 use Rattle.ac_syntax.specs.declared.tree.Array.{Array}
 use Rattle.ac_syntax.specs.declared.tree.Comparison.{Comparison}
@@ -39,6 +40,7 @@ pub record IsDifferenceExpr (e : IndexExpr) : Type 0 where
   pub params : (j : ℕ) → slice_index_or e.params j (pos 0) ≡ parameter_in plus j -ℤ parameter_in minus j
   pub iters : (j : ℕ) → slice_index_or e.iters j (pos 0) ≡ iterator_in plus j -ℤ iterator_in minus j
   pub small : unsigned_abs e.konst ≤ 2 ^ 31
+  pub plain : e.quots ≡ []
 
 -- `x + c`
 pub record IsVariableExpr (e : IndexExpr) : Type 0 where
@@ -46,23 +48,30 @@ pub record IsVariableExpr (e : IndexExpr) : Type 0 where
   pub params : (j : ℕ) → slice_index_or e.params j (pos 0) ≡ parameter_in variable j
   pub iters : (j : ℕ) → slice_index_or e.iters j (pos 0) ≡ iterator_in variable j
   pub small : unsigned_abs e.konst ≤ 2 ^ 31
+  pub plain : e.quots ≡ []
 
 -- `c`
 pub record IsConstantExpr (e : IndexExpr) : Type 0 where
   pub params : (j : ℕ) → slice_index_or e.params j (pos 0) ≡ pos 0
   pub iters : (j : ℕ) → slice_index_or e.iters j (pos 0) ≡ pos 0
   pub small : unsigned_abs e.konst ≤ 2 ^ 31
+  pub plain : e.quots ≡ []
+
+-- `x - y + c` compared with 0
+pub record IsDifferencePart (c : Comparison) : Type 0 where
+  pub form : IsDifferenceExpr c.form
+  pub rel : IsPlain c.rel
 
 abbrev pub AreDifferenceParts : List Comparison → Type 0
-AreDifferenceParts parts = AllByRecursion (λ (c : Comparison). IsDifferenceExpr c.form) parts
+AreDifferenceParts parts = AllByRecursion IsDifferencePart parts
 
 abbrev pub AreVariableExprs : List IndexExpr → Type 0
 AreVariableExprs es = AllByRecursion IsVariableExpr es
 
--- the subscripts of each read of a value
+-- a value whose numbers have no quotients, and whose reads have such subscripts
 unfoldable mutual
   pub ValueIsOfDifferences : Value → Type 0
-  ValueIsOfDifferences (Number e) = Unit {0}
+  ValueIsOfDifferences (Number e) = e.quots ≡ []
   ValueIsOfDifferences (Access array subs place) = AreVariableExprs subs
   ValueIsOfDifferences (Call' symbol n args place) = ValuesAreOfDifferences args
 

@@ -34,7 +34,7 @@ ReadsShifted b (Number f) = Unit {0}
 ReadsShifted b (Read array subs) = AreShifted b subs
 ReadsShifted b (Call symbol args) = Unit {0}
 
--- an assignment in at most 6 loops
+-- an assignment with at most 6 loops and quotients
 pub record StmtHasDifferences (b : ℕ) (stmt : StmtModel) : Type 0 where
   pub loops : width stmt ≤ 6
   pub pieces : AllByRecursion (AreDifferences b) stmt.pieces

@@ -54,8 +54,8 @@ pub fn contexts_of_differences_are_answered(m: &Model, budget: u64)
 {}
 
 /// A program whose loops go from a constant on in steps of 1, whose conditions and context compare two names, or a name and
-/// 0, up to a number, and whose subscripts and extents of array parameters are a constant or one name plus a constant, has a
-/// model of differences, with numbers of at most 2^33 where its own are at most 2^31.
+/// 0, up to a number, and whose subscripts and extents of array parameters are a constant or one name plus a constant, and which
+/// has no quotients and tests no divisor, has a model of differences, with numbers of at most 2^33 where its own are at most 2^31.
 pub fn programs_of_differences(program: &Program, context: &Cond)
     requires { IsOfDifferences program.now context.now }
     ensures { HasDifferences (2 ^ 33) (model_of program.now context.now) }

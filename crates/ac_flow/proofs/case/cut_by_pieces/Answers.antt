@@ -1,13 +1,15 @@
-use Rattle.std.proofs.Common.{sym, subst}
-use Rattle.ac_flow.specs.Cuts.{NoneMeet}
-use Rattle.ac_flow.specs.CutStops.{AreCutCases, AreKillRows}
+use Rattle.std.proofs.Common.{List, sym, subst}
+use Rattle.std.specs.List.{Contains}
+use Rattle.ac_forms.specs.declared.row.Row.{Row}
+use Rattle.ac_flow.specs.Cuts.{AllHavePoints, NoneMeet}
+use Rattle.ac_flow.specs.CutStops.{AreCutCases}
 use Rattle.ac_flow.proofs.Remains.{by_step_as, kills-at}
 use Rattle.ac_flow.proofs.case.cut_by_pieces.Goals as goal
 
 pub returns-in-Err-clause-stops : goal.returns-in-Err-clause-stops
-returns-in-Err-clause-stops c = λ base kills a b.
-    c.in-Err.ensures.stops base kills (subst (AreCutCases base kills) (sym c.as_slice.ensures) (c.loop-piece.invariant.asked base kills a b))
-    (subst (AreKillRows kills) (sym c.as_slice-in-loop-piece.ensures) (kills-at kills c.args.found.now c.loop-piece.piece-index c.piece-item.result b c.loop-piece-test.true c.piece-item.is))
+returns-in-Err-clause-stops c = λ case kills a h b.
+    c.in-Err.ensures.stops case kills (subst (AreCutCases case kills) (sym c.as_slice.ensures) (c.loop-piece.invariant.asked case kills a b)) (subst AllHavePoints (sym c.as_slice.ensures) (c.loop-piece.invariant.by.each h))
+    (subst (λ (rows : List Row). Contains kills rows) (sym c.as_slice-in-loop-piece.ensures) (kills-at kills c.args.found.now c.loop-piece.piece-index c.piece-item.result b c.loop-piece-test.true c.piece-item.is))
 
 pub loop-piece-preserved : goal.loop-piece-preserved
 loop-piece-preserved c =
@@ -21,9 +23,9 @@ pub returns-clause-apart : goal.returns-clause-apart
 returns-clause-apart c = c.loop-piece.invariant.apart
 
 pub returns-in-Err-clause-filled : goal.returns-in-Err-clause-filled
-returns-in-Err-clause-filled c = λ base kills a b.
-    c.in-Err.ensures.filled base kills (subst (AreCutCases base kills) (sym c.as_slice.ensures) (c.loop-piece.invariant.asked base kills a b))
-    (subst (AreKillRows kills) (sym c.as_slice-in-loop-piece.ensures) (kills-at kills c.args.found.now c.loop-piece.piece-index c.piece-item.result b c.loop-piece-test.true c.piece-item.is))
+returns-in-Err-clause-filled c = λ case kills a b.
+    c.in-Err.ensures.filled case kills (subst (AreCutCases case kills) (sym c.as_slice.ensures) (c.loop-piece.invariant.asked case kills a b))
+    (subst (λ (rows : List Row). Contains kills rows) (sym c.as_slice-in-loop-piece.ensures) (kills-at kills c.args.found.now c.loop-piece.piece-index c.piece-item.result b c.loop-piece-test.true c.piece-item.is))
 
 pub returns-clause-within : goal.returns-clause-within
 returns-clause-within c = c.loop-piece.invariant.within

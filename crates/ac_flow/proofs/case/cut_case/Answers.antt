@@ -5,7 +5,7 @@ use Rattle.ac_flow.proofs.case.cut_case.Goals as goal
 
 pub returns-in-Err-cut_by_pieces-clause-stops : goal.returns-in-Err-cut_by_pieces-clause-stops
 returns-in-Err-cut_by_pieces-clause-stops c = λ rows a.
-    c.in-Err-cut_by_pieces.ensures.stops c.args.case.now.rows rows (c.loop-found.invariant.asked rows a)
+    c.in-Err-cut_by_pieces.ensures.stops c.args.case.now rows (c.loop-found.invariant.asked rows a) c.loop-found.invariant.each
     (subst (AreKillsOf rows) (sym c.as_slice.ensures) (kills-of-at rows c.args.kills.now c.loop-found.found-index c.found-item.result a c.loop-found-test.true c.found-item.is))
 
 pub loop-found-preserved : goal.loop-found-preserved
@@ -16,12 +16,9 @@ loop-found-preserved c =
 pub returns-clause-cut : goal.returns-clause-cut
 returns-clause-cut c = cut_end c.args.case.now c.args.kills.now c.args.room c.loop-found.pieces c.loop-found.found-index c.loop-found.invariant c.loop-found-test.false
 
-pub returns-clause-asked : goal.returns-clause-asked
-returns-clause-asked c = c.loop-found.invariant.asked
-
 pub returns-in-Err-cut_by_pieces-clause-filled : goal.returns-in-Err-cut_by_pieces-clause-filled
 returns-in-Err-cut_by_pieces-clause-filled c = λ rows a.
-    c.in-Err-cut_by_pieces.ensures.filled c.args.case.now.rows rows (c.loop-found.invariant.asked rows a)
+    c.in-Err-cut_by_pieces.ensures.filled c.args.case.now rows (c.loop-found.invariant.asked rows a)
     (subst (AreKillsOf rows) (sym c.as_slice.ensures) (kills-of-at rows c.args.kills.now c.loop-found.found-index c.found-item.result a c.loop-found-test.true c.found-item.is))
 
 pub returns-in-Err-clause-stops : goal.returns-in-Err-clause-stops

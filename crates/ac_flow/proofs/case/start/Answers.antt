@@ -4,15 +4,14 @@ use Rattle.ac_flow.proofs.Asked.{if_err, full_map, on_case}
 use Rattle.ac_flow.proofs.CutLoops.{none-fits}
 use Rattle.ac_flow.proofs.Points.{on_ok}
 use Rattle.ac_flow.proofs.Remains.{start_with, alone-full, alone-cases}
-use Rattle.ac_flow.proofs.Stops.{itself-case, stops_start}
 use Rattle.ac_flow.proofs.case.start.Goals as goal
 
 pub returns-in-Err-clause-stops : goal.returns-in-Err-clause-stops
-returns-in-Err-clause-stops c = λ kills. stops_start c.args.budget c.args.case.now kills c.in-Err.stop c.in-Err.ensures.stops
+returns-in-Err-clause-stops c = λ kills. on_case c.args.budget c.args.case.now kills c.in-Err.stop c.in-Err.ensures.stops
 
 pub returns-in_ok-copy-in-Ok-true-clause-stops : goal.returns-in_ok-copy-in-Ok-true-clause-stops
 returns-in_ok-copy-in-Ok-true-clause-stops c = λ kills.
-    if_err c.push_kept.result _ _ (λ e s. on_case c.args.budget c.args.case.now.rows kills c.args.case.now e (itself-case kills c.args.case.now) s) (c.push_kept.ensures.stops c.args.budget c.args.case.now)
+    if_err c.push_kept.result _ _ (λ e s. on_case c.args.budget c.args.case.now kills e s) (c.push_kept.ensures.stops c.args.budget c.args.case.now)
 
 pub returns-in_ok-copy-in-Ok-true-clause-start : goal.returns-in_ok-copy-in-Ok-true-clause-start
 returns-in_ok-copy-in-Ok-true-clause-start c =

@@ -15,8 +15,8 @@ returns-clause-left c =
     on_ok c.cut_each.result _ _ (λ k. is_left c.args.columns c.args.pieces.now c.args.kill.now c.cut_each.new.kept c.requires.made c.requires.kill (cuts-of c.args.pieces.now c.args.kill.now c.args.kept.now c.cut_each.new.kept c.requires.empty k)) c.cut_each.ensures.cut
 
 pub returns-clause-asked : goal.returns-clause-asked
-returns-clause-asked c = λ base kills a f.
-    on_ok c.cut_each.result _ _ (λ k. cuts-cases base kills c.args.pieces.now c.args.kill.now c.cut_each.new.kept a f (cuts-of c.args.pieces.now c.args.kill.now c.args.kept.now c.cut_each.new.kept c.requires.empty k)) c.cut_each.ensures.cut
+returns-clause-asked c = λ case kills a f.
+    on_ok c.cut_each.result _ _ (λ k. cuts-cases case kills c.args.pieces.now c.args.kill.now c.cut_each.new.kept a f (cuts-of c.args.pieces.now c.args.kill.now c.args.kept.now c.cut_each.new.kept c.requires.empty k)) c.cut_each.ensures.cut
 
 pub returns-clause-have : goal.returns-clause-have
 returns-clause-have c = λ a. c.cut_each.ensures.have a (subst AllHavePoints (sym c.requires.empty) tt)
@@ -38,5 +38,5 @@ pub returns-clause-within : goal.returns-clause-within
 returns-clause-within c = c.cut_each.ensures.within (none-fits c.args.room c.args.kept.now c.requires.empty)
 
 pub returns-clause-filled : goal.returns-clause-filled
-returns-clause-filled c = λ base kills a f.
-    if_err c.cut_each.result _ _ (λ e. full_map e _ _ (λ k. partly-cases base kills c.args.pieces.now c.args.kill.now c.args.kept.now c.cut_each.new.kept c.requires.empty a f k.1)) c.cut_each.ensures.full
+returns-clause-filled c = λ case kills a f.
+    if_err c.cut_each.result _ _ (λ e. full_map e _ _ (λ k. partly-cases case kills c.args.pieces.now c.args.kill.now c.args.kept.now c.cut_each.new.kept c.requires.empty a f k.1)) c.cut_each.ensures.full

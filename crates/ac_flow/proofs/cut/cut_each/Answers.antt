@@ -1,9 +1,11 @@
-use Rattle.ac_flow.proofs.Asked.{full_map, case-at}
+use Rattle.ac_flow.proofs.Asked.{full_map, case-at, one-stops}
 use Rattle.ac_flow.proofs.CutLoops.{point-at, all_step, all_full}
 use Rattle.ac_flow.proofs.cut.cut_each.Goals as goal
 
 pub returns-in-Err-clause-stops : goal.returns-in-Err-clause-stops
-returns-in-Err-clause-stops c = λ base kills k f. c.in-Err.ensures.stops base kills (case-at base kills c.args.pieces.now c.loop-conj.conj-index c.conj-item.result k c.loop-conj-test.true c.conj-item.is) f
+returns-in-Err-clause-stops c = λ case kills k h f.
+    one-stops c.args.budget case kills c.conj-item.result c.args.kill.now c.in-Err.stop (case-at case kills c.args.pieces.now c.loop-conj.conj-index c.conj-item.result k c.loop-conj-test.true c.conj-item.is)
+    (point-at c.args.pieces.now c.loop-conj.conj-index c.conj-item.result h c.loop-conj-test.true c.conj-item.is) f c.in-Err.ensures.stops
 
 pub returns-in-Err-clause-have : goal.returns-in-Err-clause-have
 returns-in-Err-clause-have c = λ a b. c.cut.ensures.have (point-at c.args.pieces.now c.loop-conj.conj-index c.conj-item.result a c.loop-conj-test.true c.conj-item.is) (c.loop-conj.invariant.have a b)

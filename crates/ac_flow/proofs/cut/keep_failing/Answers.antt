@@ -1,6 +1,5 @@
-use Rattle.std.proofs.Common.{◌∙◌, List, ap, sym, subst}
-use Rattle.ac_flow.specs.CutStops.{IsCutCase}
-use Rattle.ac_flow.proofs.Asked.{full_map, kept_have, on_case, contains_at, part-case}
+use Rattle.std.proofs.Common.{◌∙◌, List, ap}
+use Rattle.ac_flow.proofs.Asked.{full_map, kept_have, contains_at, part_stops}
 use Rattle.ac_forms.specs.declared.conj.Conj.{Conj}
 use Rattle.ac_forms.specs.declared.row.Row.{Row}
 use Rattle.ac_flow.specs.Cuts.{with_all_new}
@@ -22,10 +21,10 @@ returns-in_err-part-clause-have c = kept_have _ _ _ c.loop-part.invariant.done
 
 pub returns-in-Err-clause-stops : goal.returns-in-Err-clause-stops
 unfolding rows_as
-returns-in-Err-clause-stops c = λ base kills k f.
+returns-in-Err-clause-stops c = λ new.
     let is = c.in_ok-part.ensures ∙ ap (rows_as c.args.here.now c.part-item.result) c.as_slice.ensures in
     let at = contains_at c.deref-part-items.result.now _ c.loop-part.part-index c.part-item.result c.loop-part-test.true c.part-item.is (c.deref-part-items.ensures.value ∙ c.in-Ok.ensures.exact.1) in
-    on_case c.args.budget base kills c.in_ok-part.part c.in-Err.stop (subst (IsCutCase base kills) (sym is) (part-case base kills c.args.here.now c.part-item.result c.args.row.now c.args.here.now.columns k f at)) c.in-Err.ensures.stops
+    part_stops c.args.budget c.args.here.now c.in_ok-part.part c.part-item.result c.args.row.now c.in-Err.stop at is new c.in-Err.ensures.stops
 
 pub returns-in-Err-clause-have : goal.returns-in-Err-clause-have
 returns-in-Err-clause-have c = λ a. c.keep.ensures.have (kept_have _ _ _ c.loop-part.invariant.done a)

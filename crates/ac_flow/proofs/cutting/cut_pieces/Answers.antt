@@ -32,4 +32,4 @@ returns-clause-within c = c.loop-d.invariant.within
 pub loop-d-preserved : goal.loop-d-preserved
 loop-d-preserved c =
     parts_next c.args.m.now c.args.case.now.own.now.columns c.args.case.now.own.now.rows c.args.case.now.kills.now c.args.room c.args.pieces.now c.loop-d.d c.saturating_sub-left.result c.index-pieces-d.result c.as_slice.result.now c.loop-d.out c.push_remainders.new.out c.cut_piece.new.kept c.loop-d.invariant c.loop-d-test.true
-    c.index-pieces-d.is c.as_slice.ensures c.in-Ok.ensures.cut c.in-Ok.ensures.asked (c.saturating_sub-left.ensures ∙ ap (λ n. c.args.room - n) c.len.ensures) c.in-Ok.ensures.within c.in-Ok-push_remainders.ensures
+    c.index-pieces-d.is c.as_slice.ensures c.in-Ok.ensures.cut (c.saturating_sub-left.ensures ∙ ap (λ n. c.args.room - n) c.len.ensures) c.in-Ok.ensures.within c.in-Ok-push_remainders.ensures
