@@ -18,7 +18,7 @@ use Rattle.ac_parse_exprs.specs.declared.scope.Meaning.{Meaning}
 use Rattle.ac_parse_exprs.specs.Meanings.{meaning}
 use Rattle.ac_parse_exprs.specs.Values.{Reading, number, other, reading, value_of, value, placed, access_reading, call_reading, negative_reading, group_reading, applied_values, applied, joined_reading, chained_reading, chain_reading}
 use Rattle.ac_parse_exprs.proofs.Absent.{each_map}
-use Rattle.ac_parse_exprs.proofs.Readings.{reading-number, reading-decimal, reading-access, reading-call, reading-negative, reading-group, reading-chain}
+use Rattle.ac_parse_exprs.proofs.Readings.{reading-number, reading-decimal, reading-access, reading-call, reading-quotient, reading-negative, reading-group, reading-chain}
 use Rattle.ac_parse_exprs.proofs.Trees.{every_expr}
 use Rattle.ac_parse.specs.Arities.{count, HasArities, EachHasArities}
 
@@ -147,6 +147,7 @@ module _ (names : List Entry) (scope : Scope) where
       (λ word. subst ReadCounts (sym (reading-decimal names scope word)) (call_counts _ [] word.place refl tt))
       (λ name subs h. subst ReadCounts (sym (reading-access names scope name subs)) (access_case names scope (meaning names scope name.name) name subs))
       (λ name args h. subst ReadCounts (sym (reading-call names scope name args)) (call_case scope (meaning names scope name.name) name (map (reading names scope) args) _ refl (each_map (reading names scope) ReadCounts args h)))
+      (λ up argument divisor place h. subst ReadCounts (sym (reading-quotient names scope up argument divisor place)) tt)
       (λ operand place h. subst ReadCounts (sym (reading-negative names scope operand place)) (negative_case place (reading names scope operand) h))
       (λ inner place h. subst ReadCounts (sym (reading-group names scope inner place)) (group_case place (reading names scope inner) h))
       (λ operands operators h. subst ReadCounts (sym (reading-chain names scope operands operators)) (chain_case scope (map (reading names scope) operands) operators (each_map (reading names scope) ReadCounts operands h)))

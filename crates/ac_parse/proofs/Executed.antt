@@ -1,5 +1,5 @@
 -- The calls of an assignment that is executed are those of the text.
-use Rattle.std.proofs.Common.{◌≡◌, ℕ, zero, suc, ◌+◌, ◌-◌, List, [], ◌∷◌, length, Bool, true, false, cond, Option, Some, refl, sym, ◌∙◌, subst, rules, arith}
+use Rattle.std.proofs.Common.{◌≡◌, ℕ, zero, suc, ◌+◌, ◌-◌, List, [], ◌∷◌, length, Bool, true, false, cond, Option, Some, sym, ◌∙◌, subst, rules}
 use Rattle.std.specs.Prelude.{nat_lt}
 use Rattle.ac_syntax.specs.AssignmentText.{Assigned, assigned, assigned_in, assigned_all, text_of}
 use Rattle.ac_syntax.specs.Index.{point}
@@ -14,7 +14,7 @@ use Rattle.ac_syntax.specs.declared.tree.Stmt.TheVariants.{For', If', Assign}
 use Rattle.ac_syntax.proofs.Texts.{entry_text}
 use Rattle.ac_base.proofs.Options.{some-is}
 use Rattle.ac_syntax.specs.ExecutedCalls.{HaveArities}
-use Rattle.ac_parse.specs.Arities.{count, HasArities, EachHasArities, AssignsArities, EachAssignsArities, AllHaveArities}
+use Rattle.ac_parse.specs.Arities.{HasArities, EachHasArities, AssignsArities, EachAssignsArities, AllHaveArities}
 use Rattle.ac_parse.proofs.Built.{count_row}
 
 -- ---- in the text

@@ -1,5 +1,6 @@
 // From the bytes of a text to a program.
 ghost use Rattle.std.specs.Prelude.{◌≡◌, ◌<◌, length, map, None, IfOk, IfErr, IsErrOf};
+ghost use Rattle.ac_syntax.specs.PlainPrograms.{PlainProgram};
 ghost use Rattle.ac_syntax.specs.ReadyPrograms.{ReadyProgram};
 ghost use Rattle.ac_syntax.specs.Small.{IsSmallProgram};
 ghost use Rattle.ac_syntax.specs.declared.tree.Program.{Program};
@@ -29,6 +30,7 @@ fn parse_tokens(alloc: Global, tokens: &[Token<'_>], end: u32) -> Result<Program
     ensures answer { IsTokensAnswer end (map lexeme_of tokens.now) result }
     ensures only { (file : File) → IsFile 128 (map lexeme_of tokens.now) file → file_broken file ≡ None → IsOnlyProgram (program_of file) result }
     ensures ready { IfOk result ReadyProgram }
+    ensures plain { IfOk result PlainProgram }
     ensures declared { IfOk result HasDeclaredNumbers }
     ensures parameters { IfOk result ListsItsParameters }
     ensures inputs { IfOk result HasInputs }
@@ -46,6 +48,7 @@ fn parse_short(alloc: Global, bytes: &[u8]) -> Result<Program, SourceFault>
     ensures only { (program : Program) → IsProgramOf bytes.now program → IsOnlyProgram program result }
     ensures fault { IfErr result (HasSourceFault bytes.now) }
     ensures ready { IfOk result ReadyProgram }
+    ensures plain { IfOk result PlainProgram }
     ensures declared { IfOk result HasDeclaredNumbers }
     ensures parameters { IfOk result ListsItsParameters }
     ensures inputs { IfOk result HasInputs }
@@ -68,6 +71,8 @@ pub fn parse(alloc: Global, bytes: &[u8]) -> Result<Program, SourceFault>
 
     // Each index expression has a coefficient for each parameter and each iterator, each loop ends, and each branch has a condition.
     ensures ready { IfOk result ReadyProgram }
+    // Statements have no quotient.
+    ensures plain { IfOk result PlainProgram }
     // Each number of an array or a parameter is one that the program has, and its parameter list has them in order.
     ensures declared { IfOk result HasDeclaredNumbers }
     ensures parameters { IfOk result ListsItsParameters }

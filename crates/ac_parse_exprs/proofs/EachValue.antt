@@ -20,7 +20,7 @@ use Rattle.ac_parse_exprs.specs.Values.{Reading, number, other, reading, value_p
 use Rattle.ac_parse_exprs.proofs.Absent.{each_further, each_map}
 use Rattle.ac_parse_exprs.proofs.Collecting.{Shaped, form_shaped, negative_shaped}
 use Rattle.ac_parse_exprs.proofs.Judges.{number_judges, name_shaped}
-use Rattle.ac_parse_exprs.proofs.Readings.{reading-number, reading-decimal, reading-access, reading-call, reading-negative, reading-group, reading-chain}
+use Rattle.ac_parse_exprs.proofs.Readings.{reading-number, reading-decimal, reading-access, reading-call, reading-quotient, reading-negative, reading-group, reading-chain}
 use Rattle.ac_parse_exprs.proofs.Trees.{every_expr}
 
 module _ (names : List Entry) (scope : Scope) (Has : Value → Type 0)
@@ -79,6 +79,7 @@ module _ (names : List Entry) (scope : Scope) (Has : Value → Type 0)
       (λ name subs h. subst ReadingHas (sym (reading-access names scope name subs)) (access_reading_has (meaning names scope name.name) name subs))
       (λ name args h. subst ReadingHas (sym (reading-call names scope name args))
       (call_reading_has (meaning names scope name.name) name (map (reading names scope) args) (each_map (reading names scope) ReadingHas args h)))
+      (λ up argument divisor place h. subst ReadingHas (sym (reading-quotient names scope up argument divisor place)) tt)
       (λ operand place h. subst ReadingHas (sym (reading-negative names scope operand place)) (negative_has place (reading names scope operand) h))
       (λ inner place h. subst ReadingHas (sym (reading-group names scope inner place)) (group_has place (reading names scope inner) h))
       (λ operands operators h. subst ReadingHas (sym (reading-chain names scope operands operators))

@@ -25,12 +25,12 @@ use Rattle.ac_parse_exprs.specs.declared.scope.Scope.{Scope}
 use Rattle.ac_parse_exprs.specs.FaultOrder.{earlier, broken, broken_where, rule_broken}
 use Rattle.ac_parse_exprs.specs.Meanings.{meaning, is_array, read_rule, call_rule, word_broken}
 use Rattle.ac_parse_exprs.specs.AffineForms.{constant_form, is_within, is_known, is_large}
-use Rattle.ac_parse_exprs.specs.IndexExpressions.{is_long, judged_number, judged_decimal, with_part, gathered, no_parts, name_form, judged_name, judged_other, judged_variable, judged_access, judged_negative, judged_group, form_of, is_not_affine, joined, chained, judged_chain, judged}
+use Rattle.ac_parse_exprs.specs.IndexExpressions.{is_long, judged_number, judged_decimal, with_part, gathered, no_parts, name_form, judged_name, judged_other, judged_variable, judged_access, judged_quotient, judged_negative, judged_group, form_of, is_not_affine, joined, chained, judged_chain, judged}
 use Rattle.ac_parse_exprs.specs.Comparisons.{whole_broken, form_or_zero, placed_form, index_expr, index, difference_form, difference, compared_form, rel_of, compared, comparison}
 use Rattle.ac_parse_exprs.proofs.Absent.{neither, not_where, each_map}
 use Rattle.ac_parse_exprs.proofs.Collecting.{Shaped, IsKnown, constant_shaped, parameter_shaped, iterator_shaped, limited_shaped, negative_shaped, form_shaped, known_join, known_limited, known_negative, known_true, number_small}
 use Rattle.ac_parse_exprs.proofs.Columns.{length-plus_times}
-use Rattle.ac_parse_exprs.proofs.Judging.{judged-number, judged-decimal, judged-access, judged-call, judged-negative, judged-group, judged-chain}
+use Rattle.ac_parse_exprs.proofs.Judging.{judged-number, judged-decimal, judged-access, judged-call, judged-quotient, judged-negative, judged-group, judged-chain}
 use Rattle.ac_parse_exprs.proofs.Trees.{every_expr}
 
 -- a form fits, and there is one where no rule is broken and nothing is large
@@ -117,6 +117,9 @@ access_judges scope m word subs parts k = access_case scope m word subs parts sc
 pub negative_judges : (ps xs : ℕ) (place : Place) (j : Judged) → Judges ps xs j → Judges ps xs (judged_negative place j)
 negative_judges ps xs place j h = (negative_shaped ps xs j.form h.0, (λ b l. known_negative ps xs j.form h.0 (h.1 b l)))
 
+pub quotient_judges : (ps xs : ℕ) (place : Place) (j : Judged) → Judges ps xs (judged_quotient place j)
+quotient_judges ps xs place j = (tt, (λ h k. let n = neither j.broken (broken NotAffine place) h in absurd cc))
+
 pub group_judges : (ps xs : ℕ) (place : Place) (j : Judged) → Judges ps xs j → Judges ps xs (judged_group place j)
 group_judges ps xs place j h = (h.0, h.1)
 
@@ -155,6 +158,7 @@ module _ (names : List Entry) (scope : Scope) where
       (access_judges scope (meaning names scope name.name) name (length subs) (gathered no_parts (map (judged names scope) subs)) (parts_known subs h)))
       (λ name args h. subst Good (sym (judged-call names scope name args))
       (other_judges scope.params (length scope.iterators) (call_rule (meaning names scope name.name)) name (gathered no_parts (map (judged names scope) args)) (parts_known args h)))
+      (λ up argument divisor place h. subst Good (sym (judged-quotient names scope up argument divisor place)) (quotient_judges scope.params (length scope.iterators) place (judged names scope argument)))
       (λ operand place h. subst Good (sym (judged-negative names scope operand place)) (negative_judges scope.params (length scope.iterators) place (judged names scope operand) h))
       (λ inner place h. subst Good (sym (judged-group names scope inner place)) (group_judges scope.params (length scope.iterators) place (judged names scope inner) h))
       (λ operands operators h. subst Good (sym (judged-chain names scope operands operators))

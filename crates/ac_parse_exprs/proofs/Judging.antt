@@ -1,17 +1,17 @@
 -- What the rules say of each kind of index expression.
-use Rattle.std.proofs.Common.{◌≡◌, ℕ, suc, ◌+◌, ◌-◌, ◌<◌, ◌≤◌, List, [], ◌∷◌, map, drop, get_or, length, refl, rules, ap, ◌∙◌, sym, arith, drop-cons, add-one}
+use Rattle.std.proofs.Common.{◌≡◌, Bool, ℕ, suc, ◌+◌, ◌-◌, ◌<◌, ◌≤◌, List, [], ◌∷◌, map, drop, get_or, length, refl, rules, ap, ◌∙◌, sym, arith, drop-cons, add-one}
 use Rattle.std.proofs.lemmas.List.{length-map, drop_all}
 use Rattle.ac_syntax.specs.declared.tree.Place.{Place}
 use Rattle.ac_parse_grammar.specs.declared.tree.Word.{Word}
 use Rattle.ac_parse_grammar.specs.declared.tree.Numeral.{Numeral}
 use Rattle.ac_parse_grammar.specs.declared.tree.Operator.{Operator}
 use Rattle.ac_parse_grammar.specs.declared.tree.Expr.{Expr, the_lemmas}
-use Rattle.ac_parse_grammar.specs.declared.tree.Expr.TheVariants.{Number, Decimal, Access, Call, Negative, Group, Chain}
+use Rattle.ac_parse_grammar.specs.declared.tree.Expr.TheVariants.{Number, Decimal, Access, Call, Quotient, Negative, Group, Chain}
 use Rattle.ac_parse_exprs.specs.declared.scope.Entry.{Entry}
 use Rattle.ac_parse_exprs.specs.declared.scope.Scope.{Scope}
 use Rattle.ac_parse_exprs.specs.declared.index.Judged.{Judged}
 use Rattle.ac_parse_exprs.specs.Meanings.{meaning, call_rule}
-use Rattle.ac_parse_exprs.specs.IndexExpressions.{judged, judged_number, judged_decimal, judged_access, judged_other, judged_negative, judged_group, judged_chain, gathered, no_parts, chained, joined}
+use Rattle.ac_parse_exprs.specs.IndexExpressions.{judged, judged_number, judged_decimal, judged_access, judged_other, judged_quotient, judged_negative, judged_group, judged_chain, gathered, no_parts, chained, joined}
 
 pub judged-number : (names : List Entry) (scope : Scope) (n : Numeral) → judged names scope (Number n) ≡ judged_number scope n
 unfolding judged
@@ -31,6 +31,10 @@ pub judged-call : (names : List Entry) (scope : Scope) (name : Word) (args : Lis
 unfolding judged
 judged-call names scope name args = search (rules, the_lemmas)
 
+pub judged-quotient : (names : List Entry) (scope : Scope) (up : Bool) (argument : Expr) (divisor : Numeral) (place : Place) → judged names scope (Quotient up argument divisor place) ≡ judged_quotient place (judged names scope argument)
+unfolding judged
+judged-quotient names scope up argument divisor place = search (rules, the_lemmas)
+
 pub judged-negative : (names : List Entry) (scope : Scope) (operand : Expr) (place : Place) → judged names scope (Negative operand place) ≡ judged_negative place (judged names scope operand)
 unfolding judged
 judged-negative names scope operand place = search (rules, the_lemmas)
@@ -44,7 +48,7 @@ pub judged-chain : (names : List Entry) (scope : Scope) (operands : List Expr) (
 unfolding judged
 judged-chain names scope operands operators = search (rules, the_lemmas)
 
-pub ruleset judging = (judged-number, judged-decimal, judged-access, judged-call, judged-negative, judged-group, judged-chain)
+pub ruleset judging = (judged-number, judged-decimal, judged-access, judged-call, judged-quotient, judged-negative, judged-group, judged-chain)
 
 chained-end : (a : Judged) (js : List Judged) → chained a js [] ≡ a
 chained-end a [] = refl

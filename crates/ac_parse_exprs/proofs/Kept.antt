@@ -1,5 +1,5 @@
 -- What a check and what building keep of each kind of expression in a value.
-use Rattle.std.proofs.Common.{◌≡◌, ℕ, suc, ◌+◌, ◌-◌, ◌<◌, ◌≤◌, List, [], ◌∷◌, map, drop, get_or, length, refl, rules, ap, ◌∙◌, sym, arith, drop-cons, add-one, None, sum_by, codes}
+use Rattle.std.proofs.Common.{◌≡◌, Bool, ℕ, suc, ◌+◌, ◌-◌, ◌<◌, ◌≤◌, List, [], ◌∷◌, map, drop, get_or, length, refl, rules, ap, ◌∙◌, sym, arith, drop-cons, add-one, None, sum_by, codes}
 use Rattle.std.proofs.lemmas.List.{length-map, drop_all}
 use Rattle.std.proofs.lemmas.List.Sums.{sum_by-cons}
 use Rattle.ac_syntax.specs.ValueNodes.{size}
@@ -11,7 +11,7 @@ use Rattle.ac_parse_grammar.specs.declared.tree.Word.{Word}
 use Rattle.ac_parse_grammar.specs.declared.tree.Numeral.{Numeral}
 use Rattle.ac_parse_grammar.specs.declared.tree.Operator.{Operator}
 use Rattle.ac_parse_grammar.specs.declared.tree.Expr.{Expr}
-use Rattle.ac_parse_grammar.specs.declared.tree.Expr.TheVariants.{Number, Decimal, Access, Call, Negative, Group, Chain}
+use Rattle.ac_parse_grammar.specs.declared.tree.Expr.TheVariants.{Number, Decimal, Access, Call, Quotient, Negative, Group, Chain}
 use Rattle.ac_parse_exprs.specs.declared.scope.Entry.{Entry}
 use Rattle.ac_parse_exprs.specs.declared.scope.Scope.{Scope}
 use Rattle.ac_parse_exprs.specs.declared.scope.Meaning.{Meaning}
@@ -21,12 +21,12 @@ use Rattle.ac_parse_exprs.specs.declared.measure.Total.{Total}
 use Rattle.ac_parse_exprs.specs.declared.value.Built.{Built}
 use Rattle.ac_parse_exprs.specs.declared.value.Built.TheVariants as built
 use Rattle.ac_parse_exprs.specs.Meanings.{meaning}
-use Rattle.ac_parse_exprs.specs.IndexExpressions.{judged_number}
+use Rattle.ac_parse_exprs.specs.IndexExpressions.{judged_number, judged_quotient, judged}
 use Rattle.ac_parse_exprs.specs.FaultOrder.{earlier}
 use Rattle.ac_parse_exprs.specs.Comparisons.{first_from, index_expr}
 use Rattle.ac_parse_exprs.specs.Values.{Reading, number, other, reading, reading_broken, value_broken, value_of, value, placed, symbol, applied_values, access_reading, call_reading, negative_reading, group_reading, joined_reading, chained_reading, chain_reading}
 use Rattle.ac_parse_exprs.specs.Measures.{capped, measure_of, measure, measured_broken, measured_nodes, with_measure, total_from, total_of, measured_call, measured_negative, measured_group, joined_measured, chained_measured, chain_measured, built_of, build, built_value, built_call, built_negative, built_group, joined_built, chained_built, chain_built}
-use Rattle.ac_parse_exprs.proofs.Readings.{reading-number, reading-decimal, reading-access, reading-call, reading-negative, reading-group, reading-chain}
+use Rattle.ac_parse_exprs.proofs.Readings.{reading-number, reading-decimal, reading-access, reading-call, reading-quotient, reading-negative, reading-group, reading-chain}
 
 -- parts
 size_placed : (place : Place) (x : Value) → size (placed place x) ≡ size x
@@ -123,6 +123,9 @@ module _ (names : List Entry) (scope : Scope) where
       ap measure_of (reading-call names scope name args) ∙ call_kept scope (meaning names scope name.name) name (map (reading names scope) args)
       ∙ ap (λ ms. measured_call (meaning names scope name.name) name (total_of ms)) (map_twice measure_of (reading names scope) args)
 
+  pub measure-quotient : (up : Bool) (argument : Expr) (divisor : Numeral) (place : Place) → measure names scope (Quotient up argument divisor place) ≡ measured.Number (judged_quotient place (judged names scope argument))
+  measure-quotient up argument divisor place = ap measure_of (reading-quotient names scope up argument divisor place)
+
   pub measure-negative : (operand : Expr) (place : Place) → measure names scope (Negative operand place) ≡ measured_negative place (measure names scope operand)
   measure-negative operand place = ap measure_of (reading-negative names scope operand place) ∙ negative_kept place (reading names scope operand)
 
@@ -135,7 +138,7 @@ module _ (names : List Entry) (scope : Scope) where
       ap measure_of (reading-chain names scope operands operators) ∙ chain_kept scope (map (reading names scope) operands) operators
       ∙ ap (λ ms. chain_measured scope ms operators) (map_twice measure_of (reading names scope) operands)
 
-pub ruleset measuring = (measure-number, measure-decimal, measure-access, measure-call, measure-negative, measure-group, measure-chain)
+pub ruleset measuring = (measure-number, measure-decimal, measure-access, measure-call, measure-quotient, measure-negative, measure-group, measure-chain)
 
 joined_built_is : (scope : Scope) (op : Operator) (r s : Reading) → built_of (joined_reading scope op r s) ≡ joined_built scope op (built_of r) (built_of s)
 joined_built_is scope op (number i) (number j) = refl
@@ -175,6 +178,9 @@ module _ (names : List Entry) (scope : Scope) where
       ap built_of (reading-call names scope name args)
       ∙ rw (map_twice (value_of scope) (reading names scope) args, length-map args (reading names scope), length-map args (value names scope)) refl
 
+  pub build-quotient : (up : Bool) (argument : Expr) (divisor : Numeral) (place : Place) → build names scope (Quotient up argument divisor place) ≡ built.Number (judged_quotient place (judged names scope argument))
+  build-quotient up argument divisor place = ap built_of (reading-quotient names scope up argument divisor place)
+
   pub build-negative : (operand : Expr) (place : Place) → build names scope (Negative operand place) ≡ built_negative place (build names scope operand)
   build-negative operand place = ap built_of (reading-negative names scope operand place) ∙ negative_built place (reading names scope operand)
 
@@ -189,7 +195,7 @@ module _ (names : List Entry) (scope : Scope) where
   pub value-built : (e : Expr) → built_value scope (build names scope e) ≡ value names scope e
   value-built e = value_is scope (reading names scope e)
 
-pub ruleset building = (build-number, build-decimal, build-access, build-call, build-negative, build-group, build-chain, value-built)
+pub ruleset building = (build-number, build-decimal, build-access, build-call, build-quotient, build-negative, build-group, build-chain, value-built)
 
 chained_measured-end : (a : Measured) (js : List Measured) → chained_measured a js [] ≡ a
 chained_measured-end a [] = refl

@@ -1,18 +1,18 @@
 -- What is read of each kind of expression in a value.
-use Rattle.std.proofs.Common.{◌≡◌, List, [], ◌∷◌, map, refl, ap, ◌∙◌, sym, None}
+use Rattle.std.proofs.Common.{◌≡◌, Bool, List, [], ◌∷◌, map, refl, ap, ◌∙◌, sym, None}
 use Rattle.ac_syntax.specs.declared.tree.Place.{Place}
 use Rattle.ac_syntax.specs.declared.tree.Value.TheVariants as v
 use Rattle.ac_parse_grammar.specs.declared.tree.Word.{Word}
 use Rattle.ac_parse_grammar.specs.declared.tree.Numeral.{Numeral}
 use Rattle.ac_parse_grammar.specs.declared.tree.Operator.{Operator}
 use Rattle.ac_parse_grammar.specs.declared.tree.Expr.{Expr}
-use Rattle.ac_parse_grammar.specs.declared.tree.Expr.TheVariants.{Number, Decimal, Access, Call, Negative, Group, Chain, rolls-Number, rolls-Decimal, rolls-Access, rolls-Call, rolls-Negative, rolls-Group, rolls-Chain}
+use Rattle.ac_parse_grammar.specs.declared.tree.Expr.TheVariants.{Number, Decimal, Access, Call, Quotient, Negative, Group, Chain, rolls-Number, rolls-Decimal, rolls-Access, rolls-Call, rolls-Quotient, rolls-Negative, rolls-Group, rolls-Chain}
 use Rattle.ac_parse_grammar.specs.declared.tree.Expr.TheOpen as open_of
 use Rattle.ac_parse_grammar.specs.declared.tree.Expr.TheFolds.{para-roll-Expr}
 use Rattle.ac_parse_exprs.specs.declared.scope.Entry.{Entry}
 use Rattle.ac_parse_exprs.specs.declared.scope.Scope.{Scope}
 use Rattle.ac_parse_exprs.specs.Meanings.{meaning}
-use Rattle.ac_parse_exprs.specs.IndexExpressions.{judged_number}
+use Rattle.ac_parse_exprs.specs.IndexExpressions.{judged_number, judged_quotient, judged}
 use Rattle.ac_parse_exprs.specs.Values.{Reading, number, other, reading, symbol, access_reading, call_reading, negative_reading, group_reading, chain_reading, reading_step}
 
 firsts : (f : Expr → Reading) (es : List Expr) → map (λ (s : Expr × Reading). s.0) (map (λ (y : Expr). (y, f y)) es) ≡ es
@@ -41,6 +41,11 @@ pub reading-call : (names : List Entry) (scope : Scope) (name : Word) (args : Li
 unfolding reading
 reading-call names scope name args = ap (reading names scope) (sym (rolls-Call name args)) ∙ para-roll-Expr Reading (reading_step names scope) (open_of.Call name args) ∙ rw (seconds (reading names scope) args) refl
 
+pub reading-quotient : (names : List Entry) (scope : Scope) (up : Bool) (argument : Expr) (divisor : Numeral) (place : Place)
+    → reading names scope (Quotient up argument divisor place) ≡ number (judged_quotient place (judged names scope argument))
+unfolding reading
+reading-quotient names scope up argument divisor place = ap (reading names scope) (sym (rolls-Quotient up argument divisor place)) ∙ para-roll-Expr Reading (reading_step names scope) (open_of.Quotient up argument divisor place)
+
 pub reading-negative : (names : List Entry) (scope : Scope) (operand : Expr) (place : Place) → reading names scope (Negative operand place) ≡ negative_reading place (reading names scope operand)
 unfolding reading
 reading-negative names scope operand place = ap (reading names scope) (sym (rolls-Negative operand place)) ∙ para-roll-Expr Reading (reading_step names scope) (open_of.Negative operand place)
@@ -54,4 +59,4 @@ pub reading-chain : (names : List Entry) (scope : Scope) (operands : List Expr) 
 unfolding reading
 reading-chain names scope operands operators = ap (reading names scope) (sym (rolls-Chain operands operators)) ∙ para-roll-Expr Reading (reading_step names scope) (open_of.Chain operands operators) ∙ rw (seconds (reading names scope) operands) refl
 
-pub ruleset readings = (reading-number, reading-decimal, reading-access, reading-call, reading-negative, reading-group, reading-chain)
+pub ruleset readings = (reading-number, reading-decimal, reading-access, reading-call, reading-quotient, reading-negative, reading-group, reading-chain)

@@ -8,7 +8,7 @@ use Rattle.ac_parse_grammar.specs.declared.tree.Operator.{Operator}
 use Rattle.ac_parse_grammar.specs.declared.tree.Part.{Part}
 use Rattle.ac_parse_grammar.specs.declared.tree.Step.{Step}
 use Rattle.ac_parse_grammar.specs.declared.tree.Expr.{Expr, roll-Expr, map-Expr, ind-Expr}
-use Rattle.ac_parse_grammar.specs.declared.tree.Expr.TheVariants.{Number, Decimal, Access, Call, Negative, Group, Chain, rolls-Number, rolls-Decimal, rolls-Access, rolls-Call, rolls-Negative, rolls-Group, rolls-Chain}
+use Rattle.ac_parse_grammar.specs.declared.tree.Expr.TheVariants.{Number, Decimal, Access, Call, Quotient, Negative, Group, Chain, rolls-Number, rolls-Decimal, rolls-Access, rolls-Call, rolls-Quotient, rolls-Negative, rolls-Group, rolls-Chain}
 use Rattle.ac_parse_grammar.specs.declared.tree.Expr.TheOpen.{Expr-F}
 use Rattle.ac_parse_grammar.specs.declared.tree.Statement.{Statement, roll-Statement, map-Statement, ind-Statement}
 use Rattle.ac_parse_grammar.specs.declared.tree.Statement.TheVariants.{Loop, Branch, Assign, rolls-Loop, rolls-Branch, rolls-Assign}
@@ -24,6 +24,7 @@ module _ (P : Expr → Type 0)
     (decimal : (word : Word) → P (Decimal word))
     (access : (name : Word) (subs : List Expr) → AllByRecursion P subs → P (Access name subs))
     (call : (name : Word) (args : List Expr) → AllByRecursion P args → P (Call name args))
+    (quotient : (up : Bool) (argument : Expr) (divisor : Numeral) (place : Place) → P argument → P (Quotient up argument divisor place))
     (negative : (operand : Expr) (place : Place) → P operand → P (Negative operand place))
     (group : (inner : Expr) (place : Place) → P inner → P (Group inner place))
     (chain : (operands : List Expr) (operators : List Operator) → AllByRecursion P operands → P (Chain operands operators)) where
@@ -32,6 +33,7 @@ module _ (P : Expr → Type 0)
   expr_case (Expr-F.Decimal word) = subst P (sym (rolls-Decimal word)) (decimal word)
   expr_case (Expr-F.Access name subs) = subst P (sym (rolls-Access name (map (λ (e : (e : Expr) × P e). e.0) subs))) (access name (map (λ (e : (e : Expr) × P e). e.0) subs) (beside_each P subs))
   expr_case (Expr-F.Call name args) = subst P (sym (rolls-Call name (map (λ (e : (e : Expr) × P e). e.0) args))) (call name (map (λ (e : (e : Expr) × P e). e.0) args) (beside_each P args))
+  expr_case (Expr-F.Quotient up argument divisor place) = subst P (sym (rolls-Quotient up argument.0 divisor place)) (quotient up argument.0 divisor place argument.1)
   expr_case (Expr-F.Negative operand place) = subst P (sym (rolls-Negative operand.0 place)) (negative operand.0 place operand.1)
   expr_case (Expr-F.Group inner place) = subst P (sym (rolls-Group inner.0 place)) (group inner.0 place inner.1)
   expr_case (Expr-F.Chain operands operators) = subst P (sym (rolls-Chain (map (λ (e : (e : Expr) × P e). e.0) operands) operators)) (chain (map (λ (e : (e : Expr) × P e). e.0) operands) operators (beside_each P operands))

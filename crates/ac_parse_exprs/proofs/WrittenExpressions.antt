@@ -10,7 +10,7 @@ use Rattle.ac_parse_grammar.specs.declared.tree.Word.{Word}
 use Rattle.ac_parse_grammar.specs.declared.tree.Numeral.{Numeral}
 use Rattle.ac_parse_grammar.specs.declared.tree.Operator.{Operator}
 use Rattle.ac_parse_grammar.specs.declared.tree.Expr.{Expr, the_lemmas}
-use Rattle.ac_parse_grammar.specs.declared.tree.Expr.TheVariants.{Number, Decimal, Access, Call, Negative, Group, Chain}
+use Rattle.ac_parse_grammar.specs.declared.tree.Expr.TheVariants.{Number, Decimal, Access, Call, Quotient, Negative, Group, Chain}
 use Rattle.ac_parse_exprs.specs.declared.form.Affine.{Affine}
 use Rattle.ac_parse_exprs.specs.declared.form.Collected.{Collected}
 use Rattle.ac_parse_exprs.specs.declared.form.Collected.TheVariants.{Known, Large, Unknown}
@@ -29,7 +29,7 @@ use Rattle.ac_parse_exprs.specs.FormValues.{AreNumbered, IsPointOf, form_value, 
 use Rattle.ac_parse_exprs.proofs.Collecting.{Shaped, IsKnown, form_shaped}
 use Rattle.ac_parse_exprs.proofs.FormValues.{Agrees, value-constant, value-parameter, value-iterator, negative_agrees, form_agrees, stands_at}
 use Rattle.ac_parse_exprs.proofs.Judges.{judges, whole_known}
-use Rattle.ac_parse_exprs.proofs.Judging.{judged-number, judged-decimal, judged-access, judged-call, judged-negative, judged-group, judged-chain}
+use Rattle.ac_parse_exprs.proofs.Judging.{judged-number, judged-decimal, judged-access, judged-call, judged-quotient, judged-negative, judged-group, judged-chain}
 use Rattle.ac_parse_exprs.proofs.NumberedMeanings.{IsIn, meaning_in}
 use Rattle.ac_parse_exprs.proofs.Trees.{every_expr}
 
@@ -49,6 +49,10 @@ module _ (integer : List ℕ → Option ℤ) where
   pub value-call : (name : Word) (args : List Expr) → expression_value integer (Call name args) ≡ None
   unfolding expression_value
   value-call name args = search (rules, the_lemmas)
+
+  pub value-quotient : (up : Bool) (argument : Expr) (divisor : Numeral) (place : Place) → expression_value integer (Quotient up argument divisor place) ≡ None
+  unfolding expression_value
+  value-quotient up argument divisor place = search (rules, the_lemmas)
 
   pub value-negative : (operand : Expr) (place : Place) → expression_value integer (Negative operand place) ≡ option_map neg_ℤ (expression_value integer operand)
   unfolding expression_value
@@ -130,6 +134,7 @@ module _ (names : List Entry) (scope : Scope) (p : Point) (a : AreNumbered scope
       (λ name subs h. agree_by (Access name subs) _ _ (judged-access names scope name subs) (value-access (integer_of names scope p) name subs)
       (access_agrees p scope (meaning names scope name.name) name (length subs) (gathered no_parts (map (judged names scope) subs)) (name_agrees p scope o (meaning names scope name.name) (meaning_in scope names name.name a))))
       (λ name args h. agree_by (Call name args) _ _ (judged-call names scope name args) (value-call (integer_of names scope p) name args) tt)
+      (λ up argument divisor place h. agree_by (Quotient up argument divisor place) _ _ (judged-quotient names scope up argument divisor place) (value-quotient (integer_of names scope p) up argument divisor place) tt)
       (λ operand place h. agree_by (Negative operand place) _ _ (judged-negative names scope operand place) (value-negative (integer_of names scope p) operand place) (negative_agrees p (judged names scope operand).form (value operand) h))
       (λ inner place h. agree_by (Group inner place) _ _ (judged-group names scope inner place) (value-group (integer_of names scope p) inner place) h)
       (λ operands operators h. agree_by (Chain operands operators) _ _ (judged-chain names scope operands operators) (value-chain (integer_of names scope p) operands operators) (chain_agrees operands operators h))

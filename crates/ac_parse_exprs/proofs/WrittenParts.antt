@@ -1,5 +1,5 @@
 -- What each kind of expression in a right side is as it is written.
-use Rattle.std.proofs.Common.{◌≡◌, List, [], ◌∷◌, map, refl, ap, ◌∙◌, sym, pos, Some}
+use Rattle.std.proofs.Common.{◌≡◌, Bool, List, [], ◌∷◌, map, refl, ap, ◌∙◌, sym, pos, Some, None}
 use Rattle.ac_syntax.specs.Algebra.{Cell}
 use Rattle.ac_syntax.specs.Index.{Point}
 use Rattle.ac_syntax.specs.Term.{Term}
@@ -8,7 +8,7 @@ use Rattle.ac_parse_grammar.specs.declared.tree.Word.{Word}
 use Rattle.ac_parse_grammar.specs.declared.tree.Numeral.{Numeral}
 use Rattle.ac_parse_grammar.specs.declared.tree.Operator.{Operator}
 use Rattle.ac_parse_grammar.specs.declared.tree.Expr.{Expr}
-use Rattle.ac_parse_grammar.specs.declared.tree.Expr.TheVariants.{Number, Decimal, Access, Call, Negative, Group, Chain, rolls-Number, rolls-Decimal, rolls-Access, rolls-Call, rolls-Negative, rolls-Group, rolls-Chain}
+use Rattle.ac_parse_grammar.specs.declared.tree.Expr.TheVariants.{Number, Decimal, Access, Call, Quotient, Negative, Group, Chain, rolls-Number, rolls-Decimal, rolls-Access, rolls-Call, rolls-Quotient, rolls-Negative, rolls-Group, rolls-Chain}
 use Rattle.ac_parse_grammar.specs.declared.tree.Expr.TheOpen as open_of
 use Rattle.ac_parse_grammar.specs.declared.tree.Expr.TheFolds.{para-roll-Expr}
 use Rattle.ac_parse_exprs.specs.declared.scope.Entry.{Entry}
@@ -47,6 +47,11 @@ module _ (names : List Entry) (scope : Scope) (p : Point) (state : Cell → Term
   written-call name args =
       ap (written names scope p state) (sym (rolls-Call name args)) ∙ para-roll-Expr Written (written_step names scope p state) (open_of.Call name args)
       ∙ rw (seconds (written names scope p state) args) refl
+
+  pub written-quotient : (up : Bool) (argument : Expr) (divisor : Numeral) (place : Place) → written names scope p state (Quotient up argument divisor place) ≡ index None
+  unfolding written
+  written-quotient up argument divisor place =
+      ap (written names scope p state) (sym (rolls-Quotient up argument divisor place)) ∙ para-roll-Expr Written (written_step names scope p state) (open_of.Quotient up argument divisor place)
 
   pub written-negative : (operand : Expr) (place : Place) → written names scope p state (Negative operand place) ≡ negative_written (written names scope p state operand)
   unfolding written

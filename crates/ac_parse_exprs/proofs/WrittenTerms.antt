@@ -14,7 +14,7 @@ use Rattle.ac_syntax.proofs.Traces.{value_call}
 use Rattle.ac_parse_grammar.specs.declared.tree.Word.{Word}
 use Rattle.ac_parse_grammar.specs.declared.tree.Operator.{Operator}
 use Rattle.ac_parse_grammar.specs.declared.tree.Expr.{Expr}
-use Rattle.ac_parse_grammar.specs.declared.tree.Expr.TheVariants.{Number, Decimal, Access, Call, Negative, Group, Chain}
+use Rattle.ac_parse_grammar.specs.declared.tree.Expr.TheVariants.{Number, Decimal, Access, Call, Quotient, Negative, Group, Chain}
 use Rattle.ac_parse_exprs.specs.declared.fault.Rule.{Rule}
 use Rattle.ac_parse_exprs.specs.declared.index.Judged.{Judged}
 use Rattle.ac_parse_exprs.specs.declared.scope.Entry.{Entry}
@@ -23,7 +23,7 @@ use Rattle.ac_parse_exprs.specs.declared.scope.Meaning.TheVariants as means
 use Rattle.ac_parse_exprs.specs.declared.scope.Scope.{Scope}
 use Rattle.ac_parse_exprs.specs.FaultOrder.{rule_broken}
 use Rattle.ac_parse_exprs.specs.Meanings.{meaning, is_array, read_rule, call_rule, misused_unless}
-use Rattle.ac_parse_exprs.specs.IndexExpressions.{judged_name}
+use Rattle.ac_parse_exprs.specs.IndexExpressions.{judged_name, judged}
 use Rattle.ac_parse_exprs.specs.Comparisons.{whole_broken, index_expr, index as index_of, index_broken}
 use Rattle.ac_parse_exprs.specs.Values as r
 use Rattle.ac_parse_exprs.specs.Values.{Reading, reading, reading_broken, value_of as value_of_reading, symbol, operator_name, array_number, access_broken, read_of, access_reading, call_reading, negative_reading, group_reading, applied_values, joined_reading, chained_reading, chain_reading, placed, value, value_broken, value_place}
@@ -34,12 +34,12 @@ use Rattle.ac_parse_exprs.specs.ValueTerms.{ValuesHaveTerms}
 use Rattle.ac_parse_exprs.proofs.Absent.{NoneBroken, neither, none_of}
 use Rattle.ac_parse_exprs.proofs.Accesses.{rule_holds}
 use Rattle.ac_parse_exprs.proofs.FormValues.{Agrees, negative_agrees, form_agrees}
-use Rattle.ac_parse_exprs.proofs.Judges.{Judges, number_judges, name_judges, negative_judges, group_judges, joined_judges, whole_known}
+use Rattle.ac_parse_exprs.proofs.Judges.{Judges, number_judges, name_judges, quotient_judges, negative_judges, group_judges, joined_judges, whole_known}
 use Rattle.ac_parse_exprs.proofs.NumberedMeanings.{meaning_in}
-use Rattle.ac_parse_exprs.proofs.Readings.{reading-number, reading-decimal, reading-access, reading-call, reading-negative, reading-group, reading-chain}
+use Rattle.ac_parse_exprs.proofs.Readings.{reading-number, reading-decimal, reading-access, reading-call, reading-quotient, reading-negative, reading-group, reading-chain}
 use Rattle.ac_parse_exprs.proofs.Trees.{every_expr}
 use Rattle.ac_parse_exprs.proofs.WrittenExpressions.{number_agrees, name_agrees, known_agrees, the_known, index_is, indices_have_values}
-use Rattle.ac_parse_exprs.proofs.WrittenParts.{written-number, written-decimal, written-access, written-call, written-negative, written-group, written-chain}
+use Rattle.ac_parse_exprs.proofs.WrittenParts.{written-number, written-decimal, written-access, written-call, written-quotient, written-negative, written-group, written-chain}
 
 abbrev pub the_cell : ℕ → List ℤ → Cell
 the_cell k at = record { array = k; at = at }
@@ -243,6 +243,8 @@ module _ (names : List Entry) (scope : Scope) (p : Point) (state : Cell → Term
       (λ e. ap (λ z. Some z) (sym (value_call free p state (symbol word.name 0) [] word.place))))
       (λ name subs h. says_by (Access name subs) _ _ (reading-access names scope name subs) (written-access names scope p state name subs) (access_says name subs))
       (λ name args h. says_by (Call name args) _ _ (reading-call names scope name args) (written-call names scope p state name args) (call_says (meaning names scope name.name) name args h))
+      (λ up argument divisor place h. says_by (Quotient up argument divisor place) _ _ (reading-quotient names scope up argument divisor place) (written-quotient names scope p state up argument divisor place)
+      (quotient_judges scope.params (length scope.iterators) place (judged names scope argument), tt))
       (λ operand place h. says_by (Negative operand place) _ _ (reading-negative names scope operand place) (written-negative names scope p state operand place)
       (negative_says place (reading names scope operand) (written names scope p state operand) h))
       (λ inner place h. says_by (Group inner place) _ _ (reading-group names scope inner place) (written-group names scope p state inner place)

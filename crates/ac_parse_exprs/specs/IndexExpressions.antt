@@ -102,6 +102,10 @@ form_of Remainder a b = Unknown
 abbrev pub is_not_affine : Operator → Collected → Collected → Bool
 is_not_affine op a b = (is_known a && is_known b) && not (is_known (form_of op a b))
 
+-- a quotient is not affine, whatever it divides
+abbrev pub judged_quotient : Place → Judged → Judged
+judged_quotient place j = record { place = place; form = Unknown; large = j.large; broken = earlier j.broken (broken NotAffine place) }
+
 -- an operator between two expressions
 abbrev pub joined : Operator → Judged → Judged → Judged
 joined op a b = record {
@@ -128,6 +132,7 @@ judge_step names scope (Expr-F.Number n) = judged_number scope n
 judge_step names scope (Expr-F.Decimal word) = judged_decimal word
 judge_step names scope (Expr-F.Access name subs) = judged_access scope (meaning names scope name.name) name (length subs) (gathered no_parts subs)
 judge_step names scope (Expr-F.Call name args) = judged_other (call_rule (meaning names scope name.name)) name (gathered no_parts args)
+judge_step names scope (Expr-F.Quotient up argument divisor place) = judged_quotient place argument
 judge_step names scope (Expr-F.Negative operand place) = judged_negative place operand
 judge_step names scope (Expr-F.Group inner place) = judged_group place inner
 judge_step names scope (Expr-F.Chain operands operators) = judged_chain scope operands operators

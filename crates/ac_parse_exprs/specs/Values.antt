@@ -20,7 +20,7 @@ use Rattle.ac_parse_exprs.specs.declared.scope.Scope.{Scope}
 use Rattle.ac_parse_exprs.specs.declared.index.Judged.{Judged}
 use Rattle.ac_parse_exprs.specs.FaultOrder.{earlier, rule_broken}
 use Rattle.ac_parse_exprs.specs.Meanings.{meaning, is_array, read_rule, call_rule, word_broken}
-use Rattle.ac_parse_exprs.specs.IndexExpressions.{judged_number, judged_name, judged_negative, judged_group, joined}
+use Rattle.ac_parse_exprs.specs.IndexExpressions.{judged_number, judged_name, judged_quotient, judged_negative, judged_group, joined, judged}
 use Rattle.ac_parse_exprs.specs.Comparisons.{first_of, whole_broken, index_expr, index, index_broken}
 
 -- an expression of a value: a number by what the rules say of it, or a value with the first rule that is broken in it
@@ -122,6 +122,7 @@ reading_step names scope (Expr-F.Number n) = number (judged_number scope n)
 reading_step names scope (Expr-F.Decimal word) = other None (Call (symbol word.name 0) [] word.place)
 reading_step names scope (Expr-F.Access name subs) = access_reading names scope (meaning names scope name.name) name (map (λ s. s.0) subs)
 reading_step names scope (Expr-F.Call name args) = call_reading scope (meaning names scope name.name) name (map (λ a. a.1) args)
+reading_step names scope (Expr-F.Quotient up argument divisor place) = number (judged_quotient place (judged names scope argument.0))
 reading_step names scope (Expr-F.Negative operand place) = negative_reading place operand.1
 reading_step names scope (Expr-F.Group inner place) = group_reading place inner.1
 reading_step names scope (Expr-F.Chain operands operators) = chain_reading scope (map (λ e. e.1) operands) operators

@@ -92,6 +92,7 @@ written_step names scope p state (Expr-F.Number n) = index (Some (pos n.number))
 written_step names scope p state (Expr-F.Decimal word) = other (applied_to word.name [])
 written_step names scope p state (Expr-F.Access name subs) = access_written p state (meaning names scope name.name) (map (λ s. expression_value (integer_of names scope p) s.0) subs)
 written_step names scope p state (Expr-F.Call name args) = other (call_written (meaning names scope name.name) name.name (map (λ a. a.1) args))
+written_step names scope p state (Expr-F.Quotient up argument divisor place) = index None
 written_step names scope p state (Expr-F.Negative operand place) = negative_written operand.1
 written_step names scope p state (Expr-F.Group inner place) = inner.1
 written_step names scope p state (Expr-F.Chain operands operators) = chain_written (map (λ e. e.1) operands) operators

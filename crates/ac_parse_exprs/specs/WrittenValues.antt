@@ -53,12 +53,13 @@ abbrev pub chain_value : List (Option ℤ) → List Operator → Option ℤ
 chain_value [] operators = Some (pos 0)
 chain_value (a ∷ bs) operators = operated_all a bs operators
 
--- the value of an expression by the values of its parts; decimals, calls and names with subscripts have none
+-- the value of an expression by the values of its parts; decimals, calls, names with subscripts and quotients have none
 abbrev pub value_step : (List ℕ → Option ℤ) → Expr-F (Option ℤ) → Option ℤ
 value_step integer (Expr-F.Number n) = Some (pos n.number)
 value_step integer (Expr-F.Decimal word) = None
 value_step integer (Expr-F.Access name subs) = if length subs == 0 then integer name.name else None
 value_step integer (Expr-F.Call name args) = None
+value_step integer (Expr-F.Quotient up argument divisor place) = None
 value_step integer (Expr-F.Negative operand place) = option_map neg_ℤ operand
 value_step integer (Expr-F.Group inner place) = inner
 value_step integer (Expr-F.Chain operands operators) = chain_value operands operators

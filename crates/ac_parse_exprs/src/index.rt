@@ -1,6 +1,6 @@
 ghost use Rattle.std.specs.Prelude.{◌≡◌, [], ◌∷◌, map, length, IfOk};
 ghost use Rattle.ac_parse_exprs.specs.FaultOrder.{broken, broken_where, rule_broken};
-ghost use Rattle.ac_parse_exprs.specs.IndexExpressions.{is_long, judged_number, judged_decimal, with_part, gathered, no_parts, name_form, judged_name, judged_other, judged_variable, judged_access, judged_negative, judged_group, form_of, is_not_affine, joined, judged_chain, judged};
+ghost use Rattle.ac_parse_exprs.specs.IndexExpressions.{is_long, judged_number, judged_decimal, with_part, gathered, no_parts, name_form, judged_name, judged_other, judged_variable, judged_access, judged_quotient, judged_negative, judged_group, form_of, is_not_affine, joined, judged_chain, judged};
 
 use crate::fault::{Broken, Rule, Which, broken_where, earlier, rule_broken};
 use crate::form::{Collected, constant_form, iterator_form, parameter_form};
@@ -199,6 +199,22 @@ impl Judged {
         })
     }
 
+    /// What the rules say of a quotient of it, with its word at the place.
+    pub fn quotient(self, place: Place) -> Judged
+        ensures { result ≡ judged_quotient place self }
+    {
+        let broken = Some(Broken {
+            rule: Rule::NotAffine,
+            place,
+        });
+        Judged {
+            place,
+            form: Collected::Unknown,
+            large: self.large,
+            broken: earlier(self.broken, broken),
+        }
+    }
+
     /// What the rules say of it in brackets, of which the first is at the place.
     pub fn group(self, place: Place) -> Judged
         ensures { result ≡ judged_group place self }
@@ -251,6 +267,11 @@ pub fn judge(alloc: Global, names: &[Entry], scope: &Scope, e: &Expr) -> Result<
             let meaning = scope.meaning(names, &name.name);
             Ok(judge_other(meaning.call_rule(), name, parts))
         }
+        Expr::Quotient {
+            argument,
+            place,
+            ..
+        } => Ok(judge(alloc, names, scope, argument.get())?.quotient(*place)),
         Expr::Negative { operand, place } => {
             judge(alloc, names, scope, operand.get())?.negative(alloc, *place)
         }

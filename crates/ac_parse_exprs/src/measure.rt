@@ -5,7 +5,7 @@ ghost use Rattle.ac_parse_exprs.specs.Measures.{capped, measure_of, measure, mea
 
 use crate::comparison::check_indices;
 use crate::fault::{Broken, Rule, earlier, rule_broken};
-use crate::index::Judged;
+use crate::index::{Judged, judge};
 use crate::scope::{Entry, Meaning, Scope, word_broken};
 use ac_parse_grammar::tree::{Expr, Numeral, Operator, Word};
 use ac_syntax::tree::Place;
@@ -195,6 +195,11 @@ pub fn measure(
             let total = measure_all(alloc, names, scope, args.as_slice())?;
             Ok(measure_call(scope.meaning(names, &name.name), name, total))
         }
+        Expr::Quotient {
+            argument,
+            place,
+            ..
+        } => Ok(Measured::Number(judge(alloc, names, scope, argument.get())?.quotient(*place))),
         Expr::Negative { operand, place } => {
             measure(alloc, names, scope, operand.get())?.negative(alloc, *place)
         }

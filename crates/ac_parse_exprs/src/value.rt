@@ -4,7 +4,7 @@ ghost use Rattle.ac_parse_exprs.specs.Meanings.{meaning};
 ghost use Rattle.ac_parse_exprs.specs.Measures.{built_of, built_value, built_negative, built_group, built_call, joined_built, chain_built, build};
 
 use crate::comparison::build_indices;
-use crate::index::Judged;
+use crate::index::{Judged, judge};
 use crate::scope::{Entry, Meaning, Scope};
 use ac_base::Items;
 use ac_parse_grammar::tree::{Expr, Numeral, Operator, Word};
@@ -232,6 +232,11 @@ fn build(alloc: Global, names: &[Entry], scope: &Scope, e: &Expr) -> Result<Buil
             let args = build_all(alloc, names, scope, args.as_slice())?;
             build_call(alloc, name, args)
         }
+        Expr::Quotient {
+            argument,
+            place,
+            ..
+        } => Ok(Built::Number(judge(alloc, names, scope, argument.get())?.quotient(*place))),
         Expr::Negative { operand, place } => {
             build(alloc, names, scope, operand.get())?.negative(alloc, *place)
         }

@@ -9,7 +9,7 @@ use Rattle.ac_parse_grammar.specs.declared.tree.Operator.{Operator}
 use Rattle.ac_parse_grammar.specs.declared.tree.Expr.{Expr}
 use Rattle.ac_parse_grammar.specs.declared.tree.Expr.TheVariants as tree
 use Rattle.ac_parse_grammar.specs.declared.links.Links.{Links}
-use Rattle.ac_parse_grammar.specs.Terminals.{terminal, is_name}
+use Rattle.ac_parse_grammar.specs.Terminals.{terminal, is_name, is_rounding}
 use Rattle.ac_parse_grammar.specs.TokenWords.{place_of, word_of}
 use Rattle.ac_parse_grammar.specs.Chains.{start, link, chain}
 use Rattle.ac_parse_grammar.specs.ReaderCombinators.{is}
@@ -20,8 +20,9 @@ use Rattle.ac_parse_grammar.specs.Found.{Rel}
 use Rattle.ac_parse_grammar.proofs.Exact.{IsThen, both}
 use Rattle.ac_parse_grammar.proofs.Many.{IsMany, no_more, one_more}
 use Rattle.ac_parse_grammar.proofs.Parts.{is_true, true_is, nothing, pure_empty, pure_is, token, one, other, closed, IsHeld, IsMap}
+use Rattle.ac_parse_grammar.proofs.StatementPieces.{marked}
 use Rattle.ac_parse_grammar.proofs.Repeats.{linked, IsRepeat}
-use Rattle.ac_parse_grammar.proofs.Relations.{Opening, at_limit, around, IsProduct, IsTermOf, IsSum, IsExprOf, IsList, IsCallEnd, IsCall, IsSubscript, IsGroup, IsNegative, IsSubscripts, IsNamed, IsPrimaryIn, IsUnaryIn, IsUnaryAt, IsExprAt, openings_at}
+use Rattle.ac_parse_grammar.proofs.Relations.{Opening, at_limit, around, IsProduct, IsTermOf, IsSum, IsExprOf, IsList, IsCallEnd, IsCall, IsSubscript, IsGroup, IsDivisor, IsDivision, IsQuotient, IsNegative, IsSubscripts, IsNamed, IsPrimaryIn, IsUnaryIn, IsUnaryAt, IsExprAt, openings_at}
 use Rattle.ac_parse_grammar.specs.Operators.{sign_of, star_of}
 
 -- ---- repetitions, at their first and at their last item
@@ -112,6 +113,7 @@ record Openings (room : ℕ) (O : Opening) : Type 1 where
   call_to : (n : Lexeme) → is_name (terminal n) ≡ true → (ts : List Lexeme) (a : Expr) → O (is t.Open) (IsCall (word_of n)) ts a → IsPrimary room (n ∷ ts) a
   subscript_to : (ss : List Lexeme) (subs : List Expr) → Subscripts room ss subs → (ts : List Lexeme) (a : Expr) → O (is t.OpenBracket) IsSubscript ts a
       → Subscripts room (ss ++ ts) (subs ++ a ∷ [])
+  quotient_to : (word : Lexeme) → is_rounding (terminal word) ≡ true → (ts : List Lexeme) (a : Expr) → O (is t.Open) (IsDivision word) ts a → IsPrimary room (word ∷ ts) a
   group_to : (ts : List Lexeme) (a : Expr) → O (is t.Open) IsGroup ts a → IsPrimary room ts a
   negative_to : (ts : List Lexeme) (a : Expr) → O (is t.Minus) IsNegative ts a → IsUnary room ts a
 
@@ -119,6 +121,7 @@ limit_openings : Openings zero at_limit
 limit_openings = record {
   call_to = λ n is ts a r. elim r [ ];
   subscript_to = λ ss subs m ts a r. elim r [ ];
+  quotient_to = λ word is ts a r. elim r [ ];
   group_to = λ ts a r. elim r [ ];
   negative_to = λ ts a r. elim r [ ];
 }
@@ -137,6 +140,13 @@ module _ (room : ℕ) (U : Rel Expr) (up : (ts : List Lexeme) (a : Expr) → U t
       → Subscripts (suc room) (ss ++ ts) (subs ++ a ∷ [])
   inner_subscript ss subs m _ a (token {t = left} at (both {ts = ts} r (closed {t = right} close))) = g.next_subscript left right m (is_true _ _ at) (expr_to room U up ts a r) close
 
+  divisor_to : (word left : Lexeme) → is_rounding (terminal word) ≡ true → terminal left ≡ t.Open → (us : List Lexeme) (argument : Expr) → IsExpr room us argument → (ts : List Lexeme) (a : Expr) → IsDivisor word argument ts a
+      → IsPrimary (suc room) (word ∷ left ∷ us ++ ts) a
+  divisor_to word left rounds at us argument r _ _ (marked {t = comma} c (marked {t = divisor} n (marked {t = right} close nothing))) = g.quotient {word = word} {left = left} comma divisor right rounds at r c n close
+
+  inner_quotient : (word : Lexeme) → is_rounding (terminal word) ≡ true → (ts : List Lexeme) (a : Expr) → around U (is t.Open) (IsDivision word) ts a → IsPrimary (suc room) (word ∷ ts) a
+  inner_quotient word rounds _ a (token {t = left} at (both {ts = us} {us = ts} {a = argument} r d)) = divisor_to word left rounds (is_true _ _ at) us argument (expr_to room U up us argument r) ts a d
+
   held_group : (left : Lexeme) → is t.Open (terminal left) ≡ true → (ts : List Lexeme) (a : Expr) → IsHeld (IsExprOf U) t.Close ts a → IsPrimary (suc room) (left ∷ ts) (tree.Group a (place_of left))
   held_group left at _ a (both {ts = ts} r (closed {t = right} close)) = g.group {left = left} right (is_true _ _ at) (expr_to room U up ts a r) close
 
@@ -147,7 +157,7 @@ module _ (room : ℕ) (U : Rel Expr) (up : (ts : List Lexeme) (a : Expr) → U t
   inner_negative _ a (token {t = sign} {ts = ts} at r) = of_map (λ ts a. IsUnary (suc room) (sign ∷ ts) a) (λ ts operand u. g.negative {sign = sign} (is_true _ _ at) (up ts operand u)) ts a r
 
   inner_openings : Openings (suc room) (around U)
-  inner_openings = record { call_to = inner_call; subscript_to = inner_subscript; group_to = inner_group; negative_to = inner_negative }
+  inner_openings = record { call_to = inner_call; subscript_to = inner_subscript; quotient_to = inner_quotient; group_to = inner_group; negative_to = inner_negative }
 
 module _ (room : ℕ) (O : Opening) (openings : Openings room O) where
   subscripts_to : (ss : List Lexeme) (subs : List Expr) → Subscripts room ss subs → (ts : List Lexeme) (all : List Expr) → IsMany add_item (O (is t.OpenBracket) IsSubscript) subs ts all
@@ -160,12 +170,17 @@ module _ (room : ℕ) (O : Opening) (openings : Openings room O) where
   named_to n named ts a (one r) = openings.call_to n named ts a r
   named_to n named ts a (other r) = of_map (λ ts a. IsPrimary room (n ∷ ts) a) (λ ts subs m. g.access {n = n} named (subscripts_to [] [] g.no_subscript ts subs m)) ts a r
 
+  quotient_behind : (word : Lexeme) → is_rounding (terminal word) ≡ true → (ts : List Lexeme) (a : Expr) → IsQuotient O word ts a → IsPrimary room (word ∷ ts) a
+  quotient_behind word rounds ts a (one r) = openings.quotient_to word rounds ts a r
+  quotient_behind word rounds ts a (other r) = elim r [ ]
+
   primary_to : (ts : List Lexeme) (a : Expr) → IsPrimaryIn O ts a → IsPrimary room ts a
   primary_to _ _ (one (token {t = n} at nothing)) = g.number {n = n} (is_true _ _ at)
   primary_to _ _ (other (one (token {t = n} at nothing))) = g.decimal {n = n} (is_true _ _ at)
-  primary_to ts a (other (other (one r))) = openings.group_to ts a r
-  primary_to _ a (other (other (other (one (token {t = n} {ts = ts} at r))))) = named_to n at ts a r
-  primary_to ts a (other (other (other (other r)))) = elim r [ ]
+  primary_to _ a (other (other (one (token {t = word} {ts = ts} at r)))) = quotient_behind word at ts a r
+  primary_to ts a (other (other (other (one r)))) = openings.group_to ts a r
+  primary_to _ a (other (other (other (other (one (token {t = n} {ts = ts} at r)))))) = named_to n at ts a r
+  primary_to ts a (other (other (other (other (other r))))) = elim r [ ]
 
   unary_to_in : (ts : List Lexeme) (a : Expr) → IsUnaryIn O ts a → IsUnary room ts a
   unary_to_in ts a (one r) = openings.negative_to ts a r
@@ -198,11 +213,13 @@ module _ (room : ℕ) (U : Rel Expr) (down : (ts : List Lexeme) (a : Expr) → I
   primary_from _ _ (g.number at) = one (token (true_is _ _ at) nothing)
   primary_from _ _ (g.decimal at) = other (one (token (true_is _ _ at) nothing))
   primary_from _ _ (g.access {n = n} {ts = ts} {subs = subs} named m) =
-      other (other (other (one (token named (other (map_of (IsSubscripts (around U)) (tree.Access (word_of n)) ts subs (subscripts_from ts subs m)))))))
+      other (other (other (other (one (token named (other (map_of (IsSubscripts (around U)) (tree.Access (word_of n)) ts subs (subscripts_from ts subs m))))))))
   primary_from _ _ (g.call {n = n} {left = left} {ts = ts} {args = args} right named at r close) =
-      other (other (other (one (token named (one (token (true_is _ _ at) (map_of (IsCallEnd U) (tree.Call (word_of n)) (ts ++ right ∷ []) args (arguments_from right close ts args r))))))))
+      other (other (other (other (one (token named (one (token (true_is _ _ at) (map_of (IsCallEnd U) (tree.Call (word_of n)) (ts ++ right ∷ []) args (arguments_from right close ts args r)))))))))
   primary_from _ _ (g.group {left = left} {ts = ts} {a = a} right at r close) =
-      other (other (one (token (true_is _ _ at) (map_of (IsHeld (IsExprOf U) t.Close) (λ inner. tree.Group inner (place_of left)) (ts ++ right ∷ []) a (held_from ts a right t.Close r close)))))
+      other (other (other (one (token (true_is _ _ at) (map_of (IsHeld (IsExprOf U) t.Close) (λ inner. tree.Group inner (place_of left)) (ts ++ right ∷ []) a (held_from ts a right t.Close r close))))))
+  primary_from _ _ (g.quotient {ts = ts} {a = a} comma divisor right rounds at r c n close) =
+      other (other (one (token rounds (one (token (true_is _ _ at) (both (expr_from room U down ts a r) (marked c (marked n (marked close nothing)))))))))
 
   unary_from_in : (ts : List Lexeme) (a : Expr) → IsUnary (suc room) ts a → IsUnaryIn (around U) ts a
   unary_from_in _ _ (g.negative {sign = sign} {ts = ts} {a = a} at r) = one (token (true_is _ _ at) (map_of U (λ operand. tree.Negative operand (place_of sign)) ts a (down ts a r)))
@@ -215,7 +232,7 @@ primary_at_limit : (ts : List Lexeme) (a : Expr) → IsPrimary zero ts a → IsP
 primary_at_limit _ _ (g.number at) = one (token (true_is _ _ at) nothing)
 primary_at_limit _ _ (g.decimal at) = other (one (token (true_is _ _ at) nothing))
 primary_at_limit _ _ (g.access {n = n} {ts = ts} {subs = subs} named m) =
-    other (other (other (one (token named (other (map_of (IsSubscripts at_limit) (tree.Access (word_of n)) ts subs (subscripts_at_limit ts subs m)))))))
+    other (other (other (other (one (token named (other (map_of (IsSubscripts at_limit) (tree.Access (word_of n)) ts subs (subscripts_at_limit ts subs m))))))))
 
 unary_at_limit : (ts : List Lexeme) (a : Expr) → IsUnary zero ts a → IsUnaryIn at_limit ts a
 unary_at_limit ts a (g.primary r) = other (primary_at_limit ts a r)

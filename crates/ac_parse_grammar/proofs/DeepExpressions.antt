@@ -1,13 +1,14 @@
 -- Where more constructs may open, an expression is read in the same way, unless it stopped at the limit.
 use Rattle.std.specs.Prelude.{Option}
 use Rattle.std.proofs.Common.{ℕ, zero, suc, [], ◌∷◌, refl, inl, inr}
+use Rattle.ac_lex.specs.Lexemes.{Lexeme}
 use Rattle.ac_parse_grammar.specs.declared.terminal.Terminal.{Terminal}
 use Rattle.ac_parse_grammar.specs.declared.terminal.Terminal.TheVariants as t
 use Rattle.ac_parse_grammar.specs.declared.tree.Word.{Word}
 use Rattle.ac_parse_grammar.specs.declared.tree.Expr.{Expr}
 use Rattle.ac_parse_grammar.specs.Chains.{start, link}
-use Rattle.ac_parse_grammar.specs.ReaderCombinators.{Reader, peek, rest, is, name}
-use Rattle.ac_parse_grammar.specs.Expressions.{comma_of, add_item, list_item, factors, product, term_of, terms, sum, expr_of, list, arguments, subscripts, named, group, primary_by, any_primary, primary, negated, unary_in, below, unary, expr}
+use Rattle.ac_parse_grammar.specs.ReaderCombinators.{Reader, peek, front, rest, is, name}
+use Rattle.ac_parse_grammar.specs.Expressions.{comma_of, add_item, list_item, factors, product, term_of, terms, sum, expr_of, list, arguments, subscripts, named, divided, division, quotient, group, primary_by, any_primary, primary, negated, unary_in, below, unary, expr}
 use Rattle.ac_parse_grammar.proofs.Deeper.{Agree, Deeper, then_agree, then_deeper, same_deeper, choose_deeper, repeat_deeper, many_deeper, Below, at_limit, inside, within_deeper}
 use Rattle.ac_parse_grammar.specs.Operators.{sign_of, star_of}
 
@@ -35,6 +36,10 @@ arguments_deeper : (u v : Reader Expr) → Deeper u v → Deeper (arguments u) (
 unfolding arguments
 arguments_deeper u v d ts = choose_deeper (is t.Close (peek ts)) _ _ _ _ (inl refl) (list_deeper (expr_of u) (expr_of v) (expr_deeper u v d) ts)
 
+divided_deeper : (word : Lexeme) (u v : Reader Expr) → Deeper u v → Deeper (divided word u) (divided word v)
+unfolding divided
+divided_deeper word u v d = then_deeper (expr_of u) (expr_of v) _ _ (expr_deeper u v d) (λ a. same_deeper _)
+
 module _ (b c : Option (Reader Expr)) (d : Below Deeper b c) where
   pub subscripts_deeper : Deeper (subscripts b) (subscripts c)
   unfolding subscripts
@@ -45,6 +50,14 @@ module _ (b c : Option (Reader Expr)) (d : Below Deeper b c) where
   named_deeper word ts = choose_deeper (is t.Open (peek ts)) _ _ _ _
       (then_agree _ _ _ _ (within_deeper b c arguments t.Close d arguments_deeper ts) (λ a. same_deeper _))
       (then_agree _ _ _ _ (subscripts_deeper ts) (λ a. same_deeper _))
+
+  division_deeper : (word : Lexeme) → Deeper (division b word) (division c word)
+  unfolding division
+  division_deeper word ts = choose_deeper (is t.Open (peek ts)) _ _ _ _ (within_deeper b c (divided word) t.Close d (divided_deeper word) ts) (inl refl)
+
+  quotient_deeper : Deeper (quotient b) (quotient c)
+  unfolding quotient
+  quotient_deeper ts = division_deeper (front ts) (rest ts)
 
   group_deeper : Deeper (group b) (group c)
   unfolding group
@@ -57,6 +70,8 @@ module _ (b c : Option (Reader Expr)) (d : Below Deeper b c) where
       by_head : (k : Terminal) → Agree (primary_by b k ts) (primary_by c k ts)
       by_head t.Number = inl refl
       by_head t.Decimal = inl refl
+      by_head t.Floord = quotient_deeper ts
+      by_head t.Ceild = quotient_deeper ts
       by_head t.Open = group_deeper ts
       by_head _ = then_agree (name ts) (name ts) _ _ (inl refl) named_deeper
 

@@ -1,22 +1,23 @@
 -- Unaries are exact, at each room for constructs inside.
-use Rattle.std.specs.Prelude.{Bool, true, false, cond, not, ◌||◌, Option, Some, None}
-use Rattle.std.proofs.Common.{◌≡◌, ℕ, zero, suc, List, [], ◌∷◌, ◌++◌, refl, ◌∙◌, ap, append_assoc}
+use Rattle.std.specs.Prelude.{Bool, true, false, cond, not, ◌||◌, ◌⊎◌, Option, Some, None}
+use Rattle.std.proofs.Common.{◌≡◌, ℕ, zero, suc, List, [], ◌∷◌, ◌++◌, refl, sym, ◌∙◌, ap, inl, inr, append_assoc}
 use Rattle.ac_lex.specs.Lexemes.{Lexeme}
 use Rattle.ac_parse_grammar.specs.declared.terminal.Terminal.{Terminal}
 use Rattle.ac_parse_grammar.specs.declared.terminal.Terminal.TheVariants as t
 use Rattle.ac_parse_grammar.specs.declared.tree.Word.{Word}
 use Rattle.ac_parse_grammar.specs.declared.tree.Expr.{Expr}
 use Rattle.ac_parse_grammar.specs.declared.tree.Expr.TheVariants as tree
-use Rattle.ac_parse_grammar.specs.Terminals.{terminal, is_name}
+use Rattle.ac_parse_grammar.specs.Terminals.{terminal, is_name, is_rounding}
 use Rattle.ac_parse_grammar.specs.TokenWords.{place_of, word_of, numeral_of}
-use Rattle.ac_parse_grammar.specs.ReaderCombinators.{syntax, nesting, Got, found, stopped, Reader, and_then, ◌>>=◌, pure, refuse, peek, front, rest, is, expect, ending, name}
-use Rattle.ac_parse_grammar.specs.Found.{Rel, Goes, opens_construct}
-use Rattle.ac_parse_grammar.specs.Expressions.{add_item, opens, expr_of, list, arguments, within, subscripts, named, group, primary_by, any_primary, primary, negated, unary_in, below, unary, expr}
-use Rattle.ac_parse_grammar.proofs.Exact.{Exact, Some_of, none, nowhere, both}
+use Rattle.ac_parse_grammar.specs.ReaderCombinators.{Why, syntax, nesting, Got, found, stopped, Reader, and_then, ◌>>=◌, ◌>>◌, pure, refuse, peek, front, rest, is, expect, ending, name}
+use Rattle.ac_parse_grammar.specs.Found.{Rel, Goes, awaits_parenthesis, opens_construct}
+use Rattle.ac_parse_grammar.specs.Expressions.{add_item, opens, expr_of, list, arguments, within, subscripts, named, divided, division, quotient, group, primary_by, any_primary, primary, negated, unary_in, below, unary, expr}
+use Rattle.ac_parse_grammar.proofs.Exact.{Exact, Some_of, none, nowhere, both, at_keyword, Begun}
 use Rattle.ac_parse_grammar.proofs.Many.{no_more, one_more, many_exact}
-use Rattle.ac_parse_grammar.proofs.Parts.{is_true, IsNothing, IsPure, nothing, ending_exact, refuse_exact, pass, IsToken, token, token_heads, token_exact, limit_exact, choose, IsEither, one, other, choose_exact, closing, IsHeld, IsMap, some_held, some_map, ended_exact, same_exact, from_anywhere, pure_empty, marks_of}
-use Rattle.ac_parse_grammar.proofs.Relations.{Opening, at_limit, around, IsExprOf, IsCallEnd, IsCall, IsSubscript, IsGroup, IsNegative, IsSubscripts, IsNamed, IsPrimaryIn, IsUnaryIn, IsUnaryAt, IsExprAt, openings_at}
-use Rattle.ac_parse_grammar.proofs.Productions.{Inner, on_unary, on_expr, begins, Heads, a_number, a_close, a_close_bracket, an_open_bracket, some_expr, expr_exact, subscript_exact, group_exact, negative_exact, call_end, call_exact}
+use Rattle.ac_parse_grammar.proofs.Parts.{is_true, IsNothing, IsPure, nothing, ending_exact, refuse_exact, pass, IsToken, token, token_heads, token_exact, token_exact_by, token_live, limit_exact, choose, IsEither, one, other, choose_exact, closing, IsHeld, IsMap, some_held, some_map, ended_exact, same_exact, from_anywhere, pure_empty, marks_of}
+use Rattle.ac_parse_grammar.proofs.Relations.{Opening, at_limit, around, IsExprOf, IsCallEnd, IsCall, IsSubscript, IsGroup, IsNegative, IsSubscripts, IsNamed, IsDivision, IsQuotient, IsPrimaryIn, IsUnaryIn, IsUnaryAt, IsExprAt, openings_at}
+use Rattle.ac_parse_grammar.proofs.Productions.{Inner, on_unary, on_expr, begins, Heads, a_number, an_open, a_close, a_close_bracket, an_open_bracket, some_expr, expr_exact, subscript_exact, group_exact, negative_exact, call_end, call_exact}
+use Rattle.ac_parse_grammar.proofs.Quotients.{division_reader, division_is, division_exact, some_division}
 
 -- what a token that opens a construct begins, and with which unary inside
 pub opening : Option (Reader Expr) → (Reader Expr → Lexeme → Reader Expr) → Reader Expr
@@ -35,6 +36,12 @@ pub record Level (b : Option (Reader Expr)) (O W : Opening) : Type 1 where
       → Exact (opening b f) (O test R) (W test R) (λ k. not (test k)) g
   pub opens_heads : (test : Terminal → Bool) (R : Rel Expr → Lexeme → Rel Expr) (ts left : List Lexeme) (a : Expr) → O test R ts a → test (peek (ts ++ left)) ≡ true
   pub some : (test : Terminal → Bool) (R : Rel Expr → Lexeme → Rel Expr) (t : Lexeme) → test (terminal t) ≡ true → SomeEach R → Some_of (W test R)
+  -- where nothing may open there is no quotient
+  pub quotients : (b ≡ None) ⊎ ((word : Lexeme) → Some_of (IsQuotient O word))
+
+an_open_is : is t.Open (terminal an_open.0) ≡ true
+unfolding is
+an_open_is = ap (is t.Open) an_open.1
 
 limit_level : (V : Rel Expr) → Some_of V → Level None at_limit (around V)
 unfolding opening
@@ -42,6 +49,7 @@ limit_level V some = record {
   opens_exact = λ test f R g last marks each some_each. limit_exact test (R V) g last marks (some_each V some);
   opens_heads = λ test R ts left a r. elim r [ ];
   some = λ test R t is some_each. (let s = some_each V some t in (t ∷ s.0, s.1, token is s.2));
+  quotients = inl refl;
 }
 
 inner_level : (u : Reader Expr) (U V : Rel Expr) → Inner u U V → Level (Some u) (around U) (around V)
@@ -50,6 +58,7 @@ inner_level u U V inner = record {
   opens_exact = λ test f R g last marks each some_each. token_exact test (f u) (R U) (R V) g last (each u U V inner) (some_each V inner.some) (some_each U inner.here);
   opens_heads = λ test R ts left a r. token_heads ts left a r;
   some = λ test R t is some_each. (let s = some_each V inner.some t in (t ∷ s.0, s.1, token is s.2));
+  quotients = inr (λ word. (let s = some_division word U inner.here an_open.0 in (an_open.0 ∷ s.0, s.1, one (token an_open_is s.2))));
 }
 
 some_subscript : SomeEach IsSubscript
@@ -109,6 +118,24 @@ name_apart t.Commutative e = record { number = refl; decimal = refl; paren = ref
 name_apart t.Output e = record { number = refl; decimal = refl; paren = refl; minus = refl; begin = refl }
 name_apart _ e = cc
 
+pub rounding_apart : (k : Terminal) → is_rounding k ≡ true → Apart k
+unfolding is
+rounding_apart t.Floord e = record { number = refl; decimal = refl; paren = refl; minus = refl; begin = refl }
+rounding_apart t.Ceild e = record { number = refl; decimal = refl; paren = refl; minus = refl; begin = refl }
+rounding_apart _ e = cc
+
+rounding_waits : (k : Terminal) → is_rounding k ≡ true → awaits_parenthesis k ≡ true
+rounding_waits t.Floord e = refl
+rounding_waits t.Ceild e = refl
+rounding_waits _ e = cc
+
+name_no_rounding : (k : Terminal) → is_name k ≡ true → is_rounding k ≡ false
+name_no_rounding t.Name e = refl
+name_no_rounding t.Context e = refl
+name_no_rounding t.Commutative e = refl
+name_no_rounding t.Output e = refl
+name_no_rounding _ e = cc
+
 -- ---- the readers, put together from parts
 
 map_then : {A B C : Type 0} (r : Got A) (f : A → B) (h : B → Reader C) → and_then (and_then r (λ a. pure (f a))) h ≡ and_then r (λ a. h (f a))
@@ -147,6 +174,26 @@ group_is : (b : Option (Reader Expr)) (ts : List Lexeme) → and_then (group b t
 unfolding within opening group
 group_is None ts = refl
 group_is (Some u) ts = map_then (and_then (expr_of u (rest ts)) (closing t.Close)) (λ a. tree.Group a (place_of (front ts))) (ending opens)
+
+abbrev division_opening : Option (Reader Expr) → Lexeme → Reader Expr
+division_opening b word = opening b (λ u _. division_reader word u)
+
+abbrev quotient_reader : Option (Reader Expr) → Lexeme → Reader Expr
+quotient_reader b word = choose (is t.Open) (division_opening b word) refuse
+
+quotient_is : (b : Option (Reader Expr)) (ts : List Lexeme) → and_then (quotient b ts) (ending opens) ≡ pass (quotient_reader b) ts
+unfolding quotient division within opening
+quotient_is None ts = by_test (is t.Open (peek (rest ts)))
+  where
+    by_test : (v : Bool) → and_then (cond {A = Got Expr} v (stopped nesting (rest ts)) (stopped syntax (rest ts))) (ending opens) ≡ cond v (stopped nesting (rest ts)) (stopped syntax (rest ts))
+    by_test true = refl
+    by_test false = refl
+quotient_is (Some u) ts = by_test (is t.Open (peek (rest ts)))
+  where
+    by_test : (v : Bool) → and_then (cond v (and_then (divided (front ts) u (rest (rest ts))) (λ a. expect t.Close >> pure a)) (stopped syntax (rest ts))) (ending opens)
+        ≡ cond v (division_reader (front ts) u (rest (rest ts))) (stopped syntax (rest ts))
+    by_test true = division_is (front ts) u (rest (rest ts))
+    by_test false = refl
 
 abbrev negative_opening : Option (Reader Expr) → Reader Expr
 negative_opening b = opening b (λ u sign. u >>= (λ a. pure (tree.Negative a (place_of sign))))
@@ -192,17 +239,22 @@ decimal_reader = pass (λ token. ending opens (tree.Decimal (word_of token)))
 abbrev group_or_name : Option (Reader Expr) → Reader Expr
 group_or_name b = choose (is t.Open) (group_opening b) (name_reader b)
 
+abbrev quotient_or_group : Option (Reader Expr) → Reader Expr
+quotient_or_group b = choose is_rounding (pass (quotient_reader b)) (group_or_name b)
+
 abbrev primary_reader : Option (Reader Expr) → Reader Expr
-primary_reader b = choose (is t.Number) number_reader (choose (is t.Decimal) decimal_reader (group_or_name b))
+primary_reader b = choose (is t.Number) number_reader (choose (is t.Decimal) decimal_reader (quotient_or_group b))
 
 primary_is : (b : Option (Reader Expr)) (ts : List Lexeme) → primary b ts ≡ primary_reader b ts
 unfolding primary any_primary is
 primary_is b ts = by_head (peek ts)
   where
     by_head : (k : Terminal) → and_then (primary_by b k ts) (ending opens)
-        ≡ cond (is t.Number k) (number_reader ts) (cond (is t.Decimal k) (decimal_reader ts) (cond (is t.Open k) (group_opening b ts) (name_reader b ts)))
+        ≡ cond (is t.Number k) (number_reader ts) (cond (is t.Decimal k) (decimal_reader ts) (cond (is_rounding k) (pass (quotient_reader b) ts) (cond (is t.Open k) (group_opening b ts) (name_reader b ts))))
     by_head t.Number = refl
     by_head t.Decimal = refl
+    by_head t.Floord = quotient_is b ts
+    by_head t.Ceild = quotient_is b ts
     by_head t.Open = group_is b ts
     by_head _ = name_is b ts
 
@@ -279,25 +331,78 @@ module _ (b : Option (Reader Expr)) (O W : Opening) (level : Level b O W) where
   group_heads that off names ts left a (one r) = is_apart t.Open that _ (level.opens_heads (is t.Open) IsGroup ts left a r) off
   group_heads that off names ts left a (other r) = names _ (name_heads ts left a r)
 
-  abbrev DecimalRel : Opening → Rel Expr
-  DecimalRel O = IsEither (IsToken (is t.Decimal) (λ token. IsPure (tree.Decimal (word_of token)))) (GroupRel O)
+  group_no_rounding : (ts left : List Lexeme) (a : Expr) → GroupRel O ts a → is_rounding (peek (ts ++ left)) ≡ false
+  group_no_rounding ts left a (one r) = ap is_rounding (is_true t.Open _ (level.opens_heads (is t.Open) IsGroup ts left a r))
+  group_no_rounding ts left a (other (one r)) = name_no_rounding _ (token_heads ts left a r)
+  group_no_rounding ts left a (other (other r)) = elim r [ ]
 
-  decimal_exact : Exact (choose (is t.Decimal) decimal_reader (group_or_name b)) (DecimalRel O) (DecimalRel W) nowhere on_unary
+  -- ---- quotients
+
+  division_at : (word : Lexeme) → Exact (division_opening b word) (O (is t.Open) (IsDivision word)) (W (is t.Open) (IsDivision word)) (λ k. not (is t.Open k)) on_unary
   unfolding is
-  decimal_exact = choose_exact (is t.Decimal) decimal_reader (group_or_name b)
-      (IsToken (is t.Decimal) (λ token. IsPure (tree.Decimal (word_of token)))) (IsToken (is t.Decimal) (λ token. IsPure (tree.Decimal (word_of token)))) (GroupRel O) (GroupRel W) on_unary
+  division_at word = level.opens_exact (is t.Open) (λ u _. division_reader word u) (IsDivision word) on_unary refl (marks_of t.Open refl) (λ u U V inner o. division_exact u U V inner word o) (some_division word)
+
+  behind_word : (word : Lexeme) → Exact (quotient_reader b word) (IsQuotient O word) (IsQuotient W word) nowhere on_unary
+  behind_word word = choose_exact (is t.Open) (division_opening b word) refuse (O (is t.Open) (IsDivision word)) (W (is t.Open) (IsDivision word)) IsNothing IsNothing on_unary
+      (division_at word) (refuse_exact IsNothing (is t.Open) on_unary) (level.opens_heads (is t.Open) (IsDivision word)) (λ ts left a r end. elim r [ ])
+
+  some_quotient : (word : Lexeme) → Some_of (IsQuotient W word)
+  some_quotient word = let s = level.some (is t.Open) (IsDivision word) an_open.0 an_open_is (some_division word) in (s.0, s.1, one s.2)
+
+  -- where nothing may open, reading stops behind the word
+  stops_behind : b ≡ None → (word : Lexeme) (ts bad : List Lexeme) (w : Why) → quotient_reader b word ts ≡ stopped w bad → ts ≡ bad
+  unfolding opening
+  stops_behind none word ts bad w e = by_test (is t.Open (peek ts)) (sym (ap (λ b. quotient_reader b word ts) none) ∙ e)
+    where
+      by_test : (v : Bool) → cond {A = Got Expr} v (stopped nesting ts) (stopped syntax ts) ≡ stopped w bad → ts ≡ bad
+      by_test true e = cc
+      by_test false e = cc
+
+  word_alive : (word : Lexeme) (ts bad : List Lexeme) (w : Why) → is_rounding (terminal word) ≡ true → quotient_reader b word ts ≡ stopped w bad → Begun (IsToken is_rounding (IsQuotient O)) w (word ∷ ts) bad
+  word_alive word ts bad w is e = by_level level.quotients
+    where
+      by_level : (b ≡ None) ⊎ ((word : Lexeme) → Some_of (IsQuotient O word)) → Begun (IsToken is_rounding (IsQuotient O)) w (word ∷ ts) bad
+      by_level (inr here) = token_live is_rounding (quotient_reader b) (IsQuotient O) (IsQuotient W) on_unary refl behind_word some_quotient here word ts bad w is e
+      by_level (inl none) = record {
+        pre = word ∷ [];
+        cut = ap (λ l. word ∷ l) (stops_behind none word ts bad w e);
+        live = at_keyword [] word (rounding_waits (terminal word) is) (inl refl);
+        marks = ((behind_word word).alive ts bad w refl e).marks;
+      }
+
+  quotient_exact : Exact (pass (quotient_reader b)) (IsToken is_rounding (IsQuotient O)) (IsToken is_rounding (IsQuotient W)) (λ k. not (is_rounding k)) on_unary
+  quotient_exact = token_exact_by is_rounding (quotient_reader b) (IsQuotient O) (IsQuotient W) on_unary refl behind_word some_quotient word_alive
+
+  abbrev QuotientRel : Opening → Rel Expr
+  QuotientRel O = IsEither (IsToken is_rounding (IsQuotient O)) (GroupRel O)
+
+  quotient_or_group_exact : Exact (quotient_or_group b) (QuotientRel O) (QuotientRel W) nowhere on_unary
+  quotient_or_group_exact = choose_exact is_rounding (pass (quotient_reader b)) (group_or_name b) (IsToken is_rounding (IsQuotient O)) (IsToken is_rounding (IsQuotient W)) (GroupRel O) (GroupRel W) on_unary
+      quotient_exact (from_anywhere group_or_name_exact) token_heads (λ ts left a r end. group_no_rounding ts left a r)
+
+  quotient_heads : (that : Terminal) → is that t.Open ≡ false → ((k : Terminal) → Apart k → is that k ≡ false) → (ts left : List Lexeme) (a : Expr) → QuotientRel O ts a → is that (peek (ts ++ left)) ≡ false
+  quotient_heads that off words ts left a (one r) = words _ (rounding_apart _ (token_heads ts left a r))
+  quotient_heads that off words ts left a (other r) = group_heads that off words ts left a r
+
+  abbrev DecimalRel : Opening → Rel Expr
+  DecimalRel O = IsEither (IsToken (is t.Decimal) (λ token. IsPure (tree.Decimal (word_of token)))) (QuotientRel O)
+
+  decimal_exact : Exact (choose (is t.Decimal) decimal_reader (quotient_or_group b)) (DecimalRel O) (DecimalRel W) nowhere on_unary
+  unfolding is
+  decimal_exact = choose_exact (is t.Decimal) decimal_reader (quotient_or_group b)
+      (IsToken (is t.Decimal) (λ token. IsPure (tree.Decimal (word_of token)))) (IsToken (is t.Decimal) (λ token. IsPure (tree.Decimal (word_of token)))) (QuotientRel O) (QuotientRel W) on_unary
       (token_exact (is t.Decimal) (λ token. ending opens (tree.Decimal (word_of token))) (λ token. IsPure (tree.Decimal (word_of token))) (λ token. IsPure (tree.Decimal (word_of token))) on_unary refl
       (λ token. ending_exact (tree.Decimal (word_of token)) nowhere opens) (λ token. ([], tree.Decimal (word_of token), nothing)) (λ token. ([], tree.Decimal (word_of token), nothing)))
-      (from_anywhere group_or_name_exact) token_heads (λ ts left a r end. group_heads t.Decimal refl (λ k apart. apart.decimal) ts left a r)
+      (from_anywhere quotient_or_group_exact) token_heads (λ ts left a r end. quotient_heads t.Decimal refl (λ k apart. apart.decimal) ts left a r)
 
   decimal_heads : (that : Terminal) → is that t.Decimal ≡ false → is that t.Open ≡ false → ((k : Terminal) → Apart k → is that k ≡ false)
       → (ts left : List Lexeme) (a : Expr) → DecimalRel O ts a → is that (peek (ts ++ left)) ≡ false
   decimal_heads that off paren names ts left a (one r) = is_apart t.Decimal that _ (token_heads ts left a r) off
-  decimal_heads that off paren names ts left a (other r) = group_heads that paren names ts left a r
+  decimal_heads that off paren names ts left a (other r) = quotient_heads that paren names ts left a r
 
   primary_exact : Exact (primary_reader b) (IsPrimaryIn O) (IsPrimaryIn W) nowhere on_unary
   unfolding is
-  primary_exact = choose_exact (is t.Number) number_reader (choose (is t.Decimal) decimal_reader (group_or_name b))
+  primary_exact = choose_exact (is t.Number) number_reader (choose (is t.Decimal) decimal_reader (quotient_or_group b))
       (IsToken (is t.Number) (λ token. IsPure (tree.Number (numeral_of token)))) (IsToken (is t.Number) (λ token. IsPure (tree.Number (numeral_of token)))) (DecimalRel O) (DecimalRel W) on_unary
       (token_exact (is t.Number) (λ token. ending opens (tree.Number (numeral_of token))) (λ token. IsPure (tree.Number (numeral_of token))) (λ token. IsPure (tree.Number (numeral_of token))) on_unary refl
       (λ token. ending_exact (tree.Number (numeral_of token)) nowhere opens) (λ token. ([], tree.Number (numeral_of token), nothing)) (λ token. ([], tree.Number (numeral_of token), nothing)))
@@ -322,8 +427,9 @@ module _ (b : Option (Reader Expr)) (O W : Opening) (level : Level b O W) where
   unary_heads ts left a (one r) = begins_at t.Minus ts left (level.opens_heads (is t.Minus) IsNegative ts left a r) refl
   unary_heads ts left a (other (one r)) = begins_at t.Number ts left (token_heads ts left a r) refl
   unary_heads ts left a (other (other (one r))) = begins_at t.Decimal ts left (token_heads ts left a r) refl
-  unary_heads ts left a (other (other (other (one r)))) = begins_at t.Open ts left (level.opens_heads (is t.Open) IsGroup ts left a r) refl
-  unary_heads ts left a (other (other (other (other r)))) = (name_heads ts left a r).begin
+  unary_heads ts left a (other (other (other (one r)))) = (rounding_apart _ (token_heads ts left a r)).begin
+  unary_heads ts left a (other (other (other (other (one r))))) = begins_at t.Open ts left (level.opens_heads (is t.Open) IsGroup ts left a r) refl
+  unary_heads ts left a (other (other (other (other (other r))))) = (name_heads ts left a r).begin
 
 -- ---- at each room
 

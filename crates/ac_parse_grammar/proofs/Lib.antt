@@ -14,6 +14,7 @@ pub mod MixedRooms
 pub mod Parts
 pub mod Productions
 pub mod Public
+pub mod Quotients
 pub mod ReadConditions
 pub mod ReadExpressions
 pub mod Relations

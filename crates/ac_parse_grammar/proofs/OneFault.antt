@@ -37,6 +37,8 @@ cuts (u ∷ a) b (v ∷ c) d e =
 not_both : (k : Terminal) → opens_construct k ≡ true → awaits_parenthesis k ≡ true → ⊥
 not_both t.For o a = cc
 not_both t.If o a = cc
+not_both t.Floord o a = cc
+not_both t.Ceild o a = cc
 not_both _ o a = cc
 
 -- some file goes on through these tokens

@@ -153,7 +153,7 @@ module _ {A : Type 0} (test : Terminal → Bool) (f : Lexeme → Reader A) (R V 
     alive = λ ts bad w start e. token_alive alive ts bad w (not_not _ start) e;
   }
 
-  token_live : ((t : Lexeme) → Some_of (R t)) → Alive_behind
+  pub token_live : ((t : Lexeme) → Some_of (R t)) → Alive_behind
   token_live here t ts bad w is e =
       let c = (one t).alive ts bad w refl e in
       let n = here t in

@@ -31,6 +31,10 @@ pub a_number : Spelled t.Number
 unfolding terminal
 a_number = (record { kind = token.Number; at = 0; text = [] }, refl)
 
+pub an_open : Spelled t.Open
+unfolding terminal
+an_open = (mark (40 ∷ []), refl)
+
 pub a_close : Spelled t.Close
 unfolding terminal
 a_close = (mark (41 ∷ []), refl)
@@ -90,6 +94,8 @@ begins t.Number = true
 begins t.Decimal = true
 begins t.Minus = true
 begins t.Open = true
+begins t.Floord = true
+begins t.Ceild = true
 begins k = is_name k
 
 begins_not_close : (k : Terminal) → begins k ≡ true → is t.Close k ≡ false

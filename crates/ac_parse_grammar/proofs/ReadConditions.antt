@@ -1,5 +1,5 @@
 -- What is read as a condition is the grammar's.
-use Rattle.std.specs.Prelude.{true, false, Some, ◌||◌, ◌⊎◌}
+use Rattle.std.specs.Prelude.{Bool, true, false, Some, ◌||◌, ◌⊎◌}
 use Rattle.std.proofs.Common.{◌≡◌, ℕ, zero, suc, List, [], ◌∷◌, ◌++◌, refl, sym, ◌∙◌, ap, subst, inl, inr, append_assoc}
 use Rattle.std.proofs.lemmas.List.{append-nil}
 use Rattle.ac_lex.specs.Lexemes.{Lexeme}
@@ -11,7 +11,7 @@ use Rattle.ac_parse_grammar.specs.declared.tree.Expr.TheVariants as tree
 use Rattle.ac_parse_grammar.specs.declared.tree.Part.{Part}
 use Rattle.ac_parse_grammar.specs.declared.conditions.Mixed.{Mixed}
 use Rattle.ac_parse_grammar.specs.declared.conditions.Mixed.TheVariants.{Condition, Expression}
-use Rattle.ac_parse_grammar.specs.Terminals.{terminal}
+use Rattle.ac_parse_grammar.specs.Terminals.{terminal, is_rounding}
 use Rattle.ac_parse_grammar.specs.TokenWords.{place_of}
 use Rattle.ac_parse_grammar.specs.ReaderCombinators.{is}
 use Rattle.ac_parse_grammar.specs.Found.{Rel}
@@ -24,7 +24,7 @@ use Rattle.ac_parse_grammar.proofs.Many.{no_more}
 use Rattle.ac_parse_grammar.proofs.Parts.{is_true, true_is, IsPure, nothing, pure_empty, pure_is, IsToken, token, one, other, IsNot, aside, closed, IsHeld, goes_exact, equal_exact}
 use Rattle.ac_parse_grammar.proofs.Repeats.{has, IsLinked, linked}
 use Rattle.ac_parse_grammar.proofs.Relations.{at_limit, around, IsGroup, IsProduct, IsSum, IsUnaryIn, IsUnaryAt, IsExprAt}
-use Rattle.ac_parse_grammar.proofs.Levels.{is_apart, name_apart}
+use Rattle.ac_parse_grammar.proofs.Levels.{is_apart, name_apart, rounding_apart}
 use Rattle.ac_parse_grammar.proofs.Productions.{on_expr}
 use Rattle.ac_parse_grammar.proofs.MixedRelations.{IsCompared, IsBehind, IsParen, IsConditionOf, IsParts, IsMore, paren_at, IsMixedPartAt, IsMixedAt}
 use Rattle.ac_parse_grammar.proofs.MixedLevels.{part_more, conditions_exact, some_part}
@@ -59,8 +59,8 @@ grouped room ds first u _ e (both {us = cs} {a = term} (both {ts = vs} {us = bs}
 group_unary : (room : ℕ) (left right : Lexeme) (ts : List Lexeme) (inner : Expr) → is t.Open (terminal left) ≡ true → IsExpr room ts inner → terminal right ≡ t.Close
     → IsUnaryAt (suc room) (left ∷ ts ++ right ∷ []) (tree.Group inner (place_of left))
 unfolding IsUnaryAt
-group_unary room left right ts inner at i close = other (other (other (one (token at
-    (map_of (IsHeld (IsExprAt room) t.Close) (λ inner. tree.Group inner (place_of left)) (ts ++ right ∷ []) inner (both (aloud_expr room ts inner i) (closed close)))))))
+group_unary room left right ts inner at i close = other (other (other (other (one (token at
+    (map_of (IsHeld (IsExprAt room) t.Close) (λ inner. tree.Group inner (place_of left)) (ts ++ right ∷ []) inner (both (aloud_expr room ts inner i) (closed close))))))))
 
 behind_to : (room : ℕ) (left right : Lexeme) → is t.Open (terminal left) ≡ true → terminal right ≡ t.Close → (ts us : List Lexeme) (inner m : Mixed) → Says room ts inner
     → IsBehind (IsUnaryAt (suc room)) (place_of left) inner us m → SaysPart (suc room) ((left ∷ ts ++ right ∷ []) ++ us) m
@@ -113,23 +113,31 @@ record NotOpen (ts : List Lexeme) : Type 0 where
   cut : ts ≡ first ∷ more
   off : is t.Open (terminal first) ≡ false
 
+not_open : {A : Type 0} {test : Terminal → Bool} {R : Lexeme → Rel A} → ((k : Terminal) → test k ≡ true → is t.Open k ≡ false) → (ts : List Lexeme) (a : A) → IsToken test R ts a → NotOpen ts
+not_open off _ a (token {t = first} {ts = ts} at r) = record { first = first; more = ts; cut = refl; off = off (terminal first) at }
+
+rounding_not_open : (k : Terminal) → is_rounding k ≡ true → is t.Open k ≡ false
+rounding_not_open k e = (rounding_apart k e).paren
+
 split_in : (U : Rel Expr) (ts : List Lexeme) (a : Expr) → IsUnaryIn (around U) ts a → IsToken (is t.Open) (IsGroup U) ts a ⊎ NotOpen ts
 unfolding is
 split_in U _ a (one (token {t = first} {ts = ts} at r)) = inr (record { first = first; more = ts; cut = refl; off = is_apart t.Minus t.Open _ at refl })
 split_in U _ a (other (one (token {t = first} {ts = ts} at r))) = inr (record { first = first; more = ts; cut = refl; off = is_apart t.Number t.Open _ at refl })
 split_in U _ a (other (other (one (token {t = first} {ts = ts} at r)))) = inr (record { first = first; more = ts; cut = refl; off = is_apart t.Decimal t.Open _ at refl })
-split_in U ts a (other (other (other (one r)))) = inl r
-split_in U _ a (other (other (other (other (one (token {t = first} {ts = ts} at r)))))) = inr (record { first = first; more = ts; cut = refl; off = (name_apart _ at).paren })
-split_in U ts a (other (other (other (other (other r))))) = elim r [ ]
+split_in U ts a (other (other (other (one r)))) = inr (not_open rounding_not_open ts a r)
+split_in U ts a (other (other (other (other (one r))))) = inl r
+split_in U _ a (other (other (other (other (other (one (token {t = first} {ts = ts} at r))))))) = inr (record { first = first; more = ts; cut = refl; off = (name_apart _ at).paren })
+split_in U ts a (other (other (other (other (other (other r)))))) = elim r [ ]
 
 limit_not_open : (ts : List Lexeme) (a : Expr) → IsUnaryIn at_limit ts a → NotOpen ts
 unfolding is
 limit_not_open ts a (one r) = elim r [ ]
 limit_not_open _ a (other (one (token {t = first} {ts = ts} at r))) = record { first = first; more = ts; cut = refl; off = is_apart t.Number t.Open _ at refl }
 limit_not_open _ a (other (other (one (token {t = first} {ts = ts} at r)))) = record { first = first; more = ts; cut = refl; off = is_apart t.Decimal t.Open _ at refl }
-limit_not_open ts a (other (other (other (one r)))) = elim r [ ]
-limit_not_open _ a (other (other (other (other (one (token {t = first} {ts = ts} at r)))))) = record { first = first; more = ts; cut = refl; off = (name_apart _ at).paren }
-limit_not_open ts a (other (other (other (other (other r))))) = elim r [ ]
+limit_not_open ts a (other (other (other (one r)))) = not_open rounding_not_open ts a r
+limit_not_open ts a (other (other (other (other (one r))))) = elim r [ ]
+limit_not_open _ a (other (other (other (other (other (one (token {t = first} {ts = ts} at r))))))) = record { first = first; more = ts; cut = refl; off = (name_apart _ at).paren }
+limit_not_open ts a (other (other (other (other (other (other r)))))) = elim r [ ]
 
 plain_from : (room : ℕ) (ts rest : List Lexeme) (e : Expr) → NotOpen ts → IsExprAt room (ts ++ rest) e → IsMixedPartAt room (ts ++ rest) (Expression e)
 plain_from room ts rest e n r =

@@ -7,15 +7,16 @@ use Rattle.ac_parse_grammar.specs.declared.tree.Word.{Word}
 use Rattle.ac_parse_grammar.specs.declared.tree.Expr.{Expr}
 use Rattle.ac_parse_grammar.specs.declared.tree.Expr.TheVariants as tree
 use Rattle.ac_parse_grammar.specs.declared.links.Links.{Links}
-use Rattle.ac_parse_grammar.specs.Terminals.{is_name}
+use Rattle.ac_parse_grammar.specs.Terminals.{is_name, is_rounding}
 use Rattle.ac_parse_grammar.specs.TokenWords.{place_of, word_of, numeral_of}
-use Rattle.ac_parse_grammar.specs.Chains.{start, link, chain}
+use Rattle.ac_parse_grammar.specs.Chains.{start, link, chain, quotient_of}
 use Rattle.ac_parse_grammar.specs.ReaderCombinators.{is}
 use Rattle.ac_parse_grammar.specs.Expressions.{comma_of, add_item, list_item}
 use Rattle.ac_parse_grammar.specs.Found.{Rel}
 use Rattle.ac_parse_grammar.proofs.Exact.{IsThen}
 use Rattle.ac_parse_grammar.proofs.Many.{IsMany}
 use Rattle.ac_parse_grammar.proofs.Parts.{IsNothing, IsPure, IsToken, IsEither, IsHeld, IsMap}
+use Rattle.ac_parse_grammar.proofs.StatementPieces.{IsMarked}
 use Rattle.ac_parse_grammar.proofs.Repeats.{IsRepeat}
 use Rattle.ac_parse_grammar.specs.Operators.{sign_of, star_of}
 
@@ -63,6 +64,13 @@ IsSubscript U open_at = IsHeld (IsExprOf U) t.CloseBracket
 abbrev pub IsGroup : Rel Expr → Lexeme → Rel Expr
 IsGroup U open_at = IsMap (λ inner. tree.Group inner (place_of open_at)) (IsHeld (IsExprOf U) t.Close)
 
+-- a comma, the divisor, and the end of a quotient
+abbrev pub IsDivisor : Lexeme → Expr → Rel Expr
+IsDivisor word a = IsMarked t.Comma (λ _. IsMarked t.Number (λ divisor. IsMarked t.Close (λ _. IsPure (quotient_of word a divisor))))
+
+abbrev pub IsDivision : Lexeme → Rel Expr → Lexeme → Rel Expr
+IsDivision word U open_at = IsThen (IsExprOf U) (IsDivisor word)
+
 abbrev pub IsNegative : Rel Expr → Lexeme → Rel Expr
 IsNegative U sign = IsMap (λ operand. tree.Negative operand (place_of sign)) U
 
@@ -72,11 +80,16 @@ IsSubscripts O = IsMany add_item (O (is t.OpenBracket) IsSubscript) []
 abbrev pub IsNamed : Opening → Lexeme → Rel Expr
 IsNamed O name = IsEither (O (is t.Open) (IsCall (word_of name))) (IsMap (tree.Access (word_of name)) (IsSubscripts O))
 
+-- behind its word
+abbrev pub IsQuotient : Opening → Lexeme → Rel Expr
+IsQuotient O word = IsEither (O (is t.Open) (IsDivision word)) IsNothing
+
 abbrev pub IsPrimaryIn : Opening → Rel Expr
 IsPrimaryIn O = IsEither (IsToken (is t.Number) (λ token. IsPure (tree.Number (numeral_of token))))
     (IsEither (IsToken (is t.Decimal) (λ token. IsPure (tree.Decimal (word_of token))))
+    (IsEither (IsToken is_rounding (IsQuotient O))
     (IsEither (O (is t.Open) IsGroup)
-    (IsEither (IsToken is_name (IsNamed O)) IsNothing)))
+    (IsEither (IsToken is_name (IsNamed O)) IsNothing))))
 
 abbrev pub IsUnaryIn : Opening → Rel Expr
 IsUnaryIn O = IsEither (O (is t.Minus) IsNegative) (IsPrimaryIn O)

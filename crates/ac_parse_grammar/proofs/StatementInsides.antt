@@ -11,7 +11,7 @@ use Rattle.ac_parse_grammar.specs.declared.tree.Statement.{Statement}
 use Rattle.ac_parse_grammar.specs.Terminals.{terminal, is_name}
 use Rattle.ac_parse_grammar.specs.ReaderCombinators.{Got, found, stopped, Reader, and_then, ◌>>=◌, ◌>>◌, pure, peek, rest, is, expect, many, many_from}
 use Rattle.ac_parse_grammar.specs.Found.{Rel, Goes}
-use Rattle.ac_parse_grammar.specs.StatementsReading.{header, assignment, loop_of, branch_of, begins_statement, statements_of, block, statement}
+use Rattle.ac_parse_grammar.specs.StatementsReading.{header, loop_of, branch_of, begins_statement, statements_of, statement}
 use Rattle.ac_parse_grammar.specs.Grammar.{IsCond}
 use Rattle.ac_parse_grammar.specs.StatementsGrammar as g
 use Rattle.ac_parse_grammar.specs.StatementsGrammar.{IsHeader, IsStatement, IsStatements}
@@ -19,12 +19,12 @@ use Rattle.ac_parse_grammar.proofs.Exact.{Exact, Some_of, none, nowhere, IsThen,
 use Rattle.ac_parse_grammar.proofs.Parts.{is_true, true_is, IsPure, nothing, pass, token, one, other, same_exact, pure_exact}
 use Rattle.ac_parse_grammar.proofs.Many.{IsMany, no_more, one_more, many_exact}
 use Rattle.ac_parse_grammar.proofs.StatementLexemes.{a_close, a_close_brace, a_semicolon, an_else}
-use Rattle.ac_parse_grammar.proofs.StatementPieces.{Piece, way, behind, value, value_before, passed, either, either_or, image, mapped, marked, before, named, renamed, anywhere, second_exact}
+use Rattle.ac_parse_grammar.proofs.StatementPieces.{Piece, way, behind, value, value_before, passed, either_or, image, mapped, marked, before, named, renamed, anywhere, second_exact}
 use Rattle.ac_parse_grammar.specs.Conditions.{condition_goes_on}
 use Rattle.ac_parse_grammar.proofs.ReadConditions.{some_cond_at}
 use Rattle.ac_parse_grammar.proofs.StatementGiven.{cond_piece}
 use Rattle.ac_parse_grammar.proofs.StatementProductions.{header_piece, some_header, assigned, assignment_begun}
-use Rattle.ac_parse_grammar.proofs.StatementFlags.{Ending, ending, left_of, on_ending, looped, branched, join_ending, loop_inside, otherwise_flagged, otherwise_flagged_by, branch_inside, flagged_by, flagged, out, flagged_out, many_out}
+use Rattle.ac_parse_grammar.proofs.StatementFlags.{Ending, ending, left_of, on_ending, looped, branched, join_ending, loop_inside, otherwise_flagged, otherwise_flagged_by, branch_inside, flagged, out, flagged_out, many_out}
 
 pub data IsEnding (room : ℕ) : List Lexeme → Ending → Type 0 where
   is_ending : {dangling : Bool} {ts : List Lexeme} {all : List Statement} → IsStatement room dangling ts all → IsEnding room ts (ending dangling all)

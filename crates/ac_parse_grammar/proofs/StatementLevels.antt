@@ -6,7 +6,7 @@ use Rattle.ac_parse_grammar.specs.declared.terminal.Terminal.{Terminal}
 use Rattle.ac_parse_grammar.specs.declared.terminal.Terminal.TheVariants as t
 use Rattle.ac_parse_grammar.specs.declared.tree.Statement.{Statement}
 use Rattle.ac_parse_grammar.specs.Terminals.{terminal, is_name}
-use Rattle.ac_parse_grammar.specs.ReaderCombinators.{Got, found, stopped, Reader, and_then, ◌>>=◌, ◌>>◌, pure, peek, rest, is, expect}
+use Rattle.ac_parse_grammar.specs.ReaderCombinators.{Got, found, stopped, Reader, and_then, ◌>>=◌, pure, peek, rest, is}
 use Rattle.ac_parse_grammar.specs.Found.{Rel, Goes, awaits_parenthesis}
 use Rattle.ac_parse_grammar.specs.Constructs.{opening}
 use Rattle.ac_parse_grammar.specs.StatementsReading.{assignment, begins_statement, block, statement_inside, statement}
@@ -14,7 +14,7 @@ use Rattle.ac_parse_grammar.specs.StatementsGrammar as g
 use Rattle.ac_parse_grammar.proofs.Exact.{Exact, Some_of, none, nowhere}
 use Rattle.ac_parse_grammar.proofs.Parts.{is_true, true_is, IsNothing, IsPure, nothing, pass, IsToken, token, IsEither, one, other, same_exact, token_exact_by, keyword_alive}
 use Rattle.ac_parse_grammar.proofs.StatementLexemes.{an_open, an_open_brace, a_semicolon, a_for, an_if}
-use Rattle.ac_parse_grammar.proofs.StatementPieces.{Piece, way, behind, value, value_before, passed, either, IsImage, image, mapped, IsMarked, marked, expected, before, named, renamed, made, at_test, barred_exact, barred_stops, opening_none, opening_some, anywhere}
+use Rattle.ac_parse_grammar.proofs.StatementPieces.{Piece, way, value_before, passed, either, IsImage, image, mapped, IsMarked, marked, expected, named, renamed, made, at_test, barred_exact, barred_stops, opening_none, opening_some, anywhere}
 use Rattle.ac_parse_grammar.proofs.StatementProductions.{IsAssigned, assigned, assignment_exact, some_assignment, assignment_begun, assignment_here}
 use Rattle.ac_parse_grammar.proofs.StatementFlags.{Ending, ending, closed_by, on_ending, loop_inside, branch_inside, flagged_by, flagged_in, flagged_inside, flagged}
 use Rattle.ac_parse_grammar.proofs.StatementInsides.{IsEnding, is_ending, statement_begins, open_real, for_real, if_real, brace_real, semicolon_real, IsLoopInside, loop_rest, IsBranchInside, branch_rest, branch_else_rest, IsBraced, braced, some_loop_inside, some_branch_inside, some_braced, Level, braces, loop_inside_exact, branch_inside_exact, braced_exact}

@@ -1,5 +1,6 @@
 -- How expressions are read.
 use Rattle.std.specs.Prelude.{ℕ, zero, suc, Bool, true, false, List, [], ◌∷◌, ◌++◌, Option, Some, None, if◌then◌else◌}
+use Rattle.ac_lex.specs.Lexemes.{Lexeme}
 use Rattle.ac_parse_grammar.specs.declared.terminal.Terminal.{Terminal}
 use Rattle.ac_parse_grammar.specs.declared.terminal.Terminal.TheVariants as t
 use Rattle.ac_parse_grammar.specs.declared.tree.Word.{Word}
@@ -7,8 +8,8 @@ use Rattle.ac_parse_grammar.specs.declared.tree.Expr.{Expr}
 use Rattle.ac_parse_grammar.specs.declared.tree.Expr.TheVariants as tree
 use Rattle.ac_parse_grammar.specs.declared.links.Links.{Links}
 use Rattle.ac_parse_grammar.specs.TokenWords.{place_of, word_of, numeral_of}
-use Rattle.ac_parse_grammar.specs.Chains.{start, link, chain}
-use Rattle.ac_parse_grammar.specs.ReaderCombinators.{Reader, found, stopped, nesting, ◌>>=◌, ◌>>◌, pure, peek, front, take, by_terminal, is, expect, ending, name, repeat, many}
+use Rattle.ac_parse_grammar.specs.Chains.{start, link, chain, quotient_of}
+use Rattle.ac_parse_grammar.specs.ReaderCombinators.{Reader, found, stopped, syntax, nesting, ◌>>=◌, ◌>>◌, pure, peek, front, take, by_terminal, is, expect, ending, name, repeat, many}
 use Rattle.ac_parse_grammar.specs.Operators.{sign_of, star_of}
 
 abbrev pub comma_of : Terminal → Option (Unit {0})
@@ -78,9 +79,22 @@ named below word = λ ts. if is t.Open (peek ts) then (within below arguments t.
 unfoldable pub group : Option (Reader Expr) → Reader Expr
 group below = λ ts. (within below expr_of t.Close >>= (λ inner. pure (tree.Group inner (place_of (front ts))))) ts
 
+-- what a quotient divides, a comma, and its divisor
+unfoldable pub divided : Lexeme → Reader Expr → Reader Expr
+divided word unary = expr_of unary >>= (λ a. expect t.Comma >> (expect t.Number >>= (λ divisor. pure (quotient_of word a divisor))))
+
+-- a quotient, behind its word
+unfoldable pub division : Option (Reader Expr) → Lexeme → Reader Expr
+division below word = λ ts. if is t.Open (peek ts) then within below (divided word) t.Close ts else stopped syntax ts
+
+unfoldable pub quotient : Option (Reader Expr) → Reader Expr
+quotient below = take >>= division below
+
 abbrev pub primary_by : Option (Reader Expr) → Terminal → Reader Expr
 primary_by below t.Number = take >>= (λ token. pure (tree.Number (numeral_of token)))
 primary_by below t.Decimal = take >>= (λ token. pure (tree.Decimal (word_of token)))
+primary_by below t.Floord = quotient below
+primary_by below t.Ceild = quotient below
 primary_by below t.Open = group below
 primary_by below _ = name >>= named below
 

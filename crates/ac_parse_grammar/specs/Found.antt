@@ -2,7 +2,7 @@
 use Rattle.std.specs.Prelude.{◌≡◌, Bool, true, false, List, [], ◌∷◌, ◌++◌, ◌⊎◌}
 use Rattle.ac_lex.specs.Lexemes.{Lexeme}
 use Rattle.ac_parse_grammar.specs.declared.terminal.Terminal.{Terminal}
-use Rattle.ac_parse_grammar.specs.declared.terminal.Terminal.TheVariants.{For, If, Open, OpenBracket, OpenBrace, Minus}
+use Rattle.ac_parse_grammar.specs.declared.terminal.Terminal.TheVariants.{For, If, Floord, Ceild, Open, OpenBracket, OpenBrace, Minus}
 use Rattle.ac_parse_grammar.specs.Terminals.{terminal}
 use Rattle.ac_parse_grammar.specs.ReaderCombinators.{Why, nesting, Reader, stopped, peek, front}
 
@@ -42,13 +42,15 @@ opens_construct OpenBrace = true
 opens_construct Minus = true
 opens_construct _ = false
 
--- the keywords behind which a parenthesis opens
+-- the words behind which a parenthesis opens in each case
 abbrev pub awaits_parenthesis : Terminal → Bool
 awaits_parenthesis For = true
 awaits_parenthesis If = true
+awaits_parenthesis Floord = true
+awaits_parenthesis Ceild = true
 awaits_parenthesis _ = false
 
--- Tokens begin something of the relation, but for such a keyword at their end: where no construct more may open, its parenthesis
+-- Tokens begin something of the relation, but for such a word at their end: where no construct more may open, its parenthesis
 -- may not.
 pub data Begins {A : Type 0} (R : Rel A) : List Lexeme → Type 0 where
   begins_whole : {pre : List Lexeme} → CanGoOn R pre → Begins R pre

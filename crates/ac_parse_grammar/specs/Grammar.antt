@@ -9,9 +9,9 @@ use Rattle.ac_parse_grammar.specs.declared.tree.Expr.{Expr}
 use Rattle.ac_parse_grammar.specs.declared.tree.Expr.TheVariants.{Number, Decimal, Access, Call, Negative, Group}
 use Rattle.ac_parse_grammar.specs.declared.tree.Part.{Part}
 use Rattle.ac_parse_grammar.specs.declared.links.Links.{Links}
-use Rattle.ac_parse_grammar.specs.Terminals.{terminal, is_name}
+use Rattle.ac_parse_grammar.specs.Terminals.{terminal, is_name, is_rounding}
 use Rattle.ac_parse_grammar.specs.TokenWords.{place_of, word_of, numeral_of}
-use Rattle.ac_parse_grammar.specs.Chains.{start, link, chain, part_of}
+use Rattle.ac_parse_grammar.specs.Chains.{start, link, chain, quotient_of, part_of}
 use Rattle.ac_parse_grammar.specs.Operators.{sign_of, star_of, relation_of}
 
 mutual
@@ -39,7 +39,7 @@ mutual
         → terminal sign ≡ t.Minus → IsUnary room ts a → IsUnary (suc room) (sign ∷ ts) (Negative a (place_of sign))
     primary : {room : ℕ} {ts : List Lexeme} {a : Expr} → IsPrimary room ts a → IsUnary room ts a
 
-  -- primary = Number | Decimal | name subscripts | name "(" arguments ")" | "(" expr ")"
+  -- primary = Number | Decimal | name subscripts | name "(" arguments ")" | ("floord" | "ceild") "(" expr "," Number ")" | "(" expr ")"
   pub data IsPrimary : ℕ → List Lexeme → Expr → Type 0 where
     number : {room : ℕ} {n : Lexeme} → terminal n ≡ t.Number → IsPrimary room (n ∷ []) (Number (numeral_of n))
     decimal : {room : ℕ} {n : Lexeme} → terminal n ≡ t.Decimal → IsPrimary room (n ∷ []) (Decimal (word_of n))
@@ -48,6 +48,9 @@ mutual
     call : {room : ℕ} {n left : Lexeme} {ts : List Lexeme} {args : List Expr} (right : Lexeme)
         → is_name (terminal n) ≡ true → terminal left ≡ t.Open → Arguments room ts args → terminal right ≡ t.Close
         → IsPrimary (suc room) (n ∷ left ∷ ts ++ right ∷ []) (Call (word_of n) args)
+    quotient : {room : ℕ} {word left : Lexeme} {ts : List Lexeme} {a : Expr} (comma divisor right : Lexeme)
+        → is_rounding (terminal word) ≡ true → terminal left ≡ t.Open → IsExpr room ts a → terminal comma ≡ t.Comma → terminal divisor ≡ t.Number → terminal right ≡ t.Close
+        → IsPrimary (suc room) (word ∷ left ∷ ts ++ comma ∷ divisor ∷ right ∷ []) (quotient_of word a divisor)
     group : {room : ℕ} {left : Lexeme} {ts : List Lexeme} {a : Expr} (right : Lexeme)
         → terminal left ≡ t.Open → IsExpr room ts a → terminal right ≡ t.Close → IsPrimary (suc room) (left ∷ ts ++ right ∷ []) (Group a (place_of left))
 

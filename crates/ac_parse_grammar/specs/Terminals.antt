@@ -16,11 +16,12 @@ marks =
     ∷ (codes "++", t.PlusPlus) ∷ (codes "--", t.MinusMinus) ∷ (codes "<", t.Less) ∷ (codes "<=", t.AtMost) ∷ (codes ">", t.Greater)
     ∷ (codes ">=", t.AtLeast) ∷ (codes "==", t.Equal) ∷ (codes "&&", t.And) ∷ []
 
--- the reserved words of C (ISO/IEC 9899, 6.4.1), and the words of pragma lines
+-- the reserved words of C (ISO/IEC 9899, 6.4.1), those of quotients, and the words of pragma lines
 abbrev pub words : List (List ℕ × Terminal)
 words =
     (codes "const", t.Const) ∷ (codes "double", t.Double) ∷ (codes "else", t.Else) ∷ (codes "float", t.Float) ∷ (codes "for", t.For)
-    ∷ (codes "if", t.If) ∷ (codes "int", t.Int) ∷ (codes "long", t.Long) ∷ (codes "void", t.Void) ∷ (codes "context", t.Context)
+    ∷ (codes "if", t.If) ∷ (codes "int", t.Int) ∷ (codes "long", t.Long) ∷ (codes "void", t.Void) ∷ (codes "floord", t.Floord)
+    ∷ (codes "ceild", t.Ceild) ∷ (codes "context", t.Context)
     ∷ (codes "commutative", t.Commutative) ∷ (codes "output", t.Output)
     ∷ (codes "auto", t.Other) ∷ (codes "break", t.Other) ∷ (codes "case", t.Other) ∷ (codes "char", t.Other) ∷ (codes "continue", t.Other)
     ∷ (codes "default", t.Other) ∷ (codes "do", t.Other) ∷ (codes "enum", t.Other) ∷ (codes "extern", t.Other) ∷ (codes "goto", t.Other)
@@ -56,3 +57,14 @@ is_name t.Context = true
 is_name t.Commutative = true
 is_name t.Output = true
 is_name _ = false
+
+-- the words that begin a quotient
+abbrev pub is_rounding : Terminal → Bool
+is_rounding t.Floord = true
+is_rounding t.Ceild = true
+is_rounding _ = false
+
+-- which of the two rounds up
+abbrev pub rounds_up : Terminal → Bool
+rounds_up t.Ceild = true
+rounds_up _ = false

@@ -1,6 +1,8 @@
 //! Reading expressions: recursive descent, one token of look-ahead.
 
 ghost use Rattle.std.specs.Prelude.{◌≡◌, ◌+◌, Some, None, IfOk, IfErr, OnOk, OnErr};
+ghost use Rattle.ac_lex.specs.Lexemes.{lexeme_of};
+ghost use Rattle.ac_parse_grammar.specs.Terminals.{rounds_up};
 ghost use Rattle.ac_parse_grammar.specs.ReaderCombinators.{Reads, found, operator, rest, front};
 ghost use Rattle.ac_parse_grammar.specs.Expressions as spec;
 ghost use Rattle.ac_parse_grammar.specs.Grammar.{IsExpr};
@@ -10,10 +12,11 @@ ghost use Rattle.ac_parse_grammar.specs.Operators.{sign_of, star_of};
 use crate::boxed::Boxed;
 use crate::cursor::{Cursor, Stop};
 use crate::links::Links;
-use crate::terminal::Terminal;
+use crate::terminal::{Terminal, terminal_of};
 use crate::tree::{Expr, Operator, Word};
-use crate::words::{name, numeral, word};
+use crate::words::{name, numeral, place, word};
 use ac_base::Items;
+use ac_lex::tokens::Token;
 use std::alloc::Global;
 
 /// The operator of a sum that a terminal stands for.
@@ -240,12 +243,71 @@ fn any_primary(alloc: Global, tokens: &mut Cursor<'_>, room: usize) -> Result<Ex
             let token = tokens.take();
             Ok(Expr::Decimal(word(alloc, &token)?))
         }
+        Terminal::Floord | Terminal::Ceild => quotient(alloc, tokens, room),
         Terminal::Open => group(alloc, tokens, room),
         _ => {
             let name = name(alloc, tokens)?;
             named(alloc, tokens, room, name)
         }
     }
+}
+
+#[cycle(expressions)]
+#[tactic(auto, unfolding(crate::specs::Expressions::quotient))]
+fn quotient(alloc: Global, tokens: &mut Cursor<'_>, room: usize) -> Result<Expr, Stop>
+    ensures { Reads (λ e. e) (spec.quotient (spec.below room) tokens.old) result tokens.new }
+{
+    let word = tokens.take();
+    division(alloc, tokens, room, &word)
+}
+
+/// A quotient, behind its word.
+#[cycle(expressions)]
+#[tactic(auto, unfolding(crate::specs::Expressions::division, crate::specs::Expressions::within), using(crate::proofs::Rooms::within_none, crate::proofs::Rooms::within_some))]
+fn division(
+    alloc: Global,
+    tokens: &mut Cursor<'_>,
+    room: usize,
+    word: &Token<'_>,
+) -> Result<Expr, Stop>
+    ensures { Reads (λ e. e) (spec.division (spec.below room) (lexeme_of word.now) tokens.old) result tokens.new }
+{
+    if !tokens.sees(Terminal::Open) {
+        return Err(Stop::Syntax);
+    }
+    let room = open(tokens, room)?;
+    let quotient = divided(alloc, tokens, room, word)?;
+    tokens.expect(Terminal::Close)?;
+    Ok(quotient)
+}
+
+/// What a quotient divides, and its divisor.
+#[cycle(expressions)]
+#[tactic(auto, unfolding(crate::specs::Expressions::divided))]
+fn divided(
+    alloc: Global,
+    tokens: &mut Cursor<'_>,
+    room: usize,
+    word: &Token<'_>,
+) -> Result<Expr, Stop>
+    ensures { Reads (λ e. e) (spec.divided (lexeme_of word.now) (spec.unary room) tokens.old) result tokens.new }
+{
+    let argument = expr(alloc, tokens, room)?;
+    tokens.expect(Terminal::Comma)?;
+    let divisor = tokens.expect(Terminal::Number)?;
+    Ok(Expr::Quotient {
+        up: rounds_up(terminal_of(word)),
+        argument: Boxed::new(alloc, argument)?,
+        divisor: numeral(&divisor),
+        place: place(word),
+    })
+}
+
+/// Whether the quotient that this word begins is rounded up.
+fn rounds_up(word: Terminal) -> bool
+    ensures { result ≡ rounds_up word }
+{
+    matches!(word, Terminal::Ceild)
 }
 
 #[cycle(expressions)]

@@ -47,6 +47,8 @@ pub enum Terminal {
     Int,
     Long,
     Void,
+    Floord,
+    Ceild,
     Context,
     Commutative,
     Output,
@@ -89,7 +91,7 @@ const MARKS: [(&[u8], Terminal); 27] = [
     (b"&&", Terminal::And),
 ];
 
-const WORDS: [(&[u8], Terminal); 37] = [
+const WORDS: [(&[u8], Terminal); 39] = [
     (b"const", Terminal::Const),
     (b"double", Terminal::Double),
     (b"else", Terminal::Else),
@@ -99,6 +101,8 @@ const WORDS: [(&[u8], Terminal); 37] = [
     (b"int", Terminal::Int),
     (b"long", Terminal::Long),
     (b"void", Terminal::Void),
+    (b"floord", Terminal::Floord),
+    (b"ceild", Terminal::Ceild),
     (b"context", Terminal::Context),
     (b"commutative", Terminal::Commutative),
     (b"output", Terminal::Output),

@@ -48,6 +48,13 @@ pub enum Expr {
         name: Word,
         args: Items<Expr>,
     },
+    /// A quotient, rounded down or `up`; `place` is that of its word.
+    Quotient {
+        up: bool,
+        argument: Boxed<Expr>,
+        divisor: Numeral,
+        place: Place,
+    },
     /// Unary minus; `place` is the sign's.
     Negative {
         operand: Boxed<Expr>,

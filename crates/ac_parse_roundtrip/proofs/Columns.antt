@@ -30,7 +30,7 @@ use Rattle.ac_parse_exprs.specs.AffineForms.{is_constant, plus_times, times, sum
 use Rattle.ac_parse_exprs.specs.IndexExpressions.{is_long, judged_number, gathered, no_parts, name_form, judged_name, judged_other, judged_variable, judged_access, judged_negative, form_of, is_not_affine, joined, chained, judged_chain, judged}
 use Rattle.ac_parse_exprs.specs.Comparisons.{difference_form, difference, compared_form, compared}
 use Rattle.ac_parse_exprs.proofs.Absent.{neither, not_where, each_map}
-use Rattle.ac_parse_exprs.proofs.Judging.{judged-number, judged-decimal, judged-access, judged-call, judged-negative, judged-group, judged-chain}
+use Rattle.ac_parse_exprs.proofs.Judging.{judged-number, judged-decimal, judged-access, judged-call, judged-quotient, judged-negative, judged-group, judged-chain}
 use Rattle.ac_parse_exprs.proofs.Trees.{every_expr}
 use Rattle.ac_parse_roundtrip.specs.ColumnNames.{Stands}
 
@@ -252,6 +252,7 @@ module _ (names : List Entry) (scope : Scope) where
       (λ word. subst Names (sym (judged-decimal names scope word)) (λ h. tt))
       (λ name subs h. subst Names (sym (judged-access names scope name subs)) (access_names name (length subs) (gathered no_parts (map (judged names scope) subs))))
       (λ name args h. subst Names (sym (judged-call names scope name args)) (λ g. tt))
+      (λ up argument divisor place h. subst Names (sym (judged-quotient names scope up argument divisor place)) (λ g. tt))
       (λ operand place h. subst Names (sym (judged-negative names scope operand place)) (negative_names place (judged names scope operand) h))
       (λ inner place h. subst Names (sym (judged-group names scope inner place)) h)
       (λ operands operators h. subst Names (sym (judged-chain names scope operands operators))

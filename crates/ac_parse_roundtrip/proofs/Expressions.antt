@@ -1,6 +1,6 @@
--- What holds of numbers, of decimals, of names with subscripts, and of calls, negatives, groups and chains of expressions with it
+-- What holds of numbers, of decimals, of names with subscripts, and of calls, quotients, negatives, groups and chains of expressions with it
 -- holds of each expression that the grammar gives for tokens that are spelled as their kinds say.
-use Rattle.std.specs.Prelude.{List, [], ◌∷◌, ◌++◌}
+use Rattle.std.specs.Prelude.{Bool, List, [], ◌∷◌, ◌++◌}
 use Rattle.std.specs.List.{AllByRecursion}
 use Rattle.std.proofs.Common.{ℕ}
 use Rattle.ac_syntax.specs.declared.tree.Place.{Place}
@@ -12,9 +12,10 @@ use Rattle.ac_parse_grammar.specs.declared.tree.Expr.{Expr}
 use Rattle.ac_parse_grammar.specs.declared.tree.Expr.TheVariants as expr
 use Rattle.ac_parse_grammar.specs.declared.tree.Part.{Part}
 use Rattle.ac_parse_grammar.specs.declared.links.Links.{Links}
+use Rattle.ac_parse_grammar.specs.Terminals.{terminal, rounds_up}
 use Rattle.ac_parse_grammar.specs.TokenWords.{place_of, word_of, numeral_of}
 use Rattle.ac_parse_grammar.specs.Chains.{chain_of}
-use Rattle.ac_parse_grammar.specs.Grammar.{IsExpr, sum, Terms, one_term, next_term, IsTerm, product, Factors, one_factor, next_factor, IsUnary, negative, primary, IsPrimary, number, decimal, access, call, group, Arguments, no_argument, some_arguments, ArgumentList, one_argument, next_argument, IsCond, one_part, next_part, IsPart, comparison, nested}
+use Rattle.ac_parse_grammar.specs.Grammar.{IsExpr, sum, Terms, one_term, next_term, IsTerm, product, Factors, one_factor, next_factor, IsUnary, negative, primary, IsPrimary, number, decimal, access, call, quotient, group, Arguments, no_argument, some_arguments, ArgumentList, one_argument, next_argument, IsCond, one_part, next_part, IsPart, comparison, nested}
 use Rattle.ac_parse_exprs.proofs.Absent.{each_append}
 use Rattle.ac_parse_roundtrip.specs.TokenSpelling.{AreSpelled}
 use Rattle.ac_parse_roundtrip.proofs.NameTerminals.{IsNamed, is_named, IsConstant, constant_is}
@@ -33,6 +34,7 @@ module _ (P : Expr → Type 0)
     (decimal_has : (word : Word) → IsConstant word.name → P (expr.Decimal word))
     (access_has : (name : Word) (subs : List Expr) → IsNamed name.name → P (expr.Access name subs))
     (call_has : (name : Word) (args : List Expr) → IsNamed name.name → AllByRecursion P args → P (expr.Call name args))
+    (quotient_has : (up : Bool) (argument : Expr) (divisor : Numeral) (place : Place) → P argument → P (expr.Quotient up argument divisor place))
     (negative_has : (operand : Expr) (place : Place) → P operand → P (expr.Negative operand place))
     (group_has : (inner : Expr) (place : Place) → P inner → P (expr.Group inner place))
     (chain_has : (operands : List Expr) (operators : List Operator) → AllByRecursion P operands → P (expr.Chain operands operators)) where
@@ -67,6 +69,8 @@ module _ (P : Expr → Type 0)
     primary_has (decimal {n = n} is) h = decimal_has (word_of n) (constant_is n h.0 is)
     primary_has (access {n = n} {subs = subs} is are) h = access_has (word_of n) subs (is_named n h.0 is)
     primary_has (call {n = n} {ts = ts} {args = args} right is opens are closes) h = call_has (word_of n) args (is_named n h.0 is) (arguments_have are (front_spelled ts (right ∷ []) h.1.1))
+    primary_has (quotient {word = word} {ts = ts} {a = a} comma divisor right rounds opens is c n closes) h =
+        quotient_has (rounds_up (terminal word)) a (numeral_of divisor) (place_of word) (expr_has is (front_spelled ts (comma ∷ divisor ∷ right ∷ []) h.1.1))
     primary_has (group {left = left} {ts = ts} {a = a} right opens is closes) h = group_has a (place_of left) (expr_has is (front_spelled ts (right ∷ []) h.1))
 
     arguments_have : {room : ℕ} {ts : List Lexeme} {args : List Expr} → Arguments room ts args → AreSpelled ts → AllByRecursion P args

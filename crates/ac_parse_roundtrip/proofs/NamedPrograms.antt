@@ -3,6 +3,7 @@ use Rattle.std.specs.Prelude.{◌≡◌, ◌<◌, ◌+◌, ℕ, zero, suc, Bool,
 use Rattle.std.specs.List.{AllByRecursion}
 use Rattle.std.proofs.Common.{refl, arith}
 use Rattle.ac_syntax.specs.ReadyPrograms.{AllFit, ReadyProgram}
+use Rattle.ac_syntax.proofs.Fitting.{forms_plain, parts_plain}
 use Rattle.ac_syntax.specs.Small.{AreSmallForms}
 use Rattle.ac_syntax.specs.declared.tree.Array.{Array}
 use Rattle.ac_syntax.specs.declared.tree.Kind.{Kind}
@@ -37,6 +38,7 @@ use Rattle.ac_parse_exprs.proofs.Absent.{NoneBroken, neither, none_of, each_appe
 use Rattle.ac_parse_rules.proofs.ArraysUsed.{has_declared}
 use Rattle.ac_parse_exprs.proofs.NumberedMeanings.{declared_has}
 use Rattle.ac_parse_rules.proofs.DeclaredNumbers.{MeansBelow, NamesBelow, names_below}
+use Rattle.ac_parse_rules.proofs.PlainStatements.{plain_program}
 use Rattle.ac_parse_rules.proofs.ReadyPrograms.{ready_program}
 use Rattle.ac_parse_rules.proofs.SmallPrograms.{small_program}
 use Rattle.ac_parse.proofs.Conditions.{file_conditions}
@@ -134,7 +136,7 @@ declared_named : (ps : ℕ) (arrays : List Array) → AllByRecursion IsNamedArra
 declared_named ps [] h fit small = (tt, tt)
 declared_named ps (a ∷ arrays) h fit small =
     let r = declared_named ps arrays h.1 fit.1 small.1 in
-    let e = forms_named ps 0 a.extents small.0 fit.0 in
+    let e = forms_named a.extents small.0 (forms_plain ps 0 a.extents fit.0) in
     ((record { name = h.0.word; extents = e.0 }, r.0), (record { name = h.0.name; extents = e.1 }, r.1))
 
 -- ---- the parameter list
@@ -203,8 +205,8 @@ program_named f h ready none =
     let param_words = each_further IsNamed IsWord (λ name is. is.word) p.params params in
     let param_names = each_further IsNamed IsName (λ name is. is.name) p.params params in
     let slots = each_further (IsSlotOf p) (λ x. IsThere p x × HasSlotName p x) (slot_named p param_names declared.1) p.slots there.slots in
-    let body = stmts_named p.arrays named ps 0 p.body (h.body p.arrays named (names_of f) (body_scope (param_count f.params)) (neither _ _ m.0).0) ready.body small.body there.body in
-    let context = parts_named ps 0 p.context.parts small.context ready.context in
+    let body = stmts_named p.arrays named p.body (h.body p.arrays named (names_of f) (body_scope (param_count f.params)) (neither _ _ m.0).0) (plain_program f) small.body there.body in
+    let context = parts_named p.context.parts small.context (parts_plain ps 0 p.context.parts ready.context) in
     let symbols = each_map (λ (word : Word). word.name) IsNamedSymbol (commutative_words f.pragmas) (words_named f.pragmas h.pragmas) in
     let below = lines_below (length p.arrays) (input_count f.params) (names_of f) (names_below f) (fixed_scope (param_count f.params)) f.pragmas (none_of _ m.1) in
     let outputs = outputs_named p.arrays named (has_output_line f.pragmas) (output_numbers (names_of f) (output_words f.pragmas))

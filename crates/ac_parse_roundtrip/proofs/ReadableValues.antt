@@ -22,14 +22,14 @@ use Rattle.ac_parse_exprs.specs.declared.scope.Meaning.TheVariants as means
 use Rattle.ac_parse_exprs.specs.declared.scope.Scope.{Scope}
 use Rattle.ac_parse_exprs.specs.FaultOrder.{earlier, rule_broken}
 use Rattle.ac_parse_exprs.specs.Meanings.{meaning, is_array, read_rule, call_rule, misused_unless, word_broken}
-use Rattle.ac_parse_exprs.specs.IndexExpressions.{judged_name}
+use Rattle.ac_parse_exprs.specs.IndexExpressions.{judged_name, judged}
 use Rattle.ac_parse_exprs.specs.Comparisons.{first_of, index_expr, index, index_broken}
 use Rattle.ac_parse_exprs.specs.Values.{Reading, number, other, reading, reading_broken, value_place, value_of, symbol, operator_name, access_broken, read_of, access_reading, call_reading, negative_reading, group_reading, applied_values, joined_reading, chained_reading, chain_reading, value, value_broken}
 use Rattle.ac_parse_rules.specs.Statements.{assigned_value}
 use Rattle.ac_parse_exprs.proofs.Absent.{NoneBroken, neither, none_of, both_true}
 use Rattle.ac_parse_exprs.proofs.Accesses.{rule_holds}
-use Rattle.ac_parse_exprs.proofs.Judges.{Judges, number_judges, name_judges, negative_judges, group_judges, joined_judges}
-use Rattle.ac_parse_exprs.proofs.Readings.{reading-number, reading-decimal, reading-access, reading-call, reading-negative, reading-group, reading-chain}
+use Rattle.ac_parse_exprs.proofs.Judges.{Judges, number_judges, name_judges, quotient_judges, negative_judges, group_judges, joined_judges}
+use Rattle.ac_parse_exprs.proofs.Readings.{reading-number, reading-decimal, reading-access, reading-call, reading-quotient, reading-negative, reading-group, reading-chain}
 use Rattle.ac_parse_roundtrip.specs.ColumnNames.{Stands}
 use Rattle.ac_parse_roundtrip.specs.ReadableStatements.{FitScope, ArrayStands, is_number, IsReadable}
 use Rattle.ac_parse_roundtrip.specs.TokenSpelling.{AreSpelled}
@@ -272,6 +272,8 @@ expr_readable room ts e is h = expr_has IsReadableExpr
     (access_has names scope text_names text_scope written carries name subs))
     (λ name args is h names scope text_names text_scope written carries. subst (ReadingHas names scope text_names text_scope written carries) (sym (reading-call names scope name args))
     (call_has names scope text_names text_scope written carries name (map (reading names scope) args) is (readings_have names scope text_names text_scope written carries args h)))
+    (λ up argument divisor place h names scope text_names text_scope written carries. subst (ReadingHas names scope text_names text_scope written carries) (sym (reading-quotient names scope up argument divisor place))
+    (quotient_judges scope.params (length scope.iterators) place (judged names scope argument), (λ g. tt)))
     (λ operand place h names scope text_names text_scope written carries. subst (ReadingHas names scope text_names text_scope written carries) (sym (reading-negative names scope operand place))
     (negative_has names scope text_names text_scope written carries place (reading names scope operand) (h names scope text_names text_scope written carries)))
     (λ inner place h names scope text_names text_scope written carries. subst (ReadingHas names scope text_names text_scope written carries) (sym (reading-group names scope inner place))

@@ -22,7 +22,7 @@ use Rattle.ac_parse_exprs.specs.Comparisons.{index_expr, index}
 use Rattle.ac_parse_exprs.specs.Values.{Reading, number, other, reading, value_place, value_of, symbol, operator_name, array_number, access_broken, read_of, access_reading, call_reading, negative_reading, group_reading, applied_values, joined_reading, chained_reading, chain_reading, value}
 use Rattle.ac_parse_rules.specs.Statements.{assigned_value}
 use Rattle.ac_parse_exprs.proofs.Absent.{each_further, each_map}
-use Rattle.ac_parse_exprs.proofs.Readings.{reading-number, reading-decimal, reading-access, reading-call, reading-negative, reading-group, reading-chain}
+use Rattle.ac_parse_exprs.proofs.Readings.{reading-number, reading-decimal, reading-access, reading-call, reading-quotient, reading-negative, reading-group, reading-chain}
 use Rattle.ac_parse_roundtrip.specs.ProgramWords.{IsOperator}
 use Rattle.ac_parse_roundtrip.specs.ProgramWords as words
 use Rattle.ac_parse_roundtrip.specs.GrammarPrograms as names
@@ -123,6 +123,7 @@ module _ (arrays : List Array) (named : AreNamedArrays arrays) where
       (λ name subs is entries scope. subst ReadingHas (sym (reading-access entries scope name subs)) (access_reading_has entries scope (meaning entries scope name.name) name subs))
       (λ name args is h entries scope. subst ReadingHas (sym (reading-call entries scope name args))
       (call_reading_has scope (meaning entries scope name.name) name (map (reading entries scope) args) is (readings_have entries scope args h)))
+      (λ up argument divisor place h entries scope. subst ReadingHas (sym (reading-quotient entries scope up argument divisor place)) tt)
       (λ operand place h entries scope. subst ReadingHas (sym (reading-negative entries scope operand place)) (negative_reading_has place (reading entries scope operand) (h entries scope)))
       (λ inner place h entries scope. subst ReadingHas (sym (reading-group entries scope inner place)) (group_reading_has place (reading entries scope inner) (h entries scope)))
       (λ operands operators h entries scope. subst ReadingHas (sym (reading-chain entries scope operands operators))

@@ -22,7 +22,7 @@ use Rattle.ac_parse_exprs.specs.Values.{Reading, number, other, reading, reading
 use Rattle.ac_parse_rules.specs.DeclaredNumbers.{ReadsOf, ReadsIn}
 use Rattle.ac_parse_exprs.proofs.Absent.{NoneBroken, each_map, neither, none_of}
 use Rattle.ac_parse_exprs.proofs.Accesses.{rule_holds}
-use Rattle.ac_parse_exprs.proofs.Readings.{reading-number, reading-decimal, reading-access, reading-call, reading-negative, reading-group, reading-chain}
+use Rattle.ac_parse_exprs.proofs.Readings.{reading-number, reading-decimal, reading-access, reading-call, reading-quotient, reading-negative, reading-group, reading-chain}
 use Rattle.ac_parse_rules.proofs.DeclaredNumbers.{MeansBelow, NamesBelow, meaning_below}
 use Rattle.ac_parse_exprs.proofs.Trees.{every_expr}
 
@@ -127,6 +127,7 @@ module _ (n : ℕ) (names : List Entry) (scope : Scope) (below : NamesBelow n na
       (λ word. subst (Reads n) (sym (reading-decimal names scope word)) (λ e. call_reads n _ _ _ tt))
       (λ name subs h. subst (Reads n) (sym (reading-access names scope name subs)) (access_case n names scope (meaning names scope name.name) name subs (meaning_below n names scope name.name below)))
       (λ name args h. subst (Reads n) (sym (reading-call names scope name args)) (call_case n scope (meaning names scope name.name) name (map (reading names scope) args) (each_map (reading names scope) (Reads n) args h)))
+      (λ up argument divisor place h. subst (Reads n) (sym (reading-quotient names scope up argument divisor place)) tt)
       (λ operand place h. subst (Reads n) (sym (reading-negative names scope operand place)) (negative_case n place (reading names scope operand) h))
       (λ inner place h. subst (Reads n) (sym (reading-group names scope inner place)) (group_case n place (reading names scope inner) h))
       (λ operands operators h. subst (Reads n) (sym (reading-chain names scope operands operators)) (chain_case n scope (map (reading names scope) operands) operators (each_map (reading names scope) (Reads n) operands h)))

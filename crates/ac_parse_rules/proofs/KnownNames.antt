@@ -15,7 +15,7 @@ use Rattle.ac_parse_grammar.specs.declared.tree.Numeral.{Numeral}
 use Rattle.ac_parse_grammar.specs.declared.tree.Operator.{Operator}
 use Rattle.ac_parse_grammar.specs.declared.tree.Operator.TheVariants.{Add, Subtract, Multiply, Divide, Remainder}
 use Rattle.ac_parse_grammar.specs.declared.tree.Expr.{Expr, the_lemmas}
-use Rattle.ac_parse_grammar.specs.declared.tree.Expr.TheVariants.{Number, Decimal, Access, Call, Negative, Group, Chain}
+use Rattle.ac_parse_grammar.specs.declared.tree.Expr.TheVariants.{Number, Decimal, Access, Call, Quotient, Negative, Group, Chain}
 use Rattle.ac_parse_exprs.specs.declared.scope.Entry.{Entry}
 use Rattle.ac_parse_exprs.specs.declared.scope.Meaning.{Meaning}
 use Rattle.ac_parse_exprs.specs.declared.scope.Meaning.TheVariants as means
@@ -28,8 +28,8 @@ use Rattle.ac_parse_exprs.specs.WrittenTerms.{Written, index, other, as_term, in
 use Rattle.ac_parse_rules.specs.LawsOfNames.{reads, IsKnown, ReadsKnown}
 use Rattle.ac_parse_exprs.proofs.Absent.{both_true, each_append}
 use Rattle.ac_parse_exprs.proofs.Trees.{every_expr}
-use Rattle.ac_parse_exprs.proofs.WrittenExpressions.{value-access, value-call, value-negative, value-group, value-chain}
-use Rattle.ac_parse_exprs.proofs.WrittenParts.{written-access, written-call, written-negative, written-group, written-chain}
+use Rattle.ac_parse_exprs.proofs.WrittenExpressions.{value-access, value-call, value-quotient, value-negative, value-group, value-chain}
+use Rattle.ac_parse_exprs.proofs.WrittenParts.{written-access, written-call, written-quotient, written-negative, written-group, written-chain}
 
 flat_all : {A B : Type 0} (f : A → List B) (xs : List A) → flat_map (λ (ys : List B). ys) (map f xs) ≡ flat_map f xs
 flat_all f [] = refl
@@ -216,6 +216,7 @@ module _ (names : List Entry) (scope : Scope) where
         (λ word h. of_names (Decimal word) [] (reads-decimal word) tt)
         (λ name subs g h. name_alone name subs (length subs == 0) refl (subst IsThere (value-access (integer_of names scope p) name subs) h))
         (λ name args g h. nothing_there (subst IsThere (value-call (integer_of names scope p) name args) h))
+        (λ up argument divisor place g h. nothing_there (subst IsThere (value-quotient (integer_of names scope p) up argument divisor place) h))
         (λ operand place g h. of_names (Negative operand place) (reads operand) (reads-negative operand place)
         (g (there_before neg_ℤ (val operand) (subst IsThere (value-negative (integer_of names scope p) operand place) h))))
         (λ inner place g h. of_names (Group inner place) (reads inner) (reads-group inner place) (g (subst IsThere (value-group (integer_of names scope p) inner place) h)))
@@ -295,6 +296,7 @@ module _ (names : List Entry) (scope : Scope) where
           (λ name subs g h. access_case name subs ((length (map val subs) == 0) && not (is_array (meaning names scope name.name))) refl (of_written (Access name subs) _ (written-access names scope p state name subs) h))
           (λ name args g h. of_names (Call name args) (flat_map reads args) (reads-call name args)
           (of_flat args (of_there term args g (terms_of args (args_there (meaning names scope name.name) name.name (map (written names scope p state) args) (of_written (Call name args) _ (written-call names scope p state name args) h))))))
+          (λ up argument divisor place g h. nothing_there (of_written (Quotient up argument divisor place) _ (written-quotient names scope p state up argument divisor place) h))
           (λ operand place g h. of_names (Negative operand place) (reads operand) (reads-negative operand place)
           (g (negative_there (written names scope p state operand) (of_written (Negative operand place) _ (written-negative names scope p state operand place) h))))
           (λ inner place g h. of_names (Group inner place) (reads inner) (reads-group inner place) (g (of_written (Group inner place) _ (written-group names scope p state inner place) h)))

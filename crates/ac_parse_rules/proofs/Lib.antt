@@ -10,6 +10,7 @@ pub mod EachArray
 pub mod FittingValues
 pub mod ReadyStatements
 pub mod ReadyPrograms
+pub mod PlainStatements
 pub mod SmallValues
 pub mod SmallStatements
 pub mod SmallPrograms

@@ -3,11 +3,13 @@ use Rattle.std.proofs.Common.{◌≡◌, ℕ, zero, suc, ◌+◌, ◌<◌, List,
 use Rattle.std.specs.List.{AllByRecursion, Contains, list_any, list_all}
 use Rattle.std.proofs.lemmas.List.{length-map}
 use Rattle.std.proofs.lemmas.Bool.Decides.{nat_tests}
-use Rattle.ac_syntax.specs.Turns.{Bounded, bounds}
-use Rattle.ac_syntax.specs.ReadyPrograms.{Fits, FitsPart, FitParts, Ready, ReadyAll}
+use Rattle.ac_syntax.specs.FittingForms.{FitTests}
+use Rattle.ac_syntax.specs.Turns.{Bounded, IsSteady, bounds}
+use Rattle.ac_syntax.specs.ReadyPrograms.{FitsPart, FitParts, Ready, ReadyAll}
 use Rattle.ac_syntax.specs.declared.tree.Place.{Place}
 use Rattle.ac_syntax.specs.declared.tree.Comparison.{Comparison}
-use Rattle.ac_syntax.proofs.Steady.{part_steady}
+use Rattle.ac_syntax.proofs.Fitting.{fits_form, fit_tests}
+use Rattle.ac_syntax.proofs.Steady.{part_steady, parts_steady}
 use Rattle.ac_syntax.proofs.ReadyAt.{for_ready, if_ready, assign_ready}
 use Rattle.ac_parse_grammar.specs.declared.tree.Word.{Word}
 use Rattle.ac_parse_grammar.specs.declared.tree.Operator.{Operator}
@@ -85,6 +87,9 @@ more name is = omega arith
 pub parts_fit : (names : List Entry) (scope : Scope) (parts : List Part) → FitParts scope.params (length scope.iterators) (condition names scope parts)
 parts_fit names scope parts = each_map (comparison names scope) (FitsPart scope.params (length scope.iterators)) parts (each (λ part. FitsPart scope.params (length scope.iterators) (comparison names scope part)) (part_fits names scope) parts)
 
+tests_fit : (names : List Entry) (scope : Scope) (parts : List Part) → FitTests scope.params (length scope.iterators) (condition names scope parts)
+tests_fit names scope parts = fit_tests scope.params (length scope.iterators) (condition names scope parts) (parts_fit names scope parts)
+
 contained : {A : Type 0} (P : A → Type 0) (xs : List A) (x : A) → AllByRecursion P xs → Contains xs x → P x
 contained P [] x h (k, l, e) = absurd (omega arith)
 contained P (y ∷ ys) x h (zero, l, e) = subst P e h.0
@@ -98,6 +103,11 @@ bounded names scope name step parts h k =
     let inner = inside scope name in
     let fits = contained (FitsPart inner.params (length inner.iterators)) (condition names inner parts) b.0 (parts_fit names inner parts) b.1 in
     record { bound = b.0; stands = b.1; innermost = b.2 ∙ more name scope.iterators; ends = b.3; steady = part_steady inner.params (length inner.iterators) (length scope.iterators) b.0 fits }
+
+steady_inside : (names : List Entry) (scope : Scope) (name : List ℕ) (parts : List Part) → AllByRecursion (IsSteady (length scope.iterators)) (condition names (inside scope name) parts)
+steady_inside names scope name parts =
+    let inner = inside scope name in
+    parts_steady inner.params (length inner.iterators) (length scope.iterators) (condition names inner parts) (parts_fit names inner parts)
 
 head_parts : (a b c d e : Option Broken) → earlier (earlier a b) (earlier c (earlier d e)) ≡ None → (b ≡ None) × (d ≡ None)
 head_parts a b c d e h =
@@ -152,8 +162,9 @@ loop_ready names typed name start cond step body place h scope b c =
     let e = more name.name scope.iterators in
     subst (Ready scope.params (length scope.iterators)) (sym (stmt-loop names scope typed name start cond step body place))
     (for_ready scope.params (length scope.iterators) name.name (index names (in_start scope typed name.name) start) (record { parts = condition names (inside scope name.name) cond }) (step_number step) (stmts names (inside scope name.name) body) place
-    (index_fits names (in_start scope typed name.name) start)
-    (subst (λ k. FitParts scope.params k (condition names (inside scope name.name) cond)) e (parts_fit names (inside scope name.name) cond))
+    (fits_form scope.params (length scope.iterators) (index names (in_start scope typed name.name) start) (index_fits names (in_start scope typed name.name) start))
+    (subst (λ k. FitTests scope.params k (condition names (inside scope name.name) cond)) e (tests_fit names (inside scope name.name) cond))
+    (steady_inside names scope name.name cond)
     (head_bounded names scope typed name start cond step place n.0)
     (subst (λ k. ReadyAll scope.params k (stmts names (inside scope name.name) body)) e r))
 
@@ -165,7 +176,7 @@ branch_ready names cond taken other place h k scope b c =
     let f = both_true (list_all has_conditions taken) (list_all has_conditions other) e.1 in
     subst (Ready scope.params (length scope.iterators)) (sym (stmt-branch names scope cond taken other place))
     (if_ready scope.params (length scope.iterators) (record { parts = condition names scope cond }) (stmts names scope taken) (stmts names scope other) place
-    (parts_fit names scope cond) (ready_block names scope taken h m.0 f.0) (ready_block names scope other k m.1 f.1) (some_parts names scope cond e.0))
+    (tests_fit names scope cond) (ready_block names scope taken h m.0 f.0) (ready_block names scope other k m.1 f.1) (some_parts names scope cond e.0))
 
 assign_is_ready : (names : List Entry) (target : Word) (subs : List Expr) (operator : Option Operator) (e : Expr) → IsReady names (Assign target subs operator e)
 assign_is_ready names target subs operator e scope b c =

@@ -55,6 +55,7 @@ reads_step (Expr-F.Number n) = []
 reads_step (Expr-F.Decimal word) = []
 reads_step (Expr-F.Access name subs) = name.name ∷ flat_map (λ names. names) subs
 reads_step (Expr-F.Call name args) = flat_map (λ names. names) args
+reads_step (Expr-F.Quotient up argument divisor place) = argument
 reads_step (Expr-F.Negative operand place) = operand
 reads_step (Expr-F.Group inner place) = inner
 reads_step (Expr-F.Chain operands operators) = flat_map (λ names. names) (take (length operators + 1) operands)

@@ -1,4 +1,5 @@
 ghost use Rattle.std.specs.Prelude.{◌≡◌, ◌++◌, map, nat_lt, IfOk};
+ghost use Rattle.ac_syntax.specs.PlainPrograms.{PlainProgram};
 ghost use Rattle.ac_syntax.specs.ReadyPrograms.{ReadyProgram};
 ghost use Rattle.ac_syntax.specs.Small.{IsSmallProgram};
 ghost use Rattle.ac_parse_exprs.specs.Comparisons.{first_of, condition};
@@ -317,6 +318,8 @@ pub fn apply(alloc: Global, file: &File) -> Result<Program, RuleFault>
 
     // Each index expression has a coefficient for each parameter and iterator, each loop ends, and each branch has a condition.
     ensures ready { HasConditions file.now → IfOk result ReadyProgram }
+    // Statements have no quotient.
+    ensures plain { IfOk result PlainProgram }
     // Each number of an array or a parameter is one that the program has.
     ensures declared { IfOk result HasDeclaredNumbers }
     ensures parameters { IfOk result ListsItsParameters }

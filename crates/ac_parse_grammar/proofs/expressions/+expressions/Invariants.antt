@@ -42,6 +42,15 @@ decreases-primary l = 16 * l.room + 6
 abbrev pub decreases-any_primary : goal.decreases-any_primary
 decreases-any_primary l = 16 * l.room + 5
 
+abbrev pub decreases-divided : goal.decreases-divided
+decreases-divided l = 16 * l.room + 14
+
+abbrev pub decreases-quotient : goal.decreases-quotient
+decreases-quotient l = 16 * l.room + 4
+
+abbrev pub decreases-division : goal.decreases-division
+decreases-division l = 16 * l.room
+
 abbrev pub decreases-group : goal.decreases-group
 decreases-group l = 16 * l.room + 4
 
