@@ -4,11 +4,14 @@ use Rattle.std.specs.List.{AllByRecursion}
 use Rattle.std.proofs.lemmas.Int.{ints}
 use Rattle.std.proofs.lemmas.List.Sums.{sum_by-cons}
 use Rattle.ac_syntax.specs.Dimensions.{IsCellOf, UsesCells}
-use Rattle.ac_syntax.specs.ReadyPrograms.{Fits, AllFit, Ready}
+use Rattle.ac_syntax.specs.FittingForms.{FitsForm}
+use Rattle.ac_syntax.specs.PlainPrograms.{IsPlainStmt}
+use Rattle.ac_syntax.specs.ReadyPrograms.{AllFit, Ready}
 use Rattle.ac_syntax.specs.Small.{IsSmall, IsSmallForm, AreSmallForms, IsSmallStmt}
 use Rattle.ac_syntax.specs.declared.tree.Cond.{Cond}
 use Rattle.ac_syntax.specs.declared.tree.Stmt.TheVariants as stmt
 use Rattle.ac_syntax.specs.declared.tree.Value.TheVariants as value
+use Rattle.ac_syntax.proofs.PlainAt.{access_plain, call_plain, for_plain, assign_plain}
 use Rattle.ac_syntax.proofs.ReadyAt.{access_fits, fits_call, for_ready, assign_ready}
 use Rattle.ac_syntax.specs.declared.tree.Array.{Array}
 use Rattle.ac_syntax.specs.declared.tree.IndexExpr.{IndexExpr}
@@ -51,13 +54,20 @@ small_written number function source a b c d ha hb hc hd =
 
 ready_written : (number function source : ℕ) (a b c d : ℤ) → Ready 1 0 (written number function source a b c d)
 ready_written number function source a b c d =
-    let fits : (k times : ℤ) (x : ℤ) → Fits 1 1 (form k times (x ∷ [])) = λ k times x. record { params = refl; iters = refl; plain = refl } in
+    let fits : (k times : ℤ) (x : ℤ) → FitsForm 1 1 (form k times (x ∷ [])) = λ k times x. record { params = refl; iters = refl; quots = tt } in
     let read = access_fits 1 1 source (form d (pos 0) (pos 1 ∷ []) ∷ []) nowhere (fits d (pos 0) (pos 1), tt) in
     let call = fits_call 1 1 (function_symbol function) (value.Access source (form d (pos 0) (pos 1 ∷ []) ∷ []) nowhere ∷ []) nowhere (read, tt) in
     for_ready 1 0 (codes "i") (form a (pos 0) []) (bound_of b) (pos 1) (body_of number function source c d ∷ []) nowhere
-    (record { params = refl; iters = refl; plain = refl }) (record { form = fits b (pos 1) (negsuc 0); rel = tt }, tt)
+    (record { params = refl; iters = refl; quots = tt }) (record { form = fits b (pos 1) (negsuc 0); rel = tt }, tt) (record { quots = tt; rel = tt }, tt)
     (record { bound = record { form = form b (pos 1) (negsuc 0 ∷ []); rel = NonNegative }; stands = (0, lit< tt, refl); innermost = refl; ends = refl; steady = record { quots = tt; rel = tt } })
     (assign_ready 1 1 number (form c (pos 0) (pos 1 ∷ []) ∷ []) _ nowhere (fits c (pos 0) (pos 1), tt) call, tt)
+
+plain_written : (number function source : ℕ) (a b c d : ℤ) → IsPlainStmt (written number function source a b c d)
+plain_written number function source a b c d =
+    let read = access_plain source (form d (pos 0) (pos 1 ∷ []) ∷ []) nowhere (refl, tt) in
+    let call = call_plain (function_symbol function) (value.Access source (form d (pos 0) (pos 1 ∷ []) ∷ []) nowhere ∷ []) nowhere (read, tt) in
+    for_plain (codes "i") (form a (pos 0) []) (bound_of b) (pos 1) (body_of number function source c d ∷ []) nowhere refl (record { form = refl; rel = tt }, tt)
+    (assign_plain number (form c (pos 0) (pos 1 ∷ []) ∷ []) _ nowhere (refl, tt) call, tt)
 
 -- an array of one dimension
 abbrev IsSingle : List Array → ℕ → Type 0
@@ -74,11 +84,15 @@ cells_written arrays number function source a b c d ht hs =
     (cells_assign arrays number (form c (pos 0) (pos 1 ∷ []) ∷ []) _ nowhere (cell_of arrays number (form c (pos 0) (pos 1 ∷ [])) ht) call, tt)
 
 abbrev Fine : List Array → Stmt → Type 0
-Fine arrays s = Ready 1 0 s × UsesCells arrays s × IsSmallStmt s
+Fine arrays s = Ready 1 0 s × IsPlainStmt s × UsesCells arrays s × IsSmallStmt s
 
 fine_written : (arrays : List Array) (number function source : ℕ) (a b c d : ℤ) → IsSingle arrays number → IsSingle arrays source → IsSmall a → IsSmall b → IsSmall c → IsSmall d → Fine arrays (written number function source a b c d)
-fine_written arrays number function source a b c d ht hs ha hb hc hd =
-    (ready_written number function source a b c d, cells_written arrays number function source a b c d ht hs, small_written number function source a b c d ha hb hc hd)
+fine_written arrays number function source a b c d ht hs ha hb hc hd = (
+  ready_written number function source a b c d,
+  plain_written number function source a b c d,
+  cells_written arrays number function source a b c d ht hs,
+  small_written number function source a b c d ha hb hc hd,
+)
 
 small_difference : (x y : ℕ) → x ≤ 100 → y ≤ 100 → IsSmall (pos x -ℤ pos y)
 small_difference x y hx hy = omega (arith, ints, hx, hy)
@@ -170,9 +184,10 @@ well_made ls h =
         context = tt;
         extents = ((record { params = refl; iters = refl; plain = refl }, tt), ((record { params = refl; iters = refl; plain = refl }, tt), locals_all (λ (a : Array). AllFit 1 0 a.extents) (λ j. (record { params = refl; iters = refl; plain = refl }, tt)) 0 (length ls - 1)));
       };
-      cells = each_as (Fine arrays) (UsesCells arrays) (λ s k. k.1) body h;
+      plain = each_as (Fine arrays) IsPlainStmt (λ s k. k.1) body h;
+      cells = each_as (Fine arrays) (UsesCells arrays) (λ s k. k.2) body h;
       small = record {
-        body = each_as (Fine arrays) IsSmallStmt (λ s k. k.2) body h;
+        body = each_as (Fine arrays) IsSmallStmt (λ s k. k.3) body h;
         context = tt;
         extents = ((small (pos 0) (lit≤ tt), tt), ((small (pos 0) (lit≤ tt), tt), locals_all (λ (a : Array). AreSmallForms a.extents) (λ j. (small (pos 24) (lit≤ tt), tt)) 0 (length ls - 1)));
       };

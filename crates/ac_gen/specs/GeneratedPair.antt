@@ -7,7 +7,7 @@ use Rattle.ac_gen.specs.Pipelines.{IsGenerated}
 use Rattle.ac_instance.specs.ComparisonAnswers.{IsReadyAt, due}
 use Rattle.ac_instance.specs.declared.halt.Halt.TheVariants.{OutsideContext}
 use Rattle.ac_poly.specs.LoweringFaults.{AreLowerable}
-use Rattle.ac_poly.specs.Lower.{outermost}
+use Rattle.ac_poly_quotients.specs.QuotientScopes.{outermost}
 use Rattle.ac_poly.specs.Model.{model_of}
 use Rattle.ac_poly.specs.declared.types.Model.{Model}
 

@@ -11,7 +11,7 @@ use Rattle.ac_poly.specs.declared.types.Model.{Model}
 use Rattle.ac_prooftext.specs.StreamChecks.{IsAnswer}
 use Rattle.ac_prooftext.specs.declared.types.CheckFault.TheVariants.{TooLong, TooDeep, Refused}
 use Rattle.ac_poly.specs.LoweringFaults.{AreLowerable, IsFirstAll}
-use Rattle.ac_poly.specs.Lower.{outermost}
+use Rattle.ac_poly_quotients.specs.QuotientScopes.{outermost}
 use Rattle.ac_poly.specs.declared.types.LowerFault.{LowerFault}
 use Rattle.ac_syntax.specs.Outputs.{SameOutput}
 use Rattle.ac_syntax.specs.declared.tree.Program.{Program}

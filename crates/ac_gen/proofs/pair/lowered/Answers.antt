@@ -1,5 +1,5 @@
 use Rattle.std.proofs.Common.{length}
-use Rattle.ac_poly.specs.Lower.{outermost}
+use Rattle.ac_poly_quotients.specs.QuotientScopes.{outermost}
 use Rattle.ac_gen.proofs.Faultless.{none_first_all}
 use Rattle.ac_gen.proofs.pair.lowered.Goals as goal
 
