@@ -1,4 +1,4 @@
--- Programs without a quotient and without a test of a divisor in their statements, as the texts of today give.
+-- Programs without a quotient and without a test of a divisor in their statements.
 use Rattle.std.specs.Prelude.{List, [], ◌≡◌}
 use Rattle.std.specs.List.{AllByRecursion}
 use Rattle.ac_syntax.specs.ReadyPrograms.{IsPlain}
