@@ -19,6 +19,8 @@ mod legal;
 #[cfg(test)]
 mod numbers;
 #[cfg(test)]
+mod points;
+#[cfg(test)]
 mod programs;
 #[cfg(test)]
 mod proofs;
