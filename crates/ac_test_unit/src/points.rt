@@ -99,8 +99,9 @@ fn are_points(pieces: &[Items<Row>], listed: &[[i128; 4]], sizes: &[i128]) -> bo
     true
 }
 
-/// The pieces of an assignment in its scope, over N, the counters and the quotients; none where there is no memory, as in
-/// all that follows.
+/// The pieces of an assignment in its scope, over N, the counters and the quotients.
+///
+/// There is none if there is no memory, as in all that follows.
 fn pieces_of(alloc: Global, scope: &Scope) -> Option<Items<Items<Row>>> {
     let places = places(alloc, scope).ok()?;
     let ks = places.as_slice();
@@ -172,8 +173,9 @@ fn at_assignment(alloc: Global, scope: &Scope, quot: Quot) -> Option<Scope> {
 
 /// for (i = -3; i <= floord(N, 2); i++) A[floord(i, 2)] = 0;
 ///
-/// The bound is -4 at N = -7, -3 at -6 and -5, -2 at -4 and -3, -1 at -2 and -1, and 0 at 0 and 1. The subscript is -2 in
-/// turn 0, where i is -3, -1 in turns 1 and 2, and 0 in turn 3. A point is N, the turn, the bound and the subscript.
+/// The bound is -4 at N = -7, and -3 at -6 and -5. It is -2 at -4 and -3, and -1 at -2 and -1. It is 0 at 0 and 1.
+/// The subscript is -2 in turn 0, since i is -3 there. It is -1 in turns 1 and 2, and 0 in turn 3.
+/// A point is N, the turn, the bound and the subscript.
 const HALVES: &[[i128; 4]] = &[
     [-6, 0, -3, -2],
     [-5, 0, -3, -2],
@@ -224,8 +226,9 @@ fn quotients_of_negative_numbers_have_their_points(rt: HostRuntime) {
 
 /// for (t = 0; t <= floord(N - 1, 4); t++) for (i = 4*t; i < 4*t + 4 && i < N; i++) A[0] = 0;
 ///
-/// The bound is -1 at N = -3, -1 and 0, 0 from 1 to 4, and 1 at 5 and 6. The tile 0 has the turns from 0 to N - 1 and at
-/// most to 3, and the tile 1 those from 0 to N - 5. A point is N, the tile, the turn in it and the bound.
+/// The bound is -1 at N = -3, -1 and 0. It is 0 from 1 to 4, and 1 at 5 and 6.
+/// Tile 0 has the turns from 0 to N - 1, but none behind 3. Tile 1 has those from 0 to N - 5.
+/// A point is N, the tile, the turn in it and the bound.
 const TILES: &[[i128; 4]] = &[
     [1, 0, 0, 0],
     [2, 0, 0, 0],
@@ -247,6 +250,11 @@ const TILES: &[[i128; 4]] = &[
     [6, 1, 1, 1],
 ];
 
+/// The same with i <= N in the inner loop, at N = 0 and 4.
+///
+/// The quotient alone keeps i = 0 out at N = 0, and i = 4 at N = 4.
+const CUT_TILES: &[[i128; 4]] = &[[4, 0, 0, 0], [4, 0, 1, 0], [4, 0, 2, 0], [4, 0, 3, 0]];
+
 /// Inside the loop over tiles.
 fn in_tiles(alloc: Global) -> Option<Scope> {
     let bound = one(alloc, rounded(alloc, -1, 1, &[], 4)?)?;
@@ -255,37 +263,45 @@ fn in_tiles(alloc: Global) -> Option<Scope> {
     in_loop_from(alloc, &around, 0, &until)
 }
 
-/// i < 4*t + 4 && i < N
-fn within_tile(alloc: Global) -> Option<Cond> {
+/// i < 4*t + 4 && i <= N + konst
+fn within_tile(alloc: Global, konst: i64) -> Option<Cond> {
     let mut parts = one(alloc, at_least(alloc, 3, 0, &[4, -1], Vec::new(alloc))?)?;
-    let below = at_least(alloc, -1, 1, &[0, -1], Vec::new(alloc))?;
-    parts.push(below).ok()?;
+    let up_to = at_least(alloc, konst, 1, &[0, -1], Vec::new(alloc))?;
+    parts.push(up_to).ok()?;
     Some(cond(parts))
 }
 
 /// Inside both loops.
-fn tiles(alloc: Global) -> Option<Scope> {
+fn tiles(alloc: Global, konst: i64) -> Option<Scope> {
     let around = in_tiles(alloc)?;
-    let until = within_tile(alloc)?;
+    let until = within_tile(alloc, konst)?;
     let start = sum(alloc, 0, 0, &[4], Vec::new(alloc))?;
     in_loop(alloc, &around, 1, &start, &until, 1).ok()
 }
 
 #[test]
 fn tiles_have_their_points(rt: HostRuntime) {
-    let Some(scope) = tiles(rt.alloc()) else {
+    let Some(scope) = tiles(rt.alloc(), -1) else {
         panic!(rt; "no memory");
     };
     let sizes = [-3, -1, 0, 1, 2, 4, 5, 6];
     assert!(rt; has_points(rt.alloc(), &scope, TILES, &sizes));
 }
 
+#[test]
+fn tiles_end_at_a_quotient(rt: HostRuntime) {
+    let Some(scope) = tiles(rt.alloc(), 0) else {
+        panic!(rt; "no memory");
+    };
+    assert!(rt; has_points(rt.alloc(), &scope, CUT_TILES, &[0, 4]));
+}
+
 // ---- where a number does not divide
 
 /// for (i = 0; i < N; i++) for (j = 0; j < 2; j++) if ((i - j) % 3 == 0) ; else A[0] = 0;
 ///
-/// The difference i - j is -1, 1, 2, 1, 2 and 4 at the listed i and j, and the others up to i = 4 are 0 and 3. A point is N,
-/// i, j and floord(i - j, 3).
+/// The difference i - j is -1, 1, 2, 1, 2 and 4 at the i and j listed for N = 5. It is 0 or 3 at the others.
+/// A point is N, i, j and floord(i - j, 3).
 const APART: &[[i128; 4]] = &[
     [1, 0, 1, -1],
     [3, 0, 1, -1],
@@ -337,7 +353,8 @@ fn an_else_has_the_points_that_a_number_does_not_divide(rt: HostRuntime) {
 
 /// for (i = 0; i <= floord(N, 3); i++) for (j = 0; i + j <= floord(N, 3); j++) A[floord(N, 3)] = 0;
 ///
-/// The quotient is -1 at N = -1, 0 at 0 and 2, 1 at 3 and 5, and 2 at 6. A point is N, i, j and the quotient, once.
+/// The quotient is -1 at N = -1, 0 at 0 and 2, 1 at 3 and 5, and 2 at 6.
+/// A point is N, i, j and the quotient, which stands there once.
 const THIRDS: &[[i128; 4]] = &[
     [0, 0, 0, 0],
     [2, 0, 0, 0],
@@ -355,10 +372,10 @@ const THIRDS: &[[i128; 4]] = &[
     [6, 2, 0, 2],
 ];
 
-/// Inside a loop from 0 on, as long as floord(N, 3) is not below the sum of all iterators, whose coefficients are given.
-fn to_third(alloc: Global, scope: &Scope, coefs: &[i64]) -> Option<Scope> {
+/// Inside a loop from 0 on, as long as floord(N, 3) + iters is at least 0.
+fn to_third(alloc: Global, scope: &Scope, iters: &[i64]) -> Option<Scope> {
     let bound = one(alloc, rounded(alloc, 0, 1, &[], 3)?)?;
-    let until = cond(one(alloc, at_least(alloc, 0, 0, coefs, bound)?)?);
+    let until = cond(one(alloc, at_least(alloc, 0, 0, iters, bound)?)?);
     in_loop_from(alloc, scope, 0, &until)
 }
 
@@ -370,7 +387,7 @@ fn thirds(alloc: Global) -> Option<Scope> {
     at_assignment(alloc, &inner, rounded(alloc, 0, 1, &[], 3)?)
 }
 
-/// Whether the columns are a counter, a quotient and a counter, and the quotient's last place is behind both counters.
+/// Whether the columns are a counter, a quotient and a counter, of which the quotient comes to stand last.
 fn is_moved_behind(alloc: Global, scope: &Scope) -> bool {
     let is_between = matches!(
         scope.columns.as_slice(),
