@@ -122,7 +122,7 @@ fn has_points(alloc: Global, scope: &Scope, listed: &[[i128; 4]], sizes: &[i128]
 // ---- parts of programs
 
 /// The quotient of `konst + param N + iters` by `div`, rounded down.
-fn rounded(alloc: Global, konst: i64, param: i64, iters: &[i64], div: i64) -> Option<Quot> {
+fn quotient(alloc: Global, konst: i64, param: i64, iters: &[i64], div: i64) -> Option<Quot> {
     let params = one(alloc, param)?;
     let iters = Vec::from_slice(alloc, iters).ok()?;
     Some(quot(1, konst, params, iters, div, HERE))
@@ -201,7 +201,7 @@ const HALVES: &[[i128; 4]] = &[
 
 /// Inside that loop.
 fn in_halves(alloc: Global) -> Option<Scope> {
-    let bound = one(alloc, rounded(alloc, 0, 1, &[], 2)?)?;
+    let bound = one(alloc, quotient(alloc, 0, 1, &[], 2)?)?;
     let until = cond(one(alloc, at_least(alloc, 0, 0, &[-1], bound)?)?);
     let around = outermost(alloc, 1).ok()?;
     in_loop_from(alloc, &around, -3, &until)
@@ -210,7 +210,7 @@ fn in_halves(alloc: Global) -> Option<Scope> {
 /// At its assignment.
 fn halves(alloc: Global) -> Option<Scope> {
     let around = in_halves(alloc)?;
-    at_assignment(alloc, &around, rounded(alloc, 0, 0, &[1], 2)?)
+    at_assignment(alloc, &around, quotient(alloc, 0, 0, &[1], 2)?)
 }
 
 #[test]
@@ -257,7 +257,7 @@ const CUT_TILES: &[[i128; 4]] = &[[4, 0, 0, 0], [4, 0, 1, 0], [4, 0, 2, 0], [4, 
 
 /// Inside the loop over tiles.
 fn in_tiles(alloc: Global) -> Option<Scope> {
-    let bound = one(alloc, rounded(alloc, -1, 1, &[], 4)?)?;
+    let bound = one(alloc, quotient(alloc, -1, 1, &[], 4)?)?;
     let until = cond(one(alloc, at_least(alloc, 0, 0, &[-1], bound)?)?);
     let around = outermost(alloc, 1).ok()?;
     in_loop_from(alloc, &around, 0, &until)
@@ -374,7 +374,7 @@ const THIRDS: &[[i128; 4]] = &[
 
 /// Inside a loop from 0 on, as long as floord(N, 3) + iters is at least 0.
 fn to_third(alloc: Global, scope: &Scope, iters: &[i64]) -> Option<Scope> {
-    let bound = one(alloc, rounded(alloc, 0, 1, &[], 3)?)?;
+    let bound = one(alloc, quotient(alloc, 0, 1, &[], 3)?)?;
     let until = cond(one(alloc, at_least(alloc, 0, 0, iters, bound)?)?);
     in_loop_from(alloc, scope, 0, &until)
 }
@@ -384,7 +384,7 @@ fn thirds(alloc: Global) -> Option<Scope> {
     let around = outermost(alloc, 1).ok()?;
     let outer = to_third(alloc, &around, &[-1])?;
     let inner = to_third(alloc, &outer, &[-1, -1])?;
-    at_assignment(alloc, &inner, rounded(alloc, 0, 1, &[], 3)?)
+    at_assignment(alloc, &inner, quotient(alloc, 0, 1, &[], 3)?)
 }
 
 /// Whether the columns are a counter, a quotient and a counter, of which the quotient comes to stand last.
