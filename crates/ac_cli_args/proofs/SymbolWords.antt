@@ -5,7 +5,6 @@ use Rattle.std.specs.List.{AllByRecursion, list_all}
 use Rattle.std.specs.Cmp.Lexicographic.{pointwise}
 use Rattle.std.proofs.lemmas.Bool.Decides.{nat_tests}
 use Rattle.ac_lex.specs.declared.tokens.TokenKind.TheVariants as token
-use Rattle.ac_parse_exprs.specs.Meanings.{is_reserved}
 use Rattle.ac_parse_grammar.specs.Terminals.{is_name, look_up, terminal_by, words}
 use Rattle.ac_parse_grammar.specs.declared.terminal.Terminal.TheVariants as t
 use Rattle.ac_cli_args.specs.SymbolLists.{is_word, is_free_name, is_symbol, are_different, listed_in, IsSymbolList, IsTold, FitsAName}
@@ -36,8 +35,7 @@ word_fits x h = by (nat_lt 0 (length x)) (nat_le (length x) 64) refl refl h
 
 name_fits : (x : List ℕ) → is_free_name x ≡ true → FitsAName x
 name_fits x h =
-    let outer = both (is_word x && is_name (terminal_by token.Word x)) (not (is_reserved x)) h in
-    word_fits x (both (is_word x) (is_name (terminal_by token.Word x)) outer.0).1
+    word_fits x (both (is_word x) (is_name (terminal_by token.Word x)) h).1
 
 symbol_fits : (x : List ℕ) → is_symbol x ≡ true → FitsAName x
 symbol_fits x h = by (pointwise nat_eq x (codes "+")) (pointwise nat_eq x (codes "*")) (is_free_name x) (one_byte 43 x) (one_byte 42 x) (name_fits x) h

@@ -5,16 +5,15 @@ use Rattle.std.specs.Cmp.Lexicographic.{pointwise}
 use Rattle.ac_lex.specs.Bytes.{is_letter, is_word_byte}
 use Rattle.ac_lex.specs.declared.tokens.TokenKind.TheVariants as token
 use Rattle.ac_parse_grammar.specs.Terminals.{terminal_by, is_name}
-use Rattle.ac_parse_exprs.specs.Meanings.{is_reserved}
 
 -- a letter or an underscore, then letters, underscores and digits
 abbrev pub is_word : List ℕ → Bool
 is_word [] = false
 is_word (b ∷ bs) = is_letter b && list_all is_word_byte bs
 
--- a word that the grammar takes for a name, of at most 64 bytes, and that no rule of the language reserves
+-- a word that the grammar takes for a name, of at most 64 bytes
 abbrev pub is_free_name : List ℕ → Bool
-is_free_name text = is_word text && is_name (terminal_by token.Word text) && not (is_reserved text)
+is_free_name text = is_word text && is_name (terminal_by token.Word text)
 
 -- `+`, `*`, or such a name
 abbrev pub is_symbol : List ℕ → Bool

@@ -3,7 +3,6 @@ ghost use Rattle.std.specs.Prelude.{◌≡◌, ◌≤◌, ◌<◌, ◌&&◌, len
 ghost use Rattle.std.specs.List.{AllByRecursion, list_any, list_all};
 ghost use Rattle.std.specs.Cmp.Lexicographic.{pointwise};
 ghost use Rattle.ac_lex.specs.Bytes.{is_letter, is_word_byte};
-ghost use Rattle.ac_parse_exprs.specs.Meanings.{is_reserved};
 ghost use Rattle.ac_parse_grammar.specs.Terminals.{is_name, terminal_by};
 ghost use Rattle.ac_cli_args.specs.SymbolLists as spec;
 ghost use Rattle.ac_cli_args.specs.SymbolLists.{FitsAName, listed_in};
@@ -45,7 +44,7 @@ fn is_word(text: &[u8]) -> bool
     }
 }
 
-/// Whether the grammar takes a word for a name: it has at most 64 bytes, and is no reserved word of C.
+/// Whether the grammar takes a word for a name: it has at most 64 bytes, and is no reserved word.
 fn is_grammar_name(text: &[u8]) -> bool
     ensures { result ≡ is_name (terminal_by TokenKind.Word text.now) }
 {
@@ -57,18 +56,11 @@ fn is_grammar_name(text: &[u8]) -> bool
     is_name(terminal_of(&token))
 }
 
-/// Whether a text is reserved for the quotients of the language.
-fn is_reserved(text: &[u8]) -> bool
-    ensures { result ≡ is_reserved text.now }
-{
-    text == b"floord".as_slice() || text == b"ceild".as_slice()
-}
-
 /// Whether a text is a name that nothing reserves.
 fn is_free_name(text: &[u8]) -> bool
     ensures { result ≡ spec.is_free_name text.now }
 {
-    is_word(text) && is_grammar_name(text) && !is_reserved(text)
+    is_word(text) && is_grammar_name(text)
 }
 
 /// Whether a text is `+`, `*`, or such a name.
