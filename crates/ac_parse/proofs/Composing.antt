@@ -3,7 +3,6 @@ use Rattle.std.proofs.Common.{◌≡◌, ℕ, List, length, refl, sym, ap, subst
 use Rattle.std.specs.Prelude.{Result, Ok, Err, IfErr}
 use Rattle.std.specs.Result.{IsErrAnd}
 use Rattle.std.proofs.lemmas.Option.{none-some}
-use Rattle.ac_syntax.specs.PlainPrograms.{PlainProgram}
 use Rattle.ac_syntax.specs.ReadyPrograms.{ReadyProgram}
 use Rattle.ac_syntax.specs.Small.{IsSmallProgram}
 use Rattle.ac_syntax.specs.declared.tree.Program.{Program}
@@ -23,7 +22,6 @@ use Rattle.ac_parse_grammar.proofs.StatementAnswers.{one_file}
 use Rattle.ac_parse_rules.specs.declared.fault.RuleFault.{RuleFault}
 use Rattle.ac_parse_rules.specs.declared.fault.RuleFault.TheVariants as rules
 use Rattle.ac_parse_rules.specs.Files.{file_broken, program_of, IsAnswer}
-use Rattle.ac_parse_rules.proofs.PlainStatements.{plain_program}
 use Rattle.ac_parse_rules.proofs.ReadyPrograms.{ready_program}
 use Rattle.ac_parse_rules.specs.LawsOfPrograms.{DoesAs}
 use Rattle.ac_parse_rules.proofs.SmallPrograms.{small_program}
@@ -32,7 +30,7 @@ use Rattle.ac_parse_rules.proofs.WrittenPrograms.{programs_do_as_written}
 use Rattle.ac_parse.specs.declared.faults.SourceFault.{SourceFault}
 use Rattle.ac_parse.specs.Program.{IsShort, IsProgramOf}
 use Rattle.ac_parse.specs.ParseAnswers.{HasSourceFault, no_tokens, no_file, too_deep, breaks_a_rule, no_memory, IsOnlyProgram}
-use Rattle.ac_parse.specs.TextMeaning.{HasOneProgram, ProgramsAreReady, ProgramsArePlain, ProgramsAreSmall, ProgramsDoAsTexts}
+use Rattle.ac_parse.specs.TextMeaning.{HasOneProgram, ProgramsAreReady, ProgramsAreSmall, ProgramsDoAsTexts}
 use Rattle.ac_parse.proofs.Conditions.{file_conditions}
 use Rattle.ac_parse.specs.TextFaults.{of_lexer, of_grammar, of_rules, IsTokensAnswer, has_program, is_no_file, is_too_deep, breaks, lacks_memory}
 
@@ -117,9 +115,6 @@ one_program bytes p q h k =
 -- what holds of the program of a file holds of the program of its text
 pub ready : ProgramsAreReady
 ready bytes program h = subst ReadyProgram (sym h.is) (ready_program h.file h.rules (file_conditions h.text.grammar))
-
-pub plain : ProgramsArePlain
-plain bytes program h = subst PlainProgram (sym h.is) (plain_program h.file)
 
 pub small : ProgramsAreSmall
 small bytes program h = subst IsSmallProgram (sym h.is) (small_program h.file h.rules)

@@ -1,6 +1,5 @@
 -- What the bytes of a text determine.
 use Rattle.std.specs.Prelude.{◌≡◌, ℕ, List, false}
-use Rattle.ac_syntax.specs.PlainPrograms.{PlainProgram}
 use Rattle.ac_syntax.specs.ReadyPrograms.{ReadyProgram}
 use Rattle.ac_syntax.specs.Small.{IsSmallProgram}
 use Rattle.ac_syntax.specs.declared.tree.Program.{Program}
@@ -26,10 +25,6 @@ HasOneProgram = (bytes : List ℕ) (p q : Program) → IsProgramOf bytes p → I
 -- the program of a text has a coefficient for each column, its loops end, and its branches have conditions
 abbrev pub ProgramsAreReady : Type 0
 ProgramsAreReady = (bytes : List ℕ) (program : Program) → IsProgramOf bytes program → ReadyProgram program
-
--- its statements have no quotient
-abbrev pub ProgramsArePlain : Type 0
-ProgramsArePlain = (bytes : List ℕ) (program : Program) → IsProgramOf bytes program → PlainProgram program
 
 -- and its numbers are at most 2^31 in absolute value
 abbrev pub ProgramsAreSmall : Type 0

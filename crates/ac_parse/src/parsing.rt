@@ -1,6 +1,5 @@
 // From the bytes of a text to a program.
 ghost use Rattle.std.specs.Prelude.{◌≡◌, ◌<◌, length, map, None, IfOk, IfErr, IsErrOf};
-ghost use Rattle.ac_syntax.specs.PlainPrograms.{PlainProgram};
 ghost use Rattle.ac_syntax.specs.ReadyPrograms.{ReadyProgram};
 ghost use Rattle.ac_syntax.specs.Small.{IsSmallProgram};
 ghost use Rattle.ac_syntax.specs.declared.tree.Program.{Program};
@@ -30,7 +29,6 @@ fn parse_tokens(alloc: Global, tokens: &[Token<'_>], end: u32) -> Result<Program
     ensures answer { IsTokensAnswer end (map lexeme_of tokens.now) result }
     ensures only { (file : File) → IsFile 128 (map lexeme_of tokens.now) file → file_broken file ≡ None → IsOnlyProgram (program_of file) result }
     ensures ready { IfOk result ReadyProgram }
-    ensures plain { IfOk result PlainProgram }
     ensures declared { IfOk result HasDeclaredNumbers }
     ensures parameters { IfOk result ListsItsParameters }
     ensures inputs { IfOk result HasInputs }
@@ -48,7 +46,6 @@ fn parse_short(alloc: Global, bytes: &[u8]) -> Result<Program, SourceFault>
     ensures only { (program : Program) → IsProgramOf bytes.now program → IsOnlyProgram program result }
     ensures fault { IfErr result (HasSourceFault bytes.now) }
     ensures ready { IfOk result ReadyProgram }
-    ensures plain { IfOk result PlainProgram }
     ensures declared { IfOk result HasDeclaredNumbers }
     ensures parameters { IfOk result ListsItsParameters }
     ensures inputs { IfOk result HasInputs }
@@ -60,19 +57,17 @@ fn parse_short(alloc: Global, bytes: &[u8]) -> Result<Program, SourceFault>
 
 /// The program of a source text.
 ///
-/// The language is a subset of C (ISO/IEC 9899): one function over integer parameters and arrays, with affine loops, conditions and
-/// subscripts. A refusal says what is wrong and where, by the number of the byte: first a text of more than 65,536 bytes, then the
-/// first byte with which no token goes on, then the first token with which no file goes on or nests too deep, and then the first
-/// rule that the file breaks.
+/// The language is a subset of C (ISO/IEC 9899): one function over integer parameters and arrays. Its loops, conditions and
+/// subscripts are affine, or have quotients of affine expressions by numbers. A refusal says what is wrong and where, by the number
+/// of the byte: first a text of more than 65,536 bytes, then the first byte with which no token goes on, then the first token with
+/// which no file goes on or nests too deep, and then the first rule that the file breaks.
 pub fn parse(alloc: Global, bytes: &[u8]) -> Result<Program, SourceFault>
     // What is answered is the program that the whole text has, and it is answered of each text that has one.
     ensures program { IfOk result (IsProgramOf bytes.now) }
     ensures only { (program : Program) → IsProgramOf bytes.now program → IsOnlyProgram program result }
 
-    // Each index expression has a coefficient for each parameter and each iterator, each loop ends, and each branch has a condition.
+    // Index expressions have a coefficient for each parameter and iterator, divisors are at least 1, loops end, and branches have conditions.
     ensures ready { IfOk result ReadyProgram }
-    // Statements have no quotient.
-    ensures plain { IfOk result PlainProgram }
     // Each number of an array or a parameter is one that the program has, and its parameter list has them in order.
     ensures declared { IfOk result HasDeclaredNumbers }
     ensures parameters { IfOk result ListsItsParameters }

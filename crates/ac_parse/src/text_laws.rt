@@ -1,4 +1,4 @@
-ghost use Rattle.ac_parse.specs.TextMeaning.{HasOneProgram, HasOneSourceFault, HasNotBoth, ProgramsAreReady, ProgramsArePlain, ProgramsAreSmall, ProgramsDoAsTexts};
+ghost use Rattle.ac_parse.specs.TextMeaning.{HasOneProgram, HasOneSourceFault, HasNotBoth, ProgramsAreReady, ProgramsAreSmall, ProgramsDoAsTexts};
 
 /// What the bytes of a text determine: their program, or else their first fault.
 pub fn programs_are_determined()
@@ -8,10 +8,9 @@ pub fn programs_are_determined()
 {}
 
 /// What each program of a text is: its loops end, its index expressions have a coefficient for each parameter and each loop
-/// around them, its statements have no quotient, and its numbers are at most 2^31 in absolute value.
+/// around them, its divisors are at least 1, and its numbers are at most 2^31 in absolute value.
 pub fn programs_are_ready()
     ensures ready { ProgramsAreReady }
-    ensures plain { ProgramsArePlain }
     ensures small { ProgramsAreSmall }
 {}
 

@@ -10,7 +10,7 @@ use Rattle.ac_parse_exprs.specs.Values.{access_broken}
 use Rattle.ac_parse_exprs.proofs.Absent.{neither}
 
 pub rule_holds : (names : List Entry) (scope : Scope) (rule : Option Rule) (word : Word) (subs : List Expr) → access_broken names scope rule word subs ≡ None → rule ≡ None
-rule_holds names scope rule word subs h = by rule (neither _ _ (neither _ _ h).0).1
+rule_holds names scope rule word subs h = by rule (neither _ _ h).0
   where
     by : (rule : Option Rule) → rule_broken rule word.place ≡ None → rule ≡ None
     by None e = refl

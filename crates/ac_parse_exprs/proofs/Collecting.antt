@@ -1,5 +1,7 @@
 -- What is collected of an expression: a form has a number for each parameter and each iterator, and each is within the limit.
-use Rattle.std.proofs.Common.{◌≡◌, ℕ, zero, suc, List, [], ◌∷◌, map, length, refl, ap, ◌∙◌, Bool, true, false, not, ◌&&◌, ◌||◌, cond, ℤ, pos, negsuc, ◌*ℤ◌, nat_le, nat_lt, arith, ◌==◌}
+use Rattle.std.proofs.Common.{◌≡◌, ℕ, zero, suc, List, [], ◌∷◌, map, length, refl, ap, ◌∙◌, Bool, true, false, not, ◌&&◌, ◌||◌, cond, ℤ, pos, negsuc, ◌*ℤ◌, nat_le, nat_lt, arith, ◌==◌, sym, subst}
+use Rattle.std.specs.Prelude.{Option, Some, None}
+use Rattle.ac_syntax.specs.declared.tree.Quot.{Quot}
 use Rattle.std.specs.List.{range_with_len}
 use Rattle.std.proofs.lemmas.Int.{unsigned_abs-mul}
 use Rattle.std.proofs.lemmas.List.{length-replicate}
@@ -10,7 +12,7 @@ use Rattle.ac_parse_grammar.specs.declared.tree.Operator.TheVariants.{Add, Subtr
 use Rattle.ac_parse_exprs.specs.declared.form.Affine.{Affine}
 use Rattle.ac_parse_exprs.specs.declared.form.Collected.{Collected}
 use Rattle.ac_parse_exprs.specs.declared.form.Collected.TheVariants.{Known, Large, Unknown}
-use Rattle.ac_parse_exprs.specs.AffineForms.{is_small, all_small, is_within, is_kept, all_kept, are_kept, is_constant, times, sum_form, multiple_form, indicator, zeros, constant_form, parameter_form, iterator_form, is_known, is_large, limited, sum_of, product_of, negative_of, signed}
+use Rattle.ac_parse_exprs.specs.AffineForms.{is_small, all_small, is_within, coef_of, with_coef, joined_quots, scaled_quots, is_kept, all_kept, are_kept, is_constant, times, sum_form, multiple_form, indicator, zeros, constant_form, parameter_form, iterator_form, quotient_form, is_known, is_large, limited, sum_of, product_of, negative_of, signed}
 use Rattle.ac_parse_exprs.specs.IndexExpressions.{form_of, is_not_affine}
 use Rattle.ac_parse_exprs.proofs.Absent.{both_true}
 use Rattle.ac_parse_exprs.proofs.Columns.{length-plus_times, length-times}
@@ -56,11 +58,13 @@ limited_case : (ps xs : ℕ) (f : Affine) (constant b : Bool) → length f.param
 limited_case ps xs f constant true h k = (h, k)
 limited_case ps xs f constant false h k = tt
 
-pub limited_shaped : (ps xs : ℕ) (f : Affine) (constant : Bool) → length f.params ≡ ps → length f.iters ≡ xs → Shaped ps xs (limited f constant)
-limited_shaped ps xs f constant h k = limited_case ps xs f constant (are_kept f) h k
+pub limited_shaped : (ps xs : ℕ) (qs : Option (List Quot)) (form : List Quot → Affine) (constant : Bool) → ((rs : List Quot) → length (form rs).params ≡ ps) → ((rs : List Quot) → length (form rs).iters ≡ xs)
+    → Shaped ps xs (limited qs form constant)
+limited_shaped ps xs None form constant h k = tt
+limited_shaped ps xs (Some rs) form constant h k = limited_case ps xs (form rs) constant (are_kept (form rs)) (h rs) (k rs)
 
 sum_shaped : (ps xs : ℕ) (k : ℤ) (a b : Collected) → Shaped ps xs a → Shaped ps xs (sum_of k a b)
-sum_shaped ps xs k (Known f) (Known g) h = limited_shaped ps xs (sum_form k f g) (is_constant f && is_constant g) (length-plus_times k f.params g.params ∙ h.0) (length-plus_times k f.iters g.iters ∙ h.1)
+sum_shaped ps xs k (Known f) (Known g) h = limited_shaped ps xs (joined_quots k f.quots g.quots) (sum_form k f g) (is_constant f && is_constant g) (λ rs. length-plus_times k f.params g.params ∙ h.0) (λ rs. length-plus_times k f.iters g.iters ∙ h.1)
 sum_shaped ps xs k (Known f) (Large d) h = tt
 sum_shaped ps xs k (Known f) Unknown h = tt
 sum_shaped ps xs k (Large c) (Known g) h = tt
@@ -68,8 +72,8 @@ sum_shaped ps xs k (Large c) (Large d) h = tt
 sum_shaped ps xs k (Large c) Unknown h = tt
 sum_shaped ps xs k Unknown b h = tt
 
-multiple_shaped : (ps xs : ℕ) (k : ℤ) (f : Affine) (constant : Bool) → Shaped ps xs (Known f) → Shaped ps xs (limited (multiple_form k f) constant)
-multiple_shaped ps xs k f constant h = limited_shaped ps xs (multiple_form k f) constant (length-times k f.params ∙ h.0) (length-times k f.iters ∙ h.1)
+multiple_shaped : (ps xs : ℕ) (k : ℤ) (f : Affine) (constant : Bool) → Shaped ps xs (Known f) → Shaped ps xs (limited (scaled_quots k f.quots) (multiple_form k f) constant)
+multiple_shaped ps xs k f constant h = limited_shaped ps xs (scaled_quots k f.quots) (multiple_form k f) constant (λ rs. length-times k f.params ∙ h.0) (λ rs. length-times k f.iters ∙ h.1)
 
 either_shaped : (ps xs : ℕ) (b c : Bool) (x y : Collected) → Shaped ps xs x → Shaped ps xs y → Shaped ps xs (cond b x (cond c y Unknown))
 either_shaped ps xs true c x y h k = h
@@ -82,7 +86,7 @@ large_shaped ps xs false c = tt
 
 product_shaped : (ps xs : ℕ) (a b : Collected) → Shaped ps xs a → Shaped ps xs b → Shaped ps xs (product_of a b)
 product_shaped ps xs (Known f) (Known g) h k =
-    either_shaped ps xs (is_constant f) (is_constant g) (limited (multiple_form f.constant g) (is_constant g)) (limited (multiple_form g.constant f) false)
+    either_shaped ps xs (is_constant f) (is_constant g) (limited (scaled_quots f.constant g.quots) (multiple_form f.constant g) (is_constant g)) (limited (scaled_quots g.constant f.quots) (multiple_form g.constant f) false)
     (multiple_shaped ps xs f.constant g (is_constant g) k) (multiple_shaped ps xs g.constant f false h)
 product_shaped ps xs (Known f) (Large d) h k = large_shaped ps xs (is_constant f || d) (is_constant f && d)
 product_shaped ps xs (Known f) Unknown h k = tt
@@ -124,8 +128,9 @@ large_case : (f : Affine) (constant b : Bool) → is_large (cond b (Known f) (La
 large_case f constant true h = not_false (is_within f) h
 large_case f constant false h = absurd cc
 
-pub known_limited : (f : Affine) (constant : Bool) → is_large (limited f constant) ≡ false → IsKnown (limited f constant)
-known_limited f constant h = large_case f constant (are_kept f) h
+pub known_limited : (qs : Option (List Quot)) (form : List Quot → Affine) (constant : Bool) → is_large (limited qs form constant) ≡ false → IsKnown (limited qs form constant)
+known_limited None form constant h = absurd cc
+known_limited (Some rs) form constant h = large_case (form rs) constant (are_kept (form rs)) h
 
 small_negative : (z : ℤ) → is_small (negsuc 0 *ℤ z) ≡ is_small z
 small_negative z = ap (λ n. nat_le n 2147483648) (unsigned_abs-mul (negsuc 0) z ∙ omega arith)
@@ -134,8 +139,46 @@ all_negative : (zs : List ℤ) → all_small (times (negsuc 0) zs) ≡ all_small
 all_negative [] = refl
 all_negative (z ∷ zs) = rw (small_negative z, all_negative zs) refl
 
-within_negative : (f : Affine) → is_within (multiple_form (negsuc 0) f) ≡ is_within f
-within_negative f = rw (small_negative f.constant, all_negative f.params, all_negative f.iters) refl
+abbrev pub negated : List Quot → List Quot
+negated [] = []
+negated (q ∷ qs) = record q { coef = negsuc 0 *ℤ q.coef } ∷ negated qs
+
+some_coef : (q : Quot) (c : ℤ) → is_small c ≡ true → with_coef c q ≡ Some (record q { coef = c })
+some_coef q c h = rw h refl
+
+-- small coefficients may be negated
+pub scaled_negative : (qs : List Quot) → all_small (map coef_of qs) ≡ true → scaled_quots (negsuc 0) qs ≡ Some (negated qs)
+scaled_negative [] h = refl
+scaled_negative (q ∷ qs) h =
+    let b = both_true (is_small q.coef) (all_small (map coef_of qs)) h in
+    rw (some_coef q (negsuc 0 *ℤ q.coef) (small_negative q.coef ∙ b.0), scaled_negative qs b.1) refl
+
+negated_small : (qs : List Quot) → all_small (map coef_of (negated qs)) ≡ all_small (map coef_of qs)
+negated_small [] = refl
+negated_small (q ∷ qs) = rw (small_negative q.coef, negated_small qs) refl
+
+negated_count : (qs : List Quot) → length (negated qs) ≡ length qs
+negated_count [] = refl
+negated_count (q ∷ qs) = ap suc (negated_count qs)
+
+within_negative : (f : Affine) → is_within (multiple_form (negsuc 0) f (negated f.quots)) ≡ is_within f
+within_negative f = rw (small_negative f.constant, all_negative f.params, all_negative f.iters, negated_small f.quots, negated_count f.quots) refl
+
+-- what it is for a form to be within the limit
+pub record Within (f : Affine) : Type 0 where
+  pub constant : is_small f.constant ≡ true
+  pub params : all_small f.params ≡ true
+  pub iters : all_small f.iters ≡ true
+  pub coefs : all_small (map coef_of f.quots) ≡ true
+  pub count : nat_le (length f.quots) 65536 ≡ true
+
+pub within : (f : Affine) → is_within f ≡ true → Within f
+within f h =
+    let e = both_true (is_small f.constant && all_small f.params && all_small f.iters && all_small (map coef_of f.quots)) (nat_le (length f.quots) 65536) h in
+    let d = both_true (is_small f.constant && all_small f.params && all_small f.iters) (all_small (map coef_of f.quots)) e.0 in
+    let b = both_true (is_small f.constant && all_small f.params) (all_small f.iters) d.0 in
+    let c = both_true (is_small f.constant) (all_small f.params) b.0 in
+    record { constant = c.0; params = c.1; iters = b.1; coefs = d.1; count = e.1 }
 
 small_kept : (z : ℤ) → is_small z ≡ true → is_kept z ≡ true
 small_kept z h = grind (arith, nat_tests)
@@ -145,10 +188,7 @@ all_small_kept [] h = refl
 all_small_kept (z ∷ zs) h = let b = both_true (is_small z) (all_small zs) h in rw (small_kept z b.0, all_small_kept zs b.1) refl
 
 within_kept : (f : Affine) → is_within f ≡ true → are_kept f ≡ true
-within_kept f h =
-    let b = both_true (is_small f.constant && all_small f.params) (all_small f.iters) h in
-    let c = both_true (is_small f.constant) (all_small f.params) b.0 in
-    rw (small_kept f.constant c.0, all_small_kept f.params c.1, all_small_kept f.iters b.1) refl
+within_kept f h = let w = within f h in rw (small_kept f.constant w.constant, all_small_kept f.params w.params, all_small_kept f.iters w.iters) refl
 
 within_case : (f : Affine) (constant b : Bool) → b ≡ true → is_within f ≡ true → IsKnown (cond b (Known f) (Large constant))
 within_case f constant true h w = w
@@ -157,8 +197,9 @@ within_case f constant false h w = absurd cc
 -- the negative of a form is within the limits where the form is
 pub known_negative : (ps xs : ℕ) (a : Collected) → Shaped ps xs a → IsKnown a → IsKnown (negative_of a)
 known_negative ps xs (Known f) h k =
-    let w : is_within (multiple_form (negsuc 0) f) ≡ true = within_negative f ∙ k in
-    within_case (multiple_form (negsuc 0) f) (is_constant f) (are_kept (multiple_form (negsuc 0) f)) (within_kept (multiple_form (negsuc 0) f) w) w
+    let g = multiple_form (negsuc 0) f (negated f.quots) in
+    let w : is_within g ≡ true = within_negative f ∙ k in
+    subst (λ qs. IsKnown (limited qs (multiple_form (negsuc 0) f) (is_constant f))) (sym (scaled_negative f.quots (within f k).coefs)) (within_case g (is_constant f) (are_kept g) (within_kept g w) w)
 known_negative ps xs (Large c) h k = absurd k
 known_negative ps xs Unknown h k = absurd k
 
@@ -166,6 +207,9 @@ pub known_true : (a : Collected) → IsKnown a → is_known a ≡ true
 known_true (Known f) h = refl
 known_true (Large c) h = absurd h
 known_true Unknown h = absurd h
+
+pub quotient_within : (ps xs : ℕ) (q : Quot) → q.coef ≡ pos 1 → is_within (quotient_form ps xs q) ≡ true
+quotient_within ps xs q h = rw (h, zeros_small ps, zeros_small xs) refl
 
 pub number_small : (n : ℕ) → nat_lt 2147483648 n ≡ false → is_small (pos n) ≡ true
 number_small n h = grind (arith, nat_tests)

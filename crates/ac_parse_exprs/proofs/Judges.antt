@@ -1,7 +1,7 @@
 -- Each index expression has a form that fits its scope or none, and one where no rule is broken has a form.
-use Rattle.std.proofs.Common.{◌≡◌, ℕ, List, [], ◌∷◌, map, length, refl, sym, ◌∙◌, subst, Bool, true, false, not, ◌&&◌, ◌||◌, ◌==◌, cond, pos, negsuc, Option, Some, None}
+use Rattle.std.proofs.Common.{◌≡◌, ℕ, List, [], ◌∷◌, map, length, refl, sym, ◌∙◌, subst, Bool, true, false, not, ◌&&◌, ◌||◌, ◌==◌, ◌+ℤ◌, cond, pos, negsuc, Option, Some, None}
+use Rattle.std.proofs.lemmas.List.{length-replicate}
 use Rattle.std.specs.List.{AllByRecursion}
-use Rattle.ac_syntax.specs.ReadyPrograms.{Fits, FitsPart, IsPlain}
 use Rattle.ac_syntax.specs.declared.tree.Place.{Place}
 use Rattle.ac_parse_grammar.specs.declared.tree.Word.{Word}
 use Rattle.ac_parse_grammar.specs.declared.tree.Numeral.{Numeral}
@@ -12,8 +12,8 @@ use Rattle.ac_parse_grammar.specs.declared.tree.Part.{Part}
 use Rattle.ac_parse_grammar.specs.declared.tree.Expr.{Expr}
 use Rattle.ac_parse_exprs.specs.declared.fault.Which.TheVariants.{Literal, Coefficient}
 use Rattle.ac_parse_exprs.specs.declared.fault.Rule.{Rule}
-use Rattle.ac_parse_exprs.specs.declared.fault.Rule.TheVariants.{NotAffine, Misused, Limit}
-use Rattle.ac_parse_exprs.specs.declared.fault.Broken.{Broken}
+use Rattle.ac_parse_exprs.specs.declared.fault.Rule.TheVariants.{NotAffine, Limit}
+use Rattle.ac_parse_exprs.specs.declared.form.Affine.{Affine}
 use Rattle.ac_parse_exprs.specs.declared.form.Collected.{Collected}
 use Rattle.ac_parse_exprs.specs.declared.form.Collected.TheVariants.{Known, Large, Unknown}
 use Rattle.ac_parse_exprs.specs.declared.index.Judged.{Judged}
@@ -23,12 +23,13 @@ use Rattle.ac_parse_exprs.specs.declared.scope.Meaning.{Meaning}
 use Rattle.ac_parse_exprs.specs.declared.scope.Meaning.TheVariants.{Parameter, Iterator, Array, LoopName, OwnStart, Nothing}
 use Rattle.ac_parse_exprs.specs.declared.scope.Scope.{Scope}
 use Rattle.ac_parse_exprs.specs.FaultOrder.{earlier, broken, broken_where, rule_broken}
-use Rattle.ac_parse_exprs.specs.Meanings.{meaning, is_array, read_rule, call_rule, word_broken}
-use Rattle.ac_parse_exprs.specs.AffineForms.{constant_form, is_within, is_known, is_large}
-use Rattle.ac_parse_exprs.specs.IndexExpressions.{is_long, judged_number, judged_decimal, with_part, gathered, no_parts, name_form, judged_name, judged_other, judged_variable, judged_access, judged_quotient, judged_negative, judged_group, form_of, is_not_affine, joined, chained, judged_chain, judged}
-use Rattle.ac_parse_exprs.specs.Comparisons.{whole_broken, form_or_zero, placed_form, index_expr, index, difference_form, difference, compared_form, rel_of, compared, comparison}
-use Rattle.ac_parse_exprs.proofs.Absent.{neither, not_where, each_map}
-use Rattle.ac_parse_exprs.proofs.Collecting.{Shaped, IsKnown, constant_shaped, parameter_shaped, iterator_shaped, limited_shaped, negative_shaped, form_shaped, known_join, known_limited, known_negative, known_true, number_small}
+use Rattle.ac_parse_exprs.specs.Meanings.{meaning, is_array, read_rule, call_rule}
+use Rattle.ac_parse_exprs.specs.AffineForms.{is_small, constant_form, quotient_form, is_within, is_known, is_large}
+use Rattle.ac_parse_exprs.specs.IndexExpressions.{is_long, judged_number, judged_decimal, with_part, gathered, no_parts, name_form, judged_name, judged_other, judged_variable, judged_access, is_refused, quotient_of, quot_of, added, divided_broken, judged_quotient, judged_negative, judged_group, form_of, is_not_affine, joined, chained, judged_chain, judged}
+use Rattle.ac_parse_exprs.specs.Comparisons.{whole_broken, difference_quots, difference_form, difference, compared_form, compared_forms, side_place, judged_division, compared_by, compared}
+use Rattle.ac_parse_exprs.specs.Divisions.{Division, tested_division}
+use Rattle.ac_parse_exprs.proofs.Absent.{neither, not_where, each, each_map}
+use Rattle.ac_parse_exprs.proofs.Collecting.{Shaped, IsKnown, constant_shaped, parameter_shaped, iterator_shaped, limited_shaped, negative_shaped, form_shaped, known_join, known_limited, known_negative, known_true, number_small, quotient_within}
 use Rattle.ac_parse_exprs.proofs.Columns.{length-plus_times}
 use Rattle.ac_parse_exprs.proofs.Judging.{judged-number, judged-decimal, judged-access, judged-call, judged-quotient, judged-negative, judged-group, judged-chain}
 use Rattle.ac_parse_exprs.proofs.Trees.{every_expr}
@@ -60,22 +61,19 @@ name_shaped scope LoopName = tt
 name_shaped scope OwnStart = tt
 name_shaped scope Nothing = tt
 
-unnamed : (a : Option Broken) (rule : Rule) (place : Place) {X : Type 0} → earlier a (rule_broken (Some rule) place) ≡ None → X
-unnamed a rule place h = let n = neither a (rule_broken (Some rule) place) h in absurd cc
-
-name_known : (scope : Scope) (m : Meaning) (word : Word) → is_array m ≡ false → earlier (word_broken word) (rule_broken (read_rule m 0) word.place) ≡ None → IsKnown (name_form scope m)
+name_known : (scope : Scope) (m : Meaning) (word : Word) → is_array m ≡ false → rule_broken (read_rule m 0) word.place ≡ None → IsKnown (name_form scope m)
 name_known scope (Parameter k) word a h = (parameter_shaped scope.params (length scope.iterators) k).2
 name_known scope (Iterator k) word a h = (iterator_shaped scope.params (length scope.iterators) k).2
 name_known scope (Array number dimensions) word a h = absurd cc
-name_known scope LoopName word a h = unnamed (word_broken word) _ word.place h
-name_known scope OwnStart word a h = unnamed (word_broken word) _ word.place h
-name_known scope Nothing word a h = unnamed (word_broken word) _ word.place h
+name_known scope LoopName word a h = absurd cc
+name_known scope OwnStart word a h = absurd cc
+name_known scope Nothing word a h = absurd cc
 
 pub name_judges : (scope : Scope) (m : Meaning) (word : Word) → is_array m ≡ false → Judges scope.params (length scope.iterators) (judged_name scope m word)
 name_judges scope m word a = (name_shaped scope m, (λ h k. name_known scope m word a h))
 
 variable_judges : (ps xs : ℕ) (word : Word) → Judges ps xs (judged_variable word)
-variable_judges ps xs word = (tt, (λ h k. let n = neither (word_broken word) (broken Misused word.place) h in absurd cc))
+variable_judges ps xs word = (tt, (λ h k. absurd cc))
 
 -- whether each part has a form, where none is broken
 abbrev AreKnown : Parts → Type 0
@@ -94,7 +92,7 @@ other_judges : (ps xs : ℕ) (rule : Option Rule) (word : Word) (parts : Parts) 
 other_judges ps xs rule word parts a = (
   tt,
   (λ h k.
-      let n = neither (earlier (word_broken word) (rule_broken rule word.place)) (earlier parts.broken (broken_where parts.known NotAffine word.place)) h in
+      let n = neither (rule_broken rule word.place) (earlier parts.broken (broken_where parts.known NotAffine word.place)) h in
       let m = neither parts.broken (broken_where parts.known NotAffine word.place) n.1 in
       let e : parts.known ≡ false = not_where parts.known NotAffine word.place m.1 in
       let f : parts.known ≡ true = a m.0 k in
@@ -117,8 +115,65 @@ access_judges scope m word subs parts k = access_case scope m word subs parts sc
 pub negative_judges : (ps xs : ℕ) (place : Place) (j : Judged) → Judges ps xs j → Judges ps xs (judged_negative place j)
 negative_judges ps xs place j h = (negative_shaped ps xs j.form h.0, (λ b l. known_negative ps xs j.form h.0 (h.1 b l)))
 
-pub quotient_judges : (ps xs : ℕ) (place : Place) (j : Judged) → Judges ps xs (judged_quotient place j)
-quotient_judges ps xs place j = (tt, (λ h k. let n = neither j.broken (broken NotAffine place) h in absurd cc))
+rounded_shaped : (scope : Scope) (up : Bool) (n : Numeral) (place : Place) (f : Affine) (b : Bool)
+    → Shaped scope.params (length scope.iterators) (cond b (Known (quotient_form scope.params (length scope.iterators) (quot_of up n place f))) (Large false))
+rounded_shaped scope up n place f true = (length-replicate scope.params (pos 0), length-replicate (length scope.iterators) (pos 0))
+rounded_shaped scope up n place f false = tt
+
+quotient_shaped : (scope : Scope) (up : Bool) (n : Numeral) (place : Place) (c : Collected) → Shaped scope.params (length scope.iterators) (quotient_of scope up n place c)
+quotient_shaped scope up n place (Known f) = rounded_shaped scope up n place f (is_within f && is_small (f.constant +ℤ added up n))
+quotient_shaped scope up n place (Large constant) = tt
+quotient_shaped scope up n place Unknown = tt
+
+rounded_known : (scope : Scope) (up : Bool) (n : Numeral) (place : Place) (f : Affine) (b : Bool)
+    → is_large (cond b (Known (quotient_form scope.params (length scope.iterators) (quot_of up n place f))) (Large false)) ≡ false
+    → IsKnown (cond b (Known (quotient_form scope.params (length scope.iterators) (quot_of up n place f))) (Large false))
+rounded_known scope up n place f true h = quotient_within scope.params (length scope.iterators) (quot_of up n place f) refl
+rounded_known scope up n place f false h = absurd cc
+
+quotient_known : (scope : Scope) (up : Bool) (n : Numeral) (place : Place) (c : Collected) → IsKnown c → is_large (quotient_of scope up n place c) ≡ false → IsKnown (quotient_of scope up n place c)
+quotient_known scope up n place (Known f) k h = rounded_known scope up n place f (is_within f && is_small (f.constant +ℤ added up n)) h
+quotient_known scope up n place (Large constant) k h = absurd k
+quotient_known scope up n place Unknown k h = absurd k
+
+-- what is divided breaks no rule, and neither does the number
+pub undivided : (refused : Bool) (n : Numeral) (place : Place) (j : Judged) → divided_broken refused n place j ≡ None → (j.broken ≡ None) × (is_long n ≡ false) × (refused ≡ false)
+undivided refused n place j h =
+    let a = neither (earlier j.broken (broken_where (is_long n) (Limit Literal) n.place)) (broken_where refused NotAffine place) h in
+    let b = neither j.broken (broken_where (is_long n) (Limit Literal) n.place) a.0 in
+    (b.0, not_where (is_long n) (Limit Literal) n.place b.1, not_where refused NotAffine place a.1)
+
+unless_shaped : (ps xs : ℕ) (b : Bool) (c : Collected) → Shaped ps xs c → Shaped ps xs (cond b Unknown c)
+unless_shaped ps xs true c h = tt
+unless_shaped ps xs false c h = h
+
+unless_known : (b d : Bool) (c : Collected) → b ≡ false → d ≡ false → (is_large c ≡ false → IsKnown c) → is_large (cond (b || d) Unknown c) ≡ false → IsKnown (cond (b || d) Unknown c)
+unless_known true d c e f h l = absurd cc
+unless_known false true c e f h l = absurd cc
+unless_known false false c e f h l = h l
+
+pub quotient_judges : (scope : Scope) (up : Bool) (n : Numeral) (place : Place) (j : Judged) → Judges scope.params (length scope.iterators) j → Judges scope.params (length scope.iterators) (judged_quotient scope up n place j)
+quotient_judges scope up n place j h = (
+  unless_shaped scope.params (length scope.iterators) (is_refused scope n j || is_long n) (quotient_of scope up n place j.form) (quotient_shaped scope up n place j.form),
+  (λ b l.
+      let u = undivided (is_refused scope n j) n place j b in
+      let i = neither_is j.large (is_large (cond (is_refused scope n j || is_long n) Unknown (quotient_of scope up n place j.form))) l in
+      unless_known (is_refused scope n j) (is_long n) (quotient_of scope up n place j.form) u.2 u.1 (quotient_known scope up n place j.form (h.1 u.0 i.0)) i.1),
+)
+
+-- a test of a divisor
+pub division_judges : (scope : Scope) (n : Numeral) (place : Place) (j : Judged) → Judges scope.params (length scope.iterators) j → Judges scope.params (length scope.iterators) (judged_division scope n place j)
+division_judges scope n place j h = (
+  unless_shaped scope.params (length scope.iterators) (is_refused scope n j || is_long n) j.form h.0,
+  (λ b l.
+      let u = undivided (is_refused scope n j) n place j b in
+      clear_known (is_refused scope n j) (is_long n) j.form u.2 u.1 (h.1 u.0 l)),
+)
+  where
+    clear_known : (b d : Bool) (c : Collected) → b ≡ false → d ≡ false → IsKnown c → IsKnown (cond (b || d) Unknown c)
+    clear_known true d c e f k = absurd cc
+    clear_known false true c e f k = absurd cc
+    clear_known false false c e f k = k
 
 pub group_judges : (ps xs : ℕ) (place : Place) (j : Judged) → Judges ps xs j → Judges ps xs (judged_group place j)
 group_judges ps xs place j h = (h.0, h.1)
@@ -158,44 +213,45 @@ module _ (names : List Entry) (scope : Scope) where
       (access_judges scope (meaning names scope name.name) name (length subs) (gathered no_parts (map (judged names scope) subs)) (parts_known subs h)))
       (λ name args h. subst Good (sym (judged-call names scope name args))
       (other_judges scope.params (length scope.iterators) (call_rule (meaning names scope name.name)) name (gathered no_parts (map (judged names scope) args)) (parts_known args h)))
-      (λ up argument divisor place h. subst Good (sym (judged-quotient names scope up argument divisor place)) (quotient_judges scope.params (length scope.iterators) place (judged names scope argument)))
+      (λ up argument divisor place h. subst Good (sym (judged-quotient names scope up argument divisor place)) (quotient_judges scope up divisor place (judged names scope argument) h))
       (λ operand place h. subst Good (sym (judged-negative names scope operand place)) (negative_judges scope.params (length scope.iterators) place (judged names scope operand) h))
       (λ inner place h. subst Good (sym (judged-group names scope inner place)) (group_judges scope.params (length scope.iterators) place (judged names scope inner) h))
       (λ operands operators h. subst Good (sym (judged-chain names scope operands operators))
       (chain_judges scope (map (judged names scope) operands) operators (each_map (judged names scope) Good operands h)))
 
-difference_shaped : (ps xs : ℕ) (strict : Bool) (a b : Collected) → Shaped ps xs a → Shaped ps xs (difference strict a b)
-difference_shaped ps xs strict (Known f) (Known g) h = limited_shaped ps xs (difference_form strict f g) false (length-plus_times (negsuc 0) f.params g.params ∙ h.0) (length-plus_times (negsuc 0) f.iters g.iters ∙ h.1)
-difference_shaped ps xs strict (Known f) (Large d) h = tt
-difference_shaped ps xs strict (Known f) Unknown h = tt
-difference_shaped ps xs strict (Large c) (Known g) h = tt
-difference_shaped ps xs strict (Large c) (Large d) h = tt
-difference_shaped ps xs strict (Large c) Unknown h = tt
-difference_shaped ps xs strict Unknown b h = tt
+difference_shaped : (ps xs : ℕ) (turned strict : Bool) (a b : Collected) → Shaped ps xs a → Shaped ps xs (difference turned strict a b)
+difference_shaped ps xs turned strict (Known f) (Known g) h =
+    limited_shaped ps xs (difference_quots turned f.quots g.quots) (difference_form strict f g) false (λ qs. length-plus_times (negsuc 0) f.params g.params ∙ h.0) (λ qs. length-plus_times (negsuc 0) f.iters g.iters ∙ h.1)
+difference_shaped ps xs turned strict (Known f) (Large d) h = tt
+difference_shaped ps xs turned strict (Known f) Unknown h = tt
+difference_shaped ps xs turned strict (Large c) (Known g) h = tt
+difference_shaped ps xs turned strict (Large c) (Large d) h = tt
+difference_shaped ps xs turned strict (Large c) Unknown h = tt
+difference_shaped ps xs turned strict Unknown b h = tt
 
 compared_shaped : (ps xs : ℕ) (relation : Relation) (a b : Collected) → Shaped ps xs a → Shaped ps xs b → Shaped ps xs (compared_form relation a b)
-compared_shaped ps xs Less a b h k = difference_shaped ps xs true b a k
-compared_shaped ps xs AtMost a b h k = difference_shaped ps xs false b a k
-compared_shaped ps xs Greater a b h k = difference_shaped ps xs true a b h
-compared_shaped ps xs AtLeast a b h k = difference_shaped ps xs false a b h
-compared_shaped ps xs Equal a b h k = difference_shaped ps xs false a b h
+compared_shaped ps xs Less a b h k = difference_shaped ps xs true true b a k
+compared_shaped ps xs AtMost a b h k = difference_shaped ps xs true false b a k
+compared_shaped ps xs Greater a b h k = difference_shaped ps xs false true a b h
+compared_shaped ps xs AtLeast a b h k = difference_shaped ps xs false false a b h
+compared_shaped ps xs Equal a b h k = difference_shaped ps xs false false a b h
 
-known_difference : (strict : Bool) (a b : Collected) → IsKnown a → IsKnown b → is_large (difference strict a b) ≡ false → IsKnown (difference strict a b)
-known_difference strict (Known f) (Known g) h k l = known_limited (difference_form strict f g) false l
-known_difference strict (Known f) (Large d) h k l = absurd k
-known_difference strict (Known f) Unknown h k l = absurd k
-known_difference strict (Large c) b h k l = absurd h
-known_difference strict Unknown b h k l = absurd h
+known_difference : (turned strict : Bool) (a b : Collected) → IsKnown a → IsKnown b → is_large (difference turned strict a b) ≡ false → IsKnown (difference turned strict a b)
+known_difference turned strict (Known f) (Known g) h k l = known_limited (difference_quots turned f.quots g.quots) (difference_form strict f g) false l
+known_difference turned strict (Known f) (Large d) h k l = absurd k
+known_difference turned strict (Known f) Unknown h k l = absurd k
+known_difference turned strict (Large c) b h k l = absurd h
+known_difference turned strict Unknown b h k l = absurd h
 
 known_compared : (relation : Relation) (a b : Collected) → IsKnown a → IsKnown b → is_large (compared_form relation a b) ≡ false → IsKnown (compared_form relation a b)
-known_compared Less a b h k l = known_difference true b a k h l
-known_compared AtMost a b h k l = known_difference false b a k h l
-known_compared Greater a b h k l = known_difference true a b h k l
-known_compared AtLeast a b h k l = known_difference false a b h k l
-known_compared Equal a b h k l = known_difference false a b h k l
+known_compared Less a b h k l = known_difference true true b a k h l
+known_compared AtMost a b h k l = known_difference true false b a k h l
+known_compared Greater a b h k l = known_difference false true a b h k l
+known_compared AtLeast a b h k l = known_difference false false a b h k l
+known_compared Equal a b h k l = known_difference false false a b h k l
 
-pub compared_judges : (names : List Entry) (scope : Scope) (part : Part) → Judges scope.params (length scope.iterators) (compared names scope part)
-compared_judges names scope part =
+sides_judge : (names : List Entry) (scope : Scope) (part : Part) → Judges scope.params (length scope.iterators) (compared_forms part.relation (judged names scope part.left) (judged names scope part.right))
+sides_judge names scope part =
     let a = judged names scope part.left in
     let b = judged names scope part.right in
     let h = judges names scope part.left in
@@ -208,36 +264,25 @@ compared_judges names scope part =
           known_compared part.relation a.form b.form (h.1 m.0 e.0) (k.1 m.1 e.1) i.1),
     )
 
+chains_judge : (names : List Entry) (scope : Scope) (es : List Expr) (ops : List Operator) → Judges scope.params (length scope.iterators) (judged_chain scope (map (judged names scope) es) ops)
+chains_judge names scope es ops =
+    chain_judges scope (map (judged names scope) es) ops (each_map (judged names scope) (Judges scope.params (length scope.iterators)) es (each (λ e. Judges scope.params (length scope.iterators) (judged names scope e)) (judges names scope) es))
+
+pub chain_shaped : (names : List Entry) (scope : Scope) (es : List Expr) (ops : List Operator) → Shaped scope.params (length scope.iterators) (judged_chain scope (map (judged names scope) es) ops).form
+chain_shaped names scope es ops = (chains_judge names scope es ops).0
+
+compared_by_judges : (names : List Entry) (scope : Scope) (part : Part) (d : Option Division) → Judges scope.params (length scope.iterators) (compared_by names scope part d)
+compared_by_judges names scope part None = sides_judge names scope part
+compared_by_judges names scope part (Some d) =
+    let j = judged_chain scope (map (judged names scope) d.operands) d.operators in
+    division_judges scope d.divisor (side_place d.parenthesis j.place) j
+    (chains_judge names scope d.operands d.operators)
+
+pub compared_judges : (names : List Entry) (scope : Scope) (part : Part) → Judges scope.params (length scope.iterators) (compared names scope part)
+compared_judges names scope part = compared_by_judges names scope part (tested_division part)
+
 -- where no rule is broken in the whole there is a form
 pub whole_known : (ps xs : ℕ) (j : Judged) → Judges ps xs j → whole_broken j ≡ None → IsKnown j.form
 whole_known ps xs j h b =
     let n = neither j.broken (broken_where j.large (Limit Coefficient) j.place) b in
     h.1 n.0 (not_where j.large (Limit Coefficient) j.place n.1)
-
-form_fits : (scope : Scope) (place : Place) (c : Collected) → Shaped scope.params (length scope.iterators) c → Fits scope.params (length scope.iterators) (placed_form place (form_or_zero scope c))
-form_fits scope place (Known f) h = by (is_within f)
-  where
-    by : (b : Bool) → Fits scope.params (length scope.iterators) (placed_form place (cond b f (constant_form scope.params (length scope.iterators) (pos 0))))
-    by true = record { params = h.0; iters = h.1; plain = refl }
-    by false = let z = constant_shaped scope.params (length scope.iterators) (pos 0) refl in record { params = z.0; iters = z.1; plain = refl }
-form_fits scope place (Large c) h = let z = constant_shaped scope.params (length scope.iterators) (pos 0) refl in record { params = z.0; iters = z.1; plain = refl }
-form_fits scope place Unknown h = let z = constant_shaped scope.params (length scope.iterators) (pos 0) refl in record { params = z.0; iters = z.1; plain = refl }
-
-pub index_expr_fits : (scope : Scope) (j : Judged) → Shaped scope.params (length scope.iterators) j.form → Fits scope.params (length scope.iterators) (index_expr scope j)
-index_expr_fits scope j h = form_fits scope j.place j.form h
-
-pub index_fits : (names : List Entry) (scope : Scope) (e : Expr) → Fits scope.params (length scope.iterators) (index names scope e)
-index_fits names scope e = index_expr_fits scope (judged names scope e) (judges names scope e).0
-
-pub comparison_fits : (names : List Entry) (scope : Scope) (part : Part) → Fits scope.params (length scope.iterators) (comparison names scope part).form
-comparison_fits names scope part = index_expr_fits scope (compared names scope part) (compared_judges names scope part).0
-
-plain_rel : (r : Relation) → IsPlain (rel_of r)
-plain_rel Less = tt
-plain_rel AtMost = tt
-plain_rel Greater = tt
-plain_rel AtLeast = tt
-plain_rel Equal = tt
-
-pub part_fits : (names : List Entry) (scope : Scope) (part : Part) → FitsPart scope.params (length scope.iterators) (comparison names scope part)
-part_fits names scope part = record { form = comparison_fits names scope part; rel = plain_rel part.relation }

@@ -31,7 +31,7 @@ pub judged-call : (names : List Entry) (scope : Scope) (name : Word) (args : Lis
 unfolding judged
 judged-call names scope name args = search (rules, the_lemmas)
 
-pub judged-quotient : (names : List Entry) (scope : Scope) (up : Bool) (argument : Expr) (divisor : Numeral) (place : Place) → judged names scope (Quotient up argument divisor place) ≡ judged_quotient place (judged names scope argument)
+pub judged-quotient : (names : List Entry) (scope : Scope) (up : Bool) (argument : Expr) (divisor : Numeral) (place : Place) → judged names scope (Quotient up argument divisor place) ≡ judged_quotient scope up divisor place (judged names scope argument)
 unfolding judged
 judged-quotient names scope up argument divisor place = search (rules, the_lemmas)
 

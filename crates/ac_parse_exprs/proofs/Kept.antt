@@ -21,11 +21,12 @@ use Rattle.ac_parse_exprs.specs.declared.measure.Total.{Total}
 use Rattle.ac_parse_exprs.specs.declared.value.Built.{Built}
 use Rattle.ac_parse_exprs.specs.declared.value.Built.TheVariants as built
 use Rattle.ac_parse_exprs.specs.Meanings.{meaning}
-use Rattle.ac_parse_exprs.specs.IndexExpressions.{judged_number, judged_quotient, judged}
+use Rattle.ac_parse_exprs.specs.IndexExpressions.{judged_number, judged}
 use Rattle.ac_parse_exprs.specs.FaultOrder.{earlier}
 use Rattle.ac_parse_exprs.specs.Comparisons.{first_from, index_expr}
 use Rattle.ac_parse_exprs.specs.Values.{Reading, number, other, reading, reading_broken, value_broken, value_of, value, placed, symbol, applied_values, access_reading, call_reading, negative_reading, group_reading, joined_reading, chained_reading, chain_reading}
 use Rattle.ac_parse_exprs.specs.Measures.{capped, measure_of, measure, measured_broken, measured_nodes, with_measure, total_from, total_of, measured_call, measured_negative, measured_group, joined_measured, chained_measured, chain_measured, built_of, build, built_value, built_call, built_negative, built_group, joined_built, chained_built, chain_built}
+use Rattle.ac_parse_exprs.proofs.Judging.{judged-quotient}
 use Rattle.ac_parse_exprs.proofs.Readings.{reading-number, reading-decimal, reading-access, reading-call, reading-quotient, reading-negative, reading-group, reading-chain}
 
 -- parts
@@ -123,8 +124,8 @@ module _ (names : List Entry) (scope : Scope) where
       ap measure_of (reading-call names scope name args) ∙ call_kept scope (meaning names scope name.name) name (map (reading names scope) args)
       ∙ ap (λ ms. measured_call (meaning names scope name.name) name (total_of ms)) (map_twice measure_of (reading names scope) args)
 
-  pub measure-quotient : (up : Bool) (argument : Expr) (divisor : Numeral) (place : Place) → measure names scope (Quotient up argument divisor place) ≡ measured.Number (judged_quotient place (judged names scope argument))
-  measure-quotient up argument divisor place = ap measure_of (reading-quotient names scope up argument divisor place)
+  pub measure-quotient : (up : Bool) (argument : Expr) (divisor : Numeral) (place : Place) → measure names scope (Quotient up argument divisor place) ≡ measured.Number (judged names scope (Quotient up argument divisor place))
+  measure-quotient up argument divisor place = ap measure_of (reading-quotient names scope up argument divisor place) ∙ ap measured.Number (sym (judged-quotient names scope up argument divisor place))
 
   pub measure-negative : (operand : Expr) (place : Place) → measure names scope (Negative operand place) ≡ measured_negative place (measure names scope operand)
   measure-negative operand place = ap measure_of (reading-negative names scope operand place) ∙ negative_kept place (reading names scope operand)
@@ -178,8 +179,8 @@ module _ (names : List Entry) (scope : Scope) where
       ap built_of (reading-call names scope name args)
       ∙ rw (map_twice (value_of scope) (reading names scope) args, length-map args (reading names scope), length-map args (value names scope)) refl
 
-  pub build-quotient : (up : Bool) (argument : Expr) (divisor : Numeral) (place : Place) → build names scope (Quotient up argument divisor place) ≡ built.Number (judged_quotient place (judged names scope argument))
-  build-quotient up argument divisor place = ap built_of (reading-quotient names scope up argument divisor place)
+  pub build-quotient : (up : Bool) (argument : Expr) (divisor : Numeral) (place : Place) → build names scope (Quotient up argument divisor place) ≡ built.Number (judged names scope (Quotient up argument divisor place))
+  build-quotient up argument divisor place = ap built_of (reading-quotient names scope up argument divisor place) ∙ ap built.Number (sym (judged-quotient names scope up argument divisor place))
 
   pub build-negative : (operand : Expr) (place : Place) → build names scope (Negative operand place) ≡ built_negative place (build names scope operand)
   build-negative operand place = ap built_of (reading-negative names scope operand place) ∙ negative_built place (reading names scope operand)

@@ -42,7 +42,7 @@ unfolding reading
 reading-call names scope name args = ap (reading names scope) (sym (rolls-Call name args)) ∙ para-roll-Expr Reading (reading_step names scope) (open_of.Call name args) ∙ rw (seconds (reading names scope) args) refl
 
 pub reading-quotient : (names : List Entry) (scope : Scope) (up : Bool) (argument : Expr) (divisor : Numeral) (place : Place)
-    → reading names scope (Quotient up argument divisor place) ≡ number (judged_quotient place (judged names scope argument))
+    → reading names scope (Quotient up argument divisor place) ≡ number (judged_quotient scope up divisor place (judged names scope argument))
 unfolding reading
 reading-quotient names scope up argument divisor place = ap (reading names scope) (sym (rolls-Quotient up argument divisor place)) ∙ para-roll-Expr Reading (reading_step names scope) (open_of.Quotient up argument divisor place)
 

@@ -1,5 +1,6 @@
 -- What each kind of expression in a right side is as it is written.
-use Rattle.std.proofs.Common.{◌≡◌, Bool, List, [], ◌∷◌, map, refl, ap, ◌∙◌, sym, pos, Some, None}
+use Rattle.std.proofs.Common.{◌≡◌, Bool, List, [], ◌∷◌, map, refl, ap, ◌∙◌, sym, pos, Some}
+use Rattle.std.specs.Option.{option_and_then}
 use Rattle.ac_syntax.specs.Algebra.{Cell}
 use Rattle.ac_syntax.specs.Index.{Point}
 use Rattle.ac_syntax.specs.Term.{Term}
@@ -14,7 +15,7 @@ use Rattle.ac_parse_grammar.specs.declared.tree.Expr.TheFolds.{para-roll-Expr}
 use Rattle.ac_parse_exprs.specs.declared.scope.Entry.{Entry}
 use Rattle.ac_parse_exprs.specs.declared.scope.Scope.{Scope}
 use Rattle.ac_parse_exprs.specs.Meanings.{meaning}
-use Rattle.ac_parse_exprs.specs.WrittenValues.{integer_of, expression_value}
+use Rattle.ac_parse_exprs.specs.WrittenValues.{integer_of, rounded, expression_value}
 use Rattle.ac_parse_exprs.specs.WrittenTerms.{Written, index, other, applied_to, access_written, call_written, negative_written, chain_written, written_step, written}
 
 firsts : {X : Type 0} (g : Expr → X) (f : Expr → Written) (es : List Expr) → map (λ (s : Expr × Written). g s.0) (map (λ (y : Expr). (y, f y)) es) ≡ map g es
@@ -48,7 +49,7 @@ module _ (names : List Entry) (scope : Scope) (p : Point) (state : Cell → Term
       ap (written names scope p state) (sym (rolls-Call name args)) ∙ para-roll-Expr Written (written_step names scope p state) (open_of.Call name args)
       ∙ rw (seconds (written names scope p state) args) refl
 
-  pub written-quotient : (up : Bool) (argument : Expr) (divisor : Numeral) (place : Place) → written names scope p state (Quotient up argument divisor place) ≡ index None
+  pub written-quotient : (up : Bool) (argument : Expr) (divisor : Numeral) (place : Place) → written names scope p state (Quotient up argument divisor place) ≡ index (option_and_then (rounded up divisor.number) (expression_value (integer_of names scope p) argument))
   unfolding written
   written-quotient up argument divisor place =
       ap (written names scope p state) (sym (rolls-Quotient up argument divisor place)) ∙ para-roll-Expr Written (written_step names scope p state) (open_of.Quotient up argument divisor place)

@@ -34,11 +34,12 @@ use Rattle.ac_parse_exprs.specs.ValueTerms.{ValuesHaveTerms}
 use Rattle.ac_parse_exprs.proofs.Absent.{NoneBroken, neither, none_of}
 use Rattle.ac_parse_exprs.proofs.Accesses.{rule_holds}
 use Rattle.ac_parse_exprs.proofs.FormValues.{Agrees, negative_agrees, form_agrees}
-use Rattle.ac_parse_exprs.proofs.Judges.{Judges, number_judges, name_judges, quotient_judges, negative_judges, group_judges, joined_judges, whole_known}
+use Rattle.ac_parse_exprs.proofs.Judges.{Judges, judges, number_judges, name_judges, quotient_judges, negative_judges, group_judges, joined_judges, whole_known}
 use Rattle.ac_parse_exprs.proofs.NumberedMeanings.{meaning_in}
 use Rattle.ac_parse_exprs.proofs.Readings.{reading-number, reading-decimal, reading-access, reading-call, reading-quotient, reading-negative, reading-group, reading-chain}
 use Rattle.ac_parse_exprs.proofs.Trees.{every_expr}
-use Rattle.ac_parse_exprs.proofs.WrittenExpressions.{number_agrees, name_agrees, known_agrees, the_known, index_is, indices_have_values}
+use Rattle.ac_parse_exprs.proofs.Unrounded.{unrounded}
+use Rattle.ac_parse_exprs.proofs.WrittenExpressions.{quotient_agrees, expressions_agree, number_agrees, name_agrees, known_agrees, the_known, index_is, indices_have_values}
 use Rattle.ac_parse_exprs.proofs.WrittenParts.{written-number, written-decimal, written-access, written-call, written-quotient, written-negative, written-group, written-chain}
 
 abbrev pub the_cell : ℕ → List ℤ → Cell
@@ -190,7 +191,7 @@ module _ (names : List Entry) (scope : Scope) (p : Point) (state : Cell → Term
       → SaysAs (call_reading scope m word (map (reading names scope) es)) (other (call_written m word.name (map (written names scope p state) es)))
   call_says m word es h b =
       let n = neither _ _ b in
-      call_case m word es h (called_nothing m (no_rule (call_rule m) word.place (neither _ _ n.0).1)) (none_of (map reading_broken (map (reading names scope) es)) n.1)
+      call_case m word es h (called_nothing m (no_rule (call_rule m) word.place n.0)) (none_of (map reading_broken (map (reading names scope) es)) n.1)
 
   negative_says : (place : Place) (x : Reading) (w : Written) → SaysAs x w → SaysAs (negative_reading place x) (negative_written w)
   negative_says place (r.number j) (index z) h = (negative_judges scope.params (length scope.iterators) place j h.0, negative_agrees p j.form z h.1)
@@ -243,8 +244,10 @@ module _ (names : List Entry) (scope : Scope) (p : Point) (state : Cell → Term
       (λ e. ap (λ z. Some z) (sym (value_call free p state (symbol word.name 0) [] word.place))))
       (λ name subs h. says_by (Access name subs) _ _ (reading-access names scope name subs) (written-access names scope p state name subs) (access_says name subs))
       (λ name args h. says_by (Call name args) _ _ (reading-call names scope name args) (written-call names scope p state name args) (call_says (meaning names scope name.name) name args h))
-      (λ up argument divisor place h. says_by (Quotient up argument divisor place) _ _ (reading-quotient names scope up argument divisor place) (written-quotient names scope p state up argument divisor place)
-      (quotient_judges scope.params (length scope.iterators) place (judged names scope argument), tt))
+      (λ up argument divisor place h. says_by (Quotient up argument divisor place) _ _ (reading-quotient names scope up argument divisor place) (written-quotient names scope p state up argument divisor place) (
+        quotient_judges scope up divisor place (judged names scope argument) (judges names scope argument),
+        quotient_agrees p scope up divisor place (judged names scope argument) (expression_value (integer_of names scope p) argument) (unrounded names scope argument) (expressions_agree names scope p a o argument),
+      ))
       (λ operand place h. says_by (Negative operand place) _ _ (reading-negative names scope operand place) (written-negative names scope p state operand place)
       (negative_says place (reading names scope operand) (written names scope p state operand) h))
       (λ inner place h. says_by (Group inner place) _ _ (reading-group names scope inner place) (written-group names scope p state inner place)

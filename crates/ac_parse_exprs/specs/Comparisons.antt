@@ -1,10 +1,15 @@
 -- Index expressions and comparisons as they stand in a program, and what the rules say of them.
-use Rattle.std.specs.Prelude.{Bool, true, false, ◌||◌, if◌then◌else◌, List, [], ◌∷◌, map, length, ℤ, pos, negsuc, ◌+ℤ◌, ◌*ℤ◌, Option, Some, None}
+use Rattle.std.specs.Prelude.{Bool, true, false, ◌||◌, if◌then◌else◌, List, [], ◌∷◌, map, length, ℤ, pos, negsuc, ◌+ℤ◌, ◌*ℤ◌, not, Option, Some, None}
+use Rattle.std.specs.Option.{option_and_then}
+use Rattle.std.specs.List.{filter}
+use Rattle.ac_syntax.specs.Index.{is_zero}
 use Rattle.ac_syntax.specs.declared.tree.Place.{Place}
 use Rattle.ac_syntax.specs.declared.tree.IndexExpr.{IndexExpr}
 use Rattle.ac_syntax.specs.declared.tree.Rel.{Rel}
-use Rattle.ac_syntax.specs.declared.tree.Rel.TheVariants.{NonNegative, Zero}
+use Rattle.ac_syntax.specs.declared.tree.Rel.TheVariants.{NonNegative, Zero, Divides}
+use Rattle.ac_syntax.specs.declared.tree.Quot.{Quot}
 use Rattle.ac_syntax.specs.declared.tree.Comparison.{Comparison}
+use Rattle.ac_parse_grammar.specs.declared.tree.Numeral.{Numeral}
 use Rattle.ac_parse_grammar.specs.declared.tree.Expr.{Expr}
 use Rattle.ac_parse_grammar.specs.declared.tree.Part.{Part}
 use Rattle.ac_parse_grammar.specs.declared.tree.Relation.{Relation}
@@ -19,8 +24,9 @@ use Rattle.ac_parse_exprs.specs.declared.form.Collected.{Collected}
 use Rattle.ac_parse_exprs.specs.declared.form.Collected.TheVariants.{Known, Large, Unknown}
 use Rattle.ac_parse_exprs.specs.declared.index.Judged.{Judged}
 use Rattle.ac_parse_exprs.specs.FaultOrder.{earlier, broken_where}
-use Rattle.ac_parse_exprs.specs.AffineForms.{plus_times, constant_form, is_within, limited, is_large}
-use Rattle.ac_parse_exprs.specs.IndexExpressions.{judged}
+use Rattle.ac_parse_exprs.specs.AffineForms.{plus_times, joined_quots, scaled_quots, constant_form, is_within, limited, is_large}
+use Rattle.ac_parse_exprs.specs.IndexExpressions.{is_long, is_refused, divided_broken, judged_chain, judged}
+use Rattle.ac_parse_exprs.specs.Divisions.{Division, tested_division}
 
 -- the first of several
 abbrev pub first_from : Option Broken → List (Option Broken) → Option Broken
@@ -40,8 +46,12 @@ form_or_zero scope (Known f) = if is_within f then f else constant_form scope.pa
 form_or_zero scope (Large constant) = constant_form scope.params (length scope.iterators) (pos 0)
 form_or_zero scope Unknown = constant_form scope.params (length scope.iterators) (pos 0)
 
+-- those of coefficient 0 don't count
+abbrev pub counted : List Quot → List Quot
+counted qs = filter (λ q. not (is_zero q.coef)) qs
+
 abbrev pub placed_form : Place → Affine → IndexExpr
-placed_form place f = record { konst = f.constant; params = f.params; iters = f.iters; quots = []; place = place }
+placed_form place f = record { konst = f.constant; params = f.params; iters = f.iters; quots = counted f.quots; place = place }
 
 -- the index expression of a form within the limit, where there is one
 abbrev pub known_index : Place → Collected → Option IndexExpr
@@ -63,29 +73,34 @@ index_broken names scope e = whole_broken (judged names scope e)
 abbrev pub margin : Bool → ℤ
 margin strict = if strict then negsuc 0 else pos 0
 
-abbrev pub difference_form : Bool → Affine → Affine → Affine
-difference_form strict f g = record {
+-- the quotients of f - g in the order of the text, where g stands on the left or on the right
+abbrev pub difference_quots : Bool → List Quot → List Quot → Option (List Quot)
+difference_quots turned ps qs = if turned then option_and_then (λ rs. joined_quots (pos 1) rs ps) (scaled_quots (negsuc 0) qs) else joined_quots (negsuc 0) ps qs
+
+abbrev pub difference_form : Bool → Affine → Affine → List Quot → Affine
+difference_form strict f g qs = record {
   constant = (f.constant +ℤ (negsuc 0 *ℤ g.constant)) +ℤ margin strict;
   params = plus_times (negsuc 0) f.params g.params;
   iters = plus_times (negsuc 0) f.iters g.iters;
+  quots = qs;
 }
 
-abbrev pub difference : Bool → Collected → Collected → Collected
-difference strict (Known f) (Known g) = limited (difference_form strict f g) false
-difference strict (Known f) (Large d) = Large false
-difference strict (Known f) Unknown = Unknown
-difference strict (Large c) (Known g) = Large false
-difference strict (Large c) (Large d) = Large false
-difference strict (Large c) Unknown = Unknown
-difference strict Unknown b = Unknown
+abbrev pub difference : Bool → Bool → Collected → Collected → Collected
+difference turned strict (Known f) (Known g) = limited (difference_quots turned f.quots g.quots) (difference_form strict f g) false
+difference turned strict (Known f) (Large d) = Large false
+difference turned strict (Known f) Unknown = Unknown
+difference turned strict (Large c) (Known g) = Large false
+difference turned strict (Large c) (Large d) = Large false
+difference turned strict (Large c) Unknown = Unknown
+difference turned strict Unknown b = Unknown
 
 -- the form that a comparison compares with 0
 abbrev pub compared_form : Relation → Collected → Collected → Collected
-compared_form Less a b = difference true b a
-compared_form AtMost a b = difference false b a
-compared_form Greater a b = difference true a b
-compared_form AtLeast a b = difference false a b
-compared_form Equal a b = difference false a b
+compared_form Less a b = difference true true b a
+compared_form AtMost a b = difference true false b a
+compared_form Greater a b = difference false true a b
+compared_form AtLeast a b = difference false false a b
+compared_form Equal a b = difference false false a b
 
 abbrev pub rel_of : Relation → Rel
 rel_of Less = NonNegative
@@ -99,14 +114,46 @@ compared_forms relation a b = record {
   place = a.place;
   form = compared_form relation a.form b.form;
   large = (a.large || b.large) || is_large (compared_form relation a.form b.form);
+  rounds = a.rounds || b.rounds;
+  awry = a.awry || b.awry;
   broken = earlier a.broken b.broken;
 }
 
+abbrev pub side_place : Option Place → Place → Place
+side_place None place = place
+side_place (Some parenthesis) place = parenthesis
+
+-- a test of a divisor, by what the rules say of what is divided: a form that is compared with its multiples
+abbrev pub judged_division : Scope → Numeral → Place → Judged → Judged
+judged_division scope n place j = record {
+  place = place;
+  form = if is_refused scope n j || is_long n then Unknown else j.form;
+  large = j.large;
+  rounds = true;
+  awry = j.awry || is_refused scope n j;
+  broken = divided_broken (is_refused scope n j) n place j;
+}
+
+abbrev pub tested : Scope → Division → Judged → Judged
+tested scope d j = judged_division scope d.divisor (side_place d.parenthesis j.place) j
+
+abbrev pub compared_by : List Entry → Scope → Part → Option Division → Judged
+compared_by names scope part None = compared_forms part.relation (judged names scope part.left) (judged names scope part.right)
+compared_by names scope part (Some d) = tested scope d (judged_chain scope (map (judged names scope) d.operands) d.operators)
+
 abbrev pub compared : List Entry → Scope → Part → Judged
-compared names scope part = compared_forms part.relation (judged names scope part.left) (judged names scope part.right)
+compared names scope part = compared_by names scope part (tested_division part)
+
+abbrev pub rel_by : Relation → Option Division → Rel
+rel_by relation None = rel_of relation
+rel_by relation (Some d) = Divides (pos d.divisor.number)
+
+-- how a comparison compares its form
+abbrev pub part_rel : Part → Rel
+part_rel part = rel_by part.relation (tested_division part)
 
 abbrev pub comparison : List Entry → Scope → Part → Comparison
-comparison names scope part = record { form = index_expr scope (compared names scope part); rel = rel_of part.relation }
+comparison names scope part = record { form = index_expr scope (compared names scope part); rel = part_rel part }
 
 -- a condition
 abbrev pub condition : List Entry → Scope → List Part → List Comparison

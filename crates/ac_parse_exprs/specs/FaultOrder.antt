@@ -19,6 +19,7 @@ number_of_limit which.Nodes = 7
 number_of_limit which.Literal = 8
 number_of_limit which.Coefficient = 9
 number_of_limit which.Pieces = 10
+number_of_limit which.Quotients = 11
 
 abbrev pub rank : Rule → ℕ
 rank NotAffine = 0

@@ -2,7 +2,7 @@
 use Rattle.std.specs.Prelude.{◌≡◌, ◌<◌, ◌≤◌, ◌⊎◌, ◌↔◌, ℕ, List, length, true, ℤ, ◌+ℤ◌, Option, Some, None}
 use Rattle.std.specs.List.{Contains, AllByRecursion}
 use Rattle.ac_base.specs.Dot.{dot}
-use Rattle.ac_syntax.specs.Index.{Point, index_value, rel_holds, holds}
+use Rattle.ac_syntax.specs.Index.{Point, quots_value, index_value, rel_holds, holds}
 use Rattle.ac_parse_grammar.specs.declared.tree.Expr.{Expr}
 use Rattle.ac_parse_grammar.specs.declared.tree.Part.{Part}
 use Rattle.ac_parse_exprs.specs.declared.fault.Broken.{Broken}
@@ -14,7 +14,7 @@ use Rattle.ac_parse_exprs.specs.declared.scope.Entry.{Entry}
 use Rattle.ac_parse_exprs.specs.declared.scope.Scope.{Scope}
 use Rattle.ac_parse_exprs.specs.FaultOrder.{rank}
 use Rattle.ac_parse_exprs.specs.IndexExpressions.{judged}
-use Rattle.ac_parse_exprs.specs.Comparisons.{first_of, index, index_broken, rel_of, compared, condition, condition_broken}
+use Rattle.ac_parse_exprs.specs.Comparisons.{first_of, index, index_broken, part_rel, compared, condition, condition_broken}
 use Rattle.ac_parse_exprs.specs.WrittenValues.{integer_of, expression_value, IsRelated}
 
 -- the fault f is no later than g: it is at a lower place, or at the same place with a rank that is no higher
@@ -51,7 +51,7 @@ IsPointOf scope p = (length p.params ≡ scope.params) × (length p.iters ≡ le
 
 -- the value of a form at a point
 abbrev pub form_value : Point → Affine → ℤ
-form_value p f = f.constant +ℤ (dot f.params p.params +ℤ dot f.iters p.iters)
+form_value p f = f.constant +ℤ (dot f.params p.params +ℤ (dot f.iters p.iters +ℤ quots_value p f.quots))
 
 -- where the rules collect a form, it has the value of the expression at every point
 abbrev pub FormsHaveValues : Type 0
@@ -70,7 +70,7 @@ IsCompared integer part Holds = (x : ℤ) × (y : ℤ) × (expression_value inte
 -- where the rules collect a form of a comparison, it compares with 0 as the sides compare
 abbrev pub ComparisonsHold : Type 0
 ComparisonsHold = (names : List Entry) (scope : Scope) (p : Point) → AreNumbered scope.params names → IsPointOf scope p
-    → (part : Part) (f : Affine) → (compared names scope part).form ≡ Known f → IsCompared (integer_of names scope p) part (rel_holds (rel_of part.relation) (form_value p f) ≡ true)
+    → (part : Part) (f : Affine) → (compared names scope part).form ≡ Known f → IsCompared (integer_of names scope p) part (rel_holds (part_rel part) (form_value p f) ≡ true)
 
 -- a comparison is true as it is written
 abbrev pub IsTrueAt : (List ℕ → Option ℤ) → Part → Type 0

@@ -2,6 +2,7 @@ pub mod FaultOrder
 pub mod Meanings
 pub mod AffineForms
 pub mod IndexExpressions
+pub mod Divisions
 pub mod Comparisons
 pub mod WrittenValues
 pub mod FormValues

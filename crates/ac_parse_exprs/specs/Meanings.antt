@@ -1,11 +1,8 @@
 -- What a name means at a place, and which rule its use there breaks.
-use Rattle.std.specs.Prelude.{ℕ, ◌==◌, Bool, true, false, ◌||◌, List, [], ◌∷◌, length, nat_eq, codes, Option, Some, None, if◌then◌else◌}
+use Rattle.std.specs.Prelude.{ℕ, ◌==◌, Bool, true, false, List, [], ◌∷◌, length, nat_eq, Option, Some, None, if◌then◌else◌}
 use Rattle.std.specs.Cmp.Lexicographic.{pointwise}
-use Rattle.ac_parse_grammar.specs.declared.tree.Word.{Word}
-use Rattle.ac_parse_exprs.specs.FaultOrder.{broken_where}
 use Rattle.ac_parse_exprs.specs.declared.fault.Rule.{Rule}
-use Rattle.ac_parse_exprs.specs.declared.fault.Rule.TheVariants.{NotAffine, Undeclared, Misused}
-use Rattle.ac_parse_exprs.specs.declared.fault.Broken.{Broken}
+use Rattle.ac_parse_exprs.specs.declared.fault.Rule.TheVariants.{Undeclared, Misused}
 use Rattle.ac_parse_exprs.specs.declared.scope.Meaning.{Meaning}
 use Rattle.ac_parse_exprs.specs.declared.scope.Meaning.TheVariants.{Parameter, Iterator, Array, LoopName, OwnStart, Nothing}
 use Rattle.ac_parse_exprs.specs.declared.scope.Entry.{Entry}
@@ -62,10 +59,3 @@ call_rule (Array number dimensions) = Some Misused
 call_rule LoopName = Some Undeclared
 call_rule OwnStart = Some Misused
 call_rule Nothing = None
-
--- the words for rounded division, which stand nowhere yet
-abbrev pub is_reserved : List ℕ → Bool
-is_reserved name = pointwise nat_eq name (codes "floord") || pointwise nat_eq name (codes "ceild")
-
-abbrev pub word_broken : Word → Option Broken
-word_broken word = broken_where (is_reserved word.name) NotAffine word.place

@@ -18,7 +18,7 @@ use Rattle.ac_parse_exprs.specs.declared.measure.Total.{Total}
 use Rattle.ac_parse_exprs.specs.declared.value.Built.{Built}
 use Rattle.ac_parse_exprs.specs.declared.value.Built.TheVariants as built
 use Rattle.ac_parse_exprs.specs.FaultOrder.{earlier, rule_broken}
-use Rattle.ac_parse_exprs.specs.Meanings.{call_rule, word_broken}
+use Rattle.ac_parse_exprs.specs.Meanings.{call_rule}
 use Rattle.ac_parse_exprs.specs.IndexExpressions.{joined, judged_number, judged_negative, judged_group}
 use Rattle.ac_parse_exprs.specs.Comparisons.{index_expr, whole_broken}
 use Rattle.ac_parse_exprs.specs.Values.{Reading, number, other, reading, applied_values, symbol, placed}
@@ -53,7 +53,7 @@ abbrev pub total_of : List Measured → Total
 total_of ms = total_from (record { broken = None; nodes = 0 }) ms
 
 abbrev pub measured_call : Meaning → Word → Total → Measured
-measured_call m word t = measured.Other (earlier (earlier (word_broken word) (rule_broken (call_rule m) word.place)) t.broken) (capped (t.nodes + 1))
+measured_call m word t = measured.Other (earlier (rule_broken (call_rule m) word.place) t.broken) (capped (t.nodes + 1))
 
 abbrev pub measured_negative : Place → Measured → Measured
 measured_negative place (measured.Number j) = measured.Number (judged_negative place j)

@@ -19,7 +19,7 @@ use Rattle.ac_parse_exprs.specs.declared.scope.Entry.{Entry}
 use Rattle.ac_parse_exprs.specs.declared.scope.Scope.{Scope}
 use Rattle.ac_parse_exprs.specs.declared.index.Judged.{Judged}
 use Rattle.ac_parse_exprs.specs.FaultOrder.{earlier, rule_broken}
-use Rattle.ac_parse_exprs.specs.Meanings.{meaning, is_array, read_rule, call_rule, word_broken}
+use Rattle.ac_parse_exprs.specs.Meanings.{meaning, is_array, read_rule, call_rule}
 use Rattle.ac_parse_exprs.specs.IndexExpressions.{judged_number, judged_name, judged_quotient, judged_negative, judged_group, joined, judged}
 use Rattle.ac_parse_exprs.specs.Comparisons.{first_of, whole_broken, index_expr, index, index_broken}
 
@@ -70,7 +70,7 @@ array_number meaning_of.Nothing = 0
 
 -- a name with its subscripts
 abbrev pub access_broken : List Entry → Scope → Option Rule → Word → List Expr → Option Broken
-access_broken names scope rule word subs = earlier (earlier (word_broken word) (rule_broken rule word.place)) (first_of (map (index_broken names scope) subs))
+access_broken names scope rule word subs = earlier (rule_broken rule word.place) (first_of (map (index_broken names scope) subs))
 
 abbrev pub read_of : List Entry → Scope → Meaning → Word → List Expr → Value
 read_of names scope m word subs = Access (array_number m) (map (index names scope) subs) word.place
@@ -82,7 +82,7 @@ access_reading names scope m word subs =
 
 abbrev pub call_reading : Scope → Meaning → Word → List Reading → Reading
 call_reading scope m word args = other
-    (earlier (earlier (word_broken word) (rule_broken (call_rule m) word.place)) (first_of (map reading_broken args)))
+    (earlier (rule_broken (call_rule m) word.place) (first_of (map reading_broken args)))
     (Call (symbol word.name (length args)) (map (value_of scope) args) word.place)
 
 abbrev pub negative_reading : Place → Reading → Reading
@@ -122,7 +122,7 @@ reading_step names scope (Expr-F.Number n) = number (judged_number scope n)
 reading_step names scope (Expr-F.Decimal word) = other None (Call (symbol word.name 0) [] word.place)
 reading_step names scope (Expr-F.Access name subs) = access_reading names scope (meaning names scope name.name) name (map (λ s. s.0) subs)
 reading_step names scope (Expr-F.Call name args) = call_reading scope (meaning names scope name.name) name (map (λ a. a.1) args)
-reading_step names scope (Expr-F.Quotient up argument divisor place) = number (judged_quotient place (judged names scope argument.0))
+reading_step names scope (Expr-F.Quotient up argument divisor place) = number (judged_quotient scope up divisor place (judged names scope argument.0))
 reading_step names scope (Expr-F.Negative operand place) = negative_reading place operand.1
 reading_step names scope (Expr-F.Group inner place) = group_reading place inner.1
 reading_step names scope (Expr-F.Chain operands operators) = chain_reading scope (map (λ e. e.1) operands) operators

@@ -1,6 +1,6 @@
 -- The value of a right side as it is written: a term over what a state holds in the cells that are read.
 use Rattle.std.specs.Prelude.{ℕ, ◌==◌, not, ◌&&◌, if◌then◌else◌, List, [], ◌∷◌, map, length, codes, ℤ, pos, neg_ℤ, Option, Some, None}
-use Rattle.std.specs.Option.{option_map}
+use Rattle.std.specs.Option.{option_map, option_and_then}
 use Rattle.ac_syntax.specs.Index.{Point}
 use Rattle.ac_syntax.specs.Algebra.{Cell}
 use Rattle.ac_syntax.specs.Term.{Term, Num, Apply, terms}
@@ -15,7 +15,7 @@ use Rattle.ac_parse_exprs.specs.declared.scope.Entry.{Entry}
 use Rattle.ac_parse_exprs.specs.declared.scope.Scope.{Scope}
 use Rattle.ac_parse_exprs.specs.Meanings.{meaning, is_array}
 use Rattle.ac_parse_exprs.specs.Values.{symbol, operator_name}
-use Rattle.ac_parse_exprs.specs.WrittenValues.{meant_integer, integer_of, operated, expression_value}
+use Rattle.ac_parse_exprs.specs.WrittenValues.{meant_integer, integer_of, operated, rounded, expression_value}
 
 -- An expression of a right side: without an access to an array, a call or a decimal it is an index expression, and has an integer;
 -- any other has a term. Nothing where it has no meaning.
@@ -92,7 +92,7 @@ written_step names scope p state (Expr-F.Number n) = index (Some (pos n.number))
 written_step names scope p state (Expr-F.Decimal word) = other (applied_to word.name [])
 written_step names scope p state (Expr-F.Access name subs) = access_written p state (meaning names scope name.name) (map (λ s. expression_value (integer_of names scope p) s.0) subs)
 written_step names scope p state (Expr-F.Call name args) = other (call_written (meaning names scope name.name) name.name (map (λ a. a.1) args))
-written_step names scope p state (Expr-F.Quotient up argument divisor place) = index None
+written_step names scope p state (Expr-F.Quotient up argument divisor place) = index (option_and_then (rounded up divisor.number) (expression_value (integer_of names scope p) argument.0))
 written_step names scope p state (Expr-F.Negative operand place) = negative_written operand.1
 written_step names scope p state (Expr-F.Group inner place) = inner.1
 written_step names scope p state (Expr-F.Chain operands operators) = chain_written (map (λ e. e.1) operands) operators

@@ -1,7 +1,8 @@
 -- The value of an expression as it is written, in exact integers, and whether a comparison holds as it is written.
-use Rattle.std.specs.Prelude.{◌≡◌, ◌==◌, ℕ, if◌then◌else◌, List, [], ◌∷◌, length, ℤ, pos, ◌+ℤ◌, ◌-ℤ◌, ◌*ℤ◌, neg_ℤ, ◌<ℤ◌, ◌≤ℤ◌, Option, Some, None, slice_get}
-use Rattle.std.specs.Option.{option_map}
-use Rattle.ac_syntax.specs.Index.{Point}
+use Rattle.std.specs.Prelude.{◌≡◌, ◌==◌, ℕ, zero, suc, Bool, int_rem, if◌then◌else◌, List, [], ◌∷◌, length, ℤ, pos, ◌+ℤ◌, ◌-ℤ◌, ◌*ℤ◌, neg_ℤ, ◌<ℤ◌, ◌≤ℤ◌, Option, Some, None, slice_get}
+use Rattle.std.specs.Option.{option_map, option_and_then}
+use Rattle.std.specs.Int.{int_div_euclid}
+use Rattle.ac_syntax.specs.Index.{Point, is_zero}
 use Rattle.ac_parse_grammar.specs.declared.tree.Operator.{Operator}
 use Rattle.ac_parse_grammar.specs.declared.tree.Operator.TheVariants.{Add, Subtract, Multiply, Divide, Remainder}
 use Rattle.ac_parse_grammar.specs.declared.tree.Relation.{Relation}
@@ -34,13 +35,17 @@ on_both f (Some x) (Some y) = Some (f x y)
 on_both f (Some x) None = None
 on_both f None b = None
 
--- sum, difference and product; quotients and remainders stand in no index
+-- what is left of a quotient that is rounded towards 0, as in C; by 0 there is none
+abbrev pub remainder : ℤ → ℤ → Option ℤ
+remainder x y = if is_zero y then None else Some (int_rem x y)
+
+-- sum, difference, product and remainder; a quotient by `/` stands in no index
 abbrev pub operated : Operator → Option ℤ → Option ℤ → Option ℤ
 operated Add a b = on_both (λ x y. x +ℤ y) a b
 operated Subtract a b = on_both (λ x y. x -ℤ y) a b
 operated Multiply a b = on_both (λ x y. x *ℤ y) a b
 operated Divide a b = None
-operated Remainder a b = None
+operated Remainder a b = option_and_then (λ x. option_and_then (remainder x) b) a
 
 -- operators group to the left
 abbrev pub operated_all : Option ℤ → List (Option ℤ) → List Operator → Option ℤ
@@ -53,13 +58,18 @@ abbrev pub chain_value : List (Option ℤ) → List Operator → Option ℤ
 chain_value [] operators = Some (pos 0)
 chain_value (a ∷ bs) operators = operated_all a bs operators
 
--- the value of an expression by the values of its parts; decimals, calls, names with subscripts and quotients have none
+-- a quotient that is rounded up or down; by 0 there is none
+abbrev pub rounded : Bool → ℕ → ℤ → Option ℤ
+rounded up zero x = None
+rounded up (suc n) x = Some (if up then neg_ℤ (int_div_euclid (neg_ℤ x) (pos (suc n))) else int_div_euclid x (pos (suc n)))
+
+-- the value of an expression by the values of its parts; decimals, calls and names with subscripts have none
 abbrev pub value_step : (List ℕ → Option ℤ) → Expr-F (Option ℤ) → Option ℤ
 value_step integer (Expr-F.Number n) = Some (pos n.number)
 value_step integer (Expr-F.Decimal word) = None
 value_step integer (Expr-F.Access name subs) = if length subs == 0 then integer name.name else None
 value_step integer (Expr-F.Call name args) = None
-value_step integer (Expr-F.Quotient up argument divisor place) = None
+value_step integer (Expr-F.Quotient up argument divisor place) = option_and_then (rounded up divisor.number) argument
 value_step integer (Expr-F.Negative operand place) = option_map neg_ℤ operand
 value_step integer (Expr-F.Group inner place) = inner
 value_step integer (Expr-F.Chain operands operators) = chain_value operands operators

@@ -1,14 +1,20 @@
 ghost use Rattle.std.specs.Prelude.{◌≡◌, ◌+ℤ◌, ◌*ℤ◌, ◌++◌, length, pos, negsuc, false, map, IfOk, Some, None, if◌then◌else◌};
 ghost use Rattle.ac_parse_exprs.specs.AffineForms.{is_kept, limited, constant_form};
-ghost use Rattle.ac_parse_exprs.specs.Comparisons.{first_from, first_of, whole_broken, known_index, placed_form, index_expr, index, index_broken, margin, difference_form, difference, compared_form, rel_of, compared_forms, compared, comparison, condition, condition_broken};
+ghost use Rattle.ac_parse_exprs.specs.Comparisons.{first_from, first_of, whole_broken, known_index, placed_form, index_expr, index, index_broken, margin, difference_quots, difference_form, difference, compared_form, rel_of, rel_by, part_rel, compared_forms, tested, compared, comparison, condition, condition_broken};
+ghost use Rattle.std.specs.Option.{option_map};
+ghost use Rattle.ac_parse_exprs.specs.Divisions as spec;
+ghost use Rattle.ac_parse_exprs.specs.Divisions.{tested_division};
+ghost use Rattle.ac_parse_exprs.specs.IndexExpressions.{judged, judged_chain};
 
+use crate::division::{Division, tested_division};
 use crate::fault::{Broken, Rule, Which, broken_where, earlier};
 use crate::form::{Affine, Collected, kept, sums};
-use crate::index::{Judged, judge};
+use crate::index::{Judged, judge, judge_chain};
+use crate::quotients::{joined, scaled};
 use crate::scope::{Entry, Scope};
 use ac_base::Items;
 use ac_parse_grammar::tree::{Expr, Part, Relation};
-use ac_syntax::tree::{Comparison, IndexExpr, Place, Rel};
+use ac_syntax::tree::{Comparison, IndexExpr, Place, Quot, Rel};
 use std::alloc::{AllocError, Global};
 
 impl Judged {
@@ -56,16 +62,22 @@ impl Collected {
         }
     }
 
-    /// This less another, and less 1 where `strict`.
-    fn less(&self, alloc: Global, strict: bool, other: &Collected) -> Result<Collected, AllocError>
-        ensures { IfOk result (λ form. form ≡ difference strict self.now other.now) }
+    /// This less another, and less 1 where `strict`; `turned` where the other stands on the left.
+    fn less(
+        &self,
+        alloc: Global,
+        turned: bool,
+        strict: bool,
+        other: &Collected,
+    ) -> Result<Collected, AllocError>
+        ensures { IfOk result (λ form. form ≡ difference turned strict self.now other.now) }
     {
         if !self.is_known() || !other.is_known() {
             return Ok(Collected::Unknown);
         }
         match self {
             Collected::Known(left) => match other {
-                Collected::Known(right) => left.less(alloc, strict, right),
+                Collected::Known(right) => left.less(alloc, turned, strict, right),
                 _ => Ok(Collected::Large(false)),
             },
             _ => Ok(Collected::Large(false)),
@@ -99,9 +111,33 @@ fn less_number(x: i128, strict: bool, y: i128) -> Option<i128>
     }
 }
 
+/// The quotients of the first less the second; `turned` where the second stand on the left.
+fn less_quots(
+    alloc: Global,
+    turned: bool,
+    first: &[Quot],
+    second: &[Quot],
+) -> Result<Option<Items<Quot>>, AllocError>
+    ensures { IfOk result (λ made. made ≡ difference_quots turned first.now second.now) }
+{
+    if !turned {
+        return joined(alloc, true, first, second);
+    }
+    let Some(opposite) = scaled(alloc, -1, second)? else {
+        return Ok(None);
+    };
+    joined(alloc, false, opposite.as_slice(), first)
+}
+
 impl Affine {
-    fn less(&self, alloc: Global, strict: bool, other: &Affine) -> Result<Collected, AllocError>
-        ensures { IfOk result (λ collected. collected ≡ limited (difference_form strict self.now other.now) false) }
+    fn less(
+        &self,
+        alloc: Global,
+        turned: bool,
+        strict: bool,
+        other: &Affine,
+    ) -> Result<Collected, AllocError>
+        ensures { IfOk result (λ collected. collected ≡ limited (difference_quots turned self.now.quots other.now.quots) (difference_form strict self.now other.now) false) }
     {
         let Some(constant) = less_number(self.constant, strict, other.constant) else {
             return Ok(Collected::Large(false));
@@ -114,10 +150,15 @@ impl Affine {
         let Some(iters) = sums(alloc, left, true, other.iters.as_slice())? else {
             return Ok(Collected::Large(false));
         };
+        let left = self.quots.as_slice();
+        let Some(quots) = less_quots(alloc, turned, left, other.quots.as_slice())? else {
+            return Ok(Collected::Large(false));
+        };
         Ok(Collected::Known(Affine {
             constant,
             params,
             iters,
+            quots,
         }))
     }
 }
@@ -131,15 +172,14 @@ fn compare_forms(
     ensures { IfOk result (λ form. form ≡ compared_form relation left.now right.now) }
 {
     match relation {
-        Relation::Less => right.less(alloc, true, left),
-        Relation::AtMost => right.less(alloc, false, left),
-        Relation::Greater => left.less(alloc, true, right),
-        Relation::AtLeast | Relation::Equal => left.less(alloc, false, right),
+        Relation::Less => right.less(alloc, true, true, left),
+        Relation::AtMost => right.less(alloc, true, false, left),
+        Relation::Greater => left.less(alloc, false, true, right),
+        Relation::AtLeast | Relation::Equal => left.less(alloc, false, false, right),
     }
 }
 
-/// How a comparison compares its form with 0.
-pub fn rel_of(relation: Relation) -> Rel
+fn rel_of(relation: Relation) -> Rel
     ensures { result ≡ rel_of relation }
 {
     match relation {
@@ -150,14 +190,24 @@ pub fn rel_of(relation: Relation) -> Rel
     }
 }
 
-/// What the rules say of a comparison, as a form that is compared with 0.
-pub fn compare(
+/// How a comparison compares its form.
+pub fn part_rel(part: &Part) -> Rel
+    ensures { result ≡ part_rel part.now }
+{
+    match tested_division(part) {
+        Some(division) => Rel::Divides(i64::from(division.divisor.number)),
+        None => rel_of(part.relation),
+    }
+}
+
+/// What the rules say of two sides that are compared.
+fn compare_sides(
     alloc: Global,
     names: &[Entry],
     scope: &Scope,
     part: &Part,
 ) -> Result<Judged, AllocError>
-    ensures { IfOk result (λ it. it ≡ compared names.now scope.now part.now) }
+    ensures { IfOk result (λ it. it ≡ compared_forms part.now.relation (judged names.now scope.now part.now.left) (judged names.now scope.now part.now.right)) }
 {
     let left = judge(alloc, names, scope, &part.left)?;
     let right = judge(alloc, names, scope, &part.right)?;
@@ -166,8 +216,39 @@ pub fn compare(
         place: left.place,
         large: left.large || right.large || form.is_large(),
         form,
+        rounds: left.rounds || right.rounds,
+        awry: left.awry || right.awry,
         broken: earlier(left.broken, right.broken),
     })
+}
+
+/// What the rules say of a test of a divisor.
+fn compare_multiple(
+    alloc: Global,
+    names: &[Entry],
+    scope: &Scope,
+    division: &Division<'_>,
+) -> Result<Judged, AllocError>
+    ensures { IfOk result (λ it. it ≡ tested scope.now (spec.lent division.now) (judged_chain scope.now (map (judged names.now scope.now) division.now.operands.now) division.now.operators.now)) }
+{
+    let it = judge_chain(alloc, names, scope, division.operands, division.operators)?;
+    let place = division.parenthesis.unwrap_or(it.place);
+    Ok(it.division(scope, division.divisor, place))
+}
+
+/// What the rules say of a comparison, as a form that is compared with 0, or with the multiples of a divisor.
+pub fn compare(
+    alloc: Global,
+    names: &[Entry],
+    scope: &Scope,
+    part: &Part,
+) -> Result<Judged, AllocError>
+    ensures { IfOk result (λ it. it ≡ compared names.now scope.now part.now) }
+{
+    match tested_division(part) {
+        Some(division) => compare_multiple(alloc, names, scope, &division),
+        None => compare_sides(alloc, names, scope, part),
+    }
 }
 
 /// What is broken in an index expression.
@@ -258,7 +339,7 @@ pub fn add_condition(
         let it = compare(alloc, names, scope, part)?;
         built.push(Comparison {
             form: it.into_index(alloc, scope)?,
-            rel: rel_of(part.relation),
+            rel: part_rel(part),
         })?;
     }
     Ok(built)

@@ -18,6 +18,7 @@ pub enum Which {
     Literal,
     Coefficient,
     Pieces,
+    Quotients,
 }
 
 impl fmt::Display for Which {
@@ -34,6 +35,7 @@ impl fmt::Display for Which {
             Which::Literal => "literal",
             Which::Coefficient => "coefficient",
             Which::Pieces => "pieces",
+            Which::Quotients => "quotients",
         };
         write!(f, "{name}")
     }
@@ -72,6 +74,7 @@ fn number_of_limit(which: Which) -> u8
         Which::Literal => 8,
         Which::Coefficient => 9,
         Which::Pieces => 10,
+        Which::Quotients => 11,
     }
 }
 

@@ -2,24 +2,27 @@ ghost use Rattle.std.specs.Prelude.{◌≡◌, [], slice_index_or, ◌+ℤ◌, �
 ghost use Rattle.std.specs.List.{list_all};
 ghost use Rattle.ac_syntax.specs.Index.{is_zero};
 ghost use Rattle.ac_parse_exprs.specs.Comparisons.{placed_form};
-ghost use Rattle.ac_parse_exprs.specs.AffineForms.{is_small, all_small, is_within, is_kept, all_kept, are_kept, is_constant, plus_times, times, sum_form, multiple_form, indicator, unit, zeros, constant_form, parameter_form, iterator_form, counts_as_constant, is_known, is_large, limited, sum_of, known_product, large_product, product_of, negative_of, signed};
+ghost use Rattle.ac_parse_exprs.specs.AffineForms.{is_small, all_small, is_within, is_kept, all_kept, are_kept, is_constant, plus_times, times, sum_form, multiple_form, indicator, unit, zeros, constant_form, parameter_form, iterator_form, quotient_form, joined_quots, scaled_quots, counts_as_constant, is_known, is_large, limited, sum_of, known_product, large_product, product_of, negative_of, signed};
 
+use crate::quotients::{are_small, are_zero, counted, joined, scaled};
 use ac_base::Items;
-use ac_syntax::tree::{IndexExpr, Place};
+use ac_syntax::tree::{IndexExpr, Place, Quot};
 use std::alloc::{AllocError, Global};
 
-/// An affine form: a constant, a coefficient for each integer parameter, and one for each iterator, the outermost first.
+/// An affine form: a constant, a coefficient for each integer parameter, one for each iterator, the outermost first, and quotients
+/// with their coefficients, in the order in which they first appear.
 #[derive(Drop)]
 pub struct Affine {
     pub constant: i128,
     pub params: Items<i128>,
     pub iters: Items<i128>,
+    pub quots: Items<Quot>,
 }
 
 /// What is collected of an expression.
 #[derive(Drop)]
 pub enum Collected {
-    /// Its form, in exact numbers of at most 2^126 in absolute value.
+    /// Its form, in exact numbers of at most 2^126 in absolute value; coefficients of quotients are within the limit.
     Known(Affine),
     /// Some number passes that; whether the expression counts as constant.
     Large(bool),
@@ -28,14 +31,14 @@ pub enum Collected {
 }
 
 /// Whether the number is within the limit of an index expression.
-fn is_small(z: i128) -> bool
+pub(crate) fn is_small(z: i128) -> bool
     ensures { result ≡ is_small z }
 {
     z.unsigned_abs() <= 2147483648
 }
 
 /// The number, where it is within the limit of an index expression.
-fn small(z: i128) -> Option<i64>
+pub(crate) fn small(z: i128) -> Option<i64>
     ensures { result ≡ (if is_small z then Some z else None) }
 {
     if z.unsigned_abs() <= 2147483648 {
@@ -54,6 +57,13 @@ pub fn kept(z: i128) -> Option<i128>
     } else {
         None
     }
+}
+
+/// 1, or -1 where `down`.
+pub(crate) fn sign(down: bool) -> i128
+    ensures { result ≡ signed down }
+{
+    if down { -1 } else { 1 }
 }
 
 /// `x + y`, or `x - y` where `down`; none exactly where that is not kept.
@@ -181,11 +191,13 @@ fn unit(alloc: Global, n: usize, k: usize) -> Result<Items<i128>, AllocError>
 }
 
 impl Affine {
-    /// Whether no parameter and no iterator counts.
+    /// Whether no parameter, no iterator and no quotient counts.
     pub(crate) fn is_constant(&self) -> bool
         ensures { result ≡ is_constant self.now }
     {
-        all_zero(self.params.as_slice()) && all_zero(self.iters.as_slice())
+        all_zero(self.params.as_slice())
+            && all_zero(self.iters.as_slice())
+            && are_zero(self.quots.as_slice())
     }
 
     /// Whether each number is within the limit of an index expression.
@@ -195,12 +207,17 @@ impl Affine {
         is_small(self.constant)
             && all_small(self.params.as_slice())
             && all_small(self.iters.as_slice())
+            && are_small(self.quots.as_slice())
+            && self.quots.len() <= 65536
     }
 
     /// The form as an index expression; none exactly where a number passes the limit.
     pub(crate) fn index(&self, alloc: Global, place: Place) -> Result<Option<IndexExpr>, AllocError>
         ensures { IfOk result (λ index. index ≡ (if is_within self.now then Some (placed_form place self.now) else None)) }
     {
+        if !self.is_within() {
+            return Ok(None);
+        }
         let Some(konst) = small(self.constant) else {
             return Ok(None);
         };
@@ -214,7 +231,7 @@ impl Affine {
             konst,
             params,
             iters,
-            quots: Items::new(alloc),
+            quots: counted(alloc, self.quots.as_slice())?,
             place,
         }))
     }
@@ -227,7 +244,7 @@ impl Affine {
         other: &Affine,
         constant: bool,
     ) -> Result<Collected, AllocError>
-        ensures { IfOk result (λ collected. collected ≡ limited (sum_form (signed down) self.now other.now) constant) }
+        ensures { IfOk result (λ collected. collected ≡ limited (joined_quots (signed down) self.now.quots other.now.quots) (sum_form (signed down) self.now other.now) constant) }
     {
         let Some(number) = sum(self.constant, down, other.constant) else {
             return Ok(Collected::Large(constant));
@@ -240,16 +257,21 @@ impl Affine {
         let Some(iters) = sums(alloc, left, down, other.iters.as_slice())? else {
             return Ok(Collected::Large(constant));
         };
+        let left = self.quots.as_slice();
+        let Some(quots) = joined(alloc, down, left, other.quots.as_slice())? else {
+            return Ok(Collected::Large(constant));
+        };
         Ok(Collected::Known(Affine {
             constant: number,
             params,
             iters,
+            quots,
         }))
     }
 
     /// `k` times the form.
     fn times(&self, alloc: Global, k: i128, constant: bool) -> Result<Collected, AllocError>
-        ensures { IfOk result (λ collected. collected ≡ limited (multiple_form k self.now) constant) }
+        ensures { IfOk result (λ collected. collected ≡ limited (scaled_quots k self.now.quots) (multiple_form k self.now) constant) }
     {
         let Some(number) = product(k, self.constant) else {
             return Ok(Collected::Large(constant));
@@ -260,10 +282,14 @@ impl Affine {
         let Some(iters) = products(alloc, k, self.iters.as_slice())? else {
             return Ok(Collected::Large(constant));
         };
+        let Some(quots) = scaled(alloc, k, self.quots.as_slice())? else {
+            return Ok(Collected::Large(constant));
+        };
         Ok(Collected::Known(Affine {
             constant: number,
             params,
             iters,
+            quots,
         }))
     }
 
@@ -294,6 +320,7 @@ pub fn constant_form(
         constant: number,
         params: zeros(alloc, params)?,
         iters: zeros(alloc, iters)?,
+        quots: Items::new(alloc),
     })
 }
 
@@ -310,6 +337,7 @@ pub fn parameter_form(
         constant: 0,
         params: unit(alloc, params, k)?,
         iters: zeros(alloc, iters)?,
+        quots: Items::new(alloc),
     })
 }
 
@@ -326,6 +354,26 @@ pub fn iterator_form(
         constant: 0,
         params: zeros(alloc, params)?,
         iters: unit(alloc, iters, k)?,
+        quots: Items::new(alloc),
+    })
+}
+
+/// The form of a quotient alone, over so many parameters and iterators.
+pub(crate) fn quotient_form(
+    alloc: Global,
+    params: usize,
+    iters: usize,
+    quot: Quot,
+) -> Result<Affine, AllocError>
+    ensures { IfOk result (λ form. form ≡ quotient_form params iters quot) }
+{
+    let mut quots = Items::new(alloc);
+    quots.push(quot)?;
+    Ok(Affine {
+        constant: 0,
+        params: zeros(alloc, params)?,
+        iters: zeros(alloc, iters)?,
+        quots,
     })
 }
 

@@ -1,21 +1,23 @@
 ghost use Rattle.std.specs.Prelude.{◌≡◌, [], ◌∷◌, map, length, IfOk};
 ghost use Rattle.ac_parse_exprs.specs.FaultOrder.{broken, broken_where, rule_broken};
-ghost use Rattle.ac_parse_exprs.specs.IndexExpressions.{is_long, judged_number, judged_decimal, with_part, gathered, no_parts, name_form, judged_name, judged_other, judged_variable, judged_access, judged_quotient, judged_negative, judged_group, form_of, is_not_affine, joined, judged_chain, judged};
+ghost use Rattle.ac_parse_exprs.specs.IndexExpressions.{is_long, judged_number, judged_decimal, with_part, gathered, no_parts, name_form, judged_name, judged_other, judged_variable, judged_access, is_remainder, judged_negative, judged_group, form_of, is_not_affine, joined, judged_chain, judged};
 
 use crate::fault::{Broken, Rule, Which, broken_where, earlier, rule_broken};
 use crate::form::{Collected, constant_form, iterator_form, parameter_form};
-use crate::scope::{Entry, Meaning, Scope, word_broken};
+use crate::scope::{Entry, Meaning, Scope};
 use ac_parse_grammar::tree::{Expr, Numeral, Operator, Word};
 use ac_syntax::tree::Place;
 use std::alloc::{AllocError, Global};
 
-/// What the rules say of an index expression: its first byte, its form, whether a number of some subexpression passes the limit, and the
-/// first rule that is broken in it.
+/// What the rules say of an index expression: its first byte, its form, whether a number of some subexpression passes the limit, whether
+/// a quotient or `%` stands in it, whether something in it is not affine, and the first rule that is broken in it.
 #[derive(Drop)]
 pub struct Judged {
     pub place: Place,
     pub form: Collected,
     pub large: bool,
+    pub rounds: bool,
+    pub awry: bool,
     pub broken: Option<Broken>,
 }
 
@@ -24,6 +26,8 @@ pub struct Judged {
 pub struct Parts {
     pub known: bool,
     pub large: bool,
+    pub rounds: bool,
+    pub awry: bool,
     pub broken: Option<Broken>,
 }
 
@@ -34,6 +38,8 @@ impl Parts {
         Parts {
             known: self.known && part.form.is_known(),
             large: self.large || part.large,
+            rounds: self.rounds || part.rounds,
+            awry: self.awry || part.awry,
             broken: earlier(self.broken, part.broken),
         }
     }
@@ -62,6 +68,8 @@ impl Scope {
             place: numeral.place,
             form,
             large,
+            rounds: false,
+            awry: false,
             broken: broken_where(large, Rule::Limit(Which::Literal), numeral.place),
         })
     }
@@ -96,12 +104,13 @@ impl Scope {
     ) -> Result<Judged, AllocError>
         ensures { IfOk result (λ judged. judged ≡ judged_name self.now meaning word.now) }
     {
-        let broken = rule_broken(meaning.read_rule(0), word.place);
         Ok(Judged {
             place: word.place,
             form: self.name_form(alloc, meaning)?,
             large: false,
-            broken: earlier(word_broken(word), broken),
+            rounds: false,
+            awry: false,
+            broken: rule_broken(meaning.read_rule(0), word.place),
         })
     }
 
@@ -133,6 +142,8 @@ fn judge_decimal(word: &Word) -> Judged
         place: word.place,
         form: Collected::Unknown,
         large: false,
+        rounds: false,
+        awry: true,
         broken: Some(Broken {
             rule: Rule::NotAffine,
             place: word.place,
@@ -144,15 +155,16 @@ fn judge_decimal(word: &Word) -> Judged
 fn judge_variable(word: &Word) -> Judged
     ensures { result ≡ judged_variable word.now }
 {
-    let misused = Some(Broken {
-        rule: Rule::Misused,
-        place: word.place,
-    });
     Judged {
         place: word.place,
         form: Collected::Unknown,
         large: false,
-        broken: earlier(word_broken(word), misused),
+        rounds: false,
+        awry: false,
+        broken: Some(Broken {
+            rule: Rule::Misused,
+            place: word.place,
+        }),
     }
 }
 
@@ -160,14 +172,22 @@ fn judge_variable(word: &Word) -> Judged
 fn judge_other(rule: Option<Rule>, word: &Word, parts: Parts) -> Judged
     ensures { result ≡ judged_other rule word.now parts }
 {
-    let named = earlier(word_broken(word), rule_broken(rule, word.place));
+    let named = rule_broken(rule, word.place);
     let whole = broken_where(parts.known, Rule::NotAffine, word.place);
     Judged {
         place: word.place,
         form: Collected::Unknown,
         large: parts.large,
+        rounds: parts.rounds,
+        awry: parts.awry || parts.known,
         broken: earlier(named, earlier(parts.broken, whole)),
     }
+}
+
+fn is_remainder(operator: Operator) -> bool
+    ensures { result ≡ is_remainder operator }
+{
+    matches!(operator, Operator::Remainder)
 }
 
 fn form_of(
@@ -195,24 +215,10 @@ impl Judged {
             place,
             form: self.form.negative(alloc)?,
             large: self.large,
+            rounds: self.rounds,
+            awry: self.awry,
             broken: self.broken,
         })
-    }
-
-    /// What the rules say of a quotient of it, with its word at the place.
-    pub fn quotient(self, place: Place) -> Judged
-        ensures { result ≡ judged_quotient place self }
-    {
-        let broken = Some(Broken {
-            rule: Rule::NotAffine,
-            place,
-        });
-        Judged {
-            place,
-            form: Collected::Unknown,
-            large: self.large,
-            broken: earlier(self.broken, broken),
-        }
     }
 
     /// What the rules say of it in brackets, of which the first is at the place.
@@ -223,6 +229,8 @@ impl Judged {
             place,
             form: self.form,
             large: self.large,
+            rounds: self.rounds,
+            awry: self.awry,
             broken: self.broken,
         }
     }
@@ -243,6 +251,8 @@ impl Judged {
             place: self.place,
             large: self.large || other.large || form.is_large(),
             form,
+            rounds: self.rounds || other.rounds || is_remainder(operator),
+            awry: self.awry || other.awry || fails,
             broken: earlier(parts, broken_where(fails, Rule::NotAffine, self.place)),
         })
     }
@@ -268,10 +278,13 @@ pub fn judge(alloc: Global, names: &[Entry], scope: &Scope, e: &Expr) -> Result<
             Ok(judge_other(meaning.call_rule(), name, parts))
         }
         Expr::Quotient {
+            up,
             argument,
+            divisor,
             place,
-            ..
-        } => Ok(judge(alloc, names, scope, argument.get())?.quotient(*place)),
+        } => judge(alloc, names, scope, argument.get())?.quotient(
+            alloc, scope, *up, divisor, *place,
+        ),
         Expr::Negative { operand, place } => {
             judge(alloc, names, scope, operand.get())?.negative(alloc, *place)
         }
@@ -304,6 +317,8 @@ fn judge_parts(
     let mut parts = Parts {
         known: true,
         large: false,
+        rounds: false,
+        awry: false,
         broken: None,
     };
     for e in es {
@@ -315,7 +330,7 @@ fn judge_parts(
 /// The same of a chain.
 #[cycle(judge)]
 #[tactic(auto, using(crate::proofs::Judging::judging))]
-fn judge_chain(
+pub(crate) fn judge_chain(
     alloc: Global,
     names: &[Entry],
     scope: &Scope,

@@ -15,19 +15,21 @@
 #![tactic(auto)]
 
 mod comparison;
+mod division;
 pub mod fault;
 mod form;
 pub mod form_laws;
 mod index;
 pub mod measure;
+mod quotients;
 mod scope;
 pub mod value;
 pub mod value_laws;
 
 pub use comparison::{
     add_condition, build_condition, build_index, build_indices, check_condition, check_index,
-    check_indices, compare, rel_of,
+    check_indices, compare, part_rel,
 };
 pub use form::{Affine, Collected, coefficient};
 pub use index::{Judged, is_long, judge};
-pub use scope::{Entry, Meaning, Scope, declared_meaning, iterator_number, word_broken};
+pub use scope::{Entry, Meaning, Scope, declared_meaning, iterator_number};

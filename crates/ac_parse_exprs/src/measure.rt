@@ -6,7 +6,7 @@ ghost use Rattle.ac_parse_exprs.specs.Measures.{capped, measure_of, measure, mea
 use crate::comparison::check_indices;
 use crate::fault::{Broken, Rule, earlier, rule_broken};
 use crate::index::{Judged, judge};
-use crate::scope::{Entry, Meaning, Scope, word_broken};
+use crate::scope::{Entry, Meaning, Scope};
 use ac_parse_grammar::tree::{Expr, Numeral, Operator, Word};
 use ac_syntax::tree::Place;
 use std::alloc::{AllocError, Global};
@@ -134,7 +134,7 @@ pub fn check_access(
 ) -> Result<Option<Broken>, AllocError>
     ensures { IfOk result (λ broken. broken ≡ access_broken names.now scope.now rule word.now subs.now) }
 {
-    let named = earlier(word_broken(word), rule_broken(rule, word.place));
+    let named = rule_broken(rule, word.place);
     Ok(earlier(named, check_indices(alloc, names, scope, subs)?))
 }
 
@@ -163,12 +163,8 @@ fn measure_access(
 fn measure_call(meaning: Meaning, word: &Word, args: Total) -> Measured
     ensures { result ≡ measured_call meaning word.now args }
 {
-    let named = earlier(
-        word_broken(word),
-        rule_broken(meaning.call_rule(), word.place),
-    );
     Measured::Other {
-        broken: earlier(named, args.broken),
+        broken: earlier(rule_broken(meaning.call_rule(), word.place), args.broken),
         nodes: add(args.nodes, 1),
     }
 }
@@ -195,11 +191,7 @@ pub fn measure(
             let total = measure_all(alloc, names, scope, args.as_slice())?;
             Ok(measure_call(scope.meaning(names, &name.name), name, total))
         }
-        Expr::Quotient {
-            argument,
-            place,
-            ..
-        } => Ok(Measured::Number(judge(alloc, names, scope, argument.get())?.quotient(*place))),
+        Expr::Quotient { .. } => Ok(Measured::Number(judge(alloc, names, scope, e)?)),
         Expr::Negative { operand, place } => {
             measure(alloc, names, scope, operand.get())?.negative(alloc, *place)
         }

@@ -1,9 +1,8 @@
 ghost use Rattle.std.specs.Prelude.{◌≡◌};
-ghost use Rattle.ac_parse_exprs.specs.Meanings.{declared_meaning, iterator_number, is_starting, meaning, read_rule, call_rule, is_array, is_reserved, word_broken};
+ghost use Rattle.ac_parse_exprs.specs.Meanings.{declared_meaning, iterator_number, is_starting, meaning, read_rule, call_rule, is_array};
 
-use crate::fault::{Broken, Rule};
+use crate::fault::Rule;
 use ac_base::Items;
-use ac_parse_grammar::tree::Word;
 use ac_syntax::name::Name;
 
 /// What a name means at a place.
@@ -31,13 +30,15 @@ pub struct Entry {
 }
 
 /// Where an expression stands: how many integer parameters there are, the names of the loops that run, the innermost
-/// first, the name of the untyped loop whose start this is, and whether only parameters may stand here.
+/// first, the name of the untyped loop whose start this is, whether only parameters may stand here, and whether this is the condition
+/// of the innermost loop.
 #[derive(Drop)]
 pub struct Scope {
     pub params: usize,
     pub iterators: Items<Name>,
     pub starting: Option<Name>,
     pub fixed: bool,
+    pub tested: bool,
 }
 
 /// What the first entry with the name says.
@@ -124,26 +125,5 @@ impl Meaning {
             Meaning::LoopName => Some(Rule::Undeclared),
             _ => Some(Rule::Misused),
         }
-    }
-}
-
-/// Whether this is a word for rounded division.
-fn is_reserved(name: &Name) -> bool
-    ensures { result ≡ is_reserved name.now }
-{
-    name.as_bytes() == b"floord".as_slice() || name.as_bytes() == b"ceild".as_slice()
-}
-
-/// What is wrong with a word, whatever it means: words for rounded division are not affine.
-pub fn word_broken(word: &Word) -> Option<Broken>
-    ensures { result ≡ word_broken word.now }
-{
-    if is_reserved(&word.name) {
-        Some(Broken {
-            rule: Rule::NotAffine,
-            place: word.place,
-        })
-    } else {
-        None
     }
 }

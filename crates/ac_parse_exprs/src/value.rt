@@ -232,11 +232,7 @@ fn build(alloc: Global, names: &[Entry], scope: &Scope, e: &Expr) -> Result<Buil
             let args = build_all(alloc, names, scope, args.as_slice())?;
             build_call(alloc, name, args)
         }
-        Expr::Quotient {
-            argument,
-            place,
-            ..
-        } => Ok(Built::Number(judge(alloc, names, scope, argument.get())?.quotient(*place))),
+        Expr::Quotient { .. } => Ok(Built::Number(judge(alloc, names, scope, e)?)),
         Expr::Negative { operand, place } => {
             build(alloc, names, scope, operand.get())?.negative(alloc, *place)
         }

@@ -20,11 +20,11 @@ use Rattle.ac_parse_exprs.specs.declared.fault.Rule.TheVariants.{Endless, Limit}
 use Rattle.ac_parse_exprs.specs.declared.scope.Entry.{Entry}
 use Rattle.ac_parse_exprs.specs.declared.scope.Scope.{Scope}
 use Rattle.ac_parse_exprs.specs.FaultOrder.{earlier, broken_where, rule_broken}
-use Rattle.ac_parse_exprs.specs.Meanings.{meaning, word_broken}
+use Rattle.ac_parse_exprs.specs.Meanings.{meaning}
 use Rattle.ac_parse_exprs.specs.IndexExpressions.{is_long}
 use Rattle.ac_parse_exprs.specs.Comparisons.{index, index_broken, condition, condition_broken}
 use Rattle.ac_parse_exprs.specs.Values.{array_number}
-use Rattle.ac_parse_rules.specs.Statements.{inside, in_start, loop_rule, step_broken, step_number, is_endless, head_broken, assigned_value, statement_broken, statements_broken, stmt, stmts}
+use Rattle.ac_parse_rules.specs.Statements.{inside, in_test, in_start, loop_rule, step_broken, step_number, is_endless, head_broken, assigned_value, statement_broken, statements_broken, stmt, stmts}
 use Rattle.ac_parse_exprs.proofs.Absent.{NoneBroken, neither, none_of, not_where}
 use Rattle.ac_parse_rules.proofs.Stepping.{broken-loop, broken-branch, stmt-loop, stmt-branch, stmt-assign}
 use Rattle.ac_parse_roundtrip.specs.GrammarPrograms.{HasSome}
@@ -58,16 +58,16 @@ step_small entries scope name step h = small_step step (not_where (is_long step.
 head_step : (entries : List Entry) (scope : Scope) (typed : Bool) (name : Word) (start : Expr) (cond : List Part) (step : Step) (place : Place) → head_broken entries scope typed name start cond step place ≡ None
     → IsSmall (step_number step)
 head_step entries scope typed name start cond step place h =
-    let own = inside scope name.name in
+    let own = in_test scope name.name in
     let n = neither
     (earlier (broken_where (nat_lt 5 (length scope.iterators)) (Limit which.Depth) place) (broken_where (is_endless entries own step cond) Endless place))
-    (earlier (earlier (earlier (word_broken name) (rule_broken (loop_rule entries scope typed name.name) name.place)) (index_broken entries (in_start scope typed name.name) start))
+    (earlier (earlier (rule_broken (loop_rule entries scope typed name.name) name.place) (index_broken entries (in_start scope typed name.name) start))
     (earlier (condition_broken entries own cond) (step_broken entries own name.name step))) h in
     let m = neither
-    (earlier (earlier (word_broken name) (rule_broken (loop_rule entries scope typed name.name) name.place)) (index_broken entries (in_start scope typed name.name) start))
+    (earlier (rule_broken (loop_rule entries scope typed name.name) name.place) (index_broken entries (in_start scope typed name.name) start))
     (earlier (condition_broken entries own cond) (step_broken entries own name.name step)) n.1 in
     let k = neither (condition_broken entries own cond) (step_broken entries own name.name step) m.1 in
-    step_small entries (inside scope name.name) name.name step k.1
+    step_small entries own name.name step k.1
 
 -- ---- conditions
 
@@ -96,8 +96,8 @@ module _ (arrays : List Array) (named : AreNamedArrays arrays) where
   loop_built typed name start cond step body place is some h entries scope none =
       let n = neither (head_broken entries scope typed name start cond step place) (statements_broken entries (inside scope name.name) body) (sym (broken-loop entries scope typed name start cond step body place) ∙ none) in
       subst (IsNamedStmt arrays named) (sym (stmt-loop entries scope typed name start cond step body place))
-      (loop_named arrays named name.name (index entries (in_start scope typed name.name) start) (record { parts = condition entries (inside scope name.name) cond }) (step_number step)
-      (stmts entries (inside scope name.name) body) place is (some_compared entries (inside scope name.name) cond some) (head_step entries scope typed name start cond step place n.0)
+      (loop_named arrays named name.name (index entries (in_start scope typed name.name) start) (record { parts = condition entries (in_test scope name.name) cond }) (step_number step)
+      (stmts entries (inside scope name.name) body) place is (some_compared entries (in_test scope name.name) cond some) (head_step entries scope typed name start cond step place n.0)
       (body_built entries (inside scope name.name) body h n.1))
 
   branch_built : (cond : List Part) (taken other : List Statement) (place : Place) → HasPart cond → AllByRecursion IsBuilt taken → AllByRecursion IsBuilt other

@@ -21,16 +21,16 @@ use Rattle.ac_parse_exprs.specs.declared.scope.Meaning.{Meaning}
 use Rattle.ac_parse_exprs.specs.declared.scope.Meaning.TheVariants as means
 use Rattle.ac_parse_exprs.specs.declared.scope.Entry.{Entry}
 use Rattle.ac_parse_exprs.specs.declared.scope.Scope.{Scope}
-use Rattle.ac_parse_exprs.specs.Meanings.{declared_meaning, is_reserved}
+use Rattle.ac_parse_exprs.specs.Meanings.{declared_meaning}
 use Rattle.ac_parse_exprs.specs.Comparisons.{index, index_broken}
 use Rattle.ac_parse_rules.specs.Declarations.{runs, is_whole, is_loop_name, entry, count, param_entries, local_entries, param_count, input_count, fixed_scope, is_declared, count_broken, extents_broken, name_broken, declared_broken, each_declared_broken, array_of, arrays_from, slots_from, param_names}
 use Rattle.ac_parse_exprs.proofs.Absent.{NoneBroken}
 use Rattle.ac_parse_roundtrip.specs.CanonicalTrees.{Each, IsExtentTree, IsDeclaredTree, has_dimensions, IsParameterTree, IsInputTree, IsSlotTree}
 use Rattle.ac_parse_roundtrip.specs.PlaceErasure.{forms_without_places, array_without_places}
-use Rattle.ac_parse_roundtrip.specs.ReadableStatements.{FitScope}
 use Rattle.ac_parse_roundtrip.specs.CanonicalPrograms.{array_entry, entry_at, slot_entry, entries_from, IsFew, FitsDeclaration, DeclarationsFit, FitsArray, SlotsFit, LocalsFit}
-use Rattle.ac_parse_roundtrip.proofs.FormRoundTrip.{forms_are_read_back}
+use Rattle.ac_parse_roundtrip.proofs.QuotientRoundTrip.{forms_are_read_back}
 use Rattle.ac_parse_roundtrip.proofs.ConditionRoundTrip.{none_broken, same_length}
+use Rattle.ac_parse_roundtrip.specs.ColumnNames.{FitScope}
 
 none_more : (n : ℕ) → n + 0 ≡ n
 none_more n = omega arith
@@ -99,9 +99,8 @@ no_fifth (a ∷ b ∷ c ∷ d ∷ e ∷ es) h = absurd (omega (arith, h))
 name_none : (names : List Entry) (i : ℕ) (d : Declared) (e : Entry) → FitsDeclaration names i e → d.name.name ≡ e.name → name_broken names i d ≡ None
 name_none names i d e fit n =
     let m : declared_meaning names d.name.name ≡ e.meaning = ap (declared_meaning names) n ∙ fit.means in
-    let w : is_reserved d.name.name ≡ false = ap is_reserved n ∙ fit.word in
     let u : is_declared (take i names) d.name.name ≡ false = ap (is_declared (take i names)) n ∙ fit.new in
-    rw (w, u, m) (few_none e.meaning d.name.place fit.few)
+    rw (u, m) (few_none e.meaning d.name.place fit.few)
 
 declared_none : (names : List Entry) (scope : Scope) (i : ℕ) (d : Declared) (e : Entry) → FitsDeclaration names i e → d.name.name ≡ e.name → length d.extents ≤ 4 → extents_broken (take i names) scope d.extents ≡ None
     → declared_broken names scope i d ≡ None

@@ -30,15 +30,15 @@ use Rattle.ac_parse_roundtrip.proofs.Lines.{below, line_then}
 
 -- ---- extents
 
-extent_read : (room : ℕ) (scope : Scope) → IsNamedScope scope → (e : IndexExpr) → HasLiterals e → Reads (IsExtent (suc (suc room))) (IsExtentTree scope e) (subscript scope e)
+extent_read : (room : ℕ) (scope : Scope) → IsNamedScope scope → (e : IndexExpr) → HasLiterals e → Reads (IsExtent (suc (suc (suc room)))) (IsExtentTree scope e) (subscript scope e)
 extent_read room scope named e has = record {
   at = λ at.
-      let x = (form_read room scope e named has).at (at + 1) in
+      let x = (form_read room scope named e has).at (at + 1) in
       let close = after (at + 1) (form scope e) in
       let left = mark_at at (codes "[") in
       let tree : Extent = record { size = x.0; place = place_of left } in (
         tree,
-        subst (λ ts. IsExtent (suc (suc room)) (left ∷ ts) tree) (sym (lexemes-append (at + 1) (form scope e) (mark (codes "]") ∷ [])))
+        subst (λ ts. IsExtent (suc (suc (suc room))) (left ∷ ts) tree) (sym (lexemes-append (at + 1) (form scope e) (mark (codes "]") ∷ [])))
             (g.extent (mark_at close (codes "]")) (open_bracket_is at) x.1 (close_bracket_is close)),
         x.2,
       );
@@ -46,12 +46,12 @@ extent_read room scope named e has = record {
 
 -- names with their extents
 declared_read : (room : ℕ) (scope : Scope) (whole : Bool) (array : Array) → IsNamedScope scope → HasArrayNames array
-    → Reads (IsDeclared whole (suc (suc room))) (IsDeclaredTree scope whole array) (declared scope array)
+    → Reads (IsDeclared whole (suc (suc (suc room)))) (IsDeclaredTree scope whole array) (declared scope array)
 declared_read room scope whole array named has = record {
   at = λ at.
       let n = word_at at array.name in
-      let x = (run (IsExtent (suc (suc room))) (IsExtentTree scope) (subscript scope) array.extents
-      (every_map HasLiterals (λ e. Reads (IsExtent (suc (suc room))) (IsExtentTree scope e) (subscript scope e)) (extent_read room scope named) array.extents has.extents)).at
+      let x = (run (IsExtent (suc (suc (suc room)))) (IsExtentTree scope) (subscript scope) array.extents
+      (every_map HasLiterals (λ e. Reads (IsExtent (suc (suc (suc room)))) (IsExtentTree scope e) (subscript scope e)) (extent_read room scope named) array.extents has.extents)).at
       (at + length array.name) in
       (record { whole = whole; name = word_of n; extents = x.0 }, g.declared (name_is at array.name has.name) x.1, record { whole = refl; name = refl; extents = x.2 });
 }
@@ -82,16 +82,16 @@ dimensioned_read : (room : ℕ) (extents : List IndexExpr) (T : Declared → Typ
 dimensioned_read room [] T is r = typed_read room false (codes "double") T is double_type r
 dimensioned_read room (e ∷ extents) T is r = typed_read room true (codes "int") T is int_type r
 
-input_read : (room : ℕ) (scope : Scope) (array : Option Array) → IsNamedScope scope → HasInput array → Reads (IsParameter (suc (suc room))) (IsInputTree scope array) (input scope array)
+input_read : (room : ℕ) (scope : Scope) (array : Option Array) → IsNamedScope scope → HasInput array → Reads (IsParameter (suc (suc (suc room)))) (IsInputTree scope array) (input scope array)
 input_read room scope None named has = absurd has
 input_read room scope (Some array) named has =
-    dimensioned_read (suc (suc room)) array.extents (IsDeclaredTree scope (has_dimensions array.extents) array) (declared scope array)
+    dimensioned_read (suc (suc (suc room))) array.extents (IsDeclaredTree scope (has_dimensions array.extents) array) (declared scope array)
     (declared_read room scope (has_dimensions array.extents) array named has)
 
 slot_read : (room : ℕ) (p : Program) → IsNamedScope (whole_scope p) → (s : Slot) → HasSlotName p s
-    → Reads (IsParameter (suc (suc room))) (IsSlotTree (whole_scope p) s) (slot_items (whole_scope p) s)
+    → Reads (IsParameter (suc (suc (suc room)))) (IsSlotTree (whole_scope p) s) (slot_items (whole_scope p) s)
 slot_read room p named (slot.Param k) has =
-    let name = name_or_none (slice_get p.params k) in typed_read (suc (suc room)) true (codes "int") (IsParameterTree name) (word name ∷ []) int_type (scalar_read (suc (suc room)) name has)
+    let name = name_or_none (slice_get p.params k) in typed_read (suc (suc (suc room))) true (codes "int") (IsParameterTree name) (word name ∷ []) int_type (scalar_read (suc (suc (suc room))) name has)
 slot_read room p named (slot.Array k) has = input_read room (whole_scope p) (slice_get p.arrays k) named has
 
 next_read : {A : Type 0} (One : List Lexeme → A → Type 0) (T : A → Type 0) (is : List Item) → Reads One T is → Reads (IsNext One) T (comma_items ++ is)
@@ -99,19 +99,19 @@ next_read One T is r = record { at = λ at. let x = r.at (at + 1 + 1) in (x.0, g
 
 module _ (room : ℕ) (p : Program) (named : IsNamedScope (whole_scope p)) where
   abbrev SlotReads : Slot → Type 0
-  SlotReads s = Reads (IsParameter (suc (suc room))) (IsSlotTree (whole_scope p) s) (slot_items (whole_scope p) s)
+  SlotReads s = Reads (IsParameter (suc (suc (suc room)))) (IsSlotTree (whole_scope p) s) (slot_items (whole_scope p) s)
 
   abbrev slot_behind : Slot → List Item
   slot_behind s = comma_items ++ slot_items (whole_scope p) s
 
-  slots_behind : (slots : List Slot) → AllByRecursion (HasSlotName p) slots → Reads (IsRun (IsNext (IsParameter (suc (suc room))))) (Each (IsSlotTree (whole_scope p)) slots) (flat_map slot_behind slots)
+  slots_behind : (slots : List Slot) → AllByRecursion (HasSlotName p) slots → Reads (IsRun (IsNext (IsParameter (suc (suc (suc room)))))) (Each (IsSlotTree (whole_scope p)) slots) (flat_map slot_behind slots)
   slots_behind slots has =
-      run (IsNext (IsParameter (suc (suc room)))) (IsSlotTree (whole_scope p)) slot_behind slots
-      (every_map (HasSlotName p) (λ s. Reads (IsNext (IsParameter (suc (suc room)))) (IsSlotTree (whole_scope p) s) (slot_behind s))
-      (λ s h. next_read (IsParameter (suc (suc room))) (IsSlotTree (whole_scope p) s) (slot_items (whole_scope p) s) (slot_read room p named s h)) slots has)
+      run (IsNext (IsParameter (suc (suc (suc room))))) (IsSlotTree (whole_scope p)) slot_behind slots
+      (every_map (HasSlotName p) (λ s. Reads (IsNext (IsParameter (suc (suc (suc room))))) (IsSlotTree (whole_scope p) s) (slot_behind s))
+      (λ s h. next_read (IsParameter (suc (suc (suc room)))) (IsSlotTree (whole_scope p) s) (slot_items (whole_scope p) s) (slot_read room p named s h)) slots has)
 
   pub parameters_read : (slots : List Slot) → AllByRecursion (HasSlotName p) slots
-      → Reads (IsParameters (suc (suc room))) (Each (IsSlotTree (whole_scope p)) slots) (join_by (slot_items (whole_scope p)) comma_items slots)
+      → Reads (IsParameters (suc (suc (suc room)))) (Each (IsSlotTree (whole_scope p)) slots) (join_by (slot_items (whole_scope p)) comma_items slots)
   parameters_read [] has = record { at = λ at. ([], g.no_parameter, tt) }
   parameters_read (s ∷ slots) has = record {
     at = λ at.
@@ -119,7 +119,7 @@ module _ (room : ℕ) (p : Program) (named : IsNamedScope (whole_scope p)) where
         let x = (slot_read room p named s has.0).at at in
         let y = (slots_behind slots has.1).at (after at is) in (
           x.0 ∷ y.0,
-          subst (λ ts. IsParameters (suc (suc room)) ts (x.0 ∷ y.0)) (sym (lexemes-append at is (flat_map slot_behind slots))) (g.parameters (g.items x.1 y.1)),
+          subst (λ ts. IsParameters (suc (suc (suc room))) ts (x.0 ∷ y.0)) (sym (lexemes-append at is (flat_map slot_behind slots))) (g.parameters (g.items x.1 y.1)),
           (x.2, y.2),
         );
   }
@@ -135,7 +135,7 @@ local_items scope array = word (codes "int") ∷ space ∷ declared scope array 
 
 module _ (room : ℕ) (scope : Scope) (named : IsNamedScope scope) where
   abbrev LocalsRead : List Array → List Item → Type 0
-  LocalsRead arrays is = Reads (IsDeclarations (suc (suc room))) (Each (IsDeclaredTree scope true) arrays) is
+  LocalsRead arrays is = Reads (IsDeclarations (suc (suc (suc room)))) (Each (IsDeclaredTree scope true) arrays) is
 
   one_local : (array : Array) → HasArrayNames array → (arrays : List Array) (is : List Item) → LocalsRead arrays is
       → LocalsRead (array ∷ arrays) (line (codes "  ") (local_items scope array) ++ is)
@@ -153,7 +153,7 @@ module _ (room : ℕ) (scope : Scope) (named : IsNamedScope scope) where
         let same : lexemes at (line (codes "  ") (local_items scope array) ++ is) ≡ (word_at a (codes "int") ∷ ts ++ end ∷ []) ++ us
         = line_then at (codes "  ") (local_items scope array) is ∙ ap (λ vs. word_at a (codes "int") ∷ vs ++ us) (lexemes-append from (declared scope array) (mark (codes ";") ∷ [])) in (
           all,
-          subst (λ vs. IsDeclarations (suc (suc room)) vs all) (sym same) (g.a_declaration (g.declaration end (int_type a) (alone ts x.0 x.1) (semicolon_is close)) y.1),
+          subst (λ vs. IsDeclarations (suc (suc (suc room))) vs all) (sym same) (g.a_declaration (g.declaration end (int_type a) (alone ts x.0 x.1) (semicolon_is close)) y.1),
           (x.2, y.2),
         );
   }

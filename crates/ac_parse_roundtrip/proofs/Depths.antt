@@ -21,3 +21,10 @@ deeper P Q f d = record { depth = suc d.depth; holds = by_room }
 
 pub both_deep : (P Q : ℕ → Type 0) → Deep P → Deep Q → Deep (λ room. P room × Q room)
 both_deep P Q d e = record { depth = d.depth + e.depth; holds = λ room enough. (d.holds room (omega arith), e.holds room (omega arith)) }
+
+-- where one construct more may open
+pub above_one : (P : ℕ → Type 0) → Deep (λ room. P (suc room)) → Deep P
+above_one P d = deeper (λ room. P (suc room)) P (λ room p. p) d
+
+pub above_two : (P : ℕ → Type 0) → Deep (λ room. P (suc (suc room))) → Deep P
+above_two P d = above_one P (above_one (λ room. P (suc room)) d)

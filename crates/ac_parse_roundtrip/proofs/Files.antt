@@ -132,25 +132,24 @@ module _ (p : Program) (has : HasNames p) where
         );
   }
 
-  -- within two constructs there is room for a form in brackets
-  two_deep : Deep (λ room. StatementsRead scope (codes "  ") p.body (suc (suc room)))
-  two_deep = higher (λ room. StatementsRead scope (codes "  ") p.body (suc room)) (higher (StatementsRead scope (codes "  ") p.body) (statements_deep scope (codes "  ") p.body named has.body))
-
+  -- within three constructs there is room for a form in brackets
   abbrev above : ℕ → ℕ
-  above room = suc (suc room)
+  above room = suc (suc (suc room))
 
   pub file_deep : Deep (λ room. FileReads (suc (above room)))
   file_deep =
       same_depth (λ room. StatementsRead scope (codes "  ") p.body (above room)) (λ room. FileReads (suc (above room)))
-      (λ room r. file_read (above room) (pragmas_read (above room) p named has.context has.commutative has.outputs) (parameters_read room p named p.slots has.slots)
-      (locals_read room scope named p.arrays has.arrays) r) two_deep
+      (λ room r. file_read (above room) (pragmas_read (suc room) p named has.context has.commutative has.outputs) (parameters_read room p named p.slots has.slots)
+      (locals_read room scope named p.arrays has.arrays) r)
+      (higher (λ room. StatementsRead scope (codes "  ") p.body (suc (suc room))) (higher (λ room. StatementsRead scope (codes "  ") p.body (suc room))
+      (higher (StatementsRead scope (codes "  ") p.body) (statements_deep scope (codes "  ") p.body named has.body))))
 
 -- ---- what the tokens of a program have
 
 abbrev file_at : (p : Program) (has : HasNames p) → (room : ℕ) × (file : File) × IsFile room (lexemes 0 (program p)) file × IsFileTree p file
 file_at p has =
     let d = file_deep p has in
-    let x = (d.holds d.depth (omega arith)).at 0 in (suc (suc (suc d.depth)), x.0, x.1, x.2)
+    let x = (d.holds d.depth (omega arith)).at 0 in (suc (suc (suc (suc d.depth))), x.0, x.1, x.2)
 
 pub have_trees : HaveTrees
 have_trees p has = file_at p has

@@ -10,6 +10,7 @@ pub mod ValueItems
 pub mod StatementItems
 pub mod PragmaLines
 pub mod ProgramTokens
+pub mod QuotientRoundTrip
 pub mod ItemSequences
 pub mod TokenTerminals
 pub mod PartSequences
@@ -35,13 +36,17 @@ pub mod BuiltStatements
 pub mod NamedPrograms
 pub mod Sums
 pub mod FormRoundTrip
+pub mod TestedTrees
 pub mod ConditionRoundTrip
 pub mod ValueRoundTrip
 pub mod StatementRoundTrip
+pub mod NotedQuotients
+pub mod CrowdedRoundTrip
 pub mod DeclarationRoundTrip
 pub mod Shapes
 pub mod PragmaRoundTrip
 pub mod ProgramRoundTrip
+pub mod DistinctQuotients
 pub mod Columns
 pub mod ReadableForms
 pub mod ReadableLists
@@ -50,6 +55,7 @@ pub mod Scopes
 pub mod Plain
 pub mod ReadableDeclarations
 pub mod Assignments
+pub mod Crowding
 pub mod Listed
 pub mod ReadableStatements
 pub mod ReadablePrograms

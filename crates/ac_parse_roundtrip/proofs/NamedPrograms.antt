@@ -2,8 +2,6 @@
 use Rattle.std.specs.Prelude.{◌≡◌, ◌<◌, ◌+◌, ℕ, zero, suc, Bool, true, false, List, [], ◌∷◌, ◌++◌, map, filter, length, slice_get, Option, Some, None, IfSome, cond, if◌then◌else◌}
 use Rattle.std.specs.List.{AllByRecursion}
 use Rattle.std.proofs.Common.{refl, arith}
-use Rattle.ac_syntax.specs.ReadyPrograms.{AllFit, ReadyProgram}
-use Rattle.ac_syntax.proofs.Fitting.{forms_plain, parts_plain}
 use Rattle.ac_syntax.specs.Small.{AreSmallForms}
 use Rattle.ac_syntax.specs.declared.tree.Array.{Array}
 use Rattle.ac_syntax.specs.declared.tree.Kind.{Kind}
@@ -38,10 +36,7 @@ use Rattle.ac_parse_exprs.proofs.Absent.{NoneBroken, neither, none_of, each_appe
 use Rattle.ac_parse_rules.proofs.ArraysUsed.{has_declared}
 use Rattle.ac_parse_exprs.proofs.NumberedMeanings.{declared_has}
 use Rattle.ac_parse_rules.proofs.DeclaredNumbers.{MeansBelow, NamesBelow, names_below}
-use Rattle.ac_parse_rules.proofs.PlainStatements.{plain_program}
-use Rattle.ac_parse_rules.proofs.ReadyPrograms.{ready_program}
 use Rattle.ac_parse_rules.proofs.SmallPrograms.{small_program}
-use Rattle.ac_parse.proofs.Conditions.{file_conditions}
 use Rattle.ac_parse_roundtrip.specs.ProgramWords.{IsWord, IsDeclared, IsThere, IsCommutative, HasWords}
 use Rattle.ac_parse_roundtrip.specs.GrammarPrograms.{IsName, NamesArray, IsSymbolName, HasArrayNames, HasInput, HasSlotName, HaveOutputs, HasNames}
 use Rattle.ac_parse_roundtrip.specs.TokenSpelling.{AreSpelled}
@@ -129,14 +124,13 @@ arrays_named f h =
     (arrays_from_named (names_of f) scope Input is_whole 0 f.params h.params)
     (arrays_from_named (names_of f) scope Local (is_loop_name f.body) (length f.params) f.locals h.locals)
 
--- arrays of small extents that fit
-declared_named : (ps : ℕ) (arrays : List Array) → AllByRecursion IsNamedArray arrays → AllByRecursion (λ (array : Array). AllFit ps 0 array.extents) arrays
-    → AllByRecursion (λ (array : Array). AreSmallForms array.extents) arrays
+-- arrays of small extents
+declared_named : (arrays : List Array) → AllByRecursion IsNamedArray arrays → AllByRecursion (λ (array : Array). AreSmallForms array.extents) arrays
     → AllByRecursion IsDeclared arrays × AllByRecursion HasArrayNames arrays
-declared_named ps [] h fit small = (tt, tt)
-declared_named ps (a ∷ arrays) h fit small =
-    let r = declared_named ps arrays h.1 fit.1 small.1 in
-    let e = forms_named a.extents small.0 (forms_plain ps 0 a.extents fit.0) in
+declared_named [] h small = (tt, tt)
+declared_named (a ∷ arrays) h small =
+    let r = declared_named arrays h.1 small.1 in
+    let e = forms_named a.extents small.0 in
     ((record { name = h.0.word; extents = e.0 }, r.0), (record { name = h.0.name; extents = e.1 }, r.1))
 
 -- ---- the parameter list
@@ -171,7 +165,7 @@ module _ (n inputs : ℕ) (entries : List Entry) (below : NamesBelow n entries) 
   words_below : (words : List Word) → NoneBroken (map (output_broken entries inputs) words) → AllByRecursion IsBelow words
   words_below [] h = tt
   words_below (word ∷ words) h = (
-    output_below n inputs (declared_meaning entries word.name) (no_rule (output_rule inputs (declared_meaning entries word.name)) word.place (neither _ _ h.0).1)
+    output_below n inputs (declared_meaning entries word.name) (no_rule (output_rule inputs (declared_meaning entries word.name)) word.place h.0)
         (declared_has (MeansBelow n) tt entries word.name below),
     words_below words h.1,
   )
@@ -190,23 +184,22 @@ outputs_named arrays named false ks h = (tt, tt)
 
 -- ---- programs
 
-program_named : (f : File) → IsNamedFile f → ReadyProgram (program_of f) → file_broken f ≡ None → HasWords (program_of f) × HasNames (program_of f)
-program_named f h ready none =
+program_named : (f : File) → IsNamedFile f → file_broken f ≡ None → HasWords (program_of f) × HasNames (program_of f)
+program_named f h none =
     let p = program_of f in
-    let ps = length p.params in
     let n = neither _ _ none in
     let m = neither _ _ n.1 in
     let small = small_program f none in
     let there = has_declared f none in
     let all = arrays_named f h in
     let named = each_further IsNamedArray (λ (array : Array). IsName array.name) (λ array is. is.name) p.arrays all in
-    let declared = declared_named ps p.arrays all ready.extents small.extents in
+    let declared = declared_named p.arrays all small.extents in
     let params = params_named f.params h.params in
     let param_words = each_further IsNamed IsWord (λ name is. is.word) p.params params in
     let param_names = each_further IsNamed IsName (λ name is. is.name) p.params params in
     let slots = each_further (IsSlotOf p) (λ x. IsThere p x × HasSlotName p x) (slot_named p param_names declared.1) p.slots there.slots in
-    let body = stmts_named p.arrays named p.body (h.body p.arrays named (names_of f) (body_scope (param_count f.params)) (neither _ _ m.0).0) (plain_program f) small.body there.body in
-    let context = parts_named p.context.parts small.context (parts_plain ps 0 p.context.parts ready.context) in
+    let body = stmts_named p.arrays named p.body (h.body p.arrays named (names_of f) (body_scope (param_count f.params)) (neither _ _ m.0).0) small.body there.body in
+    let context = parts_named p.context.parts small.context in
     let symbols = each_map (λ (word : Word). word.name) IsNamedSymbol (commutative_words f.pragmas) (words_named f.pragmas h.pragmas) in
     let below = lines_below (length p.arrays) (input_count f.params) (names_of f) (names_below f) (fixed_scope (param_count f.params)) f.pragmas (none_of _ m.1) in
     let outputs = outputs_named p.arrays named (has_output_line f.pragmas) (output_numbers (names_of f) (output_words f.pragmas))
@@ -234,4 +227,4 @@ program_named f h ready none =
     )
 
 pub programs_have_names : ProgramsHaveNames
-programs_have_names bytes tokens room f are is none = program_named f (file_named is (tokens_spelled bytes tokens are)) (ready_program f none (file_conditions is)) none
+programs_have_names bytes tokens room f are is none = program_named f (file_named is (tokens_spelled bytes tokens are)) none

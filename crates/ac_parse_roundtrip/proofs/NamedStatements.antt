@@ -2,7 +2,6 @@
 use Rattle.std.specs.Prelude.{ℕ, ℤ, List, [], ◌∷◌, length}
 use Rattle.std.specs.List.{AllByRecursion}
 use Rattle.std.proofs.Common.{rules}
-use Rattle.ac_syntax.specs.PlainPrograms.{IsPlainStmt, ArePlainStmts}
 use Rattle.ac_syntax.specs.Small.{IsSmall, IsSmallStmt, AreSmallStmts}
 use Rattle.ac_syntax.specs.declared.tree.Array.{Array}
 use Rattle.ac_syntax.specs.declared.tree.Cond.{Cond}
@@ -18,9 +17,9 @@ use Rattle.ac_parse_roundtrip.proofs.NameTerminals.{IsNamed}
 use Rattle.ac_parse_roundtrip.proofs.NamedValues.{small_fits, form_named, forms_named, parts_named, AreNamedArrays, array_named, IsNamedValue}
 
 module _ (arrays : List Array) (named : AreNamedArrays arrays) where
-  -- where it is plain, its numbers are small and its arrays are there, a statement has words and names
+  -- where its numbers are small and its arrays are there, a statement has words and names
   pub record IsNamedStmt (x : Stmt) : Type 0 where
-    pub has : IsPlainStmt x → IsSmallStmt x → ArraysOf (length arrays) x → HasStmtWords arrays x × HasStatementNames arrays x
+    pub has : IsSmallStmt x → ArraysOf (length arrays) x → HasStmtWords arrays x × HasStatementNames arrays x
 
   record IsNamedLoop (iter : List ℕ) (cond : Cond) (by : ℤ) (body : List Stmt) : Type 0 where
     name : IsNamed iter
@@ -33,23 +32,23 @@ module _ (arrays : List Array) (named : AreNamedArrays arrays) where
     each : AllByRecursion IsNamedStmt taken
     each_other : AllByRecursion IsNamedStmt other
 
-  row_named : (m : _) (body : Row_of-Stmt m) → AllByRecursion IsNamedStmt (items-the_row-Stmt m body) → ArePlainStmts body → AreSmallStmts body → ArraysIn (length arrays) body
+  row_named : (m : _) (body : Row_of-Stmt m) → AllByRecursion IsNamedStmt (items-the_row-Stmt m body) → AreSmallStmts body → ArraysIn (length arrays) body
       → HaveStmtWords arrays body × HaveStatementNames arrays body
-  unfolding HasStmtWords HasStatementNames IsPlainStmt IsSmallStmt ArraysOf
-  row_named m end_of-Stmt h plain small there = (tt, tt)
-  row_named m (more_of-Stmt {n = n} x rest) h plain small there =
-      let a = h.0.has plain.0 small.0 there.0 in
-      let r = row_named n rest h.1 plain.1 small.1 there.1 in
+  unfolding HasStmtWords HasStatementNames IsSmallStmt ArraysOf
+  row_named m end_of-Stmt h small there = (tt, tt)
+  row_named m (more_of-Stmt {n = n} x rest) h small there =
+      let a = h.0.has small.0 there.0 in
+      let r = row_named n rest h.1 small.1 there.1 in
       ((a.0, r.0), (a.1, r.1))
 
   loop_row : (iter : List ℕ) (start : IndexExpr) (cond : Cond) (by : ℤ) (n : _) (body : Row_of-Stmt _) (place : Place)
       → IsNamedLoop iter cond by (items-the_row-Stmt _ body) → IsNamedStmt (s.For' iter start cond by n body place)
-  unfolding HasStmtWords HasStatementNames IsPlainStmt IsSmallStmt ArraysOf
+  unfolding HasStmtWords HasStatementNames IsSmallStmt ArraysOf
   loop_row iter start cond by n body place h = record {
-    has = λ plain small there.
-        let f = form_named start small.0 plain.0 in
-        let c = parts_named cond.parts small.1 plain.1 in
-        let r = row_named _ body h.each plain.2 small.2 there in
+    has = λ small there.
+        let f = form_named start small.0 in
+        let c = parts_named cond.parts small.1 in
+        let r = row_named _ body h.each small.2 there in
         ((h.name.word, f.0, c.0, small_fits by h.small, r.0), (h.name.name, f.1, record { some = h.some; literals = c.1 }, h.small, r.1));
   }
 
@@ -62,12 +61,12 @@ module _ (arrays : List Array) (named : AreNamedArrays arrays) where
 
   branch_row : (cond : Cond) (n : _) (taken : Row_of-Stmt _) (m : _) (other : Row_of-Stmt _) (place : Place)
       → IsNamedBranch cond (items-the_row-Stmt _ taken) (items-the_row-Stmt _ other) → IsNamedStmt (s.If' cond n taken m other place)
-  unfolding HasStmtWords HasStatementNames IsPlainStmt IsSmallStmt ArraysOf
+  unfolding HasStmtWords HasStatementNames IsSmallStmt ArraysOf
   branch_row cond n taken m other place h = record {
-    has = λ plain small there.
-        let c = parts_named cond.parts small.0 plain.0 in
-        let r = row_named _ taken h.each plain.1 small.1 there.0 in
-        let o = row_named _ other h.each_other plain.2 small.2 there.1 in
+    has = λ small there.
+        let c = parts_named cond.parts small.0 in
+        let r = row_named _ taken h.each small.1 there.0 in
+        let o = row_named _ other h.each_other small.2 there.1 in
         ((c.0, r.0, o.0), (record { some = h.some; literals = c.1 }, r.1, o.1));
   }
 
@@ -79,18 +78,18 @@ module _ (arrays : List Array) (named : AreNamedArrays arrays) where
   branch_named cond taken other place c h k = branch_by_row cond taken other place (record { some = c; each = h; each_other = k })
 
   pub assign_named : (array : ℕ) (subs : List IndexExpr) (value : Value) (place : Place) → IsNamedValue arrays named value → IsNamedStmt (s.Assign array subs value place)
-  unfolding HasStmtWords HasStatementNames IsPlainStmt IsSmallStmt ArraysOf
+  unfolding HasStmtWords HasStatementNames IsSmallStmt ArraysOf
   assign_named array subs value place h = record {
-    has = λ plain small there.
-        let r = forms_named subs small.0 plain.0 in
-        let x = h.has plain.1 small.1 there.1 in
+    has = λ small there.
+        let r = forms_named subs small.0 in
+        let x = h.has small.1 there.1 in
         ((there.0, r.0, x.0), (array_named arrays array named there.0, r.1, x.1));
   }
 
-  pub stmts_named : (xs : List Stmt) → AllByRecursion IsNamedStmt xs → AllByRecursion IsPlainStmt xs → AllByRecursion IsSmallStmt xs → AllByRecursion (ArraysOf (length arrays)) xs
+  pub stmts_named : (xs : List Stmt) → AllByRecursion IsNamedStmt xs → AllByRecursion IsSmallStmt xs → AllByRecursion (ArraysOf (length arrays)) xs
       → AllByRecursion (HasStmtWords arrays) xs × AllByRecursion (HasStatementNames arrays) xs
-  stmts_named [] h plain small there = (tt, tt)
-  stmts_named (x ∷ xs) h plain small there =
-      let a = h.0.has plain.0 small.0 there.0 in
-      let r = stmts_named xs h.1 plain.1 small.1 there.1 in
+  stmts_named [] h small there = (tt, tt)
+  stmts_named (x ∷ xs) h small there =
+      let a = h.0.has small.0 there.0 in
+      let r = stmts_named xs h.1 small.1 there.1 in
       ((a.0, r.0), (a.1, r.1))

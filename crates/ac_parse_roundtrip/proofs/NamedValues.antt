@@ -2,7 +2,6 @@
 use Rattle.std.specs.Prelude.{◌≡◌, ◌<◌, ℕ, zero, suc, ℤ, List, [], ◌∷◌, length}
 use Rattle.std.specs.List.{AllByRecursion}
 use Rattle.std.proofs.Common.{refl, subst, arith, rules}
-use Rattle.ac_syntax.specs.PlainPrograms.{IsPlainForm, IsPlainPart, IsPlainValue, ArePlainValues}
 use Rattle.ac_syntax.specs.Small.{IsSmall, IsSmallQuot, IsSmallForm, AreSmallForms, IsSmallRel, AreSmallParts, IsSmallValue, AreSmallValues}
 use Rattle.ac_syntax.specs.declared.tree.Array.{Array}
 use Rattle.ac_syntax.specs.declared.tree.Comparison.{Comparison}
@@ -17,7 +16,7 @@ use Rattle.ac_syntax.specs.declared.tree.Value.TheVariants.{Number, Access, Call
 use Rattle.ac_parse_rules.specs.DeclaredNumbers.{ReadsOf, ReadsIn}
 use Rattle.ac_parse_exprs.specs.Values.{placed}
 use Rattle.ac_parse_roundtrip.specs.ProgramWords.{Fits64, IsWritableQuot, IsWritable, AreWritable, IsWritableRel, AreComparisons, IsSymbol, argument_count, HasValueWords, HaveValueWords}
-use Rattle.ac_parse_roundtrip.specs.GrammarPrograms.{IsName, NamesArray, HasLiterals, HaveLiterals, IsCallName, count, HasValueNames, HaveValueNames}
+use Rattle.ac_parse_roundtrip.specs.GrammarPrograms.{IsName, NamesArray, HasQuotientLiterals, HasLiterals, HaveLiterals, IsCallName, count, HasValueNames, HaveValueNames}
 
 -- ---- forms
 
@@ -44,8 +43,15 @@ quots_writable (q ∷ qs) h = (
 writable : (e : IndexExpr) → IsSmallForm e → IsWritable e
 writable e h = record { constant = small_fits e.konst h.constant; params = all_fit e.params h.params; iters = all_fit e.iters h.iters; quots = quots_writable e.quots h.quots }
 
-literals : (e : IndexExpr) → IsSmallForm e → IsPlainForm e → HasLiterals e
-literals e h plain = record { constant = h.constant; params = h.params; iters = h.iters; plain = plain }
+quots_literals : (qs : List Quot) → AllByRecursion IsSmallQuot qs → AllByRecursion HasQuotientLiterals qs
+quots_literals [] h = tt
+quots_literals (q ∷ qs) h = (
+  record { coef = h.0.coef; constant = h.0.constant; params = h.0.params; iters = h.0.iters; positive = h.0.positive; divisor = h.0.divisor },
+  quots_literals qs h.1,
+)
+
+literals : (e : IndexExpr) → IsSmallForm e → HasLiterals e
+literals e h = record { constant = h.constant; params = h.params; iters = h.iters; quots = quots_literals e.quots h.quots }
 
 rel_writable : (r : Rel) → IsSmallRel r → IsWritableRel r
 rel_writable NonNegative h = tt
@@ -53,19 +59,19 @@ rel_writable Zero h = tt
 rel_writable (Divides m) h = small_fits m h.1
 
 -- what can be written has literals that the grammar takes
-pub form_named : (e : IndexExpr) → IsSmallForm e → IsPlainForm e → IsWritable e × HasLiterals e
-form_named e h plain = (writable e h, literals e h plain)
+pub form_named : (e : IndexExpr) → IsSmallForm e → IsWritable e × HasLiterals e
+form_named e h = (writable e h, literals e h)
 
-pub forms_named : (es : List IndexExpr) → AreSmallForms es → AllByRecursion IsPlainForm es → AreWritable es × AllByRecursion HasLiterals es
-forms_named [] h plain = (tt, tt)
-forms_named (e ∷ es) h plain = let r = forms_named es h.1 plain.1 in ((writable e h.0, r.0), (literals e h.0 plain.0, r.1))
+pub forms_named : (es : List IndexExpr) → AreSmallForms es → AreWritable es × AllByRecursion HasLiterals es
+forms_named [] h = (tt, tt)
+forms_named (e ∷ es) h = let r = forms_named es h.1 in ((writable e h.0, r.0), (literals e h.0, r.1))
 
-pub parts_named : (cs : List Comparison) → AreSmallParts cs → AllByRecursion IsPlainPart cs → AreComparisons cs × HaveLiterals cs
-parts_named [] h plain = (tt, tt)
-parts_named (c ∷ cs) h plain =
-    let r = parts_named cs h.1 plain.1 in (
+pub parts_named : (cs : List Comparison) → AreSmallParts cs → AreComparisons cs × HaveLiterals cs
+parts_named [] h = (tt, tt)
+parts_named (c ∷ cs) h =
+    let r = parts_named cs h.1 in (
       (record { form = writable c.form h.0.form; rel = rel_writable c.rel h.0.rel }, r.0),
-      (record { form = literals c.form h.0.form plain.0.form; rel = plain.0.rel }, r.1),
+      (record { form = literals c.form h.0.form; rel = h.0.rel }, r.1),
     )
 
 -- ---- arrays
@@ -95,9 +101,9 @@ counted_too m end_of-Value = refl
 counted_too m (more_of-Value {n = n} v rest) = let e = counted_too n rest in omega (arith, e)
 
 module _ (arrays : List Array) (named : AreNamedArrays arrays) where
-  -- where its numbers are small, its forms are plain and its arrays are there, a value has words and names
+  -- where its numbers are small and its arrays are there, a value has words and names
   pub record IsNamedValue (v : Value) : Type 0 where
-    pub has : IsPlainValue v → IsSmallValue v → ReadsOf (length arrays) v → HasValueWords arrays v × HasValueNames arrays v
+    pub has : IsSmallValue v → ReadsOf (length arrays) v → HasValueWords arrays v × HasValueNames arrays v
 
   -- a call of so many arguments, which are named
   record IsNamedCall (s : Symbol) (args : List Value) : Type 0 where
@@ -105,27 +111,27 @@ module _ (arrays : List Array) (named : AreNamedArrays arrays) where
     each : AllByRecursion IsNamedValue args
 
   pub number_named : (e : IndexExpr) → IsNamedValue (Number e)
-  unfolding HasValueWords HasValueNames IsPlainValue IsSmallValue
-  number_named e = record { has = λ plain small reads. form_named e small plain }
+  unfolding HasValueWords HasValueNames IsSmallValue
+  number_named e = record { has = λ small reads. form_named e small }
 
   pub access_named : (array : ℕ) (subs : List IndexExpr) (place : Place) → IsNamedValue (Access array subs place)
-  unfolding HasValueWords HasValueNames IsPlainValue IsSmallValue ReadsOf
-  access_named array subs place = record { has = λ plain small reads. let r = forms_named subs small plain in ((reads, r.0), (array_named arrays array named reads, r.1)) }
+  unfolding HasValueWords HasValueNames IsSmallValue ReadsOf
+  access_named array subs place = record { has = λ small reads. let r = forms_named subs small in ((reads, r.0), (array_named arrays array named reads, r.1)) }
 
-  row_named : (m : _) (args : Row_of-Value m) → AllByRecursion IsNamedValue (items-the_row-Value m args) → ArePlainValues args → AreSmallValues args → ReadsIn (length arrays) args
+  row_named : (m : _) (args : Row_of-Value m) → AllByRecursion IsNamedValue (items-the_row-Value m args) → AreSmallValues args → ReadsIn (length arrays) args
       → HaveValueWords arrays args × HaveValueNames arrays args
-  unfolding HasValueWords HasValueNames IsPlainValue IsSmallValue ReadsOf
-  row_named m end_of-Value h plain small reads = (tt, tt)
-  row_named m (more_of-Value {n = n} v rest) h plain small reads =
-      let x = h.0.has plain.0 small.0 reads.0 in
-      let r = row_named n rest h.1 plain.1 small.1 reads.1 in
+  unfolding HasValueWords HasValueNames IsSmallValue ReadsOf
+  row_named m end_of-Value h small reads = (tt, tt)
+  row_named m (more_of-Value {n = n} v rest) h small reads =
+      let x = h.0.has small.0 reads.0 in
+      let r = row_named n rest h.1 small.1 reads.1 in
       ((x.0, r.0), (x.1, r.1))
 
   call_row : (s : Symbol) (n : _) (args : Row_of-Value _) (place : Place) → IsNamedCall s (items-the_row-Value _ args) → IsNamedValue (Call' s n args place)
-  unfolding HasValueWords HasValueNames IsPlainValue IsSmallValue ReadsOf
+  unfolding HasValueWords HasValueNames IsSmallValue ReadsOf
   call_row s n args place h = record {
-    has = λ plain small reads.
-        let r = row_named _ args h.each plain small reads in
+    has = λ small reads.
+        let r = row_named _ args h.each small reads in
         ((subst (IsSymbol s.name) (counted _ args) h.called.spelled, r.0), (subst (IsCallName s.name) (counted_too _ args) h.called.taken, r.1));
   }
 
@@ -136,7 +142,7 @@ module _ (arrays : List Array) (named : AreNamedArrays arrays) where
   call_named s args place h k = by_row s args place (record { called = h; each = k })
 
   pub placed_named : (place : Place) (v : Value) → IsNamedValue v → IsNamedValue (placed place v)
-  unfolding HasValueWords HasValueNames IsPlainValue IsSmallValue ReadsOf
+  unfolding HasValueWords HasValueNames IsSmallValue ReadsOf
   placed_named place (Number e) h = number_named (record { konst = e.konst; params = e.params; iters = e.iters; quots = e.quots; place = place })
   placed_named place (Access array subs p) h = access_named array subs place
-  placed_named place (Call' symbol n args p) h = record { has = λ plain small reads. h.has plain small reads }
+  placed_named place (Call' symbol n args p) h = record { has = λ small reads. h.has small reads }

@@ -1,5 +1,5 @@
 -- The rules read pragma lines back from the trees of a canonical text.
-use Rattle.std.proofs.Common.{◌≡◌, ℕ, List, [], ◌∷◌, ◌++◌, map, refl, sym, ap, subst, ◌∙◌, true, false, nat_lt, arith, Option, Some, None}
+use Rattle.std.proofs.Common.{◌≡◌, ℕ, List, [], ◌∷◌, ◌++◌, map, refl, sym, ap, subst, ◌∙◌, true, nat_lt, arith, Option, Some, None}
 use Rattle.std.specs.Prelude.{slice_get, if◌then◌else◌}
 use Rattle.std.specs.List.{AllByRecursion}
 use Rattle.std.proofs.lemmas.Bool.Decides.{nat_tests}
@@ -13,16 +13,16 @@ use Rattle.ac_parse_exprs.specs.declared.fault.Broken.{Broken}
 use Rattle.ac_parse_exprs.specs.declared.scope.Meaning.TheVariants as means
 use Rattle.ac_parse_exprs.specs.declared.scope.Entry.{Entry}
 use Rattle.ac_parse_exprs.specs.declared.scope.Scope.{Scope}
-use Rattle.ac_parse_exprs.specs.Meanings.{declared_meaning, is_reserved, word_broken}
+use Rattle.ac_parse_exprs.specs.Meanings.{declared_meaning}
 use Rattle.ac_parse_exprs.specs.Comparisons.{condition}
 use Rattle.ac_parse_exprs.specs.Values.{array_number}
 use Rattle.ac_parse_rules.specs.Files.{context_parts, commutative_words, output_words, has_output_line, output_broken, pragma_broken, output_numbers}
 use Rattle.ac_parse_exprs.proofs.Absent.{NoneBroken}
 use Rattle.ac_parse_roundtrip.specs.CanonicalTrees.{Each, IsWordOf, AreContext, AreCommutative, AreOutput}
 use Rattle.ac_parse_roundtrip.specs.PlaceErasure.{parts_without_places}
-use Rattle.ac_parse_roundtrip.specs.ReadableStatements.{PartsFitScope}
 use Rattle.ac_parse_roundtrip.specs.CanonicalPrograms.{FitsOutput, OutputsFit}
 use Rattle.ac_parse_roundtrip.proofs.ConditionRoundTrip.{none_broken, condition_none, condition_same}
+use Rattle.ac_parse_roundtrip.specs.ColumnNames.{PartsFitScope}
 
 module _ (names : List Entry) (scope : Scope) (inputs : ℕ) (written : text.Scope) where
   abbrev broken : Pragma → Option Broken
@@ -39,10 +39,9 @@ module _ (names : List Entry) (scope : Scope) (inputs : ℕ) (written : text.Sco
       → (output_broken names inputs word ≡ None) × (array_number (declared_meaning names word.name) ≡ k)
   output_word k word fit w =
       let m : declared_meaning names word.name ≡ means.Array k fit.dimensions = ap (declared_meaning names) w ∙ fit.means in
-      let r : is_reserved word.name ≡ false = ap is_reserved w ∙ fit.word in
       let i : nat_lt k inputs ≡ true = let h = fit.input in grind (arith, nat_tests) in
       let s : nat_lt 0 fit.dimensions ≡ true = let h = fit.some in grind (arith, nat_tests) in
-      (rw (m, r, i, s) refl, ap array_number m)
+      (rw (m, i, s) refl, ap array_number m)
 
   output_all : (ks : List ℕ) (words : List Word) → AllByRecursion (FitsOutput names written.arrays inputs) ks → Each (λ k word. IsWordOf (array_name (slice_get written.arrays k)) word) ks words
       → NoneBroken (map (output_broken names inputs) words) × (output_numbers names words ≡ ks)
@@ -69,26 +68,22 @@ module _ (names : List Entry) (scope : Scope) (inputs : ℕ) (written : text.Sco
     pub words : map (λ (word : Word). word.name) (commutative_words ps) ≡ commutative
     pub numbers : (if has_output_line ps then Some (output_numbers names (output_words ps)) else None) ≡ outputs
 
-  word_all : (ns : List (List ℕ)) (words : List Word) → AllByRecursion (λ name. is_reserved name ≡ false) ns → Each IsWordOf ns words → NoneBroken (map word_broken words) × (map (λ (word : Word). word.name) words ≡ ns)
-  word_all [] [] f t = (tt, refl)
-  word_all [] (word ∷ words) f t = absurd t
-  word_all (n ∷ ns) [] f t = absurd t
-  word_all (n ∷ ns) (word ∷ words) f t =
-      let r : is_reserved word.name ≡ false = ap is_reserved t.0 ∙ f.0 in
-      let b = word_all ns words f.1 t.1 in
-      ((rw r refl, b.0), rw (t.0, b.1) refl)
+  words_are : (ns : List (List ℕ)) (words : List Word) → Each IsWordOf ns words → map (λ (word : Word). word.name) words ≡ ns
+  words_are [] [] t = refl
+  words_are [] (word ∷ words) t = absurd t
+  words_are (n ∷ ns) [] t = absurd t
+  words_are (n ∷ ns) (word ∷ words) t = rw (t.0, words_are ns words t.1) refl
 
-  pub commutative_read : (commutative : List (List ℕ)) (outputs : Option (List ℕ)) (ps qs : List Pragma) → AllByRecursion (λ name. is_reserved name ≡ false) commutative → AreCommutative commutative ps
+  pub commutative_read : (commutative : List (List ℕ)) (outputs : Option (List ℕ)) (ps qs : List Pragma) → AreCommutative commutative ps
       → OutputRead outputs qs → CommutativeRead commutative outputs (ps ++ qs)
-  commutative_read [] outputs ps qs f t r =
+  commutative_read [] outputs ps qs t r =
       subst (λ us. CommutativeRead [] outputs (us ++ qs)) (sym t) (record { none = r.none; parts = r.parts; words = ap (map (λ (word : Word). word.name)) r.words; numbers = r.numbers })
-  commutative_read (n ∷ ns) outputs ps qs f t r =
-      let a = word_all (n ∷ ns) t.0 f t.1 in
+  commutative_read (n ∷ ns) outputs ps qs t r =
       subst (λ us. CommutativeRead (n ∷ ns) outputs (us ++ qs)) (sym t.2)
       (record {
-        none = (none_broken (map word_broken t.0) a.0, r.none);
+        none = (refl, r.none);
         parts = r.parts;
-        words = ap (λ ws. map (λ (word : Word). word.name) (t.0 ++ ws)) r.words ∙ ap (map (λ (word : Word). word.name)) (append-nil t.0) ∙ a.1;
+        words = ap (λ ws. map (λ (word : Word). word.name) (t.0 ++ ws)) r.words ∙ ap (map (λ (word : Word). word.name)) (append-nil t.0) ∙ words_are (n ∷ ns) t.0 t.1;
         numbers = r.numbers;
       })
 

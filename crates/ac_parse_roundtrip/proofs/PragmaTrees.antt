@@ -103,8 +103,8 @@ one_line room at name is tree x =
 no_line : (room : ℕ) (T : List Pragma → Type 0) → T [] → Reads (Lines room) T []
 no_line room T nothing = record { at = λ at. ([], no_item, nothing) }
 
-pub context_read : (room : ℕ) (scope : Scope) (cs : List Comparison) → IsNamedScope scope → HaveLiterals cs → Reads (Lines (suc room)) (AreContext scope cs) (context_line scope cs)
-context_read room scope [] named has = no_line (suc room) (AreContext scope []) refl
+pub context_read : (room : ℕ) (scope : Scope) (cs : List Comparison) → IsNamedScope scope → HaveLiterals cs → Reads (Lines (suc (suc (suc room)))) (AreContext scope cs) (context_line scope cs)
+context_read room scope [] named has = no_line (suc (suc (suc room))) (AreContext scope []) refl
 context_read room scope (c ∷ cs) named has = record {
   at = λ at.
       let is = space ∷ cond scope (record { parts = c ∷ cs }) in
@@ -112,7 +112,7 @@ context_read room scope (c ∷ cs) named has = record {
       let x = (cond_read room scope (record { parts = c ∷ cs }) named (record { some = tt; literals = has })).at (from + 1) in
       let end = after from is in (
         Context x.0 ∷ [],
-        one_line (suc room) at (codes "context") is (Context x.0) (g.context (end_at end) (pragma_start_is at) (context_is (name_place at)) x.1 (pragma_end_is end)),
+        one_line (suc (suc (suc room))) at (codes "context") is (Context x.0) (g.context (end_at end) (pragma_start_is at) (context_is (name_place at)) x.1 (pragma_end_is end)),
         (x.0, x.2, refl),
       );
 }
@@ -172,7 +172,7 @@ run_append {One = One} {us = us} {ys = ys} (an_item {ts = first} {us = rest} {fi
     subst (λ vs. IsRun One vs (x ∷ more ++ ys)) (sym (append_assoc first rest us)) (an_item one (run_append r s))
 
 pub pragmas_read : (room : ℕ) (p : Program) → IsNamedScope (whole_scope p) → HaveLiterals p.context.parts → AllByRecursion IsSymbolName p.commutative → HaveOutputs p.arrays p.outputs
-    → Reads (Lines (suc room)) (ArePragmas p) (pragma_lines p)
+    → Reads (Lines (suc (suc (suc room)))) (ArePragmas p) (pragma_lines p)
 pragmas_read room p named context commutative output = record {
   at = λ at.
       let scope = whole_scope p in
@@ -180,10 +180,10 @@ pragmas_read room p named context commutative output = record {
       let ms = commutative_line p.commutative in
       let os = output_line scope p.outputs in
       let x = (context_read room scope p.context.parts named context).at at in
-      let y = (commutative_read (suc room) p.commutative commutative).at (after at cs) in
-      let z = (output_read scope (suc room) p.outputs output).at (after (after at cs) ms) in
+      let y = (commutative_read (suc (suc (suc room))) p.commutative commutative).at (after at cs) in
+      let z = (output_read scope (suc (suc (suc room))) p.outputs output).at (after (after at cs) ms) in
       let all = x.0 ++ (y.0 ++ z.0) in
       let same : lexemes at (cs ++ ms ++ os) ≡ lexemes at cs ++ (lexemes (after at cs) ms ++ lexemes (after (after at cs) ms) os)
       = ap (λ is. lexemes at is) (append_assoc cs ms os) ∙ (lexemes-append at cs (ms ++ os) ∙ ap (λ ts. lexemes at cs ++ ts) (lexemes-append (after at cs) ms os)) in
-      (all, subst (λ ts. Lines (suc room) ts all) (sym same) (run_append x.1 (run_append y.1 z.1)), (x.0, y.0, z.0, x.2, y.2, z.2, refl));
+      (all, subst (λ ts. Lines (suc (suc (suc room))) ts all) (sym same) (run_append x.1 (run_append y.1 z.1)), (x.0, y.0, z.0, x.2, y.2, z.2, refl));
 }

@@ -16,10 +16,10 @@ use Rattle.ac_parse_grammar.specs.declared.tree.File.{File}
 use Rattle.ac_parse_exprs.specs.declared.scope.Entry.{Entry}
 use Rattle.ac_parse_exprs.specs.declared.scope.Scope.{Scope}
 use Rattle.ac_parse_exprs.specs.FaultOrder.{earlier}
-use Rattle.ac_parse_exprs.specs.Meanings.{is_reserved, word_broken}
 use Rattle.ac_parse_exprs.specs.Comparisons.{first_of, condition}
 use Rattle.ac_parse_rules.specs.Declarations.{runs, is_whole, is_loop_name, param_entries, local_entries, param_count, fixed_scope, each_declared_broken, arrays_from, slots_from, param_names}
 use Rattle.ac_parse_rules.specs.Statements.{all_targets, statement_broken, statements_broken, stmts}
+use Rattle.ac_parse_rules.specs.FewQuotients.{all_crowded}
 use Rattle.ac_parse_rules.specs.Files.{body_scope, context_parts, commutative_words, output_line, assignments_broken, declarations_broken, body_broken, pragma_broken, pragmas_broken, broken_under, arrays_under, body_under, context_under, program_under, names_of, file_broken, program_of}
 use Rattle.ac_parse_roundtrip.specs.CanonicalTrees.{Each, IsSlotTree, IsStatementTree, IsFileTree, locals}
 use Rattle.ac_parse_roundtrip.specs.PlaceErasure.{parts_without_places, condition_without_places, stmt_without_places, array_without_places, program_without_places}
@@ -29,6 +29,7 @@ use Rattle.ac_parse_roundtrip.specs.RuleRoundTrip.{ProgramsAreReadBack}
 use Rattle.ac_parse_roundtrip.proofs.ConditionRoundTrip.{none_broken, same_length}
 use Rattle.ac_parse_roundtrip.proofs.StatementRoundTrip.{AreStmtsRead, stmt_read, both_none}
 use Rattle.ac_parse_roundtrip.proofs.DeclarationRoundTrip.{AreParams, params_read, AreLocals, locals_read}
+use Rattle.ac_parse_roundtrip.proofs.CrowdedRoundTrip.{body_few}
 use Rattle.ac_parse_roundtrip.proofs.PragmaRoundTrip.{PragmasRead, output_read, commutative_read, context_read}
 use Rattle.ac_parse_roundtrip.proofs.Shapes.{all_typed, all_counted}
 
@@ -95,7 +96,7 @@ module _ (p : Program) (fit : IsReadableProgram p) (file : File) (t : IsFileTree
   pragmas =
       let a = t.pragmas in
       let o = output_read names (fixed_scope (length p.params)) (length fit.inputs) written p.outputs a.2 fit.outputs a.5 in
-      let c = commutative_read names (fixed_scope (length p.params)) (length fit.inputs) written p.commutative p.outputs a.1 a.2 fit.commutative a.4 o in
+      let c = commutative_read names (fixed_scope (length p.params)) (length fit.inputs) written p.commutative p.outputs a.1 a.2 a.4 o in
       subst (PragmasRead names (fixed_scope (length p.params)) (length fit.inputs) written p.context.parts p.commutative p.outputs) (sym a.6)
       (context_read names (fixed_scope (length p.params)) (length fit.inputs) written p.context.parts p.commutative p.outputs a.0 (a.1 ++ a.2) fit.context a.3 c)
 
@@ -125,11 +126,15 @@ module _ (p : Program) (fit : IsReadableProgram p) (file : File) (t : IsFileTree
       let e : slice_get (all_targets file.body) 48 ≡ None = past_end (all_targets file.body) 48 (omega arith) in
       rw e refl
 
+  quotients_none : all_crowded names (body_scope (param_count file.params)) [] file.body ≡ None
+  quotients_none = subst (λ n. all_crowded names (body_scope n) [] file.body ≡ None) (sym params.integers) (body_few names (body_scope (length p.params)) written p.body file.body fit.body t.body fit.uncrowded)
+
   body_none : body_broken names file ≡ None
   body_none =
       let a = none_broken (map (λ s. statement_broken names s (body_scope (length p.params))) file.body) statements.none in
       let b = subst (λ n. statements_broken names (body_scope n) file.body ≡ None) (sym params.integers) a in
-      both_none (statements_broken names (body_scope (param_count file.params)) file.body) (assignments_broken file.body) b assignments_none
+      let few = all_crowded names (body_scope (param_count file.params)) [] file.body in
+      both_none (statements_broken names (body_scope (param_count file.params)) file.body) (earlier (assignments_broken file.body) few) b (both_none (assignments_broken file.body) few assignments_none quotients_none)
 
   pragmas_none : pragmas_broken names file ≡ None
   pragmas_none =
@@ -137,13 +142,10 @@ module _ (p : Program) (fit : IsReadableProgram p) (file : File) (t : IsFileTree
       let b = subst (λ n. first_of (map (pragma_broken names (fixed_scope n) (length fit.inputs)) file.pragmas) ≡ None) (sym params.integers) a in
       subst (λ n. first_of (map (pragma_broken names (fixed_scope (param_count file.params)) n) file.pragmas) ≡ None) (sym params.inputs) b
 
-  word_none : word_broken file.name ≡ None
-  word_none = let w : is_reserved file.name.name ≡ false = ap is_reserved t.name ∙ fit.word in rw w refl
-
   pub file_none : file_broken file ≡ None
   file_none = ap (λ ns. broken_under ns file) names_are
-      ∙ both_none (earlier (word_broken file.name) (declarations_broken names file)) (earlier (body_broken names file) (pragmas_broken names file))
-      (both_none (word_broken file.name) (declarations_broken names file) word_none declarations_none) (both_none (body_broken names file) (pragmas_broken names file) body_none pragmas_none)
+      ∙ both_none (declarations_broken names file) (earlier (body_broken names file) (pragmas_broken names file))
+      declarations_none (both_none (body_broken names file) (pragmas_broken names file) body_none pragmas_none)
 
   arrays_same : map array_without_places (arrays_under names file) ≡ map array_without_places p.arrays
   arrays_same =

@@ -24,15 +24,14 @@ use Rattle.ac_parse_exprs.specs.FaultOrder.{earlier, broken}
 use Rattle.ac_parse_exprs.specs.Comparisons.{index, index_broken}
 use Rattle.ac_parse_rules.specs.Declarations.{is_whole, is_loop_name, entry, count, param_entries, local_entries, fixed_scope, is_declared, count_broken, dimensions_broken, extents_broken, name_broken, declared_broken, each_declared_broken, array_of, arrays_from, slots_from, param_names}
 use Rattle.ac_parse_rules.specs.LawsOfNames.{IsNamed}
-use Rattle.ac_parse_exprs.specs.Meanings.{declared_meaning, is_reserved, word_broken}
+use Rattle.ac_parse_exprs.specs.Meanings.{declared_meaning}
 use Rattle.ac_parse_exprs.proofs.Absent.{NoneBroken, neither, none_of, not_where}
 use Rattle.ac_parse_rules.proofs.SmallPrograms.{names_none}
-use Rattle.ac_parse_roundtrip.specs.ReadableStatements.{FitScope}
 use Rattle.ac_parse_roundtrip.specs.CanonicalPrograms.{IsFew, DeclarationsFit, FitsArray, SlotsFit, LocalsFit}
-use Rattle.ac_parse_roundtrip.proofs.Columns.{free_word}
 use Rattle.ac_parse_roundtrip.proofs.ReadableForms.{index_fits}
 use Rattle.ac_parse_roundtrip.proofs.Plain.{is_loop, plain, plain_append, kept_plain, new_plain, front_meaning, own_meaning}
 use Rattle.ac_parse_roundtrip.proofs.Scopes.{Keeps, Follows, carries}
+use Rattle.ac_parse_roundtrip.specs.ColumnNames.{FitScope}
 
 pub none_more : (n : ℕ) → n + 0 ≡ n
 none_more n = omega arith
@@ -45,7 +44,6 @@ get_seam (x ∷ xs) y ys = get_seam xs y ys
 
 -- a declaration behind those of the front
 pub record FitsEntry (front : List Entry) (e : Entry) : Type 0 where
-  pub word : is_reserved e.name ≡ false
   pub new : is_declared front e.name ≡ false
   pub few : IsFew e.meaning
 
@@ -61,9 +59,6 @@ few_declared means.LoopName place h = tt
 few_declared means.OwnStart place h = tt
 few_declared means.Nothing place h = tt
 
-word_none : (names : List Entry) (scope : Scope) (k : ℕ) (d : Declared) → declared_broken names scope k d ≡ None → word_broken d.name ≡ None
-word_none names scope k d h = (neither _ _ (neither _ _ (neither (name_broken names k d) (earlier (dimensions_broken d.extents) (extents_broken (take k names) scope d.extents)) h).0).0).0
-
 pub entries_fit : (scope : Scope) (es : List Entry) (ds : List Declared) (front : List Entry) → map (λ (e : Entry). e.name) es ≡ map (λ (d : Declared). d.name.name) ds
     → NoneBroken (each_declared_broken (front ++ es) scope (length front) ds) → EntriesFit front es
 entries_fit scope [] ds front e h = tt
@@ -78,7 +73,6 @@ entries_fit scope (x ∷ es) (d ∷ ds) front e h =
     let s : front ++ (x ∷ es) ≡ (front ++ x ∷ []) ++ es = sym (append_assoc front (x ∷ []) es) in
     let k : length front + 1 ≡ length (front ++ x ∷ []) = sym (length-append front (x ∷ [])) in (
       record {
-        word = subst (λ m. is_reserved m ≡ false) n (free_word d.name (word_none (front ++ (x ∷ es)) scope (length front) d h.0));
         new = new;
         few = few_declared x.meaning d.name.place (subst (λ m. count_broken m d.name.place ≡ None) own f.1);
       },
@@ -106,7 +100,6 @@ declarations_fit text_names front (e ∷ es) h same = by (is_loop e.meaning) ref
         let n = new_plain front e.name h.0.new in
         let l : length (plain (front ++ e ∷ [])) ≡ length (plain front) + 1 = ap length f ∙ length-append (plain front) (e ∷ []) in (
           record {
-            word = h.0.word;
             new = subst (λ xs. is_declared (take (length (plain front)) xs) e.name ≡ false) (sym same)
                 (subst (λ xs. is_declared xs e.name ≡ false) (sym (take-append_seam (plain front) (e ∷ plain es))) n);
             means = subst (λ xs. declared_meaning xs e.name ≡ e.meaning) (sym same) (own_meaning (plain front) (plain es) e n);
@@ -149,7 +142,7 @@ keeps_front p names front more keeps e = record {
     owned_case name (inr n) = subst (IsNamed p name) (whole name n) (keeps.owned name)
 
 module _ (p : Program) (names : List Entry) (scope : Scope) (keeps : Keeps p names (plain names)) (follows : Follows p scope (whole_scope p))
-    (same_params : length p.params ≡ scope.params) (same_iterators : [] ≡ scope.iterators) where
+    (same_params : length p.params ≡ scope.params) (same_fixed : true ≡ scope.fixed) (same_tested : false ≡ scope.tested) (same_iterators : [] ≡ scope.iterators) where
   abbrev Fits : List Entry → List Extent → Type 0
   Fits front extents = FitScope (plain front) (fixed_scope (length p.params)) (whole_scope p) (map (λ (extent : Extent). index front scope extent.size) extents)
 
@@ -157,7 +150,7 @@ module _ (p : Program) (names : List Entry) (scope : Scope) (keeps : Keeps p nam
   extents_fit front more e [] h = tt
   extents_fit front more e (x ∷ xs) h = (
     index_fits front scope (plain front) (fixed_scope (length p.params)) (whole_scope p)
-        (carries p front (plain front) (keeps_front p names front more keeps e) scope (fixed_scope (length p.params)) (whole_scope p) follows same_params same_iterators refl) x.size h.0,
+        (carries p front (plain front) (keeps_front p names front more keeps e) scope (fixed_scope (length p.params)) (whole_scope p) follows same_params same_fixed same_tested same_iterators refl) x.size h.0,
     extents_fit front more e xs h.1,
   )
 

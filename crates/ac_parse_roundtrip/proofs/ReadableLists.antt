@@ -16,11 +16,11 @@ use Rattle.ac_syntax.specs.declared.tree.Stmt.TheVariants as s
 use Rattle.ac_parse_exprs.specs.declared.scope.Meaning.TheVariants.{Nothing}
 use Rattle.ac_parse_exprs.specs.declared.scope.Entry.{Entry}
 use Rattle.ac_parse_exprs.specs.declared.scope.Scope.{Scope}
-use Rattle.ac_parse_rules.specs.Statements.{inside, in_start}
+use Rattle.ac_parse_rules.specs.Statements.{inside, in_test, in_start}
 use Rattle.ac_parse_exprs.specs.Values.{placed}
 use Rattle.ac_parse_roundtrip.specs.GrammarPrograms.{count}
-use Rattle.ac_parse_roundtrip.specs.ColumnNames.{Stands, FitsScope}
-use Rattle.ac_parse_roundtrip.specs.ReadableStatements.{FitScope, PartsFitScope, ArrayStands, is_number, some_other, FitsCall, IsReadable, AreReadable, FitsLoop, IsReadableStmt, AreReadableStmts}
+use Rattle.ac_parse_roundtrip.specs.ColumnNames.{Stands, FitsScope, FitScope, PartsFitScope}
+use Rattle.ac_parse_roundtrip.specs.ReadableStatements.{ArrayStands, is_number, some_other, FitsCall, IsReadable, AreReadable, FitsLoop, IsReadableStmt, AreReadableStmts}
 
 -- ---- values
 
@@ -81,14 +81,10 @@ module _ (names : List Entry) (scope : Scope) (written : text.Scope) where
 
   placed_form_fits : (place : Place) (e : IndexExpr) → FitsScope names scope written e → FitsScope names scope written (record { konst = e.konst; params = e.params; iters = e.iters; quots = e.quots; place = place })
   placed_form_fits place e h = record {
-    params = h.params;
-    iters = h.iters;
-    constant = h.constant;
-    plain = h.plain;
-    small_params = h.small_params;
-    small_iters = h.small_iters;
-    param_names = h.param_names;
-    iter_names = h.iter_names;
+    columns = h.columns;
+    quotients = h.quotients;
+    distinct = h.distinct;
+    few = h.few;
   }
 
   pub placed_readable : (place : Place) (v : Value) → IsReadable names scope written v → IsReadable names scope written (placed place v)
@@ -108,7 +104,7 @@ module _ (names : List Entry) where
   pub record IsReadableLoop (scope : Scope) (written : text.Scope) (iter : List ℕ) (start : IndexExpr) (cond : Cond) (step : ℤ) (body : List Stmt) : Type 0 where
     pub fits : FitsLoop names scope iter cond step
     pub begins : FitsScope names (in_start scope true iter) written start
-    pub runs : PartsFitScope names (inside scope iter) (text.inside written iter) cond.parts
+    pub runs : PartsFitScope names (in_test scope iter) (text.inside written iter) cond.parts
     pub each : AllByRecursion (IsReadableStmt names (inside scope iter) (text.inside written iter)) body
 
   loop_row : (scope : Scope) (written : text.Scope) (iter : List ℕ) (start : IndexExpr) (cond : Cond) (step : ℤ) (n : _) (body : Row_of-Stmt _) (place : Place)

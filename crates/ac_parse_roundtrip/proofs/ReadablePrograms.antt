@@ -22,29 +22,31 @@ use Rattle.ac_parse_exprs.specs.declared.scope.Entry.{Entry}
 use Rattle.ac_parse_exprs.specs.declared.scope.Meaning.{Meaning}
 use Rattle.ac_parse_exprs.specs.declared.scope.Meaning.TheVariants as means
 use Rattle.ac_parse_exprs.specs.declared.scope.Scope.{Scope}
-use Rattle.ac_parse_exprs.specs.FaultOrder.{rule_broken}
+use Rattle.ac_parse_exprs.specs.FaultOrder.{earlier}
+use Rattle.ac_parse_exprs.specs.Comparisons.{first_of}
 use Rattle.ac_parse_rules.specs.Declarations.{is_whole, is_loop_name, param_count, input_count, param_entries, local_entries, fixed_scope, each_declared_broken, arrays_from}
 use Rattle.ac_parse_exprs.specs.FormValues.{IsNumbered}
 use Rattle.ac_parse_rules.specs.LawsOfNames.{IsNamed}
-use Rattle.ac_parse_exprs.specs.Meanings.{declared_meaning, iterator_number, is_reserved, word_broken}
+use Rattle.ac_parse_exprs.specs.Meanings.{declared_meaning, iterator_number}
+use Rattle.ac_parse_rules.specs.FewQuotients.{all_crowded}
 use Rattle.ac_parse_rules.specs.Statements.{statements_broken, stmts}
 use Rattle.ac_parse_exprs.specs.Values.{array_number}
-use Rattle.ac_parse_rules.specs.Files.{context_parts, commutative_words, output_words, has_output_line, output_rule, output_broken, pragma_broken, output_numbers, output_line, body_scope, context_under, names_of, file_broken, program_of}
-use Rattle.ac_parse_exprs.proofs.Absent.{NoneBroken, neither, none_of, both_true, each_append, each_map}
+use Rattle.ac_parse_rules.specs.Files.{context_parts, output_words, has_output_line, output_rule, output_broken, pragma_broken, output_numbers, output_line, body_scope, assignments_broken, declarations_broken, body_broken, pragmas_broken, context_under, names_of, file_broken, program_of}
+use Rattle.ac_parse_exprs.proofs.Absent.{NoneBroken, neither, none_of, both_true}
 use Rattle.ac_parse_exprs.proofs.NumberedMeanings.{declared_has}
 use Rattle.ac_parse_rules.proofs.DeclaredNumbers.{counted}
 use Rattle.ac_parse_rules.proofs.DeclaredOnce.{declared_once, names_mean_their_own}
 use Rattle.ac_parse_rules.proofs.NumberedNames.{files_are_numbered}
-use Rattle.ac_parse_rules.proofs.WrittenPrograms.{context_none}
+use Rattle.ac_parse_rules.proofs.UnbrokenParts.{context_none}
 use Rattle.ac_parse_roundtrip.specs.CanonicalTrees.{locals}
-use Rattle.ac_parse_roundtrip.specs.ReadableStatements.{PartsFitScope, IsReadableStmt}
+use Rattle.ac_parse_roundtrip.specs.ReadableStatements.{IsReadableStmt}
 use Rattle.ac_parse_roundtrip.specs.CanonicalPrograms.{declared, slot_entry, entries_from, DeclarationsFit, SlotsFit, LocalsFit, FitsOutput, OutputsFit, IsReadableProgram}
 use Rattle.ac_parse_roundtrip.specs.TokenSpelling.{AreSpelled}
 use Rattle.ac_parse_roundtrip.proofs.Expressions.{front_spelled, rest_spelled}
 use Rattle.ac_parse_roundtrip.proofs.TokenSpelling.{tokens_spelled}
 use Rattle.ac_parse_roundtrip.specs.Readability.{ProgramsAreReadable}
 use Rattle.ac_parse_roundtrip.proofs.Assignments.{few_assignments}
-use Rattle.ac_parse_roundtrip.proofs.Columns.{free_word}
+use Rattle.ac_parse_roundtrip.proofs.Crowding.{few_quotients}
 use Rattle.ac_parse_roundtrip.proofs.ReadableDeclarations.{entries_fit, declarations_fit, locals_fit, slots_fit}
 use Rattle.ac_parse_roundtrip.proofs.ReadableForms.{parts_fit}
 use Rattle.ac_parse_roundtrip.proofs.Listed.{all_named, as_many, params_counted, one_list, slots_listed, locals_listed, inputs_no_locals, locals_all}
@@ -52,6 +54,7 @@ use Rattle.ac_parse_roundtrip.proofs.Plain.{plain, plain_append, kept_plain, new
 use Rattle.ac_parse_roundtrip.proofs.Scopes.{Keeps, Leaves, Follows, carries}
 use Rattle.ac_parse_roundtrip.proofs.ReadableStatements.{statements_readable}
 use Rattle.ac_parse_roundtrip.proofs.ReadableValues.{no_rule, not_misused}
+use Rattle.ac_parse_roundtrip.specs.ColumnNames.{PartsFitScope}
 
 -- ---- the body of a file of the grammar
 
@@ -69,18 +72,6 @@ file_readable : {room : ℕ} {ts : List Lexeme} {f : File} → IsFile room ts f 
 file_readable (file {bs = bs} {fs = fs} {ts = ts} first is last) h = function_readable is (front_spelled fs ts (rest_spelled bs (fs ++ ts) h))
 
 -- ---- pragma lines
-
-words_free : (words : List Word) → NoneBroken (map word_broken words) → AllByRecursion (λ (word : Word). is_reserved word.name ≡ false) words
-words_free [] h = tt
-words_free (word ∷ words) h = (free_word word h.0, words_free words h.1)
-
-commutative_free : (names : List Entry) (scope : Scope) (inputs : ℕ) (ps : List Pragma) → NoneBroken (map (pragma_broken names scope inputs) ps)
-    → AllByRecursion (λ (word : Word). is_reserved word.name ≡ false) (commutative_words ps)
-commutative_free names scope inputs [] h = tt
-commutative_free names scope inputs (Context parts ∷ ps) h = commutative_free names scope inputs ps h.1
-commutative_free names scope inputs (Commutative words ∷ ps) h =
-    each_append (λ (word : Word). is_reserved word.name ≡ false) words (commutative_words ps) (words_free words (none_of (map word_broken words) h.0)) (commutative_free names scope inputs ps h.1)
-commutative_free names scope inputs (Output words ∷ ps) h = commutative_free names scope inputs ps h.1
 
 -- an output that breaks no rule is an input with dimensions
 output_array : (inputs : ℕ) (m : Meaning) → output_rule inputs m ≡ None → (k : ℕ) × (dimensions : ℕ) × (m ≡ means.Array k dimensions) × (k < inputs) × (0 < dimensions)
@@ -102,13 +93,11 @@ module _ (p : Program) (names text_names : List Entry) (keeps : Keeps p names te
 
   output_fits : (word : Word) → output_broken names inputs word ≡ None → Fits (array_number (declared_meaning names word.name))
   output_fits word h =
-      let n = neither (word_broken word) (rule_broken (output_rule inputs (declared_meaning names word.name)) word.place) h in
-      let a = output_array inputs (declared_meaning names word.name) (no_rule (output_rule inputs (declared_meaning names word.name)) word.place n.1) in
+      let a = output_array inputs (declared_meaning names word.name) (no_rule (output_rule inputs (declared_meaning names word.name)) word.place h) in
       let named : IsNamed p word.name (means.Array a.0 a.1) = subst (IsNamed p word.name) a.2 (keeps.owned word.name) in
       let name : array_name (slice_get p.arrays a.0) ≡ word.name = ap array_name named.1 ∙ named.2 in
       let kept = keeps.kept word.name (means.Array a.0 a.1) tt a.2 in
       subst Fits (sym (ap array_number a.2)) (record {
-        word = subst (λ x. is_reserved x ≡ false) (sym name) (free_word word n.0);
         dimensions = a.1;
         means = subst (λ x. declared_meaning text_names x ≡ means.Array a.0 a.1) (sym name) kept;
         input = a.3;
@@ -195,11 +184,30 @@ module _ (f : File) (none : file_broken f ≡ None) where
       ∙ ap (λ a. plain (local_entries f.body f.locals a)) as_many_inputs in
       rw (listed_slots, a) (sym (plain_append (param_entries f.params 0 0) (local_entries f.body f.locals (input_count f.params))))
 
+  -- no rule is broken in any of its halves
+  declarations_none : declarations_broken names f ≡ None
+  declarations_none = (neither (declarations_broken names f) (earlier (body_broken names f) (pragmas_broken names f)) none).0
+
+  rest_none : (body_broken names f ≡ None) × (pragmas_broken names f ≡ None)
+  rest_none = neither (body_broken names f) (pragmas_broken names f) (neither (declarations_broken names f) (earlier (body_broken names f) (pragmas_broken names f)) none).1
+
+  body_none : (statements_broken names (body_scope (param_count f.params)) f.body ≡ None) × (earlier (assignments_broken f.body) (all_crowded names (body_scope (param_count f.params)) [] f.body) ≡ None)
+  body_none =
+      neither (statements_broken names (body_scope (param_count f.params)) f.body) (earlier (assignments_broken f.body) (all_crowded names (body_scope (param_count f.params)) [] f.body)) rest_none.0
+
+  limits_none : (assignments_broken f.body ≡ None) × (all_crowded names (body_scope (param_count f.params)) [] f.body ≡ None)
+  limits_none = neither (assignments_broken f.body) (all_crowded names (body_scope (param_count f.params)) [] f.body) body_none.1
+
+  each_none : NoneBroken (each_declared_broken names fixed 0 f.params) × NoneBroken (each_declared_broken names fixed (length f.params) f.locals)
+  each_none =
+      let n = neither (first_of (each_declared_broken names fixed 0 f.params)) (first_of (each_declared_broken names fixed (length f.params) f.locals)) declarations_none in
+      (none_of (each_declared_broken names fixed 0 f.params) n.0, none_of (each_declared_broken names fixed (length f.params) f.locals) n.1)
+
   params_none : NoneBroken (each_declared_broken names fixed 0 f.params)
-  params_none = none_of (each_declared_broken names fixed 0 f.params) (neither _ _ (neither _ _ (neither _ _ none).0).1).0
+  params_none = each_none.0
 
   locals_none : NoneBroken (each_declared_broken names fixed (length f.params) f.locals)
-  locals_none = none_of (each_declared_broken names fixed (length f.params) f.locals) (neither _ _ (neither _ _ (neither _ _ none).0).1).1
+  locals_none = each_none.1
 
   declarations_readable : DeclarationsFit (plain names) 0 (plain names)
   declarations_readable =
@@ -210,33 +218,33 @@ module _ (f : File) (none : file_broken f ≡ None) where
 
   slots_readable : SlotsFit p (plain names) 0 0 0 p.slots p.params inputs
   slots_readable =
-      slots_fit p names fixed keeps (outside fixed refl refl) many refl f.params (local_entries f.body f.locals (input_count f.params)) [] [] [] owned_locals refl refl refl params_none
+      slots_fit p names fixed keeps (outside fixed refl refl) many refl refl refl f.params (local_entries f.body f.locals (input_count f.params)) [] [] [] owned_locals refl refl refl params_none
 
   locals_readable : LocalsFit p (plain names) (length p.slots) (locals p.arrays)
   locals_readable =
       let front = param_entries f.params 0 0 in
       let l : length front ≡ length f.params = as_many f.params 0 0 in
       let i : length (plain front) ≡ length p.slots = ap length (sym listed_slots) ∙ length-map p.slots (slot_entry p) in
-      let r = locals_fit p names fixed keeps (outside fixed refl refl) many refl f.body f.locals front (input_count f.params) refl
+      let r = locals_fit p names fixed keeps (outside fixed refl refl) many refl refl refl f.body f.locals front (input_count f.params) refl
       (subst (λ n. NoneBroken (each_declared_broken names fixed n f.locals)) (sym l) locals_none) in
       subst (LocalsFit p (plain names) (length p.slots)) (sym only_locals)
       (subst (λ n. LocalsFit p (plain names) n owned_locals) i
       (subst (λ n. LocalsFit p (plain names) (length (plain front)) (arrays_from names fixed Local (is_loop_name f.body) n f.locals)) l r))
 
   pragmas_none : NoneBroken (map (pragma_broken names fixed (input_count f.params)) f.pragmas)
-  pragmas_none = none_of (map (pragma_broken names fixed (input_count f.params)) f.pragmas) (neither _ _ (neither _ _ none).1).1
+  pragmas_none = none_of (map (pragma_broken names fixed (input_count f.params)) f.pragmas) rest_none.1
 
   context_readable : PartsFitScope (plain names) (fixed_scope (length p.params)) (whole_scope p) (context_under names f)
   context_readable =
       parts_fit names fixed (plain names) (fixed_scope (length p.params)) (whole_scope p)
-      (carries p names (plain names) keeps fixed (fixed_scope (length p.params)) (whole_scope p) (outside fixed refl refl) many refl refl)
+      (carries p names (plain names) keeps fixed (fixed_scope (length p.params)) (whole_scope p) (outside fixed refl refl) many refl refl refl refl)
       (context_parts f.pragmas) (context_none names fixed (input_count f.params) f.pragmas pragmas_none)
 
   body_readable : IsReadableBody f.body → AllByRecursion (IsReadableStmt (plain names) (body_scope (length p.params)) (whole_scope p)) p.body
   body_readable has =
       let scope = body_scope (param_count f.params) in
       subst (λ n. AllByRecursion (IsReadableStmt (plain names) (body_scope n) (whole_scope p)) p.body) (sym many)
-      (has p names (plain names) keeps leaves scope (whole_scope p) refl (outside scope refl refl) (neither _ _ (neither _ _ (neither _ _ none).1).0).0)
+      (has p names (plain names) keeps leaves scope (whole_scope p) refl (outside scope refl refl) body_none.0)
 
   program_readable : IsReadableBody f.body → IsReadableProgram p
   program_readable has =
@@ -244,14 +252,13 @@ module _ (f : File) (none : file_broken f ≡ None) where
       record {
         inputs = inputs;
         arrays = ap (λ xs. inputs ++ xs) (sym only_locals);
-        word = free_word f.name (neither _ _ (neither _ _ none).0).0;
         declarations = subst (λ es. DeclarationsFit es 0 es) back declarations_readable;
         slots = subst (λ es. SlotsFit p es 0 0 0 p.slots p.params inputs) back slots_readable;
         locals = subst (λ es. LocalsFit p es (length p.slots) (locals p.arrays)) back locals_readable;
         body = subst (λ es. AllByRecursion (IsReadableStmt es (body_scope (length p.params)) (whole_scope p)) p.body) back (body_readable has);
-        few = few_assignments names (body_scope (param_count f.params)) f.body (neither _ _ (neither _ _ (neither _ _ none).1).0).1;
+        few = few_assignments names (body_scope (param_count f.params)) f.body limits_none.0;
+        uncrowded = few_quotients names (body_scope (param_count f.params)) f.body limits_none.1;
         context = subst (λ es. PartsFitScope es (fixed_scope (length p.params)) (whole_scope p) p.context.parts) back context_readable;
-        commutative = each_map (λ (word : Word). word.name) (λ name. is_reserved name ≡ false) (commutative_words f.pragmas) (commutative_free names fixed (input_count f.params) f.pragmas pragmas_none);
         outputs = subst (λ es. OutputsFit es p.arrays (length inputs) p.outputs) back
             (subst (λ n. OutputsFit (plain names) p.arrays n p.outputs) (sym as_many_inputs) (outputs_fit p names (plain names) keeps (input_count f.params) fixed f.pragmas pragmas_none));
       }

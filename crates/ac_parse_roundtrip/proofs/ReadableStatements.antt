@@ -10,11 +10,11 @@ use Rattle.ac_syntax.specs.Text as text
 use Rattle.ac_syntax.specs.Turns.{bounds, bounds_by, innermost}
 use Rattle.ac_syntax.specs.declared.tree.Place.{Place}
 use Rattle.ac_syntax.specs.declared.tree.Program.{Program}
+use Rattle.ac_syntax.specs.declared.tree.Rel.{Rel}
 use Rattle.ac_lex.specs.Lexemes.{Lexeme}
 use Rattle.ac_parse_grammar.specs.declared.tree.Word.{Word}
 use Rattle.ac_parse_grammar.specs.declared.tree.Operator.{Operator}
 use Rattle.ac_parse_grammar.specs.declared.tree.Part.{Part}
-use Rattle.ac_parse_grammar.specs.declared.tree.Relation.{Relation}
 use Rattle.ac_parse_grammar.specs.declared.tree.Step.{Step}
 use Rattle.ac_parse_grammar.specs.declared.tree.Expr.{Expr}
 use Rattle.ac_parse_grammar.specs.declared.tree.Statement.{Statement}
@@ -31,12 +31,12 @@ use Rattle.ac_parse_exprs.specs.declared.scope.Meaning.TheVariants as means
 use Rattle.ac_parse_exprs.specs.declared.scope.Scope.{Scope}
 use Rattle.ac_parse_exprs.specs.FaultOrder.{earlier, broken_where, rule_broken}
 use Rattle.ac_parse_exprs.specs.AffineForms.{constant_form}
-use Rattle.ac_parse_exprs.specs.Meanings.{meaning, declared_meaning, word_broken}
+use Rattle.ac_parse_exprs.specs.Meanings.{meaning, declared_meaning}
 use Rattle.ac_parse_exprs.specs.IndexExpressions.{is_long}
-use Rattle.ac_parse_exprs.specs.Comparisons.{whole_broken, form_or_zero, placed_form, index_expr, index, index_broken, rel_of, compared, comparison, condition, condition_broken}
+use Rattle.ac_parse_exprs.specs.Comparisons.{whole_broken, form_or_zero, placed_form, index_expr, index, index_broken, part_rel, compared, comparison, condition, condition_broken}
 use Rattle.ac_parse_rules.specs.Declarations.{is_declared}
 use Rattle.ac_parse_exprs.specs.Values.{array_number, read_of, access_broken, value_broken}
-use Rattle.ac_parse_rules.specs.Statements.{inside, in_start, is_running, untyped_rule, loop_rule, step_broken, step_number, form_bounds, may_bound, is_endless, head_broken, target_rule, assigned_value, statement_broken, statements_broken, stmt, stmts}
+use Rattle.ac_parse_rules.specs.Statements.{inside, in_test, in_start, is_running, untyped_rule, loop_rule, step_broken, step_number, form_bounds, may_bound, is_endless, head_broken, target_rule, assigned_value, statement_broken, statements_broken, stmt, stmts}
 use Rattle.ac_parse_exprs.proofs.Absent.{NoneBroken, neither, none_of, not_where}
 use Rattle.ac_parse_exprs.proofs.Accesses.{rule_holds}
 use Rattle.ac_parse_exprs.proofs.Collecting.{IsKnown}
@@ -47,11 +47,10 @@ use Rattle.ac_parse_roundtrip.specs.TokenSpelling.{AreSpelled}
 use Rattle.ac_parse_roundtrip.proofs.NameTerminals.{IsNamed}
 use Rattle.ac_parse_roundtrip.proofs.Expressions.{HasPart}
 use Rattle.ac_parse_roundtrip.proofs.StatementInduction.{statements_have}
-use Rattle.ac_parse_roundtrip.proofs.Columns.{free_word}
 use Rattle.ac_parse_roundtrip.proofs.ReadableForms.{index_fits, condition_fits}
 use Rattle.ac_parse_roundtrip.proofs.ReadableLists.{access_readable, loop_readable, branch_readable, assign_readable}
-use Rattle.ac_parse_roundtrip.proofs.Scopes.{Keeps, Leaves, Follows, follows_inside, carries}
-use Rattle.ac_parse_roundtrip.proofs.ReadableValues.{no_rule, not_misused, array_stands, subscripts_fit, word_free, assigned_has, IsReadableExpr, expr_readable}
+use Rattle.ac_parse_roundtrip.proofs.Scopes.{Keeps, Leaves, Follows, follows_inside, follows_test, carries}
+use Rattle.ac_parse_roundtrip.proofs.ReadableValues.{no_rule, not_misused, array_stands, subscripts_fit, assigned_has, IsReadableExpr, expr_readable}
 
 -- ---- steps
 
@@ -80,27 +79,27 @@ moving step h = by step.down step.by.number h
 
 -- ---- a comparison that ends a loop
 
-form_ends : (scope : Scope) (place : Place) (step : ℤ) (relation : Relation) (c : Collected) → IsKnown c → form_bounds step relation c ≡ true
-    → bounds step (record { form = placed_form place (form_or_zero scope c); rel = rel_of relation }) ≡ true
-form_ends scope place step relation (Known f) w h =
-    subst (λ b. bounds_by (rel_of relation) (innermost (placed_form place (cond b f (constant_form scope.params (length scope.iterators) (pos 0)))).iters *ℤ step) ≡ true) (sym w) h
-form_ends scope place step relation (Large constant) w h = absurd w
-form_ends scope place step relation Unknown w h = absurd w
+form_ends : (scope : Scope) (place : Place) (step : ℤ) (rel : Rel) (c : Collected) → IsKnown c → form_bounds step rel c ≡ true
+    → bounds step (record { form = placed_form place (form_or_zero scope c); rel = rel }) ≡ true
+form_ends scope place step rel (Known f) w h =
+    subst (λ b. bounds_by rel (innermost (placed_form place (cond b f (constant_form scope.params (length scope.iterators) (pos 0)))).iters *ℤ step) ≡ true) (sym w) h
+form_ends scope place step rel (Large constant) w h = absurd w
+form_ends scope place step rel Unknown w h = absurd w
 
-judged_ends : (scope : Scope) (step : ℤ) (relation : Relation) (j : Judged) → Judges scope.params (length scope.iterators) j → whole_broken j ≡ None → may_bound step relation j ≡ true
-    → bounds step (record { form = index_expr scope j; rel = rel_of relation }) ≡ true
-judged_ends scope step relation j g none h =
+judged_ends : (scope : Scope) (step : ℤ) (rel : Rel) (j : Judged) → Judges scope.params (length scope.iterators) j → whole_broken j ≡ None → may_bound step rel j ≡ true
+    → bounds step (record { form = index_expr scope j; rel = rel }) ≡ true
+judged_ends scope step rel j g none h =
     let l : j.large ≡ false = not_where j.large (Limit which.Coefficient) j.place (neither j.broken (broken_where j.large (Limit which.Coefficient) j.place) none).1 in
-    form_ends scope j.place step relation j.form (whole_known scope.params (length scope.iterators) j g none) (by j.large l h)
+    form_ends scope j.place step rel j.form (whole_known scope.params (length scope.iterators) j g none) (by j.large l h)
   where
-    by : (b : Bool) → b ≡ false → (b || form_bounds step relation j.form) ≡ true → form_bounds step relation j.form ≡ true
+    by : (b : Bool) → b ≡ false → (b || form_bounds step rel j.form) ≡ true → form_bounds step rel j.form ≡ true
     by true e h = absurd cc
     by false e h = h
 
 some_ends : (names : List Entry) (scope : Scope) (step : ℤ) (parts : List Part) → NoneBroken (map (λ part. whole_broken (compared names scope part)) parts)
-    → list_any (λ (part : Part). may_bound step part.relation (compared names scope part)) parts ≡ true → list_any (bounds step) (condition names scope parts) ≡ true
+    → list_any (λ (part : Part). may_bound step (part_rel part) (compared names scope part)) parts ≡ true → list_any (bounds step) (condition names scope parts) ≡ true
 some_ends names scope step [] none h = absurd cc
-some_ends names scope step (part ∷ parts) none h = by (may_bound step part.relation (compared names scope part)) refl (some_ends names scope step parts none.1) h
+some_ends names scope step (part ∷ parts) none h = by (may_bound step (part_rel part) (compared names scope part)) refl (some_ends names scope step parts none.1) h
   where
     front : (b c : Bool) → b ≡ true → (b || c) ≡ true
     front true c e = refl
@@ -110,10 +109,10 @@ some_ends names scope step (part ∷ parts) none h = by (may_bound step part.rel
     behind true c e = refl
     behind false c e = e
 
-    by : (b : Bool) → may_bound step part.relation (compared names scope part) ≡ b
-        → (list_any (λ (part : Part). may_bound step part.relation (compared names scope part)) parts ≡ true → list_any (bounds step) (condition names scope parts) ≡ true) → (b || list_any (λ (part : Part). may_bound step part.relation (compared names scope part)) parts) ≡ true
+    by : (b : Bool) → may_bound step (part_rel part) (compared names scope part) ≡ b
+        → (list_any (λ (part : Part). may_bound step (part_rel part) (compared names scope part)) parts ≡ true → list_any (bounds step) (condition names scope parts) ≡ true) → (b || list_any (λ (part : Part). may_bound step (part_rel part) (compared names scope part)) parts) ≡ true
         → (bounds step (comparison names scope part) || list_any (bounds step) (condition names scope parts)) ≡ true
-    by true e again h = front _ _ (judged_ends scope step part.relation (compared names scope part) (compared_judges names scope part) none.0 e)
+    by true e again h = front _ _ (judged_ends scope step (part_rel part) (compared names scope part) (compared_judges names scope part) none.0 e)
     by false e again h = behind _ _ (again h)
 
 not_false : (b : Bool) → not b ≡ false → b ≡ true
@@ -179,38 +178,34 @@ module _ (p : Program) (names text_names : List Entry) (keeps : Keeps p names te
   -- the head of a loop that breaks no rule
   record IsHead (scope : Scope) (typed : Bool) (name : Word) (start : Expr) (cond : List Part) (step : Step) : Type 0 where
     few : nat_lt 5 (length scope.iterators) ≡ false
-    ends : is_endless names (inside scope name.name) step cond ≡ false
-    word : word_broken name ≡ None
+    ends : is_endless names (in_test scope name.name) step cond ≡ false
     rule : loop_rule names scope typed name.name ≡ None
     begins : index_broken names (in_start scope typed name.name) start ≡ None
-    runs : condition_broken names (inside scope name.name) cond ≡ None
+    runs : condition_broken names (in_test scope name.name) cond ≡ None
     steps : is_long step.by ≡ false
 
   head_holds : (scope : Scope) (typed : Bool) (name : Word) (start : Expr) (cond : List Part) (step : Step) (place : Place) → head_broken names scope typed name start cond step place ≡ None
       → IsHead scope typed name start cond step
   head_holds scope typed name start cond step place h =
       let a = neither _ _ h in
-      let b = neither (broken_where (nat_lt 5 (length scope.iterators)) (Limit which.Depth) place) (broken_where (is_endless names (inside scope name.name) step cond) Endless place) a.0 in
+      let b = neither (broken_where (nat_lt 5 (length scope.iterators)) (Limit which.Depth) place) (broken_where (is_endless names (in_test scope name.name) step cond) Endless place) a.0 in
       let c = neither _ _ a.1 in
-      let d = neither (earlier (word_broken name) (rule_broken (loop_rule names scope typed name.name) name.place)) (index_broken names (in_start scope typed name.name) start) c.0 in
-      let e = neither (word_broken name) (rule_broken (loop_rule names scope typed name.name) name.place) d.0 in
-      let g = neither (condition_broken names (inside scope name.name) cond) (step_broken names (inside scope name.name) name.name step) c.1 in record {
+      let d = neither (rule_broken (loop_rule names scope typed name.name) name.place) (index_broken names (in_start scope typed name.name) start) c.0 in
+      let g = neither (condition_broken names (in_test scope name.name) cond) (step_broken names (in_test scope name.name) name.name step) c.1 in record {
         few = not_where (nat_lt 5 (length scope.iterators)) (Limit which.Depth) place b.0;
-        ends = not_where (is_endless names (inside scope name.name) step cond) Endless place b.1;
-        word = e.0;
-        rule = no_rule (loop_rule names scope typed name.name) name.place e.1;
+        ends = not_where (is_endless names (in_test scope name.name) step cond) Endless place b.1;
+        rule = no_rule (loop_rule names scope typed name.name) name.place d.0;
         begins = d.1;
         runs = g.0;
         steps = not_where (is_long step.by) (Limit which.Literal) step.by.place (neither _ _ g.1).1;
       }
 
   head_fits : (scope : Scope) (typed : Bool) (name : Word) (start : Expr) (cond : List Part) (step : Step) → IsHead scope typed name start cond step
-      → FitsLoop text_names scope name.name (record { parts = condition names (inside scope name.name) cond }) (step_number step)
+      → FitsLoop text_names scope name.name (record { parts = condition names (in_test scope name.name) cond }) (step_number step)
   head_fits scope typed name start cond step h =
-      let own = inside scope name.name in
-      let e = neither_is (step.by.number == 0) (not (list_any (λ (part : Part). may_bound (step_number step) part.relation (compared names own part)) cond)) h.ends in record {
+      let own = in_test scope name.name in
+      let e = neither_is (step.by.number == 0) (not (list_any (λ (part : Part). may_bound (step_number step) (part_rel part) (compared names own part)) cond)) h.ends in record {
         few = few_loops (length scope.iterators) h.few;
-        word = free_word name h.word;
         new = new_name scope typed name.name h.rule;
         steps = moving step e.0;
         small = small_step step h.steps;
@@ -223,14 +218,15 @@ module _ (p : Program) (names text_names : List Entry) (keeps : Keeps p names te
       let n = neither (head_broken names scope typed name start cond step place) (statements_broken names (inside scope name.name) body) (sym (broken-loop names scope typed name start cond step body place) ∙ none) in
       let head = head_holds scope typed name start cond step place n.0 in
       let own = inside scope name.name in
+      let test = in_test scope name.name in
       let inner = follows_inside p scope written name.name f in
       subst (IsReadableStmt text_names scope written) (sym (stmt-loop names scope typed name start cond step body place))
-      (loop_readable text_names scope written name.name (index names (in_start scope typed name.name) start) (record { parts = condition names own cond }) (step_number step) (stmts names own body) place
+      (loop_readable text_names scope written name.name (index names (in_start scope typed name.name) start) (record { parts = condition names test cond }) (step_number step) (stmts names own body) place
       (record {
         fits = head_fits scope typed name start cond step head;
         begins = index_fits names (in_start scope typed name.name) text_names (in_start scope true name.name) written
-            (carries p names text_names keeps (in_start scope typed name.name) (in_start scope true name.name) written (follows_start scope written typed name.name f) refl refl refl) start head.begins;
-        runs = condition_fits names own text_names own (text.inside written name.name) (carries p names text_names keeps own own (text.inside written name.name) inner refl refl refl) cond head.runs;
+            (carries p names text_names keeps (in_start scope typed name.name) (in_start scope true name.name) written (follows_start scope written typed name.name f) refl refl refl refl refl) start head.begins;
+        runs = condition_fits names test text_names test (text.inside written name.name) (carries p names text_names keeps test test (text.inside written name.name) (follows_test p scope written name.name f) refl refl refl refl refl) cond head.runs;
         each = body_built own (text.inside written name.name) refl inner body h n.1;
       }))
 
@@ -242,7 +238,7 @@ module _ (p : Program) (names text_names : List Entry) (keeps : Keeps p names te
       subst (IsReadableStmt text_names scope written) (sym (stmt-branch names scope cond taken other place))
       (branch_readable text_names scope written (record { parts = condition names scope cond }) (stmts names scope taken) (stmts names scope other) place
       (record {
-        decides = condition_fits names scope text_names scope written (carries p names text_names keeps scope scope written f refl refl s) cond n.0;
+        decides = condition_fits names scope text_names scope written (carries p names text_names keeps scope scope written f refl refl refl refl s) cond n.0;
         each = body_built scope written s f taken h m.0;
         each_other = body_built scope written s f other k m.1;
       }))
@@ -253,10 +249,10 @@ module _ (p : Program) (names text_names : List Entry) (keeps : Keeps p names te
       let n = neither (earlier (access_broken names scope (target_rule (meaning names scope target.name) (length subs)) target subs) (value_broken names scope e))
       (broken_where (nat_lt 64 (size (assigned_value names scope target subs operator e))) (Limit which.Nodes) target.place) all in
       let m = neither (access_broken names scope (target_rule (meaning names scope target.name) (length subs)) target subs) (value_broken names scope e) n.0 in
-      let c = carries p names text_names keeps scope scope written f refl refl s in
+      let c = carries p names text_names keeps scope scope written f refl refl refl refl s in
       let rule = target_rule (meaning names scope target.name) (length subs) in
       let t = target_array (meaning names scope target.name) (length subs) (rule_holds names scope rule target subs m.0) in
-      let stands = array_stands names scope text_names scope written c t.0 t.1 target subs t.2 (word_free names scope text_names scope written c rule target subs m.0) t.3 in
+      let stands = array_stands names scope text_names scope written c t.0 t.1 target subs t.2 t.3 in
       let number : t.0 ≡ array_number (meaning names scope target.name) = sym (ap array_number t.2) in
       let a = subst (λ k. ArrayStands text_names scope written k (length (map (index names scope) subs))) number stands in
       let b = subscripts_fit names scope text_names scope written c rule target subs m.0 in

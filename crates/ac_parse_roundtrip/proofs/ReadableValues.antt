@@ -11,33 +11,36 @@ use Rattle.ac_syntax.specs.declared.tree.Value.{Value}
 use Rattle.ac_syntax.specs.declared.tree.Value.TheVariants as v
 use Rattle.ac_lex.specs.Lexemes.{Lexeme}
 use Rattle.ac_parse_grammar.specs.declared.tree.Word.{Word}
+use Rattle.ac_parse_grammar.specs.declared.tree.Numeral.{Numeral}
 use Rattle.ac_parse_grammar.specs.declared.tree.Operator.{Operator}
 use Rattle.ac_parse_grammar.specs.declared.tree.Operator.TheVariants.{Add, Subtract, Multiply, Divide, Remainder}
 use Rattle.ac_parse_grammar.specs.declared.tree.Expr.{Expr}
 use Rattle.ac_parse_grammar.specs.Grammar.{IsExpr}
 use Rattle.ac_parse_exprs.specs.declared.fault.Rule.{Rule}
+use Rattle.ac_parse_exprs.specs.declared.index.Judged.{Judged}
 use Rattle.ac_parse_exprs.specs.declared.scope.Entry.{Entry}
 use Rattle.ac_parse_exprs.specs.declared.scope.Meaning.{Meaning}
 use Rattle.ac_parse_exprs.specs.declared.scope.Meaning.TheVariants as means
 use Rattle.ac_parse_exprs.specs.declared.scope.Scope.{Scope}
-use Rattle.ac_parse_exprs.specs.FaultOrder.{earlier, rule_broken}
-use Rattle.ac_parse_exprs.specs.Meanings.{meaning, is_array, read_rule, call_rule, misused_unless, word_broken}
-use Rattle.ac_parse_exprs.specs.IndexExpressions.{judged_name, judged}
+use Rattle.ac_parse_exprs.specs.FaultOrder.{rule_broken}
+use Rattle.ac_parse_exprs.specs.Meanings.{meaning, is_array, read_rule, call_rule, misused_unless}
+use Rattle.ac_parse_exprs.specs.IndexExpressions.{judged_number, judged_name, judged_quotient, judged}
 use Rattle.ac_parse_exprs.specs.Comparisons.{first_of, index_expr, index, index_broken}
 use Rattle.ac_parse_exprs.specs.Values.{Reading, number, other, reading, reading_broken, value_place, value_of, symbol, operator_name, access_broken, read_of, access_reading, call_reading, negative_reading, group_reading, applied_values, joined_reading, chained_reading, chain_reading, value, value_broken}
 use Rattle.ac_parse_rules.specs.Statements.{assigned_value}
 use Rattle.ac_parse_exprs.proofs.Absent.{NoneBroken, neither, none_of, both_true}
 use Rattle.ac_parse_exprs.proofs.Accesses.{rule_holds}
-use Rattle.ac_parse_exprs.proofs.Judges.{Judges, number_judges, name_judges, quotient_judges, negative_judges, group_judges, joined_judges}
+use Rattle.ac_parse_exprs.proofs.Judges.{Judges, judges, number_judges, name_judges, quotient_judges, negative_judges, group_judges, joined_judges}
+use Rattle.ac_parse_exprs.proofs.QuotientForms.{hold_negative, hold_form, hold_number, hold_name, hold_quotient}
 use Rattle.ac_parse_exprs.proofs.Readings.{reading-number, reading-decimal, reading-access, reading-call, reading-quotient, reading-negative, reading-group, reading-chain}
-use Rattle.ac_parse_roundtrip.specs.ColumnNames.{Stands}
-use Rattle.ac_parse_roundtrip.specs.ReadableStatements.{FitScope, ArrayStands, is_number, IsReadable}
+use Rattle.ac_parse_roundtrip.specs.ColumnNames.{Stands, FitScope}
+use Rattle.ac_parse_roundtrip.specs.ReadableStatements.{ArrayStands, is_number, IsReadable}
 use Rattle.ac_parse_roundtrip.specs.TokenSpelling.{AreSpelled}
 use Rattle.ac_parse_roundtrip.proofs.NameTerminals.{IsNamed, IsConstant, word_first, decimal_first}
 use Rattle.ac_parse_roundtrip.proofs.Expressions.{expr_has}
 use Rattle.ac_parse_roundtrip.specs.NameCorrespondence.{Carries}
-use Rattle.ac_parse_roundtrip.proofs.Columns.{Names, number_names, name_names, negative_names, joined_names, free_word}
-use Rattle.ac_parse_roundtrip.proofs.ReadableForms.{judged_fits, indices_fit}
+use Rattle.ac_parse_roundtrip.proofs.Columns.{Names, number_names, name_names, negative_names, joined_names, quotient_names, judged_names}
+use Rattle.ac_parse_roundtrip.proofs.ReadableForms.{IsDivided, other_divided, divided_made, AreDivided, judged_fits, indices_fit}
 use Rattle.ac_parse_roundtrip.proofs.ReadableLists.{other_placed, call_readable, call_other, number_readable, access_readable, placed_readable}
 
 -- ---- symbols
@@ -83,31 +86,45 @@ called_nothing means.Nothing h = refl
 
 module _ (names : List Entry) (scope : Scope) (text_names : List Entry) (text_scope : Scope) (written : text.Scope) (carries : Carries names scope text_names text_scope written) where
   -- the array that a name with so many subscripts stands for
-  pub array_stands : (k dimensions : ℕ) (word : Word) (subs : List Expr) → meaning names scope word.name ≡ means.Array k dimensions → word_broken word ≡ None → (length subs == dimensions) ≡ true
+  pub array_stands : (k dimensions : ℕ) (word : Word) (subs : List Expr) → meaning names scope word.name ≡ means.Array k dimensions → (length subs == dimensions) ≡ true
       → ArrayStands text_names text_scope written k (length (map (index names scope) subs))
-  array_stands k dimensions word subs e w h =
-      let r = carries.array k dimensions word.name (record { means = e; word = free_word word w }) in
+  array_stands k dimensions word subs e h =
+      let r = carries.array k dimensions word.name (record { means = e }) in
       let l : dimensions ≡ length (map (index names scope) subs) = let m = length-map subs (index names scope) in grind (arith, nat_tests) in
       subst (λ n. Stands text_names text_scope n (means.Array k (length (map (index names scope) subs)))) (sym r.0) (subst (λ d. Stands text_names text_scope word.name (means.Array k d)) l r.1)
 
   pub subscripts_fit : (rule : Option Rule) (word : Word) (subs : List Expr) → access_broken names scope rule word subs ≡ None → FitScope text_names text_scope written (map (index names scope) subs)
   subscripts_fit rule word subs h = indices_fit names scope text_names text_scope written carries subs (none_of (map (index_broken names scope) subs) (neither _ _ h).1)
 
-  pub word_free : (rule : Option Rule) (word : Word) (subs : List Expr) → access_broken names scope rule word subs ≡ None → word_broken word ≡ None
-  word_free rule word subs h = (neither _ _ (neither _ _ h).0).0
-
   -- ---- readings
+
+  -- a number by what is judged of it
+  pub record IsNumber (j : Judged) : Type 0 where
+    pub judged : Judges scope.params (length scope.iterators) j
+    pub divided : AreDivided scope j.form
+    pub named : Names names scope j
+
+  pub number_has : (n : Numeral) → IsNumber (judged_number scope n)
+  number_has n = record { judged = number_judges scope n; divided = hold_number (IsDivided scope) (other_divided scope) names scope (divided_made scope) n; named = number_names names scope n }
+
+  pub quotient_has : (up : Bool) (n : Numeral) (place : Place) (argument : Expr) → IsNumber (judged_quotient scope up n place (judged names scope argument))
+  quotient_has up n place argument =
+      let j = judges names scope argument in record {
+        judged = quotient_judges scope up n place (judged names scope argument) j;
+        divided = hold_quotient (IsDivided scope) (other_divided scope) names scope (divided_made scope) up n place (judged names scope argument) j.0;
+        named = quotient_names names scope up n place (judged names scope argument) (judged_names names scope argument);
+      }
 
   abbrev Can : Value → Type 0
   Can x = IsReadable text_names text_scope written x
 
-  -- a number by what is judged of it, and a value that is no number
+  -- a number, and a value that is none
   abbrev ReadingHas : Reading → Type 0
-  ReadingHas (number j) = Judges scope.params (length scope.iterators) j × Names names scope j
+  ReadingHas (number j) = IsNumber j
   ReadingHas (other b x) = (b ≡ None → Can x) × (is_number x ≡ false)
 
   value_has : (r : Reading) → ReadingHas r → reading_broken r ≡ None → Can (value_of scope r)
-  value_has (number j) h e = number_readable text_names text_scope written (index_expr scope j) (judged_fits names scope text_names text_scope written carries j h.0 h.1 e)
+  value_has (number j) h e = number_readable text_names text_scope written (index_expr scope j) (judged_fits names scope text_names text_scope written carries j h.judged h.divided h.named e)
   value_has (other b x) h e = h.0 e
 
   operated : (op : Operator) (x y : Value) → (not (is_number x) || (not (is_number y) || false)) ≡ true → Can x → Can y → Can (applied_values op x y)
@@ -131,10 +148,11 @@ module _ (names : List Entry) (scope : Scope) (text_names : List Entry) (text_sc
   -- a name that is read is an array with so many subscripts, or a number
   access_case : (m : Meaning) (word : Word) (subs : List Expr) (alone : Bool) → meaning names scope word.name ≡ m → ((length subs == 0) && not (is_array m)) ≡ alone
       → ReadingHas (cond alone (number (judged_name scope m word)) (other (access_broken names scope (read_rule m (length subs)) word subs) (read_of names scope m word subs)))
-  access_case m word subs true e a = (
-    name_judges scope m word (not_array (is_array m) (both_true (length subs == 0) (not (is_array m)) a).1),
-    subst (λ x. Names names scope (judged_name scope x word)) e (name_names names scope word),
-  )
+  access_case m word subs true e a = record {
+    judged = name_judges scope m word (not_array (is_array m) (both_true (length subs == 0) (not (is_array m)) a).1);
+    divided = hold_name (IsDivided scope) (other_divided scope) names scope (divided_made scope) m;
+    named = subst (λ x. Names names scope (judged_name scope x word)) e (name_names names scope word);
+  }
     where
       not_array : (b : Bool) → not b ≡ true → b ≡ false
       not_array true h = absurd cc
@@ -159,7 +177,7 @@ module _ (names : List Entry) (scope : Scope) (text_names : List Entry) (text_sc
     (λ h.
         let rule = read_rule (means.Array k dimensions) (length subs) in
         access_readable text_names text_scope written k (map (index names scope) subs) word.place
-        (array_stands k dimensions word subs e (word_free rule word subs h) (not_misused (length subs == dimensions) (rule_holds names scope rule word subs h))) (subscripts_fit rule word subs h)),
+        (array_stands k dimensions word subs e (not_misused (length subs == dimensions) (rule_holds names scope rule word subs h))) (subscripts_fit rule word subs h)),
     refl,
   )
   access_case means.LoopName word subs false e a = ((λ h. let r = rule_holds names scope (read_rule means.LoopName (length subs)) word subs h in absurd cc), refl)
@@ -176,15 +194,13 @@ module _ (names : List Entry) (scope : Scope) (text_names : List Entry) (text_sc
   call_has : (word : Word) (rs : List Reading) → IsNamed word.name → AllByRecursion ReadingHas rs → ReadingHas (call_reading scope (meaning names scope word.name) word rs)
   call_has word rs is h = (
     (λ none.
-        let n = neither (earlier (word_broken word) (rule_broken (call_rule (meaning names scope word.name)) word.place)) (first_of (map reading_broken rs)) none in
-        let m = neither (word_broken word) (rule_broken (call_rule (meaning names scope word.name)) word.place) n.0 in
+        let n = neither (rule_broken (call_rule (meaning names scope word.name)) word.place) (first_of (map reading_broken rs)) none in
         let first = word_first word.name is.word in
         call_readable text_names text_scope written (symbol word.name (length rs)) (map (value_of scope) rs) word.place (record {
           arity = ap (λ k. min k 255) (sym (length-map rs (value_of scope)));
           operator = λ a. not_both (is_operator word.name) a first.0;
           function = λ a d. carries.nothing word.name (record {
-            means = called_nothing (meaning names scope word.name) (no_rule (call_rule (meaning names scope word.name)) word.place m.1);
-            word = free_word word m.0;
+            means = called_nothing (meaning names scope word.name) (no_rule (call_rule (meaning names scope word.name)) word.place n.0);
           });
           each = each_readable rs h (none_of (map reading_broken rs) n.1);
         })),
@@ -204,7 +220,11 @@ module _ (names : List Entry) (scope : Scope) (text_names : List Entry) (text_sc
       )
 
   negative_has : (place : Place) (r : Reading) → ReadingHas r → ReadingHas (negative_reading place r)
-  negative_has place (number j) h = (negative_judges scope.params (length scope.iterators) place j h.0, negative_names names scope place j h.1)
+  negative_has place (number j) h = record {
+    judged = negative_judges scope.params (length scope.iterators) place j h.judged;
+    divided = hold_negative (IsDivided scope) (other_divided scope) j.form h.divided;
+    named = negative_names names scope place j h.named;
+  }
   negative_has place (other b x) h = (
     (λ none. call_readable text_names text_scope written (symbol (codes "-") 1) (x ∷ []) place (record {
       arity = refl;
@@ -216,11 +236,15 @@ module _ (names : List Entry) (scope : Scope) (text_names : List Entry) (text_sc
   )
 
   group_has : (place : Place) (r : Reading) → ReadingHas r → ReadingHas (group_reading place r)
-  group_has place (number j) h = (group_judges scope.params (length scope.iterators) place j h.0, h.1)
+  group_has place (number j) h = record { judged = group_judges scope.params (length scope.iterators) place j h.judged; divided = h.divided; named = h.named }
   group_has place (other b x) h = ((λ none. placed_readable text_names text_scope written place x (h.0 none)), other_placed place x ∙ h.1)
 
   joined_has : (op : Operator) (r s : Reading) → ReadingHas r → ReadingHas s → ReadingHas (joined_reading scope op r s)
-  joined_has op (number i) (number j) h k = (joined_judges scope.params (length scope.iterators) op i j h.0 k.0, joined_names names scope op i j h.1 k.1)
+  joined_has op (number i) (number j) h k = record {
+    judged = joined_judges scope.params (length scope.iterators) op i j h.judged k.judged;
+    divided = hold_form (IsDivided scope) (other_divided scope) op i.form j.form h.divided k.divided;
+    named = joined_names names scope op i j h.named k.named;
+  }
   joined_has op (number i) (other b y) h k = (
     (λ none.
         let n = neither (reading_broken (number i)) b none in
@@ -240,7 +264,7 @@ module _ (names : List Entry) (scope : Scope) (text_names : List Entry) (text_sc
   chained_has r (s ∷ rs) (op ∷ ops) h k = chained_has (joined_reading scope op r s) rs ops (joined_has op r s h k.0) k.1
 
   chain_has : (rs : List Reading) (ops : List Operator) → AllByRecursion ReadingHas rs → ReadingHas (chain_reading scope rs ops)
-  chain_has [] ops h = (number_judges scope (record { number = 0; place = record { at = 0 } }), number_names names scope (record { number = 0; place = record { at = 0 } }))
+  chain_has [] ops h = number_has (record { number = 0; place = record { at = 0 } })
   chain_has (r ∷ rs) ops h = chained_has r rs ops h.0 h.1
 
   -- what an assignment assigns
@@ -265,7 +289,7 @@ readings_have names scope text_names text_scope written carries (e ∷ es) h =
 
 pub expr_readable : (room : ℕ) (ts : List Lexeme) (e : Expr) → IsExpr room ts e → AreSpelled ts → IsReadableExpr e
 expr_readable room ts e is h = expr_has IsReadableExpr
-    (λ n names scope text_names text_scope written carries. subst (ReadingHas names scope text_names text_scope written carries) (sym (reading-number names scope n)) (number_judges scope n, number_names names scope n))
+    (λ n names scope text_names text_scope written carries. subst (ReadingHas names scope text_names text_scope written carries) (sym (reading-number names scope n)) (number_has names scope text_names text_scope written carries n))
     (λ word constant names scope text_names text_scope written carries. subst (ReadingHas names scope text_names text_scope written carries) (sym (reading-decimal names scope word))
     (decimal_has names scope text_names text_scope written carries word constant))
     (λ name subs is names scope text_names text_scope written carries. subst (ReadingHas names scope text_names text_scope written carries) (sym (reading-access names scope name subs))
@@ -273,7 +297,7 @@ expr_readable room ts e is h = expr_has IsReadableExpr
     (λ name args is h names scope text_names text_scope written carries. subst (ReadingHas names scope text_names text_scope written carries) (sym (reading-call names scope name args))
     (call_has names scope text_names text_scope written carries name (map (reading names scope) args) is (readings_have names scope text_names text_scope written carries args h)))
     (λ up argument divisor place h names scope text_names text_scope written carries. subst (ReadingHas names scope text_names text_scope written carries) (sym (reading-quotient names scope up argument divisor place))
-    (quotient_judges scope.params (length scope.iterators) place (judged names scope argument), (λ g. tt)))
+    (quotient_has names scope text_names text_scope written carries up divisor place argument))
     (λ operand place h names scope text_names text_scope written carries. subst (ReadingHas names scope text_names text_scope written carries) (sym (reading-negative names scope operand place))
     (negative_has names scope text_names text_scope written carries place (reading names scope operand) (h names scope text_names text_scope written carries)))
     (λ inner place h names scope text_names text_scope written carries. subst (ReadingHas names scope text_names text_scope written carries) (sym (reading-group names scope inner place))

@@ -15,7 +15,7 @@ use Rattle.ac_parse_exprs.specs.declared.scope.Scope.{Scope}
 use Rattle.ac_parse_rules.specs.Declarations.{is_declared}
 use Rattle.ac_parse_rules.specs.LawsOfNames.{IsNamed}
 use Rattle.ac_parse_exprs.specs.Meanings.{declared_meaning, iterator_number, is_starting, meaning_behind, meaning}
-use Rattle.ac_parse_rules.specs.Statements.{inside}
+use Rattle.ac_parse_rules.specs.Statements.{inside, in_test}
 use Rattle.ac_parse_roundtrip.specs.NameCorrespondence.{Carries}
 
 -- what a canonical text can declare, or a name that is not declared
@@ -75,10 +75,15 @@ follows_inside p scope written iter f = record {
         at_end written.iters iter k (sym l ∙ sym f.iterators) ∙ ap (λ x. Some x) n
     by name k false same e = in_front written.iters iter name k (f.named name k e)
 
+pub follows_test : (p : Program) (scope : Scope) (written : text.Scope) (iter : List ℕ) → Follows p scope written → Follows p (in_test scope iter) (text.inside written iter)
+follows_test p scope written iter f =
+    let g = follows_inside p scope written iter f in
+    record { params = g.params; arrays = g.arrays; many = g.many; iterators = g.iterators; named = g.named }
+
 -- ---- what is carried
 
 module _ (p : Program) (names text_names : List Entry) (keeps : Keeps p names text_names) (scope : Scope) (text_scope : Scope) (written : text.Scope) (follows : Follows p scope written)
-    (same_params : text_scope.params ≡ scope.params) (same_iterators : text_scope.iterators ≡ scope.iterators) (starting : text_scope.starting ≡ None) where
+    (same_params : text_scope.params ≡ scope.params) (same_fixed : text_scope.fixed ≡ scope.fixed) (same_tested : text_scope.tested ≡ scope.tested) (same_iterators : text_scope.iterators ≡ scope.iterators) (starting : text_scope.starting ≡ None) where
   -- an iterator of the text
   running_means : (name : List ℕ) (k : ℕ) → iterator_number scope.iterators name ≡ Some k → meaning text_names text_scope name ≡ means.Iterator k
   running_means name k e =
@@ -139,11 +144,13 @@ module _ (p : Program) (names text_names : List Entry) (keeps : Keeps p names te
   pub carries : Carries names scope text_names text_scope written
   carries = record {
     params = same_params;
+    fixed = same_fixed;
+    tested = same_tested;
     iterators = ap length same_iterators;
     param_names = ap length follows.params ∙ follows.many;
     iterator_names = follows.iterators;
-    parameter = λ k name s. let r = declared_carried name (means.Parameter k) tt s.means in (parameter_named name k r.0, record { means = r.1; word = s.word });
-    iterator = λ k name s. let r = iterator_carried name k s.means in (r.0, record { means = r.1; word = s.word });
-    array = λ k dimensions name s. let r = declared_carried name (means.Array k dimensions) tt s.means in (array_named name k dimensions r.0, record { means = r.1; word = s.word });
-    nothing = λ name s. record { means = (declared_carried name means.Nothing tt s.means).1; word = s.word };
+    parameter = λ k name s. let r = declared_carried name (means.Parameter k) tt s.means in (parameter_named name k r.0, record { means = r.1 });
+    iterator = λ k name s. let r = iterator_carried name k s.means in (r.0, record { means = r.1 });
+    array = λ k dimensions name s. let r = declared_carried name (means.Array k dimensions) tt s.means in (array_named name k dimensions r.0, record { means = r.1 });
+    nothing = λ name s. record { means = (declared_carried name means.Nothing tt s.means).1 };
   }

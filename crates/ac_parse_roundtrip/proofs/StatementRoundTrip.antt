@@ -32,18 +32,18 @@ use Rattle.ac_parse_exprs.specs.declared.scope.Entry.{Entry}
 use Rattle.ac_parse_exprs.specs.declared.scope.Scope.{Scope}
 use Rattle.ac_parse_exprs.specs.declared.scope.Meaning.TheVariants as means
 use Rattle.ac_parse_exprs.specs.FaultOrder.{earlier, broken_where, rule_broken}
-use Rattle.ac_parse_exprs.specs.Meanings.{meaning, is_reserved, word_broken}
-use Rattle.ac_parse_exprs.specs.Comparisons.{index, index_broken, rel_of, compared, condition, condition_broken}
+use Rattle.ac_parse_exprs.specs.Meanings.{meaning}
+use Rattle.ac_parse_exprs.specs.Comparisons.{index, index_broken, part_rel, compared, condition, condition_broken}
 use Rattle.ac_parse_exprs.specs.Values.{reading, value}
-use Rattle.ac_parse_rules.specs.Statements.{inside, in_start, loop_rule, step_broken, step_number, may_bound, is_endless, head_broken, statement_broken, statements_broken, stmt, stmts}
+use Rattle.ac_parse_rules.specs.Statements.{inside, in_test, in_start, loop_rule, step_broken, step_number, may_bound, is_endless, head_broken, statement_broken, statements_broken, stmt, stmts}
 use Rattle.ac_parse_exprs.proofs.Absent.{NoneBroken}
 use Rattle.ac_parse_rules.proofs.Stepping.{broken-loop, broken-branch, broken-assign, stmt-loop, stmt-branch, stmt-assign}
 use Rattle.ac_parse_roundtrip.specs.CanonicalTrees.{Each, IsWordOf, IsFormTree, IsComparisonTree, IsConditionTree, IsStepTree, IsValueTree, IsStatementTree, AreStatementTrees}
 use Rattle.ac_parse_roundtrip.specs.PlaceErasure.{nowhere, form_without_place, forms_without_places, parts_without_places, condition_without_places, value_without_places, values_without_places, stmt_without_places, stmts_without_places}
-use Rattle.ac_parse_roundtrip.specs.ColumnNames.{FitsScope}
-use Rattle.ac_parse_roundtrip.specs.ReadableStatements.{FitScope, PartsFitScope, ArrayStands, IsReadable, FitsLoop, IsReadableStmt, AreReadableStmts}
-use Rattle.ac_parse_roundtrip.proofs.FormRoundTrip.{forms_are_read_back}
-use Rattle.ac_parse_roundtrip.proofs.ConditionRoundTrip.{none_broken, same_rel, comparison_read, condition_none, condition_same, subscripts_none, subscripts_same, same_length}
+use Rattle.ac_parse_roundtrip.specs.ColumnNames.{FitsScope, FitScope, PartFitsScope, PartsFitScope}
+use Rattle.ac_parse_roundtrip.specs.ReadableStatements.{ArrayStands, IsReadable, FitsLoop, IsReadableStmt, AreReadableStmts}
+use Rattle.ac_parse_roundtrip.proofs.QuotientRoundTrip.{forms_are_read_back}
+use Rattle.ac_parse_roundtrip.proofs.ConditionRoundTrip.{none_broken, comparison_read, condition_none, condition_same, subscripts_none, subscripts_same, same_length}
 use Rattle.ac_parse_roundtrip.proofs.ValueRoundTrip.{value_read, read_broken, read_value, access_none}
 
 pub both_none : (a b : Option Broken) → a ≡ None → b ≡ None → earlier a b ≡ None
@@ -97,11 +97,11 @@ step_is : (iter : List ℕ) (by : ℤ) (step : Step) → IsStepTree iter by step
 step_is iter (pos n) step t = rw (t.down, t.number) refl
 step_is iter (negsuc n) step t = rw (t.down, t.number) refl
 
-step_none : (names : List Entry) (scope : Scope) (iter : List ℕ) (by : ℤ) (step : Step) → is_reserved iter ≡ false → IsSmall by → IsStepTree iter by step → step_broken names scope iter step ≡ None
-step_none names scope iter by step w s t =
+step_none : (names : List Entry) (scope : Scope) (iter : List ℕ) (by : ℤ) (step : Step) → IsSmall by → IsStepTree iter by step → step_broken names scope iter step ≡ None
+step_none names scope iter by step s t =
     let e : step.by.number ≡ unsigned_abs by = t.number in
     let l : nat_lt 2147483648 step.by.number ≡ false = grind (arith, nat_tests) in
-    rw (t.target, t.source, w, same_name iter, l) refl
+    rw (t.target, t.source, same_name iter, l) refl
 
 some_step : (by : ℤ) (n : ℕ) → n ≡ unsigned_abs by → is_other_than_zero by ≡ true → (n == 0) ≡ false
 some_step (pos zero) n e h = absurd cc
@@ -109,14 +109,14 @@ some_step (pos (suc k)) n e h = grind (arith, nat_tests)
 some_step (negsuc k) n e h = grind (arith, nat_tests)
 
 module _ (names : List Entry) (scope : Scope) (written : text.Scope) where
-  may_is : (by : ℤ) (c : Comparison) (part : Part) → FitsScope names scope written c.form → IsComparisonTree written c part → may_bound by part.relation (compared names scope part) ≡ bounds by c
+  may_is : (by : ℤ) (c : Comparison) (part : Part) → PartFitsScope names scope written c → IsComparisonTree written c part → may_bound by (part_rel part) (compared names scope part) ≡ bounds by c
   may_is by c part fit t =
       let r = comparison_read names scope written c part fit t in
-      let e : rel_of part.relation ≡ c.rel = ap rel_of t.relation ∙ same_rel c.rel t.plain in
-      rw (r.large, r.form, e) refl
+      let j = r.3 in
+      rw (j.large, j.form, r.4) refl
 
   any_bounds : (by : ℤ) (cs : List Comparison) (parts : List Part) → PartsFitScope names scope written cs → Each (IsComparisonTree written) cs parts
-      → list_any (λ part. may_bound by part.relation (compared names scope part)) parts ≡ list_any (bounds by) cs
+      → list_any (λ part. may_bound by (part_rel part) (compared names scope part)) parts ≡ list_any (bounds by) cs
   any_bounds by [] [] fit t = refl
   any_bounds by [] (part ∷ parts) fit t = absurd t
   any_bounds by (c ∷ cs) [] fit t = absurd t
@@ -129,9 +129,9 @@ module _ (names : List Entry) (scope : Scope) (written : text.Scope) where
       let a = any_bounds by cs parts fit t ∙ b in
       rw (step_is iter by step s, z, a) refl
 
-head_none : (a b : Bool) (w r i c s : Option Broken) (place : Place) → a ≡ false → b ≡ false → w ≡ None → r ≡ None → i ≡ None → c ≡ None → s ≡ None
-    → earlier (earlier (broken_where a (Limit which.Depth) place) (broken_where b Endless place)) (earlier (earlier (earlier w r) i) (earlier c s)) ≡ None
-head_none a b w r i c s place e f h k l m n = rw (e, f, h, k, l, m, n) refl
+head_none : (a b : Bool) (r i c s : Option Broken) (place : Place) → a ≡ false → b ≡ false → r ≡ None → i ≡ None → c ≡ None → s ≡ None
+    → earlier (earlier (broken_where a (Limit which.Depth) place) (broken_where b Endless place)) (earlier (earlier r i) (earlier c s)) ≡ None
+head_none a b r i c s place e f k l m n = rw (e, f, k, l, m, n) refl
 
 for_same : (i j : List ℕ) (a b : IndexExpr) (c d : Cond) (s t : ℤ) (xs ys : List Stmt) (place : Place) → i ≡ j → a ≡ b → c ≡ d → s ≡ t → xs ≡ ys → For i a c s xs place ≡ For j b d t ys place
 for_same i j a b c d s t xs ys place e f g h k = rw (e, f, g, h, k) refl
@@ -156,37 +156,36 @@ module _ (names : List Entry) where
   body_none scope ss trees r = none_broken (map (λ s. statement_broken names s scope) trees) r.none
 
   loop_head : (scope : Scope) (written : text.Scope) (iter : List ℕ) (start : IndexExpr) (cond : Cond) (by : ℤ) (name : Word) (from : Expr) (parts : List Part) (step : Step) (keyword : Place)
-      → FitsLoop names scope iter cond by → FitsScope names (in_start scope true iter) written start → PartsFitScope names (inside scope iter) (text.inside written iter) cond.parts
+      → FitsLoop names scope iter cond by → FitsScope names (in_start scope true iter) written start → PartsFitScope names (in_test scope iter) (text.inside written iter) cond.parts
       → IsWordOf iter name → IsFormTree written start from → IsConditionTree (text.inside written iter) cond parts → IsStepTree iter by step
       → head_broken names scope true name from parts step keyword ≡ None
   loop_head scope written iter start cond by name from parts step keyword fit fs fc w tf tc ts =
       let few : nat_lt 5 (length scope.iterators) ≡ false = let h = fit.few in grind (arith, nat_tests) in
-      let ends = not_endless names (inside scope iter) (text.inside written iter) iter by step cond.parts parts ts fit.steps fit.ends fc tc in
+      let ends = not_endless names (in_test scope iter) (text.inside written iter) iter by step cond.parts parts ts fit.steps fit.ends fc tc in
       let rule : loop_rule names scope true iter ≡ None = rw fit.new refl in
-      head_none (nat_lt 5 (length scope.iterators)) (is_endless names (inside scope name.name) step parts) (word_broken name) (rule_broken (loop_rule names scope true name.name) name.place)
-      (index_broken names (in_start scope true name.name) from) (condition_broken names (inside scope name.name) parts) (step_broken names (inside scope name.name) name.name step) keyword
-      few (subst (λ n. is_endless names (inside scope n) step parts ≡ false) (sym w) ends)
-      (rw (w, fit.word) refl)
+      head_none (nat_lt 5 (length scope.iterators)) (is_endless names (in_test scope name.name) step parts) (rule_broken (loop_rule names scope true name.name) name.place)
+      (index_broken names (in_start scope true name.name) from) (condition_broken names (in_test scope name.name) parts) (step_broken names (in_test scope name.name) name.name step) keyword
+      few (subst (λ n. is_endless names (in_test scope n) step parts ≡ false) (sym w) ends)
       (subst (λ n. rule_broken (loop_rule names scope true n) name.place ≡ None) (sym w) (ap (λ r. rule_broken r name.place) rule))
       (subst (λ n. index_broken names (in_start scope true n) from ≡ None) (sym w) (forms_are_read_back names (in_start scope true iter) written start fs from tf).0)
-      (subst (λ n. condition_broken names (inside scope n) parts ≡ None) (sym w) (condition_none names (inside scope iter) (text.inside written iter) cond.parts parts fc tc))
-      (subst (λ n. step_broken names (inside scope n) n step ≡ None) (sym w) (step_none names (inside scope iter) iter by step fit.word fit.small ts))
+      (subst (λ n. condition_broken names (in_test scope n) parts ≡ None) (sym w) (condition_none names (in_test scope iter) (text.inside written iter) cond.parts parts fc tc))
+      (subst (λ n. step_broken names (in_test scope n) n step ≡ None) (sym w) (step_none names (in_test scope iter) iter by step fit.small ts))
 
   loop_read : (scope : Scope) (written : text.Scope) (iter : List ℕ) (start : IndexExpr) (cond : Cond) (by : ℤ) (name : Word) (from : Expr) (parts : List Part) (step : Step) (trees : List Statement) (keyword : Place)
-      (body : List Stmt) (s : Stmt) → FitsLoop names scope iter cond by → FitsScope names (in_start scope true iter) written start → PartsFitScope names (inside scope iter) (text.inside written iter) cond.parts
+      (body : List Stmt) (s : Stmt) → FitsLoop names scope iter cond by → FitsScope names (in_start scope true iter) written start → PartsFitScope names (in_test scope iter) (text.inside written iter) cond.parts
       → IsWordOf iter name → IsFormTree written start from → IsConditionTree (text.inside written iter) cond parts → IsStepTree iter by step → AreStmtsRead (inside scope iter) body trees
       → stmt_without_places s ≡ For iter (form_without_place start) (condition_without_places cond) by body nowhere
       → IsStmtRead scope s (statement.Loop true name from parts step trees keyword)
   loop_read scope written iter start cond by name from parts step trees keyword body s fit fs fc w tf tc ts r e =
       let b = subst (λ n. AreStmtsRead (inside scope n) body trees) (sym w) r in
       let f = subst (λ n. form_without_place (index names (in_start scope true n) from) ≡ form_without_place start) (sym w) (forms_are_read_back names (in_start scope true iter) written start fs from tf).1 in
-      let c = subst (λ n. parts_without_places (condition names (inside scope n) parts) ≡ parts_without_places cond.parts) (sym w) (condition_same names (inside scope iter) (text.inside written iter) cond.parts parts fc tc) in
+      let c = subst (λ n. parts_without_places (condition names (in_test scope n) parts) ≡ parts_without_places cond.parts) (sym w) (condition_same names (in_test scope iter) (text.inside written iter) cond.parts parts fc tc) in
       record {
         none = broken-loop names scope true name from parts step trees keyword
             ∙ both_none (head_broken names scope true name from parts step keyword) (statements_broken names (inside scope name.name) trees)
             (loop_head scope written iter start cond by name from parts step keyword fit fs fc w tf tc ts) (body_none (inside scope name.name) body trees b);
         same = ap stmt_without_places (stmt-loop names scope true name from parts step trees keyword)
-            ∙ without_for name.name (index names (in_start scope true name.name) from) (record { parts = condition names (inside scope name.name) parts }) (step_number step) (stmts names (inside scope name.name) trees) keyword
+            ∙ without_for name.name (index names (in_start scope true name.name) from) (record { parts = condition names (in_test scope name.name) parts }) (step_number step) (stmts names (inside scope name.name) trees) keyword
             ∙ for_same name.name iter _ (form_without_place start) _ (condition_without_places cond) (step_number step) by _ body nowhere w f (ap (λ ps. record { parts = ps }) c) (step_is iter by step ts) b.same
             ∙ sym e;
       }
@@ -213,7 +212,7 @@ module _ (names : List Entry) where
       let r = value_read names scope written x right fx tx in
       let g = read_value scope (reading names scope right) x r in
       let n : nat_lt 64 (size (value names scope right)) ≡ false = let z = same_size (value names scope right) x g in grind (arith, nat_tests) in
-      let k = access_none names scope written array (length subs) target ts (same_length (IsFormTree written) subs ts tt') (ap is_reserved w ∙ a.word) (subscripts_none names scope written subs ts fs tt') in
+      let k = access_none names scope written array (length subs) target ts (same_length (IsFormTree written) subs ts tt') (subscripts_none names scope written subs ts fs tt') in
       record {
         none = broken-assign names scope target ts None right ∙ rw (m, k, read_broken (reading names scope right) x r, n) refl;
         same = ap stmt_without_places (stmt-assign names scope target ts None right)

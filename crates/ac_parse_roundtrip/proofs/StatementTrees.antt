@@ -28,7 +28,7 @@ use Rattle.ac_parse_roundtrip.specs.CanonicalTrees.{Each, IsWordOf, IsFormTree, 
 use Rattle.ac_parse_roundtrip.specs.GrammarPrograms.{IsName, HasLiterals, HasComparisons, HasStatementNames, HaveStatementNames}
 use Rattle.ac_parse_roundtrip.proofs.ItemSequences.{after, lexemes-append, Reads, weaker, other_items}
 use Rattle.ac_parse_roundtrip.proofs.TokenTerminals.{mark_at, word_at, number_at, name_is, number_is, numeral_is, for_is, if_is, else_is, int_is, open_is, close_is, open_brace_is, close_brace_is, semicolon_is, becomes_is, plus_becomes_is, minus_becomes_is}
-use Rattle.ac_parse_roundtrip.proofs.Depths.{Deep, always, same_depth, both_deep}
+use Rattle.ac_parse_roundtrip.proofs.Depths.{Deep, always, above_one, above_two, same_depth, both_deep}
 use Rattle.ac_parse_roundtrip.proofs.Depths as depths
 use Rattle.ac_parse_roundtrip.proofs.FormTrees.{IsNamedScope, of_primary}
 use Rattle.ac_parse_roundtrip.proofs.ConditionTrees.{cond_read}
@@ -185,8 +185,11 @@ CondReads scope c room = Reads (IsCond (suc room)) (IsConditionTree scope c) (co
 pub higher : (P : ℕ → Type 0) → Deep P → Deep (λ room. P (suc room))
 higher P d = record { depth = d.depth; holds = λ room enough. d.holds (suc room) (omega arith) }
 
+cond_deep : (scope : Scope) (c : Cond) → IsNamedScope scope → HasComparisons c → Deep (CondReads scope c)
+cond_deep scope c named has = above_two (CondReads scope c) (always (λ room. CondReads scope c (suc (suc room))) (λ room. cond_read room scope c named has))
+
 inside_two : (P Q : ℕ → Type 0) → ((room : ℕ) → P room → Q (suc (suc room))) → Deep P → Deep Q
-inside_two P Q f d = depths.deeper (λ room. Q (suc room)) Q (λ room q. q) (depths.deeper P (λ room. Q (suc room)) f d)
+inside_two P Q f d = above_one Q (depths.deeper P (λ room. Q (suc room)) f d)
 
 assign_deep : (scope : Scope) (indent : List ℕ) (array : ℕ) (subs : List IndexExpr) (v : Value) (place : Place) → IsNamedScope scope
     → HasStatementNames scope.arrays (Assign array subs v place) → Deep (StatementReads scope indent (Assign array subs v place))
@@ -210,12 +213,14 @@ loop_deep : (scope : Scope) (indent iter : List ℕ) (start : IndexExpr) (c : Co
 loop_deep scope indent iter start c by row named name has_start has_cond small d =
     let within = inside scope iter in
     let F = IsFormTree scope start in
+    let StartReads : ℕ → Type 0 = λ room. Reads (IsExpr (suc room)) F (form scope start) in
     let inner = inside_named scope iter named name in
-    inside_two (λ room. Reads (IsExpr (suc room)) F (form scope start) × BodyReads within (deeper indent) row room) (LoopReads scope indent iter start c by row)
+    inside_two (λ room. StartReads room × (CondReads within c room × BodyReads within (deeper indent) row room)) (LoopReads scope indent iter start c by row)
     (λ room r. loop_read room indent iter F (IsConditionTree within c) (IsStepTree iter by) (AreStatementTrees within row)
-    (form scope start) (cond within c) (word iter ∷ step by) (body within (deeper indent) row) name r.0 (cond_read room within c inner has_cond) (step_read iter by name small) r.1)
-    (both_deep (λ room. Reads (IsExpr (suc room)) F (form scope start)) (BodyReads within (deeper indent) row)
-    (higher (λ room. Reads (IsExpr room) F (form scope start)) (form_deep scope named start has_start)) d)
+    (form scope start) (cond within c) (word iter ∷ step by) (body within (deeper indent) row) name r.0 r.1.0 (step_read iter by name small) r.1.1)
+    (both_deep StartReads (λ room. CondReads within c room × BodyReads within (deeper indent) row room)
+    (higher (λ room. Reads (IsExpr room) F (form scope start)) (form_deep scope named start has_start))
+    (both_deep (CondReads within c) (BodyReads within (deeper indent) row) (cond_deep within c inner has_cond) d))
 
 abbrev BranchReads : Scope → List ℕ → Cond → {n : _} → Row_of-Stmt n → {m : _} → Row_of-Stmt m → ℕ → Type 0
 BranchReads scope indent c taken other room =
@@ -228,16 +233,18 @@ unfolding AreStatementTrees body other_branch
 branch_deep scope indent c taken end_of-Stmt named has d e =
     let C = IsConditionTree scope c in
     let bs = body scope (deeper indent) taken in
-    inside_two (BodyReads scope (deeper indent) taken) (BranchReads scope indent c taken end_of-Stmt)
+    inside_two (λ room. CondReads scope c room × BodyReads scope (deeper indent) taken room) (BranchReads scope indent c taken end_of-Stmt)
     (λ room r. other_items (ap (λ is. is ++ close_line indent) (sym (append-nil (line indent (branch_items (cond scope c)) ++ bs))))
-    (branch_read room indent C (AreStatementTrees scope taken) (AreStatementTrees scope end_of-Stmt) (cond scope c) bs refl (cond_read room scope c named has) r)) d
+    (branch_read room indent C (AreStatementTrees scope taken) (AreStatementTrees scope end_of-Stmt) (cond scope c) bs refl r.0 r.1))
+    (both_deep (CondReads scope c) (BodyReads scope (deeper indent) taken) (cond_deep scope c named has) d)
 branch_deep scope indent c taken (more_of-Stmt s rest) named has d e =
     let C = IsConditionTree scope c in
     let other = more_of-Stmt s rest in
-    inside_two (λ room. BodyReads scope (deeper indent) taken room × BodyReads scope (deeper indent) other room) (BranchReads scope indent c taken other)
+    inside_two (λ room. CondReads scope c room × (BodyReads scope (deeper indent) taken room × BodyReads scope (deeper indent) other room)) (BranchReads scope indent c taken other)
     (λ room r. else_read room indent C (AreStatementTrees scope taken) (AreStatementTrees scope other)
-    (cond scope c) (body scope (deeper indent) taken) (body scope (deeper indent) other) (cond_read room scope c named has) r.0 r.1)
-    (both_deep (BodyReads scope (deeper indent) taken) (BodyReads scope (deeper indent) other) d e)
+    (cond scope c) (body scope (deeper indent) taken) (body scope (deeper indent) other) r.0 r.1.0 r.1.1)
+    (both_deep (CondReads scope c) (λ room. BodyReads scope (deeper indent) taken room × BodyReads scope (deeper indent) other room) (cond_deep scope c named has)
+    (both_deep (BodyReads scope (deeper indent) taken) (BodyReads scope (deeper indent) other) d e))
 
 no_body : (scope : Scope) (indent : List ℕ) (room : ℕ) → BodyReads scope indent end_of-Stmt room
 unfolding AreStatementTrees body

@@ -138,6 +138,10 @@ pub output_is : (at : ℕ) → terminal (word_at at (codes "output")) ≡ t.Outp
 unfolding terminal
 output_is at = refl
 
+pub floord_is : (at : ℕ) → terminal (word_at at (codes "floord")) ≡ t.Floord
+unfolding terminal
+floord_is at = refl
+
 pub name_is : (at : ℕ) (name : List ℕ) → IsName name → is_name (terminal (word_at at name)) ≡ true
 unfolding terminal
 name_is at name h = h

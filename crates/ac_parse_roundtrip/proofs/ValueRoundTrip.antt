@@ -4,6 +4,7 @@ use Rattle.std.proofs.lemmas.Bool.Decides.{nat_tests}
 use Rattle.std.specs.Prelude.{slice_get}
 use Rattle.ac_syntax.specs.declared.tree.Place.{Place}
 use Rattle.ac_syntax.specs.declared.tree.Symbol.{Symbol}
+use Rattle.ac_syntax.specs.declared.tree.Quot.{Quot}
 use Rattle.ac_syntax.specs.declared.tree.IndexExpr.{IndexExpr}
 use Rattle.ac_syntax.specs.declared.tree.Value.{Value, Row_of-Value, end_of-Value, more_of-Value, items-the_row-Value, the_lemmas}
 use Rattle.ac_syntax.specs.declared.tree.Value.TheVariants.{Number, Access, Call, Call'}
@@ -18,18 +19,20 @@ use Rattle.ac_parse_exprs.specs.declared.scope.Entry.{Entry}
 use Rattle.ac_parse_exprs.specs.declared.scope.Scope.{Scope}
 use Rattle.ac_parse_exprs.specs.declared.scope.Meaning.{Meaning}
 use Rattle.ac_parse_exprs.specs.declared.scope.Meaning.TheVariants as means
-use Rattle.ac_parse_exprs.specs.AffineForms.{is_within}
-use Rattle.ac_parse_exprs.specs.Meanings.{meaning, read_rule, is_reserved}
-use Rattle.ac_parse_exprs.specs.Comparisons.{index, index_broken, index_expr}
+use Rattle.ac_parse_exprs.specs.declared.index.Judged.{Judged}
+use Rattle.ac_parse_exprs.specs.Meanings.{meaning, read_rule}
+use Rattle.ac_parse_exprs.specs.Comparisons.{counted, index, index_broken, index_expr}
 use Rattle.ac_parse_exprs.specs.Values.{Reading, number, other, reading, value_of, reading_broken, symbol, operator_name, placed, access_broken, call_reading, negative_reading, group_reading, joined_reading, value_place}
 use Rattle.ac_parse_exprs.proofs.Absent.{NoneBroken}
+use Rattle.ac_parse_exprs.proofs.Collecting.{Within}
 use Rattle.ac_parse_exprs.proofs.Readings.{reading-decimal, reading-access, reading-call, reading-negative, reading-group, reading-chain}
 use Rattle.ac_parse_roundtrip.specs.CanonicalTrees.{Each, IsWordOf, IsFormTree, sign, IsCallTree, negation, operation, decimal, function, IsValueTree, AreValueTrees}
 use Rattle.ac_parse_roundtrip.specs.GrammarPrograms.{count}
-use Rattle.ac_parse_roundtrip.specs.PlaceErasure.{nowhere, form_without_place, forms_without_places, value_without_places, values_without_places}
-use Rattle.ac_parse_roundtrip.specs.ColumnNames.{FitsScope}
-use Rattle.ac_parse_roundtrip.specs.ReadableStatements.{FitScope, ArrayStands, is_number, some_other, FitsCall, IsReadable, AreReadable}
-use Rattle.ac_parse_roundtrip.proofs.FormRoundTrip.{Reads, affine_of, form_read, form_within, whole_none, placed_as}
+use Rattle.ac_parse_roundtrip.specs.PlaceErasure.{nowhere, quot_without_place, form_without_place, forms_without_places, value_without_places, values_without_places}
+use Rattle.ac_parse_roundtrip.specs.ColumnNames.{FitsScope, FitScope}
+use Rattle.ac_parse_roundtrip.specs.ReadableStatements.{ArrayStands, is_number, some_other, FitsCall, IsReadable, AreReadable}
+use Rattle.ac_parse_roundtrip.proofs.FormRoundTrip.{affine, Reads}
+use Rattle.ac_parse_roundtrip.proofs.QuotientRoundTrip.{form_read, whole_none, placed_as}
 use Rattle.ac_parse_roundtrip.proofs.ConditionRoundTrip.{none_broken, subscripts_none, subscripts_same, same_length}
 
 -- ---- values without places
@@ -59,9 +62,17 @@ without_placed place (Call' s n args p) = refl
 
 -- ---- what is read of a tree
 
+-- what is judged has the form, but for the places of quotients
+pub record IsFormOf (j : Judged) (e : IndexExpr) : Type 0 where
+  pub quots : List Quot
+  pub same : map quot_without_place quots ≡ map quot_without_place e.quots
+  pub each : counted quots ≡ quots
+  pub within : Within (affine e.konst e.params e.iters quots)
+  pub reads : Reads false j (affine e.konst e.params e.iters quots)
+
 -- a reading is that of a value: nothing is broken in it, and it is the value but for places
 abbrev pub ReadAs : Reading → Value → Type 0
-ReadAs (number j) v = (e : IndexExpr) × (v ≡ Number e) × Reads j (affine_of e) × (is_within (affine_of e) ≡ true) × (e.quots ≡ [])
+ReadAs (number j) v = (e : IndexExpr) × (v ≡ Number e) × IsFormOf j e
 ReadAs (other b w) v = (b ≡ None) × (value_without_places w ≡ value_without_places v) × (is_number v ≡ false)
 
 abbrev pub AreReadAs : {m : _} → List Reading → Row_of-Value m → Type 0
@@ -71,12 +82,12 @@ AreReadAs (r ∷ rs) end_of-Value = ⊥
 AreReadAs (r ∷ rs) (more_of-Value v rest) = ReadAs r v × AreReadAs rs rest
 
 pub read_broken : (r : Reading) (v : Value) → ReadAs r v → reading_broken r ≡ None
-read_broken (number j) v h = whole_none j (affine_of h.0) h.2
+read_broken (number j) v h = let e = h.0 in whole_none false j (affine e.konst e.params e.iters h.2.quots) h.2.reads
 read_broken (other b w) v h = h.0
 
 pub read_value : (scope : Scope) (r : Reading) (v : Value) → ReadAs r v → value_without_places (value_of scope r) ≡ value_without_places v
 read_value scope (number j) v h =
-    without_number (index_expr scope j) ∙ ap (λ e. Number e) (placed_as scope j h.0 h.4 h.3 h.2) ∙ sym (without_number h.0) ∙ ap value_without_places (sym h.1)
+    without_number (index_expr scope j) ∙ ap (λ e. Number e) (placed_as scope false j h.0 h.2.quots h.2.same h.2.each h.2.within h.2.reads) ∙ sym (without_number h.0) ∙ ap value_without_places (sym h.1)
 read_value scope (other b w) v h = h.1
 
 are_none : {m : _} (rs : List Reading) (row : Row_of-Value m) → AreReadAs rs row → NoneBroken (map reading_broken rs)
@@ -125,7 +136,10 @@ sign_operator Remainder = refl
 
 module _ (scope : Scope) where
   group_read : (place : Place) (r : Reading) (v : Value) → ReadAs r v → ReadAs (group_reading place r) v
-  group_read place (number j) v h = (h.0, h.1, record { form = h.2.form; large = h.2.large; broken = h.2.broken }, h.3, h.4)
+  group_read place (number j) v h =
+      let f = h.2 in
+      let r = f.reads in
+      (h.0, h.1, record { quots = f.quots; same = f.same; each = f.each; within = f.within; reads = record { form = r.form; large = r.large; affine = r.affine; exact = r.exact; broken = r.broken } })
   group_read place (other b w) v h = (h.0, without_placed place w ∙ h.1, h.2)
 
   -- a value that is called of what is read
@@ -154,10 +168,10 @@ module _ (scope : Scope) where
   one_read (other b w) s row x v place e f n h c = (h.0, made_call s (symbol (codes "-") 1) (w ∷ []) place row v e (rw h.1 f) c, c.1)
 
   -- a function of what is read
-  function_read : (m : Meaning) (word : Word) (rs : List Reading) (s : Symbol) {k : _} (row : Row_of-Value k) (v : Value) → m ≡ means.Nothing → is_reserved word.name ≡ false
+  function_read : (m : Meaning) (word : Word) (rs : List Reading) (s : Symbol) {k : _} (row : Row_of-Value k) (v : Value) → m ≡ means.Nothing
       → symbol word.name (length rs) ≡ s → AreReadAs rs row → IsCalled s row v → ReadAs (call_reading scope m word rs) v
-  function_read m word rs s row v e w f h c = (
-    rw (e, w, none_broken (map reading_broken rs) (are_none rs row h)) refl,
+  function_read m word rs s row v e f h c = (
+    rw (e, none_broken (map reading_broken rs) (are_none rs row h)) refl,
     made_call s (symbol word.name (length rs)) (map (value_of scope) rs) word.place row v f (are_same scope rs row h) c,
     c.1,
   )
@@ -176,20 +190,19 @@ two_other true false h k = refl
 two_other false b h k = absurd cc
 
 module _ (names : List Entry) (scope : Scope) (written : text.Scope) where
-  pub access_none : (array dimensions : ℕ) (word : Word) (ts : List Expr) → length ts ≡ dimensions → is_reserved word.name ≡ false → NoneBroken (map (index_broken names scope) ts)
+  pub access_none : (array dimensions : ℕ) (word : Word) (ts : List Expr) → length ts ≡ dimensions → NoneBroken (map (index_broken names scope) ts)
       → access_broken names scope (read_rule (means.Array array dimensions) (length ts)) word ts ≡ None
-  access_none array dimensions word ts l w h =
+  access_none array dimensions word ts l h =
       let t : (length ts == dimensions) ≡ true = grind (arith, nat_tests) in
-      rw (t, w, none_broken (map (index_broken names scope) ts) h) refl
+      rw (t, none_broken (map (index_broken names scope) ts) h) refl
 
   access_read : (array : ℕ) (subs : List IndexExpr) (place : Place) (word : Word) (ts : List Expr) → ArrayStands names scope written array (length subs) → IsWordOf (array_name (slice_get written.arrays array)) word
       → FitScope names scope written subs → Each (IsFormTree written) subs ts → ReadAs (reading names scope (expr.Access word ts)) (Access array subs place)
   access_read array subs place word ts s e fit t =
       let m : meaning names scope word.name ≡ means.Array array (length subs) = ap (meaning names scope) e ∙ s.means in
-      let w : is_reserved word.name ≡ false = ap is_reserved e ∙ s.word in
       let f = without_access array (map (index names scope) ts) word.place ∙ ap (λ es. Access array es nowhere) (subscripts_same names scope written subs ts fit t) ∙ sym (without_access array subs place) in
       rw (reading-access names scope word ts, m, not_both (length ts == 0))
-      (access_none array (length subs) word ts (same_length (IsFormTree written) subs ts t) w (subscripts_none names scope written subs ts fit t), f, refl)
+      (access_none array (length subs) word ts (same_length (IsFormTree written) subs ts t) (subscripts_none names scope written subs ts fit t), f, refl)
 
   call_read : (s : Symbol) {m : _} (row : Row_of-Value m) (v : Value) (ts : List Expr) (tree : Expr) → FitsCall names scope s (count row) (some_other row) → IsCalled scope s row v
       → AreReadAs (map (reading names scope) ts) row → IsCallTree s.name ts tree → ReadAs (reading names scope tree) v
@@ -218,13 +231,14 @@ module _ (names : List Entry) (scope : Scope) (written : text.Scope) where
       let f = symbol_is s word.name (length (map (reading names scope) ts)) (count row) e (are_many (map (reading names scope) ts) row h) fit.arity in
       let g = fit.function apart whole in
       rw (reading-call names scope word ts)
-      (function_read scope (meaning names scope word.name) word (map (reading names scope) ts) s row v (ap (meaning names scope) e ∙ g.means) (ap is_reserved e ∙ g.word) f h c)
+      (function_read scope (meaning names scope word.name) word (map (reading names scope) ts) s row v (ap (meaning names scope) e ∙ g.means) f h c)
 
   number_group : (e : IndexExpr) (inner : Expr) (place : Place) → FitsScope names scope written e → IsFormTree written e inner → ReadAs (reading names scope (expr.Group inner place)) (Number e)
   number_group e inner place fit t =
       let r = form_read names scope written e fit inner t in
-      rw (reading-group names scope inner place, r.alone)
-      (e, refl, record { form = r.form.form; large = r.form.large; broken = r.form.broken }, form_within names scope written e fit, fit.plain)
+      let f = r.3.form in
+      rw (reading-group names scope inner place, r.3.alone)
+      (e, refl, record { quots = r.0; same = r.1.0; each = r.1.1; within = r.2; reads = record { form = f.form; large = f.large; affine = f.affine; exact = f.exact; broken = f.broken } })
 
   mutual
     unfolding IsValueTree AreValueTrees IsReadable AreReadable value_without_places values_without_places

@@ -23,25 +23,26 @@ use Rattle.ac_parse_roundtrip.specs.GrammarPrograms as names
 use Rattle.ac_parse_roundtrip.specs.GrammarPrograms.{IsName, NamesArray, HasLiterals, IsCallName, count, HasValueNames, HaveValueNames}
 use Rattle.ac_parse_roundtrip.proofs.ItemSequences.{Reads, weaker, other_items}
 use Rattle.ac_parse_roundtrip.proofs.TokenTerminals.{word_at, name_is}
-use Rattle.ac_parse_roundtrip.proofs.Depths.{Deep, always, same_depth, deeper, both_deep}
+use Rattle.ac_parse_roundtrip.proofs.Depths.{Deep, always, above_one, above_two, same_depth, deeper, both_deep}
 use Rattle.ac_parse_roundtrip.proofs.FormTrees.{IsNamedScope, form_read}
 use Rattle.ac_parse_roundtrip.proofs.ConditionTrees.{subscripts_read}
 use Rattle.ac_parse_roundtrip.proofs.Calls.{IsGroupOf, group_read, IsNegativeOf, negative_read, IsOperationOf, operation_read, IsDecimalOf, decimal_read, comma_items, argument_items, arguments_read, IsFunctionOf, function_read, call_operation, call_function, call_nothing, function_decimal, function_word, sign_operator}
 
 -- ---- forms and cells
 
+abbrev FormReads : Scope → IndexExpr → ℕ → Type 0
+FormReads scope e room = Reads (IsExpr room) (IsFormTree scope e) (form scope e)
+
 pub form_deep : (scope : Scope) → IsNamedScope scope → (e : IndexExpr) → HasLiterals e → Deep (λ room. Reads (IsExpr room) (IsFormTree scope e) (form scope e))
-form_deep scope named e has = deeper (λ room. Reads (IsExpr (suc room)) (IsFormTree scope e) (form scope e)) (λ room. Reads (IsExpr room) (IsFormTree scope e) (form scope e)) (λ room r. r)
-    (always (λ room. Reads (IsExpr (suc room)) (IsFormTree scope e) (form scope e)) (λ room. form_read room scope e named has))
+form_deep scope named e has = above_two (FormReads scope e) (always (λ room. FormReads scope e (suc (suc room))) (λ room. form_read room scope named e has))
 
 abbrev CellReads : Scope → List IndexExpr → ℕ → Type 0
 CellReads scope subs room = Reads (Subscripts room) (Each (IsFormTree scope) subs) (subscripts scope subs)
 
 pub subscripts_deep : (scope : Scope) → IsNamedScope scope → (subs : List IndexExpr) → AllByRecursion HasLiterals subs → Deep (CellReads scope subs)
 subscripts_deep scope named subs has =
-    deeper (λ room. CellReads scope subs (suc room)) (CellReads scope subs) (λ room r. r)
-    (deeper (λ room. CellReads scope subs (suc (suc room))) (λ room. CellReads scope subs (suc room)) (λ room r. r)
-    (always (λ room. CellReads scope subs (suc (suc room))) (λ room. subscripts_read room scope subs named has)))
+    above_one (CellReads scope subs) (above_two (λ room. CellReads scope subs (suc room))
+    (always (λ room. CellReads scope subs (suc (suc (suc room)))) (λ room. subscripts_read room scope subs named has)))
 
 abbrev IsCellOf : List ℕ → (List Expr → Type 0) → Expr → Type 0
 IsCellOf name T tree = (word : Word) × (trees : List Expr) × IsWordOf name word × T trees × (tree ≡ expr.Access word trees)

@@ -1,6 +1,8 @@
 -- Programs whose canonical text the rules read back: the names that their text declares, and what holds of these.
-use Rattle.std.specs.Prelude.{◌≡◌, ◌≤◌, ◌<◌, ◌+◌, ℕ, false, List, [], ◌∷◌, ◌++◌, map, take, length, Option, Some, None, slice_get}
-use Rattle.std.specs.List.{AllByRecursion}
+use Rattle.std.specs.Prelude.{◌≡◌, ◌≤◌, ◌<◌, ◌+◌, ◌||◌, nat_lt, ℕ, Bool, false, List, [], ◌∷◌, ◌++◌, map, take, length, Option, Some, None, slice_get}
+use Rattle.std.specs.List.{AllByRecursion, list_any}
+use Rattle.ac_syntax.specs.Quotients.{noted_form, noted_subs, noted_parts, noted_value}
+use Rattle.ac_syntax.specs.declared.tree.Quot.{Quot}
 use Rattle.ac_syntax.specs.declared.tree.Kind.{Kind}
 use Rattle.ac_syntax.specs.declared.tree.Kind.TheVariants.{Input, Local}
 use Rattle.ac_syntax.specs.declared.tree.Array.{Array}
@@ -13,11 +15,12 @@ use Rattle.ac_syntax.specs.Text.{whole_scope, array_name, name_or_none}
 use Rattle.ac_parse_exprs.specs.declared.scope.Meaning.{Meaning}
 use Rattle.ac_parse_exprs.specs.declared.scope.Meaning.TheVariants as means
 use Rattle.ac_parse_exprs.specs.declared.scope.Entry.{Entry}
-use Rattle.ac_parse_exprs.specs.Meanings.{declared_meaning, is_reserved}
+use Rattle.ac_parse_exprs.specs.Meanings.{declared_meaning}
 use Rattle.ac_parse_rules.specs.Declarations.{is_declared, fixed_scope}
 use Rattle.ac_parse_rules.specs.Files.{body_scope}
 use Rattle.ac_parse_roundtrip.specs.CanonicalTrees.{locals}
-use Rattle.ac_parse_roundtrip.specs.ReadableStatements.{FitScope, PartsFitScope, IsReadableStmt}
+use Rattle.ac_parse_roundtrip.specs.ReadableStatements.{IsReadableStmt}
+use Rattle.ac_parse_roundtrip.specs.ColumnNames.{FitScope, PartsFitScope}
 
 -- ---- the names that a canonical text declares
 
@@ -51,9 +54,8 @@ IsFew means.LoopName = Unit {0}
 IsFew means.OwnStart = Unit {0}
 IsFew means.Nothing = Unit {0}
 
--- the declaration with the number i: no reserved word, declared once, and one of few
+-- the declaration with the number i: declared once, and one of few
 pub record FitsDeclaration (names : List Entry) (i : ℕ) (e : Entry) : Type 0 where
-  pub word : is_reserved e.name ≡ false
   pub new : is_declared (take i names) e.name ≡ false
   pub means : declared_meaning names e.name ≡ e.meaning
   pub few : IsFew e.meaning
@@ -84,7 +86,6 @@ LocalsFit p names i (x ∷ xs) = FitsArray p names Local i x × LocalsFit p name
 
 -- an output is an input with dimensions
 pub record FitsOutput (names : List Entry) (arrays : List Array) (inputs : ℕ) (k : ℕ) : Type 0 where
-  pub word : is_reserved (array_name (slice_get arrays k)) ≡ false
   pub dimensions : ℕ
   pub means : declared_meaning names (array_name (slice_get arrays k)) ≡ means.Array k dimensions
   pub input : k < inputs
@@ -109,17 +110,27 @@ abbrev pub all_assignments : List Stmt → ℕ
 all_assignments [] = 0
 all_assignments (s ∷ ss) = assignments s + all_assignments ss
 
+-- an assignment has more than 8 quotients, with those of what stands around
+unfoldable mutual
+  pub is_crowded : List Quot → Stmt → Bool
+  is_crowded seen (For' iter start cond step n body place) = is_crowded_in (noted_parts (noted_form seen start) cond.parts) body
+  is_crowded seen (If' cond n taken m other place) = is_crowded_in (noted_parts seen cond.parts) taken || is_crowded_in (noted_parts seen cond.parts) other
+  is_crowded seen (Assign array subs v place) = nat_lt 8 (length (noted_subs (noted_value seen v) subs))
+
+  pub is_crowded_in : List Quot → {m : _} → Row_of-Stmt m → Bool
+  is_crowded_in seen end_of-Stmt = false
+  is_crowded_in seen (more_of-Stmt s rest) = is_crowded seen s || is_crowded_in seen rest
+
 -- ---- the program
 
 pub record IsReadableProgram (p : Program) : Type 0 where
   pub inputs : List Array
   pub arrays : p.arrays ≡ inputs ++ locals p.arrays
-  pub word : is_reserved p.name ≡ false
   pub declarations : DeclarationsFit (declared p (length inputs)) 0 (declared p (length inputs))
   pub slots : SlotsFit p (declared p (length inputs)) 0 0 0 p.slots p.params inputs
   pub locals : LocalsFit p (declared p (length inputs)) (length p.slots) (locals p.arrays)
   pub body : AllByRecursion (IsReadableStmt (declared p (length inputs)) (body_scope (length p.params)) (whole_scope p)) p.body
   pub few : all_assignments p.body ≤ 48
+  pub uncrowded : list_any (is_crowded []) p.body ≡ false
   pub context : PartsFitScope (declared p (length inputs)) (fixed_scope (length p.params)) (whole_scope p) p.context.parts
-  pub commutative : AllByRecursion (λ name. is_reserved name ≡ false) p.commutative
   pub outputs : OutputsFit (declared p (length inputs)) p.arrays (length inputs) p.outputs

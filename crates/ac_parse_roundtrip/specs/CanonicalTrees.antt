@@ -3,6 +3,7 @@
 use Rattle.std.specs.Prelude.{◌≡◌, ℕ, suc, ℤ, pos, negsuc, Bool, true, false, List, [], ◌∷◌, ◌++◌, map, codes, Option, None, Some, slice_get, unsigned_abs, if◌then◌else◌}
 use Rattle.std.specs.List.{flat_map}
 use Rattle.ac_syntax.specs.declared.tree.Place.{Place}
+use Rattle.ac_syntax.specs.declared.tree.Quot.{Quot}
 use Rattle.ac_syntax.specs.declared.tree.IndexExpr.{IndexExpr}
 use Rattle.ac_syntax.specs.declared.tree.Rel.{Rel}
 use Rattle.ac_syntax.specs.declared.tree.Rel.TheVariants.{NonNegative, Zero, Divides}
@@ -18,7 +19,6 @@ use Rattle.ac_syntax.specs.declared.tree.Array.{Array}
 use Rattle.ac_syntax.specs.declared.tree.Slot.{Slot}
 use Rattle.ac_syntax.specs.declared.tree.Slot.TheVariants as slot
 use Rattle.ac_syntax.specs.declared.tree.Program.{Program}
-use Rattle.ac_syntax.specs.ReadyPrograms.{IsPlain}
 use Rattle.ac_syntax.specs.Text.{Scope, inside, whole_scope, array_name, name_or_none, is_other_than_zero, is_operator, is_decimal}
 use Rattle.ac_parse_grammar.specs.declared.tree.Word.{Word}
 use Rattle.ac_parse_grammar.specs.declared.tree.Numeral.{Numeral}
@@ -64,49 +64,88 @@ IsIntegerTree (negsuc n) tree = (operand : Expr) × (place : Place) × IsNumberT
 
 -- ---- forms and conditions
 
--- a summand of a form: a number, and the name that it multiplies, none at the constant
+-- what a number is multiplied by in a form
+pub data Factor : Type 0 where
+  by_name : List ℕ → Factor
+  by_quotient : Quot → Factor
+
+-- a summand of a form: a number, and what it is multiplied by, nothing at the constant
 pub record Summand : Type 0 where
   pub number : ℤ
-  pub name : Option (List ℕ)
+  pub factor : Option Factor
 
 -- those that are other than 0 are written
-abbrev pub summand : ℤ → Option (List ℕ) → List Summand
-summand c name = if is_other_than_zero c then record { number = c; name = name } ∷ [] else []
+abbrev pub summand : ℤ → Option Factor → List Summand
+summand c factor = if is_other_than_zero c then record { number = c; factor = factor } ∷ [] else []
 
 abbrev pub products : List ℤ → List (List ℕ) → List Summand
 products [] names = []
 products (c ∷ cs) [] = []
-products (c ∷ cs) (name ∷ names) = summand c (Some name) ++ products cs names
+products (c ∷ cs) (name ∷ names) = summand c (Some (by_name name)) ++ products cs names
 
+abbrev pub multiples : List Quot → List Summand
+multiples [] = []
+multiples (q ∷ qs) = summand q.coef (Some (by_quotient q)) ++ multiples qs
+
+-- parameters, iterators, quotients, constant
 abbrev pub summands : Scope → IndexExpr → List Summand
-summands scope e = products e.params scope.params ++ products e.iters scope.iters ++ summand e.konst None
+summands scope e = products e.params scope.params ++ products e.iters scope.iters ++ multiples e.quots ++ summand e.konst None
 
-abbrev pub IsProductTree : ℤ → Option (List ℕ) → Expr → Type 0
-IsProductTree c None tree = IsIntegerTree c tree
-IsProductTree c (Some name) tree =
-    (factor : Expr) × (named : Expr) × IsIntegerTree c factor × IsNameTree name named × (tree ≡ expr.Chain (factor ∷ named ∷ []) (Multiply ∷ []))
+-- those of what a quotient divides
+abbrev pub argument_summands : Scope → Quot → List Summand
+argument_summands scope q = products q.params scope.params ++ products q.iters scope.iters ++ summand q.konst None
 
-abbrev pub IsSummandTree : Summand → Expr → Type 0
-IsSummandTree s tree = IsProductTree s.number s.name tree
+-- Rounds is of the trees of quotients, here and below
+abbrev pub IsFactorTree : (Quot → Expr → Type 0) → Factor → Expr → Type 0
+IsFactorTree Rounds (by_name name) tree = IsNameTree name tree
+IsFactorTree Rounds (by_quotient q) tree = Rounds q tree
+
+abbrev pub IsProductTree : (Quot → Expr → Type 0) → ℤ → Option Factor → Expr → Type 0
+IsProductTree Rounds c None tree = IsIntegerTree c tree
+IsProductTree Rounds c (Some f) tree =
+    (number : Expr) × (factor : Expr) × IsIntegerTree c number × IsFactorTree Rounds f factor × (tree ≡ expr.Chain (number ∷ factor ∷ []) (Multiply ∷ []))
+
+abbrev pub IsSummandTree : (Quot → Expr → Type 0) → Summand → Expr → Type 0
+IsSummandTree Rounds s tree = IsProductTree Rounds s.number s.factor tree
 
 -- no summand is 0, and one alone is the sum
-abbrev pub IsSumTree : List Summand → Expr → Type 0
-IsSumTree [] tree = IsNumberTree 0 tree
-IsSumTree (s ∷ more) tree =
-    (first : Expr) × (others : List Expr) × IsSummandTree s first × Each IsSummandTree more others × (tree ≡ chain_of (first ∷ others) (map (λ (other : Expr). Add) others))
+abbrev pub IsSumTree : (Quot → Expr → Type 0) → List Summand → Expr → Type 0
+IsSumTree Rounds [] tree = IsNumberTree 0 tree
+IsSumTree Rounds (s ∷ more) tree =
+    (first : Expr) × (others : List Expr) × IsSummandTree Rounds s first × Each (IsSummandTree Rounds) more others
+    × (tree ≡ chain_of (first ∷ others) (map (λ (other : Expr). Add) others))
+
+-- no quotient stands inside another
+abbrev pub NoneRounds : Quot → Expr → Type 0
+NoneRounds q tree = ⊥
+
+abbrev pub IsDivisor : ℤ → Numeral → Type 0
+IsDivisor m numeral = pos numeral.number ≡ m
+
+-- a quotient that is rounded down
+abbrev pub IsQuotientTree : Scope → Quot → Expr → Type 0
+IsQuotientTree scope q tree =
+    (argument : Expr) × (divisor : Numeral) × (place : Place) × IsSumTree NoneRounds (argument_summands scope q) argument × IsDivisor q.div divisor
+    × (tree ≡ expr.Quotient false argument divisor place)
 
 abbrev pub IsFormTree : Scope → IndexExpr → Expr → Type 0
-IsFormTree scope e tree = IsSumTree (summands scope e) tree
+IsFormTree scope e tree = IsSumTree (IsQuotientTree scope) (summands scope e) tree
 
 abbrev pub relation : Rel → Relation
 relation NonNegative = AtLeast
 relation Zero = Equal
 relation (Divides m) = Equal
 
--- a form that is compared with 0; the grammar has no tree of the test of a divisor
+-- what is compared with 0: a form, or what is left of it behind a division
+abbrev pub IsTestedTree : Scope → Rel → IndexExpr → Expr → Type 0
+IsTestedTree scope NonNegative e tree = IsFormTree scope e tree
+IsTestedTree scope Zero e tree = IsFormTree scope e tree
+IsTestedTree scope (Divides m) e tree =
+    (form : Expr) × (place : Place) × (divisor : Numeral) × IsFormTree scope e form × IsDivisor m divisor
+    × (tree ≡ expr.Chain (expr.Group form place ∷ expr.Number divisor ∷ []) (Remainder ∷ []))
+
 pub record IsComparisonTree (scope : Scope) (c : Comparison) (part : Part) : Type 0 where
-  pub left : IsFormTree scope c.form part.left
-  pub plain : IsPlain c.rel
+  pub left : IsTestedTree scope c.rel c.form part.left
   pub relation : part.relation ≡ relation c.rel
   pub right : IsNumberTree 0 part.right
 

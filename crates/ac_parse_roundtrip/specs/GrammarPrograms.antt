@@ -1,7 +1,8 @@
 -- Programs whose canonical text is in the grammar: names are names, symbols are symbols, literals are small,
--- no form has a quotient, and conditions compare with 0.
-use Rattle.std.specs.Prelude.{◌≡◌, ◌⊎◌, ℕ, suc, true, false, List, [], ◌∷◌, Option, None, Some, slice_get}
+-- divisors are at least 1, and conditions compare with 0.
+use Rattle.std.specs.Prelude.{◌≡◌, ◌⊎◌, ℕ, suc, pos, ◌≤ℤ◌, true, false, List, [], ◌∷◌, Option, None, Some, slice_get}
 use Rattle.std.specs.List.{AllByRecursion}
+use Rattle.ac_syntax.specs.declared.tree.Quot.{Quot}
 use Rattle.ac_syntax.specs.declared.tree.IndexExpr.{IndexExpr}
 use Rattle.ac_syntax.specs.declared.tree.Comparison.{Comparison}
 use Rattle.ac_syntax.specs.declared.tree.Cond.{Cond}
@@ -13,8 +14,7 @@ use Rattle.ac_syntax.specs.declared.tree.Array.{Array}
 use Rattle.ac_syntax.specs.declared.tree.Slot.{Slot}
 use Rattle.ac_syntax.specs.declared.tree.Slot.TheVariants as slot
 use Rattle.ac_syntax.specs.declared.tree.Program.{Program}
-use Rattle.ac_syntax.specs.ReadyPrograms.{IsPlain}
-use Rattle.ac_syntax.specs.Small.{IsSmall}
+use Rattle.ac_syntax.specs.Small.{IsSmall, IsSmallRel}
 use Rattle.ac_syntax.specs.Text.{array_name, name_or_none, is_operator, is_decimal}
 use Rattle.ac_lex.specs.declared.tokens.TokenKind.TheVariants as token
 use Rattle.ac_parse_grammar.specs.declared.terminal.Terminal.TheVariants as t
@@ -37,17 +37,26 @@ IsSymbolName name = ((operator : Operator) × (name ≡ sign operator)) ⊎ ((is
 
 -- ---- forms and conditions
 
--- literals of at most 2^31, and no quotient
+-- literals of at most 2^31, and a divisor of at least 1
+pub record HasQuotientLiterals (q : Quot) : Type 0 where
+  pub coef : IsSmall q.coef
+  pub constant : IsSmall q.konst
+  pub params : AllByRecursion IsSmall q.params
+  pub iters : AllByRecursion IsSmall q.iters
+  pub positive : pos 1 ≤ℤ q.div
+  pub divisor : IsSmall q.div
+
+-- literals of at most 2^31
 pub record HasLiterals (e : IndexExpr) : Type 0 where
   pub constant : IsSmall e.konst
   pub params : AllByRecursion IsSmall e.params
   pub iters : AllByRecursion IsSmall e.iters
-  pub plain : e.quots ≡ []
+  pub quots : AllByRecursion HasQuotientLiterals e.quots
 
--- a comparison that tests no divisor
+-- a divisor that is tested is from 1 to 2^31
 pub record HasPartLiterals (c : Comparison) : Type 0 where
   pub form : HasLiterals c.form
-  pub rel : IsPlain c.rel
+  pub rel : IsSmallRel c.rel
 
 abbrev pub HaveLiterals : List Comparison → Type 0
 HaveLiterals = AllByRecursion HasPartLiterals

@@ -11,6 +11,8 @@ use Rattle.ac_parse_roundtrip.specs.ColumnNames.{Stands}
 -- writes for it
 pub record Carries (names : List Entry) (scope : Scope) (text_names : List Entry) (text_scope : Scope) (written : text.Scope) : Type 0 where
   pub params : text_scope.params ≡ scope.params
+  pub fixed : text_scope.fixed ≡ scope.fixed
+  pub tested : text_scope.tested ≡ scope.tested
   pub iterators : length text_scope.iterators ≡ length scope.iterators
   pub param_names : length written.params ≡ scope.params
   pub iterator_names : length written.iters ≡ length scope.iterators

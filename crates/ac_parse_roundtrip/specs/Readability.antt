@@ -11,8 +11,7 @@ use Rattle.ac_parse_exprs.specs.declared.scope.Entry.{Entry}
 use Rattle.ac_parse_exprs.specs.declared.scope.Scope.{Scope}
 use Rattle.ac_parse_exprs.specs.Comparisons.{index, index_broken, condition, condition_broken}
 use Rattle.ac_parse_rules.specs.Files.{file_broken, program_of}
-use Rattle.ac_parse_roundtrip.specs.ColumnNames.{FitsScope}
-use Rattle.ac_parse_roundtrip.specs.ReadableStatements.{PartsFitScope}
+use Rattle.ac_parse_roundtrip.specs.ColumnNames.{FitsScope, PartsFitScope}
 use Rattle.ac_parse_roundtrip.specs.CanonicalPrograms.{IsReadableProgram}
 use Rattle.ac_parse_roundtrip.specs.NameCorrespondence.{Carries}
 

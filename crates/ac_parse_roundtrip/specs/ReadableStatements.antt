@@ -1,8 +1,6 @@
 -- Values and statements whose canonical text the rules read back: each name of the text stands for what the program has there.
 use Rattle.std.specs.Prelude.{◌≡◌, ◌≤◌, ℕ, ℤ, min, Bool, true, false, not, ◌||◌, List, length, slice_get}
-use Rattle.std.specs.List.{AllByRecursion, list_any}
-use Rattle.ac_syntax.specs.declared.tree.IndexExpr.{IndexExpr}
-use Rattle.ac_syntax.specs.declared.tree.Comparison.{Comparison}
+use Rattle.std.specs.List.{list_any}
 use Rattle.ac_syntax.specs.declared.tree.Cond.{Cond}
 use Rattle.ac_syntax.specs.declared.tree.Symbol.{Symbol}
 use Rattle.ac_syntax.specs.declared.tree.Value.{Value, Row_of-Value, end_of-Value, more_of-Value}
@@ -17,17 +15,10 @@ use Rattle.ac_syntax.specs.Text as text
 use Rattle.ac_parse_exprs.specs.declared.scope.Meaning.TheVariants.{Array, Nothing}
 use Rattle.ac_parse_exprs.specs.declared.scope.Entry.{Entry}
 use Rattle.ac_parse_exprs.specs.declared.scope.Scope.{Scope}
-use Rattle.ac_parse_exprs.specs.Meanings.{is_reserved}
 use Rattle.ac_parse_rules.specs.Declarations.{is_declared}
-use Rattle.ac_parse_rules.specs.Statements.{inside, in_start, is_running}
+use Rattle.ac_parse_rules.specs.Statements.{inside, in_test, in_start, is_running}
 use Rattle.ac_parse_roundtrip.specs.GrammarPrograms.{count}
-use Rattle.ac_parse_roundtrip.specs.ColumnNames.{Stands, FitsScope}
-
-abbrev pub FitScope : List Entry → Scope → text.Scope → List IndexExpr → Type 0
-FitScope names scope written = AllByRecursion (FitsScope names scope written)
-
-abbrev pub PartsFitScope : List Entry → Scope → text.Scope → List Comparison → Type 0
-PartsFitScope names scope written = AllByRecursion (λ c. FitsScope names scope written c.form)
+use Rattle.ac_parse_roundtrip.specs.ColumnNames.{Stands, FitsScope, FitScope, PartsFitScope}
 
 -- the name of the array with this number stands for it, and it has so many dimensions
 abbrev pub ArrayStands : List Entry → Scope → text.Scope → ℕ → ℕ → Type 0
@@ -61,7 +52,6 @@ unfoldable mutual
 -- a loop: at most 5 are around it, its name is new, its step is small and other than 0, and a comparison of its condition ends it
 pub record FitsLoop (names : List Entry) (scope : Scope) (iter : List ℕ) (cond : Cond) (step : ℤ) : Type 0 where
   pub few : length scope.iterators ≤ 5
-  pub word : is_reserved iter ≡ false
   pub new : (is_declared names iter || is_running scope iter) ≡ false
   pub steps : is_other_than_zero step ≡ true
   pub small : IsSmall step
@@ -70,7 +60,7 @@ pub record FitsLoop (names : List Entry) (scope : Scope) (iter : List ℕ) (cond
 unfoldable mutual
   pub IsReadableStmt : List Entry → Scope → text.Scope → Stmt → Type 0
   IsReadableStmt names scope written (For' iter start cond step n body place) =
-      FitsLoop names scope iter cond step × FitsScope names (in_start scope true iter) written start × PartsFitScope names (inside scope iter) (text.inside written iter) cond.parts
+      FitsLoop names scope iter cond step × FitsScope names (in_start scope true iter) written start × PartsFitScope names (in_test scope iter) (text.inside written iter) cond.parts
       × AreReadableStmts names (inside scope iter) (text.inside written iter) body
   IsReadableStmt names scope written (If' cond n taken m other place) =
       PartsFitScope names scope written cond.parts × AreReadableStmts names scope written taken × AreReadableStmts names scope written other

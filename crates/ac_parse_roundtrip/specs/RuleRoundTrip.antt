@@ -18,8 +18,8 @@ use Rattle.ac_parse_rules.specs.Statements.{statement_broken, stmt}
 use Rattle.ac_parse_rules.specs.Files.{file_broken, program_of}
 use Rattle.ac_parse_roundtrip.specs.CanonicalTrees.{IsFormTree, IsConditionTree, IsValueTree, IsStatementTree, IsFileTree}
 use Rattle.ac_parse_roundtrip.specs.PlaceErasure.{form_without_place, parts_without_places, value_without_places, stmt_without_places, IsSameButPlaces}
-use Rattle.ac_parse_roundtrip.specs.ColumnNames.{FitsScope}
-use Rattle.ac_parse_roundtrip.specs.ReadableStatements.{PartsFitScope, IsReadable, IsReadableStmt}
+use Rattle.ac_parse_roundtrip.specs.ColumnNames.{FitsScope, PartsFitScope}
+use Rattle.ac_parse_roundtrip.specs.ReadableStatements.{IsReadable, IsReadableStmt}
 use Rattle.ac_parse_roundtrip.specs.CanonicalPrograms.{IsReadableProgram}
 
 -- the form of a tree is the form that the tree was made from

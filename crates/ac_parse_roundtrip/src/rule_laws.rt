@@ -23,7 +23,8 @@ pub fn statements_are_read_back()
 
 /// The rules read a program back from the tree of its canonical text: no rule is broken, and the program is the same but for the
 /// places of its parts. The program is to be readable: each name of its text stands, where it is written, for what the program
-/// has there, no form has a quotient, and numbers, loops, nodes and assignments are within the limits.
+/// has there, its quotients are distinct and may be divided where they are, and numbers, loops, nodes, assignments and their
+/// quotients are within the limits.
 pub fn programs_are_read_back()
     ensures { ProgramsAreReadBack }
 {}

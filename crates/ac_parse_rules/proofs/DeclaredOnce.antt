@@ -83,10 +83,9 @@ pub declared_once : NamesAreDeclaredOnce
 declared_once file h =
     let scope = fixed_scope (param_count file.params) in
     let names = names_of file in
-    let a = neither _ _ (neither _ _ h).0 in
-    let d = neither _ _ a.1 in
-    let l = none_of (each_declared_broken names scope (length file.params) file.locals) d.1 in
     let z : length file.params ≡ 0 + length file.params = omega arith in
+    let d = neither _ _ (neither _ _ h).0 in
+    let l = none_of (each_declared_broken names scope (length file.params) file.locals) d.1 in
     (apart scope names (file.params ++ file.locals) [] (all_named file)
     (one_list names scope 0 file.params file.locals (none_of (each_declared_broken names scope 0 file.params) d.0) (subst (λ n. NoneBroken (each_declared_broken names scope n file.locals)) z l))).1
 

@@ -1,7 +1,7 @@
 -- What has a value as it is written reads known names alone.
 use Rattle.std.proofs.Common.{◌≡◌, ℕ, zero, suc, ◌+◌, ℤ, neg_ℤ, ◌+ℤ◌, ◌-ℤ◌, ◌*ℤ◌, List, [], ◌∷◌, ◌++◌, map, length, take, Bool, true, false, not, cond, ◌&&◌, ◌||◌, ◌==◌, refl, sym, ap, subst, rules, arith, nat_eq, Option, Some, None}
 use Rattle.std.specs.Prelude.{is_some}
-use Rattle.std.specs.Option.{option_map}
+use Rattle.std.specs.Option.{option_map, option_and_then}
 use Rattle.std.specs.List.{AllByRecursion, flat_map}
 use Rattle.std.specs.Cmp.Lexicographic.{pointwise}
 use Rattle.std.proofs.lemmas.List.{length-map}
@@ -23,7 +23,7 @@ use Rattle.ac_parse_exprs.specs.declared.scope.Scope.{Scope}
 use Rattle.ac_parse_rules.specs.Declarations.{is_declared}
 use Rattle.ac_parse_exprs.specs.Meanings.{declared_meaning, meaning, meaning_behind, iterator_number, is_starting, is_array}
 use Rattle.ac_parse_exprs.specs.Values.{operator_name}
-use Rattle.ac_parse_exprs.specs.WrittenValues.{meant_integer, integer_of, on_both, operated, operated_all, chain_value, expression_value}
+use Rattle.ac_parse_exprs.specs.WrittenValues.{meant_integer, integer_of, on_both, operated, operated_all, chain_value, rounded, expression_value}
 use Rattle.ac_parse_exprs.specs.WrittenTerms.{Written, index, other, as_term, in_front, all_of, applied_to, cell_of, call_written, negative_written, joined_written, chained_written, chain_written, written}
 use Rattle.ac_parse_rules.specs.LawsOfNames.{reads, IsKnown, ReadsKnown}
 use Rattle.ac_parse_exprs.proofs.Absent.{both_true, each_append}
@@ -55,6 +55,10 @@ reads-access name subs = search (rules, the_lemmas, flat_all)
 reads-call : (name : Word) (args : List Expr) → reads (Call name args) ≡ flat_map reads args
 unfolding reads
 reads-call name args = search (rules, the_lemmas, flat_all)
+
+reads-quotient : (up : Bool) (argument : Expr) (divisor : Numeral) (place : Place) → reads (Quotient up argument divisor place) ≡ reads argument
+unfolding reads
+reads-quotient up argument divisor place = search (rules, the_lemmas)
 
 reads-negative : (operand : Expr) (place : Place) → reads (Negative operand place) ≡ reads operand
 unfolding reads
@@ -101,12 +105,21 @@ both_there f None b h = nothing_there h
 both_there f (Some x) None h = nothing_there h
 both_there f (Some x) (Some y) h = ((x, refl), (y, refl))
 
+from_there : {A B : Type 0} (g : A → Option B) (o : Option A) → IsThere (option_and_then g o) → IsThere o
+from_there g None h = nothing_there h
+from_there g (Some x) h = (x, refl)
+
+remainder_there : (a b : Option ℤ) → IsThere (operated Remainder a b) → IsThere a × IsThere b
+remainder_there None b h = nothing_there h
+remainder_there (Some x) None h = nothing_there h
+remainder_there (Some x) (Some y) h = ((x, refl), (y, refl))
+
 operated_there : (op : Operator) (a b : Option ℤ) → IsThere (operated op a b) → IsThere a × IsThere b
 operated_there Add a b h = both_there (λ x y. x +ℤ y) a b h
 operated_there Subtract a b h = both_there (λ x y. x -ℤ y) a b h
 operated_there Multiply a b h = both_there (λ x y. x *ℤ y) a b h
 operated_there Divide a b h = nothing_there h
-operated_there Remainder a b h = nothing_there h
+operated_there Remainder a b h = remainder_there a b h
 
 -- a name that has a value or a cell
 abbrev pub IsUsed : Meaning → Type 0
@@ -216,7 +229,8 @@ module _ (names : List Entry) (scope : Scope) where
         (λ word h. of_names (Decimal word) [] (reads-decimal word) tt)
         (λ name subs g h. name_alone name subs (length subs == 0) refl (subst IsThere (value-access (integer_of names scope p) name subs) h))
         (λ name args g h. nothing_there (subst IsThere (value-call (integer_of names scope p) name args) h))
-        (λ up argument divisor place g h. nothing_there (subst IsThere (value-quotient (integer_of names scope p) up argument divisor place) h))
+        (λ up argument divisor place g h. of_names (Quotient up argument divisor place) (reads argument) (reads-quotient up argument divisor place)
+        (g (from_there (rounded up divisor.number) (val argument) (subst IsThere (value-quotient (integer_of names scope p) up argument divisor place) h))))
         (λ operand place g h. of_names (Negative operand place) (reads operand) (reads-negative operand place)
         (g (there_before neg_ℤ (val operand) (subst IsThere (value-negative (integer_of names scope p) operand place) h))))
         (λ inner place g h. of_names (Group inner place) (reads inner) (reads-group inner place) (g (subst IsThere (value-group (integer_of names scope p) inner place) h)))
@@ -296,7 +310,9 @@ module _ (names : List Entry) (scope : Scope) where
           (λ name subs g h. access_case name subs ((length (map val subs) == 0) && not (is_array (meaning names scope name.name))) refl (of_written (Access name subs) _ (written-access names scope p state name subs) h))
           (λ name args g h. of_names (Call name args) (flat_map reads args) (reads-call name args)
           (of_flat args (of_there term args g (terms_of args (args_there (meaning names scope name.name) name.name (map (written names scope p state) args) (of_written (Call name args) _ (written-call names scope p state name args) h))))))
-          (λ up argument divisor place g h. nothing_there (of_written (Quotient up argument divisor place) _ (written-quotient names scope p state up argument divisor place) h))
+          (λ up argument divisor place g h. of_names (Quotient up argument divisor place) (reads argument) (reads-quotient up argument divisor place)
+          (tells argument (from_there (rounded up divisor.number) (val argument) (there_before Num (option_and_then (rounded up divisor.number) (val argument))
+          (of_written (Quotient up argument divisor place) _ (written-quotient names scope p state up argument divisor place) h)))))
           (λ operand place g h. of_names (Negative operand place) (reads operand) (reads-negative operand place)
           (g (negative_there (written names scope p state operand) (of_written (Negative operand place) _ (written-negative names scope p state operand place) h))))
           (λ inner place g h. of_names (Group inner place) (reads inner) (reads-group inner place) (g (of_written (Group inner place) _ (written-group names scope p state inner place) h)))

@@ -5,46 +5,45 @@ use Rattle.std.proofs.lemmas.List.{length-map}
 use Rattle.std.proofs.lemmas.Bool.Decides.{nat_tests}
 use Rattle.ac_syntax.specs.FittingForms.{FitTests}
 use Rattle.ac_syntax.specs.Turns.{Bounded, IsSteady, bounds}
-use Rattle.ac_syntax.specs.ReadyPrograms.{FitsPart, FitParts, Ready, ReadyAll}
+use Rattle.ac_syntax.specs.ReadyPrograms.{Ready, ReadyAll}
 use Rattle.ac_syntax.specs.declared.tree.Place.{Place}
+use Rattle.ac_syntax.specs.declared.tree.Rel.{Rel}
 use Rattle.ac_syntax.specs.declared.tree.Comparison.{Comparison}
-use Rattle.ac_syntax.proofs.Fitting.{fits_form, fit_tests}
-use Rattle.ac_syntax.proofs.Steady.{part_steady, parts_steady}
 use Rattle.ac_syntax.proofs.ReadyAt.{for_ready, if_ready, assign_ready}
 use Rattle.ac_parse_grammar.specs.declared.tree.Word.{Word}
 use Rattle.ac_parse_grammar.specs.declared.tree.Operator.{Operator}
-use Rattle.ac_parse_grammar.specs.declared.tree.Relation.{Relation}
 use Rattle.ac_parse_grammar.specs.declared.tree.Part.{Part}
 use Rattle.ac_parse_grammar.specs.declared.tree.Step.{Step}
 use Rattle.ac_parse_grammar.specs.declared.tree.Expr.{Expr}
 use Rattle.ac_parse_grammar.specs.declared.tree.Statement.{Statement, the_lemmas}
 use Rattle.ac_parse_grammar.specs.declared.tree.Statement.TheVariants.{Loop, Branch, Assign}
 use Rattle.ac_parse_exprs.specs.declared.fault.Which.TheVariants as which
-use Rattle.ac_parse_exprs.specs.declared.fault.Rule.TheVariants.{Endless, Limit}
-use Rattle.ac_parse_exprs.specs.declared.fault.Broken.{Broken}
+use Rattle.ac_parse_exprs.specs.declared.fault.Rule.TheVariants.{Limit}
 use Rattle.ac_parse_exprs.specs.declared.form.Collected.{Collected}
 use Rattle.ac_parse_exprs.specs.declared.form.Collected.TheVariants.{Known, Large, Unknown}
 use Rattle.ac_parse_exprs.specs.declared.scope.Entry.{Entry}
 use Rattle.ac_parse_exprs.specs.declared.scope.Scope.{Scope}
-use Rattle.ac_parse_exprs.specs.FaultOrder.{earlier, broken_where, rule_broken}
-use Rattle.ac_parse_exprs.specs.Meanings.{meaning, word_broken}
-use Rattle.ac_parse_exprs.specs.Comparisons.{whole_broken, form_or_zero, placed_form, index, index_broken, compared, comparison, rel_of, condition, condition_broken}
+use Rattle.ac_parse_exprs.specs.FaultOrder.{earlier}
+use Rattle.ac_parse_exprs.specs.Meanings.{meaning}
+use Rattle.ac_parse_exprs.specs.Comparisons.{whole_broken, form_or_zero, placed_form, index, compared, comparison, part_rel, condition, condition_broken}
 use Rattle.ac_parse_exprs.specs.Values.{array_number}
-use Rattle.ac_parse_rules.specs.Statements.{inside, in_start, loop_rule, step_broken, step_number, form_bounds, may_bound, is_endless, head_broken, assigned_value, statement_broken, statements_broken, stmt, stmts}
+use Rattle.ac_parse_rules.specs.Statements.{inside, in_test, in_start, step_number, form_bounds, may_bound, is_endless, head_broken, assigned_value, statement_broken, statements_broken, stmt, stmts}
 use Rattle.ac_parse_rules.specs.DeclaredNumbers.{has_conditions}
-use Rattle.ac_parse_exprs.proofs.Absent.{neither, none_of, not_where, each, each_map, each_of_map, in_rest, in_front, both_true}
+use Rattle.ac_parse_exprs.proofs.Absent.{neither, none_of, not_where, each, each_of_map, in_rest, in_front, both_true}
 use Rattle.ac_parse_exprs.proofs.Collecting.{IsKnown}
-use Rattle.ac_parse_exprs.proofs.Judges.{neither_is, compared_judges, whole_known, index_fits, comparison_fits, part_fits}
+use Rattle.ac_parse_exprs.proofs.Judges.{neither_is, compared_judges, whole_known}
+use Rattle.ac_parse_exprs.proofs.FittingForms.{index_fits, comparison_fits, parts_fit, parts_steady}
+use Rattle.ac_parse_rules.proofs.UnbrokenParts.{NoPartBroken, none_in, head_ends, head_condition}
 use Rattle.ac_parse_rules.proofs.FittingValues.{indices_fit, assigned_fits}
 use Rattle.ac_parse_rules.proofs.Stepping.{broken-loop, broken-branch, stmt-loop, stmt-branch, stmt-assign}
 use Rattle.ac_parse_exprs.proofs.Trees.{every_statement}
 
 -- a comparison that may bound the iterator and has a form bounds it
-bounds_of : (scope : Scope) (step : ℤ) (relation : Relation) (place : Place) (c : Collected) → IsKnown c → form_bounds step relation c ≡ true
-    → bounds step (record { form = placed_form place (form_or_zero scope c); rel = rel_of relation }) ≡ true
-bounds_of scope step relation place (Known f) k h = rw k h
-bounds_of scope step relation place (Large c) k h = absurd k
-bounds_of scope step relation place Unknown k h = absurd k
+bounds_of : (scope : Scope) (step : ℤ) (rel : Rel) (place : Place) (c : Collected) → IsKnown c → form_bounds step rel c ≡ true
+    → bounds step (record { form = placed_form place (form_or_zero scope c); rel = rel }) ≡ true
+bounds_of scope step rel place (Known f) k h = rw k h
+bounds_of scope step rel place (Large c) k h = absurd k
+bounds_of scope step rel place Unknown k h = absurd k
 
 within_bounds : (b c : Bool) → b ≡ false → (b || c) ≡ true → c ≡ true
 within_bounds true c h k = absurd cc
@@ -54,76 +53,46 @@ within_bounds false c h k = k
 abbrev HasBound : List Entry → Scope → ℤ → List Part → Type 0
 HasBound names scope step parts = (bound : Comparison) × Contains (condition names scope parts) bound × (length bound.form.iters ≡ length scope.iterators) × (bounds step bound ≡ true)
 
-bound_case : (names : List Entry) (scope : Scope) (step : ℤ) (part : Part) (parts : List Part) (b c : Bool) → may_bound step part.relation (compared names scope part) ≡ b
+bound_case : (names : List Entry) (scope : Scope) (step : ℤ) (part : Part) (parts : List Part) (b c : Bool) → may_bound step (part_rel part) (compared names scope part) ≡ b
     → whole_broken (compared names scope part) ≡ None → (b || c) ≡ true → (c ≡ true → HasBound names scope step parts) → HasBound names scope step (part ∷ parts)
 bound_case names scope step part parts true c e w k rest =
     let j = compared names scope part in (
       comparison names scope part,
       in_front (comparison names scope part) (condition names scope parts),
       (comparison_fits names scope part).iters,
-      bounds_of scope step part.relation j.place j.form (whole_known scope.params (length scope.iterators) j (compared_judges names scope part) w)
-          (within_bounds j.large (form_bounds step part.relation j.form) (not_where j.large (Limit which.Coefficient) j.place (neither j.broken _ w).1) e),
+      bounds_of scope step (part_rel part) j.place j.form (whole_known scope.params (length scope.iterators) j (compared_judges names scope part) w)
+          (within_bounds j.large (form_bounds step (part_rel part) j.form) (not_where j.large (Limit which.Coefficient) j.place (neither j.broken _ w).1) e),
     )
 bound_case names scope step part parts false c e w k rest =
     let r = rest k in (r.0, in_rest (comparison names scope part) (condition names scope parts) r.0 r.1, r.2, r.3)
 
 bound_in : (names : List Entry) (scope : Scope) (step : ℤ) (parts : List Part) → AllByRecursion (λ part. whole_broken (compared names scope part) ≡ None) parts
-    → list_any (λ part. may_bound step part.relation (compared names scope part)) parts ≡ true → HasBound names scope step parts
+    → list_any (λ part. may_bound step (part_rel part) (compared names scope part)) parts ≡ true → HasBound names scope step parts
 bound_in names scope step [] h k = absurd cc
 bound_in names scope step (part ∷ parts) h k =
-    bound_case names scope step part parts (may_bound step part.relation (compared names scope part)) (list_any (λ part. may_bound step part.relation (compared names scope part)) parts) refl h.0 k
+    bound_case names scope step part parts (may_bound step (part_rel part) (compared names scope part)) (list_any (λ part. may_bound step (part_rel part) (compared names scope part)) parts) refl h.0 k
     (bound_in names scope step parts h.1)
 
 not_false : (b : Bool) → not b ≡ false → b ≡ true
 not_false true h = refl
 not_false false h = absurd cc
 
-none_in : (names : List Entry) (scope : Scope) (parts : List Part) → condition_broken names scope parts ≡ None → AllByRecursion (λ part. whole_broken (compared names scope part) ≡ None) parts
-none_in names scope parts h = each_of_map (λ part. whole_broken (compared names scope part)) (λ c. c ≡ None) parts (none_of (map (λ part. whole_broken (compared names scope part)) parts) h)
-
 more : (name : List ℕ) (is : List (List ℕ)) → length (name ∷ is) ≡ length is + 1
 more name is = omega arith
-
-pub parts_fit : (names : List Entry) (scope : Scope) (parts : List Part) → FitParts scope.params (length scope.iterators) (condition names scope parts)
-parts_fit names scope parts = each_map (comparison names scope) (FitsPart scope.params (length scope.iterators)) parts (each (λ part. FitsPart scope.params (length scope.iterators) (comparison names scope part)) (part_fits names scope) parts)
-
-tests_fit : (names : List Entry) (scope : Scope) (parts : List Part) → FitTests scope.params (length scope.iterators) (condition names scope parts)
-tests_fit names scope parts = fit_tests scope.params (length scope.iterators) (condition names scope parts) (parts_fit names scope parts)
 
 contained : {A : Type 0} (P : A → Type 0) (xs : List A) (x : A) → AllByRecursion P xs → Contains xs x → P x
 contained P [] x h (k, l, e) = absurd (omega arith)
 contained P (y ∷ ys) x h (zero, l, e) = subst P e h.0
 contained P (y ∷ ys) x h (suc k, l, e) = contained P ys x h.1 (k, omega arith, e)
 
-bounded : (names : List Entry) (scope : Scope) (name : List ℕ) (step : Step) (parts : List Part) → is_endless names (inside scope name) step parts ≡ false → condition_broken names (inside scope name) parts ≡ None
-    → Bounded (length scope.iterators) (step_number step) (record { parts = condition names (inside scope name) parts })
+bounded : (names : List Entry) (scope : Scope) (name : List ℕ) (step : Step) (parts : List Part) → is_endless names (in_test scope name) step parts ≡ false → NoPartBroken names (in_test scope name) parts
+    → Bounded (length scope.iterators) (step_number step) (record { parts = condition names (in_test scope name) parts })
 bounded names scope name step parts h k =
-    let e = neither_is (step.by.number == 0) (not (list_any (λ part. may_bound (step_number step) part.relation (compared names (inside scope name) part)) parts)) h in
-    let b = bound_in names (inside scope name) (step_number step) parts (none_in names (inside scope name) parts k) (not_false (list_any (λ part. may_bound (step_number step) part.relation (compared names (inside scope name) part)) parts) e.1) in
-    let inner = inside scope name in
-    let fits = contained (FitsPart inner.params (length inner.iterators)) (condition names inner parts) b.0 (parts_fit names inner parts) b.1 in
-    record { bound = b.0; stands = b.1; innermost = b.2 ∙ more name scope.iterators; ends = b.3; steady = part_steady inner.params (length inner.iterators) (length scope.iterators) b.0 fits }
-
-steady_inside : (names : List Entry) (scope : Scope) (name : List ℕ) (parts : List Part) → AllByRecursion (IsSteady (length scope.iterators)) (condition names (inside scope name) parts)
-steady_inside names scope name parts =
-    let inner = inside scope name in
-    parts_steady inner.params (length inner.iterators) (length scope.iterators) (condition names inner parts) (parts_fit names inner parts)
-
-head_parts : (a b c d e : Option Broken) → earlier (earlier a b) (earlier c (earlier d e)) ≡ None → (b ≡ None) × (d ≡ None)
-head_parts a b c d e h =
-    let n = neither (earlier a b) (earlier c (earlier d e)) h in
-    let m = neither a b n.0 in
-    let i = neither c (earlier d e) n.1 in
-    let j = neither d e i.1 in
-    (m.1, j.0)
-
-head_bounded : (names : List Entry) (scope : Scope) (typed : Bool) (name : Word) (start : Expr) (cond : List Part) (step : Step) (place : Place) → head_broken names scope typed name start cond step place ≡ None
-    → Bounded (length scope.iterators) (step_number step) (record { parts = condition names (inside scope name.name) cond })
-head_bounded names scope typed name start cond step place h =
-    let p = head_parts (broken_where (nat_lt 5 (length scope.iterators)) (Limit which.Depth) place) (broken_where (is_endless names (inside scope name.name) step cond) Endless place)
-    (earlier (earlier (word_broken name) (rule_broken (loop_rule names scope typed name.name) name.place)) (index_broken names (in_start scope typed name.name) start))
-    (condition_broken names (inside scope name.name) cond) (step_broken names (inside scope name.name) name.name step) h in
-    bounded names scope name.name step cond (not_where (is_endless names (inside scope name.name) step cond) Endless place p.0) p.1
+    let test = in_test scope name in
+    let e = neither_is (step.by.number == 0) (not (list_any (λ part. may_bound (step_number step) (part_rel part) (compared names test part)) parts)) h in
+    let b = bound_in names test (step_number step) parts k (not_false (list_any (λ part. may_bound (step_number step) (part_rel part) (compared names test part)) parts) e.1) in
+    let steady = contained (IsSteady (length scope.iterators)) (condition names test parts) b.0 (parts_steady names test (length scope.iterators) refl (more name scope.iterators) parts k) b.1 in
+    record { bound = b.0; stands = b.1; innermost = b.2 ∙ more name scope.iterators; ends = b.3; steady = steady }
 
 passes_all : {A : Type 0} (f : A → Bool) (xs : List A) → list_all (λ (b : Bool). b) (map f xs) ≡ list_all f xs
 passes_all f [] = refl
@@ -160,12 +129,14 @@ loop_ready names typed name start cond step body place h scope b c =
     let n = neither (head_broken names scope typed name start cond step place) (statements_broken names (inside scope name.name) body) (sym (broken-loop names scope typed name start cond step body place) ∙ b) in
     let r = ready_block names (inside scope name.name) body h n.1 (sym (conditions-loop typed name start cond step body place) ∙ c) in
     let e = more name.name scope.iterators in
+    let test = in_test scope name.name in
+    let k = none_in names test cond (head_condition names scope typed name start cond step place n.0) in
     subst (Ready scope.params (length scope.iterators)) (sym (stmt-loop names scope typed name start cond step body place))
-    (for_ready scope.params (length scope.iterators) name.name (index names (in_start scope typed name.name) start) (record { parts = condition names (inside scope name.name) cond }) (step_number step) (stmts names (inside scope name.name) body) place
-    (fits_form scope.params (length scope.iterators) (index names (in_start scope typed name.name) start) (index_fits names (in_start scope typed name.name) start))
-    (subst (λ k. FitTests scope.params k (condition names (inside scope name.name) cond)) e (tests_fit names (inside scope name.name) cond))
-    (steady_inside names scope name.name cond)
-    (head_bounded names scope typed name start cond step place n.0)
+    (for_ready scope.params (length scope.iterators) name.name (index names (in_start scope typed name.name) start) (record { parts = condition names test cond }) (step_number step) (stmts names (inside scope name.name) body) place
+    (index_fits names (in_start scope typed name.name) start)
+    (subst (λ k. FitTests scope.params k (condition names test cond)) e (parts_fit names test cond k))
+    (parts_steady names test (length scope.iterators) refl e cond k)
+    (bounded names scope name.name step cond (head_ends names scope typed name start cond step place n.0) k)
     (subst (λ k. ReadyAll scope.params k (stmts names (inside scope name.name) body)) e r))
 
 branch_ready : (names : List Entry) (cond : List Part) (taken other : List Statement) (place : Place) → AllByRecursion (IsReady names) taken → AllByRecursion (IsReady names) other → IsReady names (Branch cond taken other place)
@@ -176,7 +147,7 @@ branch_ready names cond taken other place h k scope b c =
     let f = both_true (list_all has_conditions taken) (list_all has_conditions other) e.1 in
     subst (Ready scope.params (length scope.iterators)) (sym (stmt-branch names scope cond taken other place))
     (if_ready scope.params (length scope.iterators) (record { parts = condition names scope cond }) (stmts names scope taken) (stmts names scope other) place
-    (tests_fit names scope cond) (ready_block names scope taken h m.0 f.0) (ready_block names scope other k m.1 f.1) (some_parts names scope cond e.0))
+    (parts_fit names scope cond (none_in names scope cond n.0)) (ready_block names scope taken h m.0 f.0) (ready_block names scope other k m.1 f.1) (some_parts names scope cond e.0))
 
 assign_is_ready : (names : List Entry) (target : Word) (subs : List Expr) (operator : Option Operator) (e : Expr) → IsReady names (Assign target subs operator e)
 assign_is_ready names target subs operator e scope b c =

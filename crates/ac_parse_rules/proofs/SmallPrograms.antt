@@ -22,14 +22,16 @@ use Rattle.ac_parse_exprs.specs.declared.scope.Meaning.TheVariants as means
 use Rattle.ac_parse_exprs.specs.declared.scope.Entry.{Entry}
 use Rattle.ac_parse_exprs.specs.declared.scope.Scope.{Scope}
 use Rattle.ac_parse_exprs.specs.FaultOrder.{earlier, broken_where}
-use Rattle.ac_parse_exprs.specs.Meanings.{declared_meaning, word_broken}
+use Rattle.ac_parse_exprs.specs.Meanings.{declared_meaning}
 use Rattle.ac_parse_exprs.specs.Comparisons.{first_of, index}
 use Rattle.ac_parse_rules.specs.Declarations.{is_whole, is_loop_name, entry, count, param_meaning, param_entries, local_entries, param_count, input_count, fixed_scope, is_declared, count_broken, dimensions_broken, extents_broken, name_broken, declared_broken, each_declared_broken, array_of, arrays_from}
+use Rattle.ac_parse_rules.specs.FewQuotients.{all_crowded}
 use Rattle.ac_parse_rules.specs.Statements.{statements_broken}
 use Rattle.ac_parse_rules.specs.Files.{body_scope, assignments_broken, declarations_broken, body_broken, pragmas_broken, context_parts, names_of, file_broken, program_of}
 use Rattle.ac_parse_exprs.proofs.Absent.{NoneBroken, neither, none_of, not_where, each, each_map, each_append}
 use Rattle.ac_parse_rules.proofs.EachArray.{arrays_have}
 use Rattle.ac_parse_exprs.proofs.SmallForms.{Few, small_index, small_condition}
+use Rattle.ac_parse_rules.proofs.UnbrokenParts.{context_unbroken}
 use Rattle.ac_parse_rules.proofs.SmallStatements.{small_statements}
 
 -- a name that is not declared before means what is declared behind
@@ -70,9 +72,8 @@ pub names_none : (names : List Entry) (scope : Scope) (k : ℕ) (d : Declared) �
     → (is_declared (take k names) d.name.name ≡ false) × (count_broken (declared_meaning names d.name.name) d.name.place ≡ None)
 names_none names scope k d h =
     let a = neither (name_broken names k d) (earlier (dimensions_broken d.extents) (extents_broken (take k names) scope d.extents)) h in
-    let c = neither (earlier (word_broken d.name) (broken_where (is_declared (take k names) d.name.name) Duplicate d.name.place)) (count_broken (declared_meaning names d.name.name) d.name.place) a.0 in
-    let b = neither (word_broken d.name) (broken_where (is_declared (take k names) d.name.name) Duplicate d.name.place) c.0 in
-    (not_where (is_declared (take k names) d.name.name) Duplicate d.name.place b.1, c.1)
+    let c = neither (broken_where (is_declared (take k names) d.name.name) Duplicate d.name.place) (count_broken (declared_meaning names d.name.name) d.name.place) a.0 in
+    (not_where (is_declared (take k names) d.name.name) Duplicate d.name.place c.0, c.1)
 
 -- parameters that break no rule, behind p integers, make at most 4 of them
 few_params : (scope : Scope) (before : List Entry) (ds : List Declared) (tail : List Entry) (p a : ℕ) → p ≤ 4
@@ -117,14 +118,13 @@ params_few file h =
 pub small_program : (file : File) → file_broken file ≡ None → IsSmallProgram (program_of file)
 small_program file h =
     let names = names_of file in
-    let a = neither (earlier (word_broken file.name) (declarations_broken names file)) (earlier (body_broken names file) (pragmas_broken names file)) h in
-    let d = neither (word_broken file.name) (declarations_broken names file) a.0 in
+    let a = neither (declarations_broken names file) (earlier (body_broken names file) (pragmas_broken names file)) h in
     let b = neither (body_broken names file) (pragmas_broken names file) a.1 in
-    let s = neither (statements_broken names (body_scope (param_count file.params)) file.body) (assignments_broken file.body) b.0 in
-    let n = params_few file d.1 in
+    let s = neither (statements_broken names (body_scope (param_count file.params)) file.body) (earlier (assignments_broken file.body) (all_crowded names (body_scope (param_count file.params)) [] file.body)) b.0 in
+    let n = params_few file a.0 in
     let inside : Few (body_scope (param_count file.params)) = record { params = n; loops = omega arith } in
     let fixed : Few (fixed_scope (param_count file.params)) = record { params = n; loops = omega arith } in record {
       body = small_statements names (body_scope (param_count file.params)) file.body inside s.0;
-      context = small_condition names (fixed_scope (param_count file.params)) fixed (context_parts file.pragmas);
+      context = small_condition names (fixed_scope (param_count file.params)) fixed (context_parts file.pragmas) (context_unbroken names (fixed_scope (param_count file.params)) (input_count file.params) file.pragmas b.1);
       extents = each_append SmallExtents _ _ (small_arrays names (fixed_scope (param_count file.params)) Input fixed is_whole 0 file.params) (small_arrays names (fixed_scope (param_count file.params)) Local fixed (is_loop_name file.body) (length file.params) file.locals);
     }

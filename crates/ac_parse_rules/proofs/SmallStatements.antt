@@ -26,10 +26,11 @@ use Rattle.ac_parse_exprs.specs.FaultOrder.{earlier, broken_where}
 use Rattle.ac_parse_exprs.specs.Meanings.{meaning}
 use Rattle.ac_parse_exprs.specs.Comparisons.{index, condition, condition_broken}
 use Rattle.ac_parse_exprs.specs.Values.{array_number}
-use Rattle.ac_parse_rules.specs.Statements.{inside, in_start, step_number, head_broken, assigned_value, statement_broken, statements_broken, stmt, stmts}
+use Rattle.ac_parse_rules.specs.Statements.{inside, in_test, in_start, step_number, head_broken, assigned_value, statement_broken, statements_broken, stmt, stmts}
 use Rattle.ac_parse_exprs.proofs.Absent.{NoneBroken, each, neither, none_of, not_where}
 use Rattle.ac_parse_rules.proofs.Stepping.{broken-loop, broken-branch, stmt-loop, stmt-branch, stmt-assign}
 use Rattle.ac_parse_exprs.proofs.SmallForms.{Few, small_index, small_indices, small_condition}
+use Rattle.ac_parse_rules.proofs.UnbrokenParts.{none_in, head_condition}
 use Rattle.ac_parse_rules.proofs.SmallValues.{small_assigned}
 use Rattle.ac_parse_exprs.proofs.Trees.{every_statement}
 
@@ -77,6 +78,9 @@ module _ (names : List Entry) where
   one_more : (scope : Scope) (name : List ℕ) → Few scope → nat_lt 5 (length scope.iterators) ≡ false → Few (inside scope name)
   one_more scope name few h = record { params = few.params; loops = grind (arith, nat_tests) }
 
+  at_test : (scope : Scope) (name : List ℕ) → Few (inside scope name) → Few (in_test scope name)
+  at_test scope name few = record { params = few.params; loops = few.loops }
+
   at_start : (scope : Scope) (typed : Bool) (name : List ℕ) → Few scope → Few (in_start scope typed name)
   at_start scope typed name few = record { params = few.params; loops = few.loops }
 
@@ -85,8 +89,8 @@ module _ (names : List Entry) where
       let e = neither (head_broken names scope typed name start cond step place) (statements_broken names (inside scope name.name) body) (sym (broken-loop names scope typed name start cond step body place) ∙ h) in
       let i = one_more scope name.name few (front_none (nat_lt 5 (length scope.iterators)) (Limit which.Depth) place _ _ e.0) in
       subst IsSmallStmt (sym (stmt-loop names scope typed name start cond step body place))
-      (small_for name.name (index names (in_start scope typed name.name) start) (record { parts = condition names (inside scope name.name) cond }) (step_number step) (stmts names (inside scope name.name) body) place
-      (small_index names (in_start scope typed name.name) (at_start scope typed name.name few) start) (small_condition names (inside scope name.name) i cond) (small_body body ks (inside scope name.name) i e.1))
+      (small_for name.name (index names (in_start scope typed name.name) start) (record { parts = condition names (in_test scope name.name) cond }) (step_number step) (stmts names (inside scope name.name) body) place
+      (small_index names (in_start scope typed name.name) (at_start scope typed name.name few) start) (small_condition names (in_test scope name.name) (at_test scope name.name i) cond (none_in names (in_test scope name.name) cond (head_condition names scope typed name start cond step place e.0))) (small_body body ks (inside scope name.name) i e.1))
 
   small_branch : (cond : List Part) (taken other : List Statement) (place : Place) → AllByRecursion Kept taken → AllByRecursion Kept other → Kept (Branch cond taken other place)
   small_branch cond taken other place ts os scope few h =
@@ -94,7 +98,7 @@ module _ (names : List Entry) where
       let b = neither (statements_broken names scope taken) (statements_broken names scope other) e.1 in
       subst IsSmallStmt (sym (stmt-branch names scope cond taken other place))
       (small_if (record { parts = condition names scope cond }) (stmts names scope taken) (stmts names scope other) place
-      (small_condition names scope few cond) (small_body taken ts scope few b.0) (small_body other os scope few b.1))
+      (small_condition names scope few cond (none_in names scope cond e.0)) (small_body taken ts scope few b.0) (small_body other os scope few b.1))
 
   small_assignment : (target : Word) (subs : List Expr) (operator : Option Operator) (e : Expr) → Kept (Assign target subs operator e)
   small_assignment target subs operator e scope few h =

@@ -1,7 +1,7 @@
 -- Values whose index expressions are within the limits.
 use Rattle.std.proofs.Common.{ℕ, List, map, Option, rules}
 use Rattle.std.specs.List.{AllByRecursion}
-use Rattle.ac_syntax.specs.Small.{IsSmallForm, AreSmallForms, IsSmallValue, AreSmallValues}
+use Rattle.ac_syntax.specs.Small.{IsSmallQuot, IsSmallForm, AreSmallForms, IsSmallValue, AreSmallValues}
 use Rattle.ac_syntax.specs.declared.tree.Place.{Place}
 use Rattle.ac_syntax.specs.declared.tree.Symbol.{Symbol}
 use Rattle.ac_syntax.specs.declared.tree.IndexExpr.{IndexExpr}
@@ -16,7 +16,7 @@ use Rattle.ac_parse_exprs.specs.Comparisons.{index_expr, index}
 use Rattle.ac_parse_exprs.specs.Values.{placed, array_number}
 use Rattle.ac_parse_rules.specs.Statements.{assigned_value}
 use Rattle.ac_parse_rules.proofs.AssignedValues.{assigned_has}
-use Rattle.ac_parse_exprs.proofs.SmallForms.{Few, small_index_expr, small_indices}
+use Rattle.ac_parse_exprs.proofs.SmallForms.{Few, other_coef, small_quot, small_index_expr, small_indices}
 
 -- calls
 of_row : (m : _) (k : Row_of-Value m) → AllByRecursion IsSmallValue (items-the_row-Value m k) → AreSmallValues k
@@ -47,7 +47,7 @@ small_placed place (Call' symbol n args p) h = h
 
 module _ (names : List Entry) (scope : Scope) (few : Few scope) where
   pub small_assigned : (target : Word) (subs : List Expr) (operator : Option Operator) (e : Expr) → IsSmallValue (assigned_value names scope target subs operator e)
-  small_assigned = assigned_has names scope IsSmallValue
-      (λ j h. small_number (index_expr scope j) (small_index_expr scope few j h))
+  small_assigned = assigned_has names scope IsSmallValue IsSmallQuot other_coef (small_quot scope few)
+      (λ j h q. small_number (index_expr scope j) (small_index_expr scope few j h q))
       (λ m word subs. small_access (array_number m) (map (index names scope) subs) word.place (small_indices names scope few subs))
       small_call small_placed

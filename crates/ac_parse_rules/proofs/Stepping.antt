@@ -16,7 +16,7 @@ use Rattle.ac_parse_exprs.specs.FaultOrder.{earlier}
 use Rattle.ac_parse_exprs.specs.Meanings.{meaning}
 use Rattle.ac_parse_exprs.specs.Comparisons.{first_of, index, condition, condition_broken}
 use Rattle.ac_parse_exprs.specs.Values.{array_number}
-use Rattle.ac_parse_rules.specs.Statements.{inside, in_start, head_broken, assignment_broken, assigned_value, first_in, statement_broken, statements_broken, targets, all_targets, each_in, step_number, stmt, stmts}
+use Rattle.ac_parse_rules.specs.Statements.{inside, in_test, in_start, head_broken, assignment_broken, assigned_value, first_in, statement_broken, statements_broken, targets, all_targets, each_in, step_number, stmt, stmts}
 
 applied_each : {A B C : Type 0} (f : A → B → C) (b : B) (xs : List A) → map (λ (g : B → C). g b) (map f xs) ≡ map (λ x. f x b) xs
 applied_each f b [] = refl
@@ -75,12 +75,12 @@ targets-assign target subs operator e = search (rules, the_lemmas)
 pub ruleset targeting = (targets-loop, targets-branch, targets-assign)
 
 stmt_loop : (names : List Entry) (typed : Bool) (name : Word) (start : Expr) (cond : List Part) (step : Step) (body : List Statement) (place : Place)
-    → stmt names (Loop typed name start cond step body place) ≡ (λ scope. s.For name.name (index names (in_start scope typed name.name) start) (record { parts = condition names (inside scope name.name) cond }) (step_number step) (each_in (inside scope name.name) (map (stmt names) body)) place)
+    → stmt names (Loop typed name start cond step body place) ≡ (λ scope. s.For name.name (index names (in_start scope typed name.name) start) (record { parts = condition names (in_test scope name.name) cond }) (step_number step) (each_in (inside scope name.name) (map (stmt names) body)) place)
 unfolding stmt
 stmt_loop names typed name start cond step body place = search (rules, the_lemmas)
 
 pub stmt-loop : (names : List Entry) (scope : Scope) (typed : Bool) (name : Word) (start : Expr) (cond : List Part) (step : Step) (body : List Statement) (place : Place)
-    → stmt names (Loop typed name start cond step body place) scope ≡ s.For name.name (index names (in_start scope typed name.name) start) (record { parts = condition names (inside scope name.name) cond }) (step_number step) (stmts names (inside scope name.name) body) place
+    → stmt names (Loop typed name start cond step body place) scope ≡ s.For name.name (index names (in_start scope typed name.name) start) (record { parts = condition names (in_test scope name.name) cond }) (step_number step) (stmts names (inside scope name.name) body) place
 stmt-loop names scope typed name start cond step body place =
     ap (λ f. f scope) (stmt_loop names typed name start cond step body place) ∙ rw (applied_each (stmt names) (inside scope name.name) body) refl
 

@@ -28,7 +28,7 @@ use Rattle.ac_parse_exprs.specs.FaultOrder.{earlier, rule_broken}
 use Rattle.ac_parse_exprs.specs.Comparisons.{whole_broken, index_broken, compared, condition_broken}
 use Rattle.ac_parse_rules.specs.Declarations.{is_declared, param_count, input_count, fixed_scope}
 use Rattle.ac_parse_exprs.specs.Meanings.{declared_meaning, meaning, iterator_number}
-use Rattle.ac_parse_rules.specs.Statements.{inside, in_start, other_rule, step_word_broken, source_broken, head_broken, target_rule, statement_broken, statements_broken}
+use Rattle.ac_parse_rules.specs.Statements.{inside, in_test, in_start, other_rule, step_word_broken, source_broken, head_broken, target_rule, statement_broken, statements_broken}
 use Rattle.ac_parse_exprs.specs.Values.{value_broken, access_broken}
 use Rattle.ac_parse_rules.specs.Files.{context_parts, output_words, output_rule, output_broken, pragma_broken, body_scope, names_of}
 use Rattle.ac_parse_exprs.specs.FormValues.{AreNumbered, IsPointOf}
@@ -42,7 +42,7 @@ use Rattle.ac_parse_rules.proofs.Stepping.{broken-loop, broken-branch, broken-as
 use Rattle.ac_parse_exprs.proofs.Trees.{every_statement}
 use Rattle.ac_parse_exprs.proofs.WrittenConditions.{comparison_holds_as}
 use Rattle.ac_parse_exprs.proofs.WrittenExpressions.{indices_have_values}
-use Rattle.ac_parse_rules.proofs.WrittenPrograms.{context_none}
+use Rattle.ac_parse_rules.proofs.UnbrokenParts.{context_none}
 use Rattle.ac_parse_exprs.proofs.WrittenTerms.{value_says}
 
 -- some point of a scope, and some state
@@ -100,7 +100,7 @@ module _ (names : List Entry) (scope : Scope) (a : AreNumbered scope.params name
 
 -- a step that breaks no rule changes its own loop's name
 own_step : (names : List Entry) (scope : Scope) (name : List ℕ) (word : Word) → step_word_broken names (inside scope name) name word ≡ None → IsKnown names (inside scope name) word.name
-own_step names scope name word h = by (pointwise nat_eq word.name name) refl (neither _ _ h).1
+own_step names scope name word h = by (pointwise nat_eq word.name name) refl h
   where
     runs_itself : (b : Bool) (k : Option ℕ) → b ≡ true → (is_some (cond b (Some (length scope.iterators)) k) || is_declared names name) ≡ true
     runs_itself true k e = refl
@@ -133,7 +133,7 @@ loop_uses names typed name start cond step body place h scope a b =
     let s = (neither _ _ m.0).1 in
     let c = neither _ _ m.1 in
     let q = neither _ _ (neither _ _ c.1).0 in
-    loop {typed = typed} {name = name} {start = start} {cond = cond} {step = step} {body = body} {place = place} (index_known names (in_start scope typed name.name) a start s) (condition_known names (inside scope name.name) a cond c.0)
+    loop {typed = typed} {name = name} {start = start} {cond = cond} {step = step} {body = body} {place = place} (index_known names (in_start scope typed name.name) a start s) (condition_known names (in_test scope name.name) a cond c.0)
     (own_step names scope name.name step.target q.0) (source_own names scope name.name step.source q.1) (block_uses names (inside scope name.name) a body h n.1)
 
 branch_uses : (names : List Entry) (cond : List Part) (taken other : List Statement) (place : Place) → AllByRecursion (IsUsing names) taken → AllByRecursion (IsUsing names) other → IsUsing names (Branch cond taken other place)
@@ -154,7 +154,7 @@ statements_use names scope a ss b = block_uses names scope a ss (each (IsUsing n
 words_declared : (names : List Entry) (inputs : ℕ) (words : List Word) → NoneBroken (map (output_broken names inputs) words) → AllByRecursion (λ (word : Word). is_declared names word.name ≡ true) words
 words_declared names inputs [] h = tt
 words_declared names inputs (word ∷ words) h = (
-  used_declared names word.name (output_used inputs (declared_meaning names word.name) (no_rule (output_rule inputs (declared_meaning names word.name)) word.place (neither _ _ h.0).1)),
+  used_declared names word.name (output_used inputs (declared_meaning names word.name) (no_rule (output_rule inputs (declared_meaning names word.name)) word.place h.0)),
   words_declared names inputs words h.1,
 )
 

@@ -1,5 +1,5 @@
 -- The program of a file that breaks no rule does what the file says.
-use Rattle.std.proofs.Common.{◌≡◌, ℕ, ℤ, pos, List, [], ◌∷◌, ◌++◌, map, length, Bool, cond, ◌==◌, refl, sym, subst, ◌∙◌, Option, Some, None}
+use Rattle.std.proofs.Common.{◌≡◌, ℤ, pos, List, [], ◌∷◌, map, length, Bool, cond, ◌==◌, refl, sym, subst, ◌∙◌, Option, Some, None}
 use Rattle.std.specs.Option.{option_map}
 use Rattle.std.specs.List.{AllByRecursion}
 use Rattle.std.proofs.lemmas.List.{length-map}
@@ -14,20 +14,18 @@ use Rattle.ac_parse_grammar.specs.declared.tree.Step.{Step}
 use Rattle.ac_parse_grammar.specs.declared.tree.Expr.{Expr}
 use Rattle.ac_parse_grammar.specs.declared.tree.Statement.{Statement}
 use Rattle.ac_parse_grammar.specs.declared.tree.Statement.TheVariants.{Loop, Branch, Assign}
-use Rattle.ac_parse_grammar.specs.declared.tree.Pragma.{Pragma}
-use Rattle.ac_parse_grammar.specs.declared.tree.Pragma.TheVariants.{Context, Commutative, Output}
 use Rattle.ac_parse_exprs.specs.declared.fault.Broken.{Broken}
 use Rattle.ac_parse_exprs.specs.declared.scope.Entry.{Entry}
 use Rattle.ac_parse_exprs.specs.declared.scope.Meaning.{Meaning}
 use Rattle.ac_parse_exprs.specs.declared.scope.Meaning.TheVariants as means
 use Rattle.ac_parse_exprs.specs.declared.scope.Scope.{Scope}
 use Rattle.ac_parse_exprs.specs.FaultOrder.{earlier}
-use Rattle.ac_parse_exprs.specs.Comparisons.{first_from, whole_broken, index, index_broken, compared, condition, condition_broken}
+use Rattle.ac_parse_exprs.specs.Comparisons.{first_from, index, index_broken, condition, condition_broken}
 use Rattle.ac_parse_rules.specs.Declarations.{param_count, input_count, fixed_scope}
 use Rattle.ac_parse_exprs.specs.Meanings.{meaning}
-use Rattle.ac_parse_rules.specs.Statements.{inside, in_start, head_broken, target_rule, assigned_value, statement_broken, statements_broken, stmt, stmts}
+use Rattle.ac_parse_rules.specs.Statements.{inside, in_test, in_start, head_broken, target_rule, assigned_value, statement_broken, statements_broken, stmt, stmts}
 use Rattle.ac_parse_exprs.specs.Values.{value, value_broken, array_number, read_of, access_broken}
-use Rattle.ac_parse_rules.specs.Files.{context_parts, pragma_broken, body_scope, names_of}
+use Rattle.ac_parse_rules.specs.Files.{context_parts, body_scope, names_of}
 use Rattle.ac_parse_exprs.specs.WrittenValues.{integer_of, expression_value}
 use Rattle.ac_parse_exprs.specs.WrittenTerms.{all_of, cell_of, as_term, written, target_cell, assigned_term}
 use Rattle.ac_parse_exprs.specs.FormValues.{AreNumbered, IsPointOf}
@@ -35,6 +33,7 @@ use Rattle.ac_parse_rules.specs.LawsOfPrograms.{IsIndexOf, IsConditionOf, IsStat
 use Rattle.ac_parse_exprs.proofs.Absent.{NoneBroken, neither, none_of, each, each_of_map}
 use Rattle.ac_parse_exprs.proofs.Accesses.{rule_holds}
 use Rattle.ac_parse_rules.proofs.NumberedNames.{files_are_numbered}
+use Rattle.ac_parse_rules.proofs.UnbrokenParts.{context_none}
 use Rattle.ac_parse_rules.proofs.Stepping.{broken-loop, broken-branch, broken-assign, stmt-loop, stmt-branch, stmt-assign}
 use Rattle.ac_parse_exprs.proofs.Trees.{every_statement}
 use Rattle.ac_parse_exprs.proofs.WrittenConditions.{conditions_hold}
@@ -96,7 +95,7 @@ loop_as names typed name start cond step body place h scope a b =
     let s = (neither _ _ m.0).1 in
     let c = (neither _ _ m.1).0 in
     subst (IsStatementOf names scope (Loop typed name start cond step body place)) (sym (stmt-loop names scope typed name start cond step body place))
-    (loop {typed = typed} {name = name} {start = start} {cond = cond} {step = step} {body = body} {place = place} (index_as names (in_start scope typed name.name) a start s) (condition_as names (inside scope name.name) a cond c) (block_as names (inside scope name.name) a body h n.1))
+    (loop {typed = typed} {name = name} {start = start} {cond = cond} {step = step} {body = body} {place = place} (index_as names (in_start scope typed name.name) a start s) (condition_as names (in_test scope name.name) a cond c) (block_as names (inside scope name.name) a body h n.1))
 
 branch_as : (names : List Entry) (cond : List Part) (taken other : List Statement) (place : Place) → AllByRecursion (IsAs names) taken → AllByRecursion (IsAs names) other → IsAs names (Branch cond taken other place)
 branch_as names cond taken other place h k scope a b =
@@ -122,18 +121,6 @@ statements_as names scope a ss b = block_as names scope a ss (each (IsAs names) 
 all_none : (cs : List (Option Broken)) → NoneBroken cs → first_from None cs ≡ None
 all_none [] h = refl
 all_none (c ∷ cs) h = rw h.0 (all_none cs h.1)
-
-none_append : (f : Part → Option Broken) (ps qs : List Part) → NoneBroken (map f ps) → NoneBroken (map f qs) → NoneBroken (map f (ps ++ qs))
-none_append f [] qs h k = k
-none_append f (p ∷ ps) qs h k = (h.0, none_append f ps qs h.1 k)
-
-pub context_none : (names : List Entry) (scope : Scope) (inputs : ℕ) (ps : List Pragma) → NoneBroken (map (pragma_broken names scope inputs) ps)
-    → NoneBroken (map (λ part. whole_broken (compared names scope part)) (context_parts ps))
-context_none names scope inputs [] h = tt
-context_none names scope inputs (Context parts ∷ ps) h =
-    none_append (λ part. whole_broken (compared names scope part)) parts (context_parts ps) (none_of (map (λ part. whole_broken (compared names scope part)) parts) h.0) (context_none names scope inputs ps h.1)
-context_none names scope inputs (Commutative words ∷ ps) h = context_none names scope inputs ps h.1
-context_none names scope inputs (Output words ∷ ps) h = context_none names scope inputs ps h.1
 
 pub programs_do_as_written : ProgramsDoAsWritten
 programs_do_as_written file h =

@@ -20,7 +20,7 @@ use Rattle.ac_parse_exprs.specs.declared.scope.Meaning.TheVariants as means
 use Rattle.ac_parse_exprs.specs.declared.scope.Entry.{Entry}
 use Rattle.ac_parse_exprs.specs.declared.scope.Scope.{Scope}
 use Rattle.ac_parse_exprs.specs.FaultOrder.{earlier, broken, broken_where}
-use Rattle.ac_parse_exprs.specs.Meanings.{declared_meaning, word_broken}
+use Rattle.ac_parse_exprs.specs.Meanings.{declared_meaning}
 use Rattle.ac_parse_exprs.specs.Comparisons.{first_of, index, index_broken}
 
 -- some loop without a type runs the name
@@ -76,7 +76,7 @@ entries params locals body = param_entries params 0 0 ++ local_entries body loca
 
 -- where only parameters may stand: in extents and contexts
 abbrev pub fixed_scope : ℕ → Scope
-fixed_scope params = record { params = params; iterators = []; starting = None; fixed = true }
+fixed_scope params = record { params = params; iterators = []; starting = None; fixed = true; tested = false }
 
 abbrev pub is_declared : List Entry → List ℕ → Bool
 is_declared names name = list_any (λ e. pointwise nat_eq e.name name) names
@@ -99,7 +99,7 @@ extents_broken visible scope extents = first_of (map (λ extent. index_broken vi
 
 -- the declaration with the number k, behind the ones before it
 abbrev pub name_broken : List Entry → ℕ → Declared → Option Broken
-name_broken names k d = earlier (earlier (word_broken d.name) (broken_where (is_declared (take k names) d.name.name) Duplicate d.name.place))
+name_broken names k d = earlier (broken_where (is_declared (take k names) d.name.name) Duplicate d.name.place)
     (count_broken (declared_meaning names d.name.name) d.name.place)
 
 abbrev pub declared_broken : List Entry → Scope → ℕ → Declared → Option Broken

@@ -22,10 +22,11 @@ use Rattle.ac_parse_exprs.specs.declared.scope.Meaning.TheVariants as means
 use Rattle.ac_parse_exprs.specs.declared.scope.Entry.{Entry}
 use Rattle.ac_parse_exprs.specs.declared.scope.Scope.{Scope}
 use Rattle.ac_parse_exprs.specs.FaultOrder.{earlier, broken, rule_broken}
-use Rattle.ac_parse_exprs.specs.Meanings.{declared_meaning, misused_unless, word_broken}
+use Rattle.ac_parse_exprs.specs.Meanings.{declared_meaning, misused_unless}
 use Rattle.ac_parse_exprs.specs.Comparisons.{first_of, condition, condition_broken}
 use Rattle.ac_parse_exprs.specs.Values.{array_number}
 use Rattle.ac_parse_rules.specs.Declarations.{is_whole, is_loop_name, param_count, input_count, entries, fixed_scope, each_declared_broken, arrays_from, slots_from, param_names}
+use Rattle.ac_parse_rules.specs.FewQuotients.{all_crowded}
 use Rattle.ac_parse_rules.specs.Statements.{statements_broken, all_targets, stmts}
 
 -- what the lines of each kind say, in the order of the text
@@ -66,11 +67,11 @@ output_rule inputs means.OwnStart = Some rule.Misused
 output_rule inputs means.Nothing = Some rule.Undeclared
 
 abbrev pub output_broken : List Entry → ℕ → Word → Option Broken
-output_broken names inputs word = earlier (word_broken word) (rule_broken (output_rule inputs (declared_meaning names word.name)) word.place)
+output_broken names inputs word = rule_broken (output_rule inputs (declared_meaning names word.name)) word.place
 
 abbrev pub pragma_broken : List Entry → Scope → ℕ → Pragma → Option Broken
 pragma_broken names scope inputs (Context parts) = condition_broken names scope parts
-pragma_broken names scope inputs (Commutative words) = first_of (map word_broken words)
+pragma_broken names scope inputs (Commutative words) = None
 pragma_broken names scope inputs (Output words) = first_of (map (output_broken names inputs) words)
 
 -- the numbers of the outputs, where there is an output line
@@ -82,7 +83,7 @@ output_line names ps = if has_output_line ps then Some (output_numbers names (ou
 
 -- outside all loops
 abbrev pub body_scope : ℕ → Scope
-body_scope params = record { params = params; iterators = []; starting = None; fixed = false }
+body_scope params = record { params = params; iterators = []; starting = None; fixed = false; tested = false }
 
 -- one assignment too many
 abbrev pub assignments_broken : List Statement → Option Broken
@@ -94,13 +95,13 @@ declarations_broken names file =
     (first_of (each_declared_broken names (fixed_scope (param_count file.params)) (length file.params) file.locals))
 
 abbrev pub body_broken : List Entry → File → Option Broken
-body_broken names file = earlier (statements_broken names (body_scope (param_count file.params)) file.body) (assignments_broken file.body)
+body_broken names file = earlier (statements_broken names (body_scope (param_count file.params)) file.body) (earlier (assignments_broken file.body) (all_crowded names (body_scope (param_count file.params)) [] file.body))
 
 abbrev pub pragmas_broken : List Entry → File → Option Broken
 pragmas_broken names file = first_of (map (pragma_broken names (fixed_scope (param_count file.params)) (input_count file.params)) file.pragmas)
 
 abbrev pub broken_under : List Entry → File → Option Broken
-broken_under names file = earlier (earlier (word_broken file.name) (declarations_broken names file)) (earlier (body_broken names file) (pragmas_broken names file))
+broken_under names file = earlier (declarations_broken names file) (earlier (body_broken names file) (pragmas_broken names file))
 
 abbrev pub arrays_under : List Entry → File → List Array
 arrays_under names file =

@@ -1,16 +1,16 @@
 -- Statements: which rules they break, and what they are in the program.
-use Rattle.std.specs.Prelude.{ℕ, ◌==◌, nat_eq, nat_lt, Bool, true, not, ◌||◌, if◌then◌else◌, List, [], ◌∷◌, ◌++◌, map, length, ℤ, pos, neg_ℤ, ◌*ℤ◌, Option, Some, None, is_some}
+use Rattle.std.specs.Prelude.{ℕ, ◌==◌, nat_eq, nat_lt, Bool, true, false, not, ◌||◌, if◌then◌else◌, List, [], ◌∷◌, ◌++◌, map, length, ℤ, pos, neg_ℤ, ◌*ℤ◌, Option, Some, None, is_some}
 use Rattle.std.specs.List.{list_any, flat_map}
 use Rattle.std.specs.Cmp.Lexicographic.{pointwise}
 use Rattle.ac_syntax.specs.ValueNodes.{size}
 use Rattle.ac_syntax.specs.Turns.{bounds_by, innermost}
 use Rattle.ac_syntax.specs.declared.tree.Place.{Place}
+use Rattle.ac_syntax.specs.declared.tree.Rel.{Rel}
 use Rattle.ac_syntax.specs.declared.tree.Value.{Value}
 use Rattle.ac_syntax.specs.declared.tree.Stmt.{Stmt}
 use Rattle.ac_syntax.specs.declared.tree.Stmt.TheVariants.{For, If, Assign}
 use Rattle.ac_parse_grammar.specs.declared.tree.Word.{Word}
 use Rattle.ac_parse_grammar.specs.declared.tree.Operator.{Operator}
-use Rattle.ac_parse_grammar.specs.declared.tree.Relation.{Relation}
 use Rattle.ac_parse_grammar.specs.declared.tree.Part.{Part}
 use Rattle.ac_parse_grammar.specs.declared.tree.Step.{Step}
 use Rattle.ac_parse_grammar.specs.declared.tree.Expr.{Expr}
@@ -29,19 +29,23 @@ use Rattle.ac_parse_exprs.specs.declared.form.Collected.{Collected}
 use Rattle.ac_parse_exprs.specs.declared.form.Collected.TheVariants.{Known, Large, Unknown}
 use Rattle.ac_parse_exprs.specs.declared.index.Judged.{Judged}
 use Rattle.ac_parse_exprs.specs.FaultOrder.{earlier, broken_where, rule_broken}
-use Rattle.ac_parse_exprs.specs.Meanings.{meaning, declared_meaning, iterator_number, word_broken, misused_unless}
+use Rattle.ac_parse_exprs.specs.Meanings.{meaning, declared_meaning, iterator_number, misused_unless}
 use Rattle.ac_parse_exprs.specs.IndexExpressions.{is_long}
-use Rattle.ac_parse_exprs.specs.Comparisons.{first_of, index, index_broken, compared, rel_of, condition, condition_broken}
+use Rattle.ac_parse_exprs.specs.Comparisons.{first_of, index, index_broken, compared, part_rel, condition, condition_broken}
 use Rattle.ac_parse_exprs.specs.Values.{access_broken, read_of, array_number, value, value_broken, applied_values}
 use Rattle.ac_parse_rules.specs.Declarations.{is_declared}
 
 -- inside a loop
 abbrev pub inside : Scope → List ℕ → Scope
-inside scope name = record { params = scope.params; iterators = name ∷ scope.iterators; starting = None; fixed = scope.fixed }
+inside scope name = record { params = scope.params; iterators = name ∷ scope.iterators; starting = None; fixed = scope.fixed; tested = false }
+
+-- in the condition of a loop
+abbrev pub in_test : Scope → List ℕ → Scope
+in_test scope name = record { params = scope.params; iterators = name ∷ scope.iterators; starting = None; fixed = scope.fixed; tested = true }
 
 -- in the start of a loop; a loop without a type does not run its name there yet
 abbrev pub in_start : Scope → Bool → List ℕ → Scope
-in_start scope typed name = record { params = scope.params; iterators = scope.iterators; starting = if typed then None else Some name; fixed = scope.fixed }
+in_start scope typed name = record { params = scope.params; iterators = scope.iterators; starting = if typed then None else Some name; fixed = scope.fixed; tested = false }
 
 abbrev pub is_running : Scope → List ℕ → Bool
 is_running scope name = is_some (iterator_number scope.iterators name)
@@ -71,8 +75,7 @@ other_rule (means.Array number dimensions) = Misused
 other_rule means.OwnStart = Misused
 
 abbrev pub step_word_broken : List Entry → Scope → List ℕ → Word → Option Broken
-step_word_broken names scope name word = earlier (word_broken word)
-    (if pointwise nat_eq word.name name then None else rule_broken (Some (other_rule (meaning names scope word.name))) word.place)
+step_word_broken names scope name word = if pointwise nat_eq word.name name then None else rule_broken (Some (other_rule (meaning names scope word.name))) word.place
 
 abbrev pub source_broken : List Entry → Scope → List ℕ → Option Word → Option Broken
 source_broken names scope name None = None
@@ -86,25 +89,25 @@ abbrev pub step_number : Step → ℤ
 step_number step = if step.down then neg_ℤ (pos step.by.number) else pos step.by.number
 
 -- a form that bounds the iterator in the direction of the step
-abbrev pub form_bounds : ℤ → Relation → Collected → Bool
-form_bounds step relation (Known f) = bounds_by (rel_of relation) (innermost f.iters *ℤ step)
-form_bounds step relation (Large constant) = true
-form_bounds step relation Unknown = true
+abbrev pub form_bounds : ℤ → Rel → Collected → Bool
+form_bounds step rel (Known f) = bounds_by rel (innermost f.iters *ℤ step)
+form_bounds step rel (Large constant) = true
+form_bounds step rel Unknown = true
 
 -- a comparison that does; one that breaks a rule, or has a part beyond the limit, might
-abbrev pub may_bound : ℤ → Relation → Judged → Bool
-may_bound step relation j = j.large || form_bounds step relation j.form
+abbrev pub may_bound : ℤ → Rel → Judged → Bool
+may_bound step rel j = j.large || form_bounds step rel j.form
 
 abbrev pub is_endless : List Entry → Scope → Step → List Part → Bool
 is_endless names scope step cond =
-    (step.by.number == 0) || not (list_any (λ part. may_bound (step_number step) part.relation (compared names scope part)) cond)
+    (step.by.number == 0) || not (list_any (λ part. may_bound (step_number step) (part_rel part) (compared names scope part)) cond)
 
 -- what is broken in a loop but for its body
 abbrev pub head_broken : List Entry → Scope → Bool → Word → Expr → List Part → Step → Place → Option Broken
 head_broken names scope typed name start cond step place =
-    earlier (earlier (broken_where (nat_lt 5 (length scope.iterators)) (Limit which.Depth) place) (broken_where (is_endless names (inside scope name.name) step cond) Endless place))
-    (earlier (earlier (earlier (word_broken name) (rule_broken (loop_rule names scope typed name.name) name.place)) (index_broken names (in_start scope typed name.name) start))
-    (earlier (condition_broken names (inside scope name.name) cond) (step_broken names (inside scope name.name) name.name step)))
+    earlier (earlier (broken_where (nat_lt 5 (length scope.iterators)) (Limit which.Depth) place) (broken_where (is_endless names (in_test scope name.name) step cond) Endless place))
+    (earlier (earlier (rule_broken (loop_rule names scope typed name.name) name.place) (index_broken names (in_start scope typed name.name) start))
+    (earlier (condition_broken names (in_test scope name.name) cond) (step_broken names (in_test scope name.name) name.name step)))
 
 -- a target is an array or a scalar with as many subscripts as it has extents
 abbrev pub target_rule : Meaning → ℕ → Option Rule
@@ -163,7 +166,7 @@ each_in scope ss = map (λ s. s scope) ss
 
 abbrev pub stmt_step : List Entry → Statement-F (Scope → Stmt) → Scope → Stmt
 stmt_step names (Statement-F.Loop typed name start cond step body place) scope =
-    For name.name (index names (in_start scope typed name.name) start) (record { parts = condition names (inside scope name.name) cond }) (step_number step) (each_in (inside scope name.name) body) place
+    For name.name (index names (in_start scope typed name.name) start) (record { parts = condition names (in_test scope name.name) cond }) (step_number step) (each_in (inside scope name.name) body) place
 stmt_step names (Statement-F.Branch cond taken other place) scope = If (record { parts = condition names scope cond }) (each_in scope taken) (each_in scope other) place
 stmt_step names (Statement-F.Assign target subs operator e) scope =
     Assign (array_number (meaning names scope target.name)) (map (index names scope) subs) (assigned_value names scope target subs operator e) target.place

@@ -6,9 +6,7 @@ ghost use Rattle.ac_parse_rules.specs.Declarations.{runs, is_whole, is_loop_name
 
 use ac_base::Items;
 use ac_parse_exprs::fault::{Broken, Rule, Which, broken_where, earlier};
-use ac_parse_exprs::{
-    Entry, Meaning, Scope, build_index, check_index, declared_meaning, word_broken,
-};
+use ac_parse_exprs::{Entry, Meaning, Scope, build_index, check_index, declared_meaning};
 use ac_parse_grammar::tree::{Declared, Extent, Statement};
 use ac_syntax::name::Name;
 use ac_syntax::tree::{Array, IndexExpr, Kind, Place, Slot};
@@ -183,6 +181,7 @@ pub fn fixed_scope(alloc: Global, params: usize) -> Scope
         iterators: Items::new(alloc),
         starting: None,
         fixed: true,
+        tested: false,
     }
 }
 
@@ -252,8 +251,7 @@ fn name_broken(names: &[Entry], k: usize, declared: &Declared) -> Option<Broken>
     let place = declared.name.place;
     let again = is_declared(before(names, k), name);
     let twice = broken_where(again, Rule::Duplicate, place);
-    let word = earlier(word_broken(&declared.name), twice);
-    earlier(word, count_broken(declared_meaning(names, name), place))
+    earlier(twice, count_broken(declared_meaning(names, name), place))
 }
 
 fn check_one(

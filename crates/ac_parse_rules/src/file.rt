@@ -1,10 +1,9 @@
 ghost use Rattle.std.specs.Prelude.{◌≡◌, ◌++◌, map, nat_lt, IfOk};
-ghost use Rattle.ac_syntax.specs.PlainPrograms.{PlainProgram};
 ghost use Rattle.ac_syntax.specs.ReadyPrograms.{ReadyProgram};
 ghost use Rattle.ac_syntax.specs.Small.{IsSmallProgram};
 ghost use Rattle.ac_parse_exprs.specs.Comparisons.{first_of, condition};
 ghost use Rattle.ac_parse_rules.specs.DeclaredNumbers.{HasConditions, HasDeclaredNumbers, HasInputs, ListsItsParameters};
-ghost use Rattle.ac_parse_exprs.specs.Meanings.{declared_meaning, word_broken};
+ghost use Rattle.ac_parse_exprs.specs.Meanings.{declared_meaning};
 ghost use Rattle.ac_parse_exprs.specs.Values.{array_number};
 ghost use Rattle.ac_parse_rules.specs.Files.{context_parts, commutative_words, line_words, output_words, has_output_line, output_numbers, output_line, output_rule, output_broken, pragma_broken, body_scope, assignments_broken, declarations_broken, body_broken, pragmas_broken, broken_under, arrays_under, body_under, context_under, program_under, names_of, file_broken, program_of, IsAnswer};
 
@@ -13,13 +12,12 @@ use crate::declare::{
     fixed_scope, input_count, param_count,
 };
 use crate::fault::{RuleFault, fault_of};
+use crate::quotients::check_quotients;
 use crate::statement::{build_statements, check_statements, target_in};
 use ac_base::Items;
 use ac_parse_exprs::fault::{Broken, Rule, Which, earlier, rule_broken};
 use ac_parse_exprs::value::array_number;
-use ac_parse_exprs::{
-    Entry, Meaning, Scope, add_condition, check_condition, declared_meaning, word_broken,
-};
+use ac_parse_exprs::{Entry, Meaning, Scope, add_condition, check_condition, declared_meaning};
 use ac_parse_grammar::tree::{File, Pragma, Statement, Word};
 use ac_syntax::name::Name;
 use ac_syntax::tree::{Array, Comparison, Cond, Program, Stmt};
@@ -42,21 +40,11 @@ fn output_rule(inputs: usize, meaning: Meaning) -> Option<Rule>
     }
 }
 
-fn check_words(words: &[Word]) -> Option<Broken>
-    ensures { result ≡ first_of (map word_broken words.now) }
-{
-    let mut broken = None;
-    for word in words {
-        broken = earlier(broken, word_broken(word));
-    }
-    broken
-}
-
 fn output_broken(names: &[Entry], inputs: usize, word: &Word) -> Option<Broken>
     ensures { result ≡ output_broken names.now inputs word.now }
 {
     let rule = output_rule(inputs, declared_meaning(names, &word.name));
-    earlier(word_broken(word), rule_broken(rule, word.place))
+    rule_broken(rule, word.place)
 }
 
 fn check_outputs(names: &[Entry], inputs: usize, words: &[Word]) -> Option<Broken>
@@ -80,7 +68,7 @@ fn check_pragma(
 {
     match pragma {
         Pragma::Context(parts) => check_condition(alloc, names, scope, parts.as_slice()),
-        Pragma::Commutative(words) => Ok(check_words(words.as_slice())),
+        Pragma::Commutative(_) => Ok(None),
         Pragma::Output(words) => Ok(check_outputs(names, inputs, words.as_slice())),
     }
 }
@@ -107,6 +95,7 @@ fn body_scope(alloc: Global, params: usize) -> Scope
         iterators: Items::new(alloc),
         starting: None,
         fixed: false,
+        tested: false,
     }
 }
 
@@ -143,7 +132,8 @@ fn check_body(alloc: Global, names: &[Entry], file: &File) -> Result<Option<Brok
     let scope = body_scope(alloc, param_count(file.params.as_slice()));
     let body = file.body.as_slice();
     let first = check_statements(alloc, names, &scope, body)?;
-    Ok(earlier(first, assignments_broken(body)))
+    let crowded = check_quotients(alloc, names, &scope, &[], body)?;
+    Ok(earlier(first, earlier(assignments_broken(body), crowded)))
 }
 
 /// The first rule that the file breaks.
@@ -153,8 +143,7 @@ fn check(alloc: Global, names: &[Entry], file: &File) -> Result<Option<Broken>, 
     let declared = check_declarations(alloc, names, file)?;
     let body = check_body(alloc, names, file)?;
     let pragmas = check_pragmas(alloc, names, file)?;
-    let front = earlier(word_broken(&file.name), declared);
-    Ok(earlier(front, earlier(body, pragmas)))
+    Ok(earlier(declared, earlier(body, pragmas)))
 }
 
 fn build_context(
@@ -316,10 +305,8 @@ fn names_of(alloc: Global, file: &File) -> Result<Items<Entry>, AllocError>
 pub fn apply(alloc: Global, file: &File) -> Result<Program, RuleFault>
     ensures answer { IsAnswer file.now result }
 
-    // Each index expression has a coefficient for each parameter and iterator, each loop ends, and each branch has a condition.
+    // Index expressions have a coefficient for each parameter and iterator, divisors are at least 1, loops end, and branches have conditions.
     ensures ready { HasConditions file.now → IfOk result ReadyProgram }
-    // Statements have no quotient.
-    ensures plain { IfOk result PlainProgram }
     // Each number of an array or a parameter is one that the program has.
     ensures declared { IfOk result HasDeclaredNumbers }
     ensures parameters { IfOk result ListsItsParameters }

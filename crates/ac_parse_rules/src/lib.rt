@@ -9,6 +9,7 @@ pub mod fault;
 mod file;
 pub mod laws;
 mod loops;
+mod quotients;
 mod statement;
 
 pub use file::apply;

@@ -2,17 +2,16 @@ ghost use Rattle.std.specs.Prelude.{◌≡◌, ◌∷◌, ◌*ℤ◌, IfOk};
 ghost use Rattle.ac_syntax.specs.Turns.{bounds_by, innermost};
 ghost use Rattle.ac_syntax.specs.declared.tree.Stmt.TheVariants.{For};
 ghost use Rattle.ac_parse_exprs.specs.Comparisons.{compared, index, condition};
-ghost use Rattle.ac_parse_rules.specs.Statements.{inside, in_start, is_running, untyped_rule, loop_rule, other_rule, step_word_broken, source_broken, step_broken, step_number, form_bounds, may_bound, is_endless, head_broken};
+ghost use Rattle.ac_parse_rules.specs.Statements.{inside, in_test, in_start, is_running, untyped_rule, loop_rule, other_rule, step_word_broken, source_broken, step_broken, step_number, form_bounds, may_bound, is_endless, head_broken};
 
 use crate::declare::is_declared;
 use ac_base::Items;
 use ac_parse_exprs::fault::{Broken, Rule, Which, broken_where, earlier, rule_broken};
 use ac_parse_exprs::{
     Collected, Entry, Judged, Meaning, Scope, build_condition, build_index, check_condition,
-    check_index, coefficient, compare, declared_meaning, is_long, iterator_number, rel_of,
-    word_broken,
+    check_index, coefficient, compare, declared_meaning, is_long, iterator_number, part_rel,
 };
-use ac_parse_grammar::tree::{Expr, Part, Relation, Step, Word};
+use ac_parse_grammar::tree::{Expr, Part, Step, Word};
 use ac_syntax::name::Name;
 use ac_syntax::tree::{Cond, IndexExpr, Place, Rel, Stmt};
 use std::alloc::{AllocError, Global};
@@ -48,11 +47,25 @@ pub fn inside(alloc: Global, scope: &Scope, name: &Name) -> Result<Scope, AllocE
         iterators: in_front(alloc, name, scope.iterators.as_slice())?,
         starting: None,
         fixed: scope.fixed,
+        tested: false,
+    })
+}
+
+/// The scope of a loop's condition.
+pub fn in_test(alloc: Global, scope: &Scope, name: &Name) -> Result<Scope, AllocError>
+    ensures { IfOk result (λ test. test ≡ in_test scope.now name.now) }
+{
+    Ok(Scope {
+        params: scope.params,
+        iterators: in_front(alloc, name, scope.iterators.as_slice())?,
+        starting: None,
+        fixed: scope.fixed,
+        tested: true,
     })
 }
 
 /// The scope of a loop's start.
-fn in_start(alloc: Global, scope: &Scope, typed: bool, name: &Name) -> Result<Scope, AllocError>
+pub fn in_start(alloc: Global, scope: &Scope, typed: bool, name: &Name) -> Result<Scope, AllocError>
     ensures { IfOk result (λ start. start ≡ in_start scope.now typed name.now) }
 {
     let starting = if typed { None } else { Some(name.copy(alloc)?) };
@@ -61,6 +74,7 @@ fn in_start(alloc: Global, scope: &Scope, typed: bool, name: &Name) -> Result<Sc
         iterators: copy_names(alloc, scope.iterators.as_slice())?,
         starting,
         fixed: scope.fixed,
+        tested: false,
     })
 }
 
@@ -114,13 +128,12 @@ fn other_rule(meaning: Meaning) -> Rule
 fn step_word_broken(names: &[Entry], scope: &Scope, name: &Name, word: &Word) -> Option<Broken>
     ensures { result ≡ step_word_broken names.now scope.now name.now word.now }
 {
-    let other = if word.name == *name {
+    if word.name == *name {
         None
     } else {
         let rule = other_rule(scope.meaning(names, &word.name));
         rule_broken(Some(rule), word.place)
-    };
-    earlier(word_broken(word), other)
+    }
 }
 
 fn source_broken(
@@ -174,22 +187,20 @@ fn bounds_by(rel: Rel, coefficient: i128, step: i64) -> bool
 }
 
 /// Whether a comparison of this form bounds the innermost iterator; one without a form might.
-fn form_bounds(step: i64, relation: Relation, form: &Collected) -> bool
-    ensures { result ≡ form_bounds step relation form.now }
+fn form_bounds(step: i64, rel: Rel, form: &Collected) -> bool
+    ensures { result ≡ form_bounds step rel form.now }
 {
     match form {
-        Collected::Known(known) => {
-            bounds_by(rel_of(relation), innermost(known.iters.as_slice()), step)
-        }
+        Collected::Known(known) => bounds_by(rel, innermost(known.iters.as_slice()), step),
         _ => true,
     }
 }
 
 /// Whether a comparison bounds the innermost iterator; one that breaks a rule, or has a part beyond the limit, might.
-fn may_bound(step: i64, relation: Relation, judged: &Judged) -> bool
-    ensures { result ≡ may_bound step relation judged.now }
+fn may_bound(step: i64, rel: Rel, judged: &Judged) -> bool
+    ensures { result ≡ may_bound step rel judged.now }
 {
-    judged.large || form_bounds(step, relation, &judged.form)
+    judged.large || form_bounds(step, rel, &judged.form)
 }
 
 fn is_endless(
@@ -206,7 +217,7 @@ fn is_endless(
     }
     for part in cond {
         let it = compare(alloc, names, scope, part)?;
-        if may_bound(step_number(step), part.relation, &it) {
+        if may_bound(step_number(step), part_rel(part), &it) {
             return Ok(false);
         }
     }
@@ -262,17 +273,17 @@ pub fn check_head(
     ensures { IfOk result (λ it. it ≡ head_broken names.now scope.now head.entry.typed head.entry.name.now head.entry.start.now head.entry.cond.now head.entry.step.now head.entry.place) }
 {
     let name = &head.name.name;
-    let inner = inside(alloc, scope, name)?;
+    let test = in_test(alloc, scope, name)?;
     let deep = scope.iterators.len() > 5;
     let depth = broken_where(deep, Rule::Limit(Which::Depth), head.place);
-    let endless = is_endless(alloc, names, &inner, head.step, head.cond)?;
+    let endless = is_endless(alloc, names, &test, head.step, head.cond)?;
     let place = earlier(depth, broken_where(endless, Rule::Endless, head.place));
     let rule = loop_rule(names, scope, head.typed, name);
-    let named = earlier(word_broken(head.name), rule_broken(rule, head.name.place));
+    let named = rule_broken(rule, head.name.place);
     let outer = in_start(alloc, scope, head.typed, name)?;
     let begun = earlier(named, check_index(alloc, names, &outer, head.start)?);
-    let cond = check_condition(alloc, names, &inner, head.cond)?;
-    let rest = earlier(cond, step_broken(names, &inner, name, head.step));
+    let cond = check_condition(alloc, names, &test, head.cond)?;
+    let rest = earlier(cond, step_broken(names, &test, name, head.step));
     Ok(earlier(place, earlier(begun, rest)))
 }
 
@@ -293,15 +304,15 @@ pub fn begin(
     scope: &Scope,
     head: Head<'_>,
 ) -> Result<Begun, AllocError>
-    ensures { IfOk result (λ it. it ≡ record { inner = inside scope.now head.entry.name.now.name; iter = head.entry.name.now.name; start = index names.now (in_start scope.now head.entry.typed head.entry.name.now.name) head.entry.start.now; cond = record { parts = condition names.now (inside scope.now head.entry.name.now.name) head.entry.cond.now }; step = step_number head.entry.step.now }) }
+    ensures { IfOk result (λ it. it ≡ record { inner = inside scope.now head.entry.name.now.name; iter = head.entry.name.now.name; start = index names.now (in_start scope.now head.entry.typed head.entry.name.now.name) head.entry.start.now; cond = record { parts = condition names.now (in_test scope.now head.entry.name.now.name) head.entry.cond.now }; step = step_number head.entry.step.now }) }
 {
     let name = &head.name.name;
-    let inner = inside(alloc, scope, name)?;
     let outer = in_start(alloc, scope, head.typed, name)?;
     let start = build_index(alloc, names, &outer, head.start)?;
-    let parts = build_condition(alloc, names, &inner, head.cond)?;
+    let test = in_test(alloc, scope, name)?;
+    let parts = build_condition(alloc, names, &test, head.cond)?;
     Ok(Begun {
-        inner,
+        inner: inside(alloc, scope, name)?,
         iter: name.copy(alloc)?,
         start,
         cond: Cond { parts },

@@ -5,7 +5,7 @@ ghost use Rattle.ac_parse_exprs.specs.Comparisons.{first_of, index, condition};
 ghost use Rattle.ac_parse_exprs.specs.FaultOrder.{earlier};
 ghost use Rattle.ac_parse_exprs.specs.Meanings.{meaning};
 ghost use Rattle.ac_parse_exprs.specs.Values.{array_number};
-ghost use Rattle.ac_parse_rules.specs.Statements.{inside, in_start, head_broken, step_number, target_rule, extra_nodes, assigned_value, assignment_broken, statement_broken, statements_broken, targets, all_targets, stmt, stmts};
+ghost use Rattle.ac_parse_rules.specs.Statements.{inside, in_test, in_start, head_broken, step_number, target_rule, extra_nodes, assigned_value, assignment_broken, statement_broken, statements_broken, targets, all_targets, stmt, stmts};
 
 use crate::loops::{Head, begin, check_head, inside};
 use ac_base::Items;
@@ -143,7 +143,7 @@ pub fn check_statements(
 }
 
 /// The value of an assignment.
-fn build_assigned(
+pub fn build_assigned(
     alloc: Global,
     names: &[Entry],
     scope: &Scope,
@@ -195,7 +195,7 @@ fn build_loop(
     head: Head<'_>,
     body: &[Statement],
 ) -> Result<Stmt, AllocError>
-    ensures { IfOk result (λ it. it ≡ For head.entry.name.now.name (index names.now (in_start scope.now head.entry.typed head.entry.name.now.name) head.entry.start.now) (record { parts = condition names.now (inside scope.now head.entry.name.now.name) head.entry.cond.now }) (step_number head.entry.step.now) (stmts names.now (inside scope.now head.entry.name.now.name) body.now) head.entry.place) }
+    ensures { IfOk result (λ it. it ≡ For head.entry.name.now.name (index names.now (in_start scope.now head.entry.typed head.entry.name.now.name) head.entry.start.now) (record { parts = condition names.now (in_test scope.now head.entry.name.now.name) head.entry.cond.now }) (step_number head.entry.step.now) (stmts names.now (inside scope.now head.entry.name.now.name) body.now) head.entry.place) }
 {
     let begun = begin(alloc, names, scope, head)?;
     let body = build_statements(alloc, names, &begun.inner, body)?;

@@ -1,33 +1,27 @@
--- Programs without quotients that are lowered are so with each chain as one call.
-use Rattle.std.proofs.Common.{◌≡◌, ◌≤◌, inl, inr, ℕ, suc, ◌+◌, List, [], ◌∷◌, ◌++◌, length, sum_by, ℤ, refl, sym, ap, subst, ◌∙◌, arith, rules}
-use Rattle.std.specs.List.{AllByRecursion, flat_map}
+-- Programs that are lowered are so with each chain as one call.
+use Rattle.std.proofs.Common.{◌≡◌, ◌≤◌, inl, inr, ℕ, suc, ◌+◌, List, [], ◌∷◌, length, sum_by, ℤ, refl, sym, ap, subst, ◌∙◌, arith, rules}
 use Rattle.std.proofs.lemmas.List.Sums.{sum_by-cons}
+use Rattle.ac_syntax.specs.ReadyPrograms.{Ready, ReadyIn, ReadyAll, ReadyProgram}
 use Rattle.ac_syntax.specs.LoopNests.{loop_count, loop_count_in}
-use Rattle.ac_syntax.specs.PlainPrograms.{IsPlainForm, IsPlainValue, ArePlainValues, IsPlainStmt, ArePlainStmts, PlainProgram}
 use Rattle.ac_syntax.specs.Trace.{assignments, assignments_in}
-use Rattle.ac_syntax.proofs.PlainAt.{call_plain}
 use Rattle.ac_syntax.specs.declared.tree.Cond.{Cond}
 use Rattle.ac_syntax.specs.declared.tree.IndexExpr.{IndexExpr}
 use Rattle.ac_syntax.specs.declared.tree.Pair.{Pair}
 use Rattle.ac_syntax.specs.declared.tree.Place.{Place}
 use Rattle.ac_syntax.specs.declared.tree.Program.{Program}
-use Rattle.ac_syntax.specs.declared.tree.Symbol.{Symbol}
-use Rattle.ac_syntax.specs.declared.tree.Value.{Value, Row_of-Value, end_of-Value, more_of-Value, items-the_row-Value, the_lemmas}
-use Rattle.ac_syntax.specs.declared.tree.Value.TheVariants.{Number, Access, Call, Call'}
 use Rattle.ac_syntax.specs.declared.tree.Stmt.{Stmt, Row_of-Stmt, end_of-Stmt, more_of-Stmt, items-the_row-Stmt, the_lemmas as stmt_lemmas}
 use Rattle.ac_syntax.specs.declared.tree.Stmt.TheVariants.{For, For', If, If', Assign}
-use Rattle.ac_poly_quotients.specs.OwnQuotients.{form_quots, value_quots, values_quots, own_quots}
-use Rattle.ac_poly_quotients.specs.QuotientScopes.{in_loop, outermost, where_holds, where_fails, with_quots}
-use Rattle.ac_poly_quotients.specs.ScopeRange.{CanNote, CanHold, CanFail, CanEnter}
+use Rattle.ac_poly_quotients.specs.QuotientScopes.{in_loop, outermost, where_holds, where_fails}
+use Rattle.ac_poly_quotients.specs.ScopeRange.{CanHold, CanFail, CanEnter}
 use Rattle.ac_poly_quotients.specs.declared.types.Scope.{Scope}
-use Rattle.ac_poly.specs.Lower.{own_scope}
+use Rattle.ac_poly.specs.LoweringRange.{CanAssign}
 use Rattle.ac_poly.specs.LoweringFaults.{IsLowerable, IsLowerableIn, AreLowerable, IsFirst, IsFirstIn, IsFirstAll, Names}
-use Rattle.ac_poly.specs.LoweringRange.{CanFormValue, CanFormValues, CanModel, CanAssign}
 use Rattle.ac_poly.proofs.Seeking.{loops_row, loops_for, loops_if}
 use Rattle.ac_poly.specs.declared.types.LowerFault.{LowerFault}
 use Rattle.ac_poly.specs.declared.types.LowerFault.TheVariants.{Pieces, Wide, Memory}
-use Rattle.ac_assoc_law.specs.ArrangedPairs.{arranged, arranged_stmt, arranged_body, arranged_all, arranged_pair}
-use Rattle.ac_assoc_law.proofs.Staying.{Passes, value_stays}
+use Rattle.ac_assoc_law.specs.ArrangedPairs.{arranged_stmt, arranged_body, arranged_all, arranged_pair}
+use Rattle.ac_top.proofs.ArrangedAssignments.{assigned}
+use Rattle.ac_top.proofs.OrderedScopes.{IsOrdered, ordered_outermost, ordered_holds, ordered_fails, ordered_loop}
 use Rattle.ac_top.specs.ConsoleLines.{Complaint}
 use Rattle.ac_top.specs.ProgramAnswers.{IsLowered, IsNotLowered}
 
@@ -59,45 +53,6 @@ no_first_of (s ∷ ss) loop sc ok f h (inr first) = no_first_of ss (loop + loop_
 
 pub not_refused : (program : Program) (said : Complaint) → IsLowered program → IsNotLowered program said → ⊥
 not_refused program said h is = no_first_of program.body 0 (outermost (length program.params)) (Unit {0}) is.fault h is.is_first
-
--- ---- values
-
-value_row : (c : Scope) (m : _) (k : Row_of-Value m) → AllByRecursion (CanFormValue c) (items-the_row-Value m k) → CanFormValues c k
-unfolding CanFormValue
-value_row c m end_of-Value h = tt
-value_row c m (more_of-Value {n = n} v rest) h = (h.0, value_row c n rest h.1)
-
-call_row : (c : Scope) (s : Symbol) (n : _) (args : Row_of-Value _) (place : Place) → AllByRecursion (CanFormValue c) (items-the_row-Value _ args) → CanFormValue c (Call' s n args place)
-unfolding CanFormValue
-call_row c s n args place h = value_row c _ args h
-
-whole_call : (c : Scope) (s : Symbol) (args : List Value) (place : Place) → AllByRecursion (CanFormValue c) args → CanFormValue c (Call s args place)
-whole_call c s args place h = search (rules, the_lemmas, call_row, h)
-
-pass : (c : Scope) → Passes (CanFormValue c) (λ m k. CanFormValues c k)
-unfolding CanFormValue
-pass c = record { args = λ s n args place h. h; split = λ n v rest h. h; call = λ s args place h. whole_call c s args place h }
-
-plain_pass : Passes IsPlainValue (λ m k. ArePlainValues k)
-unfolding IsPlainValue
-plain_pass = record { args = λ s n args place h. h; split = λ n v rest h. h; call = λ s args place h. call_plain s args place h }
-
--- values that are plain have no quotients
-no_quots_of : (es : List IndexExpr) → AllByRecursion IsPlainForm es → flat_map form_quots es ≡ []
-no_quots_of [] h = refl
-no_quots_of (e ∷ es) h = λ i. h.0 i ++ no_quots_of es h.1 i
-
-mutual
-  unfolding IsPlainValue value_quots
-
-  no_quots : (v : Value) → IsPlainValue v → value_quots v ≡ []
-  no_quots (Number e) h = h
-  no_quots (Access array subs place) h = no_quots_of subs h
-  no_quots (Call' symbol n args place) h = no_quots_in args h
-
-  no_quots_in : {m : _} (vs : Row_of-Value m) → ArePlainValues vs → values_quots vs ≡ []
-  no_quots_in end_of-Value h = refl
-  no_quots_in (more_of-Value v rest) h = λ i. no_quots v h.0 i ++ no_quots_in rest h.1 i
 
 -- ---- statements
 
@@ -146,45 +101,43 @@ module _ (names : List (List ℕ)) (choice : ℕ → ℕ → ℕ) where
         sum_by-cons loop_count (arranged_stmt names choice first s) (arranged_body names choice (first + assignments s) rest)
         ∙ (λ i. loops_stay first s i + loops_stay_in (first + assignments s) rest i)
 
-  -- the assignment of a value without quotients
-  assigned : (first : ℕ) (sc : Scope) (subs : List IndexExpr) (value : Value) → IsPlainValue value → CanAssign sc subs value → CanAssign sc subs (arranged names (choice first) 0 value)
-  assigned first sc subs value plain h =
-      let c = own_scope sc subs value in
-      let new = arranged names (choice first) 0 value in
-      let none : value_quots new ≡ [] = no_quots new (value_stays IsPlainValue (λ m k. ArePlainValues k) plain_pass names (choice first) 0 value plain) in
-      let same : own_quots subs value ≡ own_quots subs new = λ i. (no_quots value plain ∙ sym none) i ++ flat_map form_quots subs in
-      subst (λ qs. CanNote sc.iters qs × CanModel (with_quots sc qs) subs new) same
-      (h.0, (h.1.0, value_stays (CanFormValue c) (λ m k. CanFormValues c k) (pass c) names (choice first) 0 value h.1.1, h.1.2))
+  module _ (ps : ℕ) where
+    mutual
+      unfolding IsLowerable arranged_stmt Ready
 
-  mutual
-    unfolding IsLowerable arranged_stmt IsPlainStmt
+      stmt_stays : (xs first : ℕ) (s : Stmt) (loop : ℕ) (sc : Scope) (ok : Type 0) → IsOrdered ps sc → Ready ps xs s → IsLowerable s loop sc ok → IsLowerable (arranged_stmt names choice first s) loop sc ok
+      stmt_stays xs first (For' iter start c step n body place) loop sc ok ordered ready h =
+          for_whole iter start c step (arranged_body names choice first body) place loop sc ok
+          (body_stays (xs + 1) first body (suc loop) (in_loop sc loop start c step) (ok × CanEnter sc loop start c step) (ordered_loop ps xs (xs + 1) sc loop start c step ordered ready.0 ready.1) ready.4 h)
+      stmt_stays xs first (If' c n taken m other place) loop sc ok ordered ready h =
+          let yes_taken = body_stays xs first taken loop (where_holds sc c) (ok × CanHold sc c) (ordered_holds ps xs sc c ordered ready.0) ready.1 h.0 in
+          let yes_other = body_stays xs (first + assignments_in taken) other (loop + loop_count_in taken) (where_fails sc c) (ok × CanFail sc c) (ordered_fails ps xs sc c ordered ready.0) ready.2 h.1 in
+          if_whole c (arranged_body names choice first taken) (arranged_body names choice (first + assignments_in taken) other) place loop sc ok yes_taken
+          (subst (λ k. AreLowerable (arranged_body names choice (first + assignments_in taken) other) (loop + k) (where_fails sc c) (ok × CanFail sc c)) (sym (loops_stay_in first taken)) yes_other)
+      stmt_stays xs first (Assign array subs value place) loop sc ok ordered ready h = (h.0, h.1, assigned names (choice first) ps xs sc subs value ordered ready.0 ready.1 h.2)
 
-    stmt_stays : (first : ℕ) (s : Stmt) (loop : ℕ) (sc : Scope) (ok : Type 0) → IsPlainStmt s → IsLowerable s loop sc ok → IsLowerable (arranged_stmt names choice first s) loop sc ok
-    stmt_stays first (For' iter start c step n body place) loop sc ok plain h =
-        for_whole iter start c step (arranged_body names choice first body) place loop sc ok (body_stays first body (suc loop) (in_loop sc loop start c step) (ok × CanEnter sc loop start c step) plain.2 h)
-    stmt_stays first (If' c n taken m other place) loop sc ok plain h =
-        let yes_taken = body_stays first taken loop (where_holds sc c) (ok × CanHold sc c) plain.1 h.0 in
-        let yes_other = body_stays (first + assignments_in taken) other (loop + loop_count_in taken) (where_fails sc c) (ok × CanFail sc c) plain.2 h.1 in
-        if_whole c (arranged_body names choice first taken) (arranged_body names choice (first + assignments_in taken) other) place loop sc ok yes_taken
-        (subst (λ k. AreLowerable (arranged_body names choice (first + assignments_in taken) other) (loop + k) (where_fails sc c) (ok × CanFail sc c)) (sym (loops_stay_in first taken)) yes_other)
-    stmt_stays first (Assign array subs value place) loop sc ok plain h = (h.0, h.1, assigned first sc subs value plain.1 h.2)
+      body_stays : (xs first : ℕ) {m : _} (body : Row_of-Stmt m) (loop : ℕ) (sc : Scope) (ok : Type 0) → IsOrdered ps sc → ReadyIn ps xs body → IsLowerableIn body loop sc ok → AreLowerable (arranged_body names choice first body) loop sc ok
+      body_stays xs first end_of-Stmt loop sc ok ordered ready h = tt
+      body_stays xs first (more_of-Stmt s rest) loop sc ok ordered ready h = (
+        stmt_stays xs first s loop sc ok ordered ready.0 h.0,
+        subst (λ k. AreLowerable (arranged_body names choice (first + assignments s) rest) (loop + k) sc ok) (sym (loops_stay first s))
+            (body_stays xs (first + assignments s) rest (loop + loop_count s) sc ok ordered ready.1 h.1),
+      )
 
-    body_stays : (first : ℕ) {m : _} (body : Row_of-Stmt m) (loop : ℕ) (sc : Scope) (ok : Type 0) → ArePlainStmts body → IsLowerableIn body loop sc ok → AreLowerable (arranged_body names choice first body) loop sc ok
-    body_stays first end_of-Stmt loop sc ok plain h = tt
-    body_stays first (more_of-Stmt s rest) loop sc ok plain h = (
-      stmt_stays first s loop sc ok plain.0 h.0,
-      subst (λ k. AreLowerable (arranged_body names choice (first + assignments s) rest) (loop + k) sc ok) (sym (loops_stay first s)) (body_stays (first + assignments s) rest (loop + loop_count s) sc ok plain.1 h.1),
+    all_stay : (first : ℕ) (ss : List Stmt) (loop : ℕ) (sc : Scope) (ok : Type 0) → IsOrdered ps sc → ReadyAll ps 0 ss → AreLowerable ss loop sc ok → AreLowerable (arranged_all names choice first ss) loop sc ok
+    all_stay first [] loop sc ok ordered ready h = tt
+    all_stay first (s ∷ ss) loop sc ok ordered ready h = (
+      stmt_stays 0 first s loop sc ok ordered ready.0 h.0,
+      subst (λ k. AreLowerable (arranged_all names choice (first + assignments s) ss) (loop + k) sc ok) (sym (loops_stay first s))
+          (all_stay (first + assignments s) ss (loop + loop_count s) sc ok ordered ready.1 h.1),
     )
 
-  all_stay : (first : ℕ) (ss : List Stmt) (loop : ℕ) (sc : Scope) (ok : Type 0) → AllByRecursion IsPlainStmt ss → AreLowerable ss loop sc ok → AreLowerable (arranged_all names choice first ss) loop sc ok
-  all_stay first [] loop sc ok plain h = tt
-  all_stay first (s ∷ ss) loop sc ok plain h = (
-    stmt_stays first s loop sc ok plain.0 h.0,
-    subst (λ k. AreLowerable (arranged_all names choice (first + assignments s) ss) (loop + k) sc ok) (sym (loops_stay first s)) (all_stay (first + assignments s) ss (loop + loop_count s) sc ok plain.1 h.1),
-  )
+pub left_lowered : (names : List (List ℕ)) (choice : ℕ → ℕ → ℕ) (pair : Pair) → ReadyProgram pair.left → IsLowered pair.left → IsLowered (arranged_pair names choice pair).left
+left_lowered names choice pair ready h =
+    let ps = length pair.left.params in
+    all_stay names (λ stmt node. 0) ps 0 pair.left.body 0 (outermost ps) (Unit {0}) (ordered_outermost ps) ready.body h
 
-pub left_lowered : (names : List (List ℕ)) (choice : ℕ → ℕ → ℕ) (pair : Pair) → PlainProgram pair.left → IsLowered pair.left → IsLowered (arranged_pair names choice pair).left
-left_lowered names choice pair plain h = all_stay names (λ stmt node. 0) 0 pair.left.body 0 (outermost (length pair.left.params)) (Unit {0}) plain h
-
-pub right_lowered : (names : List (List ℕ)) (choice : ℕ → ℕ → ℕ) (pair : Pair) → PlainProgram pair.right → IsLowered pair.right → IsLowered (arranged_pair names choice pair).right
-right_lowered names choice pair plain h = all_stay names choice 0 pair.right.body 0 (outermost (length pair.right.params)) (Unit {0}) plain h
+pub right_lowered : (names : List (List ℕ)) (choice : ℕ → ℕ → ℕ) (pair : Pair) → ReadyProgram pair.right → IsLowered pair.right → IsLowered (arranged_pair names choice pair).right
+right_lowered names choice pair ready h =
+    let ps = length pair.right.params in
+    all_stay names choice ps 0 pair.right.body 0 (outermost ps) (Unit {0}) (ordered_outermost ps) ready.body h

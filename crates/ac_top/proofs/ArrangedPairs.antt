@@ -4,7 +4,6 @@ use Rattle.std.specs.List.{list_any}
 use Rattle.std.proofs.lemmas.Bool.{eq-eqb}
 use Rattle.std.proofs.lemmas.Bool.Decides.{Decides-eqb}
 use Rattle.ac_syntax.specs.ExecutedCalls.{HaveArities}
-use Rattle.ac_syntax.specs.PlainPrograms.{PlainProgram}
 use Rattle.ac_syntax.specs.Outputs.{IsValuation, SameOutput}
 use Rattle.ac_syntax.specs.declared.tree.Pair.{Pair}
 use Rattle.ac_claims.specs.Soundness as judge
@@ -60,8 +59,8 @@ module _ (names : List (List ℕ)) (pair : Pair) (output number : ℕ) where
   pub one_has_arities : HaveArities pair.left.body × HaveArities pair.right.body → HaveArities (arrangement names pair output number).left.body × HaveArities (arrangement names pair output number).right.body
   one_has_arities h = pairs_have_arities names choice pair h.0 h.1
 
-  pub one_lowered : PlainProgram pair.left × PlainProgram pair.right → AreLowered pair → AreLowered (arrangement names pair output number)
-  one_lowered plain h = record { left = left_lowered names choice pair plain.0 h.left; right = right_lowered names choice pair plain.1 h.right }
+  pub one_lowered : judge.ArePaired pair → AreLowered pair → AreLowered (arrangement names pair output number)
+  one_lowered paired h = record { left = left_lowered names choice pair paired.left h.left; right = right_lowered names choice pair paired.right h.right }
 
   -- the context is that of the pair
   pub none_met : IsWithoutValuation (arrangement names pair output number) → IsWithoutValuation pair

@@ -4,6 +4,14 @@ pub mod Flowing
 pub mod Proving
 pub mod Generating
 pub mod Orders
+pub mod SameQuots
+pub mod ColumnSums
+pub mod RenumberedSums
+pub mod QuotientsFit
+pub mod OrderedScopes
+pub mod FreshQuots
+pub mod OtherOrders
+pub mod ArrangedAssignments
 pub mod ArrangedLowerings
 pub mod ArrangedPairs
 pub mod ArrangedAnswers

@@ -65,7 +65,6 @@ pub read_pair : (first second : List â„•) (left right : Program) (pair : Pair) â
 read_pair first second left right pair h k is l r = record {
   context = joined_context left right pair is;
   ready = ready_pair left right pair is l r;
-  plain = (rw is.left_is l.plain, rw is.right_is r.plain);
   extents = same_extents first second left right pair h k is l.ready r.ready;
   small = small_pair left right pair is l r;
 }

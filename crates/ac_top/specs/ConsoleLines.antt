@@ -9,7 +9,7 @@ use Rattle.ac_syntax.specs.declared.tree.Place.{Place}
 use Rattle.ac_lex.specs.declared.tokens.LexFault.TheVariants.{BadByte, BadNumber, LongName, OpenComment}
 use Rattle.ac_lex.specs.declared.tokens.LexFault.TheVariants as lex
 use Rattle.ac_parse_exprs.specs.declared.fault.Which.{Which}
-use Rattle.ac_parse_exprs.specs.declared.fault.Which.TheVariants.{File, Nesting, Parameters, Arrays, Dimensions, Depth, Assignments, Nodes, Literal, Coefficient, Pieces}
+use Rattle.ac_parse_exprs.specs.declared.fault.Which.TheVariants.{File, Nesting, Parameters, Arrays, Dimensions, Depth, Assignments, Nodes, Literal, Coefficient, Pieces, Quotients}
 use Rattle.ac_parse.specs.declared.faults.SourceFault.{SourceFault}
 use Rattle.ac_parse.specs.declared.faults.SourceFault.TheVariants.{Lex, Syntax, NotAffine, Undeclared, Misused, Duplicate, Endless, Limit, Memory}
 use Rattle.ac_cert.specs.RuleNames.{name_of}
@@ -47,6 +47,7 @@ limit_words Nodes = codes "limit nodes"
 limit_words Literal = codes "limit literal"
 limit_words Coefficient = codes "limit coefficient"
 limit_words Pieces = codes "limit pieces"
+limit_words Quotients = codes "limit quotients"
 
 -- what is said of a text, and of which of its bytes
 pub record Complaint : Type 0 where

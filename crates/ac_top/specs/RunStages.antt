@@ -16,7 +16,6 @@ use Rattle.ac_syntax.specs.declared.tree.Cond.{Cond}
 use Rattle.ac_syntax.specs.declared.tree.Program.{Program}
 use Rattle.ac_syntax.specs.Outputs.{extents_at}
 use Rattle.ac_syntax.specs.Index.{point, index_value}
-use Rattle.ac_syntax.specs.PlainPrograms.{PlainProgram}
 use Rattle.ac_syntax.specs.ReadyPrograms.{ReadyProgram}
 use Rattle.ac_syntax.specs.Small.{IsSmallProgram, IsSmallPair}
 use Rattle.ac_syntax.specs.declared.tree.Pair.{Pair}
@@ -63,7 +62,6 @@ IsSource files reads name TooLong = reads (source_read name was_too_big ∷ []) 
 -- what is known of a program that was read
 pub record IsRead (program : Program) : Type 0 where
   pub ready : ReadyProgram program
-  pub plain : PlainProgram program
   pub small : IsSmallProgram program
   pub parameters : ListsItsParameters program
 
@@ -93,7 +91,6 @@ HaveOneExtent pair = (o : ℕ) → list_any (nat_eq o) pair.outputs ≡ true →
 pub record IsReadPair (pair : Pair) : Type 0 where
   pub context : pair.context.parts ≡ pair.left.context.parts ++ pair.right.context.parts
   pub ready : IsReadyPair pair
-  pub plain : PlainProgram pair.left × PlainProgram pair.right
   pub extents : HaveOneExtent pair
   pub small : IsSmallPair pair
 

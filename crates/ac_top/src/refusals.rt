@@ -31,6 +31,7 @@ fn limit_words(which: Which) -> &'static [u8]
         Which::Literal => b"limit literal",
         Which::Coefficient => b"limit coefficient",
         Which::Pieces => b"limit pieces",
+        Which::Quotients => b"limit quotients",
     }
 }
 

@@ -1,11 +1,8 @@
-use Rattle.ac_parse.proofs.Composing.{plain, ready, small}
+use Rattle.ac_parse.proofs.Composing.{ready, small}
 use Rattle.ac_parse.proofs.text_laws.programs_are_ready.Goals as goal
 
 pub returns-clause-ready : goal.returns-clause-ready
 returns-clause-ready c = ready
-
-pub returns-clause-plain : goal.returns-clause-plain
-returns-clause-plain c = plain
 
 pub returns-clause-small : goal.returns-clause-small
 returns-clause-small c = small

@@ -1,12 +1,10 @@
 use Rattle.std.proofs.Common.{◌≡◌, sym, ◌∙◌, ap, subst}
-use Rattle.ac_syntax.specs.PlainPrograms.{PlainProgram}
 use Rattle.ac_syntax.specs.ReadyPrograms.{ReadyProgram}
 use Rattle.ac_syntax.specs.Small.{IsSmallProgram}
 use Rattle.ac_parse_rules.specs.Files.{names_of, broken_under, program_under}
 use Rattle.ac_parse_rules.proofs.Answering.{answer_fault}
 use Rattle.ac_parse_rules.proofs.DeclaredNumbers.{parameters_listed, inputs_had}
 use Rattle.ac_parse_rules.proofs.ArraysUsed.{numbers_declared}
-use Rattle.ac_parse_rules.proofs.PlainStatements.{plain_program}
 use Rattle.ac_parse_rules.proofs.ReadyPrograms.{ready_program}
 use Rattle.ac_parse_rules.proofs.SmallPrograms.{small_program}
 use Rattle.ac_parse_rules.proofs.file.apply.Goals as goal
@@ -37,9 +35,6 @@ pub returns-clause-ready : goal.returns-clause-ready
 returns-clause-ready c = λ h.
     let a = returns-clause-answer c in
     subst ReadyProgram (sym a.1) (ready_program c.args.file.now a.0 h)
-
-pub returns-clause-plain : goal.returns-clause-plain
-returns-clause-plain c = let a = returns-clause-answer c in subst PlainProgram (sym a.1) (plain_program c.args.file.now)
 
 pub returns-clause-small : goal.returns-clause-small
 returns-clause-small c = let a = returns-clause-answer c in subst IsSmallProgram (sym a.1) (small_program c.args.file.now a.0)

@@ -24,7 +24,7 @@ stops-requires-clause-paired c =
 pub stops-requires-clause-lowered : goal.stops-requires-clause-lowered
 stops-requires-clause-lowered c =
     let asked = c.args.asked.now in
-    subst AreLowered (sym c.in_ok-pair-in-None.ensures) (one_lowered asked.symbols.now asked.pair.now c.args.output c.args.number c.requires.asked.read.plain c.requires.asked.lowered)
+    subst AreLowered (sym c.in_ok-pair-in-None.ensures) (one_lowered asked.symbols.now asked.pair.now c.args.output c.args.number (asked_paired asked c.requires.asked) c.requires.asked.lowered)
 
 pub returns-in_ok-pair-in-None : goal.returns-in_ok-pair-in-None
 returns-in_ok-pair-in-None c =

@@ -31,7 +31,7 @@ find-requires-clause-arities c =
 pub find-requires-clause-lowered : goal.find-requires-clause-lowered
 find-requires-clause-lowered c =
     let asked = c.args.asked.now in
-    subst AreLowered (sym c.in_ok-pair.ensures) (one_lowered asked.symbols.now asked.pair.now c.args.output c.args.number c.requires.asked.read.plain c.requires.asked.lowered)
+    subst AreLowered (sym c.in_ok-pair.ensures) (one_lowered asked.symbols.now asked.pair.now c.args.output c.args.number (asked_paired asked c.requires.asked) c.requires.asked.lowered)
 
 pub find-requires-clause-output : goal.find-requires-clause-output
 find-requires-clause-output c = ap (λ (p : Pair). p.outputs) c.in_ok-pair.ensures
