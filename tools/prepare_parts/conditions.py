@@ -1,18 +1,18 @@
 """Conditions on indices.
 
-Conditions takes a condition, and gives comparisons without min, max, floord and ceild.
+Conditions takes a condition, and gives comparisons without min and max. Quotients are multiplied out where that is exact.
 It refuses ||, ! and !=, and what is no conjunction of comparisons of index expressions."""
 
 from typing import NamedTuple
 
 from prepare_parts.affine import form_of, plain, said
-from prepare_parts.expressions import show
-from prepare_parts.forms import Form, compare_text, conjunction
+from prepare_parts.expressions import Expression, show
+from prepare_parts.forms import Form, compare_text, conjunction, form_text
 from prepare_parts.report import NotAffine
 
 
 class Comparison(NamedTuple):
-    """A comparison's text; its form is at least 0 (>=), above 0 (>) or 0 (==)."""
+    """A comparison's text; its form is at least 0 (>=), above 0 (>) or 0 (==). A test of a divisor has the form 0."""
 
     text: str
     form: Form
@@ -48,18 +48,40 @@ class Conditions:
         if new.has("bad"):
             raise NotAffine(line, "")
         self.indices.check_names(new, what)
+        if tests_divisor(new, subject):
+            over, by = new.kids[0].kids
+            over = Expression("bin", line, "%", [plain(over, self.report), by])
+            return [Comparison("%s == 0" % show(over), Form({}), "%")]
         left, right = form_of(new.kids[0]), form_of(new.kids[1])
         form = left.plus(right, -1) if ">" in e.val else right.plus(left, -1)
         strict = e.val in ("<", ">")
         if not form.specials() and not left.specials() and not right.specials():
             text = "%s %s %s" % (show(plain(new.kids[0], self.report)), e.val, show(plain(new.kids[1], self.report)))
             return [Comparison(text, form, "==" if e.val == "==" else ">" if strict else ">=")]
-        if e.val == "==":
-            raise NotAffine(e.line, "== with min, max, floord or ceild: write two comparisons")
-        found = [Comparison(compare_text(each, is_strict, subject), each, ">" if is_strict else ">=")
-                 for each, is_strict in conjunction(form, strict, e.line)]
+        kept = left.divides_only() and right.divides_only() and subject not in left.divided() | right.divided()
+        try:
+            if e.val == "==":
+                raise NotAffine(e.line, "== with min or max: write two comparisons")
+            found = [Comparison(compare_text(each, is_strict, subject), each, ">" if is_strict else ">=")
+                     for each, is_strict in conjunction(form, strict, e.line)]
+        except NotAffine:
+            if not kept:
+                raise
+            text = "%s %s %s" % (form_text(left), e.val, form_text(right))
+            if text != said(new):
+                self.report.change(line, "%s written as %s" % (said(new), text))
+            return [Comparison(text, form, "==" if e.val == "==" else ">" if strict else ">=")]
         self.report.change(line, "%s written as %s" % (said(new), " && ".join(texts(found))))
         return found
+
+
+def tests_divisor(e, subject):
+    """Whether a comparison is e % c == 0 with a number c and an index expression e without quotients and the subject."""
+    left, right = e.kids
+    if not (e.val == "==" and right.kind == "num" and right.val == 0 and left.kind == "bin" and left.val == "%"):
+        return False
+    over, by = form_of(left.kids[0]), left.kids[1]
+    return by.kind == "num" and by.val > 0 and bool(over.parts) and not over.specials() and subject not in over.parts
 
 
 def check_comparison(e, what):

@@ -43,6 +43,14 @@ class Form:
         """The Parts of the form."""
         return [part for part in self.parts if isinstance(part, Part)]
 
+    def divides_only(self):
+        """Whether its Parts are quotients of forms without Parts, which the language has."""
+        return all(part.kind not in FLIPPED and not part.forms[0].specials() for part in self.specials())
+
+    def divided(self):
+        """The names in its quotients."""
+        return {name for part in self.specials() for each in part.forms for name in each.parts}
+
     def choice(self):
         """The first Part that is a min or max, or None."""
         return next((part for part in self.specials() if part.kind in FLIPPED), None)
@@ -74,9 +82,10 @@ def least_or_greatest(kind, forms):
 
 
 def expression_of(form, line=0):
-    """The expression of a form without Parts; a sum begins with a positive term if there is one."""
+    """The expression of a form whose Parts are quotients; a sum begins with a positive term if there is one."""
     terms = sorted(form.parts.items(), key=lambda part: part[1] < 0)
-    terms = [(number, Expression("var", line, name)) for name, number in terms]
+    terms = [(number, quotient_of(name, line) if isinstance(name, Part) else Expression("var", line, name))
+             for name, number in terms]
     if form.const:
         first = form.const > 0 and terms and terms[0][0] < 0
         terms.insert(0 if first else len(terms), (form.const, None))
@@ -94,8 +103,13 @@ def expression_of(form, line=0):
     return total if total is not None else Expression("num", line, 0)
 
 
+def quotient_of(part, line):
+    """The call of a quotient."""
+    return Expression("call", line, part.kind, [expression_of(part.forms[0], line), Expression("num", line, part.by)])
+
+
 def form_text(form):
-    """The text of a form without Parts."""
+    """The text of a form whose Parts are quotients."""
     return show(expression_of(form))
 
 

@@ -1,7 +1,7 @@
 """Loops.
 
 Loops takes a loop, and gives what is written for it.
-A start of max, or of min in a falling loop, becomes one of its arguments and an if around the body.
+A start of max, or of min in a falling loop, becomes one of its arguments and an if around the body. A quotient may be a start.
 It refuses starts of other choices, counters that are no locals, and conditions that do not bound the counter."""
 
 from prepare_parts.affine import said
@@ -78,7 +78,8 @@ class Loops:
     def start_of(self, s, start, form, conds, side):
         """A start with Parts: the text of one of its arguments, and the comparisons that cut off the rest."""
         found = far_choices(choices(form, "max" if side > 0 else "min", s.line), side)
-        base = next((each for each in found if not each.specials()), None)
+        fit = [each for each in found if each.divides_only()]
+        base = min(fit, key=lambda each: len(each.specials()), default=None)
         if base is None:
             raise NotAffine(s.line, "%s starts at %s: count by starting elements, as it = 0; it < N; it += 32"
                             % (s.var, said(start)))
@@ -91,7 +92,7 @@ class Loops:
             check_guarded(s, start, conds, side)
             self.report.change(s.line, "%s starts at %s: it starts at %s, and its body stands in if (%s)"
                                % (s.var, said(start), form_text(base), " && ".join(guards)))
-        else:
+        elif said(start) != form_text(base):
             self.report.change(s.line, "%s starts at %s: written as %s" % (s.var, said(start), form_text(base)))
         return form_text(base), guards
 

@@ -2,10 +2,12 @@
 
 Values takes what is assigned, and gives a value of the language.
 Comparisons, choices and casts of data become calls.
-It refuses divisions and products of indices, calls that give another value each time, and names that are not declared."""
+It refuses divisions but floord and ceild, products of indices, calls that give another value each time, and names that are not
+declared."""
 
-from prepare_parts.affine import MAX_NAMES, MIN_NAMES, QUOTIENTS, form_of, plain
+from prepare_parts.affine import MAX_NAMES, MIN_NAMES, QUOTIENTS, form_of, plain, said
 from prepare_parts.expressions import Expression, show
+from prepare_parts.forms import expression_of
 from prepare_parts.report import NotAffine
 from prepare_parts.signature import check_name
 
@@ -105,9 +107,7 @@ class Values:
     def call(self, e, known, line):
         """The value of a call."""
         if e.val in QUOTIENTS:
-            self.report.refuse(line, "%s in a value: write a call of another name, as half(N), or a decimal, as N / 2.0"
-                               % e.val)
-            return None
+            return self.quotient(e, known, line)
         if e.val in self.vars or e.val in self.loop_names:
             self.report.refuse(line, "%s is called and is the name of a parameter or local: write another name for one"
                                % e.val)
@@ -120,6 +120,24 @@ class Values:
             self.report.change(line, "%s is taken as a function of its arguments alone" % e.val)
         kids = [self.value(kid, known, line) for kid in e.kids]
         return None if None in kids else Expression("call", e.line, e.val, kids)
+
+    def quotient(self, e, known, line):
+        """The value of a call of floord or ceild."""
+        replaced = {name: known[name] for name in known if name in self.state.wanted}
+        new, form = self.indices.index(e, replaced, "a value", line)
+        if new is None or not form.specials():
+            return new
+        if form.divides_only():
+            return self.quotients(new, form, line)
+        self.report.refuse(line, "min or max in a quotient: write if and else")
+        return None
+
+    def quotients(self, e, form, line):
+        """An index expression of quotients, as the language writes it."""
+        new = expression_of(form, e.line)
+        if show(new) != said(e):
+            self.report.change(line, "%s written as %s" % (said(e), show(new)))
+        return new
 
     def access(self, e, known, line):
         """A scalar or an element, as a value or a target; None after a refusal."""
@@ -134,8 +152,10 @@ class Values:
         subs = []
         for kid in e.kids:
             new, form = self.indices.index(kid, known, "a subscript of %s" % e.val, line)
-            if new is not None and form.specials():
-                self.report.refuse(line, "min, max or a division in a subscript of %s: "
+            if new is not None and form.specials() and form.divides_only():
+                new = self.quotients(new, form, line)
+            elif new is not None and form.specials():
+                self.report.refuse(line, "min or max in a subscript of %s: "
                                    "write if and else, or count the smaller index" % e.val)
                 new = None
             subs.append(new)
